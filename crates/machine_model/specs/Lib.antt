@@ -1,0 +1,9 @@
+pub mod Value
+pub mod Operators
+pub mod Outcomes
+pub mod Edges
+pub mod Paths
+pub mod Memory
+pub mod Spawn
+pub mod Machine
+pub mod Job
