@@ -5,3 +5,4 @@ pub mod Splits
 pub mod Tables
 pub mod Places
 pub mod Tiles
+pub mod OperatorLemmas
