@@ -6,3 +6,4 @@ pub mod Tables
 pub mod Places
 pub mod Tiles
 pub mod OperatorLemmas
+pub mod Codes

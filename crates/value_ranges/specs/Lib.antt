@@ -1,0 +1,5 @@
+pub mod Interval
+pub mod Span
+pub mod Ranges
+pub mod Covers
+pub mod Tables

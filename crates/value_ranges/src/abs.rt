@@ -1,0 +1,56 @@
+ghost use Rattle.std.specs.Prelude.{◌≡◌, ◌≤ℤ◌};
+
+use crate::range::Range;
+use std::marker::Model;
+
+/// The positions from `lo` to `hi`, of which there is at least one.
+#[derive(Clone, Copy, Debug, PartialEq, Eq)]
+pub struct Reach {
+    lo: i32,
+    hi: i32,
+}
+
+impl Model for Reach {
+    ghost use Rattle.std.specs.Prelude.{◌≤ℤ◌};
+    ghost use Rattle.value_ranges.specs.Span.{Span};
+
+    ghost Value = { Span };
+
+    ghost view = { λ r. record { lo = r.lo; hi = r.hi } };
+
+    ghost invariant = { λ r. r.lo ≤ℤ r.hi };
+
+    ghost inverse = { λ v. record { lo = v.lo; hi = v.hi } };
+}
+
+impl Reach {
+    pub fn new(lo: i32, hi: i32) -> Self
+        requires { lo ≤ℤ hi }
+        ensures { result ≡ record { lo = lo; hi = hi } }
+    {
+        Reach { lo, hi }
+    }
+
+    pub fn lo(self) -> i32
+        ensures value { result ≡ self.lo }
+        ensures ordered { self.lo ≤ℤ self.hi }
+    {
+        self.lo
+    }
+
+    pub fn hi(self) -> i32
+        ensures value { result ≡ self.hi }
+        ensures ordered { self.lo ≤ℤ self.hi }
+    {
+        self.hi
+    }
+}
+
+/// What is known of a register.
+#[derive(Clone, Copy, Debug, PartialEq, Eq)]
+pub enum Abs {
+    Unset,
+    Num(Range),
+    Stack(Reach),
+    Part(Reach),
+}
