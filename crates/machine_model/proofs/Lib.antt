@@ -7,3 +7,4 @@ pub mod Places
 pub mod Tiles
 pub mod OperatorLemmas
 pub mod Codes
+pub mod Costs
