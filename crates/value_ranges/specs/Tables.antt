@@ -1,4 +1,4 @@
--- The tables of abstract values.
+-- The table of arithmetic instructions on abstract values.
 use Rattle.std.specs.Prelude.{ℕ, ℤ, pos, ◌+ℤ◌, ◌-ℤ◌, neg_ℤ, ◌%◌, ◌-◌, ◌^◌, nat_lt, nat_le, if◌then◌else◌, Option, Some, None, Result, Ok, Err, int_lt, ◌||◌}
 use Rattle.value_ranges.specs.Interval.{Interval, interval, single, full, is_single}
 use Rattle.value_ranges.specs.Span.{Span, span}
@@ -11,10 +11,10 @@ use Rattle.insn_codec.specs.declared.insn.AluOp.TheVariants.{Add, Sub}
 use Rattle.machine_model.specs.Outcomes.{bits_from, width_to, end_bits, negated, ordered_by}
 use Rattle.insn_codec.specs.declared.insn.SignExtension.{SignExtension}
 use Rattle.insn_codec.specs.declared.insn.ByteOrder.{ByteOrder}
-use Rattle.insn_codec.specs.declared.insn.ByteOrder.TheVariants.{Little, Big, Swap}
+use Rattle.insn_codec.specs.declared.insn.ByteOrder.TheVariants.{Little}
 use Rattle.insn_codec.specs.declared.insn.EndSize.{EndSize}
 use Rattle.insn_codec.specs.declared.insn.Insn.{Insn}
-use Rattle.insn_codec.specs.declared.insn.Insn.TheVariants.{Alu, Mov, MovSx, Neg, End, JumpIf, Exit}
+use Rattle.insn_codec.specs.declared.insn.Insn.TheVariants.{Alu, Mov, MovSx, Neg, End}
 use Rattle.value_ranges.specs.declared.abs.Abs.{Abs}
 use Rattle.value_ranges.specs.declared.abs.Abs.TheVariants.{Unset, Num, Stack, Part}
 

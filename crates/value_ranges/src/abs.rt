@@ -1,3 +1,5 @@
+//! What is known of a register.
+
 ghost use Rattle.std.specs.Prelude.{◌≡◌, ◌≤ℤ◌};
 
 use crate::range::Range;
@@ -24,6 +26,7 @@ impl Model for Reach {
 }
 
 impl Reach {
+    /// The positions from `lo` to `hi`.
     pub fn new(lo: i32, hi: i32) -> Self
         requires { lo ≤ℤ hi }
         ensures { result ≡ record { lo = lo; hi = hi } }
@@ -31,6 +34,7 @@ impl Reach {
         Reach { lo, hi }
     }
 
+    /// The least of them.
     pub fn lo(self) -> i32
         ensures value { result ≡ self.lo }
         ensures ordered { self.lo ≤ℤ self.hi }
@@ -38,6 +42,7 @@ impl Reach {
         self.lo
     }
 
+    /// The greatest of them.
     pub fn hi(self) -> i32
         ensures value { result ≡ self.hi }
         ensures ordered { self.lo ≤ℤ self.hi }
@@ -46,7 +51,8 @@ impl Reach {
     }
 }
 
-/// What is known of a register.
+/// What is known of a register: nothing, or that it holds a number of a range, or a pointer into the stack or into the
+/// part at a position of a reach.
 #[derive(Clone, Copy, Debug, PartialEq, Eq)]
 pub enum Abs {
     Unset,

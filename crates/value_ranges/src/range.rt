@@ -1,8 +1,11 @@
+//! Ranges of numbers.
+
 ghost use Rattle.std.specs.Prelude.{◌≡◌, ◌≤◌, ◌<◌, ◌^◌, ◌≤ℤ◌};
 ghost use Rattle.value_ranges.specs.Interval.{Interval, full, single, is_single};
 ghost use Rattle.machine_model.specs.Operators.{bits_of};
 
 use insn_codec::Width;
+use machine_model::low_bits;
 use std::marker::Model;
 
 /// The numbers from `lo` to `hi`, of which there is at least one.
@@ -26,6 +29,7 @@ impl Model for Range {
 }
 
 impl Range {
+    /// The numbers from `lo` to `hi`.
     pub fn new(lo: u64, hi: u64) -> Self
         requires { lo ≤ hi }
         ensures { result ≡ record { lo = lo; hi = hi } }
@@ -33,21 +37,24 @@ impl Range {
         Range { lo, hi }
     }
 
+    /// This one number.
     pub fn single(x: u64) -> Self
         ensures { result ≡ single x }
     {
         Range { lo: x, hi: x }
     }
 
+    /// The numbers of the width.
     pub fn full(width: Width) -> Self
         ensures { result ≡ full (bits_of width) }
     {
         Range {
             lo: 0,
-            hi: machine_model::low_bits(width, u64::MAX),
+            hi: low_bits(width, u64::MAX),
         }
     }
 
+    /// The least of them.
     pub fn lo(self) -> u64
         ensures value { result ≡ self.lo }
         ensures ordered { self.lo ≤ self.hi }
@@ -55,6 +62,7 @@ impl Range {
         self.lo
     }
 
+    /// The greatest of them.
     pub fn hi(self) -> u64
         ensures value { result ≡ self.hi }
         ensures ordered { self.lo ≤ self.hi }
@@ -62,6 +70,7 @@ impl Range {
         self.hi
     }
 
+    /// Whether there is one alone.
     pub fn is_single(self) -> bool
         ensures { result ≡ is_single self }
     {
@@ -90,6 +99,7 @@ impl Model for SignedRange {
 }
 
 impl SignedRange {
+    /// The numbers from `lo` to `hi`.
     pub fn new(lo: i64, hi: i64) -> Self
         requires { lo ≤ℤ hi }
         ensures { result ≡ record { lo = lo; hi = hi } }
@@ -97,6 +107,7 @@ impl SignedRange {
         SignedRange { lo, hi }
     }
 
+    /// The least of them.
     pub fn lo(self) -> i64
         ensures value { result ≡ self.lo }
         ensures ordered { self.lo ≤ℤ self.hi }
@@ -104,6 +115,7 @@ impl SignedRange {
         self.lo
     }
 
+    /// The greatest of them.
     pub fn hi(self) -> i64
         ensures value { result ≡ self.hi }
         ensures ordered { self.lo ≤ℤ self.hi }
