@@ -1,0 +1,5 @@
+pub mod Onwards
+pub mod Forward
+pub mod Marks
+pub mod CodeLemmas
+pub mod FaultLemmas

@@ -1,0 +1,43 @@
+//! From a decoder's list to the graph.
+
+ghost use Rattle.std.specs.Prelude.{◌≡◌, ◌≤◌, length, IfOk, MatchResult};
+ghost use Rattle.flow_graph.specs.Program.{code_of, IsDecoded};
+ghost use Rattle.flow_graph.specs.Refusals.{Refuses, IsBuilt};
+
+use crate::checks::first_fault;
+use crate::fault::FlowFault;
+use crate::graph::Graph;
+use crate::reach::first_unreached;
+use insn_codec::{Insn, Placed};
+use refusal::NoMemory;
+use std::alloc::Global;
+
+/// The code by slot.
+fn code_of(alloc: Global, placed: &[Placed]) -> Result<Vec<Option<Insn>>, NoMemory>
+    ensures { IfOk result (λ code. code.items ≡ code_of placed.now) }
+{
+    let mut code = Vec::new(alloc);
+    for place in placed {
+        code.push(Some(place.insn))?;
+        if let Insn::LoadWide { .. } = place.insn {
+            code.push(None)?;
+        }
+    }
+    Ok(code)
+}
+
+/// The graph of a program as a decoder gives it, or why it has none: the first fault of an edge, else the first
+/// instruction that isn't reached.
+pub fn build(alloc: Global, placed: &[Placed]) -> Result<Graph, FlowFault>
+    requires { IsDecoded placed.now }
+    ensures { MatchResult result (λ graph. IsBuilt (code_of placed.now) graph) (λ fault. Refuses (code_of placed.now) fault) }
+{
+    let code = code_of(alloc, placed)?;
+    if let Some(fault) = first_fault(&code) {
+        return Err(fault);
+    }
+    match first_unreached(alloc, &code)? {
+        Some(slot) => Err(FlowFault::Unreachable(slot)),
+        None => Ok(Graph::of(code)),
+    }
+}

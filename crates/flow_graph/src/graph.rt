@@ -1,0 +1,110 @@
+//! The graph of a program.
+
+ghost use Rattle.std.specs.Prelude.{◌≡◌, ◌<◌, length};
+ghost use Rattle.std.specs.Option.{option_copied};
+ghost use Rattle.machine_model.specs.Edges.{insn_at};
+
+use crate::onward::{Onward, onward_of, target};
+use insn_codec::Insn;
+use std::marker::Model;
+
+/// The slots that an instruction leads to, the following one first.
+#[derive(Clone, Copy, Debug, PartialEq, Eq)]
+pub enum Next {
+    Zero,
+    One(u32),
+    Two(u32, u32),
+}
+
+/// A program whose edges lead forward to instructions, and which reaches each of its instructions.
+#[derive(Drop)]
+pub struct Graph {
+    code: Vec<Option<Insn>>,
+}
+
+impl Model for Graph {
+    ghost use Rattle.machine_model.specs.Edges.{Code};
+    ghost use Rattle.flow_graph.specs.Flow.{IsFlow};
+
+    ghost Value = { Code };
+
+    ghost view = { λ g. g.code.items };
+
+    ghost invariant = { λ g. IsFlow g.code.items };
+}
+
+impl Graph {
+    ghost use Rattle.machine_model.specs.Edges.{Begins};
+    ghost use Rattle.flow_graph.specs.Flow.{AreNext, IsFlow};
+
+    /// The graph of a code whose edges lead forward.
+    pub(crate) fn of(code: Vec<Option<Insn>>) -> Graph
+        requires { IsFlow code.items }
+        ensures { result ≡ code.items }
+    {
+        Graph { code }
+    }
+
+    /// How many slots the program has.
+    pub fn slots(&self) -> u32
+        ensures slots { result ≡ length self.now }
+        ensures flow { IsFlow self.now }
+    {
+        self.code.len() as u32
+    }
+
+    /// The instruction that begins at the slot.
+    pub fn insn(&self, slot: u32) -> Option<&Insn>
+        ensures { option_copied result ≡ insn_at self.now slot }
+    {
+        match self.code.get(slot as usize) {
+            Some(Some(insn)) => Some(insn),
+            _ => None,
+        }
+    }
+
+    /// The slots that the instruction at the slot leads to.
+    pub fn successors(&self, slot: u32) -> Next
+        requires { Begins self.now slot }
+        ensures { AreNext self.now slot result }
+    {
+        next_of(&self.code, slot)
+    }
+
+    /// The instruction that begins at each slot.
+    pub fn into_code(self) -> Vec<Option<Insn>>
+        ensures { result.items ≡ self }
+    {
+        self.code
+    }
+}
+
+ghost use Rattle.machine_model.specs.Edges.{Begins};
+ghost use Rattle.flow_graph.specs.Flow.{AreNext, IsForward, IsNext, HasTarget};
+
+/// The slots that an instruction leads to which goes on in this way.
+fn next_after(onward: Onward, slot: u32) -> Next
+    requires slot { slot < 4096 }
+    requires target { HasTarget onward slot }
+    ensures { IsNext onward slot result }
+{
+    match onward {
+        Onward::Steps => Next::One(slot + 1),
+        Onward::StepsWide => Next::One(slot + 2),
+        Onward::Jumps(offset) => Next::One(target(slot, offset).unwrap()),
+        Onward::Branches(offset) => Next::Two(slot + 1, target(slot, offset).unwrap()),
+        Onward::Ends => Next::Zero,
+    }
+}
+
+/// The slots that the instruction at the slot leads to.
+pub(crate) fn next_of(code: &[Option<Insn>], slot: u32) -> Next
+    requires forward { IsForward code.now }
+    requires begins { Begins code.now slot }
+    ensures { AreNext code.now slot result }
+{
+    match &code[slot as usize] {
+        Some(insn) => next_after(onward_of(insn), slot),
+        None => Next::Zero,
+    }
+}
