@@ -1,18 +1,17 @@
 -- What is known of the registers ahead of an instruction: at the entry, and along each edge; and what the instruction
 -- has to find known.
-use Rattle.std.specs.Prelude.{ℕ, zero, suc, ◌+◌, ◌==◌, ◌<◌, ◌^◌, List, [], ◌∷◌, drop, replicate, slice_set, Bool, true, false, Option, Some, None, Result, Ok, Err, ℤ, pos, ◌+ℤ◌, int_lt, ◌||◌, if◌then◌else◌}
+use Rattle.std.specs.Prelude.{ℕ, zero, suc, ◌==◌, [], ◌∷◌, drop, slice_set, Bool, true, false, Option, Some, None, Result, Ok, Err, ℤ, pos, ◌+ℤ◌, int_lt, ◌||◌, if◌then◌else◌}
 use Rattle.insn_codec.specs.declared.insn.Operand.{Operand}
 use Rattle.insn_codec.specs.declared.insn.Operand.TheVariants.{Imm, Reg}
-use Rattle.insn_codec.specs.declared.insn.LoadKind.{LoadKind}
-use Rattle.insn_codec.specs.declared.insn.LoadKind.TheVariants as kind
 use Rattle.insn_codec.specs.declared.insn.Insn.{Insn}
 use Rattle.insn_codec.specs.declared.insn.Insn.TheVariants.{Alu, Mov, MovSx, Neg, End, LoadWide, Load, Store, StoreRegister, Jump, Jump32, JumpIf, Call, Exit}
 use Rattle.machine_model.specs.Operators.{residue}
 use Rattle.machine_model.specs.Memory.{store_bytes, load_bytes}
 use Rattle.machine_model.specs.Edges.{Fact, Always, NotTaken, Taken}
 use Rattle.helpers.specs.Table.{Table, arity_in}
-use Rattle.value_ranges.specs.Interval.{interval, single}
-use Rattle.value_ranges.specs.Span.{Span, span}
+use Rattle.value_ranges.specs.Span.{Span}
+use Rattle.value_ranges.specs.Words.{entry, between, single_value, any_number, loaded}
+use Rattle.value_ranges.specs.Refinements.{refined_by}
 use Rattle.value_ranges.specs.Tables.{table_of}
 use Rattle.value_ranges.specs.declared.abs.Abs.{Abs}
 use Rattle.value_ranges.specs.declared.abs.Abs.TheVariants.{Unset, Num, Stack, Part}
@@ -22,15 +21,15 @@ use Rattle.verifier.specs.Covers.{abs_at}
 abbrev pub with_abs : State → ℕ → Abs → State
 with_abs state to a = record { registers = slice_set state.registers to a }
 
--- R1 points to the part, R2 has its length, R3 the argument, and R10 points to the stack's end
+-- what the registers hold at a task's start
 abbrev pub entry_state : ℕ → State
 entry_state need = record {
-  registers = slice_set (slice_set (slice_set (slice_set (replicate 11 Unset)
-      1 (Part (span (pos 0) (pos 0)))) 2 (Num (interval need 65536))) 3 (Num (interval 0 18446744073709551615))) 10 (Stack (span (pos 512) (pos 512))) }
+  registers = entry need 0 ∷ entry need 1 ∷ entry need 2 ∷ entry need 3 ∷ entry need 4 ∷ entry need 5
+      ∷ entry need 6 ∷ entry need 7 ∷ entry need 8 ∷ entry need 9 ∷ entry need 10 ∷ [] }
 
 -- the second operand: an imm is extended by its sign
 abbrev pub operand_at : State → Operand → Abs
-operand_at state (Imm imm) = Num (single (residue 64 imm))
+operand_at state (Imm imm) = single_value (residue 64 imm)
 operand_at state (Reg r) = abs_at state r
 
 -- ---- along the edges
@@ -46,7 +45,19 @@ called_state state answer = record {
 
 -- what a helper answers
 abbrev pub answer_range : ℕ → Abs
-answer_range helper = if helper == 1 then Num (interval 0 6) else Num (interval 0 18446744073709551615)
+answer_range helper = if helper == 1 then between 0 6 else any_number
+
+abbrev pub is_taken : Fact → Bool
+is_taken Taken = true
+is_taken fact = false
+
+abbrev pub with_operand : State → Operand → Abs → State
+with_operand state (Imm imm) a = state
+with_operand state (Reg r) a = with_abs state r a
+
+-- what the fact on an edge tells of a jump's operands
+abbrev pub refined_state : State → ℕ → Operand → Abs × Abs → State
+refined_state state dst src refined = with_operand (with_abs state dst refined.0) src refined.1
 
 -- what is known on the edge with this fact
 abbrev pub passed : Insn → Fact → State → State
@@ -55,7 +66,10 @@ passed (Mov w dst src) fact state = with_abs state dst (or_unset (table_of (Mov 
 passed (MovSx e dst src) fact state = with_abs state dst (or_unset (table_of (MovSx e dst src) (abs_at state dst) (abs_at state src)))
 passed (Neg w dst) fact state = with_abs state dst (or_unset (table_of (Neg w dst) (abs_at state dst) (abs_at state dst)))
 passed (End order size dst) fact state = with_abs state dst (or_unset (table_of (End order size dst) (abs_at state dst) (abs_at state dst)))
-passed (LoadWide dst value) fact state = with_abs state dst (Num (single value))
+passed (LoadWide dst value) fact state = with_abs state dst (single_value value)
+passed (Load kind dst base offset) fact state = with_abs state dst (loaded kind)
+passed (JumpIf w c dst src offset) fact state =
+    refined_state state dst src (refined_by (JumpIf w c dst src offset) (is_taken fact) (abs_at state dst) (operand_at state src))
 passed (Call helper) fact state = called_state state (answer_range helper)
 passed i fact state = state
 
