@@ -1,7 +1,7 @@
 //! The helpers that a program may call.
 
 ghost use Rattle.std.specs.Prelude.{◌≡◌};
-ghost use Rattle.helpers.specs.Table.{arity_in, job_table};
+ghost use Rattle.helpers.specs.Table.{arity_in, job_table, AreKnown};
 
 use std::marker::Model;
 
@@ -13,13 +13,13 @@ pub struct HelperTable {
 
 impl Model for HelperTable {
     ghost use Rattle.std.specs.Prelude.{◌≡◌, length};
-    ghost use Rattle.helpers.specs.Table.{Table};
+    ghost use Rattle.helpers.specs.Table.{Table, AreKnown};
 
     ghost Value = { Table };
 
     ghost view = { λ t. t.arities };
 
-    ghost invariant = { λ t. length t.arities ≡ 128 };
+    ghost invariant = { λ t. (length t.arities ≡ 128) × AreKnown t.arities };
 }
 
 impl HelperTable {
@@ -30,6 +30,16 @@ impl HelperTable {
         let mut arities = [None; 128];
         arities[1] = Some(4);
         HelperTable { arities }
+    }
+
+    /// The same table.
+    pub fn copied(&self) -> HelperTable
+        ensures same { result ≡ self.now }
+        ensures known { AreKnown self.now }
+    {
+        HelperTable {
+            arities: self.arities,
+        }
     }
 
     /// How many arguments the helper of this id takes, if it is in the table.

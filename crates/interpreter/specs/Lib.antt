@@ -1,3 +1,4 @@
 pub mod Telling
 pub mod Operands
+pub mod Access
 pub mod Behind

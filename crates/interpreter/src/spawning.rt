@@ -22,12 +22,12 @@ pub fn hand_over<S: Spawner>(
     ensures taken { IsTrue result → part.new.bytes ≡ take (length part.old.bytes - count) part.old.bytes }
     ensures took { IsTrue result →
         Took (record { program = program; share = share; arg = arg; bytes = drop (length part.old.bytes - count) part.old.bytes })
-            (part.old.base + (length part.old.bytes - count)) (λ child reply. S.spawns spawner.old child reply spawner.new) }
+        (part.old.base + (length part.old.bytes - count)) (λ child reply. S.spawns spawner.old child reply spawner.new) }
     ensures whole { IsFalse result → part.new.bytes ≡ part.old.bytes }
     ensures refused { IsFalse result →
         Refused (record { program = program; share = share; arg = arg; bytes = drop (length part.old.bytes - count) part.old.bytes })
-            (part.old.base + (length part.old.bytes - count)) (λ child reply. S.spawns spawner.old child reply spawner.new)
-            (spawner.new ≡ spawner.old) }
+        (part.old.base + (length part.old.bytes - count)) (λ child reply. S.spawns spawner.old child reply spawner.new)
+        (spawner.new ≡ spawner.old) }
 {
     let Ok(piece) = part.cut(alloc, count) else {
         return false;

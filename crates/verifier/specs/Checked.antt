@@ -1,15 +1,12 @@
 -- What a verified program is.
 use Rattle.std.specs.Prelude.{◌≡◌, ℕ, ◌+◌, ◌≤◌, ◌<◌, List, length, slice_index, slice_index_or, Bool, true, false, Option, Some, None}
-use Rattle.insn_codec.specs.declared.insn.Width.TheVariants.{W64}
 use Rattle.insn_codec.specs.declared.insn.Size.TheVariants as size
 use Rattle.insn_codec.specs.declared.insn.Insn.{Insn}
 use Rattle.insn_codec.specs.declared.insn.Insn.TheVariants.{Mov, StoreRegister, Call, Exit}
 use Rattle.machine_model.specs.Edges.{Code, Fact, IsEdge, Begins, insn_at, price}
 use Rattle.machine_model.specs.Paths.{AreCosts}
 use Rattle.machine_model.specs.Machine.{Program}
-use Rattle.helpers.specs.Table.{Table}
-use Rattle.value_ranges.specs.declared.abs.Abs.{Abs}
-use Rattle.value_ranges.specs.declared.abs.Abs.TheVariants as abs
+use Rattle.helpers.specs.Table.{Table, AreKnown}
 use Rattle.verifier.specs.declared.state.State.{State}
 use Rattle.verifier.specs.Covers.{IsWithin}
 use Rattle.verifier.specs.States.{entry_state, passed, fault}
@@ -33,7 +30,7 @@ cost_at p slot = slice_index p.costs slot
 
 -- the instructions that are run today
 abbrev pub is_treated : Insn → Bool
-is_treated (Mov W64 dst src) = true
+is_treated (Mov w dst src) = true
 is_treated (StoreRegister size.Byte base offset src) = true
 is_treated (Call helper) = true
 is_treated Exit = true
@@ -55,3 +52,4 @@ pub record IsVerified (p : Checked) : Type 0 where
   pub entry : (outer : State) × (state_at p 0 ≡ Some outer) × IsWithin (entry_state p.need) outer
   pub each : (slot : ℕ) (i : Insn) (state : State) → insn_at p.code slot ≡ Some i → state_at p slot ≡ Some state → IsSoundAt p slot i state
   pub costs : AreCosts p.code p.costs
+  pub known : AreKnown p.helpers
