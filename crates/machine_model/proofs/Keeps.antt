@@ -7,7 +7,7 @@ use Rattle.machine_model.specs.declared.program.Entry.{Entry}
 use Rattle.machine_model.specs.Spawn.{answer_of}
 use Rattle.machine_model.specs.Machine.{State, Program, Entries, Effect, Goes, Ends, Spawns, Traps, spawned, paid, effect, cost_at}
 use Rattle.machine_model.proofs.Effects.{if_holds, effect_holds}
-use Rattle.machine_model.specs.Job.{Task, Ending, goes_on, with_state, child_of, Member, Live, Ended, Job, Move, run, step, member_step, task_step, applied, credit_of, held_by, returned_by, spent_by, state_in, entries_of}
+use Rattle.machine_model.specs.Job.{Task, Ending, goes_on, ending_of, with_state, child_of, Member, Live, Ended, Job, Move, run, step, member_step, task_step, applied, credit_of, held_by, returned_by, spent_by, state_in, entries_of}
 
 -- what a spawn that passes its tests leaves
 pub record Leaves (share cut held used after len need : ℕ) : Type 0 where
@@ -81,7 +81,7 @@ keeps_applied j n t refuses (Goes s) k here keeps is =
     let e : goes_on j n t s ≡ k = cc in
     ap credit_of (sym e) ∙ omega (arith, weight-set j.tasks n (Live t) (Live (with_state t s)) here, keeps)
 keeps_applied j n t refuses (Ends r0 s) k here keeps is =
-    let ending : Ending = record { place = t.place; base = t.base; size = t.size; spent = s.used; rest = s.held - s.used; r0 = r0 } in
+    let ending : Ending = ending_of t s r0 in
     let made : Job = record { buffer = j.buffer; tasks = slice_set j.tasks n (Ended ending) } in
     let e : made ≡ k = cc in
     ap credit_of (sym e) ∙ omega (arith, weight-set j.tasks n (Live t) (Ended ending) here, keeps.0, keeps.1)

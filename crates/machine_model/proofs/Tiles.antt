@@ -4,7 +4,7 @@ use Rattle.std.proofs.lemmas.Option.{slice_get_within}
 use Rattle.std.proofs.lemmas.List.{length-drop, length-take-le}
 use Rattle.std.proofs.lemmas.Bool.Decides.{nat_tests}
 use Rattle.machine_model.specs.Machine.{State, Program, Effect, Goes, Ends, Spawns, Traps, effect}
-use Rattle.machine_model.specs.Job.{Job, Task, Member, Live, Ended, Ending, goes_on, with_state, child_of, state_in, entries_of, applied, task_step, member_step, step, base_of, size_of, IsApart, Owner, AreTiles}
+use Rattle.machine_model.specs.Job.{Job, Task, Member, Live, Ended, Ending, goes_on, ending_of, with_state, child_of, state_in, entries_of, applied, task_step, member_step, step, base_of, size_of, IsApart, Owner, AreTiles}
 use Rattle.machine_model.specs.Memory.{written}
 use Rattle.machine_model.proofs.Places.{set_same, set_other, by_number, push_old, push_new, pushed}
 use Rattle.machine_model.proofs.Ranges.{length-written}
@@ -148,7 +148,7 @@ tiles_applied j n t refuses (Goes s) k here splits is tiles =
     subst (Tiled j) e
     (tiles_goes j n t s here (splits ∙ part_long j.buffer t (tiles.inside n (Live t) here)) tiles)
 tiles_applied j n t refuses (Ends r0 s) k here splits is tiles =
-    let ending : Ending = record { place = t.place; base = t.base; size = t.size; spent = s.used; rest = s.held - s.used; r0 = r0 } in
+    let ending : Ending = ending_of t s r0 in
     let made : Job = record { buffer = j.buffer; tasks = slice_set j.tasks n (Ended ending) } in
     let e : made ≡ k = cc in
     subst (Tiled j) e
