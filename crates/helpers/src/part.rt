@@ -2,6 +2,7 @@
 
 ghost use Rattle.std.specs.Prelude.{◌≡◌, ℕ, ◌+◌, ◌-◌, ◌^◌, ◌<◌, ◌≤◌, [], ◌++◌, length, take, drop, slice_set, slice_index, IfOk, OnErr};
 ghost use Rattle.helpers.specs.Piece.{Piece};
+ghost use Rattle.machine_model.specs.Memory.{written};
 
 use refusal::NoMemory;
 use std::alloc::Global;
@@ -49,6 +50,15 @@ impl Part {
         ensures { self.new ≡ record self.old { bytes = slice_set self.old.bytes at byte } }
     {
         self.bytes[at] = byte;
+    }
+
+    /// Copies the bytes to where they lie in the job's buffer.
+    pub fn copy_to(&self, buffer: &mut Vec<u8>)
+        requires { self.now.base + length self.now.bytes ≤ length buffer.old.items }
+        ensures { buffer.new.items ≡ written buffer.old.items self.now.base self.now.bytes }
+    {
+        let end = self.base + self.bytes.len();
+        buffer[self.base..end].copy_from_slice(&self.bytes);
     }
 
     /// Moves the last `count` bytes out. Their room is kept.

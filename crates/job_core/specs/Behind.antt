@@ -1,23 +1,34 @@
 -- Which jobs stand behind the tasks that a world keeps.
-use Rattle.std.specs.Prelude.{◌≡◌, ◌↔◌, ℕ, ◌≤◌, List, map, length, take, drop, slice_get, Bool, Option, Some, None}
+use Rattle.std.specs.Prelude.{◌≡◌, ◌↔◌, ℕ, ◌≤◌, List, map, length, take, drop, slice_get, sum_by, Bool, true, false, Option, Some, None}
 use Rattle.machine_model.specs.declared.program.Entry.{Entry}
 use Rattle.machine_model.specs.Job as job
-use Rattle.machine_model.specs.Job.{Job, Task, Member, state_in, AreTiles, Move, step, run, entry_of, credit_of, IsComplete}
+use Rattle.machine_model.specs.Job.{Job, Task, Member, state_in, AreTiles, Move, step, run, entry_of, credit_of, spent_by, returned_by, IsAlive, IsComplete}
 use Rattle.machine_model.specs.Machine.{Program}
 use Rattle.verifier.specs.Checked.{Checked, program_of, IsVerified}
 use Rattle.interpreter.specs.Behind.{AreBehind, IsCovered, state_of}
 use Rattle.job_core.specs.declared.live.Live.{Live}
-use Rattle.job_core.specs.declared.live.Ending.{Ending}
+use Rattle.job_core.specs.declared.report.TaskEnd.{TaskEnd}
+use Rattle.job_core.specs.declared.tasks.Stepped.{Stepped}
+use Rattle.job_core.specs.declared.tasks.Stepped.TheVariants.{Skipped, Went, Ended}
 
--- What a world keeps: the programs, what a spawn has to know of each, the tasks by number, live or ended, the length of the buffer
--- and the credit that was issued.
+-- What a world keeps: the programs, what a spawn has to know of each, the live tasks by number, what the report says of each task,
+-- the bytes of ended parts where they lie in the buffer, the credit that ended tasks spent and returned, and what was issued.
 pub record Kept : Type 0 where
   pub programs : List Checked
   pub entries : List Entry
   pub lives : List (Option Live)
-  pub endings : List (Option Ending)
-  pub size : ℕ
+  pub ends : List TaskEnd
+  pub collected : List ℕ
+  pub spent : ℕ
+  pub returned : ℕ
   pub issued : ℕ
+
+-- what the report says of a member
+abbrev pub end_of : ℕ → Member → TaskEnd
+end_of n (job.Live t) = record {
+  number = n; program = t.program; arg = t.arg; given = t.given; spent = 0; rest = 0; r0 = 0; ran = false }
+end_of n (job.Ended e) = record {
+  number = n; program = e.program; arg = e.arg; given = e.given; spent = e.spent; rest = e.rest; r0 = e.r0; ran = true }
 
 -- the task stands behind what is kept of it, and its program covers it
 pub record IsTaskOf (p : Checked) (buffer : List ℕ) (live : Live) (t : Task) : Type 0 where
@@ -28,30 +39,18 @@ pub record IsTaskOf (p : Checked) (buffer : List ℕ) (live : Live) (t : Task) :
   pub behind : AreBehind p live.frame t.registers
   pub covered : IsCovered p live.frame live.part live.credit
 
--- the ended task is the one that this was kept of
-pub record IsEndingOf (buffer : List ℕ) (ending : Ending) (e : job.Ending) : Type 0 where
-  pub spent : e.spent ≡ ending.spent
-  pub rest : e.rest ≡ ending.rest
-  pub r0 : e.r0 ≡ ending.r0
-  pub base : e.base ≡ ending.part.base
-  pub size : e.size ≡ length ending.part.bytes
-  pub bytes : take e.size (drop e.base buffer) ≡ ending.part.bytes
-
 -- the number's task is live
 pub record IsLive (kept : Kept) (buffer : List ℕ) (n : ℕ) (t : Task) : Type 0 where
   pub live : Live
   pub there : slice_get kept.lives n ≡ Some (Some live)
-  pub unended : slice_get kept.endings n ≡ Some None
   pub checked : Checked
   pub program : slice_get kept.programs live.program ≡ Some checked
   pub is : IsTaskOf checked buffer live t
 
--- the number's task has ended
+-- the number's task has ended, and its bytes are collected
 pub record HasEnded (kept : Kept) (buffer : List ℕ) (n : ℕ) (e : job.Ending) : Type 0 where
   pub gone : slice_get kept.lives n ≡ Some None
-  pub ending : Ending
-  pub there : slice_get kept.endings n ≡ Some (Some ending)
-  pub is : IsEndingOf buffer ending e
+  pub bytes : take e.size (drop e.base buffer) ≡ take e.size (drop e.base kept.collected)
 
 abbrev pub IsMemberOf : Kept → List ℕ → ℕ → Member → Type 0
 IsMemberOf kept buffer n (job.Live t) = IsLive kept buffer n t
@@ -60,8 +59,11 @@ IsMemberOf kept buffer n (job.Ended e) = HasEnded kept buffer n e
 -- each task is kept under its number, and nothing else is
 pub record AreKept (kept : Kept) (j : Job) : Type 0 where
   pub lives : length kept.lives ≡ length j.tasks
-  pub endings : length kept.endings ≡ length j.tasks
+  pub ends : length kept.ends ≡ length j.tasks
   pub each : (n : ℕ) (m : Member) → slice_get j.tasks n ≡ Some m → IsMemberOf kept j.buffer n m
+  pub each_end : (n : ℕ) (m : Member) → slice_get j.tasks n ≡ Some m → slice_get kept.ends n ≡ Some (end_of n m)
+  pub spent : kept.spent ≡ sum_by spent_by j.tasks
+  pub returned : kept.returned ≡ sum_by returned_by j.tasks
 
 -- the programs were verified, and the entries are theirs
 pub record AreEntries (programs : List Checked) (entries : List Entry) : Type 0 where
@@ -73,14 +75,20 @@ pub record IsBehind (kept : Kept) (j : Job) : Type 0 where
   pub entries : AreEntries kept.programs kept.entries
   pub kept_are : AreKept kept j
   pub tiles : AreTiles j.tasks (length j.buffer)
-  pub size : length j.buffer ≡ kept.size
+  pub size : length kept.collected ≡ length j.buffer
   pub credit : credit_of j ≡ kept.issued
   pub limit : kept.issued ≤ 2147483647
 
+-- what a step of a number is answered, from one job to the next
+abbrev pub Answers : Stepped → Job → ℕ → Job → Type 0
+Answers Skipped j n k = (IsAlive j n → ⊥) × (k ≡ j)
+Answers Went j n k = IsAlive j n × IsAlive k n
+Answers (Ended r0) j n k = IsAlive j n × ((e : job.Ending) × (slice_get k.tasks n ≡ Some (job.Ended e)) × (e.r0 ≡ r0))
+
 -- the next job behind, if a spawn here is refused or not
-abbrev pub Steps : Kept → Job → ℕ → Kept → Type 0
-Steps old j n new =
-    (refuses : Bool) × (k : Job) × (step (map program_of old.programs) j n refuses ≡ Some k) × IsBehind new k
+abbrev pub Steps : Kept → Job → ℕ → Stepped → Kept → Type 0
+Steps old j n out new =
+    (refuses : Bool) × (k : Job) × (step (map program_of old.programs) j n refuses ≡ Some k) × IsBehind new k × Answers out j n k
 
 -- the moves lead to a job with the credit that was issued
 pub record Reaches (programs : List Program) (j : Job) (moves : List Move) : Type 0 where

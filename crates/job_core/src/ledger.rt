@@ -2,16 +2,17 @@
 
 ghost use Rattle.std.specs.Prelude.{◌≡◌, ◌≤◌, vec_len};
 
-use crate::live::{Ending, Live};
+use crate::live::Live;
+use crate::report::{Report, TaskEnd};
 use helpers::{Entry, SpawnRecord, Spawner};
 use interpreter::{Credit, Frame};
 
-/// The tasks by number, live or ended, and what a spawn has to know of each program.
+/// The live tasks by number, the report of all of them, and what a spawn has to know of each program.
 #[derive(Drop)]
 pub struct Ledger {
     pub entries: Vec<Entry>,
     pub lives: Vec<Option<Live>>,
-    pub endings: Vec<Option<Ending>>,
+    pub report: Report,
     ghost few: { vec_len entries ≤ 65536 },
 }
 
@@ -22,7 +23,9 @@ impl Spawner for Ledger {
     ghost entries = { λ ledger. slice_get ledger.entries.items };
 
     ghost spawns = { λ old child reply new. (new.entries.items ≡ old.entries.items)
-        × Adds old.lives.items old.endings.items child reply new.lives.items new.endings.items };
+        × Adds old.lives.items old.report.tasks.items child reply new.lives.items new.report.tasks.items
+        × (new.report.buffer.items ≡ old.report.buffer.items)
+        × (new.report.spent ≡ old.report.spent) × (new.report.returned ≡ old.report.returned) };
 
     fn entry(&self, program: u64) -> Option<Entry> {
         let entry = self.entries.get(program as usize)?;
@@ -30,7 +33,11 @@ impl Spawner for Ledger {
     }
 
     fn spawn(&mut self, child: SpawnRecord) -> Result<(), SpawnRecord> {
-        if self.lives.reserve(1).is_err() || self.endings.reserve(1).is_err() {
+        // A number is given as long as it fits. A job has fewer tasks than credit, so it always does.
+        let Ok(number) = u32::try_from(self.lives.len()) else {
+            return Err(child);
+        };
+        if self.lives.reserve(1).is_err() || self.report.tasks.reserve(1).is_err() {
             return Err(child);
         }
         let SpawnRecord {
@@ -50,8 +57,18 @@ impl Spawner for Ledger {
                 used: 0,
             },
         };
+        let entered = TaskEnd {
+            number,
+            program,
+            arg,
+            given: share,
+            spent: 0,
+            rest: 0,
+            r0: 0,
+            ran: false,
+        };
         let _ = self.lives.push(Some(live));
-        let _ = self.endings.push(None);
+        let _ = self.report.tasks.push(entered);
         Ok(())
     }
 }

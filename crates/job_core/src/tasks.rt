@@ -3,22 +3,21 @@
 ghost use Rattle.std.specs.Prelude.{◌≡◌, ℕ, ◌<◌, ◌≤◌, ◌^◌, length, slice_get};
 
 use crate::ledger::Ledger;
-use crate::live::{Ending, Live};
+use crate::live::Live;
 use interpreter::StepOut;
 use std::alloc::Global;
 use verifier::Verified;
 
-/// A job under way.
+/// The programs and tasks of a job, and the credit that was issued.
 #[derive(Drop)]
 pub struct Tasks {
     pub programs: Vec<Verified>,
     pub ledger: Ledger,
-    pub size: usize,
     pub issued: u32,
 }
 
-/// What a step of a world has come to.
-#[derive(Clone, Copy)]
+/// What a step of a world has come to: no task of that number is alive, or the task went on, or it ended with R0.
+#[derive(Clone, Copy, Debug, PartialEq, Eq)]
 pub enum Stepped {
     Skipped,
     Went,
@@ -33,7 +32,7 @@ impl Tasks {
     /// One instruction of a task, if it is alive.
     pub fn step(&mut self, alloc: Global, number: u32) -> Stepped
         requires { (j : Job) × IsBehind (kept_of self.old) j }
-        ensures steps { (j : Job) → IsBehind (kept_of self.old) j → Steps (kept_of self.old) j number (kept_of self.new) }
+        ensures steps { (j : Job) → IsBehind (kept_of self.old) j → Steps (kept_of self.old) j number result (kept_of self.new) }
         ensures programs { self.new.programs.items ≡ self.old.programs.items }
     {
         let Some(place) = self.ledger.lives.get_mut(number as usize) else {
@@ -55,13 +54,7 @@ impl Tasks {
                     part,
                     credit,
                 } = live;
-                let ending = Ending {
-                    spent: credit.used,
-                    rest: credit.held - credit.used,
-                    r0,
-                    part,
-                };
-                self.ledger.endings[number as usize] = Some(ending);
+                self.ledger.report.end(number, credit, r0, &part);
                 Stepped::Ended(r0)
             }
         }

@@ -5,6 +5,7 @@ ghost use Rattle.std.specs.Prelude.{◌≡◌, IfOk};
 use crate::job::Job;
 use crate::ledger::Ledger;
 use crate::live::Live;
+use crate::report::{Report, TaskEnd};
 use crate::tasks::{Stepped, Tasks};
 use helpers::{Entry, Part};
 use interpreter::{Credit, Frame};
@@ -68,17 +69,31 @@ impl World {
         };
         let mut lives = Vec::new(alloc);
         lives.push(Some(root))?;
-        let mut endings = Vec::new(alloc);
-        endings.push(None)?;
+        let mut tasks = Vec::new(alloc);
+        tasks.push(TaskEnd {
+            number: 0,
+            program: 0,
+            arg: 0,
+            given: credit,
+            spent: 0,
+            rest: 0,
+            r0: 0,
+            ran: false,
+        })?;
+        let report = Report {
+            spent: 0,
+            returned: 0,
+            buffer: vec![in alloc; 0; size]?,
+            tasks,
+        };
         Ok(World {
             tasks: Tasks {
                 programs,
                 ledger: Ledger {
                     entries,
                     lives,
-                    endings,
+                    report,
                 },
-                size,
                 issued: credit,
             },
         })
@@ -86,7 +101,7 @@ impl World {
 
     /// One instruction of a task, if it is alive.
     pub fn step(&mut self, alloc: Global, number: u32) -> Stepped
-        ensures steps { (j : model.Job) → IsBehind self.old j → Steps self.old j number self.new }
+        ensures steps { (j : model.Job) → IsBehind self.old j → Steps self.old j number result self.new }
         ensures programs { self.new.programs ≡ self.old.programs }
     {
         self.tasks.step(alloc, number)

@@ -55,7 +55,7 @@ keeps_effect p entries s = effect_holds (Keeps s.held) p entries s (λ _. tt) (�
 })
 
 -- the sum over the members, where one of them is replaced
-replaced : (f : Member → ℕ) (ms : List Member) (n : ℕ) (old new : Member) → slice_get ms n ≡ Some old →
+pub replaced : (f : Member → ℕ) (ms : List Member) (n : ℕ) (old new : Member) → slice_get ms n ≡ Some old →
     sum_by f (slice_set ms n new) + f old ≡ sum_by f ms + f new
 replaced f ms n old new at =
     let is : get_or ms n old ≡ old = get_or_from_slice_get ms n old old at in
