@@ -6,3 +6,6 @@ mod table;
 
 pub use bound::{costs, price};
 pub use table::Costs;
+
+#[cfg(test)]
+mod tests;

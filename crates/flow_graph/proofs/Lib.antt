@@ -3,3 +3,4 @@ pub mod Forward
 pub mod Marks
 pub mod CodeLemmas
 pub mod FaultLemmas
+pub mod PlacedLemmas
