@@ -38,6 +38,7 @@ impl Costs {
     pub fn into_table(self) -> Vec<u32>
         ensures { result.items ≡ self }
     {
-        self.table
+        let Costs { table } = self;
+        table
     }
 }
