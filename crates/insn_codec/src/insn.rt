@@ -122,7 +122,10 @@ pub enum Insn {
         src: Register,
     },
     /// `dst = -dst`
-    Neg { width: Width, dst: Register },
+    Neg {
+        width: Width,
+        dst: Register,
+    },
     /// `dst` with its bytes in another order
     End {
         order: ByteOrder,
@@ -130,7 +133,10 @@ pub enum Insn {
         dst: Register,
     },
     /// `dst = value`, in two slots
-    LoadWide { dst: Register, value: u64 },
+    LoadWide {
+        dst: Register,
+        value: u64,
+    },
     /// `dst = *(base + offset)`
     Load {
         kind: LoadKind,
@@ -153,9 +159,13 @@ pub enum Insn {
         src: Register,
     },
     /// Goes on at the target.
-    Jump { offset: i16 },
+    Jump {
+        offset: i16,
+    },
     /// The same, with a wider offset.
-    Jump32 { offset: i32 },
+    Jump32 {
+        offset: i32,
+    },
     /// Goes on at the target where the condition holds.
     JumpIf {
         width: Width,
@@ -165,7 +175,9 @@ pub enum Insn {
         offset: i16,
     },
     /// Calls the helper of this number.
-    Call { helper: u32 },
+    Call {
+        helper: u32,
+    },
     /// Ends the task with R0.
     Exit,
 }

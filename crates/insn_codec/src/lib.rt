@@ -1,10 +1,21 @@
 //! BPF instructions as bytes: the instruction encoding of RFC 9669, in both directions.
 #![tactic(auto)]
 
+mod decoder;
+mod encoder;
+mod fault;
 mod insn;
+mod laws;
+mod operation;
 mod register;
+mod slot;
 
+pub use decoder::decode;
+pub use encoder::encode;
+pub use fault::CodecFault;
 pub use insn::{
-    AluOp, ByteOrder, Condition, EndSize, Insn, LoadKind, Operand, Placed, SignExtension, Size, Width,
+    AluOp, ByteOrder, Condition, EndSize, Insn, LoadKind, Operand, Placed, SignExtension, Size,
+    Width,
 };
+pub use laws::{nothing_refused, one_spelling};
 pub use register::Register;

@@ -1,0 +1,10 @@
+pub mod Ranges
+pub mod Effects
+pub mod Keeps
+pub mod Splits
+pub mod Tables
+pub mod Places
+pub mod Tiles
+pub mod OperatorLemmas
+pub mod Codes
+pub mod Costs

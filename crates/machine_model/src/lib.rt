@@ -1,6 +1,15 @@
 //! The machine that tasks are run by: what each instruction means, and what a job is. The definitions are in `specs/`.
 #![tactic(auto)]
 
+mod laws;
 mod program;
 
+pub use laws::{conserves_credit, keeps_tiling};
 pub use program::Entry;
+
+// the exact operators
+mod operators;
+mod unary;
+
+pub use operators::{alu_number, apply_alu, bits, holds, low_bits, residue, shift_count, signed};
+pub use unary::{extension_width, low_end, negate, reorder_bytes, sign_extend};

@@ -1,0 +1,211 @@
+//! From bytes to instructions.
+
+ghost use Rattle.std.specs.Prelude.{◌≡◌, ◌≢◌, ◌≤◌, ◌<◌, ◌%◌, ◌+◌, ◌*◌, ◌⊎◌, length, IfOk, IfErr, MatchResult};
+ghost use Rattle.insn_codec.specs.Layout.{slot_at};
+ghost use Rattle.insn_codec.specs.Spelling.{IsInsn, IsOperand, first_slot, other_slots, slots_of, half, IsClean, IsRefusal, IsProgram};
+ghost use Rattle.insn_codec.specs.Steps.{StepFault, FieldFault, HalfFault, BeginsWith, fault_at, IsSource, SpellsOperand, high_slots};
+
+use crate::fault::CodecFault;
+use crate::insn::{Insn, Operand, Placed};
+use crate::operation::{
+    Operation, Source, fields_used, operation_from, registers_are_named, unused_are_zero,
+};
+use crate::register::Register;
+use crate::slot::{Slot, read_slot};
+use std::alloc::Global;
+
+/// Why no instruction begins at a slot.
+#[derive(Clone, Copy, Debug, PartialEq, Eq)]
+pub enum SlotFault {
+    UnknownOp,
+    BadRegister,
+    UnusedField,
+    HalfWide,
+}
+
+fn operand_from(source: Source, slot: &Slot) -> Operand
+    requires { IsSource source slot.now }
+    ensures spelled { SpellsOperand source slot.now result }
+    ensures fits { IsOperand result }
+{
+    match source {
+        Source::Imm => Operand::Imm(slot.imm.cast_signed()),
+        Source::Reg => Operand::Reg(Register::new(slot.src)),
+    }
+}
+
+fn insn_from(operation: Operation, slot: &Slot, high: u32) -> Insn
+    requires { IsClean operation slot.now }
+    ensures first { first_slot result ≡ slot.now }
+    ensures others { other_slots result ≡ high_slots operation high }
+    ensures fits { IsInsn result }
+{
+    match operation {
+        Operation::Alu(width, op, source) => Insn::Alu {
+            width,
+            op,
+            dst: Register::new(slot.dst),
+            src: operand_from(source, slot),
+        },
+        Operation::Mov(width, source) => Insn::Mov {
+            width,
+            dst: Register::new(slot.dst),
+            src: operand_from(source, slot),
+        },
+        Operation::Neg(width) => Insn::Neg {
+            width,
+            dst: Register::new(slot.dst),
+        },
+        Operation::MovSx(extension) => Insn::MovSx {
+            extension,
+            dst: Register::new(slot.dst),
+            src: Register::new(slot.src),
+        },
+        Operation::End(order, size) => Insn::End {
+            order,
+            size,
+            dst: Register::new(slot.dst),
+        },
+        Operation::LoadWide => Insn::LoadWide {
+            dst: Register::new(slot.dst),
+            value: u64::from(high) * 0x1_0000_0000 + u64::from(slot.imm),
+        },
+        Operation::Load(kind) => Insn::Load {
+            kind,
+            dst: Register::new(slot.dst),
+            base: Register::new(slot.src),
+            offset: slot.offset.cast_signed(),
+        },
+        Operation::Store(size) => Insn::Store {
+            size,
+            base: Register::new(slot.dst),
+            offset: slot.offset.cast_signed(),
+            imm: slot.imm.cast_signed(),
+        },
+        Operation::StoreRegister(size) => Insn::StoreRegister {
+            size,
+            base: Register::new(slot.dst),
+            offset: slot.offset.cast_signed(),
+            src: Register::new(slot.src),
+        },
+        Operation::Jump => Insn::Jump {
+            offset: slot.offset.cast_signed(),
+        },
+        Operation::Jump32 => Insn::Jump32 {
+            offset: slot.imm.cast_signed(),
+        },
+        Operation::JumpIf(width, condition, source) => Insn::JumpIf {
+            width,
+            condition,
+            dst: Register::new(slot.dst),
+            src: operand_from(source, slot),
+            offset: slot.offset.cast_signed(),
+        },
+        Operation::Call => Insn::Call { helper: slot.imm },
+        Operation::Exit => Insn::Exit,
+    }
+}
+
+/// The row of a slot with no fault of fields.
+fn clean_operation(slot: &Slot) -> Result<Operation, SlotFault>
+    ensures { MatchResult result (λ op. IsClean op slot.now) (λ e. FieldFault e slot.now) }
+{
+    let Some(operation) = operation_from(slot) else {
+        return Err(SlotFault::UnknownOp);
+    };
+    let used = fields_used(operation);
+    if !registers_are_named(used, slot) {
+        return Err(SlotFault::BadRegister);
+    }
+    if !unused_are_zero(used, slot) {
+        return Err(SlotFault::UnusedField);
+    }
+    Ok(operation)
+}
+
+/// What follows the first slot of a wide instruction: the other half of its value.
+fn high_half(after: &[u8]) -> Result<u32, SlotFault>
+    requires { (length after.now ≡ 0) ⊎ (8 ≤ length after.now) }
+    ensures { MatchResult result (λ high. (8 ≤ length after.now) × (slot_at after.now ≡ half high)) (λ e. HalfFault e after.now) }
+{
+    if after.is_empty() {
+        return Err(SlotFault::HalfWide);
+    }
+    let slot = read_slot(after);
+    if slot.opcode != 0 || slot.dst != 0 || slot.src != 0 || slot.offset != 0 {
+        return Err(SlotFault::UnusedField);
+    }
+    Ok(slot.imm)
+}
+
+/// The instruction at the front.
+fn first_insn(rest: &[u8]) -> Result<Insn, SlotFault>
+    requires some { 0 < length rest.now }
+    requires even { length rest.now % 8 ≡ 0 }
+    ensures found { IfOk result (λ insn. BeginsWith insn rest.now) }
+    ensures fault { IfErr result (λ e. StepFault e rest.now) }
+{
+    let slot = read_slot(rest);
+    let operation = clean_operation(&slot)?;
+    let high = match operation {
+        Operation::LoadWide => high_half(rest.split_at(8).1)?,
+        _ => 0,
+    };
+    Ok(insn_from(operation, &slot, high))
+}
+
+impl SlotFault {
+    fn at(self, slot: u32) -> CodecFault
+        ensures { result ≡ fault_at self slot }
+    {
+        match self {
+            SlotFault::UnknownOp => CodecFault::UnknownOp(slot),
+            SlotFault::BadRegister => CodecFault::BadRegister(slot),
+            SlotFault::UnusedField => CodecFault::UnusedField(slot),
+            SlotFault::HalfWide => CodecFault::HalfWide(slot),
+        }
+    }
+}
+
+impl Insn {
+    /// How many slots it takes.
+    pub fn slots(&self) -> u32
+        ensures value { result ≡ length (slots_of self.now) }
+        ensures small { result ≤ 2 }
+    {
+        match self {
+            Insn::LoadWide { .. } => 2,
+            _ => 1,
+        }
+    }
+}
+
+/// The instructions whose spellings, joined, are the bytes.
+pub fn decode(alloc: Global, bytes: &[u8]) -> Result<Vec<Placed>, CodecFault>
+    ensures found { IfOk result (λ v. IsProgram v.items bytes.now) }
+    ensures refused { IfErr result (λ e. IsRefusal e bytes.now) }
+{
+    if bytes.is_empty() {
+        return Err(CodecFault::Empty);
+    }
+    if bytes.len() % 8 != 0 {
+        return Err(CodecFault::Ragged);
+    }
+    if bytes.len() > 8 * 4096 {
+        return Err(CodecFault::TooLong);
+    }
+    let mut placed = Vec::new(alloc);
+    let mut rest = bytes;
+    let mut slot = 0;
+    while !rest.is_empty() {
+        let insn = match first_insn(rest) {
+            Ok(insn) => insn,
+            Err(fault) => return Err(fault.at(slot)),
+        };
+        placed.push(Placed { slot, insn })?;
+        let slots = insn.slots();
+        rest = rest.split_at(8 * slots as usize).1;
+        slot += slots;
+    }
+    Ok(placed)
+}

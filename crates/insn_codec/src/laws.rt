@@ -1,0 +1,20 @@
+//! The laws of the definitions.
+
+ghost use Rattle.std.specs.Prelude.{◌≡◌, ℕ, List, ◌++◌};
+ghost use Rattle.insn_codec.specs.Spelling.{IsInsn, IsRefusal, IsWhole, spelling, spellings};
+ghost use Rattle.std.specs.List.{AllByRecursion};
+ghost use Rattle.insn_codec.specs.declared.fault.CodecFault.{CodecFault};
+ghost use Rattle.insn_codec.specs.declared.fault.CodecFault.TheVariants.{NoMemory};
+ghost use Rattle.insn_codec.specs.declared.insn.Insn.{Insn};
+
+/// No spelling of an instruction begins another's.
+pub fn one_spelling()
+    ensures { (a b : Insn) (x y : List ℕ) → IsInsn a → IsInsn b
+        → spelling a ++ x ≡ spelling b ++ y → (a ≡ b) × (x ≡ y) }
+{}
+
+/// The bytes of a program have no fault, so `decode` refuses them for want of memory alone.
+pub fn nothing_refused()
+    ensures { (insns : List Insn) → AllByRecursion IsInsn insns → IsWhole (spellings insns)
+        → (e : CodecFault) → IsRefusal e (spellings insns) → e ≡ NoMemory }
+{}

@@ -1,0 +1,5 @@
+pub mod Values
+pub mod Accesses
+pub mod Steps
+pub mod Moves
+pub mod Calls

@@ -1,0 +1,4 @@
+pub mod Telling
+pub mod Operands
+pub mod Access
+pub mod Behind

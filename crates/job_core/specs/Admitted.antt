@@ -1,0 +1,19 @@
+-- What admission checks of a job.
+use Rattle.std.specs.Prelude.{◌≡◌, ℕ, ◌≤◌, List, length, slice_get, Some}
+use Rattle.verifier.specs.Checked.{Checked, cost_at}
+
+-- a job's programs, credit and buffer
+pub record Order : Type 0 where
+  pub programs : List Checked
+  pub credit : ℕ
+  pub buffer : List ℕ
+
+-- the limits are kept, and the credit and the buffer cover the root
+pub record IsAdmitted (order : Order) : Type 0 where
+  pub few : length order.programs ≤ 16
+  pub limit : order.credit ≤ 2147483647
+  pub small : length order.buffer ≤ 65536
+  pub root : Checked
+  pub is_root : slice_get order.programs 0 ≡ Some root
+  pub cost : cost_at root 0 ≤ order.credit
+  pub need : root.need ≤ length order.buffer

@@ -1,0 +1,69 @@
+//! The tasks of a job and the step of one of them.
+
+ghost use Rattle.std.specs.Prelude.{◌≡◌, ℕ, ◌<◌, ◌≤◌, ◌^◌, length, slice_get};
+
+use crate::ledger::Ledger;
+use crate::live::{Ending, Live};
+use interpreter::StepOut;
+use std::alloc::Global;
+use verifier::Verified;
+
+/// A job under way.
+#[derive(Drop)]
+pub struct Tasks {
+    pub programs: Vec<Verified>,
+    pub ledger: Ledger,
+    pub size: usize,
+    pub issued: u32,
+}
+
+/// What a step of a world has come to.
+#[derive(Clone, Copy)]
+pub enum Stepped {
+    Skipped,
+    Went,
+    Ended(u64),
+}
+
+impl Tasks {
+    ghost use Rattle.machine_model.specs.Job.{Job};
+    ghost use Rattle.job_core.specs.Behind.{IsBehind, Steps};
+    ghost use Rattle.job_core.specs.Keeping.{kept_of};
+
+    /// One instruction of a task, if it is alive.
+    pub fn step(&mut self, alloc: Global, number: u32) -> Stepped
+        requires { (j : Job) × IsBehind (kept_of self.old) j }
+        ensures steps { (j : Job) → IsBehind (kept_of self.old) j → Steps (kept_of self.old) j number (kept_of self.new) }
+        ensures programs { self.new.programs.items ≡ self.old.programs.items }
+    {
+        let Some(place) = self.ledger.lives.get_mut(number as usize) else {
+            return Stepped::Skipped;
+        };
+        let Some(mut live) = place.take() else {
+            return Stepped::Skipped;
+        };
+        let code = &self.programs[live.program as usize];
+        match live.frame.step(alloc, code, &mut live.part, &mut live.credit, &mut self.ledger) {
+            StepOut::Went => {
+                self.ledger.lives[number as usize] = Some(live);
+                Stepped::Went
+            }
+            StepOut::Ended(r0) => {
+                let Live {
+                    program: _,
+                    frame: _,
+                    part,
+                    credit,
+                } = live;
+                let ending = Ending {
+                    spent: credit.used,
+                    rest: credit.held - credit.used,
+                    r0,
+                    part,
+                };
+                self.ledger.endings[number as usize] = Some(ending);
+                Stepped::Ended(r0)
+            }
+        }
+    }
+}

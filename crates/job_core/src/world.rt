@@ -1,0 +1,139 @@
+//! A job under way, and the run of a schedule.
+
+ghost use Rattle.std.specs.Prelude.{◌≡◌, IfOk};
+
+use crate::job::Job;
+use crate::ledger::Ledger;
+use crate::live::Live;
+use crate::tasks::{Stepped, Tasks};
+use helpers::{Entry, Part};
+use interpreter::{Credit, Frame};
+use refusal::NoMemory;
+use std::alloc::Global;
+use std::marker::Model;
+
+/// A job under way.
+#[derive(Drop)]
+pub struct World {
+    tasks: Tasks,
+}
+
+impl Model for World {
+    ghost use Rattle.machine_model.specs.Job.{Job};
+    ghost use Rattle.job_core.specs.Behind.{Kept, IsBehind};
+    ghost use Rattle.job_core.specs.Keeping.{kept_of};
+
+    ghost Value = { Kept };
+
+    ghost view = { λ w. kept_of w.tasks };
+
+    ghost invariant = { λ w. (j : Job) × IsBehind (kept_of w.tasks) j };
+}
+
+impl World {
+    ghost use Rattle.std.specs.Prelude.{◌≡◌, ◌↔◌, IfOk, IsTrue};
+    ghost use Rattle.machine_model.specs.Job as model;
+    ghost use Rattle.machine_model.specs.Job.{start, IsAlive, IsComplete};
+    ghost use Rattle.job_core.specs.Behind.{IsBehind, Steps};
+
+    /// The job at its start: the root alone, with all the credit and the whole buffer.
+    pub fn open(alloc: Global, job: Job) -> Result<World, NoMemory>
+        ensures start { IfOk result (λ world. IsBehind world (start job.credit job.buffer)) }
+        ensures programs { IfOk result (λ world. world.programs ≡ job.programs) }
+    {
+        let Job {
+            programs,
+            credit,
+            buffer,
+        } = job;
+        let mut entries = Vec::new(alloc);
+        for program in &programs {
+            let need = program.need();
+            entries.push(Entry {
+                cost: program.cost_at(0),
+                need,
+            })?;
+        }
+        let size = buffer.len();
+        let mut frame = Frame::zeroed();
+        frame.enter(size as u32, 0);
+        let root = Live {
+            program: 0,
+            frame,
+            part: Part::whole(buffer),
+            credit: Credit {
+                held: credit,
+                used: 0,
+            },
+        };
+        let mut lives = Vec::new(alloc);
+        lives.push(Some(root))?;
+        let mut endings = Vec::new(alloc);
+        endings.push(None)?;
+        Ok(World {
+            tasks: Tasks {
+                programs,
+                ledger: Ledger {
+                    entries,
+                    lives,
+                    endings,
+                },
+                size,
+                issued: credit,
+            },
+        })
+    }
+
+    /// One instruction of a task, if it is alive.
+    pub fn step(&mut self, alloc: Global, number: u32) -> Stepped
+        ensures steps { (j : model.Job) → IsBehind self.old j → Steps self.old j number self.new }
+        ensures programs { self.new.programs ≡ self.old.programs }
+    {
+        self.tasks.step(alloc, number)
+    }
+
+    /// Whether the task is alive.
+    pub fn live(&self, number: u32) -> bool
+        ensures { (j : model.Job) → IsBehind self.now j → (IsTrue result ↔ IsAlive j number) }
+    {
+        match self.tasks.ledger.lives.get(number as usize) {
+            Some(live) => live.is_some(),
+            None => false,
+        }
+    }
+
+    /// Whether no task is alive.
+    pub fn complete(&self) -> bool
+        ensures { (j : model.Job) → IsBehind self.now j → (IsTrue result ↔ IsComplete j) }
+    {
+        for live in &self.tasks.ledger.lives {
+            if live.is_some() {
+                return false;
+            }
+        }
+        true
+    }
+}
+
+ghost use Rattle.machine_model.specs.Job.{start};
+ghost use Rattle.job_core.specs.Behind.{Plays};
+
+/// One instruction of each task of the schedule in turn.
+pub fn play(alloc: Global, job: Job, schedule: &[u32]) -> Result<World, NoMemory>
+    ensures { IfOk result (λ world. Plays job.programs (start job.credit job.buffer) schedule.now world) }
+{
+    let mut world = World::open(alloc, job)?;
+    for number in schedule {
+        let _ = world.step(alloc, *number);
+    }
+    Ok(world)
+}
+
+ghost use Rattle.machine_model.specs.Job as model;
+ghost use Rattle.job_core.specs.Behind.{Kept, IsBehind};
+
+/// What a world keeps leaves one buffer to every job behind it.
+pub fn keeps_one_buffer()
+    ensures { (kept : Kept) (j k : model.Job) → IsBehind kept j → IsBehind kept k → j.buffer ≡ k.buffer }
+{
+}

@@ -1,0 +1,17 @@
+//! The laws of the definitions.
+
+ghost use Rattle.std.specs.Prelude.{◌≡◌, ℕ, List, length, Bool, Some};
+ghost use Rattle.machine_model.specs.Machine.{Program};
+ghost use Rattle.machine_model.specs.Job.{Job, Move, run, step, credit_of, AreTiles};
+
+/// Over every schedule, the credit that is held, returned and spent is what was there at the start.
+pub fn conserves_credit()
+    ensures { (programs : List Program) (j k : Job) (moves : List Move) → run programs j moves ≡ Some k →
+        credit_of k ≡ credit_of j }
+{}
+
+/// The ranges of the tasks, live and ended, tile the buffer after each step from a job where they do.
+pub fn keeps_tiling()
+    ensures { (programs : List Program) (j k : Job) (n : ℕ) (refuses : Bool) → step programs j n refuses ≡ Some k →
+        AreTiles j.tasks (length j.buffer) → AreTiles k.tasks (length k.buffer) }
+{}

@@ -1,0 +1,118 @@
+-- The table of arithmetic instructions on abstract values.
+use Rattle.std.specs.Prelude.{ℕ, ℤ, pos, ◌+ℤ◌, ◌-ℤ◌, neg_ℤ, ◌%◌, ◌-◌, ◌^◌, nat_lt, nat_le, if◌then◌else◌, Option, Some, None, Result, Ok, Err, int_lt, ◌||◌}
+use Rattle.value_ranges.specs.Interval.{Interval, interval, single, full, is_single}
+use Rattle.value_ranges.specs.Span.{Span, span}
+use Rattle.value_ranges.specs.Ranges.{cut, range_of, extended_range, low_range}
+use Rattle.machine_model.specs.Operators.{bits_of}
+use Rattle.insn_codec.specs.declared.insn.Width.{Width}
+use Rattle.insn_codec.specs.declared.insn.Width.TheVariants.{W32, W64}
+use Rattle.insn_codec.specs.declared.insn.AluOp.{AluOp}
+use Rattle.insn_codec.specs.declared.insn.AluOp.TheVariants.{Add, Sub}
+use Rattle.machine_model.specs.Outcomes.{bits_from, width_to, end_bits, negated, ordered_by}
+use Rattle.insn_codec.specs.declared.insn.SignExtension.{SignExtension}
+use Rattle.insn_codec.specs.declared.insn.ByteOrder.{ByteOrder}
+use Rattle.insn_codec.specs.declared.insn.ByteOrder.TheVariants.{Little}
+use Rattle.insn_codec.specs.declared.insn.EndSize.{EndSize}
+use Rattle.insn_codec.specs.declared.insn.Insn.{Insn}
+use Rattle.insn_codec.specs.declared.insn.Insn.TheVariants.{Alu, Mov, MovSx, Neg, End}
+use Rattle.value_ranges.specs.declared.abs.Abs.{Abs}
+use Rattle.value_ranges.specs.declared.abs.Abs.TheVariants.{Unset, Num, Stack, Part}
+
+-- the least and the greatest signed reading, where all have one sign
+abbrev pub signed_ends : Interval → Option Span
+signed_ends r =
+    if nat_lt r.hi (2 ^ 63) then Some (span (pos r.lo) (pos r.hi))
+    else (if nat_le (2 ^ 63) r.lo then Some (span (pos r.lo -ℤ pos (2 ^ 64)) (pos r.hi -ℤ pos (2 ^ 64)))
+    else None)
+
+-- positions within the limit, or refusal 35
+abbrev pub positions : ℤ → ℤ → Result Span ℕ
+positions lo hi =
+    if int_lt lo (neg_ℤ (pos 1048576)) || int_lt (pos 1048576) hi
+    then Err 35 else Ok (span lo hi)
+
+abbrev pub moved_up : Span → Option Span → Result Span ℕ
+moved_up p None = Err 35
+moved_up p (Some e) = positions (p.lo +ℤ e.lo) (p.hi +ℤ e.hi)
+
+abbrev pub moved_down : Span → Option Span → Result Span ℕ
+moved_down p None = Err 35
+moved_down p (Some e) = positions (p.lo -ℤ e.hi) (p.hi -ℤ e.lo)
+
+abbrev pub positions_after : Width → AluOp → Span → Interval → Result Span ℕ
+positions_after W64 Add p r = moved_up p (signed_ends r)
+positions_after W64 Sub p r = moved_down p (signed_ends r)
+positions_after w op p r = Err 34
+
+abbrev pub positions_onto : Width → AluOp → Interval → Span → Result Span ℕ
+positions_onto W64 Add r p = moved_up p (signed_ends r)
+positions_onto w op r p = Err 34
+
+abbrev pub in_stack : Result Span ℕ → Result Abs ℕ
+in_stack (Ok p) = Ok (Stack p)
+in_stack (Err e) = Err e
+
+abbrev pub in_part : Result Span ℕ → Result Abs ℕ
+in_part (Ok p) = Ok (Part p)
+in_part (Err e) = Err e
+
+abbrev pub number_range : Width → AluOp → Interval → Interval → Interval
+number_range w op a b = range_of op (bits_of w) (cut (bits_of w) a) (cut (bits_of w) b)
+
+abbrev pub alu_table : Width → AluOp → Abs → Abs → Result Abs ℕ
+alu_table w op (Num a) (Num b) = Ok (Num (number_range w op a b))
+alu_table w op (Stack p) (Num b) = in_stack (positions_after w op p b)
+alu_table w op (Part p) (Num b) = in_part (positions_after w op p b)
+alu_table w op (Num a) (Stack p) = in_stack (positions_onto w op a p)
+alu_table w op (Num a) (Part p) = in_part (positions_onto w op a p)
+alu_table w op _ _ = Err 34
+
+abbrev pub move_table : Width → Abs → Result Abs ℕ
+move_table W64 b = Ok b
+move_table W32 (Num b) = Ok (Num (cut 32 b))
+move_table W32 _ = Err 34
+
+abbrev pub on_range : (Interval → Interval) → Abs → Result Abs ℕ
+on_range f (Num r) = Ok (Num (f r))
+on_range f _ = Err 34
+
+abbrev pub extension_range : SignExtension → Interval → Interval
+extension_range e r =
+    extended_range (bits_from e) (bits_of (width_to e)) (cut (bits_of (width_to e)) r)
+
+abbrev pub negated_range : Width → Interval → Interval
+negated_range w r = if is_single r then single (negated w r.lo) else full (bits_of w)
+
+abbrev pub ordered_range : ByteOrder → EndSize → Interval → Interval
+ordered_range Little s r = low_range (end_bits s) r
+ordered_range c s r = if is_single r then single (ordered_by c s r.lo) else full (end_bits s)
+
+-- the table of arithmetic instructions, or the refusal's number
+abbrev pub table_of : Insn → Abs → Abs → Result Abs ℕ
+table_of (Alu w op d s) a b = alu_table w op a b
+table_of (Mov w d s) a b = move_table w b
+table_of (MovSx e d s) a b = on_range (extension_range e) b
+table_of (Neg w d) a b = on_range (negated_range w) a
+table_of (End c s d) a b = on_range (ordered_range c s) a
+table_of i a b = Err 34
+
+abbrev pub IsArithmetic : Insn → Type 0
+IsArithmetic (Alu w op d s) = Unit {0}
+IsArithmetic (Mov w d s) = Unit {0}
+IsArithmetic (MovSx e d s) = Unit {0}
+IsArithmetic (Neg w d) = Unit {0}
+IsArithmetic (End c s d) = Unit {0}
+IsArithmetic i = ⊥
+
+abbrev pub IsSet : Abs → Type 0
+IsSet Unset = ⊥
+IsSet _ = Unit {0}
+
+-- what the instruction reads is set
+abbrev pub IsReadSet : Insn → Abs → Abs → Type 0
+IsReadSet (Alu w op d s) a b = IsSet a × IsSet b
+IsReadSet (Mov w d s) a b = IsSet b
+IsReadSet (MovSx e d s) a b = IsSet b
+IsReadSet (Neg w d) a b = IsSet a
+IsReadSet (End c s d) a b = IsSet a
+IsReadSet i a b = Unit {0}

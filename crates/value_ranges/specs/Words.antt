@@ -1,0 +1,52 @@
+-- The words by which the layers above speak of abstract values.
+use Rattle.std.specs.Prelude.{ℕ, pos, ◌≤◌, ◌<◌, ◌*◌, ◌-◌, ◌^◌, ◌==◌, if◌then◌else◌}
+use Rattle.value_ranges.specs.Interval.{Interval, interval}
+use Rattle.value_ranges.specs.Span.{span}
+use Rattle.value_ranges.specs.Covers.{Covers}
+use Rattle.value_ranges.specs.declared.abs.Abs.{Abs}
+use Rattle.value_ranges.specs.declared.abs.Abs.TheVariants.{Unset, Num, Stack, Part}
+use Rattle.machine_model.specs.Value as value
+use Rattle.machine_model.specs.Memory.{load_bytes, widened}
+use Rattle.machine_model.specs.Job.{entry_registers}
+use Rattle.insn_codec.specs.declared.insn.LoadKind.{LoadKind}
+use Rattle.insn_codec.specs.declared.insn.LoadKind.TheVariants as kind
+
+-- some number from lo to hi
+abbrev pub between : ℕ → ℕ → Abs
+between lo hi = Num (interval lo hi)
+
+-- this one number
+abbrev pub single_value : ℕ → Abs
+single_value x = between x x
+
+-- any number
+abbrev pub any_number : Abs
+any_number = between 0 (2 ^ 64 - 1)
+
+-- the greatest of the numbers
+abbrev pub greatest : Interval → ℕ
+greatest r = r.hi
+
+-- what a load gives
+abbrev pub loaded : LoadKind → Abs
+loaded kind.Byte = between 0 255
+loaded kind.Half = between 0 65535
+loaded kind.Word = between 0 (2 ^ 32 - 1)
+loaded k = any_number
+
+-- whatever bytes are loaded, r covers what is made of their number
+abbrev pub CoversLoads : LoadKind → Abs → Type 0
+CoversLoads k r = (x : ℕ) → x < 2 ^ (8 * load_bytes k) → Covers r (value.Num (widened k x))
+
+-- what a register holds at a task's start, in a program that needs so many bytes
+abbrev pub entry : ℕ → ℕ → Abs
+entry need r =
+    if r == 10 then Stack (span (pos 512) (pos 512)) else
+    if r == 3 then any_number else
+    if r == 2 then between need 65536 else
+    if r == 1 then Part (span (pos 0) (pos 0)) else Unset
+
+-- whatever part and argument a task starts with, a covers the register
+abbrev pub CoversEntry : ℕ → ℕ → Abs → Type 0
+CoversEntry need r a =
+    (size arg : ℕ) → need ≤ size → size ≤ 65536 → arg < 2 ^ 64 → Covers a (entry_registers size arg r)

@@ -1,0 +1,20 @@
+//! What is known of a register before a program runs: ranges of numbers, and of positions in the stack and in the part.
+//! Each table is exact, and covers what the machine can give.
+#![tactic(auto)]
+
+mod abs;
+mod arithmetic;
+mod joins;
+mod pointers;
+mod range;
+mod refinements;
+mod rows;
+mod unary_rows;
+mod words;
+
+pub use abs::{Abs, Reach};
+pub use arithmetic::alu;
+pub use joins::join;
+pub use range::Range;
+pub use refinements::refine;
+pub use words::{entry, immediate, loaded};

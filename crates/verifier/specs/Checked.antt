@@ -1,0 +1,55 @@
+-- What a verified program is.
+use Rattle.std.specs.Prelude.{◌≡◌, ℕ, ◌+◌, ◌≤◌, ◌<◌, List, length, slice_index, slice_index_or, Bool, true, false, Option, Some, None}
+use Rattle.insn_codec.specs.declared.insn.Size.TheVariants as size
+use Rattle.insn_codec.specs.declared.insn.Insn.{Insn}
+use Rattle.insn_codec.specs.declared.insn.Insn.TheVariants.{Mov, StoreRegister, Call, Exit}
+use Rattle.machine_model.specs.Edges.{Code, Fact, IsEdge, Begins, insn_at, price}
+use Rattle.machine_model.specs.Paths.{AreCosts}
+use Rattle.machine_model.specs.Machine.{Program}
+use Rattle.helpers.specs.Table.{Table, AreKnown}
+use Rattle.verifier.specs.declared.state.State.{State}
+use Rattle.verifier.specs.Covers.{IsWithin}
+use Rattle.verifier.specs.States.{entry_state, passed, fault}
+
+-- a program, the helpers that it may call, what is known of the registers ahead of each slot, and the costs
+pub record Checked : Type 0 where
+  pub need : ℕ
+  pub helpers : Table
+  pub code : Code
+  pub states : List (Option State)
+  pub costs : List ℕ
+
+abbrev pub program_of : Checked → Program
+program_of p = record { need = p.need; code = p.code; costs = p.costs }
+
+abbrev pub state_at : Checked → ℕ → Option State
+state_at p slot = slice_index_or p.states slot None
+
+abbrev pub cost_at : Checked → ℕ → ℕ
+cost_at p slot = slice_index p.costs slot
+
+-- the instructions that are run today
+abbrev pub is_treated : Insn → Bool
+is_treated (Mov w dst src) = true
+is_treated (StoreRegister size.Byte base offset src) = true
+is_treated (Call helper) = true
+is_treated Exit = true
+is_treated i = false
+
+-- The instruction is allowed where the registers are so, and what it leaves is covered at the end of each edge.
+pub record IsSoundAt (p : Checked) (slot : ℕ) (i : Insn) (state : State) : Type 0 where
+  pub treated : is_treated i ≡ true
+  pub allowed : fault p.need p.helpers i state ≡ None
+  pub covered : (fact : Fact) (next : ℕ) → IsEdge p.code slot fact next →
+      (outer : State) × (state_at p next ≡ Some outer) × IsWithin (passed i fact state) outer
+  pub lands : (fact : Fact) (next : ℕ) → IsEdge p.code slot fact next → Begins p.code next
+
+-- The states cover the entry and every edge, and the costs are those of the code.
+pub record IsVerified (p : Checked) : Type 0 where
+  pub need : p.need ≤ 65536
+  pub starts : Begins p.code 0
+  pub few : length p.code ≤ 4096
+  pub entry : (outer : State) × (state_at p 0 ≡ Some outer) × IsWithin (entry_state p.need) outer
+  pub each : (slot : ℕ) (i : Insn) (state : State) → insn_at p.code slot ≡ Some i → state_at p slot ≡ Some state → IsSoundAt p slot i state
+  pub costs : AreCosts p.code p.costs
+  pub known : AreKnown p.helpers

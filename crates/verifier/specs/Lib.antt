@@ -1,0 +1,4 @@
+pub mod Covers
+pub mod States
+pub mod Checked
+pub mod Regions

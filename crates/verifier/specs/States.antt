@@ -1,0 +1,159 @@
+-- What is known of the registers ahead of an instruction: at the entry, and along each edge; and what the instruction
+-- has to find known.
+use Rattle.std.specs.Prelude.{ℕ, zero, suc, ◌==◌, [], ◌∷◌, drop, slice_set, Bool, true, false, Option, Some, None, Result, Ok, Err, ℤ, pos, ◌+ℤ◌, int_lt, ◌||◌, if◌then◌else◌}
+use Rattle.insn_codec.specs.declared.insn.Operand.{Operand}
+use Rattle.insn_codec.specs.declared.insn.Operand.TheVariants.{Imm, Reg}
+use Rattle.insn_codec.specs.declared.insn.Insn.{Insn}
+use Rattle.insn_codec.specs.declared.insn.Insn.TheVariants.{Alu, Mov, MovSx, Neg, End, LoadWide, Load, Store, StoreRegister, Jump, Jump32, JumpIf, Call, Exit}
+use Rattle.machine_model.specs.Operators.{residue}
+use Rattle.machine_model.specs.Memory.{store_bytes, load_bytes}
+use Rattle.machine_model.specs.Edges.{Fact, Always, NotTaken, Taken}
+use Rattle.helpers.specs.Table.{Table, arity_in}
+use Rattle.value_ranges.specs.Span.{Span}
+use Rattle.value_ranges.specs.Words.{entry, between, single_value, any_number, loaded}
+use Rattle.value_ranges.specs.Refinements.{refined_by}
+use Rattle.value_ranges.specs.Tables.{table_of}
+use Rattle.value_ranges.specs.declared.abs.Abs.{Abs}
+use Rattle.value_ranges.specs.declared.abs.Abs.TheVariants.{Unset, Num, Stack, Part}
+use Rattle.verifier.specs.declared.state.State.{State}
+use Rattle.verifier.specs.Covers.{abs_at}
+
+abbrev pub with_abs : State → ℕ → Abs → State
+with_abs state to a = record { registers = slice_set state.registers to a }
+
+-- what the registers hold at a task's start
+abbrev pub entry_state : ℕ → State
+entry_state need = record {
+  registers = entry need 0 ∷ entry need 1 ∷ entry need 2 ∷ entry need 3 ∷ entry need 4 ∷ entry need 5
+      ∷ entry need 6 ∷ entry need 7 ∷ entry need 8 ∷ entry need 9 ∷ entry need 10 ∷ [] }
+
+-- the second operand: an imm is extended by its sign
+abbrev pub operand_at : State → Operand → Abs
+operand_at state (Imm imm) = single_value (residue 64 imm)
+operand_at state (Reg r) = abs_at state r
+
+-- ---- along the edges
+
+abbrev pub or_unset : Result Abs ℕ → Abs
+or_unset (Ok a) = a
+or_unset (Err number) = Unset
+
+-- after a call R0 has the answer, and the arguments are unset
+abbrev pub called_state : State → Abs → State
+called_state state answer = record {
+  registers = answer ∷ Unset ∷ Unset ∷ Unset ∷ Unset ∷ Unset ∷ drop 6 state.registers }
+
+-- what a helper answers
+abbrev pub answer_range : ℕ → Abs
+answer_range helper = if helper == 1 then between 0 6 else any_number
+
+abbrev pub is_taken : Fact → Bool
+is_taken Taken = true
+is_taken fact = false
+
+abbrev pub with_operand : State → Operand → Abs → State
+with_operand state (Imm imm) a = state
+with_operand state (Reg r) a = with_abs state r a
+
+-- what the fact on an edge tells of a jump's operands
+abbrev pub refined_state : State → ℕ → Operand → Abs × Abs → State
+refined_state state dst src refined = with_operand (with_abs state dst refined.0) src refined.1
+
+-- what is known on the edge with this fact
+abbrev pub passed : Insn → Fact → State → State
+passed (Alu w op dst src) fact state = with_abs state dst (or_unset (table_of (Alu w op dst src) (abs_at state dst) (operand_at state src)))
+passed (Mov w dst src) fact state = with_abs state dst (or_unset (table_of (Mov w dst src) (abs_at state dst) (operand_at state src)))
+passed (MovSx e dst src) fact state = with_abs state dst (or_unset (table_of (MovSx e dst src) (abs_at state dst) (abs_at state src)))
+passed (Neg w dst) fact state = with_abs state dst (or_unset (table_of (Neg w dst) (abs_at state dst) (abs_at state dst)))
+passed (End order size dst) fact state = with_abs state dst (or_unset (table_of (End order size dst) (abs_at state dst) (abs_at state dst)))
+passed (LoadWide dst value) fact state = with_abs state dst (single_value value)
+passed (Load kind dst base offset) fact state = with_abs state dst (loaded kind)
+passed (JumpIf w c dst src offset) fact state =
+    refined_state state dst src (refined_by (JumpIf w c dst src offset) (is_taken fact) (abs_at state dst) (operand_at state src))
+passed (Call helper) fact state = called_state state (answer_range helper)
+passed i fact state = state
+
+-- ---- what an instruction has to find known
+
+-- the first of two refusals, if there is one
+abbrev pub first : Option ℕ → Option ℕ → Option ℕ
+first (Some number) other = Some number
+first None other = other
+
+-- a register that is read is set
+abbrev pub unset_fault : Abs → Option ℕ
+unset_fault Unset = Some 31
+unset_fault a = None
+
+-- it has a number
+abbrev pub number_fault : Abs → Option ℕ
+number_fault Unset = Some 31
+number_fault (Num r) = None
+number_fault a = Some 34
+
+-- so many bytes from each position on, moved by an offset, lie in a region of that size
+abbrev pub region_fault : ℕ → ℕ → Span → ℤ → ℕ → Option ℕ
+region_fault number size reach offset count =
+    if int_lt (reach.lo +ℤ offset) (pos 0) || int_lt (pos size) (reach.hi +ℤ offset +ℤ pos count) then Some number else None
+
+-- they lie in the stack, or in a part of that need
+abbrev pub access_fault : ℕ → Abs → ℤ → ℕ → Option ℕ
+access_fault need Unset offset count = Some 31
+access_fault need (Num r) offset count = Some 34
+access_fault need (Stack reach) offset count = region_fault 32 512 reach offset count
+access_fault need (Part reach) offset count = region_fault 33 need reach offset count
+
+abbrev pub table_fault : Result Abs ℕ → Option ℕ
+table_fault (Ok a) = None
+table_fault (Err number) = Some number
+
+-- R10 isn't written
+abbrev pub write_fault : ℕ → Option ℕ
+write_fault dst = if dst == 10 then Some 36 else None
+
+-- the registers from R1 on that have arguments are set
+abbrev pub unset_arguments : State → ℕ → Option ℕ
+unset_arguments state zero = None
+unset_arguments state (suc count) = first (unset_arguments state count) (unset_fault (abs_at state (suc count)))
+
+-- and have numbers
+abbrev pub number_arguments : State → ℕ → Option ℕ
+number_arguments state zero = None
+number_arguments state (suc count) = first (number_arguments state count) (number_fault (abs_at state (suc count)))
+
+-- the helper is in the table, and its arguments are numbers
+abbrev pub call_fault : State → Option ℕ → Option ℕ
+call_fault state None = Some 37
+call_fault state (Some arity) = first (unset_arguments state arity) (number_arguments state arity)
+
+-- the lowest number that applies to the instruction where the registers are so
+abbrev pub fault : ℕ → Table → Insn → State → Option ℕ
+fault need helpers (Alu w op dst src) state =
+    first (unset_fault (abs_at state dst)) (first (unset_fault (operand_at state src))
+        (first (table_fault (table_of (Alu w op dst src) (abs_at state dst) (operand_at state src))) (write_fault dst)))
+fault need helpers (Mov w dst src) state =
+    first (unset_fault (operand_at state src))
+        (first (table_fault (table_of (Mov w dst src) (abs_at state dst) (operand_at state src))) (write_fault dst))
+fault need helpers (MovSx e dst src) state =
+    first (unset_fault (abs_at state src))
+        (first (table_fault (table_of (MovSx e dst src) (abs_at state dst) (abs_at state src))) (write_fault dst))
+fault need helpers (Neg w dst) state =
+    first (unset_fault (abs_at state dst))
+        (first (table_fault (table_of (Neg w dst) (abs_at state dst) (abs_at state dst))) (write_fault dst))
+fault need helpers (End order size dst) state =
+    first (unset_fault (abs_at state dst))
+        (first (table_fault (table_of (End order size dst) (abs_at state dst) (abs_at state dst))) (write_fault dst))
+fault need helpers (LoadWide dst value) state = write_fault dst
+fault need helpers (Load kind dst base offset) state =
+    first (access_fault need (abs_at state base) offset (load_bytes kind)) (write_fault dst)
+fault need helpers (Store size base offset imm) state = access_fault need (abs_at state base) offset (store_bytes size)
+fault need helpers (StoreRegister size base offset src) state =
+    first (unset_fault (abs_at state base)) (first (unset_fault (abs_at state src))
+        (first (access_fault need (abs_at state base) offset (store_bytes size)) (number_fault (abs_at state src))))
+fault need helpers (Jump offset) state = None
+fault need helpers (Jump32 offset) state = None
+fault need helpers (JumpIf w c dst src offset) state =
+    first (unset_fault (abs_at state dst)) (first (unset_fault (operand_at state src))
+        (first (number_fault (abs_at state dst)) (number_fault (operand_at state src))))
+fault need helpers (Call helper) state = call_fault state (arity_in helpers helper)
+fault need helpers Exit state = number_fault (abs_at state 0)
