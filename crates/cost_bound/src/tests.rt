@@ -48,7 +48,11 @@ fn width(insn: &Insn) -> u32
     ensures slots { result ≡ length (slots_of insn.now) }
     ensures few { result ≤ 2 }
 {
-    if let Insn::LoadWide { .. } = insn { 2 } else { 1 }
+    if let Insn::LoadWide { .. } = insn {
+        2
+    } else {
+        1
+    }
 }
 
 /// The instructions, one behind the other.
@@ -82,7 +86,17 @@ fn all_costs(rt: &impl Abort, alloc: Global, insns: &[Insn]) -> Result<Vec<u32>,
 
 #[test]
 fn prices_calls_by_helper(rt: HostRuntime) {
-    for (helper, want) in [(0, 8), (1, 16), (2, 2), (3, 2), (4, 32), (5, 32), (6, 8), (64, 8), (u32::MAX, 8)] {
+    for (helper, want) in [
+        (0, 8),
+        (1, 16),
+        (2, 2),
+        (3, 2),
+        (4, 32),
+        (5, 32),
+        (6, 8),
+        (64, 8),
+        (u32::MAX, 8),
+    ] {
         assert_eq!(rt; price(&call(helper)), want, "at {helper}");
     }
     for insn in [mov(0), wide(), jump(0), jump_if(0), Insn::Exit] {
@@ -93,16 +107,41 @@ fn prices_calls_by_helper(rt: HostRuntime) {
 #[test]
 fn sums_the_dearest_path(rt: HostRuntime) -> Result<(), Fail> {
     let alloc = rt.alloc();
-    let merge = all_costs(&rt, alloc, &[jump_if(2), mov(1), Insn::Exit, mov(2), mov(3), Insn::Exit])?;
+    let merge = all_costs(
+        &rt,
+        alloc,
+        &[jump_if(2), mov(1), Insn::Exit, mov(2), mov(3), Insn::Exit],
+    )?;
     assert_eq!(rt; merge.as_slice(), [4, 2, 1, 3, 2, 1].as_slice());
     // the following slot is the dearer one
     let follow = all_costs(&rt, alloc, &[jump_if(1), call(4), Insn::Exit])?;
     assert_eq!(rt; follow.as_slice(), [34, 33, 1].as_slice());
     // a conditional jump to the next slot, a jump over a wide instruction
-    let over = all_costs(&rt, alloc, &[jump_if(0), jump_if(2), wide(), jump(0), Insn::Exit])?;
+    let over = all_costs(
+        &rt,
+        alloc,
+        &[jump_if(0), jump_if(2), wide(), jump(0), Insn::Exit],
+    )?;
     assert_eq!(rt; over.as_slice(), [5, 4, 3, 0, 2, 1].as_slice());
-    let spawn = all_costs(&rt, alloc, &[mov(6), mov(1), mov(2), mov(3), mov(4), call(1), mov(6), mov(0), Insn::Exit])?;
-    assert_eq!(rt; spawn.as_slice(), [24, 23, 22, 21, 20, 19, 3, 2, 1].as_slice());
+    let spawn = all_costs(
+        &rt,
+        alloc,
+        &[
+            mov(6),
+            mov(1),
+            mov(2),
+            mov(3),
+            mov(4),
+            call(1),
+            mov(6),
+            mov(0),
+            Insn::Exit,
+        ],
+    )?;
+    assert_eq!(rt;
+        spawn.as_slice(),
+        [24, 23, 22, 21, 20, 19, 3, 2, 1].as_slice()
+    );
     Ok(())
 }
 

@@ -4,3 +4,4 @@ pub mod Marks
 pub mod CodeLemmas
 pub mod FaultLemmas
 pub mod PlacedLemmas
+pub mod Decoded

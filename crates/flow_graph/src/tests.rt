@@ -4,7 +4,7 @@ ghost use Rattle.std.specs.Prelude.{◌≡◌, ◌≤◌, length, IfOk};
 ghost use Rattle.flow_graph.specs.Program.{slots_of, IsDecoded};
 
 use crate::{FlowFault, Graph, Next, build};
-use insn_codec::{Condition, Insn, Operand, Placed, Register, Width};
+use insn_codec::{Condition, Insn, Operand, Placed, Register, Width, decode};
 use std::alloc::Global;
 use std::process::Abort;
 use std::test::Fail;
@@ -78,6 +78,44 @@ fn refusal(rt: &impl Abort, alloc: Global, insns: &[Insn]) -> Result<Option<Flow
         Ok(_) => Ok(None),
         Err(fault) => Ok(Some(fault)),
     }
+}
+
+/// Why the program that is spelled by the bytes is refused.
+fn refusal_of_bytes(alloc: Global, bytes: &[u8]) -> Result<Option<FlowFault>, Fail> {
+    let placed = decode(alloc, bytes)?;
+    match build(alloc, &placed) {
+        Ok(_) => Ok(None),
+        Err(fault) => Ok(Some(fault)),
+    }
+}
+
+#[test]
+fn builds_what_is_decoded(rt: HostRuntime) -> Result<(), Fail> {
+    let alloc = rt.alloc();
+    // `lddw r0, 1` and `exit`
+    let wide = [
+        0x18, 0, 0, 0, 1, 0, 0, 0, 0, 0, 0, 0, 0, 0, 0, 0, 0x95, 0, 0, 0, 0, 0, 0, 0,
+    ];
+    assert_eq!(rt; refusal_of_bytes(alloc, &wide)?, None);
+    // `ja +1` and `exit`, `ja -1`, `mov64 r0, 0`, twice `exit`
+    let out = [5, 0, 1, 0, 0, 0, 0, 0, 0x95, 0, 0, 0, 0, 0, 0, 0];
+    assert_eq!(rt; refusal_of_bytes(alloc, &out)?, Some(FlowFault::JumpOut(0)));
+    let back = [5, 0, 0xff, 0xff, 0, 0, 0, 0];
+    assert_eq!(rt;
+        refusal_of_bytes(alloc, &back)?,
+        Some(FlowFault::BackEdge(0))
+    );
+    let end = [0xb7, 0, 0, 0, 0, 0, 0, 0];
+    assert_eq!(rt;
+        refusal_of_bytes(alloc, &end)?,
+        Some(FlowFault::FallsOff(0))
+    );
+    let twice = [0x95, 0, 0, 0, 0, 0, 0, 0, 0x95, 0, 0, 0, 0, 0, 0, 0];
+    assert_eq!(rt;
+        refusal_of_bytes(alloc, &twice)?,
+        Some(FlowFault::Unreachable(1))
+    );
+    Ok(())
 }
 
 /// What a graph tells of each slot.
