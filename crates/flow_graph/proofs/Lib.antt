@@ -3,3 +3,5 @@ pub mod Forward
 pub mod Marks
 pub mod CodeLemmas
 pub mod FaultLemmas
+pub mod PlacedLemmas
+pub mod Decoded

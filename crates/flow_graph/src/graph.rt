@@ -75,7 +75,8 @@ impl Graph {
     pub fn into_code(self) -> Vec<Option<Insn>>
         ensures { result.items ≡ self }
     {
-        self.code
+        let Graph { code } = self;
+        code
     }
 }
 

@@ -11,3 +11,6 @@ mod reach;
 pub use building::build;
 pub use fault::FlowFault;
 pub use graph::{Graph, Next};
+
+#[cfg(test)]
+mod tests;

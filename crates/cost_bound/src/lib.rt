@@ -1,0 +1,11 @@
+//! What a run of a program costs at most, from each of its slots.
+#![tactic(auto)]
+
+mod bound;
+mod table;
+
+pub use bound::{costs, price};
+pub use table::Costs;
+
+#[cfg(test)]
+mod tests;
