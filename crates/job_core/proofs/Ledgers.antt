@@ -1,5 +1,5 @@
 -- What a step with a ledger as its spawner leaves.
-use Rattle.std.proofs.Common.{◌≡◌, ℕ, ◌<◌, ◌≤◌, ◌+◌, ◌-◌, List, [], ◌∷◌, ◌++◌, length, length-set, length-append, set, get_or, slice_get, slice_set, refl, sym, ◌∙◌, arith, ap, subst, Option, Some, None, Result, Ok, Err, true}
+use Rattle.std.proofs.Common.{◌≡◌, ℕ, ◌<◌, ◌≤◌, ◌+◌, ◌-◌, List, length, length-set, length-append, set, get_or, slice_get, slice_set, refl, sym, ◌∙◌, arith, ap, subst, Option, Some, None, Result, Ok, Err, true}
 use Rattle.std.proofs.lemmas.Option.{get_or_from_slice_get, slice_get_within}
 use Rattle.machine_model.specs.declared.program.Entry.{Entry}
 use Rattle.machine_model.specs.Value.{Registers}
@@ -21,7 +21,7 @@ use Rattle.job_core.specs.declared.report.TaskEnd.{TaskEnd}
 use Rattle.job_core.specs.declared.tasks.Stepped.TheVariants as stepped
 use Rattle.job_core.specs.Seats.{Adds}
 use Rattle.job_core.specs.Behind.{Kept, end_of, IsBehind, Steps}
-use Rattle.job_core.proofs.Simulates.{IsLiveAt, live_at, did_either, steps_went, steps_ended, ended_end, part_fits}
+use Rattle.job_core.proofs.Simulates.{IsLiveAt, live_at, did_either, steps_went, steps_ended, ended_end}
 
 abbrev Told : Ledger → Ledger → SpawnRecord → Result (Unit {0}) SpawnRecord → Type 0
 Told old new child reply = (new.entries.items ≡ old.entries.items)
@@ -53,9 +53,8 @@ module _ (kept : Kept) (n : ℕ) (live : Live) (p : Checked) (out : StepOut) (fr
     (ends : old.report.tasks.items ≡ kept.ends) (collected : old.report.buffer.items ≡ kept.collected)
     (spent : old.report.spent ≡ kept.spent) (returned : old.report.returned ≡ kept.returned)
     (did : (registers : Registers) → AreBehind p live.frame registers →
-        Did p (effect (program_of p) (slice_get old.entries.items) (state_of live.frame live.part live.credit registers)) out frame part credit
-            (new ≡ old) (Told old new)) where
-
+    Did p (effect (program_of p) (slice_get old.entries.items) (state_of live.frame live.part live.credit registers)) out frame part credit
+    (new ≡ old) (Told old new)) where
   same_program : (j : Job) (at : IsLiveAt kept j n live) → p ≡ at.checked
   same_program j at = read ∙ get_or_from_slice_get kept.programs live.program at.checked p at.program
 
@@ -63,7 +62,7 @@ module _ (kept : Kept) (n : ℕ) (live : Live) (p : Checked) (out : StepOut) (fr
       ((child : SpawnRecord) (reply : Result (Unit {0}) SpawnRecord) → Told old new child reply → E) → E
   either E j at first second =
       did_either E p _ out frame part credit (new ≡ old) (Told old new) first second
-          (did at.task.registers (subst (λ (q : Checked). AreBehind q live.frame at.task.registers) (sym (same_program j at)) at.is.behind))
+      (did at.task.registers (subst (λ (q : Checked). AreBehind q live.frame at.task.registers) (sym (same_program j at)) at.is.behind))
 
   pub grows : (j : Job) → IsBehind kept j → (n < length new.lives.items) × (n < length new.report.tasks.items)
   grows j behind =
@@ -74,11 +73,11 @@ module _ (kept : Kept) (n : ℕ) (live : Live) (p : Checked) (out : StepOut) (fr
       let c = behind.kept_are.lives in let d = behind.kept_are.ends in
       either ((n < length new.lives.items) × (n < length new.report.tasks.items)) j at
       (λ e. let f : length new.lives.items ≡ length old.lives.items = ap (λ (l : Ledger). length l.lives.items) e in
-          let g : length new.report.tasks.items ≡ length old.report.tasks.items = ap (λ (l : Ledger). length l.report.tasks.items) e in
-          (omega (arith, lt, a, f), omega (arith, lt, b, c, d, g)))
+      let g : length new.report.tasks.items ≡ length old.report.tasks.items = ap (λ (l : Ledger). length l.report.tasks.items) e in
+      (omega (arith, lt, a, f), omega (arith, lt, b, c, d, g)))
       (λ child reply told.
-          let f = adds_lives old.lives.items new.lives.items old.report.tasks.items new.report.tasks.items child reply told.1 in
-          (omega (arith, lt, a, f.0), omega (arith, lt, b, c, d, f.1)))
+      let f = adds_lives old.lives.items new.lives.items old.report.tasks.items new.report.tasks.items child reply told.1 in
+      (omega (arith, lt, a, f.0), omega (arith, lt, b, c, d, f.1)))
 
   still : (j : Job) (at : IsLiveAt kept j n live) → new.entries.items ≡ kept.entries
   still j at =
@@ -90,8 +89,11 @@ module _ (kept : Kept) (n : ℕ) (live : Live) (p : Checked) (out : StepOut) (fr
       (new.report.buffer.items ≡ kept.collected) × (new.report.spent ≡ kept.spent) × (new.report.returned ≡ kept.returned)
   ended_same j at =
       either ((new.report.buffer.items ≡ kept.collected) × (new.report.spent ≡ kept.spent) × (new.report.returned ≡ kept.returned)) j at
-      (λ e. (ap (λ (l : Ledger). l.report.buffer.items) e ∙ collected, ap (λ (l : Ledger). l.report.spent) e ∙ spent,
-          ap (λ (l : Ledger). l.report.returned) e ∙ returned))
+      (λ e. (
+        ap (λ (l : Ledger). l.report.buffer.items) e ∙ collected,
+        ap (λ (l : Ledger). l.report.spent) e ∙ spent,
+        ap (λ (l : Ledger). l.report.returned) e ∙ returned,
+      ))
       (λ child reply told. (told.2 ∙ collected, told.3 ∙ spent, told.4 ∙ returned))
 
   quiet : new ≡ old → (new.lives.items ≡ set kept.lives n None) × (new.report.tasks.items ≡ kept.ends)
@@ -101,23 +103,29 @@ module _ (kept : Kept) (n : ℕ) (live : Live) (p : Checked) (out : StepOut) (fr
       Adds (set kept.lives n None) kept.ends child reply new.lives.items new.report.tasks.items
   heard child reply told =
       subst (λ ls. Adds ls kept.ends child reply new.lives.items new.report.tasks.items) lives
-          (subst (λ es. Adds old.lives.items es child reply new.lives.items new.report.tasks.items) ends told.1)
+      (subst (λ es. Adds old.lives.items es child reply new.lives.items new.report.tasks.items) ends told.1)
 
   abbrev after : Live
   after = record { program = live.program; frame = frame; part = part; credit = credit }
 
   pub ledger_went : (j : Job) → IsBehind kept j → out ≡ Went → IsCovered p frame part credit →
-      Steps kept j n stepped.Went (record kept { entries = new.entries.items; lives = set new.lives.items n (Some after);
-          ends = new.report.tasks.items; collected = new.report.buffer.items; spent = new.report.spent; returned = new.report.returned })
+      Steps kept j n stepped.Went (record kept {
+        entries = new.entries.items;
+        lives = set new.lives.items n (Some after);
+        ends = new.report.tasks.items;
+        collected = new.report.buffer.items;
+        spent = new.report.spent;
+        returned = new.report.returned;
+      })
   ledger_went j behind is covered =
       let at = live_at kept j n live behind here in
       let same = ended_same j at in
       let s = steps_went kept j n live behind at frame part credit base new.lives.items new.report.tasks.items (new ≡ old) (Told old new) quiet heard
-          p (slice_get old.entries.items) new.entries.items (same_program j at) (λ i. ap (λ es. slice_get es i) entries) (still j at) covered
-          (λ registers stands. subst (λ (o : StepOut). Did p (effect (program_of p) (slice_get old.entries.items) (state_of live.frame live.part live.credit registers)) o frame part credit (new ≡ old) (Told old new)) is (did registers stands)) in
+      p (slice_get old.entries.items) new.entries.items (same_program j at) (λ i. ap (λ es. slice_get es i) entries) (still j at) covered
+      (λ registers stands. subst (λ (o : StepOut). Did p (effect (program_of p) (slice_get old.entries.items) (state_of live.frame live.part live.credit registers)) o frame part credit (new ≡ old) (Told old new)) is (did registers stands)) in
       subst (λ (k : Kept). Steps kept j n stepped.Went k)
-          (kept_is kept new.entries.items (set new.lives.items n (Some after)) (set new.lives.items n (Some after)) new.report.tasks.items new.report.tasks.items
-              kept.collected new.report.buffer.items kept.spent new.report.spent kept.returned new.report.returned refl refl (sym same.0) (sym same.1) (sym same.2)) s
+      (kept_is kept new.entries.items (set new.lives.items n (Some after)) (set new.lives.items n (Some after)) new.report.tasks.items new.report.tasks.items
+      kept.collected new.report.buffer.items kept.spent new.report.spent kept.returned new.report.returned refl refl (sym same.0) (sym same.1) (sym same.2)) s
 
   -- what the noting of an end asks and leaves
   pub record Noting (j : Job) (word : ℕ) : Type 0 where
@@ -130,16 +138,22 @@ module _ (kept : Kept) (n : ℕ) (live : Live) (p : Checked) (out : StepOut) (fr
     pub steps : (spent' returned' : ℕ) (buffer' : List ℕ) (tasks' : List TaskEnd) → spent' ≡ new.report.spent + credit.used →
         returned' ≡ new.report.returned + (credit.held - credit.used) → buffer' ≡ written new.report.buffer.items part.base part.bytes →
         tasks' ≡ slice_set new.report.tasks.items n (record entry { spent = credit.used; rest = credit.held - credit.used; r0 = word; ran = true }) →
-        Steps kept j n (stepped.Ended word) (record kept { entries = new.entries.items; lives = new.lives.items;
-            ends = tasks'; collected = buffer'; spent = spent'; returned = returned' })
+        Steps kept j n (stepped.Ended word) (record kept {
+          entries = new.entries.items;
+          lives = new.lives.items;
+          ends = tasks';
+          collected = buffer';
+          spent = spent';
+          returned = returned';
+        })
 
   pub ledger_ended : (j : Job) → IsBehind kept j → (word : ℕ) → out ≡ Ended word → Noting j word
   ledger_ended j behind word is =
       let at = live_at kept j n live behind here in
       let same = ended_same j at in
       let s = steps_ended kept j n live behind at frame part credit base new.lives.items new.report.tasks.items (new ≡ old) (Told old new) quiet heard
-          p (slice_get old.entries.items) new.entries.items word (same_program j at) (λ i. ap (λ es. slice_get es i) entries) (still j at)
-          (λ registers stands. subst (λ (o : StepOut). Did p (effect (program_of p) (slice_get old.entries.items) (state_of live.frame live.part live.credit registers)) o frame part credit (new ≡ old) (Told old new)) is (did registers stands)) in
+      p (slice_get old.entries.items) new.entries.items word (same_program j at) (λ i. ap (λ es. slice_get es i) entries) (still j at)
+      (λ registers stands. subst (λ (o : StepOut). Did p (effect (program_of p) (slice_get old.entries.items) (state_of live.frame live.part live.credit registers)) o frame part credit (new ≡ old) (Told old new)) is (did registers stands)) in
       let next = s.1.3 in
       let ends_same : new.report.tasks.items ≡ kept.ends = s.3 in
       record {
@@ -151,10 +165,10 @@ module _ (kept : Kept) (n : ℕ) (live : Live) (p : Checked) (out : StepOut) (fr
         noted = ap (λ es. slice_get es n) ends_same ∙ behind.kept_are.each_end n (job.Live at.task) at.there;
         steps = λ spent' returned' buffer' tasks' e1 e2 e3 e4.
             subst (λ (k : Kept). Steps kept j n (stepped.Ended word) k)
-                (kept_is kept new.entries.items new.lives.items new.lives.items (set new.report.tasks.items n (ended_end n at.task credit word)) tasks'
-                    (written kept.collected part.base part.bytes) buffer' (kept.spent + credit.used) spent'
-                    (kept.returned + (credit.held - credit.used)) returned' refl (sym e4)
-                    (ap (λ b. written b part.base part.bytes) (sym same.0) ∙ sym e3)
-                    (ap (λ x. x + credit.used) (sym same.1) ∙ sym e1) (ap (λ x. x + (credit.held - credit.used)) (sym same.2) ∙ sym e2))
-                s.1;
+            (kept_is kept new.entries.items new.lives.items new.lives.items (set new.report.tasks.items n (ended_end n at.task credit word)) tasks'
+            (written kept.collected part.base part.bytes) buffer' (kept.spent + credit.used) spent'
+            (kept.returned + (credit.held - credit.used)) returned' refl (sym e4)
+            (ap (λ b. written b part.base part.bytes) (sym same.0) ∙ sym e3)
+            (ap (λ x. x + credit.used) (sym same.1) ∙ sym e1) (ap (λ x. x + (credit.held - credit.used)) (sym same.2) ∙ sym e2))
+            s.1;
       }

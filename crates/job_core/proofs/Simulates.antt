@@ -1,7 +1,7 @@
 -- What a step of the code leaves stands for the machine's step.
-use Rattle.std.proofs.Common.{◌≡◌, ◌≢◌, ℕ, zero, suc, ◌<◌, ◌≤◌, ◌+◌, ◌-◌, ◌⊎◌, inl, inr, List, [], ◌∷◌, ◌++◌, length, length-set, length-append, take, drop, set, replicate, ◌^◌, slice_get, slice_set, refl, sym, ◌∙◌, arith, ap, subst, sum_by, Bool, true, false, Option, Some, None, option_map, map, Result, Ok, Err}
-use Rattle.std.proofs.lemmas.Option.{slice_get_within, slice_get-map, get_or_from_slice_get}
-use Rattle.std.proofs.lemmas.List.{set-get_or, length-drop, length-take-le, take-take, drop-take, drop-drop, set-append_left}
+use Rattle.std.proofs.Common.{◌≡◌, ℕ, zero, suc, ◌<◌, ◌≤◌, ◌+◌, ◌-◌, ◌⊎◌, inl, inr, List, [], ◌∷◌, ◌++◌, length, length-set, length-append, take, drop, set, replicate, ◌^◌, slice_get, refl, sym, ◌∙◌, arith, ap, subst, sum_by, Bool, true, false, Option, Some, None, option_map, map, Result, Ok, Err}
+use Rattle.std.proofs.lemmas.Option.{slice_get_within, slice_get-map}
+use Rattle.std.proofs.lemmas.List.{take-take, drop-take, drop-drop, set-append_left}
 use Rattle.std.proofs.lemmas.List.Sums.{sum_by-append, sum_by-cons}
 use Rattle.std.proofs.Math.Seq.{take-append_seam, drop-append_seam}
 use Rattle.machine_model.specs.declared.program.Entry.{Entry}
@@ -29,26 +29,33 @@ use Rattle.job_core.specs.declared.live.Live.{Live}
 use Rattle.job_core.specs.declared.report.TaskEnd.{TaskEnd}
 use Rattle.job_core.specs.declared.tasks.Stepped.TheVariants as stepped
 use Rattle.job_core.specs.Seats.{live_of, entered, Adds}
-use Rattle.job_core.specs.Behind.{Kept, end_of, IsTaskOf, IsLive, HasEnded, IsMemberOf, AreKept, AreEntries, IsBehind, Steps}
+use Rattle.job_core.specs.Behind.{Kept, end_of, IsTaskOf, IsLive, IsMemberOf, AreKept, AreEntries, IsBehind, Steps}
 use Rattle.job_core.proofs.Enters.{covered_entry, behind_entry}
 
 -- the same with other tasks
 abbrev pub keeping : Kept → List (Option Live) → List TaskEnd → List ℕ → ℕ → ℕ → Kept
 keeping kept lives ends collected spent returned = record {
-    programs = kept.programs; entries = kept.entries; lives = lives; ends = ends; collected = collected; spent = spent; returned = returned;
-    issued = kept.issued }
+  programs = kept.programs;
+  entries = kept.entries;
+  lives = lives;
+  ends = ends;
+  collected = collected;
+  spent = spent;
+  returned = returned;
+  issued = kept.issued;
+}
 
 -- the same with other tasks, none of which ended
 abbrev pub going : Kept → List (Option Live) → List TaskEnd → Kept
 going kept lives ends = keeping kept lives ends kept.collected kept.spent kept.returned
 
 -- the bytes of a range stay where another range is written
-range-written : (buffer : List ℕ) (base : ℕ) (bytes : List ℕ) (low size : ℕ) → base + length bytes ≤ length buffer →
+pub range-written : (buffer : List ℕ) (base : ℕ) (bytes : List ℕ) (low size : ℕ) → base + length bytes ≤ length buffer →
     ((base + length bytes ≤ low) ⊎ (low + size ≤ base)) → take size (drop low (written buffer base bytes)) ≡ take size (drop low buffer)
 range-written buffer base bytes low size fits apart = elim apart [
-      inl above ↦ ap (take size) (written_above buffer base bytes low fits above)
-    | inr below ↦ written_below buffer base bytes low size fits below ]
-
+  | inl above ↦ ap (take size) (written_above buffer base bytes low fits above)
+  | inr below ↦ written_below buffer base bytes low size fits below
+]
 
 -- the one member of a number
 one_member : (tasks : List Member) (n : ℕ) (m k : Member) → slice_get tasks n ≡ Some m → slice_get tasks n ≡ Some k → m ≡ k
@@ -61,11 +68,19 @@ member_stays : (kept : Kept) (lives : List (Option Live)) (ends : List TaskEnd) 
     take (size_of m) (drop (base_of m) collected) ≡ take (size_of m) (drop (base_of m) kept.collected) →
     IsMemberOf kept buffer n m → IsMemberOf (keeping kept lives ends collected spent returned) buffer' n m
 member_stays kept lives ends collected spent returned buffer buffer' n (job.Live t) live same whole is = record {
-    live = is.live; there = live _ is.there; checked = is.checked; program = is.program;
-    is = record {
-      program = is.is.program;
-      state = ap (λ part. let s : State = record { slot = t.slot; registers = t.registers; stack = t.stack; part = part; held = t.held; used = t.used } in s) same ∙ is.is.state;
-      base = is.is.base; size = is.is.size; behind = is.is.behind; covered = is.is.covered } }
+  live = is.live;
+  there = live _ is.there;
+  checked = is.checked;
+  program = is.program;
+  is = record {
+    program = is.is.program;
+    state = ap (λ part. let s : State = record { slot = t.slot; registers = t.registers; stack = t.stack; part = part; held = t.held; used = t.used } in s) same ∙ is.is.state;
+    base = is.is.base;
+    size = is.is.size;
+    behind = is.is.behind;
+    covered = is.is.covered;
+  };
+}
 member_stays kept lives ends collected spent returned buffer buffer' n (job.Ended e) live same whole is =
     record { gone = live _ is.gone; bytes = same ∙ is.bytes ∙ sym whole }
 
@@ -76,9 +91,9 @@ end_set : (tasks : List Member) (ends : List TaskEnd) (n : ℕ) (old new : Membe
 end_set tasks ends n old new entry here long is each k m =
     let lt : n < length tasks = slice_get_within tasks n old here in
     by_number (λ k. slice_get (set tasks n new) k ≡ Some m → slice_get (set ends n entry) k ≡ Some (end_of k m)) n k
-        (λ e. let same : new ≡ m = one_member (set tasks n new) n new m (set_same tasks n new lt) e in
-            set_same ends n entry (omega (arith, lt, long)) ∙ ap (λ (x : TaskEnd). Some x) (is ∙ ap (end_of n) same))
-        (λ ne e. set_other ends n k entry ne ∙ each k m (sym (set_other tasks n k new ne) ∙ e))
+    (λ e. let same : new ≡ m = one_member (set tasks n new) n new m (set_same tasks n new lt) e in
+    set_same ends n entry (omega (arith, lt, long)) ∙ ap (λ (x : TaskEnd). Some x) (is ∙ ap (end_of n) same))
+    (λ ne e. set_other ends n k entry ne ∙ each k m (sym (set_other tasks n k new ne) ∙ e))
 
 end_kept : (tasks : List Member) (ends : List TaskEnd) (n : ℕ) (old new : Member) → slice_get tasks n ≡ Some old → end_of n old ≡ end_of n new →
     ((k : ℕ) (m : Member) → slice_get tasks k ≡ Some m → slice_get ends k ≡ Some (end_of k m)) →
@@ -86,20 +101,21 @@ end_kept : (tasks : List Member) (ends : List TaskEnd) (n : ℕ) (old new : Memb
 end_kept tasks ends n old new here is each k m =
     let lt : n < length tasks = slice_get_within tasks n old here in
     by_number (λ k. slice_get (set tasks n new) k ≡ Some m → slice_get ends k ≡ Some (end_of k m)) n k
-        (λ e. let same : new ≡ m = one_member (set tasks n new) n new m (set_same tasks n new lt) e in
-            each n old here ∙ ap (λ (x : TaskEnd). Some x) (is ∙ ap (end_of n) same))
-        (λ ne e. each k m (sym (set_other tasks n k new ne) ∙ e))
+    (λ e. let same : new ≡ m = one_member (set tasks n new) n new m (set_same tasks n new lt) e in
+    each n old here ∙ ap (λ (x : TaskEnd). Some x) (is ∙ ap (end_of n) same))
+    (λ ne e. each k m (sym (set_other tasks n k new ne) ∙ e))
 
 end_push : (tasks : List Member) (ends : List TaskEnd) (new : Member) (entry : TaskEnd) → length ends ≡ length tasks → entry ≡ end_of (length tasks) new →
     ((k : ℕ) (m : Member) → slice_get tasks k ≡ Some m → slice_get ends k ≡ Some (end_of k m)) →
     (k : ℕ) (m : Member) → slice_get (tasks ++ new ∷ []) k ≡ Some m → slice_get (ends ++ entry ∷ []) k ≡ Some (end_of k m)
 end_push tasks ends new entry long is each k m e =
     elim (pushed tasks k new m e) [
-      inl old ↦ push_old ends k entry (end_of k m) (each k m old)
-    | inr last ↦
-        let at : slice_get (ends ++ entry ∷ []) k ≡ Some entry =
-            ap (λ i. slice_get (ends ++ entry ∷ []) i) (last.0 ∙ sym long) ∙ push_new ends entry in
-        at ∙ ap (λ (x : TaskEnd). Some x) (is ∙ ap (λ i. end_of i new) (sym last.0) ∙ ap (end_of k) (sym last.1)) ]
+      | inl old ↦ push_old ends k entry (end_of k m) (each k m old)
+      | inr last ↦
+          let at : slice_get (ends ++ entry ∷ []) k ≡ Some entry =
+          ap (λ i. slice_get (ends ++ entry ∷ []) i) (last.0 ∙ sym long) ∙ push_new ends entry in
+          at ∙ ap (λ (x : TaskEnd). Some x) (is ∙ ap (λ i. end_of i new) (sym last.0) ∙ ap (end_of k) (sym last.1))
+    ]
 
 -- a sum over the members where one of them is replaced
 same_sum : (f : Member → ℕ) (tasks : List Member) (n : ℕ) (old new : Member) (a b : ℕ) → slice_get tasks n ≡ Some old → a ≡ sum_by f tasks →
@@ -120,24 +136,28 @@ goes_kept kept j n t s p live old tiles here size program_is program base is beh
     let new : Member = job.Live (with_state t s) in
     let after : Kept = going kept (set kept.lives n (Some live)) kept.ends in
     let own : IsTaskOf p (written j.buffer t.base s.part) live (with_state t s) = record {
-        program = program;
-        state = ap (λ part. let u : State = record { slot = s.slot; registers = s.registers; stack = s.stack; part = part; held = s.held; used = s.used } in u)
-            (written_same j.buffer t.base s.part fits) ∙ is;
-        base = base; size = ap (λ (u : State). length u.part) is; behind = behind; covered = covered } in
+      program = program;
+      state = ap (λ part. let u : State = record { slot = s.slot; registers = s.registers; stack = s.stack; part = part; held = s.held; used = s.used } in u)
+          (written_same j.buffer t.base s.part fits) ∙ is;
+      base = base;
+      size = ap (λ (u : State). length u.part) is;
+      behind = behind;
+      covered = covered;
+    } in
     record {
       lives = length-set kept.lives n (Some live) ∙ old.lives ∙ sym (length-set j.tasks n new);
       ends = old.ends ∙ sym (length-set j.tasks n new);
       each = λ k m. by_number (λ k. slice_get (set j.tasks n new) k ≡ Some m → IsMemberOf after (written j.buffer t.base s.part) k m) n k
           (λ e. subst (λ (x : Member). IsMemberOf after (written j.buffer t.base s.part) n x)
-              (one_member (set j.tasks n new) n new m (set_same j.tasks n new long) e)
-              (record { live = live; there = set_same kept.lives n (Some live) within; checked = p; program = program_is; is = own }))
+          (one_member (set j.tasks n new) n new m (set_same j.tasks n new long) e)
+          (record { live = live; there = set_same kept.lives n (Some live) within; checked = p; program = program_is; is = own }))
           (λ ne e.
-              let there : slice_get j.tasks k ≡ Some m = sym (set_other j.tasks n k new ne) ∙ e in
-              member_stays kept (set kept.lives n (Some live)) kept.ends kept.collected kept.spent kept.returned j.buffer (written j.buffer t.base s.part) k m
-              (λ x f. set_other kept.lives n k (Some live) ne ∙ f)
-              (range-written j.buffer t.base s.part (base_of m) (size_of m) fits
-                  (let x = tiles.apart n k (job.Live t) m (λ same. ne (sym same)) here there in rw size x)) refl
-              (old.each k m there));
+          let there : slice_get j.tasks k ≡ Some m = sym (set_other j.tasks n k new ne) ∙ e in
+          member_stays kept (set kept.lives n (Some live)) kept.ends kept.collected kept.spent kept.returned j.buffer (written j.buffer t.base s.part) k m
+          (λ x f. set_other kept.lives n k (Some live) ne ∙ f)
+          (range-written j.buffer t.base s.part (base_of m) (size_of m) fits
+          (let x = tiles.apart n k (job.Live t) m (λ same. ne (sym same)) here there in rw size x)) refl
+          (old.each k m there));
       each_end = end_kept j.tasks kept.ends n (job.Live t) new here refl old.each_end;
       spent = same_sum spent_by j.tasks n (job.Live t) new kept.spent kept.spent here old.spent refl;
       returned = same_sum returned_by j.tasks n (job.Live t) new kept.returned kept.returned here old.returned refl;
@@ -146,7 +166,15 @@ goes_kept kept j n t s p live old tiles here size program_is program base is beh
 -- what the report says of a task that ended with this credit
 abbrev pub ended_end : ℕ → Task → Credit → ℕ → TaskEnd
 ended_end n t credit r0 = record {
-  number = n; program = t.program; arg = t.arg; given = t.given; spent = credit.used; rest = credit.held - credit.used; r0 = r0; ran = true }
+  number = n;
+  program = t.program;
+  arg = t.arg;
+  given = t.given;
+  spent = credit.used;
+  rest = credit.held - credit.used;
+  r0 = r0;
+  ran = true;
+}
 
 -- task n ended, and is kept so
 ends_kept : (kept : Kept) (j : Job) (n : ℕ) (t : Task) (s : State) (r0 : ℕ) (part : Piece) (credit : Credit) → AreKept kept j →
@@ -154,8 +182,8 @@ ends_kept : (kept : Kept) (j : Job) (n : ℕ) (t : Task) (s : State) (r0 : ℕ) 
     t.base ≡ part.base → t.size ≡ length part.bytes → take t.size (drop t.base j.buffer) ≡ part.bytes →
     credit.used ≡ s.used → credit.held ≡ s.held →
     AreKept (keeping kept (set kept.lives n None) (set kept.ends n (ended_end n t credit r0)) (written kept.collected part.base part.bytes)
-        (kept.spent + credit.used) (kept.returned + (credit.held - credit.used)))
-        (record { buffer = j.buffer; tasks = set j.tasks n (job.Ended (job.ending_of t s r0)) })
+    (kept.spent + credit.used) (kept.returned + (credit.held - credit.used)))
+    (record { buffer = j.buffer; tasks = set j.tasks n (job.Ended (job.ending_of t s r0)) })
 ends_kept kept j n t s r0 part credit old tiles whole here base size bytes used held =
     let e : job.Ending = job.ending_of t s r0 in
     let new : Member = job.Ended e in
@@ -169,24 +197,24 @@ ends_kept kept j n t s r0 part credit old tiles whole here base size bytes used 
     let returned : ℕ = kept.returned + (credit.held - credit.used) in
     let after : Kept = keeping kept (set kept.lives n None) (set kept.ends n entry) collected spent returned in
     let own : take t.size (drop t.base j.buffer) ≡ take t.size (drop t.base collected) =
-        bytes ∙ sym (written_same kept.collected part.base part.bytes fits)
-        ∙ ap (λ i. take i (drop part.base collected)) (sym size) ∙ ap (λ i. take t.size (drop i collected)) (sym base) in
+    bytes ∙ sym (written_same kept.collected part.base part.bytes fits)
+    ∙ ap (λ i. take i (drop part.base collected)) (sym size) ∙ ap (λ i. take t.size (drop i collected)) (sym base) in
     let entry_is : entry ≡ end_of n new =
-        ap (λ u. let x : TaskEnd = record { number = n; program = t.program; arg = t.arg; given = t.given; spent = u; rest = credit.held - u; r0 = r0; ran = true } in x) used
-        ∙ ap (λ h. let x : TaskEnd = record { number = n; program = t.program; arg = t.arg; given = t.given; spent = s.used; rest = h - s.used; r0 = r0; ran = true } in x) held in
+    ap (λ u. let x : TaskEnd = record { number = n; program = t.program; arg = t.arg; given = t.given; spent = u; rest = credit.held - u; r0 = r0; ran = true } in x) used
+    ∙ ap (λ h. let x : TaskEnd = record { number = n; program = t.program; arg = t.arg; given = t.given; spent = s.used; rest = h - s.used; r0 = r0; ran = true } in x) held in
     record {
       lives = length-set kept.lives n None ∙ old.lives ∙ sym (length-set j.tasks n new);
       ends = length-set kept.ends n entry ∙ old.ends ∙ sym (length-set j.tasks n new);
       each = λ k m. by_number (λ k. slice_get (set j.tasks n new) k ≡ Some m → IsMemberOf after j.buffer k m) n k
           (λ f. subst (λ (x : Member). IsMemberOf after j.buffer n x) (one_member (set j.tasks n new) n new m (set_same j.tasks n new long) f)
-              (record { gone = set_same kept.lives n None within; bytes = own }))
+          (record { gone = set_same kept.lives n None within; bytes = own }))
           (λ ne f.
-              let there : slice_get j.tasks k ≡ Some m = sym (set_other j.tasks n k new ne) ∙ f in
-              member_stays kept (set kept.lives n None) (set kept.ends n entry) collected spent returned j.buffer j.buffer k m
-              (λ x g. set_other kept.lives n k None ne ∙ g) refl
-              (range-written kept.collected part.base part.bytes (base_of m) (size_of m) fits
-                  (let x = tiles.apart n k (job.Live t) m (λ same. ne (sym same)) here there in rw (size, base) at x))
-              (old.each k m there));
+          let there : slice_get j.tasks k ≡ Some m = sym (set_other j.tasks n k new ne) ∙ f in
+          member_stays kept (set kept.lives n None) (set kept.ends n entry) collected spent returned j.buffer j.buffer k m
+          (λ x g. set_other kept.lives n k None ne ∙ g) refl
+          (range-written kept.collected part.base part.bytes (base_of m) (size_of m) fits
+          (let x = tiles.apart n k (job.Live t) m (λ same. ne (sym same)) here there in rw (size, base) at x))
+          (old.each k m there));
       each_end = end_set j.tasks kept.ends n (job.Live t) new entry here old.ends entry_is old.each_end;
       spent = same_sum spent_by j.tasks n (job.Live t) new kept.spent spent here old.spent (omega (arith, used));
       returned = same_sum returned_by j.tasks n (job.Live t) new kept.returned returned here old.returned
@@ -224,18 +252,19 @@ child_kept kept j t taken birth child base p is at splits long v need small cost
     record {
       program = sym is.program;
       state =
-        ap (λ part. let s : State = record { slot = 0; registers = entry_registers (length birth.bytes) birth.arg; stack = replicate 512 0; part = part; held = birth.share; used = 0 } in s)
+          ap (λ part. let s : State = record { slot = 0; registers = entry_registers (length birth.bytes) birth.arg; stack = replicate 512 0; part = part; held = birth.share; used = 0 } in s)
           (second_part j.buffer t.base t.size taken.part birth.bytes splits long ∙ sym is.bytes)
-        ∙ ap (λ held. let s : State = record { slot = 0; registers = entry_registers (length birth.bytes) birth.arg; stack = replicate 512 0; part = child.part.bytes; held = held; used = 0 } in s)
+          ∙ ap (λ held. let s : State = record { slot = 0; registers = entry_registers (length birth.bytes) birth.arg; stack = replicate 512 0; part = child.part.bytes; held = held; used = 0 } in s)
           (sym share);
       base = sym (is.starts ∙ at);
       size = sym bytes;
       behind =
-        subst (λ (arg : ℕ). AreBehind p (entry_frame (length child.part.bytes) child.arg) (entry_registers (length birth.bytes) arg)) is.arg
-        (subst (λ (size : ℕ). AreBehind p (entry_frame (length child.part.bytes) child.arg) (entry_registers size child.arg)) bytes
+          subst (λ (arg : ℕ). AreBehind p (entry_frame (length child.part.bytes) child.arg) (entry_registers (length birth.bytes) arg)) is.arg
+          (subst (λ (size : ℕ). AreBehind p (entry_frame (length child.part.bytes) child.arg) (entry_registers size child.arg)) bytes
           (behind_entry p (length child.part.bytes) child.arg v (omega (arith, bytes, need)) (omega (arith, bytes, small)) fits));
       covered = covered_entry p child.part child.share child.arg v (omega (arith, bytes, need)) (omega (arith, bytes, small))
-          (omega (arith, share, cost)) (omega (arith, share, limit)) fits }
+          (omega (arith, share, cost)) (omega (arith, share, limit)) fits;
+    }
 
 -- task n goes on with the first part of its range, and a child has the second
 spawns_kept : (kept : Kept) (j : Job) (n : ℕ) (t parent child : Task) (live small : Live) (p q : Checked) (entry : TaskEnd) → AreKept kept j →
@@ -244,7 +273,7 @@ spawns_kept : (kept : Kept) (j : Job) (n : ℕ) (t parent child : Task) (live sm
     slice_get kept.programs live.program ≡ Some p → IsTaskOf p j.buffer live parent →
     slice_get kept.programs small.program ≡ Some q → IsTaskOf q j.buffer small child →
     AreKept (going kept (set kept.lives n (Some live) ++ Some small ∷ []) (kept.ends ++ entry ∷ []))
-        (record { buffer = j.buffer; tasks = set j.tasks n (job.Live parent) ++ job.Live child ∷ [] })
+    (record { buffer = j.buffer; tasks = set j.tasks n (job.Live parent) ++ job.Live child ∷ [] })
 spawns_kept kept j n t parent child live small p q entry old here same_end entry_is program is program' is' =
     let long : n < length j.tasks = slice_get_within j.tasks n (job.Live t) here in
     let within : n < length kept.lives = omega (arith, long, old.lives) in
@@ -256,28 +285,46 @@ spawns_kept kept j n t parent child live small p q entry old here same_end entry
     let count : length lives ≡ length tasks = length-set kept.lives n (Some live) ∙ old.lives ∙ sym size in
     let count' : length kept.ends ≡ length tasks = old.ends ∙ sym size in
     let parent_is : IsLive new j.buffer n parent =
-        record { live = live; there = push_old lives n (Some small) (Some live) (set_same kept.lives n (Some live) within);
-            checked = p; program = program; is = is } in
+    record {
+      live = live;
+      there = push_old lives n (Some small) (Some live) (set_same kept.lives n (Some live) within);
+      checked = p;
+      program = program;
+      is = is;
+    } in
     let child_is : IsLive new j.buffer (length tasks) child =
-        record { live = small; there = subst (λ (k : ℕ). slice_get (lives ++ Some small ∷ []) k ≡ Some (Some small)) count (push_new lives (Some small));
-            checked = q; program = program'; is = is' } in
+    record {
+      live = small;
+      there = subst (λ (k : ℕ). slice_get (lives ++ Some small ∷ []) k ≡ Some (Some small)) count (push_new lives (Some small));
+      checked = q;
+      program = program';
+      is = is';
+    } in
     let sums : (f : Member → ℕ) (a : ℕ) → a ≡ sum_by f j.tasks → f (job.Live t) ≡ f (job.Live parent) → f (job.Live child) ≡ 0 →
-            a ≡ sum_by f (tasks ++ job.Live child ∷ []) =
-        λ f a sum same none. omega (arith, replaced f j.tasks n (job.Live t) (job.Live parent) here, sum, same, none,
-            sum_by-append f tasks (job.Live child ∷ []), sum_by-cons f (job.Live child) []) in
+    a ≡ sum_by f (tasks ++ job.Live child ∷ []) =
+    λ f a sum same none. omega (
+      arith,
+      replaced f j.tasks n (job.Live t) (job.Live parent) here,
+      sum,
+      same,
+      none,
+      sum_by-append f tasks (job.Live child ∷ []),
+      sum_by-cons f (job.Live child) [],
+    ) in
     record {
       lives = length-append lives (Some small ∷ []) ∙ ap (λ k. k + 1) count ∙ sym (length-append tasks (job.Live child ∷ []));
       ends = length-append kept.ends (entry ∷ []) ∙ ap (λ k. k + 1) count' ∙ sym (length-append tasks (job.Live child ∷ []));
       each = λ k m e. elim (pushed tasks k (job.Live child) m e) [
-          inr last ↦ subst (λ (i : ℕ). IsMemberOf new j.buffer i m) (sym last.0)
-              (subst (λ (x : Member). IsMemberOf new j.buffer (length tasks) x) (sym last.1) child_is)
+        | inr last ↦ subst (λ (i : ℕ). IsMemberOf new j.buffer i m) (sym last.0)
+            (subst (λ (x : Member). IsMemberOf new j.buffer (length tasks) x) (sym last.1) child_is)
         | inl f ↦ by_number (λ k. slice_get tasks k ≡ Some m → IsMemberOf new j.buffer k m) n k
             (λ g. subst (λ (x : Member). IsMemberOf new j.buffer n x)
-                (one_member tasks n (job.Live parent) m (set_same j.tasks n (job.Live parent) long) g) parent_is)
+            (one_member tasks n (job.Live parent) m (set_same j.tasks n (job.Live parent) long) g) parent_is)
             (λ ne g.
-                let there : slice_get j.tasks k ≡ Some m = sym (set_other j.tasks n k (job.Live parent) ne) ∙ g in
-                member_stays kept (lives ++ Some small ∷ []) ends kept.collected kept.spent kept.returned j.buffer j.buffer k m
-                (λ x h. push_old lives k (Some small) x (set_other kept.lives n k (Some live) ne ∙ h)) refl refl (old.each k m there)) f ];
+            let there : slice_get j.tasks k ≡ Some m = sym (set_other j.tasks n k (job.Live parent) ne) ∙ g in
+            member_stays kept (lives ++ Some small ∷ []) ends kept.collected kept.spent kept.returned j.buffer j.buffer k m
+            (λ x h. push_old lives k (Some small) x (set_other kept.lives n k (Some live) ne ∙ h)) refl refl (old.each k m there)) f
+      ];
       each_end = end_push tasks kept.ends (job.Live child) entry count' (entry_is ∙ ap (λ i. end_of i (job.Live child)) (sym size))
           (end_kept j.tasks kept.ends n (job.Live t) (job.Live parent) here same_end old.each_end);
       spent = sums spent_by kept.spent old.spent refl refl;
@@ -302,7 +349,7 @@ live_member : (kept : Kept) (j : Job) (n : ℕ) (live : Live) (m : Member) → s
 live_member kept j n live (job.Live t) e there is =
     let same : is.live ≡ live = cc (sym is.there ∙ e) in
     subst (λ (x : Live). IsLiveAt kept j n x) same
-        (record { task = t; there = there; checked = is.checked; program = is.program; is = is.is })
+    (record { task = t; there = there; checked = is.checked; program = is.program; is = is.is })
 live_member kept j n live (job.Ended x) e there is =
     let none : Option Live = None in
     let clash : Some none ≡ Some (Some live) = sym is.gone ∙ e in cc
@@ -347,8 +394,9 @@ pub did_either : (E : Type 0) (p : Checked) (e : Effect) (out : StepOut) (frame 
 did_either E p (Goes s) Went frame part credit silent told first second d = first d.1
 did_either E p (Ends r0 s) (Ended word) frame part credit silent told first second d = first d.2
 did_either E p (Spawns birth taken refused) Went frame part credit silent told first second d = elim d [
-      inl t ↦ second t.1.0 (Ok tt) t.1.2
-    | inr r ↦ elim r.1 [ inl back ↦ second back.0 (Err back.0) back.2 | inr quiet ↦ first quiet ] ]
+  | inl t ↦ second t.1.0 (Ok tt) t.1.2
+  | inr r ↦ elim r.1 [ inl back ↦ second back.0 (Err back.0) back.2 | inr quiet ↦ first quiet ]
+]
 did_either E p (Goes s) (Ended word) frame part credit silent told first second d = absurd d
 did_either E p (Ends r0 s) Went frame part credit silent told first second d = absurd d
 did_either E p (Spawns birth taken refused) (Ended word) frame part credit silent told first second d = absurd d
@@ -359,8 +407,7 @@ module _ (kept : Kept) (j : Job) (n : ℕ) (live : Live) (behind : IsBehind kept
     (lives : List (Option Live)) (ends : List TaskEnd) (silent : Type 0) (told : SpawnRecord → Result (Unit {0}) SpawnRecord → Type 0)
     (quiet : silent → (lives ≡ set kept.lives n None) × (ends ≡ kept.ends))
     (heard : (child : SpawnRecord) (reply : Result (Unit {0}) SpawnRecord) → told child reply →
-        Adds (set kept.lives n None) kept.ends child reply lives ends) where
-
+    Adds (set kept.lives n None) kept.ends child reply lives ends) where
   -- the part lies in the buffer, where it is as long as the range
   pub part_fits : length part.bytes ≤ at.task.size → part.base + length part.bytes ≤ length kept.collected
   part_fits le =
@@ -381,28 +428,30 @@ module _ (kept : Kept) (j : Job) (n : ℕ) (live : Live) (behind : IsBehind kept
       AreKept (going kept (set lives n (Some after)) ends) (goes_on j n at.task s)
   goes s size stands covered same =
       kept_same kept (set kept.lives n (Some after)) (set lives n (Some after)) kept.ends ends (goes_on j n at.task s)
-          (ap (λ ls. set ls n (Some after)) same.0 ∙ set_twice kept.lives n None (Some after)) same.1
-          (goes_kept kept j n at.task s at.checked after behind.kept_are behind.tiles at.there size at.program at.is.program
-              (at.is.base ∙ sym base) stands.0 stands.1 covered)
+      (ap (λ ls. set ls n (Some after)) same.0 ∙ set_twice kept.lives n None (Some after)) same.1
+      (goes_kept kept j n at.task s at.checked after behind.kept_are behind.tiles at.there size at.program at.is.program
+      (at.is.base ∙ sym base) stands.0 stands.1 covered)
 
   tasks_within : n < length j.tasks
   tasks_within = slice_get_within j.tasks n (job.Live at.task) at.there
 
   spawned : (birth : Birth) (taken : State) (child : SpawnRecord) → taken.part ++ birth.bytes ≡ take at.task.size (drop at.task.base j.buffer) →
       ((entry : Entry) × (entries_of (map program_of kept.programs) birth.program ≡ Some entry) × (entry.cost ≤ birth.share)
-          × (entry.need ≤ length birth.bytes) × (birth.share ≤ at.task.held)) →
+      × (entry.need ≤ length birth.bytes) × (birth.share ≤ at.task.held)) →
       Stands at.checked frame part credit taken → IsCovered at.checked frame part credit →
       IsRecordOf child birth (part.base + length taken.part) →
       (child.arg < 2 ^ 64) × (lives ≡ set kept.lives n None ++ Some (live_of child) ∷ [])
-          × (ends ≡ kept.ends ++ entered (length (set kept.lives n None)) child ∷ []) →
+      × (ends ≡ kept.ends ++ entered (length (set kept.lives n None)) child ∷ []) →
       AreKept (going kept (set lives n (Some after)) ends)
-          (record { buffer = j.buffer;
-              tasks = set j.tasks n (job.Live (record (with_state at.task taken) { children = suc at.task.children })) ++ job.Live (child_of at.task taken birth) ∷ [] })
+      (record {
+        buffer = j.buffer;
+        tasks = set j.tasks n (job.Live (record (with_state at.task taken) { children = suc at.task.children })) ++ job.Live (child_of at.task taken birth) ∷ [];
+      })
   spawned birth taken child splits births stands covered is adds =
       let t : Task = at.task in
       let parent : Task = record (with_state t taken) { children = suc t.children } in
       let long : length taken.part + length birth.bytes ≡ t.size =
-          sym (length-append taken.part birth.bytes) ∙ ap length splits ∙ part_long j.buffer t (behind.tiles.inside n (job.Live t) at.there) in
+      sym (length-append taken.part birth.bytes) ∙ ap length splits ∙ part_long j.buffer t (behind.tiles.inside n (job.Live t) at.there) in
       let q = entry_program kept.programs birth.program births.0 births.1 in
       let program : slice_get kept.programs child.program ≡ Some q.0 = ap (slice_get kept.programs) is.program ∙ q.1 in
       let cost : births.0.cost ≡ cost_at q.0 0 = ap (λ (x : Entry). x.cost) q.2 in
@@ -412,51 +461,70 @@ module _ (kept : Kept) (j : Job) (n : ℕ) (live : Live) (behind : IsBehind kept
       let limit : birth.share ≤ 2147483647 = omega (arith, births.4, held, at.is.covered.limit) in
       let b : part.base + length taken.part ≡ t.base + length taken.part = omega (arith, base, at.is.base) in
       let child_is = child_kept kept j t taken birth child (part.base + length taken.part) q.0 is b splits long
-          (behind.entries.verified birth.program q.0 q.1) (omega (arith, need, births.3)) small (omega (arith, cost, births.2)) limit adds.0 in
+      (behind.entries.verified birth.program q.0 q.1) (omega (arith, need, births.3)) small (omega (arith, cost, births.2)) limit adds.0 in
       let parent_is : IsTaskOf at.checked j.buffer after parent = record {
-          program = at.is.program;
-          state = ap (λ bytes. let u : State = record { slot = taken.slot; registers = taken.registers; stack = taken.stack; part = bytes; held = taken.held; used = taken.used } in u)
-              (first_part j.buffer t.base t.size taken.part birth.bytes splits long) ∙ stands.0;
-          base = at.is.base ∙ sym base;
-          size = ap (λ (u : State). length u.part) stands.0;
-          behind = stands.1; covered = covered } in
+        program = at.is.program;
+        state = ap (λ bytes. let u : State = record { slot = taken.slot; registers = taken.registers; stack = taken.stack; part = bytes; held = taken.held; used = taken.used } in u)
+            (first_part j.buffer t.base t.size taken.part birth.bytes splits long) ∙ stands.0;
+        base = at.is.base ∙ sym base;
+        size = ap (λ (u : State). length u.part) stands.0;
+        behind = stands.1;
+        covered = covered;
+      } in
       let is_lives : set lives n (Some after) ≡ set kept.lives n (Some after) ++ Some (live_of child) ∷ [] =
-          ap (λ ls. set ls n (Some after)) adds.1
-          ∙ set-append_left (set kept.lives n None) (Some (live_of child) ∷ []) n (Some after) (omega (arith, within, length-set kept.lives n None))
-          ∙ ap (λ ls. ls ++ Some (live_of child) ∷ []) (set_twice kept.lives n None (Some after)) in
+      ap (λ ls. set ls n (Some after)) adds.1
+      ∙ set-append_left (set kept.lives n None) (Some (live_of child) ∷ []) n (Some after) (omega (arith, within, length-set kept.lives n None))
+      ∙ ap (λ ls. ls ++ Some (live_of child) ∷ []) (set_twice kept.lives n None (Some after)) in
       let number : length (set kept.lives n None) ≡ length j.tasks = length-set kept.lives n None ∙ behind.kept_are.lives in
       let entry : TaskEnd = entered (length (set kept.lives n None)) child in
       let entry_is : entry ≡ end_of (length j.tasks) (job.Live (child_of t taken birth)) =
-          ap (λ i. entered i child) number
-          ∙ ap (λ i. let x : TaskEnd = record { number = length j.tasks; program = i; arg = child.arg; given = child.share; spent = 0; rest = 0; r0 = 0; ran = false } in x) is.program
-          ∙ ap (λ i. let x : TaskEnd = record { number = length j.tasks; program = birth.program; arg = i; given = child.share; spent = 0; rest = 0; r0 = 0; ran = false } in x) is.arg
-          ∙ ap (λ i. let x : TaskEnd = record { number = length j.tasks; program = birth.program; arg = birth.arg; given = i; spent = 0; rest = 0; r0 = 0; ran = false } in x) is.share in
+      ap (λ i. entered i child) number
+      ∙ ap (λ i. let x : TaskEnd = record { number = length j.tasks; program = i; arg = child.arg; given = child.share; spent = 0; rest = 0; r0 = 0; ran = false } in x) is.program
+      ∙ ap (λ i. let x : TaskEnd = record { number = length j.tasks; program = birth.program; arg = i; given = child.share; spent = 0; rest = 0; r0 = 0; ran = false } in x) is.arg
+      ∙ ap (λ i. let x : TaskEnd = record { number = length j.tasks; program = birth.program; arg = birth.arg; given = i; spent = 0; rest = 0; r0 = 0; ran = false } in x) is.share in
       kept_same kept (set kept.lives n (Some after) ++ Some (live_of child) ∷ []) (set lives n (Some after)) (kept.ends ++ entry ∷ []) ends _
-          is_lives adds.2
-          (spawns_kept kept j n t parent (child_of t taken birth) after (live_of child) at.checked q.0 entry behind.kept_are at.there refl entry_is
-              at.program parent_is program child_is)
+      is_lives adds.2
+      (spawns_kept kept j n t parent (child_of t taken birth) after (live_of child) at.checked q.0 entry behind.kept_are at.there refl entry_is
+      at.program parent_is program child_is)
 
   -- the job after the effect stands behind what is kept
   pub went : (e : Effect) → Splits (take at.task.size (drop at.task.base j.buffer)) e →
       Births (entries_of (map program_of kept.programs)) at.task.held e → IsCovered at.checked frame part credit →
       Did at.checked e Went frame part credit silent told →
       (refuses : Bool) × (k : Job) × (applied j n at.task refuses e ≡ Some k) × AreKept (going kept (set lives n (Some after)) ends) k × IsAlive k n
-  went (Goes s) splits births covered d =
-      (false, goes_on j n at.task s, refl,
-          goes s (splits ∙ part_long j.buffer at.task (behind.tiles.inside n (job.Live at.task) at.there)) d.0 covered (quiet d.1),
-          (with_state at.task s, set_same j.tasks n (job.Live (with_state at.task s)) tasks_within))
+  went (Goes s) splits births covered d = (
+    false,
+    goes_on j n at.task s,
+    refl,
+    goes s (splits ∙ part_long j.buffer at.task (behind.tiles.inside n (job.Live at.task) at.there)) d.0 covered (quiet d.1),
+    (with_state at.task s, set_same j.tasks n (job.Live (with_state at.task s)) tasks_within),
+  )
   went (Ends r0 s) splits births covered d = absurd d
   went (Spawns birth taken refused) splits births covered d =
       let size : length refused.part ≡ at.task.size =
-          ap length splits.1 ∙ part_long j.buffer at.task (behind.tiles.inside n (job.Live at.task) at.there) in
+      ap length splits.1 ∙ part_long j.buffer at.task (behind.tiles.inside n (job.Live at.task) at.there) in
       let parent : Task = record (with_state at.task taken) { children = suc at.task.children } in
       elim d [
-        inl t ↦ (false, _, refl, spawned birth taken t.1.0 splits.0 births t.0 covered t.1.1 (heard t.1.0 (Ok tt) t.1.2),
-            (parent, push_old (set j.tasks n (job.Live parent)) n (job.Live (child_of at.task taken birth)) (job.Live parent)
-                (set_same j.tasks n (job.Live parent) tasks_within)))
-      | inr r ↦ (true, goes_on j n at.task refused, refl, goes refused size r.0 covered
-            (elim r.1 [ inl back ↦ heard back.0 (Err back.0) back.2 | inr silence ↦ quiet silence ]),
-            (with_state at.task refused, set_same j.tasks n (job.Live (with_state at.task refused)) tasks_within)) ]
+        | inl t ↦ (
+          false,
+          _,
+          refl,
+          spawned birth taken t.1.0 splits.0 births t.0 covered t.1.1 (heard t.1.0 (Ok tt) t.1.2),
+          (
+            parent,
+            push_old (set j.tasks n (job.Live parent)) n (job.Live (child_of at.task taken birth)) (job.Live parent)
+                (set_same j.tasks n (job.Live parent) tasks_within),
+          ),
+        )
+        | inr r ↦ (
+          true,
+          goes_on j n at.task refused,
+          refl,
+          goes refused size r.0 covered
+              (elim r.1 [ inl back ↦ heard back.0 (Err back.0) back.2 | inr silence ↦ quiet silence ]),
+          (with_state at.task refused, set_same j.tasks n (job.Live (with_state at.task refused)) tasks_within),
+        )
+      ]
   went (Traps trap) splits births covered d = absurd d
 
   -- what is kept where the task has ended with this R0
@@ -468,8 +536,8 @@ module _ (kept : Kept) (j : Job) (n : ℕ) (live : Live) (behind : IsBehind kept
   pub ended : (e : Effect) (word : ℕ) → Splits (take at.task.size (drop at.task.base j.buffer)) e → Keeps at.task.held e →
       Did at.checked e (Ended word) frame part credit silent told →
       (k : Job) × (applied j n at.task false e ≡ Some k) × AreKept (ended_kept word) k
-          × (credit.used ≤ credit.held) × ((x : job.Ending) × (slice_get k.tasks n ≡ Some (job.Ended x)) × (x.r0 ≡ word))
-          × (length part.bytes ≤ at.task.size) × (ends ≡ kept.ends)
+      × (credit.used ≤ credit.held) × ((x : job.Ending) × (slice_get k.tasks n ≡ Some (job.Ended x)) × (x.r0 ≡ word))
+      × (length part.bytes ≤ at.task.size) × (ends ≡ kept.ends)
   ended (Goes s) word splits keeps d = absurd d
   ended (Spawns birth taken refused) word splits keeps d = absurd d
   ended (Traps trap) word splits keeps d = absurd d
@@ -481,19 +549,23 @@ module _ (kept : Kept) (j : Job) (n : ℕ) (live : Live) (behind : IsBehind kept
       let held : s.held ≡ credit.held = ap (λ (u : State). u.held) d.1 in
       let same = quiet d.2 in
       let size : t.size ≡ length part.bytes =
-          sym (part_long j.buffer t (behind.tiles.inside n (job.Live t) at.there)) ∙ ap length (sym splits ∙ bytes) in
+      sym (part_long j.buffer t (behind.tiles.inside n (job.Live t) at.there)) ∙ ap length (sym splits ∙ bytes) in
       let are = ends_kept kept j n t s r0 part credit behind.kept_are behind.tiles behind.size at.there (at.is.base ∙ sym base) size
-          (sym splits ∙ bytes) (sym used) (sym held) in
+      (sym splits ∙ bytes) (sym used) (sym held) in
       let lives_are : set kept.lives n None ≡ lives = sym same.0 in
       let ends_are : set kept.ends n (ended_end n t credit r0) ≡ set ends n (ended_end n t credit word) =
-          ap (λ es. set es n (ended_end n t credit r0)) (sym same.1) ∙ ap (λ w. set ends n (ended_end n t credit w)) (sym d.0) in
-      (record { buffer = j.buffer; tasks = set j.tasks n (job.Ended x) }, refl,
-          subst (λ ls. AreKept (keeping kept ls (set ends n (ended_end n t credit word)) (written kept.collected part.base part.bytes)
-                  (kept.spent + credit.used) (kept.returned + (credit.held - credit.used))) (record { buffer = j.buffer; tasks = set j.tasks n (job.Ended x) })) lives_are
-          (subst (λ es. AreKept (keeping kept (set kept.lives n None) es (written kept.collected part.base part.bytes)
-                  (kept.spent + credit.used) (kept.returned + (credit.held - credit.used))) (record { buffer = j.buffer; tasks = set j.tasks n (job.Ended x) })) ends_are are),
-          omega (arith, keeps.0, used, held),
-          (x, set_same j.tasks n (job.Ended x) tasks_within, sym d.0), omega (arith, size), same.1)
+      ap (λ es. set es n (ended_end n t credit r0)) (sym same.1) ∙ ap (λ w. set ends n (ended_end n t credit w)) (sym d.0) in (
+        record { buffer = j.buffer; tasks = set j.tasks n (job.Ended x) },
+        refl,
+        subst (λ ls. AreKept (keeping kept ls (set ends n (ended_end n t credit word)) (written kept.collected part.base part.bytes)
+            (kept.spent + credit.used) (kept.returned + (credit.held - credit.used))) (record { buffer = j.buffer; tasks = set j.tasks n (job.Ended x) })) lives_are
+            (subst (λ es. AreKept (keeping kept (set kept.lives n None) es (written kept.collected part.base part.bytes)
+            (kept.spent + credit.used) (kept.returned + (credit.held - credit.used))) (record { buffer = j.buffer; tasks = set j.tasks n (job.Ended x) })) ends_are are),
+        omega (arith, keeps.0, used, held),
+        (x, set_same j.tasks n (job.Ended x) tasks_within, sym d.0),
+        omega (arith, size),
+        same.1,
+      )
 
   -- the effect on the task makes the job's step
   stepped_job : (refuses : Bool) (k : Job) →
@@ -502,8 +574,8 @@ module _ (kept : Kept) (j : Job) (n : ℕ) (live : Live) (behind : IsBehind kept
   stepped_job refuses k is =
       ap (member_step (map program_of kept.programs) j n refuses) at.there
       ∙ ap (task_step (map program_of kept.programs) j n at.task refuses)
-          (slice_get-map program_of kept.programs at.task.program
-           ∙ ap (λ number. option_map program_of (slice_get kept.programs number)) at.is.program ∙ ap (option_map program_of) at.program)
+      (slice_get-map program_of kept.programs at.task.program
+      ∙ ap (λ number. option_map program_of (slice_get kept.programs number)) at.is.program ∙ ap (option_map program_of) at.program)
       ∙ is
 
   kept_behind : (refuses : Bool) (k : Job) (new : Kept) → step (map program_of kept.programs) j n refuses ≡ Some k →
@@ -518,22 +590,23 @@ module _ (kept : Kept) (j : Job) (n : ℕ) (live : Live) (behind : IsBehind kept
         tiles = subst (λ (count : ℕ). AreTiles k.tasks count) (sym tiles.1) tiles.0;
         size = size ∙ behind.size ∙ sym tiles.1;
         credit = credit ∙ behind.credit ∙ sym issued;
-        limit = omega (arith, behind.limit, issued) }
+        limit = omega (arith, behind.limit, issued);
+      }
 
   -- what the frame's step did is the effect on the task in the job
   did_here : (p : Checked) (known : ℕ → Option Entry) (out : StepOut) → p ≡ at.checked → ((i : ℕ) → known i ≡ slice_get kept.entries i) →
       ((registers : Registers) → AreBehind p live.frame registers →
-          Did p (effect (program_of p) known (state_of live.frame live.part live.credit registers)) out frame part credit silent told) →
+      Did p (effect (program_of p) known (state_of live.frame live.part live.credit registers)) out frame part credit silent told) →
       Did at.checked (effect (program_of at.checked) (entries_of (map program_of kept.programs)) (state_in j.buffer at.task)) out frame part credit silent told
   did_here p known out same entries did =
       let registers : Registers = at.task.registers in
       let first = did registers (subst (λ (q : Checked). AreBehind q live.frame registers) (sym same) at.is.behind) in
       let second = subst (λ (q : Checked). Did q (effect (program_of q) known (state_of live.frame live.part live.credit registers)) out frame part credit silent told) same first in
       subst (λ (e : Effect). Did at.checked e out frame part credit silent told)
-          (effect_same (program_of at.checked) known (entries_of (map program_of kept.programs))
-              (λ i. entries i ∙ entries_same kept.programs kept.entries behind.entries i) (state_of live.frame live.part live.credit registers)
-           ∙ ap (effect (program_of at.checked) (entries_of (map program_of kept.programs))) (sym at.is.state))
-          second
+      (effect_same (program_of at.checked) known (entries_of (map program_of kept.programs))
+      (λ i. entries i ∙ entries_same kept.programs kept.entries behind.entries i) (state_of live.frame live.part live.credit registers)
+      ∙ ap (effect (program_of at.checked) (entries_of (map program_of kept.programs))) (sym at.is.state))
+      second
 
   -- what is kept after the step, with other entries
   abbrev with_entries : Kept → List Entry → Kept
@@ -543,34 +616,47 @@ module _ (kept : Kept) (j : Job) (n : ℕ) (live : Live) (behind : IsBehind kept
   pub steps_went : (p : Checked) (known : ℕ → Option Entry) (new : List Entry) → p ≡ at.checked → ((i : ℕ) → known i ≡ slice_get kept.entries i) →
       new ≡ kept.entries → IsCovered p frame part credit →
       ((registers : Registers) → AreBehind p live.frame registers →
-          Did p (effect (program_of p) known (state_of live.frame live.part live.credit registers)) Went frame part credit silent told) →
+      Did p (effect (program_of p) known (state_of live.frame live.part live.credit registers)) Went frame part credit silent told) →
       Steps kept j n stepped.Went (with_entries (going kept (set lives n (Some after)) ends) new)
   steps_went p known new same entries still covered did =
       let e : Effect = effect (program_of at.checked) (entries_of (map program_of kept.programs)) (state_in j.buffer at.task) in
       let w = went e (splits_effect (program_of at.checked) (entries_of (map program_of kept.programs)) (state_in j.buffer at.task))
-          (births_effect (program_of at.checked) (entries_of (map program_of kept.programs)) (state_in j.buffer at.task))
-          (subst (λ (q : Checked). IsCovered q frame part credit) same covered) (did_here p known Went same entries did) in
+      (births_effect (program_of at.checked) (entries_of (map program_of kept.programs)) (state_in j.buffer at.task))
+      (subst (λ (q : Checked). IsCovered q frame part credit) same covered) (did_here p known Went same entries did) in
       let is = stepped_job w.0 w.1 w.2 in
-      let next : Kept = going kept (set lives n (Some after)) ends in
-      (w.0, w.1, is, kept_behind w.0 w.1 _ is refl still refl refl (subst (λ es. AreKept (with_entries next es) w.1) (sym still) w.3),
-          ((at.task, at.there), w.4))
+      let next : Kept = going kept (set lives n (Some after)) ends in (
+        w.0,
+        w.1,
+        is,
+        kept_behind w.0 w.1 _ is refl still refl refl (subst (λ es. AreKept (with_entries next es) w.1) (sym still) w.3),
+        ((at.task, at.there), w.4),
+      )
 
   pub steps_ended : (p : Checked) (known : ℕ → Option Entry) (new : List Entry) (word : ℕ) → p ≡ at.checked → ((i : ℕ) → known i ≡ slice_get kept.entries i) →
       new ≡ kept.entries →
       ((registers : Registers) → AreBehind p live.frame registers →
-          Did p (effect (program_of p) known (state_of live.frame live.part live.credit registers)) (Ended word) frame part credit silent told) →
+      Did p (effect (program_of p) known (state_of live.frame live.part live.credit registers)) (Ended word) frame part credit silent told) →
       (credit.used ≤ credit.held) × Steps kept j n (stepped.Ended word) (with_entries (ended_kept word) new)
-          × (part.base + length part.bytes ≤ length kept.collected) × (ends ≡ kept.ends)
+      × (part.base + length part.bytes ≤ length kept.collected) × (ends ≡ kept.ends)
   steps_ended p known new word same entries still did =
       let e : Effect = effect (program_of at.checked) (entries_of (map program_of kept.programs)) (state_in j.buffer at.task) in
       let w = ended e word (splits_effect (program_of at.checked) (entries_of (map program_of kept.programs)) (state_in j.buffer at.task))
-          (keeps_effect (program_of at.checked) (entries_of (map program_of kept.programs)) (state_in j.buffer at.task))
-          (did_here p known (Ended word) same entries did) in
+      (keeps_effect (program_of at.checked) (entries_of (map program_of kept.programs)) (state_in j.buffer at.task))
+      (did_here p known (Ended word) same entries did) in
       let is = stepped_job false w.0 w.1 in
-      let fits : part.base + length part.bytes ≤ length kept.collected = part_fits w.5 in
-      (w.3, (false, w.0, is, kept_behind false w.0 _ is refl still (length-written kept.collected part.base part.bytes fits) refl
-          (subst (λ es. AreKept (with_entries (ended_kept word) es) w.0) (sym still) w.2),
-          ((at.task, at.there), w.4)), fits, w.6)
+      let fits : part.base + length part.bytes ≤ length kept.collected = part_fits w.5 in (
+        w.3,
+        (
+          false,
+          w.0,
+          is,
+          kept_behind false w.0 _ is refl still (length-written kept.collected part.base part.bytes fits) refl
+              (subst (λ es. AreKept (with_entries (ended_kept word) es) w.0) (sym still) w.2),
+          ((at.task, at.there), w.4),
+        ),
+        fits,
+        w.6,
+      )
 
 skipped_member : (kept : Kept) (j : Job) (n : ℕ) (m : Option Member) → slice_get kept.lives n ≡ Some None → slice_get j.tasks n ≡ m →
     ((k : Member) → slice_get j.tasks n ≡ Some k → IsMemberOf kept j.buffer n k) →
@@ -582,9 +668,13 @@ skipped_member kept j n None e there each = refl
 
 -- a number whose task has ended is skipped
 pub skipped : (kept : Kept) (j : Job) (n : ℕ) → IsBehind kept j → slice_get kept.lives n ≡ Some None → Steps kept j n stepped.Skipped kept
-skipped kept j n behind e =
-    (false, j, skipped_member kept j n (slice_get j.tasks n) e refl (behind.kept_are.each n), behind,
-        (λ alive. let is = behind.kept_are.each n (job.Live alive.0) alive.1 in let clash : Some None ≡ Some (Some is.live) = sym e ∙ is.there in cc, refl))
+skipped kept j n behind e = (
+  false,
+  j,
+  skipped_member kept j n (slice_get j.tasks n) e refl (behind.kept_are.each n),
+  behind,
+  (λ alive. let is = behind.kept_are.each n (job.Live alive.0) alive.1 in let clash : Some None ≡ Some (Some is.live) = sym e ∙ is.there in cc, refl),
+)
 
 unknown_member : (programs : List Program) (j : Job) (n : ℕ) (m : Option Member) → slice_get j.tasks n ≡ m → length j.tasks ≤ n →
     member_step programs j n false m ≡ Some j
@@ -593,6 +683,10 @@ unknown_member programs j n (Some m) e le = let lt = slice_get_within j.tasks n 
 
 -- so is a number that no task has
 pub unknown : (kept : Kept) (j : Job) (n : ℕ) → IsBehind kept j → length kept.lives ≤ n → Steps kept j n stepped.Skipped kept
-unknown kept j n behind le =
-    (false, j, unknown_member (map program_of kept.programs) j n (slice_get j.tasks n) refl (omega (arith, le, behind.kept_are.lives)), behind,
-        (λ alive. let lt = slice_get_within j.tasks n (job.Live alive.0) alive.1 in absurd (omega (arith, lt, le, behind.kept_are.lives)), refl))
+unknown kept j n behind le = (
+  false,
+  j,
+  unknown_member (map program_of kept.programs) j n (slice_get j.tasks n) refl (omega (arith, le, behind.kept_are.lives)),
+  behind,
+  (λ alive. let lt = slice_get_within j.tasks n (job.Live alive.0) alive.1 in absurd (omega (arith, lt, le, behind.kept_are.lives)), refl),
+)

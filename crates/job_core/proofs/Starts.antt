@@ -1,19 +1,19 @@
 -- The job at its start stands behind what is kept of it.
-use Rattle.std.proofs.Common.{◌≡◌, ◌≢◌, ℕ, zero, suc, ◌<◌, ◌≤◌, ◌+◌, ◌⊎◌, inl, inr, List, [], ◌∷◌, ◌++◌, map, get_or, length, take, drop, replicate, slice_get, refl, sym, ◌∙◌, arith, ap, subst, Option, Some, None}
+use Rattle.std.proofs.Common.{◌≡◌, ℕ, zero, suc, ◌<◌, ◌≤◌, ◌+◌, inl, inr, List, [], ◌∷◌, ◌++◌, map, get_or, length, take, replicate, slice_get, refl, sym, ◌∙◌, arith, ap, subst, Option, Some, None, false}
 use Rattle.std.proofs.lemmas.List.{take_more, length-map}
 use Rattle.std.proofs.Math.Seq.{take-length}
 use Rattle.machine_model.specs.declared.program.Entry.{Entry}
 use Rattle.machine_model.specs.Machine.{State}
 use Rattle.interpreter.specs.declared.frame.Frame.{Frame}
-use Rattle.job_core.specs.declared.live.Ending.{Ending}
+use Rattle.job_core.specs.declared.report.TaskEnd.{TaskEnd}
 use Rattle.machine_model.specs.Job as job
 use Rattle.machine_model.specs.Job.{Job, Task, Member, start, AreTiles, Owner, IsApart, base_of, size_of, entry_registers, state_in, entry_of}
 use Rattle.machine_model.proofs.Places.{pushed}
 use Rattle.helpers.specs.Piece.{Piece}
 use Rattle.verifier.specs.Checked.{Checked, program_of, IsVerified, cost_at}
-use Rattle.interpreter.specs.Behind.{entry_frame, state_of, AreBehind}
+use Rattle.interpreter.specs.Behind.{entry_frame, AreBehind}
 use Rattle.job_core.specs.declared.live.Live.{Live}
-use Rattle.job_core.specs.Behind.{Kept, IsTaskOf, IsLive, IsMemberOf, AreKept, AreEntries, IsBehind}
+use Rattle.job_core.specs.Behind.{Kept, end_of, IsTaskOf, IsLive, IsMemberOf, AreEntries, IsBehind}
 use Rattle.job_core.specs.Admitted.{Order, IsAdmitted}
 use Rattle.job_core.proofs.Enters.{behind_entry, covered_entry}
 
@@ -22,11 +22,35 @@ root_live credit part = record { program = 0; frame = entry_frame (length part.b
 
 abbrev root_task : ℕ → List ℕ → Task
 root_task credit buffer = record {
-    program = 0; place = []; children = 0; slot = 0; registers = entry_registers (length buffer) 0; stack = replicate 512 0;
-    base = 0; size = length buffer; held = credit; used = 0 }
+  program = 0;
+  arg = 0;
+  given = credit;
+  place = [];
+  children = 0;
+  slot = 0;
+  registers = entry_registers (length buffer) 0;
+  stack = replicate 512 0;
+  base = 0;
+  size = length buffer;
+  held = credit;
+  used = 0;
+}
 
-abbrev start_kept : Order → List Entry → Piece → Kept
-start_kept order entries part = record { programs = order.programs; entries = entries; lives = Some (root_live order.credit part) ∷ []; endings = None ∷ []; size = length order.buffer; issued = order.credit }
+-- what the report says of the root as long as it is alive
+abbrev root_end : ℕ → TaskEnd
+root_end credit = record { number = 0; program = 0; arg = 0; given = credit; spent = 0; rest = 0; r0 = 0; ran = false }
+
+abbrev start_kept : Order → List Entry → Piece → List ℕ → Kept
+start_kept order entries part zeros = record {
+  programs = order.programs;
+  entries = entries;
+  lives = Some (root_live order.credit part) ∷ [];
+  ends = root_end order.credit ∷ [];
+  collected = zeros;
+  spent = 0;
+  returned = 0;
+  issued = order.credit;
+}
 
 -- a list of one element has it alone
 alone : {X : Type 0} (x y : X) (n : ℕ) → slice_get (x ∷ []) n ≡ Some y → (n ≡ 0) × (x ≡ y)
@@ -35,41 +59,53 @@ alone {X = X} x y (suc n) e = let none : Option X = None in let clash : none ≡
 
 start_tiles : (m : Member) (count : ℕ) → base_of m ≡ 0 → size_of m ≡ count → AreTiles (m ∷ []) count
 start_tiles m count base size = record {
-    apart = λ n k a b ne e f. absurd (ne ((alone m a n e).0 ∙ sym (alone m b k f).0));
-    inside = λ n a e. subst (λ (x : Member). base_of x + size_of x ≤ count) (alone m a n e).1 (omega (arith, base, size));
-    owned = λ at lt. record { number = 0; member = m; there = refl; low = omega (arith, base); high = omega (arith, base, size, lt) } }
+  apart = λ n k a b ne e f. absurd (ne ((alone m a n e).0 ∙ sym (alone m b k f).0));
+  inside = λ n a e. subst (λ (x : Member). base_of x + size_of x ≤ count) (alone m a n e).1 (omega (arith, base, size));
+  owned = λ at lt. record { number = 0; member = m; there = refl; low = omega (arith, base); high = omega (arith, base, size, lt) };
+}
 
 module _ (order : Order) (entries : List Entry) (part : Piece) (is : IsAdmitted order) (are : AreEntries order.programs entries)
-    (bytes : part.bytes ≡ order.buffer) (base : part.base ≡ 0) where
-
+    (bytes : part.bytes ≡ order.buffer) (base : part.base ≡ 0) (zeros : List ℕ) (long : length zeros ≡ length order.buffer) where
   root_is : IsTaskOf is.root order.buffer (root_live order.credit part) (root_task order.credit order.buffer)
   root_is =
       let v = are.verified 0 is.root is.is_root in
-      let long : length part.bytes ≡ length order.buffer = ap length bytes in
+      let size : length part.bytes ≡ length order.buffer = ap length bytes in
       record {
         program = refl;
         state =
-          ap (λ piece. let s : State = record { slot = 0; registers = entry_registers (length order.buffer) 0; stack = replicate 512 0; part = piece; held = order.credit; used = 0 } in s)
+            ap (λ piece. let s : State = record { slot = 0; registers = entry_registers (length order.buffer) 0; stack = replicate 512 0; part = piece; held = order.credit; used = 0 } in s)
             (take-length order.buffer ∙ sym bytes);
-        base = sym base; size = sym long;
+        base = sym base;
+        size = sym size;
         behind = subst (λ (bs : List ℕ). AreBehind is.root (entry_frame (length part.bytes) 0) (entry_registers (length bs) 0)) bytes
-            (behind_entry is.root (length part.bytes) 0 v (omega (arith, is.need, long)) (omega (arith, is.small, long)) (omega arith));
-        covered = covered_entry is.root part order.credit 0 v (omega (arith, is.need, long)) (omega (arith, is.small, long)) is.cost is.limit (omega arith) }
+            (behind_entry is.root (length part.bytes) 0 v (omega (arith, is.need, size)) (omega (arith, is.small, size)) (omega arith));
+        covered = covered_entry is.root part order.credit 0 v (omega (arith, is.need, size)) (omega (arith, is.small, size)) is.cost is.limit (omega arith);
+      }
 
-  start_each : (n : ℕ) (m : Member) → slice_get (start order.credit order.buffer).tasks n ≡ Some m → IsMemberOf (start_kept order entries part) order.buffer n m
+  start_each : (n : ℕ) (m : Member) → slice_get (start order.credit order.buffer).tasks n ≡ Some m → IsMemberOf (start_kept order entries part zeros) order.buffer n m
   start_each n m e =
       let at = alone (job.Live (root_task order.credit order.buffer)) m n e in
-      let here : IsLive (start_kept order entries part) order.buffer 0 (root_task order.credit order.buffer) =
-          record { live = root_live order.credit part; there = refl; unended = refl; checked = is.root; program = is.is_root; is = root_is } in
-      subst (λ (k : ℕ). IsMemberOf (start_kept order entries part) order.buffer k m) (sym at.0)
-          (subst (λ (x : Member). IsMemberOf (start_kept order entries part) order.buffer 0 x) at.1 here)
+      let here : IsLive (start_kept order entries part zeros) order.buffer 0 (root_task order.credit order.buffer) =
+      record { live = root_live order.credit part; there = refl; checked = is.root; program = is.is_root; is = root_is } in
+      subst (λ (k : ℕ). IsMemberOf (start_kept order entries part zeros) order.buffer k m) (sym at.0)
+      (subst (λ (x : Member). IsMemberOf (start_kept order entries part zeros) order.buffer 0 x) at.1 here)
 
-  pub start_behind : IsBehind (start_kept order entries part) (start order.credit order.buffer)
+  start_end : (n : ℕ) (m : Member) → slice_get (start order.credit order.buffer).tasks n ≡ Some m →
+      slice_get (root_end order.credit ∷ []) n ≡ Some (end_of n m)
+  start_end n m e =
+      let at = alone (job.Live (root_task order.credit order.buffer)) m n e in
+      subst (λ (k : ℕ). slice_get (root_end order.credit ∷ []) k ≡ Some (end_of k m)) (sym at.0)
+      (subst (λ (x : Member). Some (root_end order.credit) ≡ Some (end_of 0 x)) at.1 refl)
+
+  pub start_behind : IsBehind (start_kept order entries part zeros) (start order.credit order.buffer)
   start_behind = record {
-      entries = are;
-      kept_are = record { lives = refl; endings = refl; each = start_each };
-      tiles = start_tiles (job.Live (root_task order.credit order.buffer)) (length order.buffer) refl refl;
-      size = refl; credit = omega arith; limit = is.limit }
+    entries = are;
+    kept_are = record { lives = refl; ends = refl; each = start_each; each_end = start_end; spent = refl; returned = refl };
+    tiles = start_tiles (job.Live (root_task order.credit order.buffer)) (length order.buffer) refl refl;
+    size = long;
+    credit = omega arith;
+    limit = is.limit;
+  }
 
 map-push : {X Y : Type 0} (f : X → Y) (xs : List X) (x : X) → map f (xs ++ x ∷ []) ≡ map f xs ++ f x ∷ []
 map-push f [] x = refl
@@ -86,13 +122,15 @@ pub entries_more : (programs : List Checked) (i : ℕ) (entries : List Entry) (p
     AreEntries (take (i + 1) programs) (entries ++ entry ∷ [])
 entries_more programs i entries p entry lt at verified is old =
     let more : take (i + 1) programs ≡ take i programs ++ p ∷ [] =
-        take_more programs i p lt ∙ ap (λ (q : Checked). take i programs ++ q ∷ []) (sym at) in
+    take_more programs i p lt ∙ ap (λ (q : Checked). take i programs ++ q ∷ []) (sym at) in
     subst (λ ps. AreEntries ps (entries ++ entry ∷ [])) (sym more) (record {
       are = ap (λ es. es ++ entry ∷ []) old.are ∙ ap (λ (x : Entry). map (λ (q : Checked). entry_of (program_of q)) (take i programs) ++ x ∷ []) is
           ∙ sym (map-push (λ (q : Checked). entry_of (program_of q)) (take i programs) p);
       verified = λ n q e. elim (pushed (take i programs) n p q e) [
-          inl before ↦ old.verified n q before
-        | inr last ↦ subst (λ (x : Checked). IsVerified x) (sym last.1) verified ] })
+        | inl before ↦ old.verified n q before
+        | inr last ↦ subst (λ (x : Checked). IsVerified x) (sym last.1) verified
+      ];
+    })
 
 pub entries_all : (programs : List Checked) (i : ℕ) (entries : List Entry) → i ≡ length programs → AreEntries (take i programs) entries → AreEntries programs entries
 entries_all programs i entries e are =
@@ -119,21 +157,19 @@ pub entries_long : (programs : List Checked) (entries : List Entry) → AreEntri
 entries_long programs entries are = ap length are.are ∙ length-map programs (λ (p : Checked). entry_of (program_of p))
 
 -- what a world keeps once it is opened
-pub opened : (order : Order) (entries : List Entry) (frame : Frame) (part : Piece) (size : ℕ) (none lives : List (Option Live)) (none' endings : List (Option Ending)) →
-    IsAdmitted order → AreEntries order.programs entries → part.bytes ≡ order.buffer → part.base ≡ 0 → frame ≡ entry_frame size 0 →
+pub opened : (order : Order) (entries : List Entry) (frame : Frame) (part : Piece) (size : ℕ) (none lives : List (Option Live)) (none' ends : List TaskEnd)
+    (zeros : List ℕ) → IsAdmitted order → AreEntries order.programs entries → part.bytes ≡ order.buffer → part.base ≡ 0 → frame ≡ entry_frame size 0 →
     size ≡ length order.buffer → none ≡ [] →
     lives ≡ none ++ Some (record { program = 0; frame = frame; part = part; credit = record { held = order.credit; used = 0 } }) ∷ [] →
-    none' ≡ [] → endings ≡ none' ++ None ∷ [] →
-    IsBehind (record { programs = order.programs; entries = entries; lives = lives; endings = endings; size = size; issued = order.credit })
-        (start order.credit order.buffer)
-opened order entries frame part size none lives none' endings is are bytes base entered long e f e' f' =
-    let first = start_behind order entries part is are bytes base in
+    none' ≡ [] → ends ≡ none' ++ root_end order.credit ∷ [] → length zeros ≡ size →
+    IsBehind (record { programs = order.programs; entries = entries; lives = lives; ends = ends; collected = zeros; spent = 0; returned = 0; issued = order.credit })
+    (start order.credit order.buffer)
+opened order entries frame part size none lives none' ends zeros is are bytes base entered long e f e' f' count =
+    let first = start_behind order entries part is are bytes base zeros (count ∙ long) in
     let frame_is : entry_frame (length part.bytes) 0 ≡ frame = ap (λ n. entry_frame n 0) (ap length bytes ∙ sym long) ∙ sym entered in
     let lives_are : Some (root_live order.credit part) ∷ [] ≡ lives =
-        ap (λ (g : Frame). let root : Live = record { program = 0; frame = g; part = part; credit = record { held = order.credit; used = 0 } } in Some root ∷ []) frame_is
-        ∙ ap (λ ls. ls ++ Some (record { program = 0; frame = frame; part = part; credit = record { held = order.credit; used = 0 } }) ∷ []) (sym e) ∙ sym f in
-    let none_are : List (Option Ending) = None ∷ [] in
-    let endings_are : none_are ≡ endings = ap (λ es. es ++ None ∷ []) (sym e') ∙ sym f' in
-    subst (λ (n : ℕ). IsBehind (record { programs = order.programs; entries = entries; lives = lives; endings = endings; size = n; issued = order.credit }) (start order.credit order.buffer)) (sym long)
-    (subst (λ es. IsBehind (record { programs = order.programs; entries = entries; lives = lives; endings = es; size = length order.buffer; issued = order.credit }) (start order.credit order.buffer)) endings_are
-    (subst (λ ls. IsBehind (record { programs = order.programs; entries = entries; lives = ls; endings = None ∷ []; size = length order.buffer; issued = order.credit }) (start order.credit order.buffer)) lives_are first))
+    ap (λ (g : Frame). let root : Live = record { program = 0; frame = g; part = part; credit = record { held = order.credit; used = 0 } } in Some root ∷ []) frame_is
+    ∙ ap (λ ls. ls ++ Some (record { program = 0; frame = frame; part = part; credit = record { held = order.credit; used = 0 } }) ∷ []) (sym e) ∙ sym f in
+    let ends_are : root_end order.credit ∷ [] ≡ ends = ap (λ es. es ++ root_end order.credit ∷ []) (sym e') ∙ sym f' in
+    subst (λ es. IsBehind (record { programs = order.programs; entries = entries; lives = lives; ends = es; collected = zeros; spent = 0; returned = 0; issued = order.credit }) (start order.credit order.buffer)) ends_are
+    (subst (λ ls. IsBehind (record { programs = order.programs; entries = entries; lives = ls; ends = root_end order.credit ∷ []; collected = zeros; spent = 0; returned = 0; issued = order.credit }) (start order.credit order.buffer)) lives_are first)

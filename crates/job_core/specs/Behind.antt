@@ -26,9 +26,25 @@ pub record Kept : Type 0 where
 -- what the report says of a member
 abbrev pub end_of : ℕ → Member → TaskEnd
 end_of n (job.Live t) = record {
-  number = n; program = t.program; arg = t.arg; given = t.given; spent = 0; rest = 0; r0 = 0; ran = false }
+  number = n;
+  program = t.program;
+  arg = t.arg;
+  given = t.given;
+  spent = 0;
+  rest = 0;
+  r0 = 0;
+  ran = false;
+}
 end_of n (job.Ended e) = record {
-  number = n; program = e.program; arg = e.arg; given = e.given; spent = e.spent; rest = e.rest; r0 = e.r0; ran = true }
+  number = n;
+  program = e.program;
+  arg = e.arg;
+  given = e.given;
+  spent = e.spent;
+  rest = e.rest;
+  r0 = e.r0;
+  ran = true;
+}
 
 -- the task stands behind what is kept of it, and its program covers it
 pub record IsTaskOf (p : Checked) (buffer : List ℕ) (live : Live) (t : Task) : Type 0 where

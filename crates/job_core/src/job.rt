@@ -35,7 +35,11 @@ pub enum AdmitFault {
 
 impl Job {
     /// A job of programs that were verified.
-    pub fn of_verified(programs: Vec<Verified>, credit: u32, buffer: Vec<u8>) -> Result<Job, AdmitFault>
+    pub fn of_verified(
+        programs: Vec<Verified>,
+        credit: u32,
+        buffer: Vec<u8>,
+    ) -> Result<Job, AdmitFault>
         ensures { IfOk result (λ job. job ≡ record { programs = programs.items; credit = credit; buffer = buffer.items }) }
     {
         if programs.len() > 16 {

@@ -1,6 +1,6 @@
 //! The report of a job, which grows as its tasks start and end.
 
-ghost use Rattle.std.specs.Prelude.{◌≡◌, ◌+◌, ◌-◌, ◌≤◌, ◌<◌, ◌^◌, length, slice_get, slice_set, Some};
+ghost use Rattle.std.specs.Prelude.{◌≡◌, ◌+◌, ◌-◌, ◌≤◌, ◌<◌, ◌^◌, length, slice_get, slice_set, Some, true};
 ghost use Rattle.machine_model.specs.Memory.{written};
 
 use helpers::Part;
@@ -44,7 +44,7 @@ impl Report {
         ensures buffer { self.new.buffer.items ≡ written self.old.buffer.items part.now.base part.now.bytes }
         ensures tasks { (entry : TaskEnd) → slice_get self.old.tasks.items number ≡ Some entry →
             self.new.tasks.items ≡ slice_set self.old.tasks.items number
-                (record entry { spent = credit.used; rest = credit.held - credit.used; r0 = r0; ran = true }) }
+            (record entry { spent = credit.used; rest = credit.held - credit.used; r0 = r0; ran = true }) }
     {
         let rest = credit.held - credit.used;
         self.spent += credit.used;

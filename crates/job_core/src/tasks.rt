@@ -42,7 +42,13 @@ impl Tasks {
             return Stepped::Skipped;
         };
         let code = &self.programs[live.program as usize];
-        match live.frame.step(alloc, code, &mut live.part, &mut live.credit, &mut self.ledger) {
+        match live.frame.step(
+            alloc,
+            code,
+            &mut live.part,
+            &mut live.credit,
+            &mut self.ledger,
+        ) {
             StepOut::Went => {
                 self.ledger.lives[number as usize] = Some(live);
                 Stepped::Went

@@ -2,11 +2,13 @@
 
 ghost use Rattle.std.specs.Prelude.{◌≡◌, IfOk};
 
+use crate::filling::fill;
 use crate::job::Job;
 use crate::ledger::Ledger;
 use crate::live::Live;
 use crate::report::{Report, TaskEnd};
 use crate::tasks::{Stepped, Tasks};
+use crate::totals::{Totals, used_by_live};
 use helpers::{Entry, Part};
 use interpreter::{Credit, Frame};
 use refusal::NoMemory;
@@ -32,10 +34,11 @@ impl Model for World {
 }
 
 impl World {
-    ghost use Rattle.std.specs.Prelude.{◌≡◌, ◌↔◌, IfOk, IsTrue};
+    ghost use Rattle.std.specs.Prelude.{◌≡◌, ◌↔◌, IfOk, IfErr, IfSome, IsSome, IsTrue};
     ghost use Rattle.machine_model.specs.Job as model;
     ghost use Rattle.machine_model.specs.Job.{start, IsAlive, IsComplete};
     ghost use Rattle.job_core.specs.Behind.{IsBehind, Steps};
+    ghost use Rattle.job_core.specs.Answers.{AreTotals, IsReportOf};
 
     /// The job at its start: the root alone, with all the credit and the whole buffer.
     pub fn open(alloc: Global, job: Job) -> Result<World, NoMemory>
@@ -80,10 +83,11 @@ impl World {
             r0: 0,
             ran: false,
         })?;
+        let collected = vec![in alloc; 0; size]?;
         let report = Report {
             spent: 0,
             returned: 0,
-            buffer: vec![in alloc; 0; size]?,
+            buffer: collected,
             tasks,
         };
         Ok(World {
@@ -118,7 +122,7 @@ impl World {
     }
 
     /// Whether no task is alive.
-    pub fn complete(&self) -> bool
+    fn complete(&self) -> bool
         ensures { (j : model.Job) → IsBehind self.now j → (IsTrue result ↔ IsComplete j) }
     {
         for live in &self.tasks.ledger.lives {
@@ -127,6 +131,64 @@ impl World {
             }
         }
         true
+    }
+
+    /// The credit that live tasks hold, and that ended tasks returned and spent, and what all of them have used.
+    pub fn totals(&self) -> Totals
+        ensures { (j : model.Job) → IsBehind self.now j → AreTotals result j }
+    {
+        let report = &self.tasks.ledger.report;
+        let used = used_by_live(&self.tasks.ledger.lives);
+        Totals {
+            held: self.tasks.issued - report.spent - report.returned,
+            returned: report.returned,
+            spent: report.spent,
+            used: report.spent + used,
+        }
+    }
+
+    /// The job's buffer as it is now.
+    pub fn buffer(&self, alloc: Global) -> Result<Vec<u8>, NoMemory>
+        ensures { IfOk result (λ buffer. (j : model.Job) → IsBehind self.now j → buffer.items ≡ j.buffer) }
+    {
+        let mut buffer = Vec::new(alloc);
+        buffer.extend_from_slice(&self.tasks.ledger.report.buffer)?;
+        fill(&mut buffer, &self.tasks.ledger.lives);
+        Ok(buffer)
+    }
+
+    /// The report, where no task is alive.
+    pub fn report(&self) -> Option<&Report>
+        ensures some { (j : model.Job) → IsBehind self.now j → (IsSome result ↔ IsComplete j) }
+        ensures value { (j : model.Job) → IsBehind self.now j → IfSome result (λ report. IsReportOf report.now j) }
+    {
+        if self.complete() {
+            Some(&self.tasks.ledger.report)
+        } else {
+            None
+        }
+    }
+
+    /// Gives the report up where no task is alive, and else the world back as it was.
+    pub fn close(self) -> Result<Report, World>
+        ensures report { IfOk result (λ report. (j : model.Job) → IsBehind self j → IsComplete j × IsReportOf report j) }
+        ensures world { IfErr result (λ world. (world ≡ self) × ((j : model.Job) → IsBehind self j → IsComplete j → ⊥)) }
+    {
+        if !self.complete() {
+            return Err(self);
+        }
+        let World { tasks } = self;
+        let Tasks {
+            programs: _,
+            ledger,
+            issued: _,
+        } = tasks;
+        let Ledger {
+            entries: _,
+            lives: _,
+            report,
+        } = ledger;
+        Ok(report)
     }
 }
 
@@ -150,5 +212,4 @@ ghost use Rattle.job_core.specs.Behind.{Kept, IsBehind};
 /// What a world keeps leaves one buffer to every job behind it.
 pub fn keeps_one_buffer()
     ensures { (kept : Kept) (j k : model.Job) → IsBehind kept j → IsBehind kept k → j.buffer ≡ k.buffer }
-{
-}
+{}
