@@ -1,12 +1,13 @@
 -- The text table: the line of an instruction. One space follows the word; operands are joined by a comma and a space.
-use Rattle.std.specs.Prelude.{ℕ, ℤ, pos, suc, List, [], ◌∷◌, ◌++◌, codes, map}
+use Rattle.std.specs.Prelude.{ℕ, ℤ, pos, suc, List, [], ◌∷◌, ◌++◌, codes, ◌≡◌}
 use Rattle.std.specs.Fmt.{decimal, signed_decimal}
-use Rattle.std.specs.List.{flat_map}
+use Rattle.std.specs.List.{flat_map, AllByRecursion}
 use lib.IntN.{negsuc}
 use Rattle.insn_codec.specs.declared.insn.Operand.{Operand}
 use Rattle.insn_codec.specs.declared.insn.Operand.TheVariants as operand
 use Rattle.insn_codec.specs.declared.insn.Insn.{Insn}
 use Rattle.insn_codec.specs.declared.insn.Insn.TheVariants.{Alu, Mov, Neg, MovSx, End, LoadWide, Load, Store, StoreRegister, Jump, Jump32, JumpIf, Call, Exit}
+use Rattle.insn_codec.specs.Spelling.{IsInsn, IsWhole, spellings}
 use Rattle.disassembler.specs.Words.{word_text, word_of}
 
 -- a register, as `r10`
@@ -58,3 +59,10 @@ line_text insn = word_text (word_of insn) ++ tail_text insn
 -- the lines of a program, each with a line feed behind it
 abbrev pub lines_text : List Insn → List ℕ
 lines_text insns = flat_map (λ insn. line_text insn ++ 10 ∷ []) insns
+
+-- the text of these bytes, which spell these instructions
+pub record IsListing (listing bytes : List ℕ) (insns : List Insn) : Type 0 where
+  pub whole : IsWhole bytes
+  pub fit : AllByRecursion IsInsn insns
+  pub spelled : bytes ≡ spellings insns
+  pub written : listing ≡ lines_text insns

@@ -1,5 +1,5 @@
 -- The words of the text table, one for each row and width.
-use Rattle.std.specs.Prelude.{ℕ, List, [], ◌∷◌, ◌++◌, codes}
+use Rattle.std.specs.Prelude.{ℕ, List, [], ◌++◌, codes}
 use Rattle.insn_codec.specs.declared.insn.Width.{Width}
 use Rattle.insn_codec.specs.declared.insn.Width.TheVariants.{W32, W64}
 use Rattle.insn_codec.specs.declared.insn.AluOp.{AluOp}

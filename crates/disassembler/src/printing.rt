@@ -1,10 +1,12 @@
 //! The line of an instruction.
 
-ghost use Rattle.std.specs.Prelude.{◌≡◌, IfOk, string_bytes};
-ghost use Rattle.disassembler.specs.Line.{line_text};
+ghost use Rattle.std.specs.Prelude.{◌≡◌, List, IfOk, IfErr, string_bytes};
+ghost use Rattle.insn_codec.specs.declared.insn.Insn.{Insn};
+ghost use Rattle.insn_codec.specs.Spelling.{IsRefusal};
+ghost use Rattle.disassembler.specs.Line.{line_text, IsListing};
 
 use crate::word::Word;
-use insn_codec::{Insn, Operand, Register};
+use insn_codec::{CodecFault, Insn, Operand, Register, decode};
 use refusal::NoMemory;
 use std::alloc::Global;
 use std::fmt;
@@ -143,4 +145,17 @@ pub fn line(alloc: Global, insn: &Insn) -> Result<String, NoMemory>
     ensures { IfOk result (λ text. string_bytes text ≡ line_text insn.now) }
 {
     Ok(format!(in alloc; "{}{}", Word::of(insn), Tail(*insn))?)
+}
+
+/// The lines of the instructions that the bytes spell, each with a line feed behind it.
+pub fn disassemble(alloc: Global, bytes: &[u8]) -> Result<String, CodecFault>
+    ensures found { IfOk result (λ text. (insns : List Insn) × IsListing (string_bytes text) bytes.now insns) }
+    ensures refused { IfErr result (λ e. IsRefusal e bytes.now) }
+{
+    let mut text = String::new(alloc);
+    for placed in &decode(alloc, bytes)? {
+        text.push_str(line(alloc, &placed.insn)?.as_str())?;
+        text.push('\n')?;
+    }
+    Ok(text)
 }
