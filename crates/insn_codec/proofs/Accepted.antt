@@ -1,8 +1,9 @@
 -- The bytes of a program have no fault.
-use Rattle.std.proofs.Common.{◌≡◌, ℕ, ◌/◌, ◌^◌, ◌<◌, false, List, [], ◌∷◌, ◌++◌, length, Option, Some, None, refl, sym, ap, subst, ◌∙◌, append_assoc, arith, inl, inr}
+use Rattle.std.proofs.Common.{true, ◌≤◌, ◌≡◌, ℕ, ◌/◌, ◌^◌, ◌<◌, false, List, [], ◌∷◌, ◌++◌, length, Option, Some, None, refl, sym, ap, subst, ◌∙◌, append_assoc, arith, inl, inr}
 use Rattle.std.specs.Prelude.{unwrap_or, is_some}
 use Rattle.std.specs.List.{flat_map, AllByRecursion}
 use Rattle.insn_codec.specs.declared.slot.Slot.{Slot}
+use Rattle.insn_codec.specs.declared.insn.Operand.{Operand}
 use Rattle.insn_codec.specs.declared.insn.Operand.TheVariants as operand
 use Rattle.insn_codec.specs.declared.insn.Insn.{Insn}
 use Rattle.insn_codec.specs.declared.insn.Insn.TheVariants.{Alu, Mov, Neg, MovSx, End, LoadWide, Load, Store, StoreRegister, Jump, Jump32, JumpIf, Call, Exit}
@@ -13,20 +14,30 @@ use Rattle.insn_codec.specs.declared.decoder.SlotFault.TheVariants as step
 use Rattle.insn_codec.specs.declared.fault.CodecFault.{CodecFault}
 use Rattle.insn_codec.specs.declared.fault.CodecFault.TheVariants as fault
 use Rattle.insn_codec.specs.Layout.{slot_bytes, slot_at}
-use Rattle.insn_codec.specs.Table.{selecting_offset, uses_of, IsRow, RegistersAreNamed, UnusedAreZero}
-use Rattle.insn_codec.specs.Spelling.{first_slot, other_slots, half, spelling, spellings, IsInsn, IsAt, IsWhole, IsRefusal}
+use Rattle.insn_codec.specs.Table.{is_register, is_imm, selecting_offset, uses_of, IsRow, RegistersAreNamed, UnusedAreZero}
+use Rattle.insn_codec.specs.Spelling.{first_slot, row_of, operand_source, operand_src, operand_imm, IsOperand, other_slots, half, spelling, spellings, IsInsn, IsAt, IsWhole, IsRefusal}
 use Rattle.insn_codec.specs.Steps.{StepFault}
-use Rattle.insn_codec.proofs.OneSpelling.{fields_again, row_of, high_of, is_row, one_row, fits_slot, high_fits, one_spelling}
+use Rattle.insn_codec.proofs.OneSpelling.{fields_again, high_of, is_row, one_row, fits_slot, high_fits, one_spelling}
 
 none_zero : (o : Option ℕ) → is_some o ≡ false → unwrap_or o 0 ≡ 0
 none_zero None e = refl
 none_zero (Some n) e = cc
 
+src_named : (src : Operand) → IsOperand src → is_register (operand_source src) ≡ true → operand_src src ≤ 10
+src_named (operand.Imm imm) h e = omega arith
+src_named (operand.Reg src) h e = h
+
+src_zero : (src : Operand) → is_register (operand_source src) ≡ false → operand_src src ≡ 0
+src_zero (operand.Imm imm) e = refl
+src_zero (operand.Reg src) e = absurd cc
+
+imm_zero : (src : Operand) → is_imm (operand_source src) ≡ false → operand_imm src ≡ 0
+imm_zero (operand.Imm imm) e = absurd cc
+imm_zero (operand.Reg src) e = refl
+
 named_ok : (insn : Insn) → IsInsn insn → RegistersAreNamed (uses_of (row_of insn)) (first_slot insn)
-named_ok (Alu w op dst (operand.Imm imm)) h = record { dst = λ e. h.0; src = λ e. omega arith }
-named_ok (Alu w op dst (operand.Reg src)) h = record { dst = λ e. h.0; src = λ e. h.1 }
-named_ok (Mov w dst (operand.Imm imm)) h = record { dst = λ e. h.0; src = λ e. omega arith }
-named_ok (Mov w dst (operand.Reg src)) h = record { dst = λ e. h.0; src = λ e. h.1 }
+named_ok (Alu w op dst src) h = record { dst = λ e. h.0; src = src_named src h.1 }
+named_ok (Mov w dst src) h = record { dst = λ e. h.0; src = src_named src h.1 }
 named_ok (Neg w dst) h = record { dst = λ e. h; src = λ e. omega arith }
 named_ok (MovSx x dst src) h = record { dst = λ e. h.0; src = λ e. h.1 }
 named_ok (End order size dst) h = record { dst = λ e. h; src = λ e. omega arith }
@@ -36,16 +47,13 @@ named_ok (Store size base offset imm) h = record { dst = λ e. h.0; src = λ e. 
 named_ok (StoreRegister size base offset src) h = record { dst = λ e. h.0; src = λ e. h.2 }
 named_ok (Jump offset) h = record { dst = λ e. omega arith; src = λ e. omega arith }
 named_ok (Jump32 offset) h = record { dst = λ e. omega arith; src = λ e. omega arith }
-named_ok (JumpIf w c dst (operand.Imm imm) offset) h = record { dst = λ e. h.0; src = λ e. omega arith }
-named_ok (JumpIf w c dst (operand.Reg src) offset) h = record { dst = λ e. h.0; src = λ e. h.1 }
+named_ok (JumpIf w c dst src offset) h = record { dst = λ e. h.0; src = src_named src h.1 }
 named_ok (Call helper) h = record { dst = λ e. omega arith; src = λ e. omega arith }
 named_ok Exit h = record { dst = λ e. omega arith; src = λ e. omega arith }
 
 zero_ok : (insn : Insn) → UnusedAreZero (uses_of (row_of insn)) (first_slot insn)
-zero_ok (Alu w op dst (operand.Imm imm)) = record { dst = λ e. absurd cc; src = λ e. refl; offset = none_zero (selecting_offset op); imm = λ e. absurd cc }
-zero_ok (Alu w op dst (operand.Reg src)) = record { dst = λ e. absurd cc; src = λ e. absurd cc; offset = none_zero (selecting_offset op); imm = λ e. refl }
-zero_ok (Mov w dst (operand.Imm imm)) = record { dst = λ e. absurd cc; src = λ e. refl; offset = λ e. absurd cc; imm = λ e. absurd cc }
-zero_ok (Mov w dst (operand.Reg src)) = record { dst = λ e. absurd cc; src = λ e. absurd cc; offset = λ e. absurd cc; imm = λ e. refl }
+zero_ok (Alu w op dst src) = record { dst = λ e. absurd cc; src = src_zero src; offset = none_zero (selecting_offset op); imm = imm_zero src }
+zero_ok (Mov w dst src) = record { dst = λ e. absurd cc; src = src_zero src; offset = λ e. absurd cc; imm = imm_zero src }
 zero_ok (Neg w dst) = record { dst = λ e. absurd cc; src = λ e. refl; offset = λ e. refl; imm = λ e. refl }
 zero_ok (MovSx x dst src) = record { dst = λ e. absurd cc; src = λ e. absurd cc; offset = λ e. absurd cc; imm = λ e. refl }
 zero_ok (End order size dst) = record { dst = λ e. absurd cc; src = λ e. refl; offset = λ e. refl; imm = λ e. absurd cc }
@@ -55,8 +63,7 @@ zero_ok (Store size base offset imm) = record { dst = λ e. absurd cc; src = λ 
 zero_ok (StoreRegister size base offset src) = record { dst = λ e. absurd cc; src = λ e. absurd cc; offset = λ e. absurd cc; imm = λ e. refl }
 zero_ok (Jump offset) = record { dst = λ e. refl; src = λ e. refl; offset = λ e. absurd cc; imm = λ e. refl }
 zero_ok (Jump32 offset) = record { dst = λ e. refl; src = λ e. refl; offset = λ e. refl; imm = λ e. absurd cc }
-zero_ok (JumpIf w c dst (operand.Imm imm) offset) = record { dst = λ e. absurd cc; src = λ e. refl; offset = λ e. absurd cc; imm = λ e. absurd cc }
-zero_ok (JumpIf w c dst (operand.Reg src) offset) = record { dst = λ e. absurd cc; src = λ e. absurd cc; offset = λ e. absurd cc; imm = λ e. refl }
+zero_ok (JumpIf w c dst src offset) = record { dst = λ e. absurd cc; src = src_zero src; offset = λ e. absurd cc; imm = imm_zero src }
 zero_ok (Call helper) = record { dst = λ e. refl; src = λ e. refl; offset = λ e. refl; imm = λ e. absurd cc }
 zero_ok Exit = record { dst = λ e. refl; src = λ e. refl; offset = λ e. refl; imm = λ e. refl }
 
@@ -65,22 +72,10 @@ after_of insn more = flat_map slot_bytes (other_slots insn) ++ more
 
 half_ok : (insn : Insn) (more : List ℕ) → IsInsn insn → row_of insn ≡ row.LoadWide → slot_at (after_of insn more) ≡ half (high_of insn)
 half_ok (LoadWide dst value) more h e = fields_again (half (value / 2 ^ 32)) more (high_fits (LoadWide dst value) h)
-half_ok (Alu w op dst (operand.Imm imm)) more h e = absurd cc
-half_ok (Alu w op dst (operand.Reg src)) more h e = absurd cc
-half_ok (Mov w dst (operand.Imm imm)) more h e = absurd cc
-half_ok (Mov w dst (operand.Reg src)) more h e = absurd cc
-half_ok (JumpIf w c dst (operand.Imm imm) offset) more h e = absurd cc
-half_ok (JumpIf w c dst (operand.Reg src) offset) more h e = absurd cc
 half_ok insn more h e = absurd cc
 
 half_there : (insn : Insn) (more : List ℕ) → row_of insn ≡ row.LoadWide → after_of insn more ≡ [] → ⊥
 half_there (LoadWide dst value) more e n = absurd cc
-half_there (Alu w op dst (operand.Imm imm)) more e n = absurd cc
-half_there (Alu w op dst (operand.Reg src)) more e n = absurd cc
-half_there (Mov w dst (operand.Imm imm)) more e n = absurd cc
-half_there (Mov w dst (operand.Reg src)) more e n = absurd cc
-half_there (JumpIf w c dst (operand.Imm imm) offset) more e n = absurd cc
-half_there (JumpIf w c dst (operand.Reg src) offset) more e n = absurd cc
 half_there insn more e n = absurd cc
 
 -- no fault stands where an instruction is spelled

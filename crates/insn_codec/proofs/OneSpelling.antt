@@ -18,15 +18,17 @@ use Rattle.insn_codec.specs.declared.insn.SignExtension.{SignExtension}
 use Rattle.insn_codec.specs.declared.insn.SignExtension.TheVariants.{From8To32}
 use Rattle.insn_codec.specs.declared.insn.EndSize.{EndSize}
 use Rattle.insn_codec.specs.declared.insn.EndSize.TheVariants.{Bits16}
+use Rattle.insn_codec.specs.declared.insn.Operand.{Operand}
 use Rattle.insn_codec.specs.declared.insn.Operand.TheVariants as operand
 use Rattle.insn_codec.specs.declared.insn.Insn.{Insn}
 use Rattle.insn_codec.specs.declared.insn.Insn.TheVariants.{Alu, Mov, Neg, MovSx, End, LoadWide, Load, Store, StoreRegister, Jump, Jump32, JumpIf, Call, Exit}
+use Rattle.insn_codec.specs.declared.operation.Source.{Source}
 use Rattle.insn_codec.specs.declared.operation.Source.TheVariants as source
 use Rattle.insn_codec.specs.declared.operation.Operation.{Operation}
 use Rattle.insn_codec.specs.declared.operation.Operation.TheVariants as row
 use Rattle.insn_codec.specs.Layout.{slot_bytes, slot_at, FitsSlot}
 use Rattle.insn_codec.specs.Table.{code_of, condition_code, size_code, load_code, target_width, end_bits, extended_bits, selecting_offset, opcode_of, IsRow}
-use Rattle.insn_codec.specs.Spelling.{first_slot, other_slots, half, spelling, IsInsn}
+use Rattle.insn_codec.specs.Spelling.{first_slot, row_of, operand_source, operand_src, operand_imm, IsOperand, other_slots, half, spelling, IsInsn}
 use Rattle.insn_codec.specs.Steps.{high_slots}
 use Rattle.insn_codec.proofs.Rows.{row_again, source_small, alu_small, jump_small}
 
@@ -40,37 +42,20 @@ fields_again s rest fits =
     let same : (d r o i : ℕ) → d ≡ s.dst → r ≡ s.src → o ≡ s.offset → i ≡ s.imm → (let t : Slot = record { opcode = s.opcode; dst = d; src = r; offset = o; imm = i } in t) ≡ s = λ d r o i p q u v. rw (p, q, u, v) refl in
     same _ _ _ _ dst src offset imm
 
-abbrev pub row_of : Insn → Operation
-row_of (Alu w op dst (operand.Imm imm)) = row.Alu w op source.Imm
-row_of (Alu w op dst (operand.Reg src)) = row.Alu w op source.Reg
-row_of (Mov w dst (operand.Imm imm)) = row.Mov w source.Imm
-row_of (Mov w dst (operand.Reg src)) = row.Mov w source.Reg
-row_of (Neg w dst) = row.Neg w
-row_of (MovSx e dst src) = row.MovSx e
-row_of (End order size dst) = row.End order size
-row_of (LoadWide dst value) = row.LoadWide
-row_of (Load kind dst base offset) = row.Load kind
-row_of (Store size base offset imm) = row.Store size
-row_of (StoreRegister size base offset src) = row.StoreRegister size
-row_of (Jump offset) = row.Jump
-row_of (Jump32 offset) = row.Jump32
-row_of (JumpIf w c dst (operand.Imm imm) offset) = row.JumpIf w c source.Imm
-row_of (JumpIf w c dst (operand.Reg src) offset) = row.JumpIf w c source.Reg
-row_of (Call helper) = row.Call
-row_of Exit = row.Exit
-
 abbrev pub high_of : Insn → ℕ
 high_of (LoadWide dst value) = value / 2 ^ 32
 high_of insn = 0
 
+abbrev operand_at : Source → Slot → Operand
+operand_at source.Imm s = operand.Imm (cast_signed w32 s.imm)
+operand_at source.Reg s = operand.Reg s.src
+
 -- the instruction of a row with these fields
 abbrev pub insn_at : Operation → Slot → ℕ → Insn
-insn_at (row.Alu w op source.Imm) s high = Alu w op s.dst (operand.Imm (cast_signed w32 s.imm))
-insn_at (row.Alu w op source.Reg) s high = Alu w op s.dst (operand.Reg s.src)
-insn_at (row.Mov w source.Imm) s high = Mov w s.dst (operand.Imm (cast_signed w32 s.imm))
-insn_at (row.Mov w source.Reg) s high = Mov w s.dst (operand.Reg s.src)
-insn_at (row.Neg w) s high = Neg w s.dst
+insn_at (row.Alu w op from) s high = Alu w op s.dst (operand_at from s)
+insn_at (row.Mov w from) s high = Mov w s.dst (operand_at from s)
 insn_at (row.MovSx e) s high = MovSx e s.dst s.src
+insn_at (row.Neg w) s high = Neg w s.dst
 insn_at (row.End order size) s high = End order size s.dst
 insn_at row.LoadWide s high = LoadWide s.dst (high * 2 ^ 32 + s.imm)
 insn_at (row.Load kind) s high = Load kind s.dst s.src (cast_signed w16 s.offset)
@@ -78,18 +63,19 @@ insn_at (row.Store size) s high = Store size s.dst (cast_signed w16 s.offset) (c
 insn_at (row.StoreRegister size) s high = StoreRegister size s.dst (cast_signed w16 s.offset) s.src
 insn_at row.Jump s high = Jump (cast_signed w16 s.offset)
 insn_at row.Jump32 s high = Jump32 (cast_signed w32 s.imm)
-insn_at (row.JumpIf w c source.Imm) s high = JumpIf w c s.dst (operand.Imm (cast_signed w32 s.imm)) (cast_signed w16 s.offset)
-insn_at (row.JumpIf w c source.Reg) s high = JumpIf w c s.dst (operand.Reg s.src) (cast_signed w16 s.offset)
+insn_at (row.JumpIf w c from) s high = JumpIf w c s.dst (operand_at from s) (cast_signed w16 s.offset)
 insn_at row.Call s high = Call s.imm
 insn_at row.Exit s high = Exit
 
+operand_again : (src : Operand) (s : Slot) → IsOperand src → s.src ≡ operand_src src → s.imm ≡ operand_imm src → operand_at (operand_source src) s ≡ src
+operand_again (operand.Imm imm) s h p q = ap operand.Imm (ap (cast_signed w32) q ∙ to_z-of_z w32 imm h)
+operand_again (operand.Reg src) s h p q = ap operand.Reg p
+
 pub insn_again : (insn : Insn) → IsInsn insn → insn_at (row_of insn) (first_slot insn) (high_of insn) ≡ insn
-insn_again (Alu w op dst (operand.Imm imm)) h = ap (λ x. Alu w op dst (operand.Imm x)) (to_z-of_z w32 imm h.1)
-insn_again (Alu w op dst (operand.Reg src)) h = refl
-insn_again (Mov w dst (operand.Imm imm)) h = ap (λ x. Mov w dst (operand.Imm x)) (to_z-of_z w32 imm h.1)
-insn_again (Mov w dst (operand.Reg src)) h = refl
-insn_again (Neg w dst) h = refl
+insn_again (Alu w op dst src) h = ap (Alu w op dst) (operand_again src (first_slot (Alu w op dst src)) h.1 refl refl)
+insn_again (Mov w dst src) h = ap (Mov w dst) (operand_again src (first_slot (Mov w dst src)) h.1 refl refl)
 insn_again (MovSx e dst src) h = refl
+insn_again (Neg w dst) h = refl
 insn_again (End order size dst) h = refl
 insn_again (LoadWide dst value) h = ap (LoadWide dst) (omega arith)
 insn_again (Load kind dst base offset) h = ap (Load kind dst base) (to_z-of_z w16 offset h.2)
@@ -97,8 +83,7 @@ insn_again (Store size base offset imm) h = ap (λ x. Store size base x (cast_si
 insn_again (StoreRegister size base offset src) h = ap (λ x. StoreRegister size base x src) (to_z-of_z w16 offset h.1)
 insn_again (Jump offset) h = ap Jump (to_z-of_z w16 offset h)
 insn_again (Jump32 offset) h = ap Jump32 (to_z-of_z w32 offset h)
-insn_again (JumpIf w c dst (operand.Imm imm) offset) h = ap (λ x. JumpIf w c dst (operand.Imm x) (cast_signed w16 (cast_unsigned w16 offset))) (to_z-of_z w32 imm h.1) ∙ ap (JumpIf w c dst (operand.Imm imm)) (to_z-of_z w16 offset h.2)
-insn_again (JumpIf w c dst (operand.Reg src) offset) h = ap (JumpIf w c dst (operand.Reg src)) (to_z-of_z w16 offset h.2)
+insn_again (JumpIf w c dst src offset) h = ap (λ x. JumpIf w c dst x (cast_signed w16 (cast_unsigned w16 offset))) (operand_again src (first_slot (JumpIf w c dst src offset)) h.1 refl refl) ∙ ap (JumpIf w c dst src) (to_z-of_z w16 offset h.2)
 insn_again (Call helper) h = refl
 insn_again Exit h = refl
 
@@ -107,10 +92,8 @@ chosen_by None = tt
 chosen_by (Some n) = refl
 
 pub is_row : (insn : Insn) → IsRow (row_of insn) (first_slot insn)
-is_row (Alu w op dst (operand.Imm imm)) = record { opcode = refl; chosen = chosen_by (selecting_offset op) }
-is_row (Alu w op dst (operand.Reg src)) = record { opcode = refl; chosen = chosen_by (selecting_offset op) }
-is_row (Mov w dst (operand.Imm imm)) = record { opcode = refl; chosen = refl }
-is_row (Mov w dst (operand.Reg src)) = record { opcode = refl; chosen = refl }
+is_row (Alu w op dst src) = record { opcode = refl; chosen = chosen_by (selecting_offset op) }
+is_row (Mov w dst src) = record { opcode = refl; chosen = refl }
 is_row (Neg w dst) = record { opcode = refl; chosen = tt }
 is_row (MovSx e dst src) = record { opcode = refl; chosen = refl }
 is_row (End order size dst) = record { opcode = refl; chosen = refl }
@@ -120,8 +103,7 @@ is_row (Store size base offset imm) = record { opcode = refl; chosen = tt }
 is_row (StoreRegister size base offset src) = record { opcode = refl; chosen = tt }
 is_row (Jump offset) = record { opcode = refl; chosen = tt }
 is_row (Jump32 offset) = record { opcode = refl; chosen = tt }
-is_row (JumpIf w c dst (operand.Imm imm) offset) = record { opcode = refl; chosen = tt }
-is_row (JumpIf w c dst (operand.Reg src) offset) = record { opcode = refl; chosen = tt }
+is_row (JumpIf w c dst src offset) = record { opcode = refl; chosen = tt }
 is_row (Call helper) = record { opcode = refl; chosen = refl }
 is_row Exit = record { opcode = refl; chosen = tt }
 
@@ -180,11 +162,17 @@ bits16 z h = omega (arith, ints)
 bits32 : (z : ℤ) → FitsSigned w32 z → cast_unsigned w32 z < 2 ^ 32
 bits32 z h = omega (arith, ints)
 
+src_small : (src : Operand) → IsOperand src → operand_src src < 2 ^ 4
+src_small (operand.Imm imm) h = omega arith
+src_small (operand.Reg src) h = omega arith
+
+imm_small : (src : Operand) → IsOperand src → operand_imm src < 2 ^ 32
+imm_small (operand.Imm imm) h = bits32 imm h
+imm_small (operand.Reg src) h = omega arith
+
 pub fits_slot : (insn : Insn) → IsInsn insn → FitsSlot (first_slot insn)
-fits_slot (Alu w op dst (operand.Imm imm)) h = record { opcode = opcode_small (row.Alu w op source.Imm); dst = omega arith; src = omega arith; offset = offset_small op; imm = bits32 imm h.1 }
-fits_slot (Alu w op dst (operand.Reg src)) h = record { opcode = opcode_small (row.Alu w op source.Reg); dst = omega arith; src = omega (arith, h.1); offset = offset_small op; imm = omega arith }
-fits_slot (Mov w dst (operand.Imm imm)) h = record { opcode = opcode_small (row.Mov w source.Imm); dst = omega arith; src = omega arith; offset = omega arith; imm = bits32 imm h.1 }
-fits_slot (Mov w dst (operand.Reg src)) h = record { opcode = opcode_small (row.Mov w source.Reg); dst = omega arith; src = omega (arith, h.1); offset = omega arith; imm = omega arith }
+fits_slot (Alu w op dst src) h = record { opcode = opcode_small (row.Alu w op (operand_source src)); dst = omega arith; src = src_small src h.1; offset = offset_small op; imm = imm_small src h.1 }
+fits_slot (Mov w dst src) h = record { opcode = opcode_small (row.Mov w (operand_source src)); dst = omega arith; src = src_small src h.1; offset = omega arith; imm = imm_small src h.1 }
 fits_slot (Neg w dst) h = record { opcode = opcode_small (row.Neg w); dst = omega arith; src = omega arith; offset = omega arith; imm = omega arith }
 fits_slot (MovSx e dst src) h = record { opcode = opcode_small (row.MovSx e); dst = omega arith; src = omega arith; offset = omega (arith, bits_small e); imm = omega arith }
 fits_slot (End order size dst) h = record { opcode = opcode_small (row.End order size); dst = omega arith; src = omega arith; offset = omega arith; imm = omega (arith, end_small size) }
@@ -194,18 +182,11 @@ fits_slot (Store size base offset imm) h = record { opcode = opcode_small (row.S
 fits_slot (StoreRegister size base offset src) h = record { opcode = opcode_small (row.StoreRegister size); dst = omega arith; src = omega arith; offset = bits16 offset h.1; imm = omega arith }
 fits_slot (Jump offset) h = record { opcode = opcode_small row.Jump; dst = omega arith; src = omega arith; offset = bits16 offset h; imm = omega arith }
 fits_slot (Jump32 offset) h = record { opcode = opcode_small row.Jump32; dst = omega arith; src = omega arith; offset = omega arith; imm = bits32 offset h }
-fits_slot (JumpIf w c dst (operand.Imm imm) offset) h = record { opcode = opcode_small (row.JumpIf w c source.Imm); dst = omega arith; src = omega arith; offset = bits16 offset h.2; imm = bits32 imm h.1 }
-fits_slot (JumpIf w c dst (operand.Reg src) offset) h = record { opcode = opcode_small (row.JumpIf w c source.Reg); dst = omega arith; src = omega (arith, h.1); offset = bits16 offset h.2; imm = omega arith }
+fits_slot (JumpIf w c dst src offset) h = record { opcode = opcode_small (row.JumpIf w c (operand_source src)); dst = omega arith; src = src_small src h.1; offset = bits16 offset h.2; imm = imm_small src h.1 }
 fits_slot (Call helper) h = record { opcode = opcode_small row.Call; dst = omega arith; src = omega arith; offset = omega arith; imm = h }
 fits_slot Exit h = record { opcode = opcode_small row.Exit; dst = omega arith; src = omega arith; offset = omega arith; imm = omega arith }
 
 others_are : (insn : Insn) → other_slots insn ≡ high_slots (row_of insn) (high_of insn)
-others_are (Alu w op dst (operand.Imm imm)) = refl
-others_are (Alu w op dst (operand.Reg src)) = refl
-others_are (Mov w dst (operand.Imm imm)) = refl
-others_are (Mov w dst (operand.Reg src)) = refl
-others_are (JumpIf w c dst (operand.Imm imm) offset) = refl
-others_are (JumpIf w c dst (operand.Reg src) offset) = refl
 others_are (LoadWide dst value) = refl
 others_are insn = refl
 
@@ -226,12 +207,6 @@ imm_of (s ∷ slots) = s.imm
 
 high_is : (insn : Insn) (m : ℕ) → high_slots (row_of insn) (high_of insn) ≡ high_slots (row_of insn) m → insn_at (row_of insn) (first_slot insn) (high_of insn) ≡ insn_at (row_of insn) (first_slot insn) m
 high_is (LoadWide dst value) m e = let h : value / 2 ^ 32 ≡ m = ap imm_of e in ap (λ x. insn_at row.LoadWide (first_slot (LoadWide dst value)) x) h
-high_is (Alu w op dst (operand.Imm imm)) m e = refl
-high_is (Alu w op dst (operand.Reg src)) m e = refl
-high_is (Mov w dst (operand.Imm imm)) m e = refl
-high_is (Mov w dst (operand.Reg src)) m e = refl
-high_is (JumpIf w c dst (operand.Imm imm) offset) m e = refl
-high_is (JumpIf w c dst (operand.Reg src) offset) m e = refl
 high_is insn m e = refl
 
 pub one_spelling : (a b : Insn) (x y : List ℕ) → IsInsn a → IsInsn b → spelling a ++ x ≡ spelling b ++ y → (a ≡ b) × (x ≡ y)

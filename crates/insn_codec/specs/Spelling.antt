@@ -8,6 +8,7 @@ use Rattle.insn_codec.specs.declared.insn.Operand.TheVariants as operand
 use Rattle.insn_codec.specs.declared.insn.Insn.{Insn}
 use Rattle.insn_codec.specs.declared.insn.Insn.TheVariants.{Alu, Mov, Neg, MovSx, End, LoadWide, Load, Store, StoreRegister, Jump, Jump32, JumpIf, Call, Exit}
 use Rattle.insn_codec.specs.declared.insn.Placed.{Placed}
+use Rattle.insn_codec.specs.declared.operation.Source.{Source}
 use Rattle.insn_codec.specs.declared.operation.Source.TheVariants as source
 use Rattle.insn_codec.specs.declared.operation.Operation.{Operation}
 use Rattle.insn_codec.specs.declared.operation.Operation.TheVariants as row
@@ -21,14 +22,42 @@ use Rattle.insn_codec.specs.Table.{opcode_of, selecting_offset, extended_bits, e
 abbrev pub slot : Operation → ℕ → ℕ → ℕ → ℕ → Slot
 slot op dst src offset imm = record { opcode = opcode_of op; dst = dst; src = src; offset = offset; imm = imm }
 
--- the first slot of an instruction
+-- the second operand: where it stands, and what the fields src and imm hold of it
+abbrev pub operand_source : Operand → Source
+operand_source (operand.Imm imm) = source.Imm
+operand_source (operand.Reg src) = source.Reg
+
+abbrev pub operand_src : Operand → ℕ
+operand_src (operand.Imm imm) = 0
+operand_src (operand.Reg src) = src
+
+abbrev pub operand_imm : Operand → ℕ
+operand_imm (operand.Imm imm) = cast_unsigned w32 imm
+operand_imm (operand.Reg src) = 0
+
+-- the row that spells an instruction
+abbrev pub row_of : Insn → Operation
+row_of (Alu w op dst src) = row.Alu w op (operand_source src)
+row_of (Mov w dst src) = row.Mov w (operand_source src)
+row_of (MovSx e dst src) = row.MovSx e
+row_of (Neg w dst) = row.Neg w
+row_of (End order size dst) = row.End order size
+row_of (LoadWide dst value) = row.LoadWide
+row_of (Load kind dst base offset) = row.Load kind
+row_of (Store size base offset imm) = row.Store size
+row_of (StoreRegister size base offset src) = row.StoreRegister size
+row_of (Jump offset) = row.Jump
+row_of (Jump32 offset) = row.Jump32
+row_of (JumpIf w c dst src offset) = row.JumpIf w c (operand_source src)
+row_of (Call helper) = row.Call
+row_of Exit = row.Exit
+
+-- the fields of the first slot of an instruction: dst, src, offset, imm
 abbrev pub first_slot : Insn → Slot
-first_slot (Alu w op dst (operand.Imm imm)) = slot (row.Alu w op source.Imm) dst 0 (unwrap_or (selecting_offset op) 0) (cast_unsigned w32 imm)
-first_slot (Alu w op dst (operand.Reg src)) = slot (row.Alu w op source.Reg) dst src (unwrap_or (selecting_offset op) 0) 0
-first_slot (Mov w dst (operand.Imm imm)) = slot (row.Mov w source.Imm) dst 0 0 (cast_unsigned w32 imm)
-first_slot (Mov w dst (operand.Reg src)) = slot (row.Mov w source.Reg) dst src 0 0
-first_slot (Neg w dst) = slot (row.Neg w) dst 0 0 0
+first_slot (Alu w op dst src) = slot (row.Alu w op (operand_source src)) dst (operand_src src) (unwrap_or (selecting_offset op) 0) (operand_imm src)
+first_slot (Mov w dst src) = slot (row.Mov w (operand_source src)) dst (operand_src src) 0 (operand_imm src)
 first_slot (MovSx e dst src) = slot (row.MovSx e) dst src (extended_bits e) 0
+first_slot (Neg w dst) = slot (row.Neg w) dst 0 0 0
 first_slot (End order size dst) = slot (row.End order size) dst 0 0 (end_bits size)
 first_slot (LoadWide dst value) = slot row.LoadWide dst 0 0 (value % 2 ^ 32)
 first_slot (Load kind dst base offset) = slot (row.Load kind) dst base (cast_unsigned w16 offset) 0
@@ -36,8 +65,7 @@ first_slot (Store size base offset imm) = slot (row.Store size) base 0 (cast_uns
 first_slot (StoreRegister size base offset src) = slot (row.StoreRegister size) base src (cast_unsigned w16 offset) 0
 first_slot (Jump offset) = slot row.Jump 0 0 (cast_unsigned w16 offset) 0
 first_slot (Jump32 offset) = slot row.Jump32 0 0 0 (cast_unsigned w32 offset)
-first_slot (JumpIf w c dst (operand.Imm imm) offset) = slot (row.JumpIf w c source.Imm) dst 0 (cast_unsigned w16 offset) (cast_unsigned w32 imm)
-first_slot (JumpIf w c dst (operand.Reg src) offset) = slot (row.JumpIf w c source.Reg) dst src (cast_unsigned w16 offset) 0
+first_slot (JumpIf w c dst src offset) = slot (row.JumpIf w c (operand_source src)) dst (operand_src src) (cast_unsigned w16 offset) (operand_imm src)
 first_slot (Call helper) = slot row.Call 0 0 0 helper
 first_slot Exit = slot row.Exit 0 0 0 0
 

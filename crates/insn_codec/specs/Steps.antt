@@ -15,7 +15,7 @@ use Rattle.insn_codec.specs.declared.operation.Operation.{Operation}
 use Rattle.insn_codec.specs.declared.operation.Operation.TheVariants as row
 use Rattle.insn_codec.specs.Layout.{slot_at}
 use Rattle.insn_codec.specs.Table.{IsUnknown, IsRow, uses_of, RegistersAreNamed, UnusedAreZero}
-use Rattle.insn_codec.specs.Spelling.{half, spelling, IsInsn, slots_of, HasBadRegister, HasUnused, IsHalfWide}
+use Rattle.insn_codec.specs.Spelling.{first_slot, other_slots, half, spelling, IsInsn, slots_of, HasBadRegister, HasUnused, IsHalfWide}
 
 -- a fault at the front of rest
 abbrev pub StepFault : SlotFault → List ℕ → Type 0
@@ -45,6 +45,12 @@ SpellsOperand source.Imm s (operand.Imm imm) = cast_unsigned w32 imm ≡ s.imm
 SpellsOperand source.Imm s (operand.Reg src) = ⊥
 SpellsOperand source.Reg s (operand.Imm imm) = ⊥
 SpellsOperand source.Reg s (operand.Reg src) = src ≡ s.src
+
+-- an instruction of this row, whose spelling begins with these fields
+pub record IsSpelledBy (insn : Insn) (op : Operation) (s : Slot) (high : ℕ) : Type 0 where
+  pub first : first_slot insn ≡ s
+  pub others : other_slots insn ≡ high_slots op high
+  pub fits : IsInsn insn
 
 -- a fault of what follows the first slot of a wide instruction
 abbrev pub HalfFault : SlotFault → List ℕ → Type 0

@@ -1,12 +1,13 @@
 //! From bytes to instructions.
 
 ghost use Rattle.std.specs.Prelude.{◌≡◌, ◌≢◌, ◌≤◌, ◌<◌, ◌%◌, ◌+◌, ◌*◌, ◌⊎◌, length, IfOk, IfErr, MatchResult};
+ghost use Rattle.insn_codec.specs.declared.operation.Operation.TheVariants as row;
 ghost use Rattle.insn_codec.specs.Layout.{slot_at};
 ghost use Rattle.insn_codec.specs.Spelling.{IsInsn, IsOperand, first_slot, other_slots, slots_of, half, IsClean, IsRefusal, IsProgram};
-ghost use Rattle.insn_codec.specs.Steps.{StepFault, FieldFault, HalfFault, BeginsWith, fault_at, IsSource, SpellsOperand, high_slots};
+ghost use Rattle.insn_codec.specs.Steps.{IsSpelledBy, StepFault, FieldFault, HalfFault, BeginsWith, fault_at, IsSource, SpellsOperand, high_slots};
 
 use crate::fault::CodecFault;
-use crate::insn::{Insn, Operand, Placed};
+use crate::insn::{AluOp, Condition, Insn, LoadKind, Operand, Placed, Size, Width};
 use crate::operation::{
     Operation, Source, fields_used, operation_from, registers_are_named, unused_are_zero,
 };
@@ -34,73 +35,123 @@ fn operand_from(source: Source, slot: &Slot) -> Operand
     }
 }
 
-fn insn_from(operation: Operation, slot: &Slot, high: u32) -> Insn
-    requires { IsClean operation slot.now }
-    ensures first { first_slot result ≡ slot.now }
-    ensures others { other_slots result ≡ high_slots operation high }
-    ensures fits { IsInsn result }
+fn alu_insn(width: Width, op: AluOp, source: Source, slot: &Slot) -> Insn
+    requires { IsClean (row.Alu width op source) slot.now }
+    ensures { IsSpelledBy result (row.Alu width op source) slot.now 0 }
+{
+    Insn::Alu {
+        width,
+        op,
+        dst: Register::new(slot.dst),
+        src: operand_from(source, slot),
+    }
+}
+
+fn mov_insn(width: Width, source: Source, slot: &Slot) -> Insn
+    requires { IsClean (row.Mov width source) slot.now }
+    ensures { IsSpelledBy result (row.Mov width source) slot.now 0 }
+{
+    Insn::Mov {
+        width,
+        dst: Register::new(slot.dst),
+        src: operand_from(source, slot),
+    }
+}
+
+fn wide_insn(slot: &Slot, high: u32) -> Insn
+    requires { IsClean row.LoadWide slot.now }
+    ensures { IsSpelledBy result row.LoadWide slot.now high }
+{
+    Insn::LoadWide {
+        dst: Register::new(slot.dst),
+        value: u64::from(high) * 0x1_0000_0000 + u64::from(slot.imm),
+    }
+}
+
+fn load_insn(kind: LoadKind, slot: &Slot) -> Insn
+    requires { IsClean (row.Load kind) slot.now }
+    ensures { IsSpelledBy result (row.Load kind) slot.now 0 }
+{
+    Insn::Load {
+        kind,
+        dst: Register::new(slot.dst),
+        base: Register::new(slot.src),
+        offset: slot.offset.cast_signed(),
+    }
+}
+
+fn store_insn(size: Size, slot: &Slot) -> Insn
+    requires { IsClean (row.Store size) slot.now }
+    ensures { IsSpelledBy result (row.Store size) slot.now 0 }
+{
+    Insn::Store {
+        size,
+        base: Register::new(slot.dst),
+        offset: slot.offset.cast_signed(),
+        imm: slot.imm.cast_signed(),
+    }
+}
+
+fn store_register_insn(size: Size, slot: &Slot) -> Insn
+    requires { IsClean (row.StoreRegister size) slot.now }
+    ensures { IsSpelledBy result (row.StoreRegister size) slot.now 0 }
+{
+    Insn::StoreRegister {
+        size,
+        base: Register::new(slot.dst),
+        offset: slot.offset.cast_signed(),
+        src: Register::new(slot.src),
+    }
+}
+
+fn jump_if_insn(width: Width, condition: Condition, source: Source, slot: &Slot) -> Insn
+    requires { IsClean (row.JumpIf width condition source) slot.now }
+    ensures { IsSpelledBy result (row.JumpIf width condition source) slot.now 0 }
+{
+    Insn::JumpIf {
+        width,
+        condition,
+        dst: Register::new(slot.dst),
+        src: operand_from(source, slot),
+        offset: slot.offset.cast_signed(),
+    }
+}
+
+/// The instruction that a slot begins, with the other half of a wide value.
+fn insn_from(operation: Operation, slot: Slot, high: u32) -> Insn
+    requires { IsClean operation slot }
+    ensures { IsSpelledBy result operation slot high }
 {
     match operation {
-        Operation::Alu(width, op, source) => Insn::Alu {
-            width,
-            op,
-            dst: Register::new(slot.dst),
-            src: operand_from(source, slot),
-        },
-        Operation::Mov(width, source) => Insn::Mov {
-            width,
-            dst: Register::new(slot.dst),
-            src: operand_from(source, slot),
-        },
-        Operation::Neg(width) => Insn::Neg {
-            width,
-            dst: Register::new(slot.dst),
-        },
+        Operation::Alu(width, op, source) => alu_insn(width, op, source, &slot),
+        Operation::Mov(width, source) => mov_insn(width, source, &slot),
         Operation::MovSx(extension) => Insn::MovSx {
             extension,
             dst: Register::new(slot.dst),
             src: Register::new(slot.src),
+        },
+        Operation::Neg(width) => Insn::Neg {
+            width,
+            dst: Register::new(slot.dst),
         },
         Operation::End(order, size) => Insn::End {
             order,
             size,
             dst: Register::new(slot.dst),
         },
-        Operation::LoadWide => Insn::LoadWide {
-            dst: Register::new(slot.dst),
-            value: u64::from(high) * 0x1_0000_0000 + u64::from(slot.imm),
-        },
-        Operation::Load(kind) => Insn::Load {
-            kind,
-            dst: Register::new(slot.dst),
-            base: Register::new(slot.src),
-            offset: slot.offset.cast_signed(),
-        },
-        Operation::Store(size) => Insn::Store {
-            size,
-            base: Register::new(slot.dst),
-            offset: slot.offset.cast_signed(),
-            imm: slot.imm.cast_signed(),
-        },
-        Operation::StoreRegister(size) => Insn::StoreRegister {
-            size,
-            base: Register::new(slot.dst),
-            offset: slot.offset.cast_signed(),
-            src: Register::new(slot.src),
-        },
+        Operation::LoadWide => wide_insn(&slot, high),
+        Operation::Load(kind) => load_insn(kind, &slot),
+        Operation::Store(size) => store_insn(size, &slot),
+        Operation::StoreRegister(size) => store_register_insn(size, &slot),
         Operation::Jump => Insn::Jump {
             offset: slot.offset.cast_signed(),
         },
         Operation::Jump32 => Insn::Jump32 {
             offset: slot.imm.cast_signed(),
         },
-        Operation::JumpIf(width, condition, source) => Insn::JumpIf {
-            width,
-            condition,
-            dst: Register::new(slot.dst),
-            src: operand_from(source, slot),
-            offset: slot.offset.cast_signed(),
-        },
+        Operation::JumpIf(width, condition, source) => jump_if_insn(
+            width, condition, source, &slot,
+        ),
         Operation::Call => Insn::Call { helper: slot.imm },
         Operation::Exit => Insn::Exit,
     }
@@ -151,7 +202,7 @@ fn first_insn(rest: &[u8]) -> Result<Insn, SlotFault>
         Operation::LoadWide => high_half(rest.split_at(8).1)?,
         _ => 0,
     };
-    Ok(insn_from(operation, &slot, high))
+    Ok(insn_from(operation, slot, high))
 }
 
 impl SlotFault {

@@ -3,7 +3,7 @@
 ghost use Rattle.std.specs.Prelude.{◌≡◌, unwrap_or, ◌++◌, ◌≤◌, ◌<◌, ◌↔◌, ◌*◌, length, IfOk, IfErr, OnOk, IsTrue};
 ghost use Rattle.insn_codec.specs.Layout.{FitsSlot, slot_bytes};
 ghost use Rattle.insn_codec.specs.Table.{opcode_of, code_of, selecting_offset, condition_code, size_code, load_code, extended_bits, end_bits, source_code, alu_class, jump_class};
-ghost use Rattle.insn_codec.specs.Spelling.{first_slot, slot, spelling, spellings, IsWhole, IsUnspelled};
+ghost use Rattle.insn_codec.specs.Spelling.{first_slot, row_of, operand_source, operand_src, operand_imm, spelling, spellings, IsWhole, IsUnspelled};
 
 use crate::fault::CodecFault;
 use crate::insn::{
@@ -166,18 +166,139 @@ fn opcode_from(operation: Operation) -> u8
     }
 }
 
-fn slot_with(operation: Operation, dst: u8, src: u8, offset: u16, imm: u32) -> Slot
-    requires dst { dst ≤ 10 }
-    requires src { src ≤ 10 }
-    ensures value { result ≡ slot operation dst src offset imm }
-    ensures fits { FitsSlot result }
+/// The row of the table that spells it.
+fn operation_of(insn: &Insn) -> Operation
+    ensures { result ≡ row_of insn.now }
 {
-    Slot {
-        opcode: opcode_from(operation),
-        dst,
-        src,
-        offset,
-        imm,
+    match *insn {
+        Insn::Alu { width, op, src, .. } => Operation::Alu(width, op, source_of(src)),
+        Insn::Mov { width, src, .. } => Operation::Mov(width, source_of(src)),
+        Insn::MovSx { extension, .. } => Operation::MovSx(extension),
+        Insn::Neg { width, .. } => Operation::Neg(width),
+        Insn::End { order, size, .. } => Operation::End(order, size),
+        Insn::LoadWide { .. } => Operation::LoadWide,
+        Insn::Load { kind, .. } => Operation::Load(kind),
+        Insn::Store { size, .. } => Operation::Store(size),
+        Insn::StoreRegister { size, .. } => Operation::StoreRegister(size),
+        Insn::Jump { .. } => Operation::Jump,
+        Insn::Jump32 { .. } => Operation::Jump32,
+        Insn::JumpIf {
+            width,
+            condition,
+            src,
+            ..
+        } => Operation::JumpIf(width, condition, source_of(src)),
+        Insn::Call { .. } => Operation::Call,
+        Insn::Exit => Operation::Exit,
+    }
+}
+
+fn source_of(src: Operand) -> Source
+    ensures { result ≡ operand_source src }
+{
+    match src {
+        Operand::Imm(_) => Source::Imm,
+        Operand::Reg(_) => Source::Reg,
+    }
+}
+
+fn src_of_operand(src: Operand) -> u8
+    ensures value { result ≡ operand_src src }
+    ensures small { result ≤ 10 }
+{
+    match src {
+        Operand::Imm(_) => 0,
+        Operand::Reg(src) => src.number(),
+    }
+}
+
+fn imm_of_operand(src: Operand) -> u32
+    ensures { result ≡ operand_imm src }
+{
+    match src {
+        Operand::Imm(imm) => imm.cast_unsigned(),
+        Operand::Reg(_) => 0,
+    }
+}
+
+fn dst_of(insn: &Insn) -> u8
+    ensures value { result ≡ (first_slot insn.now).dst }
+    ensures small { result ≤ 10 }
+{
+    match *insn {
+        Insn::Alu { dst, .. }
+        | Insn::Mov { dst, .. }
+        | Insn::MovSx { dst, .. }
+        | Insn::Neg { dst, .. }
+        | Insn::End { dst, .. }
+        | Insn::LoadWide { dst, .. }
+        | Insn::Load { dst, .. }
+        | Insn::JumpIf { dst, .. } => dst.number(),
+        Insn::Store { base, .. } | Insn::StoreRegister { base, .. } => base.number(),
+        Insn::Jump { .. } | Insn::Jump32 { .. } | Insn::Call { .. } | Insn::Exit => 0,
+    }
+}
+
+fn src_of(insn: &Insn) -> u8
+    ensures value { result ≡ (first_slot insn.now).src }
+    ensures small { result ≤ 10 }
+{
+    match *insn {
+        Insn::Alu { src, .. } | Insn::Mov { src, .. } | Insn::JumpIf { src, .. } => src_of_operand(
+            src,
+        ),
+        Insn::MovSx { src, .. } | Insn::StoreRegister { src, .. } => src.number(),
+        Insn::Load { base, .. } => base.number(),
+        Insn::Neg { .. }
+        | Insn::End { .. }
+        | Insn::LoadWide { .. }
+        | Insn::Store { .. }
+        | Insn::Jump { .. }
+        | Insn::Jump32 { .. }
+        | Insn::Call { .. }
+        | Insn::Exit => 0,
+    }
+}
+
+fn offset_of(insn: &Insn) -> u16
+    ensures { result ≡ (first_slot insn.now).offset }
+{
+    match *insn {
+        Insn::Alu { op, .. } => offset_of_alu_op(op),
+        Insn::MovSx { extension, .. } => bits_of_extension(extension),
+        Insn::Load { offset, .. }
+        | Insn::Store { offset, .. }
+        | Insn::StoreRegister { offset, .. }
+        | Insn::Jump { offset }
+        | Insn::JumpIf { offset, .. } => offset.cast_unsigned(),
+        Insn::Mov { .. }
+        | Insn::Neg { .. }
+        | Insn::End { .. }
+        | Insn::LoadWide { .. }
+        | Insn::Jump32 { .. }
+        | Insn::Call { .. }
+        | Insn::Exit => 0,
+    }
+}
+
+fn imm_of(insn: &Insn) -> u32
+    ensures { result ≡ (first_slot insn.now).imm }
+{
+    match *insn {
+        Insn::Alu { src, .. } | Insn::Mov { src, .. } | Insn::JumpIf { src, .. } => imm_of_operand(
+            src,
+        ),
+        Insn::End { size, .. } => bits_of_end(size),
+        Insn::LoadWide { value, .. } => (value % 0x1_0000_0000) as u32,
+        Insn::Store { imm, .. } => imm.cast_unsigned(),
+        Insn::Jump32 { offset } => offset.cast_unsigned(),
+        Insn::Call { helper } => helper,
+        Insn::MovSx { .. }
+        | Insn::Neg { .. }
+        | Insn::Load { .. }
+        | Insn::StoreRegister { .. }
+        | Insn::Jump { .. }
+        | Insn::Exit => 0,
     }
 }
 
@@ -186,145 +307,12 @@ fn fields_of(insn: &Insn) -> Slot
     ensures value { result ≡ first_slot insn.now }
     ensures fits { FitsSlot result }
 {
-    match *insn {
-        Insn::Alu {
-            width,
-            op,
-            dst,
-            src: Operand::Imm(imm),
-        } => slot_with(
-            Operation::Alu(width, op, Source::Imm),
-            dst.number(),
-            0,
-            offset_of_alu_op(op),
-            imm.cast_unsigned(),
-        ),
-        Insn::Alu {
-            width,
-            op,
-            dst,
-            src: Operand::Reg(src),
-        } => slot_with(
-            Operation::Alu(width, op, Source::Reg),
-            dst.number(),
-            src.number(),
-            offset_of_alu_op(op),
-            0,
-        ),
-        Insn::Mov {
-            width,
-            dst,
-            src: Operand::Imm(imm),
-        } => slot_with(
-            Operation::Mov(width, Source::Imm),
-            dst.number(),
-            0,
-            0,
-            imm.cast_unsigned(),
-        ),
-        Insn::Mov {
-            width,
-            dst,
-            src: Operand::Reg(src),
-        } => slot_with(
-            Operation::Mov(width, Source::Reg),
-            dst.number(),
-            src.number(),
-            0,
-            0,
-        ),
-        Insn::Neg { width, dst } => slot_with(Operation::Neg(width), dst.number(), 0, 0, 0),
-        Insn::MovSx {
-            extension,
-            dst,
-            src,
-        } => slot_with(
-            Operation::MovSx(extension),
-            dst.number(),
-            src.number(),
-            bits_of_extension(extension),
-            0,
-        ),
-        Insn::End { order, size, dst } => slot_with(
-            Operation::End(order, size),
-            dst.number(),
-            0,
-            0,
-            bits_of_end(size),
-        ),
-        Insn::LoadWide { dst, value } => slot_with(
-            Operation::LoadWide,
-            dst.number(),
-            0,
-            0,
-            (value % 0x1_0000_0000) as u32,
-        ),
-        Insn::Load {
-            kind,
-            dst,
-            base,
-            offset,
-        } => slot_with(
-            Operation::Load(kind),
-            dst.number(),
-            base.number(),
-            offset.cast_unsigned(),
-            0,
-        ),
-        Insn::Store {
-            size,
-            base,
-            offset,
-            imm,
-        } => slot_with(
-            Operation::Store(size),
-            base.number(),
-            0,
-            offset.cast_unsigned(),
-            imm.cast_unsigned(),
-        ),
-        Insn::StoreRegister {
-            size,
-            base,
-            offset,
-            src,
-        } => slot_with(
-            Operation::StoreRegister(size),
-            base.number(),
-            src.number(),
-            offset.cast_unsigned(),
-            0,
-        ),
-        Insn::Jump { offset } => slot_with(Operation::Jump, 0, 0, offset.cast_unsigned(), 0),
-        Insn::Jump32 { offset } => slot_with(Operation::Jump32, 0, 0, 0, offset.cast_unsigned()),
-        Insn::JumpIf {
-            width,
-            condition,
-            dst,
-            src: Operand::Imm(imm),
-            offset,
-        } => slot_with(
-            Operation::JumpIf(width, condition, Source::Imm),
-            dst.number(),
-            0,
-            offset.cast_unsigned(),
-            imm.cast_unsigned(),
-        ),
-        Insn::JumpIf {
-            width,
-            condition,
-            dst,
-            src: Operand::Reg(src),
-            offset,
-        } => slot_with(
-            Operation::JumpIf(width, condition, Source::Reg),
-            dst.number(),
-            src.number(),
-            offset.cast_unsigned(),
-            0,
-        ),
-        Insn::Call { helper } => slot_with(Operation::Call, 0, 0, 0, helper),
-        Insn::Exit => slot_with(Operation::Exit, 0, 0, 0, 0),
+    Slot {
+        opcode: opcode_from(operation_of(insn)),
+        dst: dst_of(insn),
+        src: src_of(insn),
+        offset: offset_of(insn),
+        imm: imm_of(insn),
     }
 }
 

@@ -19,3 +19,6 @@ pub use insn::{
 };
 pub use laws::{nothing_refused, one_spelling};
 pub use register::Register;
+
+#[cfg(test)]
+mod tests;

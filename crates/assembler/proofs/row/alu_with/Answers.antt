@@ -1,0 +1,7 @@
+use Rattle.std.proofs.Common.{refl}
+use Rattle.disassembler.specs.declared.word.Word.TheVariants as word
+use Rattle.assembler.proofs.Lines.{no_alu}
+use Rattle.assembler.proofs.row.alu_with.Goals as goal
+
+pub returns-in-None : goal.returns-in-None
+returns-in-None c = no_alu c.args.operands.now (word.Alu c.args.width c.args.op) c.args.width c.args.op refl c.in-None.ensures

@@ -1,0 +1,7 @@
+use Rattle.std.proofs.Common.{refl}
+use Rattle.disassembler.specs.declared.word.Word.TheVariants as word
+use Rattle.assembler.proofs.Lines.{no_load}
+use Rattle.assembler.proofs.row.load_with.Goals as goal
+
+pub returns-in-None : goal.returns-in-None
+returns-in-None c = no_load c.args.operands.now (word.Load c.args.kind) c.args.kind refl c.in-None.ensures

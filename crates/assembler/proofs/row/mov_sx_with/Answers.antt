@@ -1,0 +1,7 @@
+use Rattle.std.proofs.Common.{refl}
+use Rattle.disassembler.specs.declared.word.Word.TheVariants as word
+use Rattle.assembler.proofs.Lines.{no_mov_sx}
+use Rattle.assembler.proofs.row.mov_sx_with.Goals as goal
+
+pub returns-in-None : goal.returns-in-None
+returns-in-None c = no_mov_sx c.args.operands.now (word.MovSx c.args.extension) c.args.extension refl c.in-None.ensures

@@ -1,0 +1,7 @@
+use Rattle.std.proofs.Common.{refl}
+use Rattle.disassembler.specs.declared.word.Word.TheVariants as word
+use Rattle.assembler.proofs.Lines.{no_mov}
+use Rattle.assembler.proofs.row.mov_with.Goals as goal
+
+pub returns-in-None : goal.returns-in-None
+returns-in-None c = no_mov c.args.operands.now (word.Mov c.args.width) c.args.width refl c.in-None.ensures

@@ -1,0 +1,7 @@
+use Rattle.std.proofs.Common.{refl}
+use Rattle.disassembler.specs.declared.word.Word.TheVariants as word
+use Rattle.assembler.proofs.Lines.{no_store_register}
+use Rattle.assembler.proofs.row.store_register_with.Goals as goal
+
+pub returns-in-None : goal.returns-in-None
+returns-in-None c = no_store_register c.args.operands.now (word.StoreRegister c.args.size) c.args.size refl c.in-None.ensures

@@ -1,0 +1,12 @@
+-- The numbers of the refusals.
+use Rattle.std.specs.Prelude.{ℕ}
+use Rattle.assembler.specs.declared.fault.TextFault.{TextFault}
+use Rattle.assembler.specs.declared.fault.TextFault.TheVariants.{UnknownWord, BadOperand, NumberRange, Empty, TooLong, NoMemory}
+
+abbrev pub code_of_fault : TextFault → ℕ
+code_of_fault (UnknownWord line) = 11
+code_of_fault (BadOperand line) = 12
+code_of_fault (NumberRange line) = 13
+code_of_fault Empty = 1
+code_of_fault TooLong = 3
+code_of_fault NoMemory = 99

@@ -1,0 +1,57 @@
+//! The refusals.
+
+ghost use Rattle.std.specs.Prelude.{◌≡◌};
+ghost use Rattle.assembler.specs.Fault.{code_of_fault};
+ghost use Rattle.assembler.specs.declared.fault.TextFault.TheVariants as fault;
+
+use std::alloc::{AllocError, AllocFailed};
+use thiserror::Error;
+
+/// Why a text is no program. The number is that of the line, counted from 1.
+#[derive(Clone, Copy, Debug, PartialEq, Eq, Error)]
+pub enum TextFault {
+    #[error("line {0}: no instruction has this word")]
+    UnknownWord(u64),
+    #[error("line {0}: the operands are not those of the word")]
+    BadOperand(u64),
+    #[error("line {0}: a number or a register is out of range")]
+    NumberRange(u64),
+    #[error("no instruction")]
+    Empty,
+    #[error("more than 4096 slots")]
+    TooLong,
+    #[error("out of memory")]
+    NoMemory,
+}
+
+impl TextFault {
+    /// The number of the refusal.
+    pub fn code(&self) -> u8
+        ensures { result ≡ code_of_fault self.now }
+    {
+        match self {
+            TextFault::UnknownWord(_) => 11,
+            TextFault::BadOperand(_) => 12,
+            TextFault::NumberRange(_) => 13,
+            TextFault::Empty => 1,
+            TextFault::TooLong => 3,
+            TextFault::NoMemory => 99,
+        }
+    }
+}
+
+impl From<AllocError> for TextFault {
+    ghost from_gives = { λ _ refusal. refusal ≡ fault.NoMemory };
+
+    fn from(_error: AllocError) -> TextFault {
+        TextFault::NoMemory
+    }
+}
+
+impl<T: Drop> From<AllocFailed<T>> for TextFault {
+    ghost from_gives = { λ _ refusal. refusal ≡ fault.NoMemory };
+
+    fn from(_error: AllocFailed<T>) -> TextFault {
+        TextFault::NoMemory
+    }
+}

@@ -1,0 +1,17 @@
+//! BPF instructions from text.
+#![tactic(auto)]
+
+mod assembling;
+mod cut;
+mod fault;
+mod form;
+mod line;
+mod number;
+mod pair;
+mod reading;
+mod row;
+mod source;
+mod word;
+
+pub use assembling::assemble;
+pub use fault::TextFault;
