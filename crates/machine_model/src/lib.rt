@@ -6,6 +6,8 @@ mod program;
 pub use program::Entry;
 
 // the exact operators
+#[cfg(test)]
+mod operator_tests;
 mod operators;
 mod unary;
 
