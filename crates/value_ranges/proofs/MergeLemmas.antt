@@ -31,33 +31,33 @@ Between-hull : (p q : Span) (k : ℤ) → Between p k ⊎ Between q k → Betwee
 Between-hull p q k (inl h) = (omega (arith, ints, clamps), omega (arith, ints, clamps))
 Between-hull p q k (inr h) = (omega (arith, ints, clamps), omega (arith, ints, clamps))
 
-covers : (a b : Abs) (v : Value) → Covers a v ⊎ Covers b v → Covers (joined a b) v
-covers Unset b v h = tt
-covers (Num a) Unset v h = tt
-covers (Num a) (Num b) (value.Num x) (inl h) = (Within-hull a b x (inl h.0), h.1)
-covers (Num a) (Num b) (value.Num x) (inr h) = (Within-hull a b x (inr h.0), h.1)
-covers (Num a) (Num b) value.Unset h = ⊎_elim (λ e. e) (λ e. e) h
-covers (Num a) (Num b) (value.Stack k) h = ⊎_elim (λ e. e) (λ e. e) h
-covers (Num a) (Num b) (value.Part k) h = ⊎_elim (λ e. e) (λ e. e) h
-covers (Num a) (Stack q) v h = tt
-covers (Num a) (Part q) v h = tt
-covers (Stack p) Unset v h = tt
-covers (Stack p) (Num b) v h = tt
-covers (Stack p) (Stack q) (value.Stack k) h = Between-hull p q k h
-covers (Stack p) (Stack q) value.Unset h = ⊎_elim (λ e. e) (λ e. e) h
-covers (Stack p) (Stack q) (value.Num k) h = ⊎_elim (λ e. e) (λ e. e) h
-covers (Stack p) (Stack q) (value.Part k) h = ⊎_elim (λ e. e) (λ e. e) h
-covers (Stack p) (Part q) v h = tt
-covers (Part p) Unset v h = tt
-covers (Part p) (Num b) v h = tt
-covers (Part p) (Stack q) v h = tt
-covers (Part p) (Part q) (value.Part k) h = Between-hull p q k h
-covers (Part p) (Part q) value.Unset h = ⊎_elim (λ e. e) (λ e. e) h
-covers (Part p) (Part q) (value.Num k) h = ⊎_elim (λ e. e) (λ e. e) h
-covers (Part p) (Part q) (value.Stack k) h = ⊎_elim (λ e. e) (λ e. e) h
+pub covers_joined : (a b : Abs) (v : Value) → Covers a v ⊎ Covers b v → Covers (joined a b) v
+covers_joined Unset b v h = tt
+covers_joined (Num a) Unset v h = tt
+covers_joined (Num a) (Num b) (value.Num x) (inl h) = (Within-hull a b x (inl h.0), h.1)
+covers_joined (Num a) (Num b) (value.Num x) (inr h) = (Within-hull a b x (inr h.0), h.1)
+covers_joined (Num a) (Num b) value.Unset h = ⊎_elim (λ e. e) (λ e. e) h
+covers_joined (Num a) (Num b) (value.Stack k) h = ⊎_elim (λ e. e) (λ e. e) h
+covers_joined (Num a) (Num b) (value.Part k) h = ⊎_elim (λ e. e) (λ e. e) h
+covers_joined (Num a) (Stack q) v h = tt
+covers_joined (Num a) (Part q) v h = tt
+covers_joined (Stack p) Unset v h = tt
+covers_joined (Stack p) (Num b) v h = tt
+covers_joined (Stack p) (Stack q) (value.Stack k) h = Between-hull p q k h
+covers_joined (Stack p) (Stack q) value.Unset h = ⊎_elim (λ e. e) (λ e. e) h
+covers_joined (Stack p) (Stack q) (value.Num k) h = ⊎_elim (λ e. e) (λ e. e) h
+covers_joined (Stack p) (Stack q) (value.Part k) h = ⊎_elim (λ e. e) (λ e. e) h
+covers_joined (Stack p) (Part q) v h = tt
+covers_joined (Part p) Unset v h = tt
+covers_joined (Part p) (Num b) v h = tt
+covers_joined (Part p) (Stack q) v h = tt
+covers_joined (Part p) (Part q) (value.Part k) h = Between-hull p q k h
+covers_joined (Part p) (Part q) value.Unset h = ⊎_elim (λ e. e) (λ e. e) h
+covers_joined (Part p) (Part q) (value.Num k) h = ⊎_elim (λ e. e) (λ e. e) h
+covers_joined (Part p) (Part q) (value.Stack k) h = ⊎_elim (λ e. e) (λ e. e) h
 
 pub joined_covers : (a b r : Abs) → r ≡ joined a b → CoversBoth a b r
-joined_covers a b r e = rw e (covers a b)
+joined_covers a b r e = rw e (covers_joined a b)
 
 second : (s t : Bool) → (s && t) ≡ true → t ≡ true
 second true t e = e
@@ -136,21 +136,21 @@ jump w t d s taken a b x y p q h k g =
     pair_covers (is_register s) a b x y _ p q (Within-refined (relation_of t taken) a b x y (relation_holds t taken (bits_of w) x y plain) h k) h k)
     h k
 
-edge : (i : Insn) (taken : Bool) (a b : Abs) → CoversEdge i taken a b (refined_by i taken a b)
-edge (JumpIf w t d s o) taken (Num a) (Num b) (value.Num x) (value.Num y) h k g = jump w t d s taken a b x y h.1 k.1 h.0 k.0 g
-edge (JumpIf w t d s o) taken (Num a) (Num b) value.Unset y h k g = absurd h
-edge (JumpIf w t d s o) taken (Num a) (Num b) (value.Stack z) y h k g = absurd h
-edge (JumpIf w t d s o) taken (Num a) (Num b) (value.Part z) y h k g = absurd h
-edge (JumpIf w t d s o) taken (Num a) (Num b) (value.Num x) value.Unset h k g = absurd k
-edge (JumpIf w t d s o) taken (Num a) (Num b) (value.Num x) (value.Stack z) h k g = absurd k
-edge (JumpIf w t d s o) taken (Num a) (Num b) (value.Num x) (value.Part z) h k g = absurd k
-edge (JumpIf w t d s o) taken (Num a) Unset x y h k g = (h, k)
-edge (JumpIf w t d s o) taken (Num a) (Stack z) x y h k g = (h, k)
-edge (JumpIf w t d s o) taken (Num a) (Part z) x y h k g = (h, k)
-edge (JumpIf w t d s o) taken Unset b x y h k g = (h, k)
-edge (JumpIf w t d s o) taken (Stack z) b x y h k g = (h, k)
-edge (JumpIf w t d s o) taken (Part z) b x y h k g = (h, k)
-edge _ taken a b x y h k g = (h, k)
+pub covers_edge : (i : Insn) (taken : Bool) (a b : Abs) → CoversEdge i taken a b (refined_by i taken a b)
+covers_edge (JumpIf w t d s o) taken (Num a) (Num b) (value.Num x) (value.Num y) h k g = jump w t d s taken a b x y h.1 k.1 h.0 k.0 g
+covers_edge (JumpIf w t d s o) taken (Num a) (Num b) value.Unset y h k g = absurd h
+covers_edge (JumpIf w t d s o) taken (Num a) (Num b) (value.Stack z) y h k g = absurd h
+covers_edge (JumpIf w t d s o) taken (Num a) (Num b) (value.Part z) y h k g = absurd h
+covers_edge (JumpIf w t d s o) taken (Num a) (Num b) (value.Num x) value.Unset h k g = absurd k
+covers_edge (JumpIf w t d s o) taken (Num a) (Num b) (value.Num x) (value.Stack z) h k g = absurd k
+covers_edge (JumpIf w t d s o) taken (Num a) (Num b) (value.Num x) (value.Part z) h k g = absurd k
+covers_edge (JumpIf w t d s o) taken (Num a) Unset x y h k g = (h, k)
+covers_edge (JumpIf w t d s o) taken (Num a) (Stack z) x y h k g = (h, k)
+covers_edge (JumpIf w t d s o) taken (Num a) (Part z) x y h k g = (h, k)
+covers_edge (JumpIf w t d s o) taken Unset b x y h k g = (h, k)
+covers_edge (JumpIf w t d s o) taken (Stack z) b x y h k g = (h, k)
+covers_edge (JumpIf w t d s o) taken (Part z) b x y h k g = (h, k)
+covers_edge _ taken a b x y h k g = (h, k)
 
 pub refined_covers : (i : Insn) (taken : Bool) (a b : Abs) (r : Abs × Abs) → r ≡ refined_by i taken a b → CoversEdge i taken a b r
-refined_covers i taken a b r e = rw e (edge i taken a b)
+refined_covers i taken a b r e = rw e (covers_edge i taken a b)

@@ -17,6 +17,7 @@ use Rattle.insn_codec.specs.declared.insn.AluOp.{AluOp}
 use Rattle.insn_codec.specs.declared.insn.Insn.{Insn}
 use Rattle.insn_codec.specs.declared.insn.Insn.TheVariants.{Alu, Mov, MovSx, Neg, End}
 use Rattle.machine_model.proofs.OperatorLemmas.{below_64, bits_of-le, end_bits-le, number_result-lt, extended_by-lt, negated-lt, ordered_by-lt}
+use Rattle.value_ranges.proofs.CoverLemmas.{is_number, is_stack, is_part}
 use Rattle.value_ranges.proofs.Dispatch.{Within-number_range}
 use Rattle.value_ranges.proofs.RowLemmas.{Within-cut}
 use Rattle.value_ranges.proofs.Extensions.{Within-extension, Within-negated, Within-ordered}
@@ -25,25 +26,6 @@ use Rattle.value_ranges.proofs.PointerLemmas.{HasPosition, after, onto}
 -- the value that the instruction gives is there, and covered
 abbrev HasValue : Option Value → Abs → Type 0
 HasValue o r = (z : Value) × (o ≡ Some z) × Covers r z
-
--- a value that a range covers is a number, and so on
-is_number : (r : Interval) (v : Value) → Covers (Num r) v → (n : ℕ) × (v ≡ value.Num n) × Within r n × (n < 2 ^ 64)
-is_number r value.Unset h = absurd h
-is_number r (value.Num n) h = (n, refl, h.0, h.1)
-is_number r (value.Stack k) h = absurd h
-is_number r (value.Part k) h = absurd h
-
-is_stack : (p : Span) (v : Value) → Covers (Stack p) v → (k : ℤ) × (v ≡ value.Stack k) × Between p k
-is_stack p value.Unset h = absurd h
-is_stack p (value.Num n) h = absurd h
-is_stack p (value.Stack k) h = (k, refl, h)
-is_stack p (value.Part k) h = absurd h
-
-is_part : (p : Span) (v : Value) → Covers (Part p) v → (k : ℤ) × (v ≡ value.Part k) × Between p k
-is_part p value.Unset h = absurd h
-is_part p (value.Num n) h = absurd h
-is_part p (value.Stack k) h = absurd h
-is_part p (value.Part k) h = (k, refl, h)
 
 on_stack : (r : Result Span ℕ) (o : Option ℤ) → IfOk r (HasPosition o) → IfOk (table.in_stack r) (HasValue (outcome.in_stack o))
 on_stack (Ok q) o h = rw h.1 (value.Stack h.0, refl, h.2)
@@ -115,5 +97,5 @@ table_covers i a b r e n t =
     rw e (all i a b (table_of i a b) (λ x y h k. each i a b x y n t h k))
 
 -- what the table gives covers each outcome
-pub table_outcomes : (i : Insn) (a b r : Abs) → table_of i a b ≡ Ok r → IsArithmetic i → IsReadSet i a b → CoversOutcomes i a b r
-table_outcomes i a b r e n t = table_covers i a b (Ok r) (sym e) n t
+pub covers_outcomes : (i : Insn) (a b r : Abs) → table_of i a b ≡ Ok r → IsArithmetic i → IsReadSet i a b → CoversOutcomes i a b r
+covers_outcomes i a b r e n t = table_covers i a b (Ok r) (sym e) n t
