@@ -2,6 +2,7 @@
 
 ghost use Rattle.std.specs.Prelude.{◌≡◌};
 ghost use Rattle.value_ranges.specs.Refinements.{IsConditional};
+ghost use Rattle.value_ranges.specs.Tables.{IsSet};
 ghost use Rattle.value_ranges.specs.Words.{between};
 
 use crate::abs::{Abs, Reach};
@@ -224,93 +225,79 @@ const POINTERS_TOO_FAR: [(AluOp, (i32, i32), (u64, u64)); 8] = [
     (Sub, (-1_048_576, 0), (0, 1)),
 ];
 
+/// The second operand is register 3.
+fn operated(width: Width, op: AluOp, dst: Abs, src: Abs) -> Result<Abs, u8>
+    requires dst_set { IsSet dst }
+    requires src_set { IsSet src }
+{
+    let insn = Insn::Alu {
+        width,
+        op,
+        dst: Register::new(1),
+        src: Operand::Reg(Register::new(3)),
+    };
+    alu(&insn, dst, src)
+}
+
 #[test]
 fn pointers_move_within_a_limit(rt: HostRuntime) {
-    let dst = Register::new(1);
-    let src = Operand::Reg(Register::new(3));
     for (op, at, by, want) in POINTER_MOVES {
-        let insn = Insn::Alu {
-            width: W64,
-            op,
-            dst,
-            src,
-        };
-        let given = alu(&insn, Abs::Part(reach(rt, at)), number(rt, by));
+        let given = operated(W64, op, Abs::Part(reach(rt, at)), number(rt, by));
         assert!(rt;
             given == Ok(Abs::Part(reach(rt, want))),
             "{op:?} {at:?} {by:?}"
         );
-        let given = alu(&insn, Abs::Stack(reach(rt, at)), number(rt, by));
+        let given = operated(W64, op, Abs::Stack(reach(rt, at)), number(rt, by));
         assert!(rt;
             given == Ok(Abs::Stack(reach(rt, want))),
             "{op:?} {at:?} {by:?}"
         );
     }
     for (op, at, by) in POINTERS_TOO_FAR {
-        let insn = Insn::Alu {
-            width: W64,
-            op,
-            dst,
-            src,
-        };
-        let given = alu(&insn, Abs::Part(reach(rt, at)), number(rt, by));
+        let given = operated(W64, op, Abs::Part(reach(rt, at)), number(rt, by));
         assert!(rt; given == Err(35), "{op:?} {at:?} {by:?}");
     }
 }
 
 #[test]
 fn pointers_have_few_operators(rt: HostRuntime) {
-    let dst = Register::new(1);
-    let src = Operand::Reg(Register::new(3));
-    let part = Reach::new(2, 2);
-    let one = number(rt, (1, 1));
-    let add = Insn::Alu {
+    let at = Reach::new(2, 2);
+    let given = operated(W64, Add, number(rt, (1, 1)), Abs::Part(at));
+    assert!(rt; given == Ok(Abs::Part(Reach::new(3, 3))));
+    for (width, op) in [(W64, And), (W64, Mul), (W32, Add), (W32, Sub)] {
+        let given = operated(width, op, Abs::Part(at), number(rt, (1, 1)));
+        assert!(rt; given == Err(34), "{width:?} {op:?}");
+    }
+    assert!(rt; operated(W64, Add, Abs::Part(at), Abs::Part(at)) == Err(34));
+    assert!(rt; operated(W64, Sub, Abs::Stack(at), Abs::Stack(at)) == Err(34));
+    assert!(rt; operated(W64, Sub, number(rt, (1, 1)), Abs::Stack(at)) == Err(34));
+    let negate = Insn::Neg {
         width: W64,
-        op: Add,
-        dst,
-        src,
+        dst: Register::new(1),
     };
-    assert!(rt; alu(&add, number(rt, (1, 1)), Abs::Part(part)) == Ok(Abs::Part(Reach::new(3, 3))));
-    assert!(rt; alu(&add, Abs::Part(part), Abs::Part(part)) == Err(34));
-    let subtract = Insn::Alu {
-        width: W64,
-        op: Sub,
-        dst,
-        src,
+    assert!(rt; alu(&negate, Abs::Stack(at), Abs::Unset) == Err(34));
+}
+
+fn copied(width: Width, src: Abs) -> Result<Abs, u8>
+    requires { IsSet src }
+{
+    let insn = Insn::Mov {
+        width,
+        dst: Register::new(1),
+        src: Operand::Reg(Register::new(3)),
     };
-    assert!(rt; alu(&subtract, one, Abs::Part(part)) == Err(34));
-    assert!(rt; alu(&subtract, Abs::Stack(part), Abs::Stack(part)) == Err(34));
-    let narrow = Insn::Alu {
-        width: W32,
-        op: Add,
-        dst,
-        src,
-    };
-    assert!(rt; alu(&narrow, Abs::Part(part), number(rt, (1, 1))) == Err(34));
-    let and = Insn::Alu {
-        width: W64,
-        op: And,
-        dst,
-        src,
-    };
-    assert!(rt; alu(&and, Abs::Part(part), number(rt, (1, 1))) == Err(34));
-    let copy = Insn::Mov {
-        width: W64,
-        dst,
-        src,
-    };
-    assert!(rt; alu(&copy, Abs::Unset, Abs::Stack(part)) == Ok(Abs::Stack(part)));
-    assert!(rt; alu(&copy, Abs::Unset, number(rt, (0, TOP))) == Ok(number(rt, FULL)));
-    let cut = Insn::Mov {
-        width: W32,
-        dst,
-        src,
-    };
-    assert!(rt; alu(&cut, Abs::Unset, Abs::Stack(part)) == Err(34));
-    assert!(rt; alu(&cut, Abs::Unset, number(rt, (5, 9))) == Ok(number(rt, (5, 9))));
-    assert!(rt; alu(&cut, Abs::Unset, number(rt, (5, 1 << 32))) == Ok(number(rt, FULL_32)));
-    let negate = Insn::Neg { width: W64, dst };
-    assert!(rt; alu(&negate, Abs::Stack(part), Abs::Unset) == Err(34));
+    alu(&insn, Abs::Unset, src)
+}
+
+#[test]
+fn moves_copy_or_cut(rt: HostRuntime) {
+    let at = Reach::new(2, 2);
+    assert!(rt; copied(W64, Abs::Stack(at)) == Ok(Abs::Stack(at)));
+    assert!(rt; copied(W64, number(rt, FULL)) == Ok(number(rt, FULL)));
+    assert!(rt; copied(W32, Abs::Stack(at)) == Err(34));
+    assert!(rt; copied(W32, number(rt, (5, 9))) == Ok(number(rt, (5, 9))));
+    assert!(rt; copied(W32, number(rt, (5, 1 << 32))) == Ok(number(rt, FULL_32)));
+    assert!(rt; copied(W32, number(rt, (1 << 32, 1 << 32))) == Ok(number(rt, (0, 0))));
 }
 
 #[test]
