@@ -1,5 +1,5 @@
 -- Joins and refinements keep what was covered.
-use Rattle.std.proofs.Common.{◌≡◌, ℕ, ℤ, Bool, true, false, Option, Some, None, ◌⊎◌, ⊎_elim, inl, inr, arith, refl, sym, subst, ap, ◌∙◌, ◌%◌, ◌^◌, ◌<◌, ◌≤◌}
+use Rattle.std.proofs.Common.{◌≡◌, ℕ, ℤ, Bool, true, false, Option, Some, None, ◌⊎◌, ⊎_elim, inl, inr, arith, refl, ◌%◌, ◌^◌, ◌<◌, ◌≤◌}
 use Rattle.std.specs.Prelude.{◌≢◌, IfSome, if◌then◌else◌, ◌&&◌}
 use Rattle.std.proofs.lemmas.Int.{ints, clamps}
 use Rattle.std.proofs.lemmas.Bool.Decides.{nat_tests}

@@ -1,6 +1,6 @@
 -- The table of arithmetic instructions covers what they give.
-use Rattle.std.proofs.Common.{◌≡◌, ℕ, ℤ, IfOk, Result, Ok, Err, Option, Some, None, arith, refl, sym, ◌%◌, ◌^◌, ◌<◌}
-use Rattle.value_ranges.specs.Covers.{Covers, CoversOutcomes, Between}
+use Rattle.std.proofs.Common.{◌≡◌, ℕ, ℤ, IfOk, Result, Ok, Err, Option, Some, arith, refl, sym, ◌%◌, ◌^◌, ◌<◌}
+use Rattle.value_ranges.specs.Covers.{Covers, CoversOutcomes}
 use Rattle.value_ranges.specs.Interval.{Interval, Within}
 use Rattle.machine_model.specs.Outcomes.{outcome_of, alu_outcome, mov_outcome, number_result, on_number, extended_by, negated, ordered_by, width_to}
 use Rattle.machine_model.specs.Outcomes as outcome

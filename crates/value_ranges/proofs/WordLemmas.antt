@@ -1,5 +1,5 @@
 -- The words for loads and for a task's start cover what they stand for.
-use Rattle.std.proofs.Common.{◌≡◌, ℕ, ℤ, pos, Bool, true, false, if◌then◌else◌, ◌%◌, ◌^◌, ◌<◌, ◌≤◌, arith}
+use Rattle.std.proofs.Common.{◌≡◌, ℕ, pos, Bool, true, false, if◌then◌else◌, ◌%◌, ◌^◌, arith}
 use Rattle.std.specs.Prelude.{◌==◌}
 use Rattle.value_ranges.proofs.CoverLemmas.{between_alone, covers_any}
 use Rattle.value_ranges.specs.Covers.{Covers}

@@ -1,6 +1,6 @@
 -- The table of arithmetic instructions on abstract values.
-use Rattle.std.specs.Prelude.{ℕ, ℤ, pos, ◌+ℤ◌, ◌-ℤ◌, neg_ℤ, ◌%◌, ◌-◌, ◌^◌, nat_lt, nat_le, if◌then◌else◌, Option, Some, None, Result, Ok, Err, int_lt, ◌||◌, Bool, true, false}
-use Rattle.value_ranges.specs.Interval.{Interval, interval, single, full, is_single}
+use Rattle.std.specs.Prelude.{ℕ, ℤ, pos, ◌+ℤ◌, ◌-ℤ◌, neg_ℤ, ◌^◌, nat_lt, nat_le, if◌then◌else◌, Option, Some, None, Result, Ok, Err, int_lt, ◌||◌, Bool, true, false}
+use Rattle.value_ranges.specs.Interval.{Interval, single, full, is_single}
 use Rattle.value_ranges.specs.Span.{Span, span}
 use Rattle.value_ranges.specs.Ranges.{cut, range_of, extended_range, low_range}
 use Rattle.machine_model.specs.Operators.{bits_of}
