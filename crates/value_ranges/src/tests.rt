@@ -480,6 +480,14 @@ fn edges_that_tell_less(rt: HostRuntime) {
     let insn = jump(W64, Condition::Greater, Operand::Imm(15));
     let given = refine(&insn, false, number(rt, FULL), immediate(15));
     assert!(rt; given == (number(rt, (0, 15)), immediate(15)));
+    // at 32 bits an immediate below 0 is a great number
+    let insn = jump(W32, Condition::Less, Operand::Imm(-16));
+    let given = refine(&insn, true, number(rt, FULL_32), immediate(-16));
+    assert!(rt; given == (number(rt, (0, 0xffff_ffef)), immediate(-16)));
+    let given = refine(&insn, false, number(rt, FULL_32), immediate(-16));
+    assert!(rt; given == (number(rt, (0xffff_fff0, 0xffff_ffff)), immediate(-16)));
+    let given = refine(&insn, false, number(rt, FULL), immediate(-16));
+    assert!(rt; given == (number(rt, FULL), immediate(-16)));
     // a register compared with itself
     let insn = jump(W64, Condition::Greater, Operand::Reg(Register::new(3)));
     assert!(rt;

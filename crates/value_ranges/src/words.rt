@@ -1,6 +1,6 @@
 //! The words by which the layers above make abstract values.
 
-ghost use Rattle.std.specs.Prelude.{◌≡◌, ◌≤◌, ◌<◌, ◌^◌, true};
+ghost use Rattle.std.specs.Prelude.{◌≡◌, ◌≤◌, true};
 ghost use Rattle.machine_model.specs.Operators.{residue};
 ghost use Rattle.machine_model.specs.Value.{Num};
 ghost use Rattle.value_ranges.specs.Covers.{Covers};
