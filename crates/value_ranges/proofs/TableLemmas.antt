@@ -97,5 +97,5 @@ table_covers i a b r e n t =
     rw e (all i a b (table_of i a b) (λ x y h k. each i a b x y n t h k))
 
 -- what the table gives covers each outcome
-pub covers_outcomes : (i : Insn) (a b r : Abs) → table_of i a b ≡ Ok r → IsArithmetic i → IsReadSet i a b → CoversOutcomes i a b r
-covers_outcomes i a b r e n t = table_covers i a b (Ok r) (sym e) n t
+pub table_outcomes : (i : Insn) (a b r : Abs) → table_of i a b ≡ Ok r → IsArithmetic i → IsReadSet i a b → CoversOutcomes i a b r
+table_outcomes i a b r e n t = table_covers i a b (Ok r) (sym e) n t
