@@ -8,3 +8,4 @@ pub mod Tiles
 pub mod OperatorLemmas
 pub mod Codes
 pub mod Costs
+pub mod ComputingLemmas

@@ -7,3 +7,4 @@ pub mod Memory
 pub mod Spawn
 pub mod Machine
 pub mod Job
+pub mod Computing

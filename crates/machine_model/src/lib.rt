@@ -8,8 +8,12 @@ pub use laws::{conserves_credit, keeps_tiling};
 pub use program::Entry;
 
 // the exact operators
+mod computing;
+#[cfg(test)]
+mod operator_tests;
 mod operators;
 mod unary;
 
+pub use computing::compute;
 pub use operators::{alu_number, apply_alu, bits, holds, low_bits, residue, shift_count, signed};
 pub use unary::{extension_width, low_end, negate, reorder_bytes, sign_extend};

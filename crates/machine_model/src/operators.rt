@@ -66,7 +66,6 @@ pub fn apply_alu(op: AluOp, width: Width, a: u64, b: u64) -> u64
     requires b_fits { b < 2 ^ bits_of width }
     ensures { result ≡ result_of op (bits_of width) a b }
 {
-    let shift = shift_count(width, b);
     match op {
         AluOp::Add => low_bits(width, a.wrapping_add(b)),
         AluOp::Sub => low_bits(width, a.wrapping_sub(b)),
@@ -76,22 +75,30 @@ pub fn apply_alu(op: AluOp, width: Width, a: u64, b: u64) -> u64
         AluOp::Sdiv => residue(width, signed(width, a).wrapping_div(signed(width, b))),
         AluOp::Or => a | b,
         AluOp::And => a & b,
-        AluOp::Lsh => low_bits(width, a << shift),
-        AluOp::Rsh => a >> shift,
+        AluOp::Lsh => low_bits(width, a << shift_count(width, b)),
+        AluOp::Rsh => a >> shift_count(width, b),
         AluOp::Mod => a.checked_rem(b).unwrap_or(a),
         AluOp::Smod if b == 0 => a,
         AluOp::Smod => residue(width, signed(width, a).wrapping_rem(signed(width, b))),
         AluOp::Xor => a ^ b,
-        AluOp::Arsh => residue(width, signed(width, a) >> shift),
+        AluOp::Arsh => residue(width, signed(width, a) >> shift_count(width, b)),
     }
 }
 
-/// What an instruction with this operator gives on two registers' numbers.
+/// What an instruction with this operator gives on two registers' numbers. The width is told apart first, so that the
+/// compiler can lay out each width's operators without a test of it.
 #[inline]
 pub fn alu_number(op: AluOp, width: Width, x: u64, y: u64) -> u64
     ensures { result ≡ number_result width op x y }
 {
-    apply_alu(op, width, low_bits(width, x), low_bits(width, y))
+    match width {
+        Width::W32 => {
+            let a = low_bits(Width::W32, x);
+            let b = low_bits(Width::W32, y);
+            apply_alu(op, Width::W32, a, b)
+        }
+        Width::W64 => apply_alu(op, Width::W64, x, y),
+    }
 }
 
 /// Whether the condition holds of two numbers of the width.

@@ -1,9 +1,9 @@
 -- The rows of the bitwise operators, and the least mask that covers a number.
-use Rattle.std.proofs.Common.{◌≡◌, ℕ, suc, ◌+◌, ◌-◌, ◌*◌, ◌/◌, ◌^◌, ◌<◌, ◌≤◌, arith, min, max, bit_and, bit_or, bit_xor, inl, inr}
+use Rattle.std.proofs.Common.{◌≡◌, ℕ, suc, ◌-◌, ◌*◌, ◌/◌, ◌^◌, ◌<◌, ◌≤◌, arith, max, inl, inr}
 use Rattle.std.specs.Int.{leading_zeros, w64}
 use Rattle.std.proofs.Math.Nat.{pow-le-pow_right, pow-suc}
 use Rattle.std.proofs.lemmas.Bool.{cases_lt}
-use Rattle.std.proofs.lemmas.Nat.{leading_length, leading_le, and_le_l, and_le_r, le_or_l, le_or_r, or_lt, xor_lt, pow_below, pow_pos}
+use Rattle.std.proofs.lemmas.Nat.{leading_length, leading_le, and_le_l, and_le_r, le_or_l, le_or_r, or_lt, xor_lt, pow_pos}
 use Rattle.std.proofs.lemmas.Nat.Bits.{ones_shr}
 use Rattle.value_ranges.specs.Interval.{Interval, Within}
 use Rattle.machine_model.specs.Operators.{result_of}

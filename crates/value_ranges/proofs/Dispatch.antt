@@ -1,17 +1,14 @@
 -- The whole table covers what the operators give.
-use Rattle.std.proofs.Common.{◌≡◌, ℕ, ℤ, pos, zero, ◌+◌, ◌-◌, ◌*◌, ◌/◌, ◌%◌, ◌^◌, ◌<◌, ◌≤◌, arith, ap, subst, sym, ◌∙◌, inl, inr}
+use Rattle.std.proofs.Common.{◌≡◌, ℕ, ◌-◌, ◌/◌, ◌%◌, ◌^◌, ◌<◌, ◌≤◌, arith}
 use Rattle.std.specs.Int.{int_shr}
-use Rattle.std.proofs.lemmas.Bool.{cases_lt}
 use Rattle.std.proofs.lemmas.Bool.Decides.{nat_tests}
-use Rattle.std.proofs.lemmas.Nat.{pow_pos, pow_below}
-use Rattle.std.proofs.Math.Nat.{mod-eq_of_lt, mod-lt, div-le_self, pow-le-pow_right}
-use Rattle.value_ranges.specs.Interval.{Interval, Within, full}
+use Rattle.std.proofs.Math.Nat.{mod-eq_of_lt, div-le_self, pow-le-pow_right}
+use Rattle.value_ranges.specs.Interval.{Interval, Within}
 use Rattle.machine_model.specs.Operators.{bits_of, result_of, residue, signed}
 use Rattle.machine_model.specs.Outcomes.{number_result}
-use Rattle.value_ranges.specs.Ranges.{cut, row_of, range_of, shifted_right_range}
+use Rattle.value_ranges.specs.Ranges.{cut, row_of, range_of}
 use Rattle.value_ranges.specs.Tables.{number_range}
 use Rattle.insn_codec.specs.declared.insn.Width.{Width}
-use Rattle.insn_codec.specs.declared.insn.Width.TheVariants.{W32, W64}
 use Rattle.insn_codec.specs.declared.insn.AluOp.{AluOp}
 use Rattle.insn_codec.specs.declared.insn.AluOp.TheVariants.{Add, Sub, Mul, Div, Sdiv, Or, And, Lsh, Rsh, Arsh, Mod, Smod, Xor}
 use Rattle.value_ranges.proofs.RowLemmas.{Within-sum, Within-difference, Within-product, Within-quotient, Within-remainder, Within-shifted_left, Within-shifted_right, Within-cut, cut-fits}

@@ -1,22 +1,19 @@
 -- Sign extension, byte order and negation: their rows cover what they give.
-use Rattle.std.proofs.Common.{◌≡◌, ℕ, ◌+◌, ◌-◌, ◌%◌, ◌^◌, ◌<◌, ◌≤◌, arith, ap, refl, pos, if◌then◌else◌}
-use Rattle.std.proofs.lemmas.Nat.{pow_pos}
-use Rattle.std.proofs.Math.Nat.{mod-eq_of_lt, mod-lt, pow-le-pow_right}
+use Rattle.std.proofs.Common.{◌≡◌, ℕ, ◌-◌, ◌%◌, ◌^◌, ◌<◌, ◌≤◌, arith, ap, if◌then◌else◌}
+use Rattle.std.proofs.Math.Nat.{mod-eq_of_lt, pow-le-pow_right}
 use Rattle.std.proofs.lemmas.Bool.Decides.{nat_tests}
 use Rattle.value_ranges.specs.Interval.{Interval, Within, full, single, is_single}
-use Rattle.machine_model.specs.Operators.{bits_of, residue, signed, extended, reversed}
-use Rattle.machine_model.specs.Outcomes.{bits_from, extended_by, width_to, negated, ordered_by, end_bits, int_width}
+use Rattle.machine_model.specs.Operators.{bits_of, signed, extended}
+use Rattle.machine_model.specs.Outcomes.{bits_from, extended_by, width_to, negated, ordered_by, end_bits}
 use Rattle.value_ranges.specs.Tables.{extension_range, negated_range, ordered_range}
 use Rattle.value_ranges.specs.Ranges.{cut, extended_range}
 use Rattle.insn_codec.specs.declared.insn.Width.{Width}
 use Rattle.insn_codec.specs.declared.insn.ByteOrder.{ByteOrder}
 use Rattle.insn_codec.specs.declared.insn.ByteOrder.TheVariants.{Little, Big, Swap}
 use Rattle.insn_codec.specs.declared.insn.EndSize.{EndSize}
-use Rattle.insn_codec.specs.declared.insn.EndSize.TheVariants as size
 use Rattle.insn_codec.specs.declared.insn.SignExtension.{SignExtension}
-use Rattle.insn_codec.specs.declared.insn.SignExtension.TheVariants.{From8To32, From16To32, From8To64, From16To64, From32To64}
 use Rattle.value_ranges.proofs.RowLemmas.{Within-cut, cut-fits}
-use Rattle.machine_model.proofs.OperatorLemmas.{residue-lt, signed-small, extended_by-lt, negated-lt, ordered_by-lt}
+use Rattle.machine_model.proofs.OperatorLemmas.{residue-lt, signed-small, negated-lt, ordered_by-lt}
 
 half_pow : (n : ℕ) → 2 ^ (n - 1) ≤ 2 ^ n
 half_pow n = pow-le-pow_right {n = 2} (omega arith) {i = n - 1} {j = n} (omega arith)

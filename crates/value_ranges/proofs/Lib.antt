@@ -1,3 +1,4 @@
+pub mod CoverLemmas
 pub mod RowLemmas
 pub mod BitRows
 pub mod Dispatch

@@ -1,5 +1,5 @@
 -- Joins and refinements keep what was covered.
-use Rattle.std.proofs.Common.{◌≡◌, ℕ, ℤ, Bool, true, false, Option, Some, None, ◌⊎◌, ⊎_elim, inl, inr, arith, refl, sym, subst, ap, ◌∙◌, ◌%◌, ◌^◌, ◌<◌, ◌≤◌}
+use Rattle.std.proofs.Common.{◌≡◌, ℕ, ℤ, Bool, true, false, Option, Some, None, ◌⊎◌, ⊎_elim, inl, inr, arith, refl, ◌%◌, ◌^◌, ◌<◌, ◌≤◌}
 use Rattle.std.specs.Prelude.{◌≢◌, IfSome, if◌then◌else◌, ◌&&◌}
 use Rattle.std.proofs.lemmas.Int.{ints, clamps}
 use Rattle.std.proofs.lemmas.Bool.Decides.{nat_tests}
@@ -7,7 +7,7 @@ use Rattle.std.proofs.Math.Nat.{mod-eq_of_lt}
 use Rattle.value_ranges.specs.Covers.{Covers, CoversBoth, Between}
 use Rattle.value_ranges.specs.Interval.{Interval, Within}
 use Rattle.value_ranges.specs.Joins.{joined, hull, span_hull}
-use Rattle.value_ranges.specs.Refinements.{refined_by, CoversEdge, relation_of, narrowed, refined_ranges, refined_pair, is_whole, is_other, is_register}
+use Rattle.value_ranges.specs.Refinements.{refined_by, CoversEdge, relation_of, narrowed, refined_ranges, refined_pair, is_whole, is_other, is_register, compared}
 use Rattle.value_ranges.specs.Span.{Span}
 use Rattle.machine_model.specs.Value.{Value}
 use Rattle.machine_model.specs.Value as value
@@ -17,6 +17,9 @@ use Rattle.machine_model.specs.Operators.{bits_of, holds}
 use Rattle.insn_codec.specs.declared.insn.Width.{Width}
 use Rattle.insn_codec.specs.declared.insn.Width.TheVariants.{W32, W64}
 use Rattle.insn_codec.specs.declared.insn.Operand.{Operand}
+use Rattle.insn_codec.specs.declared.insn.Operand.TheVariants as operand
+use Rattle.value_ranges.specs.Ranges.{cut}
+use Rattle.value_ranges.proofs.RowLemmas.{Within-cut}
 use Rattle.insn_codec.specs.declared.insn.Condition.{Condition}
 use Rattle.insn_codec.specs.declared.insn.Condition.TheVariants.{Equal, NotEqual, Greater, GreaterEqual, Less, LessEqual, Set, SignedGreater, SignedGreaterEqual, SignedLess, SignedLessEqual}
 use Rattle.value_ranges.specs.declared.refinements.Relation.{Relation}
@@ -31,33 +34,33 @@ Between-hull : (p q : Span) (k : ℤ) → Between p k ⊎ Between q k → Betwee
 Between-hull p q k (inl h) = (omega (arith, ints, clamps), omega (arith, ints, clamps))
 Between-hull p q k (inr h) = (omega (arith, ints, clamps), omega (arith, ints, clamps))
 
-covers : (a b : Abs) (v : Value) → Covers a v ⊎ Covers b v → Covers (joined a b) v
-covers Unset b v h = tt
-covers (Num a) Unset v h = tt
-covers (Num a) (Num b) (value.Num x) (inl h) = (Within-hull a b x (inl h.0), h.1)
-covers (Num a) (Num b) (value.Num x) (inr h) = (Within-hull a b x (inr h.0), h.1)
-covers (Num a) (Num b) value.Unset h = ⊎_elim (λ e. e) (λ e. e) h
-covers (Num a) (Num b) (value.Stack k) h = ⊎_elim (λ e. e) (λ e. e) h
-covers (Num a) (Num b) (value.Part k) h = ⊎_elim (λ e. e) (λ e. e) h
-covers (Num a) (Stack q) v h = tt
-covers (Num a) (Part q) v h = tt
-covers (Stack p) Unset v h = tt
-covers (Stack p) (Num b) v h = tt
-covers (Stack p) (Stack q) (value.Stack k) h = Between-hull p q k h
-covers (Stack p) (Stack q) value.Unset h = ⊎_elim (λ e. e) (λ e. e) h
-covers (Stack p) (Stack q) (value.Num k) h = ⊎_elim (λ e. e) (λ e. e) h
-covers (Stack p) (Stack q) (value.Part k) h = ⊎_elim (λ e. e) (λ e. e) h
-covers (Stack p) (Part q) v h = tt
-covers (Part p) Unset v h = tt
-covers (Part p) (Num b) v h = tt
-covers (Part p) (Stack q) v h = tt
-covers (Part p) (Part q) (value.Part k) h = Between-hull p q k h
-covers (Part p) (Part q) value.Unset h = ⊎_elim (λ e. e) (λ e. e) h
-covers (Part p) (Part q) (value.Num k) h = ⊎_elim (λ e. e) (λ e. e) h
-covers (Part p) (Part q) (value.Stack k) h = ⊎_elim (λ e. e) (λ e. e) h
+pub covers_joined : (a b : Abs) (v : Value) → Covers a v ⊎ Covers b v → Covers (joined a b) v
+covers_joined Unset b v h = tt
+covers_joined (Num a) Unset v h = tt
+covers_joined (Num a) (Num b) (value.Num x) (inl h) = (Within-hull a b x (inl h.0), h.1)
+covers_joined (Num a) (Num b) (value.Num x) (inr h) = (Within-hull a b x (inr h.0), h.1)
+covers_joined (Num a) (Num b) value.Unset h = ⊎_elim (λ e. e) (λ e. e) h
+covers_joined (Num a) (Num b) (value.Stack k) h = ⊎_elim (λ e. e) (λ e. e) h
+covers_joined (Num a) (Num b) (value.Part k) h = ⊎_elim (λ e. e) (λ e. e) h
+covers_joined (Num a) (Stack q) v h = tt
+covers_joined (Num a) (Part q) v h = tt
+covers_joined (Stack p) Unset v h = tt
+covers_joined (Stack p) (Num b) v h = tt
+covers_joined (Stack p) (Stack q) (value.Stack k) h = Between-hull p q k h
+covers_joined (Stack p) (Stack q) value.Unset h = ⊎_elim (λ e. e) (λ e. e) h
+covers_joined (Stack p) (Stack q) (value.Num k) h = ⊎_elim (λ e. e) (λ e. e) h
+covers_joined (Stack p) (Stack q) (value.Part k) h = ⊎_elim (λ e. e) (λ e. e) h
+covers_joined (Stack p) (Part q) v h = tt
+covers_joined (Part p) Unset v h = tt
+covers_joined (Part p) (Num b) v h = tt
+covers_joined (Part p) (Stack q) v h = tt
+covers_joined (Part p) (Part q) (value.Part k) h = Between-hull p q k h
+covers_joined (Part p) (Part q) value.Unset h = ⊎_elim (λ e. e) (λ e. e) h
+covers_joined (Part p) (Part q) (value.Num k) h = ⊎_elim (λ e. e) (λ e. e) h
+covers_joined (Part p) (Part q) (value.Stack k) h = ⊎_elim (λ e. e) (λ e. e) h
 
 pub joined_covers : (a b r : Abs) → r ≡ joined a b → CoversBoth a b r
-joined_covers a b r e = rw e (covers a b)
+joined_covers a b r e = rw e (covers_joined a b)
 
 second : (s t : Bool) → (s && t) ≡ true → t ≡ true
 second true t e = e
@@ -127,30 +130,49 @@ whole : (w : Width) (a b : Interval) (x y : ℕ) → is_whole w a b ≡ true →
 whole W64 a b x y e p q h k = (mod-eq_of_lt p, mod-eq_of_lt q)
 whole W32 a b x y e p q h k = (mod-eq_of_lt (grind (arith, nat_tests)), mod-eq_of_lt (grind (arith, nat_tests)))
 
-jump : (w : Width) (t : Condition) (d : ℕ) (s : Operand) (taken : Bool) (a b : Interval) (x y : ℕ) → x < 2 ^ 64 → y < 2 ^ 64 → Within a x → Within b y → holds t (bits_of w) (x % 2 ^ bits_of w) (y % 2 ^ bits_of w) ≡ taken → BothCover (if is_other d s && is_whole w a b then refined_pair (is_register s) a b (refined_ranges (relation_of t taken) a b) else (Num a, Num b)) x y
-jump w t d s taken a b x y p q h k g =
-    unless_whole (is_other d s && is_whole w a b) _ a b x y p q
+-- an immediate keeps its range
+kept : (a b : Interval) (x y z : ℕ) (o : Option (Interval × Interval)) → x < 2 ^ 64 → y < 2 ^ 64 → IfSome o (λ p. BothWithin p x z) → Within a x → Within b y → BothCover (refined_pair false a b o) x y
+kept a b x y z None p q s h k = ((h, p), (k, q))
+kept a b x y z (Some r) p q s h k = ((s.0, p), (k, q))
+
+-- a comparison of the first operand as it is
+whole_first : (w : Width) (a b : Interval) (x : ℕ) → is_whole w a b ≡ true → x < 2 ^ 64 → Within a x → x % 2 ^ bits_of w ≡ x
+whole_first W64 a b x e p h = mod-eq_of_lt p
+whole_first W32 a b x e p h = mod-eq_of_lt (grind (arith, nat_tests))
+
+jump : (w : Width) (t : Condition) (d : ℕ) (s : Operand) (taken : Bool) (a b : Interval) (x y : ℕ) → x < 2 ^ 64 → y < 2 ^ 64 → Within a x → Within b y → holds t (bits_of w) (x % 2 ^ bits_of w) (y % 2 ^ bits_of w) ≡ taken → BothCover (if is_other d s && is_whole w a (compared s w b) then refined_pair (is_register s) a b (refined_ranges (relation_of t taken) a (compared s w b)) else (Num a, Num b)) x y
+jump w t d (operand.Reg s) taken a b x y p q h k g =
+    unless_whole (is_other d (operand.Reg s) && is_whole w a b) _ a b x y p q
     (λ e.
-    let m = whole w a b x y (second (is_other d s) (is_whole w a b) e) p q h k in
+    let m = whole w a b x y (second (is_other d (operand.Reg s)) (is_whole w a b) e) p q h k in
     let plain : holds t (bits_of w) x y ≡ taken = simp (m.0, m.1) at g in
-    pair_covers (is_register s) a b x y _ p q (Within-refined (relation_of t taken) a b x y (relation_holds t taken (bits_of w) x y plain) h k) h k)
+    pair_covers true a b x y _ p q (Within-refined (relation_of t taken) a b x y (relation_holds t taken (bits_of w) x y plain) h k) h k)
+    h k
+jump w t d (operand.Imm i) taken a b x y p q h k g =
+    let c = cut (bits_of w) b in
+    let z = y % 2 ^ bits_of w in
+    unless_whole (is_whole w a c) _ a b x y p q
+    (λ e.
+    let m = whole_first w a c x e p h in
+    let plain : holds t (bits_of w) x z ≡ taken = simp m at g in
+    kept a b x y z _ p q (Within-refined (relation_of t taken) a c x z (relation_holds t taken (bits_of w) x z plain) h (Within-cut (bits_of w) b y k)) h k)
     h k
 
-edge : (i : Insn) (taken : Bool) (a b : Abs) → CoversEdge i taken a b (refined_by i taken a b)
-edge (JumpIf w t d s o) taken (Num a) (Num b) (value.Num x) (value.Num y) h k g = jump w t d s taken a b x y h.1 k.1 h.0 k.0 g
-edge (JumpIf w t d s o) taken (Num a) (Num b) value.Unset y h k g = absurd h
-edge (JumpIf w t d s o) taken (Num a) (Num b) (value.Stack z) y h k g = absurd h
-edge (JumpIf w t d s o) taken (Num a) (Num b) (value.Part z) y h k g = absurd h
-edge (JumpIf w t d s o) taken (Num a) (Num b) (value.Num x) value.Unset h k g = absurd k
-edge (JumpIf w t d s o) taken (Num a) (Num b) (value.Num x) (value.Stack z) h k g = absurd k
-edge (JumpIf w t d s o) taken (Num a) (Num b) (value.Num x) (value.Part z) h k g = absurd k
-edge (JumpIf w t d s o) taken (Num a) Unset x y h k g = (h, k)
-edge (JumpIf w t d s o) taken (Num a) (Stack z) x y h k g = (h, k)
-edge (JumpIf w t d s o) taken (Num a) (Part z) x y h k g = (h, k)
-edge (JumpIf w t d s o) taken Unset b x y h k g = (h, k)
-edge (JumpIf w t d s o) taken (Stack z) b x y h k g = (h, k)
-edge (JumpIf w t d s o) taken (Part z) b x y h k g = (h, k)
-edge _ taken a b x y h k g = (h, k)
+pub covers_edge : (i : Insn) (taken : Bool) (a b : Abs) → CoversEdge i taken a b (refined_by i taken a b)
+covers_edge (JumpIf w t d s o) taken (Num a) (Num b) (value.Num x) (value.Num y) h k g = jump w t d s taken a b x y h.1 k.1 h.0 k.0 g
+covers_edge (JumpIf w t d s o) taken (Num a) (Num b) value.Unset y h k g = absurd h
+covers_edge (JumpIf w t d s o) taken (Num a) (Num b) (value.Stack z) y h k g = absurd h
+covers_edge (JumpIf w t d s o) taken (Num a) (Num b) (value.Part z) y h k g = absurd h
+covers_edge (JumpIf w t d s o) taken (Num a) (Num b) (value.Num x) value.Unset h k g = absurd k
+covers_edge (JumpIf w t d s o) taken (Num a) (Num b) (value.Num x) (value.Stack z) h k g = absurd k
+covers_edge (JumpIf w t d s o) taken (Num a) (Num b) (value.Num x) (value.Part z) h k g = absurd k
+covers_edge (JumpIf w t d s o) taken (Num a) Unset x y h k g = (h, k)
+covers_edge (JumpIf w t d s o) taken (Num a) (Stack z) x y h k g = (h, k)
+covers_edge (JumpIf w t d s o) taken (Num a) (Part z) x y h k g = (h, k)
+covers_edge (JumpIf w t d s o) taken Unset b x y h k g = (h, k)
+covers_edge (JumpIf w t d s o) taken (Stack z) b x y h k g = (h, k)
+covers_edge (JumpIf w t d s o) taken (Part z) b x y h k g = (h, k)
+covers_edge _ taken a b x y h k g = (h, k)
 
 pub refined_covers : (i : Insn) (taken : Bool) (a b : Abs) (r : Abs × Abs) → r ≡ refined_by i taken a b → CoversEdge i taken a b r
-refined_covers i taken a b r e = rw e (edge i taken a b)
+refined_covers i taken a b r e = rw e (covers_edge i taken a b)

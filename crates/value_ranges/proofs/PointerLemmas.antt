@@ -1,7 +1,6 @@
 -- A pointer moved by a number stays within the positions that the table gives.
-use Rattle.std.proofs.Common.{◌≡◌, ℕ, ℤ, pos, Bool, true, false, IfOk, IfSome, Result, Ok, Err, Option, Some, None, arith, refl, ◌+ℤ◌, ◌-ℤ◌, ◌≤ℤ◌, ◌^◌, ◌<◌, ◌≤◌, if◌then◌else◌, inl, inr, neg_ℤ}
+use Rattle.std.proofs.Common.{◌≡◌, ℕ, ℤ, Bool, true, false, IfOk, IfSome, Result, Ok, Err, Option, Some, None, arith, refl, ◌+ℤ◌, ◌-ℤ◌, ◌≤ℤ◌, if◌then◌else◌}
 use Rattle.std.proofs.lemmas.Int.{ints, to_z-of_z}
-use Rattle.std.proofs.lemmas.Bool.{cases_lt}
 use Rattle.std.proofs.lemmas.Bool.Decides.{nat_tests}
 use Rattle.value_ranges.specs.Covers.{Between}
 use Rattle.value_ranges.specs.Interval.{Interval, Within}
@@ -10,7 +9,7 @@ use Rattle.machine_model.specs.Outcomes.{position_after, position_onto}
 use Rattle.value_ranges.specs.Tables.{moved_up, moved_down, positions, positions_after, positions_onto, signed_ends}
 use Rattle.value_ranges.specs.Span.{Span, span}
 use Rattle.insn_codec.specs.declared.insn.Width.{Width}
-use Rattle.insn_codec.specs.declared.insn.Width.TheVariants.{W32, W64}
+use Rattle.insn_codec.specs.declared.insn.Width.TheVariants.{W64}
 use Rattle.insn_codec.specs.declared.insn.AluOp.{AluOp}
 use Rattle.insn_codec.specs.declared.insn.AluOp.TheVariants.{Add, Sub}
 

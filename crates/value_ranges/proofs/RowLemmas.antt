@@ -1,9 +1,9 @@
 -- Each row of the table covers what its operator gives.
-use Rattle.std.proofs.Common.{◌≡◌, ℕ, ◌+◌, ◌-◌, ◌*◌, ◌/◌, ◌%◌, ◌^◌, ◌<◌, ◌≤◌, arith, min, max, sym, subst, ◌∙◌, refl, ap, bit_and, bit_or, bit_xor}
+use Rattle.std.proofs.Common.{◌≡◌, ℕ, ◌+◌, ◌-◌, ◌*◌, ◌/◌, ◌%◌, ◌^◌, ◌<◌, ◌≤◌, arith, ◌∙◌}
 use Rattle.std.proofs.lemmas.Bool.Decides.{nat_tests}
-use Rattle.std.proofs.Math.Nat.{mod-eq_of_lt, mod-lt, mod-eq-sub-mod, mul-le-mul_left, div-le_self, div-mul-le_self, mod-le}
-use Rattle.std.proofs.lemmas.Nat.{mul-le, pow_pos, le-div, and_le_l, and_le_r, le_or_l, le_or_r, or_lt, xor_lt, mod_below, div_below, shl_whole}
-use Rattle.value_ranges.specs.Interval.{Interval, Within, full, interval}
+use Rattle.std.proofs.Math.Nat.{mod-eq_of_lt, mod-lt, mod-eq-sub-mod, div-le_self, div-mul-le_self, mod-le}
+use Rattle.std.proofs.lemmas.Nat.{mul-le, pow_pos, le-div, mod_below, shl_whole}
+use Rattle.value_ranges.specs.Interval.{Interval, Within}
 use Rattle.value_ranges.specs.Ranges.{cut, sum_range, difference_range, product_range, quotient_range, remainder_range, shifted_left_range, shifted_right_range}
 use Rattle.machine_model.specs.Operators.{result_of}
 use Rattle.insn_codec.specs.declared.insn.AluOp.TheVariants.{Add, Sub, Mul, Div, Mod, Lsh, Rsh}

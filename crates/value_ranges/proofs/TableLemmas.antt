@@ -1,6 +1,6 @@
 -- The table of arithmetic instructions covers what they give.
-use Rattle.std.proofs.Common.{◌≡◌, ℕ, ℤ, IfOk, Result, Ok, Err, Option, Some, None, arith, refl, sym, ◌%◌, ◌^◌, ◌<◌}
-use Rattle.value_ranges.specs.Covers.{Covers, CoversOutcomes, Between}
+use Rattle.std.proofs.Common.{◌≡◌, ℕ, ℤ, IfOk, Result, Ok, Err, Option, Some, arith, refl, sym, ◌%◌, ◌^◌, ◌<◌}
+use Rattle.value_ranges.specs.Covers.{Covers, CoversOutcomes}
 use Rattle.value_ranges.specs.Interval.{Interval, Within}
 use Rattle.machine_model.specs.Outcomes.{outcome_of, alu_outcome, mov_outcome, number_result, on_number, extended_by, negated, ordered_by, width_to}
 use Rattle.machine_model.specs.Outcomes as outcome
@@ -17,6 +17,7 @@ use Rattle.insn_codec.specs.declared.insn.AluOp.{AluOp}
 use Rattle.insn_codec.specs.declared.insn.Insn.{Insn}
 use Rattle.insn_codec.specs.declared.insn.Insn.TheVariants.{Alu, Mov, MovSx, Neg, End}
 use Rattle.machine_model.proofs.OperatorLemmas.{below_64, bits_of-le, end_bits-le, number_result-lt, extended_by-lt, negated-lt, ordered_by-lt}
+use Rattle.value_ranges.proofs.CoverLemmas.{is_number, is_stack, is_part}
 use Rattle.value_ranges.proofs.Dispatch.{Within-number_range}
 use Rattle.value_ranges.proofs.RowLemmas.{Within-cut}
 use Rattle.value_ranges.proofs.Extensions.{Within-extension, Within-negated, Within-ordered}
@@ -25,25 +26,6 @@ use Rattle.value_ranges.proofs.PointerLemmas.{HasPosition, after, onto}
 -- the value that the instruction gives is there, and covered
 abbrev HasValue : Option Value → Abs → Type 0
 HasValue o r = (z : Value) × (o ≡ Some z) × Covers r z
-
--- a value that a range covers is a number, and so on
-is_number : (r : Interval) (v : Value) → Covers (Num r) v → (n : ℕ) × (v ≡ value.Num n) × Within r n × (n < 2 ^ 64)
-is_number r value.Unset h = absurd h
-is_number r (value.Num n) h = (n, refl, h.0, h.1)
-is_number r (value.Stack k) h = absurd h
-is_number r (value.Part k) h = absurd h
-
-is_stack : (p : Span) (v : Value) → Covers (Stack p) v → (k : ℤ) × (v ≡ value.Stack k) × Between p k
-is_stack p value.Unset h = absurd h
-is_stack p (value.Num n) h = absurd h
-is_stack p (value.Stack k) h = (k, refl, h)
-is_stack p (value.Part k) h = absurd h
-
-is_part : (p : Span) (v : Value) → Covers (Part p) v → (k : ℤ) × (v ≡ value.Part k) × Between p k
-is_part p value.Unset h = absurd h
-is_part p (value.Num n) h = absurd h
-is_part p (value.Stack k) h = absurd h
-is_part p (value.Part k) h = (k, refl, h)
 
 on_stack : (r : Result Span ℕ) (o : Option ℤ) → IfOk r (HasPosition o) → IfOk (table.in_stack r) (HasValue (outcome.in_stack o))
 on_stack (Ok q) o h = rw h.1 (value.Stack h.0, refl, h.2)

@@ -1,6 +1,6 @@
 -- Which values an abstract value stands for.
 use Rattle.std.specs.Prelude.{ℤ, ◌≤ℤ◌, ◌≡◌, ◌<◌, ◌^◌, ◌⊎◌, Some}
-use Rattle.value_ranges.specs.Interval.{Interval, Within}
+use Rattle.value_ranges.specs.Interval.{Within}
 use Rattle.value_ranges.specs.Span.{Span}
 use Rattle.machine_model.specs.Value.{Value}
 use Rattle.machine_model.specs.Value as value

@@ -2,6 +2,7 @@
 use Rattle.std.specs.Prelude.{ℕ, Bool, true, false, ◌≡◌, ◌+◌, ◌-◌, ◌%◌, ◌^◌, nat_lt, nat_le, ◌==◌, not, ◌&&◌, if◌then◌else◌, min, max, Option, Some, None}
 use Rattle.value_ranges.specs.Covers.{Covers}
 use Rattle.value_ranges.specs.Interval.{Interval, interval, is_single}
+use Rattle.value_ranges.specs.Ranges.{cut}
 use Rattle.machine_model.specs.Operators.{bits_of, holds}
 use Rattle.machine_model.specs.Value.{Value}
 use Rattle.machine_model.specs.Value as value
@@ -62,6 +63,11 @@ abbrev pub is_register : Operand → Bool
 is_register (operand.Reg s) = true
 is_register (operand.Imm z) = false
 
+-- what the jump compares the first operand with: an immediate is one number of the width
+abbrev pub compared : Operand → Width → Interval → Interval
+compared (operand.Reg s) w b = b
+compared (operand.Imm z) w b = cut (bits_of w) b
+
 -- the jump compares the numbers as they are
 abbrev pub is_whole : Width → Interval → Interval → Bool
 is_whole W64 a b = true
@@ -78,8 +84,8 @@ refined_pair source a b (Some r) = (Num r.0, Num (if source then r.1 else b))
 -- the table of refinements
 abbrev pub refined_by : Insn → Bool → Abs → Abs → Abs × Abs
 refined_by (JumpIf w t d s o) taken (Num a) (Num b) =
-    if is_other d s && is_whole w a b
-    then refined_pair (is_register s) a b (refined_ranges (relation_of t taken) a b)
+    if is_other d s && is_whole w a (compared s w b)
+    then refined_pair (is_register s) a b (refined_ranges (relation_of t taken) a (compared s w b))
     else (Num a, Num b)
 refined_by i taken a b = (a, b)
 

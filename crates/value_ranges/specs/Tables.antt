@@ -1,6 +1,6 @@
 -- The table of arithmetic instructions on abstract values.
-use Rattle.std.specs.Prelude.{ℕ, ℤ, pos, ◌+ℤ◌, ◌-ℤ◌, neg_ℤ, ◌%◌, ◌-◌, ◌^◌, nat_lt, nat_le, if◌then◌else◌, Option, Some, None, Result, Ok, Err, int_lt, ◌||◌}
-use Rattle.value_ranges.specs.Interval.{Interval, interval, single, full, is_single}
+use Rattle.std.specs.Prelude.{ℕ, ℤ, pos, ◌+ℤ◌, ◌-ℤ◌, neg_ℤ, ◌^◌, nat_lt, nat_le, if◌then◌else◌, Option, Some, None, Result, Ok, Err, int_lt, ◌||◌, Bool, true, false}
+use Rattle.value_ranges.specs.Interval.{Interval, single, full, is_single}
 use Rattle.value_ranges.specs.Span.{Span, span}
 use Rattle.value_ranges.specs.Ranges.{cut, range_of, extended_range, low_range}
 use Rattle.machine_model.specs.Operators.{bits_of}
@@ -103,6 +103,10 @@ IsArithmetic (MovSx e d s) = Unit {0}
 IsArithmetic (Neg w d) = Unit {0}
 IsArithmetic (End c s d) = Unit {0}
 IsArithmetic i = ⊥
+
+abbrev pub is_set : Abs → Bool
+is_set Unset = false
+is_set a = true
 
 abbrev pub IsSet : Abs → Type 0
 IsSet Unset = ⊥

@@ -9,6 +9,8 @@ mod pointers;
 mod range;
 mod refinements;
 mod rows;
+#[cfg(test)]
+mod tests;
 mod unary_rows;
 mod words;
 

@@ -1,7 +1,7 @@
 //! Ranges of numbers.
 
-ghost use Rattle.std.specs.Prelude.{◌≡◌, ◌≤◌, ◌<◌, ◌^◌, ◌≤ℤ◌};
-ghost use Rattle.value_ranges.specs.Interval.{Interval, full, single, is_single};
+ghost use Rattle.std.specs.Prelude.{◌≡◌, ◌≤◌, ◌≤ℤ◌};
+ghost use Rattle.value_ranges.specs.Interval.{full, is_single, single};
 ghost use Rattle.machine_model.specs.Operators.{bits_of};
 
 use insn_codec::Width;

@@ -2,10 +2,11 @@
 
 ghost use Rattle.std.specs.Prelude.{◌≡◌};
 ghost use Rattle.value_ranges.specs.Interval.{interval};
-ghost use Rattle.value_ranges.specs.Refinements.{CoversEdge, IsConditional, is_other, is_register, is_whole, narrowed, refined_by, refined_pair, refined_ranges, relation_of, unless_empty, without};
+ghost use Rattle.value_ranges.specs.Refinements.{CoversEdge, IsConditional, compared, is_other, is_register, is_whole, narrowed, refined_by, refined_pair, refined_ranges, relation_of, unless_empty, without};
 
 use crate::abs::Abs;
 use crate::range::Range;
+use crate::rows::cut;
 use insn_codec::{Condition, Insn, Operand, Register, Width};
 
 /// How the first operand stands to the second.
@@ -112,6 +113,16 @@ fn is_other(dst: Register, operand: &Operand) -> bool
     }
 }
 
+/// What the jump compares the first operand with: an immediate is one number of the width.
+fn compared(src: &Operand, width: Width, b: Range) -> Range
+    ensures { result ≡ compared src.now width b }
+{
+    match src {
+        Operand::Reg(_) => b,
+        Operand::Imm(_) => cut(width, b),
+    }
+}
+
 /// Whether the jump compares the numbers as they are, and not their low bits.
 fn is_whole(width: Width, a: Range, b: Range) -> bool
     ensures { result ≡ is_whole width a b }
@@ -146,8 +157,9 @@ fn jump_refined(insn: &Insn, taken: bool, a: Range, b: Range) -> (Abs, Abs)
             src,
             ..
         } => {
-            if is_other(*dst, src) && is_whole(*width, a, b) {
-                let ranges = refined_ranges(relation_of(*condition, taken), a, b);
+            let other = compared(src, *width, b);
+            if is_other(*dst, src) && is_whole(*width, a, other) {
+                let ranges = refined_ranges(relation_of(*condition, taken), a, other);
                 refined_pair(is_register(src), a, b, ranges)
             } else {
                 (Abs::Num(a), Abs::Num(b))

@@ -1,7 +1,7 @@
 //! The rows of the operators: which numbers they can give on numbers of two ranges. Sums and products are taken in
 //! 128 bits, so that a row reads as it is defined.
 
-ghost use Rattle.std.specs.Prelude.{◌≡◌, ◌≤◌, ◌<◌, ◌^◌, ◌%◌};
+ghost use Rattle.std.specs.Prelude.{◌≡◌, ◌<◌, ◌^◌};
 ghost use Rattle.machine_model.specs.Operators.{bits_of};
 ghost use Rattle.value_ranges.specs.Tables.{number_range};
 ghost use Rattle.value_ranges.specs.Ranges.{row_of, cut, ones, IsLeastMask, sum_range, difference_range, product_range, quotient_range, remainder_range, shifted_left_range, shifted_right_range};

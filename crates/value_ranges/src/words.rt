@@ -1,9 +1,10 @@
 //! The words by which the layers above make abstract values.
 
-ghost use Rattle.std.specs.Prelude.{◌≡◌, ◌≤◌, ◌<◌, ◌^◌, IsTrue};
+ghost use Rattle.std.specs.Prelude.{◌≡◌, ◌≤◌, true};
 ghost use Rattle.machine_model.specs.Operators.{residue};
 ghost use Rattle.machine_model.specs.Value.{Num};
 ghost use Rattle.value_ranges.specs.Covers.{Covers};
+ghost use Rattle.value_ranges.specs.Tables.{IsSet, is_set};
 ghost use Rattle.value_ranges.specs.Words.{CoversEntry, CoversLoads, any_number, between, entry, loaded, single_value};
 
 use crate::abs::{Abs, Reach};
@@ -25,6 +26,17 @@ impl Abs {
         ensures covered { Covers result (Num x) }
     {
         Abs::between(x, x)
+    }
+
+    /// Whether anything is known.
+    pub fn is_set(&self) -> bool
+        ensures value { result ≡ is_set self.now }
+        ensures set { result ≡ true → IsSet self.now }
+    {
+        match self {
+            Abs::Unset => false,
+            Abs::Num(_) | Abs::Stack(_) | Abs::Part(_) => true,
+        }
     }
 
     /// Any number.

@@ -1,6 +1,5 @@
-use Rattle.std.proofs.Common.{arith, rules, ◌≡◌}
+use Rattle.std.proofs.Common.{arith, rules}
 use Rattle.std.proofs.lemmas.Bool.Decides.{nat_tests}
-use Rattle.machine_model.specs.Operators.{bits_of}
 use Rattle.machine_model.proofs.OperatorLemmas.{residue_quotient}
 use Rattle.machine_model.proofs.operators.apply_alu.Goals as goal
 
