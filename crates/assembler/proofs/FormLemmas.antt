@@ -95,11 +95,11 @@ module _ (ts inner p q : List ℕ) (whole : ts ≡ 91 ∷ (inner ++ 93 ∷ [])) 
 
 -- ---- words
 
-behind : (tail : List ℕ) → IsBehindWord tail → BeginsWith 32 32 tail
+pub behind : (tail : List ℕ) → IsBehindWord tail → BeginsWith 32 32 tail
 behind [] h = tt
 behind (c ∷ cs) h = inl h
 
-before : (tail : List ℕ) → BeginsWith 32 32 tail → IsBehindWord tail
+pub before : (tail : List ℕ) → BeginsWith 32 32 tail → IsBehindWord tail
 before [] h = tt
 before (c ∷ cs) (inl h) = h
 before (c ∷ cs) (inr h) = h

@@ -5,3 +5,5 @@ pub mod Lines
 pub mod Splits
 pub mod FormLemmas
 pub mod SourceLines
+pub mod NoFault
+pub mod ReadBack

@@ -14,7 +14,7 @@ use Rattle.assembler.specs.declared.fault.TextFault.TheVariants as fault
 use Rattle.assembler.specs.Source.{code_part, is_blank, without_blanks, stripped, is_line_feed, numbered, texts_of, AreLinesOf, IsAtLine, IsTextRefusal, SaysInsn, listed, RefusesLine}
 use Rattle.assembler.proofs.Pairs.{last}
 
-eqb_not : (a b : ℕ) → (a ≡ b → ⊥) → eqb a b ≡ false
+pub eqb_not : (a b : ℕ) → (a ≡ b → ⊥) → eqb a b ≡ false
 eqb_not a b n = go (eqb a b) refl
   where
     go : (q : Bool) → eqb a b ≡ q → eqb a b ≡ false
@@ -23,7 +23,7 @@ eqb_not a b n = go (eqb a b) refl
 
 -- ---- comments and blanks
 
-code_front : (front back : List ℕ) → IsFree 59 59 front → BeginsWith 59 59 back → code_part (front ++ back) ≡ front
+pub code_front : (front back : List ℕ) → IsFree 59 59 front → BeginsWith 59 59 back → code_part (front ++ back) ≡ front
 code_front [] [] f b = refl
 code_front [] (c ∷ cs) f (inl b) = rw b refl
 code_front [] (c ∷ cs) f (inr b) = rw b refl
@@ -88,7 +88,7 @@ pub record IsPartly (lines : List (ℕ × List ℕ)) (n : ℕ) (left : List (Lis
 numbered_blank : (n : ℕ) (line : List ℕ) (left : List (List ℕ)) → stripped line ≡ [] → numbered n (line ∷ left) ≡ numbered (n + 1) left
 numbered_blank n line left e = rw e refl
 
-numbered_more : (n : ℕ) (line : List ℕ) (left : List (List ℕ)) → 0 < length (stripped line) → numbered n (line ∷ left) ≡ (n, stripped line) ∷ numbered (n + 1) left
+pub numbered_more : (n : ℕ) (line : List ℕ) (left : List (List ℕ)) → 0 < length (stripped line) → numbered n (line ∷ left) ≡ (n, stripped line) ∷ numbered (n + 1) left
 numbered_more n line left lt = rw (eqb_not (length (stripped line)) 0 (λ e. absurd (omega arith))) refl
 
 fit_push : (front : List Insn) (insn : Insn) → AllByRecursion IsInsn front → IsInsn insn → AllByRecursion IsInsn (front ++ insn ∷ [])

@@ -5,6 +5,7 @@ mod assembling;
 mod cut;
 mod fault;
 mod form;
+mod law;
 mod line;
 mod number;
 mod pair;
@@ -15,3 +16,7 @@ mod word;
 
 pub use assembling::assemble;
 pub use fault::TextFault;
+pub use law::{nothing_refused, one_program, read_back};
+
+#[cfg(test)]
+mod tests;

@@ -85,7 +85,7 @@ word_once v w e = some_once v w (sym (again v) ∙ (ap (lookup all_words) e ∙ 
 
 -- ---- no space
 
-abbrev is_free : ℕ → ℕ → List ℕ → Bool
+abbrev pub is_free : ℕ → ℕ → List ℕ → Bool
 is_free s o [] = true
 is_free s o (c ∷ cs) = if c == s then false else (if c == o then false else is_free s o cs)
 
@@ -94,7 +94,7 @@ free_cons s o c cs more true q a b h = absurd cc
 free_cons s o c cs more false true a b h = absurd cc
 free_cons s o c cs more false false a b h = (eqb-false c s a, eqb-false c o b, more h)
 
-free_by : (s o : ℕ) (xs : List ℕ) → is_free s o xs ≡ true → IsFree s o xs
+pub free_by : (s o : ℕ) (xs : List ℕ) → is_free s o xs ≡ true → IsFree s o xs
 free_by s o [] e = tt
 free_by s o (c ∷ cs) e = free_cons s o c cs (free_by s o cs) (eqb c s) (eqb c o) refl refl e
 
