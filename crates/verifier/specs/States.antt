@@ -25,7 +25,8 @@ with_abs state to a = record { registers = slice_set state.registers to a }
 abbrev pub entry_state : ℕ → State
 entry_state need = record {
   registers = entry need 0 ∷ entry need 1 ∷ entry need 2 ∷ entry need 3 ∷ entry need 4 ∷ entry need 5
-      ∷ entry need 6 ∷ entry need 7 ∷ entry need 8 ∷ entry need 9 ∷ entry need 10 ∷ [] }
+      ∷ entry need 6 ∷ entry need 7 ∷ entry need 8 ∷ entry need 9 ∷ entry need 10 ∷ [];
+}
 
 -- the second operand: an imm is extended by its sign
 abbrev pub operand_at : State → Operand → Abs
@@ -41,7 +42,8 @@ or_unset (Err number) = Unset
 -- after a call R0 has the answer, and the arguments are unset
 abbrev pub called_state : State → Abs → State
 called_state state answer = record {
-  registers = answer ∷ Unset ∷ Unset ∷ Unset ∷ Unset ∷ Unset ∷ drop 6 state.registers }
+  registers = answer ∷ Unset ∷ Unset ∷ Unset ∷ Unset ∷ Unset ∷ drop 6 state.registers;
+}
 
 -- what a helper answers
 abbrev pub answer_range : ℕ → Abs
@@ -130,30 +132,30 @@ call_fault state (Some arity) = first (unset_arguments state arity) (number_argu
 abbrev pub fault : ℕ → Table → Insn → State → Option ℕ
 fault need helpers (Alu w op dst src) state =
     first (unset_fault (abs_at state dst)) (first (unset_fault (operand_at state src))
-        (first (table_fault (table_of (Alu w op dst src) (abs_at state dst) (operand_at state src))) (write_fault dst)))
+    (first (table_fault (table_of (Alu w op dst src) (abs_at state dst) (operand_at state src))) (write_fault dst)))
 fault need helpers (Mov w dst src) state =
     first (unset_fault (operand_at state src))
-        (first (table_fault (table_of (Mov w dst src) (abs_at state dst) (operand_at state src))) (write_fault dst))
+    (first (table_fault (table_of (Mov w dst src) (abs_at state dst) (operand_at state src))) (write_fault dst))
 fault need helpers (MovSx e dst src) state =
     first (unset_fault (abs_at state src))
-        (first (table_fault (table_of (MovSx e dst src) (abs_at state dst) (abs_at state src))) (write_fault dst))
+    (first (table_fault (table_of (MovSx e dst src) (abs_at state dst) (abs_at state src))) (write_fault dst))
 fault need helpers (Neg w dst) state =
     first (unset_fault (abs_at state dst))
-        (first (table_fault (table_of (Neg w dst) (abs_at state dst) (abs_at state dst))) (write_fault dst))
+    (first (table_fault (table_of (Neg w dst) (abs_at state dst) (abs_at state dst))) (write_fault dst))
 fault need helpers (End order size dst) state =
     first (unset_fault (abs_at state dst))
-        (first (table_fault (table_of (End order size dst) (abs_at state dst) (abs_at state dst))) (write_fault dst))
+    (first (table_fault (table_of (End order size dst) (abs_at state dst) (abs_at state dst))) (write_fault dst))
 fault need helpers (LoadWide dst value) state = write_fault dst
 fault need helpers (Load kind dst base offset) state =
     first (access_fault need (abs_at state base) offset (load_bytes kind)) (write_fault dst)
 fault need helpers (Store size base offset imm) state = access_fault need (abs_at state base) offset (store_bytes size)
 fault need helpers (StoreRegister size base offset src) state =
     first (unset_fault (abs_at state base)) (first (unset_fault (abs_at state src))
-        (first (access_fault need (abs_at state base) offset (store_bytes size)) (number_fault (abs_at state src))))
+    (first (access_fault need (abs_at state base) offset (store_bytes size)) (number_fault (abs_at state src))))
 fault need helpers (Jump offset) state = None
 fault need helpers (Jump32 offset) state = None
 fault need helpers (JumpIf w c dst src offset) state =
     first (unset_fault (abs_at state dst)) (first (unset_fault (operand_at state src))
-        (first (number_fault (abs_at state dst)) (number_fault (operand_at state src))))
+    (first (number_fault (abs_at state dst)) (number_fault (operand_at state src))))
 fault need helpers (Call helper) state = call_fault state (arity_in helpers helper)
 fault need helpers Exit state = number_fault (abs_at state 0)
