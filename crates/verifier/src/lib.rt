@@ -1,8 +1,16 @@
 //! Programs that were verified: no task that runs one traps.
 #![tactic(auto)]
 
+mod allowed;
+mod passing;
+mod refusals;
+mod regions;
 mod state;
+mod states;
 mod verified;
+mod verification;
 
+pub use refusals::Refusal;
 pub use state::State;
 pub use verified::{Region, Verified};
+pub use verification::verify;
