@@ -14,8 +14,8 @@ unset_there state zero k number x y lt = absurd (omega (arith, lt))
 unset_there state (suc count) k number x y lt = elim (cases_lt k count) [
   | inl low ↦ ap (λ (o : Option ℕ). first o (unset_fault (abs_at state (suc count)))) (unset_there state count k number x y low)
   | inr high ↦ let same : k ≡ count = omega arith in
-        subst (λ (n : ℕ). first (unset_arguments state n) (unset_fault (abs_at state (suc n))) ≡ Some number) same
-            (second (unset_arguments state k) (unset_fault (abs_at state (suc k))) number x y)
+      subst (λ (n : ℕ). first (unset_arguments state n) (unset_fault (abs_at state (suc n))) ≡ Some number) same
+      (second (unset_arguments state k) (unset_fault (abs_at state (suc k))) number x y)
 ]
 
 pub number_there : (state : State) (count k number : ℕ) → number_arguments state k ≡ None → number_fault (abs_at state (suc k)) ≡ Some number →
@@ -24,6 +24,6 @@ number_there state zero k number x y lt = absurd (omega (arith, lt))
 number_there state (suc count) k number x y lt = elim (cases_lt k count) [
   | inl low ↦ ap (λ (o : Option ℕ). first o (number_fault (abs_at state (suc count)))) (number_there state count k number x y low)
   | inr high ↦ let same : k ≡ count = omega arith in
-        subst (λ (n : ℕ). first (number_arguments state n) (number_fault (abs_at state (suc n))) ≡ Some number) same
-            (second (number_arguments state k) (number_fault (abs_at state (suc k))) number x y)
+      subst (λ (n : ℕ). first (number_arguments state n) (number_fault (abs_at state (suc n))) ≡ Some number) same
+      (second (number_arguments state k) (number_fault (abs_at state (suc k))) number x y)
 ]

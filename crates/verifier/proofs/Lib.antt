@@ -4,3 +4,4 @@ pub mod Arrivals
 pub mod Comings
 pub mod Soundness
 pub mod FaultLemmas
+pub mod Verdicts

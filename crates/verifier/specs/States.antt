@@ -1,13 +1,13 @@
 -- What is known of the registers ahead of an instruction: at the entry, and along each edge; and what the instruction
 -- has to find known.
-use Rattle.std.specs.Prelude.{◌≡◌, ℕ, zero, suc, ◌==◌, List, [], ◌∷◌, drop, slice_set, Bool, true, false, Option, Some, None, Result, Ok, Err, ℤ, pos, ◌+ℤ◌, int_lt, ◌||◌, if◌then◌else◌}
+use Rattle.std.specs.Prelude.{ℕ, zero, suc, ◌==◌, List, [], ◌∷◌, drop, slice_set, Bool, true, false, Option, Some, None, Result, Ok, Err, ℤ, pos, ◌+ℤ◌, int_lt, ◌||◌, if◌then◌else◌}
 use Rattle.insn_codec.specs.declared.insn.Operand.{Operand}
 use Rattle.insn_codec.specs.declared.insn.Operand.TheVariants.{Imm, Reg}
 use Rattle.insn_codec.specs.declared.insn.Insn.{Insn}
 use Rattle.insn_codec.specs.declared.insn.Insn.TheVariants.{Alu, Mov, MovSx, Neg, End, LoadWide, Load, Store, StoreRegister, Jump, Jump32, JumpIf, Call, Exit}
 use Rattle.machine_model.specs.Operators.{residue}
 use Rattle.machine_model.specs.Memory.{store_bytes, load_bytes}
-use Rattle.machine_model.specs.Edges.{Fact, Always, NotTaken, Taken}
+use Rattle.machine_model.specs.Edges.{Fact, Taken}
 use Rattle.helpers.specs.Table.{Table, arity_in}
 use Rattle.value_ranges.specs.Span.{Span}
 use Rattle.value_ranges.specs.Words.{entry, between, single_value, any_number, loaded}
@@ -26,7 +26,8 @@ with_abs state to a = record { registers = slice_set state.registers to a }
 abbrev pub entry_state : ℕ → State
 entry_state need = record {
   registers = entry need 0 ∷ entry need 1 ∷ entry need 2 ∷ entry need 3 ∷ entry need 4 ∷ entry need 5
-      ∷ entry need 6 ∷ entry need 7 ∷ entry need 8 ∷ entry need 9 ∷ entry need 10 ∷ [] }
+      ∷ entry need 6 ∷ entry need 7 ∷ entry need 8 ∷ entry need 9 ∷ entry need 10 ∷ [];
+}
 
 -- the second operand: an imm is extended by its sign
 abbrev pub operand_at : State → Operand → Abs
@@ -50,7 +51,8 @@ or_unset (Err number) = Unset
 -- after a call R0 has the answer, and the arguments are unset
 abbrev pub called_state : State → Abs → State
 called_state state answer = record {
-  registers = answer ∷ Unset ∷ Unset ∷ Unset ∷ Unset ∷ Unset ∷ drop 6 state.registers }
+  registers = answer ∷ Unset ∷ Unset ∷ Unset ∷ Unset ∷ Unset ∷ drop 6 state.registers;
+}
 
 -- what a helper answers
 abbrev pub answer_range : ℕ → Abs
@@ -139,30 +141,30 @@ call_fault state (Some arity) = first (unset_arguments state arity) (number_argu
 abbrev pub fault : ℕ → Table → Insn → State → Option ℕ
 fault need helpers (Alu w op dst src) state =
     first (unset_fault (abs_at state dst)) (first (unset_fault (operand_at state src))
-        (first (table_fault (table_of (Alu w op dst src) (abs_at state dst) (operand_at state src))) (write_fault dst)))
+    (first (table_fault (table_of (Alu w op dst src) (abs_at state dst) (operand_at state src))) (write_fault dst)))
 fault need helpers (Mov w dst src) state =
     first (unset_fault (operand_at state src))
-        (first (table_fault (table_of (Mov w dst src) (abs_at state dst) (operand_at state src))) (write_fault dst))
+    (first (table_fault (table_of (Mov w dst src) (abs_at state dst) (operand_at state src))) (write_fault dst))
 fault need helpers (MovSx e dst src) state =
     first (unset_fault (abs_at state src))
-        (first (table_fault (table_of (MovSx e dst src) (abs_at state dst) (abs_at state src))) (write_fault dst))
+    (first (table_fault (table_of (MovSx e dst src) (abs_at state dst) (abs_at state src))) (write_fault dst))
 fault need helpers (Neg w dst) state =
     first (unset_fault (abs_at state dst))
-        (first (table_fault (table_of (Neg w dst) (abs_at state dst) (abs_at state dst))) (write_fault dst))
+    (first (table_fault (table_of (Neg w dst) (abs_at state dst) (abs_at state dst))) (write_fault dst))
 fault need helpers (End order size dst) state =
     first (unset_fault (abs_at state dst))
-        (first (table_fault (table_of (End order size dst) (abs_at state dst) (abs_at state dst))) (write_fault dst))
+    (first (table_fault (table_of (End order size dst) (abs_at state dst) (abs_at state dst))) (write_fault dst))
 fault need helpers (LoadWide dst value) state = write_fault dst
 fault need helpers (Load kind dst base offset) state =
     first (access_fault need (abs_at state base) offset (load_bytes kind)) (write_fault dst)
 fault need helpers (Store size base offset imm) state = access_fault need (abs_at state base) offset (store_bytes size)
 fault need helpers (StoreRegister size base offset src) state =
     first (unset_fault (abs_at state base)) (first (unset_fault (abs_at state src))
-        (first (access_fault need (abs_at state base) offset (store_bytes size)) (number_fault (abs_at state src))))
+    (first (access_fault need (abs_at state base) offset (store_bytes size)) (number_fault (abs_at state src))))
 fault need helpers (Jump offset) state = None
 fault need helpers (Jump32 offset) state = None
 fault need helpers (JumpIf w c dst src offset) state =
     first (unset_fault (abs_at state dst)) (first (unset_fault (operand_at state src))
-        (first (number_fault (abs_at state dst)) (number_fault (operand_at state src))))
+    (first (number_fault (abs_at state dst)) (number_fault (operand_at state src))))
 fault need helpers (Call helper) state = call_fault state (arity_in helpers helper)
 fault need helpers Exit state = number_fault (abs_at state 0)

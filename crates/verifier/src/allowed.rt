@@ -38,7 +38,11 @@ fn number_fault(abs: &Abs) -> Option<u8>
 fn write_fault(register: Register) -> Option<u8>
     ensures { result ≡ write_fault register }
 {
-    if register.number() == 10 { Some(36) } else { None }
+    if register.number() == 10 {
+        Some(36)
+    } else {
+        None
+    }
 }
 
 /// A position, moved by an offset.
@@ -256,17 +260,36 @@ pub(crate) fn refused(need: u32, helpers: &HelperTable, insn: &Insn, state: &Sta
             unary_fault(insn, state.at(dst), state.at(dst), dst)
         }
         Insn::LoadWide { dst, .. } => write_fault(dst),
-        Insn::Load { kind, dst, base, offset } => {
+        Insn::Load {
+            kind,
+            dst,
+            base,
+            offset,
+        } => {
             match access_fault(need, state.at(base), offset, load_bytes(kind)) {
                 Some(number) => Some(number),
                 None => write_fault(dst),
             }
         }
-        Insn::Store { size, base, offset, .. } => {
-            access_fault(need, state.at(base), offset, store_bytes(size))
-        }
-        Insn::StoreRegister { size, base, offset, src } => {
-            store_fault(need, state.at(base), state.at(src), offset, store_bytes(size))
+        Insn::Store {
+            size,
+            base,
+            offset,
+            ..
+        } => { access_fault(need, state.at(base), offset, store_bytes(size)) }
+        Insn::StoreRegister {
+            size,
+            base,
+            offset,
+            src,
+        } => {
+            store_fault(
+                need,
+                state.at(base),
+                state.at(src),
+                offset,
+                store_bytes(size),
+            )
         }
         Insn::Jump { .. } | Insn::Jump32 { .. } => None,
         Insn::JumpIf { dst, src, .. } => compare_fault(state.at(dst), state.operand(&src)),

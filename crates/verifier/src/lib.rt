@@ -7,10 +7,10 @@ mod refusals;
 mod regions;
 mod state;
 mod states;
-mod verified;
 mod verification;
+mod verified;
 
 pub use refusals::Refusal;
 pub use state::State;
-pub use verified::{Region, Verified};
 pub use verification::verify;
+pub use verified::{Region, Verified};

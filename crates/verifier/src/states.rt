@@ -40,9 +40,9 @@ fn push_on(states: &mut [Option<State>], graph: &Graph, slot: u32, insn: &Insn, 
     ensures length { length states.new ≡ length states.old }
     ensures met { (s : ℕ) → s < length states.old → arrival_of (slice_index_or states.new s None)
         ≡ met (met (met (arrival_of (slice_index_or states.old s None))
-            (landed (leads_at graph.now slot Always) s (Comes (passed insn.now Always state.now))))
-            (landed (leads_at graph.now slot NotTaken) s (Comes (passed insn.now NotTaken state.now))))
-            (landed (leads_at graph.now slot Taken) s (Comes (passed insn.now Taken state.now))) }
+        (landed (leads_at graph.now slot Always) s (Comes (passed insn.now Always state.now))))
+        (landed (leads_at graph.now slot NotTaken) s (Comes (passed insn.now NotTaken state.now))))
+        (landed (leads_at graph.now slot Taken) s (Comes (passed insn.now Taken state.now))) }
 {
     let slots = graph.slots();
     prove!(slot < slots);
@@ -57,7 +57,12 @@ fn push_on(states: &mut [Option<State>], graph: &Graph, slot: u32, insn: &Insn, 
 }
 
 /// The state that arrives at each slot, or the first instruction that isn't allowed.
-pub(crate) fn states(alloc: Global, need: u32, helpers: &HelperTable, graph: &Graph) -> Result<Vec<Option<State>>, Refusal>
+pub(crate) fn states(
+    alloc: Global,
+    need: u32,
+    helpers: &HelperTable,
+    graph: &Graph,
+) -> Result<Vec<Option<State>>, Refusal>
     requires need { need ≤ 65536 }
     requires treated { AreTreated graph.now }
     ensures { MatchResult result (λ states. IsTable (record { need = need; helpers = helpers.now; code = graph.now }) states.items)

@@ -43,7 +43,12 @@ fn first_untreated(placed: &[Placed]) -> Option<u32>
 /// Accepts a program, or tells the one reason why not: its need, then its bytes, an instruction that isn't run yet, its
 /// edges, and at last the first instruction that isn't allowed where what is known of the registers is what its paths
 /// leave. Of all that applies at one slot the lowest number is told.
-pub fn verify(alloc: Global, need: u32, code: &[u8], helpers: &HelperTable) -> Result<Verified, Refusal>
+pub fn verify(
+    alloc: Global,
+    need: u32,
+    code: &[u8],
+    helpers: &HelperTable,
+) -> Result<Verified, Refusal>
     ensures { MatchResult result (λ verified. IsAccepted need code.now helpers.now verified)
         (λ refusal. Refuses need code.now helpers.now refusal) }
 {
@@ -59,5 +64,12 @@ pub fn verify(alloc: Global, need: u32, code: &[u8], helpers: &HelperTable) -> R
     let costs = costs(alloc, &graph)?;
     let code = graph.into_code();
     let regions = regions(alloc, &code, &states)?;
-    Ok(Verified::of(need, helpers.copied(), code, states, regions, costs.into_table()))
+    Ok(Verified::of(
+        need,
+        helpers.copied(),
+        code,
+        states,
+        regions,
+        costs.into_table(),
+    ))
 }
