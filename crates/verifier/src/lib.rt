@@ -2,6 +2,7 @@
 #![tactic(auto)]
 
 mod allowed;
+mod laws;
 mod passing;
 mod refusals;
 mod regions;
@@ -10,7 +11,11 @@ mod states;
 mod verification;
 mod verified;
 
+pub use laws::{arrivals_are_joined, arrivals_are_unique};
 pub use refusals::Refusal;
 pub use state::State;
 pub use verification::verify;
 pub use verified::{Region, Verified};
+
+#[cfg(test)]
+mod tests;
