@@ -47,7 +47,7 @@ first_refused programs count accepted p refusal so_far is refuses = record {
 } where
   by_cases : (n : ℕ) (q : ProgramBytes) → n < count → slice_get programs n ≡ Some q →
       ((x : Checked) × (n < length accepted) × (slice_get accepted n ≡ Some x) × (get_or accepted n x ≡ x))
-          ⊎ ((length accepted ≤ n) × (slice_get accepted n ≡ None)) →
+      ⊎ ((length accepted ≤ n) × (slice_get accepted n ≡ None)) →
       (v : Checked) × Accepts q v
   by_cases n q lt e (inl (v, within, is_v, read)) = (v, so_far.each n q v e is_v)
   by_cases n q lt e (inr (past, none)) = absurd (omega (arith, past, lt, so_far.many))

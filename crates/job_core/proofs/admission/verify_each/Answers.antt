@@ -20,7 +20,7 @@ returns-in-Err-clause-refused c =
     (slice_get_read c.args.programs.now (length c.args.programs.now) c.loop-program.program-index c.program-item.result refl c.loop-program-test.true c.program-item.is)
     (subst (λ bytes. Refuses c.program-item.result.need bytes job_table c.in-Err.refusal) c.deref.ensures.value
     (subst (λ table. Refuses c.program-item.result.need c.deref.result.now table c.in-Err.refusal) c.job-helpers.ensures
-    (c.in-Err.ensures.refused)))))
+    (c.in-Err.ensures)))))
 
 pub loop-program-preserved : goal.loop-program-preserved
 loop-program-preserved c =
@@ -30,7 +30,7 @@ loop-program-preserved c =
     (slice_get_read c.args.programs.now (length c.args.programs.now) c.loop-program.program-index c.program-item.result refl c.loop-program-test.true c.program-item.is)
     (subst (λ bytes. IsAccepted c.program-item.result.need bytes job_table c.in-Ok.verified) c.deref.ensures.value
     (subst (λ table. IsAccepted c.program-item.result.need c.deref.result.now table c.in-Ok.verified) c.job-helpers.ensures
-    (c.in-Ok.ensures.accepted))))
+    (c.in-Ok.ensures))))
 
 pub returns-clause-accepted : goal.returns-clause-accepted
 returns-clause-accepted c =
