@@ -1,9 +1,9 @@
 -- What a verified program is.
-use Rattle.std.specs.Prelude.{◌≡◌, ℕ, ◌+◌, ◌≤◌, ◌<◌, List, length, slice_index, slice_index_or, Bool, true, false, Option, Some, None}
+use Rattle.std.specs.Prelude.{◌≡◌, ℕ, ◌≤◌, List, length, slice_index, slice_index_or, Bool, true, false, Option, Some, None}
 use Rattle.insn_codec.specs.declared.insn.Size.TheVariants as size
 use Rattle.insn_codec.specs.declared.insn.Insn.{Insn}
 use Rattle.insn_codec.specs.declared.insn.Insn.TheVariants.{Mov, StoreRegister, Call, Exit}
-use Rattle.machine_model.specs.Edges.{Code, Fact, IsEdge, Begins, insn_at, price}
+use Rattle.machine_model.specs.Edges.{Code, Fact, IsEdge, Begins, insn_at}
 use Rattle.machine_model.specs.Paths.{AreCosts}
 use Rattle.machine_model.specs.Machine.{Program}
 use Rattle.helpers.specs.Table.{Table, AreKnown}

@@ -1,5 +1,5 @@
 -- Which registers an abstract state covers.
-use Rattle.std.specs.Prelude.{ℕ, List, slice_index_or}
+use Rattle.std.specs.Prelude.{ℕ, slice_index_or}
 use Rattle.machine_model.specs.Value.{Value, Registers}
 use Rattle.value_ranges.specs.Covers.{Covers}
 use Rattle.value_ranges.specs.declared.abs.Abs.{Abs}

@@ -2,3 +2,9 @@ pub mod Covers
 pub mod States
 pub mod Checked
 pub mod Regions
+pub mod Arrive
+pub mod Verdict
+pub mod Readiness
+pub mod Coming
+pub mod RefusalCodes
+pub mod Refusals

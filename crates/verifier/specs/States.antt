@@ -1,16 +1,17 @@
 -- What is known of the registers ahead of an instruction: at the entry, and along each edge; and what the instruction
 -- has to find known.
-use Rattle.std.specs.Prelude.{ℕ, zero, suc, ◌==◌, [], ◌∷◌, drop, slice_set, Bool, true, false, Option, Some, None, Result, Ok, Err, ℤ, pos, ◌+ℤ◌, int_lt, ◌||◌, if◌then◌else◌}
+use Rattle.std.specs.Prelude.{ℕ, zero, suc, ◌==◌, List, [], ◌∷◌, drop, slice_set, Bool, true, false, Option, Some, None, Result, Ok, Err, ℤ, pos, ◌+ℤ◌, int_lt, ◌||◌, if◌then◌else◌}
 use Rattle.insn_codec.specs.declared.insn.Operand.{Operand}
 use Rattle.insn_codec.specs.declared.insn.Operand.TheVariants.{Imm, Reg}
 use Rattle.insn_codec.specs.declared.insn.Insn.{Insn}
 use Rattle.insn_codec.specs.declared.insn.Insn.TheVariants.{Alu, Mov, MovSx, Neg, End, LoadWide, Load, Store, StoreRegister, Jump, Jump32, JumpIf, Call, Exit}
 use Rattle.machine_model.specs.Operators.{residue}
 use Rattle.machine_model.specs.Memory.{store_bytes, load_bytes}
-use Rattle.machine_model.specs.Edges.{Fact, Always, NotTaken, Taken}
+use Rattle.machine_model.specs.Edges.{Fact, Taken}
 use Rattle.helpers.specs.Table.{Table, arity_in}
 use Rattle.value_ranges.specs.Span.{Span}
 use Rattle.value_ranges.specs.Words.{entry, between, single_value, any_number, loaded}
+use Rattle.value_ranges.specs.Joins.{joined}
 use Rattle.value_ranges.specs.Refinements.{refined_by}
 use Rattle.value_ranges.specs.Tables.{table_of}
 use Rattle.value_ranges.specs.declared.abs.Abs.{Abs}
@@ -32,6 +33,14 @@ entry_state need = record {
 abbrev pub operand_at : State → Operand → Abs
 operand_at state (Imm imm) = single_value (residue 64 imm)
 operand_at state (Reg r) = abs_at state r
+
+-- the list of what is known of each register
+abbrev pub of_registers : (ℕ → Abs) → List Abs
+of_registers f = f 0 ∷ f 1 ∷ f 2 ∷ f 3 ∷ f 4 ∷ f 5 ∷ f 6 ∷ f 7 ∷ f 8 ∷ f 9 ∷ f 10 ∷ []
+
+-- what is known where two ways meet
+abbrev pub joined_state : State → State → State
+joined_state s t = record { registers = of_registers (λ r. joined (abs_at s r) (abs_at t r)) }
 
 -- ---- along the edges
 

@@ -1,8 +1,21 @@
 //! Programs that were verified: no task that runs one traps.
 #![tactic(auto)]
 
+mod allowed;
+mod laws;
+mod passing;
+mod refusals;
+mod regions;
 mod state;
+mod states;
+mod verification;
 mod verified;
 
+pub use laws::{arrivals_are_joined, arrivals_are_unique};
+pub use refusals::Refusal;
 pub use state::State;
+pub use verification::verify;
 pub use verified::{Region, Verified};
+
+#[cfg(test)]
+mod tests;

@@ -1,0 +1,147 @@
+-- Which numbers apply to the instructions that are run today, and what is set where none does.
+use Rattle.std.proofs.Common.{◌≡◌, ℕ, zero, suc, ◌==◌, ◌≤◌, Bool, true, false, Option, Some, None, arith, refl, subst, if◌then◌else◌, ℤ, pos, int_lt, ◌+ℤ◌, ◌||◌}
+use Rattle.insn_codec.specs.declared.insn.Size.TheVariants as size
+use Rattle.insn_codec.specs.declared.insn.Width.{Width}
+use Rattle.insn_codec.specs.declared.insn.Width.TheVariants.{W32, W64}
+use Rattle.insn_codec.specs.declared.insn.Insn.{Insn}
+use Rattle.insn_codec.specs.declared.insn.Insn.TheVariants.{Alu, Mov, MovSx, Neg, End, LoadWide, Load, Store, StoreRegister, Jump, Jump32, JumpIf, Call, Exit}
+use Rattle.helpers.specs.Table.{Table, arity_in}
+use Rattle.value_ranges.specs.Tables.{IsSet, move_table}
+use Rattle.value_ranges.specs.declared.abs.Abs.{Abs}
+use Rattle.value_ranges.specs.declared.abs.Abs.TheVariants as abs
+use Rattle.verifier.specs.declared.state.State.{State}
+use Rattle.verifier.specs.Covers.{abs_at}
+use Rattle.verifier.specs.States.{operand_at, first, unset_fault, number_fault, access_fault, table_fault, write_fault, unset_arguments, number_arguments, call_fault, fault}
+use Rattle.verifier.specs.Checked.{is_treated}
+use Rattle.verifier.specs.Readiness.{IsReady}
+
+set_of : (a : Abs) → unset_fault a ≡ None → IsSet a
+set_of abs.Unset e = absurd (cc)
+set_of (abs.Num r) e = tt
+set_of (abs.Stack r) e = tt
+set_of (abs.Part r) e = tt
+
+first_none : (a b : Option ℕ) → first a b ≡ None → a ≡ None
+first_none None b e = refl
+first_none (Some n) b e = e
+
+second_none : (a b : Option ℕ) → first a b ≡ None → b ≡ None
+second_none None b e = e
+second_none (Some n) b e = absurd (cc)
+
+-- what an allowed instruction reads is set
+pub ready_of : (need : ℕ) (helpers : Table) (i : Insn) (state : State) → fault need helpers i state ≡ None → IsReady i state
+ready_of need helpers (Alu w op dst src) state e = (
+  set_of (abs_at state dst) (first_none (unset_fault (abs_at state dst)) _ e),
+  set_of (operand_at state src) (first_none (unset_fault (operand_at state src)) _ (second_none (unset_fault (abs_at state dst)) _ e)),
+)
+ready_of need helpers (Mov w dst src) state e = set_of (operand_at state src) (first_none (unset_fault (operand_at state src)) _ e)
+ready_of need helpers (MovSx x dst src) state e = set_of (abs_at state src) (first_none (unset_fault (abs_at state src)) _ e)
+ready_of need helpers (Neg w dst) state e = set_of (abs_at state dst) (first_none (unset_fault (abs_at state dst)) _ e)
+ready_of need helpers (End order s dst) state e = set_of (abs_at state dst) (first_none (unset_fault (abs_at state dst)) _ e)
+ready_of need helpers (LoadWide dst value) state e = tt
+ready_of need helpers (Load kind dst base offset) state e = tt
+ready_of need helpers (Store s base offset imm) state e = tt
+ready_of need helpers (StoreRegister s base offset src) state e = tt
+ready_of need helpers (Jump offset) state e = tt
+ready_of need helpers (Jump32 offset) state e = tt
+ready_of need helpers (JumpIf w c dst src offset) state e = tt
+ready_of need helpers (Call helper) state e = tt
+ready_of need helpers Exit state e = tt
+
+-- the numbers of instructions that aren't allowed
+abbrev pub AreNumbers : Option ℕ → Type 0
+AreNumbers None = Unit {0}
+AreNumbers (Some number) = (31 ≤ number) × (number ≤ 37)
+
+first_numbers : (a b : Option ℕ) → AreNumbers a → AreNumbers b → AreNumbers (first a b)
+first_numbers None b x y = y
+first_numbers (Some n) b x y = x
+
+number_31 : AreNumbers (Some 31)
+number_31 = (omega arith, omega arith)
+
+number_34 : AreNumbers (Some 34)
+number_34 = (omega arith, omega arith)
+
+unset_numbers : (a : Abs) → AreNumbers (unset_fault a)
+unset_numbers abs.Unset = number_31
+unset_numbers (abs.Num r) = tt
+unset_numbers (abs.Stack r) = tt
+unset_numbers (abs.Part r) = tt
+
+number_numbers : (a : Abs) → AreNumbers (number_fault a)
+number_numbers abs.Unset = number_31
+number_numbers (abs.Num r) = tt
+number_numbers (abs.Stack r) = number_34
+number_numbers (abs.Part r) = number_34
+
+if_numbers : (b : Bool) (n : ℕ) → AreNumbers (Some n) → AreNumbers (if b then Some n else None)
+if_numbers true n h = h
+if_numbers false n h = tt
+
+write_numbers : (dst : ℕ) → AreNumbers (write_fault dst)
+write_numbers dst = if_numbers (dst == 10) 36 (omega arith, omega arith)
+
+access_numbers : (need : ℕ) (a : Abs) (offset : ℤ) (count : ℕ) → AreNumbers (access_fault need a offset count)
+access_numbers need abs.Unset offset count = number_31
+access_numbers need (abs.Num r) offset count = number_34
+access_numbers need (abs.Stack reach) offset count =
+    if_numbers (int_lt (reach.lo +ℤ offset) (pos 0) || int_lt (pos 512) (reach.hi +ℤ offset +ℤ pos count)) 32 (omega arith, omega arith)
+access_numbers need (abs.Part reach) offset count =
+    if_numbers (int_lt (reach.lo +ℤ offset) (pos 0) || int_lt (pos need) (reach.hi +ℤ offset +ℤ pos count)) 33 (omega arith, omega arith)
+
+move_numbers : (w : Width) (b : Abs) → AreNumbers (table_fault (move_table w b))
+move_numbers W64 b = tt
+move_numbers W32 abs.Unset = number_34
+move_numbers W32 (abs.Num r) = tt
+move_numbers W32 (abs.Stack r) = number_34
+move_numbers W32 (abs.Part r) = number_34
+
+unset_argument_numbers : (state : State) (count : ℕ) → AreNumbers (unset_arguments state count)
+unset_argument_numbers state zero = tt
+unset_argument_numbers state (suc count) =
+    first_numbers (unset_arguments state count) (unset_fault (abs_at state (suc count))) (unset_argument_numbers state count)
+    (unset_numbers (abs_at state (suc count)))
+
+number_argument_numbers : (state : State) (count : ℕ) → AreNumbers (number_arguments state count)
+number_argument_numbers state zero = tt
+number_argument_numbers state (suc count) =
+    first_numbers (number_arguments state count) (number_fault (abs_at state (suc count))) (number_argument_numbers state count)
+    (number_numbers (abs_at state (suc count)))
+
+call_numbers : (state : State) (arity : Option ℕ) → AreNumbers (call_fault state arity)
+call_numbers state None = (omega arith, omega arith)
+call_numbers state (Some arity) =
+    first_numbers (unset_arguments state arity) (number_arguments state arity) (unset_argument_numbers state arity) (number_argument_numbers state arity)
+
+pub fault_numbers : (need : ℕ) (helpers : Table) (i : Insn) (state : State) → is_treated i ≡ true → AreNumbers (fault need helpers i state)
+fault_numbers need helpers (Mov w dst src) state e =
+    first_numbers (unset_fault (operand_at state src)) (first (table_fault (move_table w (operand_at state src))) (write_fault dst))
+    (unset_numbers (operand_at state src))
+    (first_numbers (table_fault (move_table w (operand_at state src))) (write_fault dst) (move_numbers w (operand_at state src)) (write_numbers dst))
+fault_numbers need helpers (StoreRegister size.Byte base offset src) state e =
+    first_numbers (unset_fault (abs_at state base)) _ (unset_numbers (abs_at state base))
+    (first_numbers (unset_fault (abs_at state src)) _ (unset_numbers (abs_at state src))
+    (first_numbers (access_fault need (abs_at state base) offset 1) (number_fault (abs_at state src))
+    (access_numbers need (abs_at state base) offset 1) (number_numbers (abs_at state src))))
+fault_numbers need helpers (Call helper) state e = call_numbers state (arity_in helpers helper)
+fault_numbers need helpers Exit state e = number_numbers (abs_at state 0)
+fault_numbers need helpers (StoreRegister size.Half base offset src) state e = absurd (cc)
+fault_numbers need helpers (StoreRegister size.Word base offset src) state e = absurd (cc)
+fault_numbers need helpers (StoreRegister size.Double base offset src) state e = absurd (cc)
+fault_numbers need helpers (Alu w op dst src) state e = absurd (cc)
+fault_numbers need helpers (MovSx x dst src) state e = absurd (cc)
+fault_numbers need helpers (Neg w dst) state e = absurd (cc)
+fault_numbers need helpers (End order s dst) state e = absurd (cc)
+fault_numbers need helpers (LoadWide dst value) state e = absurd (cc)
+fault_numbers need helpers (Load kind dst base offset) state e = absurd (cc)
+fault_numbers need helpers (Store s base offset imm) state e = absurd (cc)
+fault_numbers need helpers (Jump offset) state e = absurd (cc)
+fault_numbers need helpers (Jump32 offset) state e = absurd (cc)
+fault_numbers need helpers (JumpIf w c dst src offset) state e = absurd (cc)
+
+pub refused_number : (need : ℕ) (helpers : Table) (i : Insn) (state : State) (number : ℕ) → is_treated i ≡ true →
+    fault need helpers i state ≡ Some number → (31 ≤ number) × (number ≤ 37)
+refused_number need helpers i state number treated e =
+    subst (λ (o : Option ℕ). AreNumbers o) e (fault_numbers need helpers i state treated)

@@ -1,0 +1,183 @@
+-- What arrives at a slot covers what passes each edge to it.
+use Rattle.std.proofs.Common.{◌≡◌, ℕ, zero, suc, ◌<◌, ◌==◌, ◌⊎◌, List, length, Some, None, Option, ap, sym, ◌∙◌, arith, refl, inl, inr, if◌then◌else◌, slice_index_or, subst}
+use Rattle.std.proofs.lemmas.Bool.{cases_lt}
+use Rattle.std.proofs.lemmas.Bool.Decides.{nat_tests}
+use Rattle.insn_codec.specs.declared.insn.Insn.{Insn}
+use Rattle.machine_model.specs.Edges.{Fact, Always, NotTaken, Taken, IsEdge, insn_at, leads_at}
+use Rattle.machine_model.specs.Value.{Value}
+use Rattle.machine_model.proofs.Codes.{begins_within}
+use Rattle.flow_graph.specs.Flow.{IsForward}
+use Rattle.value_ranges.specs.declared.abs.Abs.{Abs}
+use Rattle.value_ranges.specs.declared.abs.Abs.TheVariants.{Unset}
+use Rattle.value_ranges.specs.Covers.{Covers}
+use Rattle.value_ranges.specs.Joins.{joined}
+use Rattle.value_ranges.proofs.MergeLemmas.{joined_covers}
+use Rattle.verifier.specs.declared.state.State.{State}
+use Rattle.verifier.specs.Covers.{abs_at, IsWithin}
+use Rattle.verifier.specs.States.{entry_state, passed, fault, of_registers, joined_state}
+use Rattle.verifier.specs.Arrive.{Subject, Arrival, Nothing, Undefined, Comes, met, landed, over, joined_over, arrive}
+use Rattle.verifier.specs.Verdict.{IsTable, arrival_of}
+use Rattle.verifier.proofs.Arrivals.{arrive_is}
+use Rattle.verifier.proofs.Comings.{over_is}
+
+abbrev pub state_in : List (Option State) → ℕ → Option State
+state_in states slot = slice_index_or states slot None
+
+-- a list of registers has what it was made of, and nothing behind them
+of_register : (f : ℕ → Abs) (r : ℕ) → (slice_index_or (of_registers f) r Unset ≡ f r) ⊎ (slice_index_or (of_registers f) r Unset ≡ Unset)
+of_register f zero = inl refl
+of_register f (suc zero) = inl refl
+of_register f (suc (suc zero)) = inl refl
+of_register f (suc (suc (suc zero))) = inl refl
+of_register f (suc (suc (suc (suc zero)))) = inl refl
+of_register f (suc (suc (suc (suc (suc zero))))) = inl refl
+of_register f (suc (suc (suc (suc (suc (suc zero)))))) = inl refl
+of_register f (suc (suc (suc (suc (suc (suc (suc zero))))))) = inl refl
+of_register f (suc (suc (suc (suc (suc (suc (suc (suc zero)))))))) = inl refl
+of_register f (suc (suc (suc (suc (suc (suc (suc (suc (suc zero))))))))) = inl refl
+of_register f (suc (suc (suc (suc (suc (suc (suc (suc (suc (suc zero)))))))))) = inl refl
+of_register f (suc (suc (suc (suc (suc (suc (suc (suc (suc (suc (suc r))))))))))) = inr refl
+
+covers_there : (o a : Abs) (v : Value) → (o ≡ a) ⊎ (o ≡ Unset) → Covers a v → Covers o v
+covers_there o a v (inl e) h = subst (λ (x : Abs). Covers x v) (sym e) h
+covers_there o a v (inr e) h = subst (λ (x : Abs). Covers x v) (sym e) tt
+
+within_left : (s t : State) → IsWithin s (joined_state s t)
+within_left s t r v h =
+    covers_there (abs_at (joined_state s t) r) (joined (abs_at s r) (abs_at t r)) v
+    (of_register (λ r. joined (abs_at s r) (abs_at t r)) r)
+    (joined_covers (abs_at s r) (abs_at t r) (joined (abs_at s r) (abs_at t r)) refl v (inl h))
+
+within_right : (s t : State) → IsWithin t (joined_state s t)
+within_right s t r v h =
+    covers_there (abs_at (joined_state s t) r) (joined (abs_at s r) (abs_at t r)) v
+    (of_register (λ r. joined (abs_at s r) (abs_at t r)) r)
+    (joined_covers (abs_at s r) (abs_at t r) (joined (abs_at s r) (abs_at t r)) refl v (inr h))
+
+-- what comes in the one way is covered by what comes in the other
+abbrev Below : Arrival → Arrival → Type 0
+Below Nothing b = Unit {0}
+Below a Undefined = Unit {0}
+Below (Comes s) (Comes t) = IsWithin s t
+Below _ _ = ⊥
+
+below_self : (a : Arrival) → Below a a
+below_self Nothing = tt
+below_self Undefined = tt
+below_self (Comes s) = λ r v h. h
+
+below_trans : (a b c : Arrival) → Below a b → Below b c → Below a c
+below_trans Nothing b c p q = tt
+below_trans Undefined Undefined Undefined p q = tt
+below_trans (Comes s) Undefined Undefined p q = tt
+below_trans (Comes s) (Comes t) Undefined p q = tt
+below_trans (Comes s) (Comes t) (Comes u) p q = λ r v h. q r v (p r v h)
+below_trans Undefined Nothing c p q = absurd p
+below_trans Undefined (Comes t) c p q = absurd p
+below_trans Undefined Undefined Nothing p q = absurd q
+below_trans Undefined Undefined (Comes u) p q = absurd q
+below_trans (Comes s) Nothing c p q = absurd p
+below_trans (Comes s) Undefined Nothing p q = absurd q
+below_trans (Comes s) Undefined (Comes u) p q = absurd q
+below_trans (Comes s) (Comes t) Nothing p q = absurd q
+
+met_left : (a b : Arrival) → Below a (met a b)
+met_left Nothing b = tt
+met_left Undefined Nothing = tt
+met_left Undefined Undefined = tt
+met_left Undefined (Comes t) = tt
+met_left (Comes s) Nothing = below_self (Comes s)
+met_left (Comes s) Undefined = tt
+met_left (Comes s) (Comes t) = within_left s t
+
+met_right : (a b : Arrival) → Below b (met a b)
+met_right Nothing b = below_self b
+met_right Undefined Nothing = tt
+met_right Undefined Undefined = tt
+met_right Undefined (Comes t) = tt
+met_right (Comes s) Nothing = tt
+met_right (Comes s) Undefined = tt
+met_right (Comes s) (Comes t) = within_right s t
+
+-- each of the three edges of a slot is below the join with them
+below_three : (x a b c : Arrival) (fact : Fact) (e : Fact → Arrival) → e Always ≡ a → e NotTaken ≡ b → e Taken ≡ c →
+    Below (e fact) (met (met (met x a) b) c)
+below_three x a b c Always e p q r = rw p
+    (below_trans a (met x a) (met (met (met x a) b) c) (met_right x a)
+    (below_trans (met x a) (met (met x a) b) (met (met (met x a) b) c) (met_left (met x a) b) (met_left (met (met x a) b) c)))
+below_three x a b c NotTaken e p q r = rw q
+    (below_trans b (met (met x a) b) (met (met (met x a) b) c) (met_right (met x a) b) (met_left (met (met x a) b) c))
+below_three x a b c Taken e p q r = rw r (met_right (met (met x a) b) c)
+
+below_before : (x a b c : Arrival) → Below x (met (met (met x a) b) c)
+below_before x a b c =
+    below_trans x (met x a) (met (met (met x a) b) c) (met_left x a)
+    (below_trans (met x a) (met (met x a) b) (met (met (met x a) b) c) (met_left (met x a) b) (met_left (met (met x a) b) c))
+
+-- what passes an edge is below the join over all slots
+pub over_below : (subject : Subject) (a : ℕ → Arrival) (s p n : ℕ) (fact : Fact) → p < n → Below (over subject a s p fact) (joined_over subject a s n)
+over_below subject a s p zero fact lt = absurd (omega arith)
+over_below subject a s p (suc n) fact lt = elim (cases_lt p n) [
+  | inl h ↦ below_trans (over subject a s p fact) (joined_over subject a s n) (joined_over subject a s (suc n)) (over_below subject a s p n fact h)
+      (below_before (joined_over subject a s n) (over subject a s n Always) (over subject a s n NotTaken) (over subject a s n Taken))
+  | inr h ↦ let same : n ≡ p = omega arith in
+      subst (λ (k : ℕ). Below (over subject a s k fact) (joined_over subject a s (suc n))) same
+      (below_three (joined_over subject a s n) (over subject a s n Always) (over subject a s n NotTaken) (over subject a s n Taken) fact
+      (over subject a s n) refl refl refl)
+]
+
+landed_at : (o : Option ℕ) (s : ℕ) (x : Arrival) → o ≡ Some s → landed o s x ≡ x
+landed_at o s x e = ap (λ (p : Option ℕ). landed p s x) e ∙ at_same s x
+  where
+    at_same : (s : ℕ) (x : Arrival) → (if s == s then x else Nothing) ≡ x
+    at_same s x = grind (arith, nat_tests)
+
+-- a state that is below an arrival of the table
+found : (inner : State) (o : Option State) → Below (Comes inner) (arrival_of o) → (outer : State) × (o ≡ Some outer) × IsWithin inner outer
+found inner None h = absurd h
+found inner (Some outer) h = (outer, refl, h)
+
+pub edge_covered : (subject : Subject) (states : List (Option State)) (p s : ℕ) (i : Insn) (state : State) (fact : Fact) →
+    IsForward subject.code → IsTable subject states → p < length subject.code → insn_at subject.code p ≡ Some i → arrive subject p ≡ Comes state → fault subject.need subject.helpers i state ≡ None →
+    IsEdge subject.code p fact s → (outer : State) × (state_in states s ≡ Some outer) × IsWithin (passed i fact state) outer
+edge_covered subject states p zero i state fact f t lt x y z edge =
+    let low : p < 0 = f.onward p fact 0 edge in absurd (omega arith)
+edge_covered subject states p (suc s) i state fact f t lt x y z edge =
+    let l = f.lands p fact (suc s) edge in
+    let inside : suc s < length subject.code = l.0 in
+    let a : over subject (arrive subject) (suc s) p fact ≡ Comes (passed i fact state) =
+    sym (over_is subject (arrive subject) (suc s) p i fact state x y z) ∙ landed_at (leads_at subject.code p fact) (suc s) (Comes (passed i fact state)) edge in
+    let b : joined_over subject (arrive subject) (suc s) (length subject.code) ≡ arrival_of (state_in states (suc s)) =
+    sym (t.each (suc s) inside ∙ arrive_is subject f (suc s) inside) in
+    found (passed i fact state) (state_in states (suc s))
+    (subst (λ (u : Arrival). Below u (arrival_of (state_in states (suc s)))) a
+    (subst (λ (u : Arrival). Below (over subject (arrive subject) (suc s) p fact) u) b
+    (over_below subject (arrive subject) (suc s) p (length subject.code) fact lt)))
+
+-- what the table says of the entry and of each edge
+pub record IsSoundTable (subject : Subject) (states : List (Option State)) : Type 0 where
+  pub entry : (outer : State) × (state_in states 0 ≡ Some outer) × IsWithin (entry_state subject.need) outer
+  pub allowed : (slot : ℕ) (i : Insn) (state : State) → insn_at subject.code slot ≡ Some i → state_in states slot ≡ Some state →
+      fault subject.need subject.helpers i state ≡ None
+  pub covered : (slot : ℕ) (i : Insn) (state : State) → insn_at subject.code slot ≡ Some i → state_in states slot ≡ Some state →
+      (fact : Fact) (next : ℕ) → IsEdge subject.code slot fact next →
+      (outer : State) × (state_in states next ≡ Some outer) × IsWithin (passed i fact state) outer
+
+pub sound_of : (subject : Subject) (states : List (Option State)) → IsForward subject.code → IsTable subject states → IsSoundTable subject states
+sound_of subject states f t = record {
+  entry = (entry_state subject.need, first_of_all (state_in states 0) (t.each 0 f.starts ∙ arrive_is subject f 0 f.starts), λ r v h. h);
+  allowed = λ p i state x y. t.allowed p i state x (arrives p i state x y);
+  covered = λ p i state x y fact s edge.
+      edge_covered subject states p s i state fact f t (inside p i x) x (arrives p i state x y)
+      (t.allowed p i state x (arrives p i state x y)) edge;
+}
+  where
+    first_of_all : (o : Option State) → arrival_of o ≡ Comes (entry_state subject.need) → o ≡ Some (entry_state subject.need)
+    first_of_all None e = absurd (cc)
+    first_of_all (Some state) e = cc
+
+    inside : (p : ℕ) (i : Insn) → insn_at subject.code p ≡ Some i → p < length subject.code
+    inside p i x = begins_within subject.code p (i, x)
+
+    arrives : (p : ℕ) (i : Insn) (state : State) → insn_at subject.code p ≡ Some i → state_in states p ≡ Some state → arrive subject p ≡ Comes state
+    arrives p i state x y = sym (t.each p (inside p i x)) ∙ ap arrival_of y

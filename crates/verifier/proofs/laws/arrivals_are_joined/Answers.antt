@@ -1,0 +1,5 @@
+use Rattle.verifier.proofs.Arrivals.{arrive_is}
+use Rattle.verifier.proofs.laws.arrivals_are_joined.Goals as goal
+
+pub returns : goal.returns
+returns c = arrive_is

@@ -1,0 +1,49 @@
+-- Which programs are allowed.
+use Rattle.std.specs.Prelude.{◌≡◌, ℕ, ◌<◌, List, length, slice_index_or, Option, Some, None}
+use Rattle.insn_codec.specs.declared.insn.Insn.{Insn}
+use Rattle.machine_model.specs.Edges.{insn_at}
+use Rattle.verifier.specs.declared.state.State.{State}
+use Rattle.verifier.specs.States.{fault}
+use Rattle.verifier.specs.declared.refusals.Refusal.{Refusal}
+use Rattle.verifier.specs.declared.refusals.Refusal.TheVariants.{UnsetRead, OutOfStack, OutOfPart, BadKind, PointerRange, FramePointer, NoHelper, NoMemory}
+use Rattle.verifier.specs.Arrive.{Subject, Arrival, Nothing, Comes, arrive}
+
+-- where a state arrives at the slot, its instruction is allowed
+abbrev pub IsAllowedAt : Subject → ℕ → Type 0
+IsAllowedAt p slot = (i : Insn) (state : State) → insn_at p.code slot ≡ Some i → arrive p slot ≡ Comes state →
+    fault p.need p.helpers i state ≡ None
+
+-- a state arrives at the slot, and this is the lowest number that applies to its instruction there
+pub record IsFaulty (p : Subject) (slot number : ℕ) : Type 0 where
+  pub insn : Insn
+  pub state : State
+  pub there : insn_at p.code slot ≡ Some insn
+  pub arrives : arrive p slot ≡ Comes state
+  pub applies : fault p.need p.helpers insn state ≡ Some number
+
+-- it is the lowest slot of those
+pub record IsFirstFaulty (p : Subject) (slot number : ℕ) : Type 0 where
+  pub faulty : IsFaulty p slot number
+  pub least : (s : ℕ) → s < slot → IsAllowedAt p s
+
+abbrev pub arrival_of : Option State → Arrival
+arrival_of None = Nothing
+arrival_of (Some state) = Comes state
+
+-- the table has what arrives at each slot, and each instruction is allowed there
+pub record IsTable (p : Subject) (states : List (Option State)) : Type 0 where
+  pub slots : length states ≡ length p.code
+  pub each : (s : ℕ) → s < length p.code → arrival_of (slice_index_or states s None) ≡ arrive p s
+  pub allowed : (s : ℕ) → IsAllowedAt p s
+
+-- the refusal tells the first instruction that isn't allowed
+abbrev pub RefusesStates : Subject → Refusal → Type 0
+RefusesStates p (UnsetRead slot) = IsFirstFaulty p slot 31
+RefusesStates p (OutOfStack slot) = IsFirstFaulty p slot 32
+RefusesStates p (OutOfPart slot) = IsFirstFaulty p slot 33
+RefusesStates p (BadKind slot) = IsFirstFaulty p slot 34
+RefusesStates p (PointerRange slot) = IsFirstFaulty p slot 35
+RefusesStates p (FramePointer slot) = IsFirstFaulty p slot 36
+RefusesStates p (NoHelper slot) = IsFirstFaulty p slot 37
+RefusesStates p NoMemory = Unit {0}
+RefusesStates p refusal = ⊥

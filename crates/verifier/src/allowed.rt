@@ -1,0 +1,299 @@
+//! What an instruction has to find known.
+
+ghost use Rattle.std.specs.Prelude.{◌≡◌, ◌+◌, ◌≤◌, ◌<◌, IfNone, ℤ, pos, ◌+ℤ◌, int_lt, ◌||◌};
+ghost use Rattle.value_ranges.specs.Tables.{table_of, IsArithmetic, IsReadSet, IsSet};
+ghost use Rattle.machine_model.specs.Memory.{store_bytes, load_bytes};
+ghost use Rattle.verifier.specs.Covers.{abs_at};
+ghost use Rattle.verifier.specs.States.{fault, first, unset_fault, number_fault, region_fault, access_fault, table_fault, write_fault, unset_arguments, number_arguments, call_fault};
+ghost use Rattle.helpers.specs.Table.{arity_in};
+
+use crate::state::State;
+use helpers::HelperTable;
+use insn_codec::{Insn, LoadKind, Register, Size};
+use value_ranges::{Abs, Reach, alu};
+
+/// A register that is read is set.
+fn unset_fault(abs: &Abs) -> Option<u8>
+    ensures fault { result ≡ unset_fault abs.now }
+    ensures set { IfNone result (IsSet abs.now) }
+{
+    match abs {
+        Abs::Unset => Some(31),
+        _ => None,
+    }
+}
+
+/// It has a number.
+fn number_fault(abs: &Abs) -> Option<u8>
+    ensures { result ≡ number_fault abs.now }
+{
+    match abs {
+        Abs::Unset => Some(31),
+        Abs::Num(_) => None,
+        Abs::Stack(_) | Abs::Part(_) => Some(34),
+    }
+}
+
+/// R10 isn't written.
+fn write_fault(register: Register) -> Option<u8>
+    ensures { result ≡ write_fault register }
+{
+    if register.number() == 10 {
+        Some(36)
+    } else {
+        None
+    }
+}
+
+/// A position, moved by an offset.
+#[tactic(auto, using(crate::proofs::StateLemmas::signed_values))]
+fn moved(position: i32, offset: i16) -> i64
+    ensures { result ≡ position +ℤ offset }
+{
+    i64::from(position) + i64::from(offset)
+}
+
+/// The end of so many bytes from a position on, moved by an offset.
+#[tactic(auto, using(crate::proofs::StateLemmas::signed_values))]
+fn end_of(position: i32, offset: i16, count: u8) -> i64
+    ensures { result ≡ position +ℤ offset +ℤ pos count }
+{
+    i64::from(position) + i64::from(offset) + i64::from(count)
+}
+
+/// What goes from one position to another doesn't lie in a region of that size.
+#[tactic(auto, using(crate::proofs::StateLemmas::signed_values))]
+fn lies_outside(size: u32, from: i64, end: i64) -> bool
+    ensures { result ≡ (int_lt from (pos 0) || int_lt (pos size) end) }
+{
+    from < 0 || i64::from(size) < end
+}
+
+/// So many bytes from each position on, moved by an offset, lie in a region of that size.
+fn region_fault(number: u8, size: u32, reach: Reach, offset: i16, count: u8) -> Option<u8>
+    ensures { result ≡ region_fault number size reach offset count }
+{
+    let from = moved(reach.lo(), offset);
+    let end = end_of(reach.hi(), offset, count);
+    if lies_outside(size, from, end) {
+        Some(number)
+    } else {
+        None
+    }
+}
+
+/// They lie in the stack, or in a part of that need.
+fn access_fault(need: u32, abs: Abs, offset: i16, count: u8) -> Option<u8>
+    ensures { result ≡ access_fault need abs offset count }
+{
+    match abs {
+        Abs::Unset => Some(31),
+        Abs::Num(_) => Some(34),
+        Abs::Stack(reach) => region_fault(32, 512, reach, offset, count),
+        Abs::Part(reach) => region_fault(33, need, reach, offset, count),
+    }
+}
+
+/// How many bytes a store writes.
+fn store_bytes(size: Size) -> u8
+    ensures { result ≡ store_bytes size }
+{
+    match size {
+        Size::Byte => 1,
+        Size::Half => 2,
+        Size::Word => 4,
+        Size::Double => 8,
+    }
+}
+
+/// How many bytes a load reads.
+fn load_bytes(kind: LoadKind) -> u8
+    ensures { result ≡ load_bytes kind }
+{
+    match kind {
+        LoadKind::Byte | LoadKind::SignedByte => 1,
+        LoadKind::Half | LoadKind::SignedHalf => 2,
+        LoadKind::Word | LoadKind::SignedWord => 4,
+        LoadKind::Double => 8,
+    }
+}
+
+/// The table allows an arithmetic instruction or a move, and its destination may be written.
+fn result_fault(insn: &Insn, dst: Abs, src: Abs, to: Register) -> Option<u8>
+    requires arithmetic { IsArithmetic insn.now }
+    requires set { IsReadSet insn.now dst src }
+    ensures { result ≡ first (table_fault (table_of insn.now dst src)) (write_fault to) }
+{
+    match alu(insn, dst, src) {
+        Err(number) => Some(number),
+        Ok(_) => write_fault(to),
+    }
+}
+
+/// What is known of the register of this number: nothing, where there is none.
+fn argument(state: &State, number: u32) -> Abs
+    ensures { result ≡ abs_at state.now number }
+{
+    match state.registers.get(number as usize) {
+        Some(abs) => *abs,
+        None => Abs::Unset,
+    }
+}
+
+/// The registers from R1 on that have arguments are set.
+fn unset_arguments(state: &State, arity: u32) -> Option<u8>
+    ensures { result ≡ unset_arguments state.now arity }
+{
+    for before in 0..arity {
+        if let Some(number) = unset_fault(&argument(state, before + 1)) {
+            return Some(number);
+        }
+    }
+    None
+}
+
+/// They have numbers.
+fn number_arguments(state: &State, arity: u32) -> Option<u8>
+    ensures { result ≡ number_arguments state.now arity }
+{
+    for before in 0..arity {
+        if let Some(number) = number_fault(&argument(state, before + 1)) {
+            return Some(number);
+        }
+    }
+    None
+}
+
+/// The helper is in the table, and its arguments are numbers.
+fn call_fault(helpers: &HelperTable, state: &State, helper: u32) -> Option<u8>
+    ensures { result ≡ call_fault state.now (arity_in helpers.now helper) }
+{
+    match helpers.arity(helper) {
+        None => Some(37),
+        Some(arity) => match unset_arguments(state, arity) {
+            Some(number) => Some(number),
+            None => number_arguments(state, arity),
+        },
+    }
+}
+
+/// The store of a register is allowed.
+fn store_fault(need: u32, base: Abs, src: Abs, offset: i16, count: u8) -> Option<u8>
+    ensures { result ≡ first (unset_fault base) (first (unset_fault src) (first (access_fault need base offset count) (number_fault src))) }
+{
+    if let Some(number) = unset_fault(&base) {
+        return Some(number);
+    }
+    if let Some(number) = unset_fault(&src) {
+        return Some(number);
+    }
+    match access_fault(need, base, offset, count) {
+        Some(number) => Some(number),
+        None => number_fault(&src),
+    }
+}
+
+/// Both operands of a comparison are numbers.
+fn compare_fault(dst: Abs, src: Abs) -> Option<u8>
+    ensures { result ≡ first (unset_fault dst) (first (unset_fault src) (first (number_fault dst) (number_fault src))) }
+{
+    if let Some(number) = unset_fault(&dst) {
+        return Some(number);
+    }
+    if let Some(number) = unset_fault(&src) {
+        return Some(number);
+    }
+    match number_fault(&dst) {
+        Some(number) => Some(number),
+        None => number_fault(&src),
+    }
+}
+
+/// The lowest number that applies to a move, which reads the second operand alone.
+fn move_fault(insn: &Insn, dst: Abs, src: Abs, to: Register) -> Option<u8>
+    requires arithmetic { IsArithmetic insn.now }
+    requires reads { IsSet src → IsReadSet insn.now dst src }
+    ensures { result ≡ first (unset_fault src) (first (table_fault (table_of insn.now dst src)) (write_fault to)) }
+{
+    match unset_fault(&src) {
+        Some(number) => Some(number),
+        None => result_fault(insn, dst, src, to),
+    }
+}
+
+/// The lowest number that applies to an arithmetic instruction that reads its destination alone.
+fn unary_fault(insn: &Insn, dst: Abs, src: Abs, to: Register) -> Option<u8>
+    requires arithmetic { IsArithmetic insn.now }
+    requires reads { IsSet dst → IsReadSet insn.now dst src }
+    ensures { result ≡ first (unset_fault dst) (first (table_fault (table_of insn.now dst src)) (write_fault to)) }
+{
+    match unset_fault(&dst) {
+        Some(number) => Some(number),
+        None => result_fault(insn, dst, src, to),
+    }
+}
+
+/// The lowest number that applies to an arithmetic instruction that reads both operands.
+fn binary_fault(insn: &Insn, dst: Abs, src: Abs, to: Register) -> Option<u8>
+    requires arithmetic { IsArithmetic insn.now }
+    requires reads { IsSet dst → IsSet src → IsReadSet insn.now dst src }
+    ensures { result ≡ first (unset_fault dst) (first (unset_fault src) (first (table_fault (table_of insn.now dst src)) (write_fault to))) }
+{
+    if let Some(number) = unset_fault(&dst) {
+        return Some(number);
+    }
+    match unset_fault(&src) {
+        Some(number) => Some(number),
+        None => result_fault(insn, dst, src, to),
+    }
+}
+
+/// The lowest number that applies to the instruction where the registers are so.
+pub(crate) fn refused(need: u32, helpers: &HelperTable, insn: &Insn, state: &State) -> Option<u8>
+    ensures { result ≡ fault need helpers.now insn.now state.now }
+{
+    match *insn {
+        Insn::Alu { dst, src, .. } => binary_fault(insn, state.at(dst), state.operand(&src), dst),
+        Insn::Mov { dst, src, .. } => move_fault(insn, state.at(dst), state.operand(&src), dst),
+        Insn::MovSx { dst, src, .. } => move_fault(insn, state.at(dst), state.at(src), dst),
+        Insn::Neg { dst, .. } | Insn::End { dst, .. } => {
+            unary_fault(insn, state.at(dst), state.at(dst), dst)
+        }
+        Insn::LoadWide { dst, .. } => write_fault(dst),
+        Insn::Load {
+            kind,
+            dst,
+            base,
+            offset,
+        } => {
+            match access_fault(need, state.at(base), offset, load_bytes(kind)) {
+                Some(number) => Some(number),
+                None => write_fault(dst),
+            }
+        }
+        Insn::Store {
+            size,
+            base,
+            offset,
+            ..
+        } => { access_fault(need, state.at(base), offset, store_bytes(size)) }
+        Insn::StoreRegister {
+            size,
+            base,
+            offset,
+            src,
+        } => {
+            store_fault(
+                need,
+                state.at(base),
+                state.at(src),
+                offset,
+                store_bytes(size),
+            )
+        }
+        Insn::Jump { .. } | Insn::Jump32 { .. } => None,
+        Insn::JumpIf { dst, src, .. } => compare_fault(state.at(dst), state.operand(&src)),
+        Insn::Call { helper } => call_fault(helpers, state, helper),
+        Insn::Exit => number_fault(&state.at(Register::new(0))),
+    }
+}
