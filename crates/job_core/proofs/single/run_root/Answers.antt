@@ -1,0 +1,27 @@
+use Rattle.std.proofs.Common.{subst, ◌∙◌}
+use Rattle.machine_model.specs.Job.{Job, start}
+use Rattle.job_core.specs.Behind.{IsBehind, Steps}
+use Rattle.job_core.proofs.Plays.{plays_none}
+use Rattle.job_core.proofs.Singles.{alone_more, outcome_is}
+use Rattle.job_core.proofs.single.run_root.Goals as goal
+
+pub loop-init : goal.loop-init
+loop-init c = record {
+  alone = plays_none c.args.job.programs (start c.args.job.credit c.args.job.buffer) c.in_ok-world.world c.in_ok-world.ensures.start;
+  programs = c.in_ok-world.ensures.programs;
+}
+
+pub returns-in-Ended : goal.returns-in-Ended
+returns-in-Ended c =
+    outcome_is c.args.job c.loop.counter c.in-Ended.r0 c.loop.world c.step.new.self c.totals-totals.result c.loop-test.true c.loop.invariant.programs
+    c.loop.invariant.alone
+    (λ k behind. subst (λ out. Steps c.loop.world k 0 out c.step.new.self) c.in-Ended.is (c.step.ensures.steps k behind))
+    (λ k behind. c.totals-totals.ensures k behind)
+
+pub loop-preserved : goal.loop-preserved
+loop-preserved c = record {
+  alone =
+      alone_more c.args.job c.loop.counter c.step.result c.loop.world c.step.new.self c.loop.invariant.programs c.loop.invariant.alone
+      c.step.ensures.steps;
+  programs = c.step.ensures.programs ∙ c.loop.invariant.programs;
+}

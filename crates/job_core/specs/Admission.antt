@@ -1,0 +1,98 @@
+-- When a job is admitted, and when each refusal comes.
+use Rattle.std.specs.Prelude.{◌≡◌, ◌⊎◌, ℕ, ◌≤◌, ◌<◌, List, length, slice_get, Option, Some, None}
+use Rattle.helpers.specs.Table.{job_table}
+use Rattle.verifier.specs.declared.refusals.Refusal.{Refusal}
+use Rattle.verifier.specs.declared.refusals.Refusal.TheVariants as program
+use Rattle.verifier.specs.Checked.{Checked, cost_at}
+use Rattle.verifier.specs.Refusals.{IsAccepted, Refuses}
+use Rattle.verifier.specs.RefusalCodes.{number_of as number_of_program, slot_of as slot_of_program}
+use Rattle.job_core.specs.declared.admission.ProgramBytes.{ProgramBytes}
+use Rattle.job_core.specs.declared.admission.AdmitFault.{AdmitFault}
+use Rattle.job_core.specs.declared.admission.AdmitFault.TheVariants.{NoPrograms, TooManyPrograms, TooLarge, Program, CreditLow, BufferShort, NoMemory}
+use Rattle.job_core.specs.Admitted.{Order}
+
+-- the verifier accepts the program with this, for the helpers of a job
+abbrev pub Accepts : ProgramBytes → Checked → Type 0
+Accepts p v = IsAccepted p.need p.code.items job_table v
+
+-- the verifier has this refusal of the program
+abbrev pub RefusesProgram : ProgramBytes → Refusal → Type 0
+RefusesProgram p program.NoMemory = ⊥
+RefusesProgram p refusal = Refuses p.need p.code.items job_table refusal
+
+-- the refusal of the program of this number that the verifier refuses
+abbrev pub fault_of : ℕ → Refusal → AdmitFault
+fault_of index program.NoMemory = NoMemory
+fault_of index refusal = Program index refusal
+
+-- the verifier accepts each program with the one at its place
+pub record AreAccepted (programs : List ProgramBytes) (accepted : List Checked) : Type 0 where
+  pub count : length accepted ≡ length programs
+  pub each : (n : ℕ) (p : ProgramBytes) (v : Checked) → slice_get programs n ≡ Some p → slice_get accepted n ≡ Some v → Accepts p v
+
+-- the numbers of programs and bytes and the credit are within their limits
+pub record IsWithinLimits (programs : List ProgramBytes) (credit : ℕ) (buffer : List ℕ) : Type 0 where
+  pub some : 1 ≤ length programs
+  pub few : length programs ≤ 16
+  pub limit : credit ≤ 2147483647
+  pub small : length buffer ≤ 65536
+
+-- the job that is admitted: its programs are accepted, and its credit and buffer cover the root
+pub record IsAdmittedFrom (programs : List ProgramBytes) (credit : ℕ) (buffer : List ℕ) (order : Order) : Type 0 where
+  pub limits : IsWithinLimits programs credit buffer
+  pub accepted : AreAccepted programs order.programs
+  pub same_credit : order.credit ≡ credit
+  pub same_buffer : order.buffer ≡ buffer
+  pub root : Checked
+  pub is_root : slice_get order.programs 0 ≡ Some root
+  pub cost : cost_at root 0 ≤ credit
+  pub need : root.need ≤ length buffer
+
+-- the first program that the verifier refuses, with its refusal
+pub record IsFirstRefused (programs : List ProgramBytes) (index : ℕ) (refusal : Refusal) : Type 0 where
+  pub refused : (p : ProgramBytes) × (slice_get programs index ≡ Some p) × RefusesProgram p refusal
+  pub earlier : (n : ℕ) (p : ProgramBytes) → n < index → slice_get programs n ≡ Some p → (v : Checked) × Accepts p v
+
+-- what there is to tell of programs of which one isn't accepted
+abbrev pub IsFirstFault : List ProgramBytes → AdmitFault → Type 0
+IsFirstFault programs (Program index refusal) = IsFirstRefused programs index refusal
+IsFirstFault programs NoMemory = Unit {0}
+IsFirstFault programs fault = ⊥
+
+-- each program is accepted, and the root is this one
+pub record IsRoot (programs : List ProgramBytes) (root : Checked) : Type 0 where
+  pub accepted : List Checked
+  pub all : AreAccepted programs accepted
+  pub first : slice_get accepted 0 ≡ Some root
+
+-- the one refusal of a job, but for want of memory
+abbrev pub RefusesJob : List ProgramBytes → ℕ → List ℕ → AdmitFault → Type 0
+RefusesJob programs credit buffer NoPrograms = length programs ≡ 0
+RefusesJob programs credit buffer TooManyPrograms = 16 < length programs
+RefusesJob programs credit buffer TooLarge =
+    (1 ≤ length programs) × (length programs ≤ 16) × ((2147483647 < credit) ⊎ (65536 < length buffer))
+RefusesJob programs credit buffer (Program index refusal) = IsWithinLimits programs credit buffer × IsFirstRefused programs index refusal
+RefusesJob programs credit buffer CreditLow =
+    IsWithinLimits programs credit buffer × (root : Checked) × IsRoot programs root × (credit < cost_at root 0)
+RefusesJob programs credit buffer BufferShort =
+    IsWithinLimits programs credit buffer × (root : Checked) × IsRoot programs root × (cost_at root 0 ≤ credit) × (length buffer < root.need)
+RefusesJob programs credit buffer NoMemory = Unit {0}
+
+-- the numbers of the refusals, and the slot that one tells
+abbrev pub number_of : AdmitFault → ℕ
+number_of NoPrograms = 61
+number_of TooManyPrograms = 62
+number_of TooLarge = 65
+number_of (Program index refusal) = number_of_program refusal
+number_of CreditLow = 63
+number_of BufferShort = 64
+number_of NoMemory = 99
+
+abbrev pub slot_of : AdmitFault → Option ℕ
+slot_of NoPrograms = None
+slot_of TooManyPrograms = None
+slot_of TooLarge = None
+slot_of (Program index refusal) = slot_of_program refusal
+slot_of CreditLow = None
+slot_of BufferShort = None
+slot_of NoMemory = None

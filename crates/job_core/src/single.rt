@@ -1,0 +1,152 @@
+//! One program from the command line: its task is stepped to its end, and the answer is printed.
+
+ghost use Rattle.std.specs.Prelude.{◌≡◌, ◌≤◌, IfOk, IfErr, IfSome};
+ghost use Rattle.job_core.specs.Single.{IsOutcome};
+
+use crate::admission::{AdmitFault, ProgramBytes, admit};
+use crate::job::Job;
+use crate::tasks::Stepped;
+use crate::world::World;
+use hex::FromHexError;
+use refusal::NoMemory;
+use std::alloc::Global;
+use std::io::{self, Read, Write};
+
+/// How often the task is stepped at most. A program has 4,096 slots at most and goes forward at each step.
+const STEPS: u32 = 4096;
+
+/// What the root's task came to: its R0, and the credit that ended tasks spent and returned until then.
+#[derive(Clone, Copy, Debug, PartialEq, Eq)]
+pub struct Outcome {
+    pub r0: u64,
+    pub spent: u32,
+    pub returned: u32,
+}
+
+/// Steps the root's task to its end. `None` if it isn't there after 4,096 steps.
+pub fn run_root(alloc: Global, job: Job) -> Result<Option<Outcome>, NoMemory>
+    ensures { IfOk result (λ found. IfSome found (λ outcome. IsOutcome job outcome)) }
+{
+    let mut world = World::open(alloc, job)?;
+    for _ in 0..STEPS {
+        if let Stepped::Ended(r0) = world.step(alloc, 0) {
+            let totals = world.totals();
+            return Ok(Some(Outcome {
+                r0,
+                spent: totals.spent,
+                returned: totals.returned,
+            }));
+        }
+    }
+    Ok(None)
+}
+
+/// What stands for one run of the program: a line and a status, or no status but failure.
+enum Answer {
+    Ended(Outcome),
+    Refused(u8, Option<u32>),
+    Failed,
+}
+
+/// A decimal number of 32 bits: digits alone.
+fn number(word: &str) -> Option<u32> {
+    if word.starts_with('+') {
+        return None;
+    }
+    word.parse::<u32>().ok()
+}
+
+/// The need and the credit, if the words are two decimal numbers of 32 bits.
+fn numbers(words: &[&str]) -> Option<(u32, u32)> {
+    match words {
+        [need, credit] => Some((number(need)?, number(credit)?)),
+        _ => None,
+    }
+}
+
+/// What follows is no part of the hexadecimal.
+fn is_trailing(byte: u8) -> bool {
+    matches!(byte, b' ' | b'\t' | b'\r' | b'\n')
+}
+
+/// The text without what trails it.
+fn trimmed(text: &[u8]) -> &[u8] {
+    let mut end = text.len();
+    while end > 0 && is_trailing(text[end - 1]) {
+        end -= 1;
+    }
+    &text[..end]
+}
+
+/// Admits the program of these words with an empty buffer, and runs it.
+fn run_text(alloc: Global, need: u32, credit: u32, text: &[u8]) -> Answer {
+    let code = match hex::decode(alloc, trimmed(text)) {
+        Ok(code) => code,
+        Err(FromHexError::OutOfMemory) => return Answer::Refused(99, None),
+        Err(_) => return Answer::Refused(73, None),
+    };
+    let programs = [ProgramBytes { need, code }];
+    let job = match admit(alloc, &programs, credit, Vec::new(alloc)) {
+        Ok(job) => job,
+        Err(fault) => return Answer::Refused(fault.code(), fault.slot()),
+    };
+    match run_root(alloc, job) {
+        Ok(Some(outcome)) => Answer::Ended(outcome),
+        Ok(None) => Answer::Failed,
+        Err(NoMemory) => Answer::Refused(99, None),
+    }
+}
+
+/// Writes the line of the answer, and gives its status.
+fn told<W: Write>(answer: Answer, writer: &mut W) -> io::Result<u8>
+    ensures { IfOk result (λ status. status ≤ 3) }
+{
+    match answer {
+        Answer::Ended(outcome) => {
+            let Outcome {
+                r0,
+                spent,
+                returned,
+            } = outcome;
+            writeln!(writer, "r0 {r0} spent {spent} returned {returned}")?;
+            Ok(0)
+        }
+        Answer::Refused(number, Some(slot)) => {
+            writeln!(writer, "refused {number} at {slot}")?;
+            Ok(1)
+        }
+        Answer::Refused(number, None) => {
+            writeln!(writer, "refused {number}")?;
+            Ok(1)
+        }
+        Answer::Failed => Ok(3),
+    }
+}
+
+/// Runs one program: `words` are its need and its credit in decimal, `reader` gives its bytes in hexadecimal, and the
+/// answer goes to `writer` as one line.
+///
+/// The status: 0 after `r0 R spent S returned T`, 1 after `refused N` or `refused N at K` (73 where the input isn't
+/// hexadecimal, else the number of [`AdmitFault`]), 2 where the words aren't two decimal numbers of 32 bits, and then
+/// nothing is read or written, and 3 where input or output fails.
+pub fn bpf_one<R: Read, W: Write>(
+    alloc: Global,
+    words: &[&str],
+    reader: &mut R,
+    writer: &mut W,
+) -> u8
+    ensures { result ≤ 3 }
+{
+    let Some((need, credit)) = numbers(words) else {
+        return 2;
+    };
+    let mut text = Vec::new(alloc);
+    if reader.read_to_end(&mut text).is_err() {
+        return 3;
+    }
+    let answer = run_text(alloc, need, credit, &text);
+    match told(answer, writer) {
+        Ok(status) => status,
+        Err(_) => 3,
+    }
+}
