@@ -9,3 +9,4 @@ pub mod OperatorLemmas
 pub mod Codes
 pub mod Costs
 pub mod ComputingLemmas
+pub mod ReferenceLemmas
