@@ -10,3 +10,4 @@ pub mod Codes
 pub mod Costs
 pub mod ComputingLemmas
 pub mod ReferenceLemmas
+pub mod ReferenceRuns

@@ -1,5 +1,5 @@
 -- The reference's records as those of the definitions.
-use Rattle.std.specs.Prelude.{ℕ, List, [], ◌∷◌, ◌++◌, map, slice_set, Bool, true, false, Option, Some, None, Result, Ok, Err, slice_index_or}
+use Rattle.std.specs.Prelude.{ℕ, List, [], ◌∷◌, ◌++◌, map, slice_set, Bool, true, false, Option, Some, None, Result, Ok, Err, slice_index_or, option_map}
 use Rattle.machine_model.specs.declared.reference_records.Content.{Content}
 use Rattle.machine_model.specs.declared.reference_records.Content.TheVariants as content
 use Rattle.machine_model.specs.declared.reference_records.TrapCause.{TrapCause}
@@ -131,3 +131,8 @@ changed_by j n c = record { buffer = c.buffer.items; tasks = slice_set j.tasks n
 abbrev pub when : Bool → Job → Option Job
 when true j = Some j
 when false j = None
+
+-- a change, if there is one, or nothing after a trap
+abbrev pub step_by : Job → ℕ → Option (Option Change) → Option Job
+step_by j n None = Some j
+step_by j n (Some c) = option_map (changed_by j n) c
