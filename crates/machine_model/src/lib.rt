@@ -22,3 +22,5 @@ pub use unary::{extension_width, low_end, negate, reorder_bytes, sign_extend};
 pub mod reference;
 mod reference_effect;
 mod reference_records;
+#[cfg(test)]
+mod reference_tests;
