@@ -4,44 +4,46 @@ use crate::{TextFault, assemble, nothing_refused, one_program, read_back};
 use disassembler::disassemble;
 use std::test::Fail;
 
+/// Sources and the bytes that they spell. The first ten are written back as they stand.
+const SPELLED: [(&str, &[u8]); 14] = [
+    (
+        "lddw r0, 4294967301",
+        &[0x18, 0, 0, 0, 5, 0, 0, 0, 0, 0, 0, 0, 1, 0, 0, 0],
+    ),
+    ("mod32 r0, r1", &[0x9c, 0x10, 0, 0, 0, 0, 0, 0]),
+    ("sdiv64 r0, r1", &[0x3f, 0x10, 1, 0, 0, 0, 0, 0]),
+    ("lsh64 r0, r1", &[0x6f, 0x10, 0, 0, 0, 0, 0, 0]),
+    ("be16 r0", &[0xdc, 0, 0, 0, 0x10, 0, 0, 0]),
+    ("jgt r3, 15, +3", &[0x25, 3, 3, 0, 0x0f, 0, 0, 0]),
+    ("add64 r1, r3", &[0x0f, 0x31, 0, 0, 0, 0, 0, 0]),
+    ("ldxb r0, [r1+0]", &[0x71, 0x10, 0, 0, 0, 0, 0, 0]),
+    ("stdw [r10-8], 0", &[0x7a, 0x0a, 0xf8, 0xff, 0, 0, 0, 0]),
+    ("ja -1", &[0x05, 0, 0xff, 0xff, 0, 0, 0, 0]),
+    (
+        "mov64 r0, 42\nexit\n",
+        &[0xb7, 0, 0, 0, 0x2a, 0, 0, 0, 0x95, 0, 0, 0, 0, 0, 0, 0],
+    ),
+    ("\t exit \t; ends; here\r\n", &[0x95, 0, 0, 0, 0, 0, 0, 0]),
+    (
+        "; a comment\r\n\r\n\tja +0\r\n  exit",
+        &[0x05, 0, 0, 0, 0, 0, 0, 0, 0x95, 0, 0, 0, 0, 0, 0, 0],
+    ),
+    (
+        "stb [r10-32768], -2147483648;",
+        &[0x72, 0x0a, 0, 0x80, 0, 0, 0, 0x80],
+    ),
+];
+
 #[test]
 fn reads_what_is_spelled(rt: HostRuntime) -> Result<(), Fail> {
-    let cases: [(&str, &[u8]); 14] = [
-        (
-            "lddw r0, 4294967301",
-            &[0x18, 0, 0, 0, 5, 0, 0, 0, 0, 0, 0, 0, 1, 0, 0, 0],
-        ),
-        ("mod32 r0, r1", &[0x9c, 0x10, 0, 0, 0, 0, 0, 0]),
-        ("sdiv64 r0, r1", &[0x3f, 0x10, 1, 0, 0, 0, 0, 0]),
-        ("lsh64 r0, r1", &[0x6f, 0x10, 0, 0, 0, 0, 0, 0]),
-        ("be16 r0", &[0xdc, 0, 0, 0, 0x10, 0, 0, 0]),
-        ("jgt r3, 15, +3", &[0x25, 3, 3, 0, 0x0f, 0, 0, 0]),
-        ("add64 r1, r3", &[0x0f, 0x31, 0, 0, 0, 0, 0, 0]),
-        ("ldxb r0, [r1+0]", &[0x71, 0x10, 0, 0, 0, 0, 0, 0]),
-        ("stdw [r10-8], 0", &[0x7a, 0x0a, 0xf8, 0xff, 0, 0, 0, 0]),
-        ("ja -1", &[0x05, 0, 0xff, 0xff, 0, 0, 0, 0]),
-        (
-            "mov64 r0, 42\nexit\n",
-            &[0xb7, 0, 0, 0, 0x2a, 0, 0, 0, 0x95, 0, 0, 0, 0, 0, 0, 0],
-        ),
-        ("\t exit \t; ends; here\r\n", &[0x95, 0, 0, 0, 0, 0, 0, 0]),
-        (
-            "; a comment\r\n\r\n\tja +0\r\n  exit",
-            &[0x05, 0, 0, 0, 0, 0, 0, 0, 0x95, 0, 0, 0, 0, 0, 0, 0],
-        ),
-        (
-            "stb [r10-32768], -2147483648;",
-            &[0x72, 0x0a, 0, 0x80, 0, 0, 0, 0x80],
-        ),
-    ];
-    for (source, bytes) in &cases {
+    for (source, bytes) in &SPELLED {
         assert_eq!(rt;
             assemble(rt.alloc(), source)?.as_slice(),
             *bytes,
             "of {source}"
         );
     }
-    for (source, bytes) in &cases[..10] {
+    for (source, bytes) in &SPELLED[..10] {
         let text = disassemble(rt.alloc(), bytes)?;
         assert_eq!(rt; text.as_str().trim_end(), *source);
         assert_eq!(rt; assemble(rt.alloc(), text.as_str())?.as_slice(), *bytes);

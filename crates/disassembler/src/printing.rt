@@ -91,12 +91,10 @@ impl fmt::Display for Tail {
 
     fn fmt<W: fmt::Write>(&self, f: &mut fmt::Formatter<W>) -> fmt::Result {
         match self.0 {
-            Insn::Alu { dst, src, .. } | Insn::Mov { dst, src, .. } => write!(
-                f,
-                " {}, {}",
-                Name(dst),
-                Value(src)
-            ),
+            Insn::Alu { dst, src, .. } | Insn::Mov { dst, src, .. } => {
+                let (dst, src) = (Name(dst), Value(src));
+                write!(f, " {dst}, {src}")
+            }
             Insn::MovSx { dst, src, .. } => write!(f, " {}, {}", Name(dst), Name(src)),
             Insn::Neg { dst, .. } | Insn::End { dst, .. } => write!(f, " {}", Name(dst)),
             Insn::LoadWide { dst, value } => write!(f, " {}, {value}", Name(dst)),
@@ -126,13 +124,8 @@ impl fmt::Display for Tail {
                 offset,
                 ..
             } => {
-                write!(
-                    f,
-                    " {}, {}, {}",
-                    Name(dst),
-                    Value(src),
-                    Offset(i32::from(offset))
-                )
+                let (dst, src) = (Name(dst), Value(src));
+                write!(f, " {dst}, {src}, {}", Offset(i32::from(offset)))
             }
             Insn::Call { helper } => write!(f, " {helper}"),
             Insn::Exit => Ok(()),

@@ -40,107 +40,79 @@ fn tells_every_opcode(rt: HostRuntime) -> Result<(), Fail> {
     Ok(())
 }
 
-#[test]
-fn spells_and_reads(rt: HostRuntime) -> Result<(), Fail> {
-    let (r0, r1, r3, r10) = (
-        Register::new(0),
-        Register::new(1),
-        Register::new(3),
-        Register::new(10),
-    );
-    let w64 = Width::W64;
-    let cases: [(&[u8], Insn); 10] = [
-        (
-            &[0x18, 0, 0, 0, 5, 0, 0, 0, 0, 0, 0, 0, 1, 0, 0, 0],
-            Insn::LoadWide {
-                dst: r0,
-                value: 4294967301,
-            },
-        ),
-        (
-            &[0x9c, 0x10, 0, 0, 0, 0, 0, 0],
-            Insn::Alu {
-                width: Width::W32,
-                op: AluOp::Mod,
-                dst: r0,
-                src: Operand::Reg(r1),
-            },
-        ),
-        (
-            &[0x3f, 0x10, 1, 0, 0, 0, 0, 0],
-            Insn::Alu {
-                width: w64,
-                op: AluOp::Sdiv,
-                dst: r0,
-                src: Operand::Reg(r1),
-            },
-        ),
-        (
-            &[0x6f, 0x10, 0, 0, 0, 0, 0, 0],
-            Insn::Alu {
-                width: w64,
-                op: AluOp::Lsh,
-                dst: r0,
-                src: Operand::Reg(r1),
-            },
-        ),
-        (
-            &[0xdc, 0, 0, 0, 0x10, 0, 0, 0],
-            Insn::End {
-                order: ByteOrder::Big,
-                size: EndSize::Bits16,
-                dst: r0,
-            },
-        ),
-        (
-            &[0x25, 3, 3, 0, 0x0f, 0, 0, 0],
-            Insn::JumpIf {
-                width: w64,
-                condition: Condition::Greater,
-                dst: r3,
-                src: Operand::Imm(15),
-                offset: 3,
-            },
-        ),
-        (
-            &[0x0f, 0x31, 0, 0, 0, 0, 0, 0],
-            Insn::Alu {
-                width: w64,
-                op: AluOp::Add,
-                dst: r1,
-                src: Operand::Reg(r3),
-            },
-        ),
-        (
-            &[0x71, 0x10, 0, 0, 0, 0, 0, 0],
-            Insn::Load {
-                kind: LoadKind::Byte,
-                dst: r0,
-                base: r1,
-                offset: 0,
-            },
-        ),
-        (
-            &[0x7a, 0x0a, 0xf8, 0xff, 0, 0, 0, 0],
-            Insn::Store {
-                size: Size::Double,
-                base: r10,
-                offset: -8,
-                imm: 0,
-            },
-        ),
-        (
-            &[0x05, 0, 0xff, 0xff, 0, 0, 0, 0],
-            Insn::Jump { offset: -1 },
-        ),
-    ];
-    for (bytes, insn) in &cases {
-        let placed = decode(rt.alloc(), bytes)?;
-        assert_eq!(rt; placed.len(), 1);
-        assert!(rt; placed[0].slot == 0 && placed[0].insn == *insn);
-        assert_eq!(rt; encode(rt.alloc(), &[*insn])?.as_slice(), *bytes);
-        assert_eq!(rt; insn.slots() as usize * 8, bytes.len());
+fn alu(width: Width, op: AluOp, dst: Register, src: Register) -> Insn {
+    Insn::Alu {
+        width,
+        op,
+        dst,
+        src: Operand::Reg(src),
     }
+}
+
+/// Whether the bytes decode to the instruction alone, and it encodes to them.
+fn spells(rt: &HostRuntime, bytes: &[u8], insn: Insn) -> Result<bool, Fail> {
+    let placed = decode(rt.alloc(), bytes)?;
+    let again = encode(rt.alloc(), &[insn])?;
+    let one = placed.len() == 1 && placed[0].slot == 0 && placed[0].insn == insn;
+    Ok(one && again.as_slice() == bytes && insn.slots() as usize * 8 == bytes.len())
+}
+
+#[test]
+fn spells_arithmetic(rt: HostRuntime) -> Result<(), Fail> {
+    let (r0, r1, r3) = (Register::new(0), Register::new(1), Register::new(3));
+    let value = 4294967301;
+    let wide = Insn::LoadWide { dst: r0, value };
+    let bytes = [0x18, 0, 0, 0, 5, 0, 0, 0, 0, 0, 0, 0, 1, 0, 0, 0];
+    assert!(rt; spells(&rt, &bytes, wide)?);
+    let modulo = alu(Width::W32, AluOp::Mod, r0, r1);
+    assert!(rt; spells(&rt, &[0x9c, 0x10, 0, 0, 0, 0, 0, 0], modulo)?);
+    let division = alu(Width::W64, AluOp::Sdiv, r0, r1);
+    assert!(rt; spells(&rt, &[0x3f, 0x10, 1, 0, 0, 0, 0, 0], division)?);
+    let shift = alu(Width::W64, AluOp::Lsh, r0, r1);
+    assert!(rt; spells(&rt, &[0x6f, 0x10, 0, 0, 0, 0, 0, 0], shift)?);
+    let sum = alu(Width::W64, AluOp::Add, r1, r3);
+    assert!(rt; spells(&rt, &[0x0f, 0x31, 0, 0, 0, 0, 0, 0], sum)?);
+    let (order, size) = (ByteOrder::Big, EndSize::Bits16);
+    let end = Insn::End {
+        order,
+        size,
+        dst: r0,
+    };
+    assert!(rt; spells(&rt, &[0xdc, 0, 0, 0, 0x10, 0, 0, 0], end)?);
+    Ok(())
+}
+
+#[test]
+fn spells_memory_and_jumps(rt: HostRuntime) -> Result<(), Fail> {
+    let jump_if = Insn::JumpIf {
+        width: Width::W64,
+        condition: Condition::Greater,
+        dst: Register::new(3),
+        src: Operand::Imm(15),
+        offset: 3,
+    };
+    assert!(rt; spells(&rt, &[0x25, 3, 3, 0, 0x0f, 0, 0, 0], jump_if)?);
+    let load = Insn::Load {
+        kind: LoadKind::Byte,
+        dst: Register::new(0),
+        base: Register::new(1),
+        offset: 0,
+    };
+    assert!(rt; spells(&rt, &[0x71, 0x10, 0, 0, 0, 0, 0, 0], load)?);
+    let store = Insn::Store {
+        size: Size::Double,
+        base: Register::new(10),
+        offset: -8,
+        imm: 0,
+    };
+    assert!(rt; spells(&rt, &[0x7a, 0x0a, 0xf8, 0xff, 0, 0, 0, 0], store)?);
+    assert!(rt;
+        spells(
+            &rt,
+            &[0x05, 0, 0xff, 0xff, 0, 0, 0, 0],
+            Insn::Jump { offset: -1 }
+        )?
+    );
     Ok(())
 }
 

@@ -9,3 +9,5 @@ pub mod OperatorLemmas
 pub mod Codes
 pub mod Costs
 pub mod ComputingLemmas
+pub mod ReferenceLemmas
+pub mod ReferenceRuns

@@ -8,3 +8,4 @@ pub mod Spawn
 pub mod Machine
 pub mod Job
 pub mod Computing
+pub mod Reference

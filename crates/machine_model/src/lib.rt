@@ -17,3 +17,10 @@ mod unary;
 pub use computing::compute;
 pub use operators::{alu_number, apply_alu, bits, holds, low_bits, residue, shift_count, signed};
 pub use unary::{extension_width, low_end, negate, reorder_bytes, sign_extend};
+
+// the reference: the definitions as a plain program
+pub mod reference;
+mod reference_effect;
+mod reference_records;
+#[cfg(test)]
+mod reference_tests;

@@ -1,5 +1,7 @@
 //! Programs that `verify` takes or refuses. Expected answers were worked out by hand.
 
+ghost use Rattle.std.specs.Prelude.{◌≤◌};
+
 use crate::{Refusal, verify};
 use flow_graph::FlowFault;
 use helpers::HelperTable;
@@ -16,14 +18,16 @@ fn mov(dst: u8, imm: u8) -> [u8; 8] {
 
 /// `mov64 dst, src`, of registers below 16
 fn copy(dst: u8, src: u8) -> [u8; 8]
-    requires { dst + 16 * src < 256 }
+    requires dst { dst ≤ 15 }
+    requires src { src ≤ 15 }
 {
     [0xbf, dst + 16 * src, 0, 0, 0, 0, 0, 0]
 }
 
 /// `stxb [base+offset], src`
 fn store(base: u8, offset: i8, src: u8) -> [u8; 8]
-    requires { base + 16 * src < 256 }
+    requires base { base ≤ 15 }
+    requires src { src ≤ 15 }
 {
     let sign = if offset < 0 { 0xff } else { 0 };
     [

@@ -1,0 +1,64 @@
+-- How the reference's jobs change along a run.
+use Rattle.std.proofs.Common.{◌≡◌, add-one, ℕ, zero, suc, ◌+◌, List, [], ◌∷◌, ◌++◌, map, drop, set, slice_set, slice_get, refl, sym, ap, ◌∙◌, Bool, true, false, Option, Some, None, option_and_then}
+use Rattle.std.proofs.lemmas.List.{map-set, map-append}
+use Rattle.machine_model.specs.declared.reference_records.JobMember.{JobMember}
+use Rattle.machine_model.specs.declared.reference_records.JobMember.TheVariants as member
+use Rattle.machine_model.specs.declared.reference_records.LiveTask.{LiveTask}
+use Rattle.machine_model.specs.declared.reference_records.ReferenceMove.{ReferenceMove}
+use Rattle.machine_model.specs.Machine.{Program}
+use Rattle.machine_model.specs.Job.{Job, Member, Move, run, step}
+use Rattle.machine_model.specs.Reference.{member_of, move_of, born_of, task_of, when}
+
+with_nothing : (xs : List Member) → xs ≡ xs ++ []
+with_nothing [] = refl
+with_nothing (x ∷ xs) = ap (λ (ys : List Member). x ∷ ys) (with_nothing xs)
+
+abbrev pub job_with : List ℕ → List Member → Job
+job_with buffer tasks = record { buffer = buffer; tasks = tasks }
+
+-- a task's new record, and no child
+pub put_alone : (buffer : List ℕ) (tasks : List JobMember) (n : ℕ) (m : JobMember) (born : Option LiveTask) → born ≡ None →
+    job_with buffer (map member_of (set tasks n m)) ≡ job_with buffer (slice_set (map member_of tasks) n (member_of m) ++ born_of born)
+put_alone buffer tasks n m born is =
+    ap (job_with buffer)
+    (map-set member_of tasks n m ∙ with_nothing (slice_set (map member_of tasks) n (member_of m))
+    ∙ ap (λ (b : Option LiveTask). slice_set (map member_of tasks) n (member_of m) ++ born_of b) (sym is))
+
+-- a task's new record, and its child
+pub put_child : (buffer : List ℕ) (tasks now : List JobMember) (n : ℕ) (m : JobMember) (child : LiveTask) (born : Option LiveTask) →
+    born ≡ Some child → now ≡ set tasks n m ++ member.Live child ∷ [] →
+    job_with buffer (map member_of now) ≡ job_with buffer (slice_set (map member_of tasks) n (member_of m) ++ born_of born)
+put_child buffer tasks now n m child born is after =
+    ap (job_with buffer)
+    (ap (map member_of) after ∙ map-append member_of (set tasks n m) (member.Live child ∷ [])
+    ∙ ap (λ (xs : List Member). xs ++ member_of (member.Live child) ∷ []) (map-set member_of tasks n m)
+    ∙ ap (λ (b : Option LiveTask). slice_set (map member_of tasks) n (member_of m) ++ born_of b) (sym is))
+
+next_move : (moves : List ReferenceMove) (i : ℕ) (m : ReferenceMove) → slice_get moves i ≡ Some m →
+    drop i (map move_of moves) ≡ move_of m ∷ drop (suc i) (map move_of moves)
+next_move [] i m e = cc
+next_move (x ∷ xs) zero m e = let s : x ≡ m = cc in ap (λ (y : ReferenceMove). move_of y ∷ map move_of xs) s
+next_move (x ∷ xs) (suc i) m e = next_move xs i m e
+
+along : (programs : List Program) (ms : List Move) (o p : Option Job) → p ≡ o →
+    option_and_then (λ mid. run programs mid ms) p ≡ option_and_then (λ mid. run programs mid ms) o
+along programs ms o p is = ap (option_and_then (λ mid. run programs mid ms)) is
+
+-- a move that is done, and one on which the task traps
+pub run_on : (programs : List Program) (j k : Job) (moves : List ReferenceMove) (i : ℕ) (m : ReferenceMove) → slice_get moves i ≡ Some m →
+    when true k ≡ step programs j m.number m.refuses →
+    run programs k (drop (i + 1) (map move_of moves)) ≡ run programs j (drop i (map move_of moves))
+run_on programs j k moves i m here went =
+    ap (λ n. run programs k (drop n (map move_of moves))) (add-one i)
+    ∙ along programs (drop (suc i) (map move_of moves)) (step programs j m.number m.refuses) (Some k) went
+    ∙ ap (run programs j) (sym (next_move moves i m here))
+
+pub run_off : (programs : List Program) (j k : Job) (moves : List ReferenceMove) (i : ℕ) (m : ReferenceMove) → slice_get moves i ≡ Some m →
+    when false k ≡ step programs j m.number m.refuses → let none : Option Job = None in
+    none ≡ run programs j (drop i (map move_of moves))
+run_off programs j k moves i m here off =
+    along programs (drop (suc i) (map move_of moves)) (step programs j m.number m.refuses) None off
+    ∙ ap (run programs j) (sym (next_move moves i m here))
+
+pub from_start : (programs : List Program) (j k : Job) (ms : List Move) → j ≡ k → run programs j ms ≡ run programs k ms
+from_start programs j k ms is = ap (λ (x : Job). run programs x ms) is

@@ -1,0 +1,138 @@
+-- The reference's records as those of the definitions.
+use Rattle.std.specs.Prelude.{ℕ, List, [], ◌∷◌, ◌++◌, map, slice_set, Bool, true, false, Option, Some, None, Result, Ok, Err, slice_index_or, option_map}
+use Rattle.machine_model.specs.declared.reference_records.Content.{Content}
+use Rattle.machine_model.specs.declared.reference_records.Content.TheVariants as content
+use Rattle.machine_model.specs.declared.reference_records.TrapCause.{TrapCause}
+use Rattle.machine_model.specs.declared.reference_records.TrapCause.TheVariants as cause
+use Rattle.machine_model.specs.declared.reference_records.ReferenceProgram.{ReferenceProgram}
+use Rattle.machine_model.specs.declared.reference_records.Running.{Running}
+use Rattle.machine_model.specs.declared.reference_records.Child.{Child}
+use Rattle.machine_model.specs.declared.reference_records.Request.{Request}
+use Rattle.machine_model.specs.declared.reference_records.Outcome.{Outcome}
+use Rattle.machine_model.specs.declared.reference_records.Outcome.TheVariants as outcome
+use Rattle.machine_model.specs.declared.reference_records.LiveTask.{LiveTask}
+use Rattle.machine_model.specs.declared.reference_records.EndedTask.{EndedTask}
+use Rattle.machine_model.specs.declared.reference_records.JobMember.{JobMember}
+use Rattle.machine_model.specs.declared.reference_records.JobMember.TheVariants as member
+use Rattle.machine_model.specs.declared.reference_records.ReferenceJob.{ReferenceJob}
+use Rattle.machine_model.specs.declared.reference_records.ReferenceMove.{ReferenceMove}
+use Rattle.machine_model.specs.declared.reference_records.Change.{Change}
+use Rattle.machine_model.specs.Job.{Task, Ending, Member, Live, Ended, Job, Move}
+use Rattle.machine_model.specs.Value.{Value, Unset, Num, Stack, Part, Registers}
+use Rattle.machine_model.specs.Machine.{State, Program, Birth, Effect, Goes, Ends, Spawns, Traps, Trap, UnsetRead, OutsideStack, OutsidePart, WrongKind, OutsideCode, WritesStackEnd, NoHelper, OverSpent}
+
+abbrev pub value_of : Content → Value
+value_of content.Unset = Unset
+value_of (content.Num n) = Num n
+value_of (content.Stack k) = Stack k
+value_of (content.Part k) = Part k
+
+-- a register past the list isn't set
+abbrev pub registers_of : List Content → Registers
+registers_of contents r = value_of (slice_index_or contents r content.Unset)
+
+abbrev pub program_of : ReferenceProgram → Program
+program_of p = record { need = p.need; code = p.code.items; costs = p.costs.items }
+
+abbrev pub state_of : Running → State
+state_of t = record {
+  slot = t.slot;
+  registers = registers_of t.registers;
+  stack = t.stack;
+  part = t.part.items;
+  held = t.held;
+  used = t.used;
+}
+
+abbrev pub birth_from : Child → Birth
+birth_from b = record { program = b.program; share = b.share; arg = b.arg; bytes = b.bytes.items }
+
+abbrev pub trap_of : TrapCause → Trap
+trap_of cause.UnsetRead = UnsetRead
+trap_of cause.OutsideStack = OutsideStack
+trap_of cause.OutsidePart = OutsidePart
+trap_of cause.WrongKind = WrongKind
+trap_of cause.OutsideCode = OutsideCode
+trap_of cause.WritesStackEnd = WritesStackEnd
+trap_of cause.NoHelper = NoHelper
+trap_of cause.OverSpent = OverSpent
+
+abbrev pub effect_of : Outcome → Effect
+effect_of (outcome.Goes next) = Goes (state_of next)
+effect_of (outcome.Ends r0 last) = Ends r0 (state_of last)
+effect_of (outcome.Spawns child taken refused) = Spawns (birth_from child) (state_of taken) (state_of refused)
+effect_of (outcome.Traps trap) = Traps (trap_of trap)
+
+-- a place that is within a region, or none
+abbrev pub at_place : Trap → (ℕ → Effect) → Option ℕ → Effect
+at_place trap go (Some at) = go at
+at_place trap go None = Traps trap
+
+-- what a spawn asks for, or why nothing can be asked
+abbrev pub asking : (ℕ → ℕ → ℕ → ℕ → Effect) → Result Request TrapCause → Effect
+asking go (Ok r) = go r.program r.share r.cut r.arg
+asking go (Err cause) = Traps (trap_of cause)
+
+-- a number, or why there is none
+abbrev pub counting : (ℕ → Effect) → Result ℕ TrapCause → Effect
+counting go (Ok n) = go n
+counting go (Err cause) = Traps (trap_of cause)
+
+-- ---- jobs
+
+abbrev pub task_of : LiveTask → Task
+task_of t = record {
+  program = t.program;
+  arg = t.arg;
+  given = t.given;
+  place = t.place.items;
+  children = t.children;
+  slot = t.slot;
+  registers = registers_of t.registers;
+  stack = t.stack;
+  base = t.base;
+  size = t.size;
+  held = t.held;
+  used = t.used;
+}
+
+abbrev pub ended_of : EndedTask → Ending
+ended_of e = record {
+  program = e.program;
+  arg = e.arg;
+  given = e.given;
+  place = e.place.items;
+  base = e.base;
+  size = e.size;
+  spent = e.spent;
+  rest = e.rest;
+  r0 = e.r0;
+}
+
+abbrev pub member_of : JobMember → Member
+member_of (member.Live t) = Live (task_of t)
+member_of (member.Ended e) = Ended (ended_of e)
+
+abbrev pub job_of : ReferenceJob → Job
+job_of j = record { buffer = j.buffer.items; tasks = map member_of j.tasks.items }
+
+abbrev pub move_of : ReferenceMove → Move
+move_of m = record { number = m.number; refuses = m.refuses }
+
+abbrev pub born_of : Option LiveTask → List Member
+born_of (Some t) = Live (task_of t) ∷ []
+born_of None = []
+
+-- the job after a change of task n
+abbrev pub changed_by : Job → ℕ → Change → Job
+changed_by j n c = record { buffer = c.buffer.items; tasks = slice_set j.tasks n (member_of c.member) ++ born_of c.born }
+
+-- nothing after a trap
+abbrev pub when : Bool → Job → Option Job
+when true j = Some j
+when false j = None
+
+-- a change, if there is one, or nothing after a trap
+abbrev pub step_by : Job → ℕ → Option (Option Change) → Option Job
+step_by j n None = Some j
+step_by j n (Some c) = option_map (changed_by j n) c
