@@ -23,4 +23,6 @@ pub mod reference;
 mod reference_effect;
 mod reference_records;
 #[cfg(test)]
+mod reference_rows;
+#[cfg(test)]
 mod reference_tests;

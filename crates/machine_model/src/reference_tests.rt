@@ -8,7 +8,7 @@ use std::alloc::Global;
 use std::process::Abort;
 use std::test::Fail;
 
-fn mov(dst: u8, number: i32) -> Insn
+pub(crate) fn mov(dst: u8, number: i32) -> Insn
     requires { dst ≤ 10 }
 {
     Insn::Mov {
@@ -19,7 +19,7 @@ fn mov(dst: u8, number: i32) -> Insn
 }
 
 /// A program of these instructions, each in one slot.
-fn program(
+pub(crate) fn program(
     alloc: Global,
     need: u32,
     insns: &[Insn],
