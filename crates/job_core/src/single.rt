@@ -1,6 +1,6 @@
 //! One program from the command line: its task is stepped to its end, and the answer is printed.
 
-ghost use Rattle.std.specs.Prelude.{◌≡◌, ◌≤◌, IfOk, IfErr, IfSome};
+ghost use Rattle.std.specs.Prelude.{◌≡◌, ◌≢◌, ◌≤◌, length, IfOk, IfSome, IsSome};
 ghost use Rattle.job_core.specs.Single.{IsOutcome};
 
 use crate::admission::{AdmitFault, ProgramBytes, admit};
@@ -57,7 +57,9 @@ fn number(word: &str) -> Option<u32> {
 }
 
 /// The need and the credit, if the words are two decimal numbers of 32 bits.
-fn numbers(words: &[&str]) -> Option<(u32, u32)> {
+fn numbers(words: &[&str]) -> Option<(u32, u32)>
+    ensures { IsSome result → length words.now ≡ 2 }
+{
     match words {
         [need, credit] => Some((number(need)?, number(credit)?)),
         _ => None,
@@ -99,7 +101,7 @@ fn run_text(alloc: Global, need: u32, credit: u32, text: &[u8]) -> Answer {
 
 /// Writes the line of the answer, and gives its status.
 fn told<W: Write>(answer: Answer, writer: &mut W) -> io::Result<u8>
-    ensures { IfOk result (λ status. status ≤ 3) }
+    ensures { IfOk result (λ status. (status ≤ 3) × (status ≢ 2)) }
 {
     match answer {
         Answer::Ended(outcome) => {
@@ -135,7 +137,9 @@ pub fn bpf_one<R: Read, W: Write>(
     reader: &mut R,
     writer: &mut W,
 ) -> u8
-    ensures { result ≤ 3 }
+    ensures status { result ≤ 3 }
+    ensures count { length words.now ≢ 2 → result ≡ 2 }
+    ensures silent { result ≡ 2 → W.contents writer.new ≡ W.contents writer.old }
 {
     let Some((need, credit)) = numbers(words) else {
         return 2;
