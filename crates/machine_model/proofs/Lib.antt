@@ -11,3 +11,4 @@ pub mod Costs
 pub mod ComputingLemmas
 pub mod ReferenceLemmas
 pub mod ReferenceRuns
+pub mod MemoryLemmas

@@ -1,5 +1,5 @@
 -- What the reference's records come to.
-use Rattle.std.proofs.Common.{◌≡◌, add-one, ℕ, zero, suc, ◌<◌, ◌+◌, ◌%◌, List, [], ◌∷◌, ◌++◌, length, take, drop, set, slice_set, slice_index_or, refl, sym, ap, ◌∙◌, arith, Option, Some, None, ℤ, ◌+ℤ◌, Bool, true, false, nat_eq, nat_lt}
+use Rattle.std.proofs.Common.{◌≡◌, ℕ, zero, suc, ◌<◌, ◌+◌, ◌%◌, List, [], ◌∷◌, length, slice_set, slice_index_or, refl, sym, ap, ◌∙◌, arith, Option, Some, None, ℤ, ◌+ℤ◌, Bool, true, false, nat_eq, nat_lt}
 use Rattle.std.proofs.lemmas.Bool.Decides.{nat_tests}
 use Rattle.insn_codec.specs.declared.insn.Insn.{Insn}
 use Rattle.machine_model.specs.declared.reference_records.Content.{Content}
@@ -7,6 +7,7 @@ use Rattle.machine_model.specs.declared.reference_records.Content.TheVariants as
 use Rattle.machine_model.specs.Value.{Value, Unset, Num, Stack, Part, Registers, with_value}
 use Rattle.machine_model.specs.Edges.{Always, leads}
 use Rattle.machine_model.specs.Memory.{written, little_bytes}
+use Rattle.machine_model.proofs.MemoryLemmas.{set_byte}
 use Rattle.machine_model.specs.declared.program.Entry.{Entry}
 use Rattle.insn_codec.specs.declared.insn.Insn.TheVariants.{Mov}
 use Rattle.insn_codec.specs.declared.insn.Width.{Width}
@@ -15,22 +16,6 @@ use Rattle.machine_model.specs.Outcomes.{mov_outcome}
 use Rattle.machine_model.specs.Spawn.{answer_of}
 use Rattle.machine_model.specs.Machine.{State, Program, Entries, Trap, Effect, Goes, OutsideStack, OutsidePart, within, landing, onward, stored, called, writing, reading, operand_in, computing, given, moved, meaning, spawned, cost_at, answered}
 use Rattle.machine_model.specs.Reference.{at_place, registers_of, value_of}
-
-set_taken : (memory : List ℕ) (at byte : ℕ) → at < length memory → set memory at byte ≡ take at memory ++ (byte ∷ drop (suc at) memory)
-set_taken [] at byte lt = absurd (omega arith)
-set_taken (m ∷ memory) zero byte lt = refl
-set_taken (m ∷ memory) (suc at) byte lt = ap (λ (xs : List ℕ). m ∷ xs) (set_taken memory at byte (omega arith))
-
--- a byte in the place of one
-pub set_written : (memory : List ℕ) (at byte : ℕ) → at < length memory → slice_set memory at byte ≡ written memory at (byte ∷ [])
-set_written memory at byte lt =
-    set_taken memory at byte lt ∙ ap (λ n. take at memory ++ (byte ∷ drop n memory)) (sym (add-one at))
-
--- the byte that a store of one byte puts
-set_byte : (memory : List ℕ) (at number byte : ℕ) → at < length memory → byte ≡ number % 256 →
-    slice_set memory at byte ≡ written memory at (little_bytes 1 number)
-set_byte memory at number byte lt is =
-    set_written memory at byte lt ∙ ap (λ b. written memory at (b ∷ [])) is
 
 pub stored_stack_byte : (i : Insn) (s : State) (k offset : ℤ) (number byte at : ℕ) → at < length s.stack → byte ≡ number % 256 →
     ((trap : Trap) (go : ℕ → Effect) → within (k +ℤ offset) 1 512 trap go ≡ at_place trap go (Some at)) →

@@ -18,6 +18,11 @@ pub use computing::compute;
 pub use operators::{alu_number, apply_alu, bits, holds, low_bits, residue, shift_count, signed};
 pub use unary::{extension_width, low_end, negate, reorder_bytes, sign_extend};
 
+// loads and stores
+pub mod memory;
+#[cfg(test)]
+mod memory_tests;
+
 // the reference: the definitions as a plain program
 pub mod reference;
 mod reference_effect;
