@@ -1,19 +1,17 @@
--- Which numbers apply to the instructions that are run today, and what is set where none does.
-use Rattle.std.proofs.Common.{◌≡◌, ℕ, zero, suc, ◌==◌, ◌≤◌, Bool, true, false, Option, Some, None, arith, refl, subst, if◌then◌else◌, ℤ, pos, int_lt, ◌+ℤ◌, ◌||◌}
-use Rattle.insn_codec.specs.declared.insn.Size.TheVariants as size
-use Rattle.insn_codec.specs.declared.insn.Width.{Width}
-use Rattle.insn_codec.specs.declared.insn.Width.TheVariants.{W32, W64}
+-- Which numbers apply to an instruction, and what is set where none does.
+use Rattle.std.proofs.Common.{◌≡◌, ℕ, zero, suc, ◌==◌, ◌≤◌, Bool, true, false, Option, Some, None, Result, Ok, Err, inl, inr, arith, refl, subst, if◌then◌else◌, ℤ, pos, int_lt, ◌+ℤ◌, ◌||◌}
 use Rattle.insn_codec.specs.declared.insn.Insn.{Insn}
 use Rattle.insn_codec.specs.declared.insn.Insn.TheVariants.{Alu, Mov, MovSx, Neg, End, LoadWide, Load, Store, StoreRegister, Jump, Jump32, JumpIf, Call, Exit}
+use Rattle.machine_model.specs.Memory.{store_bytes, load_bytes}
 use Rattle.helpers.specs.Table.{Table, arity_in}
-use Rattle.value_ranges.specs.Tables.{IsSet, move_table}
+use Rattle.value_ranges.specs.Tables.{IsSet, table_of}
 use Rattle.value_ranges.specs.declared.abs.Abs.{Abs}
 use Rattle.value_ranges.specs.declared.abs.Abs.TheVariants as abs
 use Rattle.verifier.specs.declared.state.State.{State}
 use Rattle.verifier.specs.Covers.{abs_at}
 use Rattle.verifier.specs.States.{operand_at, first, unset_fault, number_fault, access_fault, table_fault, write_fault, unset_arguments, number_arguments, call_fault, fault}
-use Rattle.verifier.specs.Checked.{is_treated}
 use Rattle.verifier.specs.Readiness.{IsReady}
+use Rattle.verifier.proofs.TableErrors.{IsTableError, IsTableError-table_of}
 
 set_of : (a : Abs) → unset_fault a ≡ None → IsSet a
 set_of abs.Unset e = absurd (cc)
@@ -91,12 +89,11 @@ access_numbers need (abs.Stack reach) offset count =
 access_numbers need (abs.Part reach) offset count =
     if_numbers (int_lt (reach.lo +ℤ offset) (pos 0) || int_lt (pos need) (reach.hi +ℤ offset +ℤ pos count)) 33 (omega arith, omega arith)
 
-move_numbers : (w : Width) (b : Abs) → AreNumbers (table_fault (move_table w b))
-move_numbers W64 b = tt
-move_numbers W32 abs.Unset = number_34
-move_numbers W32 (abs.Num r) = tt
-move_numbers W32 (abs.Stack r) = number_34
-move_numbers W32 (abs.Part r) = number_34
+-- what the table refuses, or a write of R10
+result_numbers : (r : Result Abs ℕ) (dst : ℕ) → IsTableError r → AreNumbers (first (table_fault r) (write_fault dst))
+result_numbers (Ok a) dst h = write_numbers dst
+result_numbers (Err n) dst (inl e) = (omega arith, omega arith)
+result_numbers (Err n) dst (inr e) = (omega arith, omega arith)
 
 unset_argument_numbers : (state : State) (count : ℕ) → AreNumbers (unset_arguments state count)
 unset_argument_numbers state zero = tt
@@ -115,33 +112,50 @@ call_numbers state None = (omega arith, omega arith)
 call_numbers state (Some arity) =
     first_numbers (unset_arguments state arity) (number_arguments state arity) (unset_argument_numbers state arity) (number_argument_numbers state arity)
 
-pub fault_numbers : (need : ℕ) (helpers : Table) (i : Insn) (state : State) → is_treated i ≡ true → AreNumbers (fault need helpers i state)
-fault_numbers need helpers (Mov w dst src) state e =
-    first_numbers (unset_fault (operand_at state src)) (first (table_fault (move_table w (operand_at state src))) (write_fault dst))
-    (unset_numbers (operand_at state src))
-    (first_numbers (table_fault (move_table w (operand_at state src))) (write_fault dst) (move_numbers w (operand_at state src)) (write_numbers dst))
-fault_numbers need helpers (StoreRegister size.Byte base offset src) state e =
+-- an operand that is unset, or what the table refuses, or a write of R10
+read_numbers : (b : Abs) (r : Result Abs ℕ) (dst : ℕ) → IsTableError r →
+    AreNumbers (first (unset_fault b) (first (table_fault r) (write_fault dst)))
+read_numbers b r dst h =
+    first_numbers (unset_fault b) (first (table_fault r) (write_fault dst)) (unset_numbers b) (result_numbers r dst h)
+
+fault_numbers : (need : ℕ) (helpers : Table) (i : Insn) (state : State) → AreNumbers (fault need helpers i state)
+fault_numbers need helpers (Alu w op dst src) state =
+    first_numbers (unset_fault (abs_at state dst)) _ (unset_numbers (abs_at state dst))
+    (read_numbers (operand_at state src) (table_of (Alu w op dst src) (abs_at state dst) (operand_at state src)) dst
+    (IsTableError-table_of (Alu w op dst src) (abs_at state dst) (operand_at state src)))
+fault_numbers need helpers (Mov w dst src) state =
+    read_numbers (operand_at state src) (table_of (Mov w dst src) (abs_at state dst) (operand_at state src)) dst
+    (IsTableError-table_of (Mov w dst src) (abs_at state dst) (operand_at state src))
+fault_numbers need helpers (MovSx x dst src) state =
+    read_numbers (abs_at state src) (table_of (MovSx x dst src) (abs_at state dst) (abs_at state src)) dst
+    (IsTableError-table_of (MovSx x dst src) (abs_at state dst) (abs_at state src))
+fault_numbers need helpers (Neg w dst) state =
+    read_numbers (abs_at state dst) (table_of (Neg w dst) (abs_at state dst) (abs_at state dst)) dst
+    (IsTableError-table_of (Neg w dst) (abs_at state dst) (abs_at state dst))
+fault_numbers need helpers (End order s dst) state =
+    read_numbers (abs_at state dst) (table_of (End order s dst) (abs_at state dst) (abs_at state dst)) dst
+    (IsTableError-table_of (End order s dst) (abs_at state dst) (abs_at state dst))
+fault_numbers need helpers (LoadWide dst value) state = write_numbers dst
+fault_numbers need helpers (Load kind dst base offset) state =
+    first_numbers (access_fault need (abs_at state base) offset (load_bytes kind)) (write_fault dst)
+    (access_numbers need (abs_at state base) offset (load_bytes kind)) (write_numbers dst)
+fault_numbers need helpers (Store s base offset imm) state = access_numbers need (abs_at state base) offset (store_bytes s)
+fault_numbers need helpers (StoreRegister s base offset src) state =
     first_numbers (unset_fault (abs_at state base)) _ (unset_numbers (abs_at state base))
     (first_numbers (unset_fault (abs_at state src)) _ (unset_numbers (abs_at state src))
-    (first_numbers (access_fault need (abs_at state base) offset 1) (number_fault (abs_at state src))
-    (access_numbers need (abs_at state base) offset 1) (number_numbers (abs_at state src))))
-fault_numbers need helpers (Call helper) state e = call_numbers state (arity_in helpers helper)
-fault_numbers need helpers Exit state e = number_numbers (abs_at state 0)
-fault_numbers need helpers (StoreRegister size.Half base offset src) state e = absurd (cc)
-fault_numbers need helpers (StoreRegister size.Word base offset src) state e = absurd (cc)
-fault_numbers need helpers (StoreRegister size.Double base offset src) state e = absurd (cc)
-fault_numbers need helpers (Alu w op dst src) state e = absurd (cc)
-fault_numbers need helpers (MovSx x dst src) state e = absurd (cc)
-fault_numbers need helpers (Neg w dst) state e = absurd (cc)
-fault_numbers need helpers (End order s dst) state e = absurd (cc)
-fault_numbers need helpers (LoadWide dst value) state e = absurd (cc)
-fault_numbers need helpers (Load kind dst base offset) state e = absurd (cc)
-fault_numbers need helpers (Store s base offset imm) state e = absurd (cc)
-fault_numbers need helpers (Jump offset) state e = absurd (cc)
-fault_numbers need helpers (Jump32 offset) state e = absurd (cc)
-fault_numbers need helpers (JumpIf w c dst src offset) state e = absurd (cc)
+    (first_numbers (access_fault need (abs_at state base) offset (store_bytes s)) (number_fault (abs_at state src))
+    (access_numbers need (abs_at state base) offset (store_bytes s)) (number_numbers (abs_at state src))))
+fault_numbers need helpers (Jump offset) state = tt
+fault_numbers need helpers (Jump32 offset) state = tt
+fault_numbers need helpers (JumpIf w c dst src offset) state =
+    first_numbers (unset_fault (abs_at state dst)) _ (unset_numbers (abs_at state dst))
+    (first_numbers (unset_fault (operand_at state src)) _ (unset_numbers (operand_at state src))
+    (first_numbers (number_fault (abs_at state dst)) (number_fault (operand_at state src))
+    (number_numbers (abs_at state dst)) (number_numbers (operand_at state src))))
+fault_numbers need helpers (Call helper) state = call_numbers state (arity_in helpers helper)
+fault_numbers need helpers Exit state = number_numbers (abs_at state 0)
 
-pub refused_number : (need : ℕ) (helpers : Table) (i : Insn) (state : State) (number : ℕ) → is_treated i ≡ true →
+pub refused_number : (need : ℕ) (helpers : Table) (i : Insn) (state : State) (number : ℕ) →
     fault need helpers i state ≡ Some number → (31 ≤ number) × (number ≤ 37)
-refused_number need helpers i state number treated e =
-    subst (λ (o : Option ℕ). AreNumbers o) e (fault_numbers need helpers i state treated)
+refused_number need helpers i state number e =
+    subst (λ (o : Option ℕ). AreNumbers o) e (fault_numbers need helpers i state)

@@ -5,3 +5,4 @@ pub mod Comings
 pub mod Soundness
 pub mod FaultLemmas
 pub mod Verdicts
+pub mod TableErrors

@@ -1,8 +1,6 @@
 -- What a verified program is.
-use Rattle.std.specs.Prelude.{◌≡◌, ℕ, ◌≤◌, List, length, slice_index, slice_index_or, Bool, true, false, Option, Some, None}
-use Rattle.insn_codec.specs.declared.insn.Size.TheVariants as size
+use Rattle.std.specs.Prelude.{◌≡◌, ℕ, ◌≤◌, List, length, slice_index, slice_index_or, Option, Some, None}
 use Rattle.insn_codec.specs.declared.insn.Insn.{Insn}
-use Rattle.insn_codec.specs.declared.insn.Insn.TheVariants.{Mov, StoreRegister, Call, Exit}
 use Rattle.machine_model.specs.Edges.{Code, Fact, IsEdge, Begins, insn_at}
 use Rattle.machine_model.specs.Paths.{AreCosts}
 use Rattle.machine_model.specs.Machine.{Program}
@@ -28,17 +26,8 @@ state_at p slot = slice_index_or p.states slot None
 abbrev pub cost_at : Checked → ℕ → ℕ
 cost_at p slot = slice_index p.costs slot
 
--- the instructions that are run today
-abbrev pub is_treated : Insn → Bool
-is_treated (Mov w dst src) = true
-is_treated (StoreRegister size.Byte base offset src) = true
-is_treated (Call helper) = true
-is_treated Exit = true
-is_treated i = false
-
 -- The instruction is allowed where the registers are so, and what it leaves is covered at the end of each edge.
 pub record IsSoundAt (p : Checked) (slot : ℕ) (i : Insn) (state : State) : Type 0 where
-  pub treated : is_treated i ≡ true
   pub allowed : fault p.need p.helpers i state ≡ None
   pub covered : (fact : Fact) (next : ℕ) → IsEdge p.code slot fact next →
       (outer : State) × (state_at p next ≡ Some outer) × IsWithin (passed i fact state) outer

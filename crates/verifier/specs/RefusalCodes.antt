@@ -7,12 +7,11 @@ use Rattle.flow_graph.specs.declared.fault.FlowFault.{FlowFault}
 use Rattle.flow_graph.specs.declared.fault.FlowFault.TheVariants as flow
 use Rattle.flow_graph.specs.FaultCodes.{code_of_fault as number_of_flow}
 use Rattle.verifier.specs.declared.refusals.Refusal.{Refusal}
-use Rattle.verifier.specs.declared.refusals.Refusal.TheVariants.{NeedTooLarge, Codec, NotYet, Flow, UnsetRead, OutOfStack, OutOfPart, BadKind, PointerRange, FramePointer, NoHelper, NoMemory}
+use Rattle.verifier.specs.declared.refusals.Refusal.TheVariants.{NeedTooLarge, Codec, Flow, UnsetRead, OutOfStack, OutOfPart, BadKind, PointerRange, FramePointer, NoHelper, NoMemory}
 
 abbrev pub number_of : Refusal → ℕ
 number_of NeedTooLarge = 38
 number_of (Codec fault) = number_of_codec fault
-number_of (NotYet slot) = 39
 number_of (Flow fault) = number_of_flow fault
 number_of (UnsetRead slot) = 31
 number_of (OutOfStack slot) = 32
@@ -42,7 +41,6 @@ flow_slot flow.NoMemory = None
 abbrev pub slot_of : Refusal → Option ℕ
 slot_of NeedTooLarge = None
 slot_of (Codec fault) = codec_slot fault
-slot_of (NotYet slot) = Some slot
 slot_of (Flow fault) = flow_slot fault
 slot_of (UnsetRead slot) = Some slot
 slot_of (OutOfStack slot) = Some slot

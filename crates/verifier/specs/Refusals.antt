@@ -1,6 +1,5 @@
 -- When each refusal comes, and what holds of a program that is accepted.
-use Rattle.std.specs.Prelude.{◌≡◌, ℕ, ◌≤◌, ◌<◌, List, slice_get, true, false, Some, None}
-use Rattle.insn_codec.specs.declared.insn.Insn.{Insn}
+use Rattle.std.specs.Prelude.{◌≡◌, ℕ, ◌≤◌, ◌<◌, List, None}
 use Rattle.insn_codec.specs.declared.insn.Placed.{Placed}
 use Rattle.insn_codec.specs.declared.fault.CodecFault.{CodecFault}
 use Rattle.insn_codec.specs.declared.fault.CodecFault.TheVariants as codec
@@ -10,28 +9,14 @@ use Rattle.flow_graph.specs.declared.fault.FlowFault.TheVariants as flow
 use Rattle.flow_graph.specs.Faults.{fault_at}
 use Rattle.flow_graph.specs.Program.{code_of}
 use Rattle.flow_graph.specs.Refusals.{Refuses as RefusesFlow}
-use Rattle.machine_model.specs.Edges.{Code, Begins, insn_at}
+use Rattle.machine_model.specs.Edges.{Code, Begins}
 use Rattle.machine_model.specs.Paths.{IsReached, AreCosts}
 use Rattle.helpers.specs.Table.{Table}
 use Rattle.verifier.specs.declared.refusals.Refusal.{Refusal}
-use Rattle.verifier.specs.declared.refusals.Refusal.TheVariants.{NeedTooLarge, Codec, NotYet, Flow, NoMemory}
+use Rattle.verifier.specs.declared.refusals.Refusal.TheVariants.{NeedTooLarge, Codec, Flow, NoMemory}
 use Rattle.verifier.specs.Arrive.{Subject}
-use Rattle.verifier.specs.Checked.{Checked, is_treated}
+use Rattle.verifier.specs.Checked.{Checked}
 use Rattle.verifier.specs.Verdict.{IsTable, RefusesStates}
-
--- each instruction of the code is one that is run today
-abbrev pub AreTreated : Code → Type 0
-AreTreated code = (slot : ℕ) (i : Insn) → insn_at code slot ≡ Some i → is_treated i ≡ true
-
--- each instruction of the list is
-abbrev pub AreTreatedPlaced : List Placed → Type 0
-AreTreatedPlaced placed = (k : ℕ) (p : Placed) → slice_get placed k ≡ Some p → is_treated p.insn ≡ true
-
--- the first instruction of the list that isn't stands at the slot
-pub record IsFirstUntreated (placed : List Placed) (slot : ℕ) : Type 0 where
-  pub place : ℕ
-  pub untreated : (p : Placed) × (slice_get placed place ≡ Some p) × (p.slot ≡ slot) × (is_treated p.insn ≡ false)
-  pub first : (k : ℕ) (p : Placed) → k < place → slice_get placed k ≡ Some p → is_treated p.insn ≡ true
 
 -- each edge of the code leads forward to an instruction, and each instruction is reached
 pub record HasFlow (code : Code) : Type 0 where
@@ -43,20 +28,18 @@ abbrev pub RefusesBytes : List ℕ → CodecFault → Type 0
 RefusesBytes bytes codec.NoMemory = ⊥
 RefusesBytes bytes fault = IsRefusal fault bytes
 
--- the code is run today, and its graph has a refusal
+-- the code's graph has a refusal
 abbrev pub RefusesCode : Code → FlowFault → Type 0
 RefusesCode code flow.NoMemory = ⊥
-RefusesCode code fault = AreTreated code × RefusesFlow code fault
+RefusesCode code fault = RefusesFlow code fault
 
--- the code is run today and has a graph, and its first instruction that isn't allowed has a refusal
+-- the code has a graph, and its first instruction that isn't allowed has a refusal
 pub record RefusesSubject (p : Subject) (refusal : Refusal) : Type 0 where
-  pub treated : AreTreated p.code
   pub flow : HasFlow p.code
   pub first : RefusesStates p refusal
 
 -- the refusal of a program that was decoded
 abbrev pub RefusesPlaced : ℕ → List Placed → Table → Refusal → Type 0
-RefusesPlaced need placed helpers (NotYet slot) = IsFirstUntreated placed slot
 RefusesPlaced need placed helpers (Flow fault) = RefusesCode (code_of placed) fault
 RefusesPlaced need placed helpers refusal = RefusesSubject (record { need = need; helpers = helpers; code = code_of placed }) refusal
 
@@ -79,7 +62,6 @@ pub record IsAccepted (need : ℕ) (bytes : List ℕ) (helpers : Table) (v : Che
   pub small : need ≤ 65536
   pub same_helpers : v.helpers ≡ helpers
   pub decoded : (placed : List Placed) × IsProgram placed bytes × (v.code ≡ code_of placed)
-  pub treated : AreTreated v.code
   pub flow : HasFlow v.code
   pub states : IsTable (record { need = v.need; helpers = v.helpers; code = v.code }) v.states
   pub costs : AreCosts v.code v.costs

@@ -177,9 +177,20 @@ fn call_fault(helpers: &HelperTable, state: &State, helper: u32) -> Option<u8>
     }
 }
 
+/// A load is allowed, and its destination may be written.
+fn load_fault(need: u32, base: Abs, offset: i16, kind: LoadKind, to: Register) -> Option<u8>
+    ensures { result ≡ first (access_fault need base offset (load_bytes kind)) (write_fault to) }
+{
+    match access_fault(need, base, offset, load_bytes(kind)) {
+        Some(number) => Some(number),
+        None => write_fault(to),
+    }
+}
+
 /// The store of a register is allowed.
-fn store_fault(need: u32, base: Abs, src: Abs, offset: i16, count: u8) -> Option<u8>
-    ensures { result ≡ first (unset_fault base) (first (unset_fault src) (first (access_fault need base offset count) (number_fault src))) }
+fn store_fault(need: u32, base: Abs, offset: i16, size: Size, src: Abs) -> Option<u8>
+    ensures { result ≡ first (unset_fault base) (first (unset_fault src)
+        (first (access_fault need base offset (store_bytes size)) (number_fault src))) }
 {
     if let Some(number) = unset_fault(&base) {
         return Some(number);
@@ -187,7 +198,7 @@ fn store_fault(need: u32, base: Abs, src: Abs, offset: i16, count: u8) -> Option
     if let Some(number) = unset_fault(&src) {
         return Some(number);
     }
-    match access_fault(need, base, offset, count) {
+    match access_fault(need, base, offset, store_bytes(size)) {
         Some(number) => Some(number),
         None => number_fault(&src),
     }
@@ -265,32 +276,19 @@ pub(crate) fn refused(need: u32, helpers: &HelperTable, insn: &Insn, state: &Sta
             dst,
             base,
             offset,
-        } => {
-            match access_fault(need, state.at(base), offset, load_bytes(kind)) {
-                Some(number) => Some(number),
-                None => write_fault(dst),
-            }
-        }
+        } => load_fault(need, state.at(base), offset, kind, dst),
         Insn::Store {
             size,
             base,
             offset,
             ..
-        } => { access_fault(need, state.at(base), offset, store_bytes(size)) }
+        } => access_fault(need, state.at(base), offset, store_bytes(size)),
         Insn::StoreRegister {
             size,
             base,
             offset,
             src,
-        } => {
-            store_fault(
-                need,
-                state.at(base),
-                state.at(src),
-                offset,
-                store_bytes(size),
-            )
-        }
+        } => store_fault(need, state.at(base), offset, size, state.at(src)),
         Insn::Jump { .. } | Insn::Jump32 { .. } => None,
         Insn::JumpIf { dst, src, .. } => compare_fault(state.at(dst), state.operand(&src)),
         Insn::Call { helper } => call_fault(helpers, state, helper),

@@ -20,9 +20,6 @@ pub enum Refusal {
     /// The bytes are no program.
     #[error("{0}")]
     Codec(CodecFault),
-    /// No machine runs the instruction yet.
-    #[error("instruction not supported yet at slot {0}")]
-    NotYet(u32),
     /// An edge of the program is refused, or an instruction isn't reached.
     #[error("{0}")]
     Flow(FlowFault),
@@ -87,7 +84,6 @@ impl Refusal {
         match self {
             Refusal::NeedTooLarge => 38,
             Refusal::Codec(fault) => fault.code(),
-            Refusal::NotYet(_) => 39,
             Refusal::Flow(fault) => fault.code(),
             Refusal::UnsetRead(_) => 31,
             Refusal::OutOfStack(_) => 32,
@@ -107,8 +103,7 @@ impl Refusal {
         match self {
             Refusal::Codec(fault) => codec_slot(fault),
             Refusal::Flow(fault) => flow_slot(fault),
-            Refusal::NotYet(slot)
-            | Refusal::UnsetRead(slot)
+            Refusal::UnsetRead(slot)
             | Refusal::OutOfStack(slot)
             | Refusal::OutOfPart(slot)
             | Refusal::BadKind(slot)

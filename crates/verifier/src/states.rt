@@ -6,7 +6,6 @@ ghost use Rattle.flow_graph.specs.Flow.{IsFlow};
 ghost use Rattle.verifier.specs.States.{passed, joined_state};
 ghost use Rattle.verifier.specs.Arrive.{Subject, met, landed, Nothing, Comes};
 ghost use Rattle.verifier.specs.Verdict.{IsTable, RefusesStates, arrival_of};
-ghost use Rattle.verifier.specs.Refusals.{AreTreated};
 ghost use Rattle.verifier.specs.Readiness.{IsReady};
 ghost use Rattle.verifier.specs.Coming.{HasCome};
 
@@ -64,7 +63,6 @@ pub(crate) fn states(
     graph: &Graph,
 ) -> Result<Vec<Option<State>>, Refusal>
     requires need { need ≤ 65536 }
-    requires treated { AreTreated graph.now }
     ensures { MatchResult result (λ states. IsTable (record { need = need; helpers = helpers.now; code = graph.now }) states.items)
         (λ refusal. RefusesStates (record { need = need; helpers = helpers.now; code = graph.now }) refusal) }
 {

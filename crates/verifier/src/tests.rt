@@ -102,10 +102,9 @@ fn refuses_what_is_no_program(rt: HostRuntime) -> Result<(), Fail> {
         verdict(alloc, 0, &[wide, [0; 8], unknown])?,
         Err(Refusal::Codec(CodecFault::UnknownOp(2)))
     );
-    // an instruction that isn't run yet is told ahead of an edge
     assert_eq!(rt;
         verdict(alloc, 0, &[wide, [0; 8]])?,
-        Err(Refusal::NotYet(0))
+        Err(Refusal::Flow(FlowFault::FallsOff(0)))
     );
     assert_eq!(rt;
         verdict(alloc, 0, &[mov(0, 0)])?,
@@ -154,12 +153,6 @@ fn refusals_have_numbers_and_texts(rt: HostRuntime) -> Result<(), Fail> {
             7,
             Some(9),
             "half of a wide instruction at slot 9",
-        ),
-        (
-            Refusal::NotYet(1),
-            39,
-            Some(1),
-            "instruction not supported yet at slot 1",
         ),
         (
             Refusal::Flow(FlowFault::BackEdge(3)),

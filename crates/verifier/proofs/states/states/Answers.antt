@@ -7,7 +7,7 @@ use Rattle.verifier.proofs.states.states.Goals.{in-Some+in-Some-index+in_default
 
 pub at-requires : goal.at-requires
 at-requires c = refused_number c.args.need c.args.helpers.now c.in-Some.insn.now c.in-Some-index.state c.in-Some-refused.number
-    (c.requires.treated c.loop-slot.slot c.in-Some.insn.now (sym c.in-Some.ensures)) (sym c.in-Some-refused.ensures)
+    (sym c.in-Some-refused.ensures)
 
 pub returns-in-Some-refused : goal.returns-in-Some-refused
 returns-in-Some-refused c =

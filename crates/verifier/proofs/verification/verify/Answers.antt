@@ -1,44 +1,35 @@
 use Rattle.std.proofs.Common.{refl, arith}
 use Rattle.std.proofs.lemmas.Result.{err_from_is_err_and}
 use Rattle.flow_graph.proofs.Decoded.{decoded_of}
-use Rattle.verifier.proofs.Verdicts.{treated_graph, flow_refused, states_refused, verified_of, accepted_of}
+use Rattle.verifier.proofs.Verdicts.{flow_refused, states_refused, verified_of, accepted_of}
 use Rattle.verifier.proofs.verification.verify.Goals as goal
 
 pub build-requires : goal.build-requires
-build-requires c = rw c.deref-2.ensures.value (decoded_of _ _ c.in_ok-placed.ensures.found)
+build-requires c = rw c.deref.ensures.value (decoded_of _ _ c.in_ok-placed.ensures.found)
 
 pub returns-in_err-graph : goal.returns-in_err-graph
 returns-in_err-graph c =
     let p = err_from_is_err_and c.from_residual-in_err-graph.result c.from_residual-in_err-graph.ensures.1 in
     rw (p.1, p.2)
     (flow_refused c.args.need c.args.code.now c.args.helpers.now c.in_ok-placed.placed.items c.in_err-graph.field-0.0 (omega arith)
-    c.in_ok-placed.ensures.found (rw c.deref.ensures.value at c.in_default.ensures) (rw c.deref-2.ensures.value at c.in_err-graph.ensures))
-
-pub states-requires-clause-treated : goal.states-requires-clause-treated
-states-requires-clause-treated c =
-    treated_graph c.in_ok-placed.placed.items c.in_ok-graph.graph (rw c.deref.ensures.value at c.in_default.ensures)
-    (rw c.deref-2.ensures.value at c.in_ok-graph.ensures)
+    c.in_ok-placed.ensures.found (rw c.deref.ensures.value at c.in_err-graph.ensures))
 
 pub returns-in_err-states : goal.returns-in_err-states
 returns-in_err-states c =
     let p = err_from_is_err_and c.from_residual-in_err-states.result c.from_residual-in_err-states.ensures.1 in
     rw (p.1, p.2)
     (states_refused c.args.need c.args.code.now c.args.helpers.now c.in_ok-placed.placed.items c.in_ok-graph.graph c.in_err-states.field-0.0
-    (omega arith) c.in_ok-placed.ensures.found (rw c.deref.ensures.value at c.in_default.ensures)
-    (rw c.deref-2.ensures.value at c.in_ok-graph.ensures) c.in_err-states.ensures)
+    (omega arith) c.in_ok-placed.ensures.found (rw c.deref.ensures.value at c.in_ok-graph.ensures) c.in_err-states.ensures)
 
 pub of-requires-clause-verified : goal.of-requires-clause-verified
 of-requires-clause-verified c =
-    let treated = treated_graph c.in_ok-placed.placed.items c.in_ok-graph.graph (rw c.deref.ensures.value at c.in_default.ensures)
-    (rw c.deref-2.ensures.value at c.in_ok-graph.ensures) in
     rw (c.copied.ensures.same, c.into_code-code.ensures, c.into_table.ensures)
     (verified_of (record { need = c.args.need; helpers = c.args.helpers.now; code = c.in_ok-graph.graph; states = c.in_ok-states.states.items; costs = c.in_ok-costs.costs })
-    (omega arith) treated (rw c.graph.view_is at c.graph.invariant).forward c.copied.ensures.known c.in_ok-states.ensures c.in_ok-costs.ensures)
+    (omega arith) (rw c.graph.view_is at c.graph.invariant).forward c.copied.ensures.known c.in_ok-states.ensures c.in_ok-costs.ensures)
 
 pub returns : goal.returns
 returns c =
     rw (c.of.ensures, c.copied.ensures.same, c.into_code-code.ensures, c.into_table.ensures)
     (accepted_of c.args.need c.args.code.now c.args.helpers.now c.in_ok-placed.placed.items
     (record { need = c.args.need; helpers = c.args.helpers.now; code = c.in_ok-graph.graph; states = c.in_ok-states.states.items; costs = c.in_ok-costs.costs })
-    (omega arith) c.in_ok-placed.ensures.found (rw c.deref.ensures.value at c.in_default.ensures)
-    (rw c.deref-2.ensures.value at c.in_ok-graph.ensures) refl refl c.in_ok-states.ensures c.in_ok-costs.ensures)
+    (omega arith) c.in_ok-placed.ensures.found (rw c.deref.ensures.value at c.in_ok-graph.ensures) refl refl c.in_ok-states.ensures c.in_ok-costs.ensures)
