@@ -1,9 +1,11 @@
 //! The bytes that a task owns.
 
-ghost use Rattle.std.specs.Prelude.{◌≡◌, ℕ, ◌+◌, ◌-◌, ◌^◌, ◌<◌, ◌≤◌, [], ◌++◌, length, take, drop, slice_set, slice_index, IfOk, OnErr};
+ghost use Rattle.std.specs.Prelude.{◌≡◌, ℕ, ◌+◌, ◌-◌, ◌*◌, ◌^◌, ◌<◌, ◌≤◌, [], ◌++◌, length, take, drop, IfOk, OnErr};
 ghost use Rattle.helpers.specs.Piece.{Piece};
-ghost use Rattle.machine_model.specs.Memory.{written};
+ghost use Rattle.machine_model.specs.Memory.{bytes_at, little_bytes, little_number, load_bytes, store_bytes, widened, written};
 
+use insn_codec::{LoadKind, Size};
+use machine_model::memory::{load, store};
 use refusal::NoMemory;
 use std::alloc::Global;
 use std::marker::Model;
@@ -44,12 +46,23 @@ impl Part {
         self.bytes.len()
     }
 
-    /// Writes one byte.
-    pub fn set(&mut self, at: usize, byte: u8)
-        requires { at < length self.old.bytes }
-        ensures { self.new ≡ record self.old { bytes = slice_set self.old.bytes at byte } }
+    /// What a load gives at a place in it.
+    #[inline]
+    pub fn load(&self, kind: LoadKind, at: usize) -> u64
+        requires { at + load_bytes kind ≤ length self.now.bytes }
+        ensures value { result ≡ widened kind (little_number (bytes_at self.now.bytes at (load_bytes kind))) }
+        ensures small { little_number (bytes_at self.now.bytes at (load_bytes kind)) < 2 ^ (8 * load_bytes kind) }
     {
-        self.bytes[at] = byte;
+        load(kind, &self.bytes, at)
+    }
+
+    /// Puts the low bytes of a number, as many as the size has, at a place in it.
+    #[inline]
+    pub fn store(&mut self, size: Size, at: usize, number: u64)
+        requires { at + store_bytes size ≤ length self.old.bytes }
+        ensures { self.new ≡ record self.old { bytes = written self.old.bytes at (little_bytes (store_bytes size) number) } }
+    {
+        store(size, &mut self.bytes, at, number);
     }
 
     /// Copies the bytes to where they lie in the job's buffer.

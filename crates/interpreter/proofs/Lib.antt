@@ -1,5 +1,11 @@
 pub mod Values
+pub mod Faults
+pub mod Operands
 pub mod Accesses
 pub mod Steps
-pub mod Moves
+pub mod Computing
+pub mod Loads
+pub mod Stores
+pub mod Jumps
+pub mod Exits
 pub mod Calls

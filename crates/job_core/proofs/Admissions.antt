@@ -5,7 +5,7 @@ use Rattle.std.proofs.lemmas.Option.{slice_get_cases, slice_get_within}
 use Rattle.machine_model.proofs.Places.{pushed}
 use Rattle.helpers.specs.Table.{job_table}
 use Rattle.verifier.specs.declared.refusals.Refusal.{Refusal}
-use Rattle.verifier.specs.declared.refusals.Refusal.TheVariants.{NeedTooLarge, Codec, NotYet, Flow, UnsetRead, OutOfStack, OutOfPart, BadKind, PointerRange, FramePointer, NoHelper, NoMemory}
+use Rattle.verifier.specs.declared.refusals.Refusal.TheVariants.{NeedTooLarge, Codec, Flow, UnsetRead, OutOfStack, OutOfPart, BadKind, PointerRange, FramePointer, NoHelper, NoMemory}
 use Rattle.verifier.specs.Checked.{Checked}
 use Rattle.verifier.specs.Refusals.{Refuses}
 use Rattle.job_core.specs.declared.admission.ProgramBytes.{ProgramBytes}
@@ -57,7 +57,6 @@ pub first_fault : (programs : List ProgramBytes) (count : ℕ) (accepted : List 
     IsFirstFault programs (fault_of count refusal)
 first_fault programs count accepted p NeedTooLarge so_far is refuses = first_refused programs count accepted p NeedTooLarge so_far is refuses
 first_fault programs count accepted p (Codec fault) so_far is refuses = first_refused programs count accepted p (Codec fault) so_far is refuses
-first_fault programs count accepted p (NotYet slot) so_far is refuses = first_refused programs count accepted p (NotYet slot) so_far is refuses
 first_fault programs count accepted p (Flow fault) so_far is refuses = first_refused programs count accepted p (Flow fault) so_far is refuses
 first_fault programs count accepted p (UnsetRead slot) so_far is refuses = first_refused programs count accepted p (UnsetRead slot) so_far is refuses
 first_fault programs count accepted p (OutOfStack slot) so_far is refuses = first_refused programs count accepted p (OutOfStack slot) so_far is refuses

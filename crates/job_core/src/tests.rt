@@ -170,7 +170,7 @@ fn runs_one_program(rt: HostRuntime) -> Result<(), Fail> {
         (
             "0 2",
             "180000000100000000000000000000009500000000000000",
-            "1 refused 39 at 0\n",
+            "0 r0 1 spent 2 returned 0\n",
         ),
         ("0 2", "b700000000000000", "1 refused 24 at 0\n"),
         (

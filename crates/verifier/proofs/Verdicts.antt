@@ -80,6 +80,7 @@ verified_of p small forward known table costs =
         allowed = sound.allowed slot i state there at;
         covered = sound.covered slot i state there at;
         lands = λ fact next edge. (forward.lands slot fact next edge).1;
+        faultless = forward.faultless slot;
       };
       costs = costs;
       known = known;

@@ -4,6 +4,7 @@ use Rattle.insn_codec.specs.declared.insn.Insn.{Insn}
 use Rattle.machine_model.specs.Edges.{Code, Fact, IsEdge, Begins, insn_at}
 use Rattle.machine_model.specs.Paths.{AreCosts}
 use Rattle.machine_model.specs.Machine.{Program}
+use Rattle.flow_graph.specs.Faults.{fault_at}
 use Rattle.helpers.specs.Table.{Table, AreKnown}
 use Rattle.verifier.specs.declared.state.State.{State}
 use Rattle.verifier.specs.Covers.{IsWithin}
@@ -32,6 +33,7 @@ pub record IsSoundAt (p : Checked) (slot : ℕ) (i : Insn) (state : State) : Typ
   pub covered : (fact : Fact) (next : ℕ) → IsEdge p.code slot fact next →
       (outer : State) × (state_at p next ≡ Some outer) × IsWithin (passed i fact state) outer
   pub lands : (fact : Fact) (next : ℕ) → IsEdge p.code slot fact next → Begins p.code next
+  pub faultless : fault_at p.code slot ≡ None
 
 -- The states cover the entry and every edge, and the costs are those of the code.
 pub record IsVerified (p : Checked) : Type 0 where
