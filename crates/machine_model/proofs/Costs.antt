@@ -1,9 +1,9 @@
 -- Costs fall along each edge by the price.
-use Rattle.std.proofs.Common.{◌≡◌, ℕ, ◌+◌, ◌≤◌, List, [], ◌∷◌, refl, sym, ◌∙◌, ap, arith, Some, slice_index, sum_by}
+use Rattle.std.proofs.Common.{◌≡◌, ℕ, ◌+◌, ◌≤◌, List, ◌∷◌, ap, arith, Some, slice_index, sum_by}
 use Rattle.std.proofs.lemmas.List.Sums.{sum_by-cons}
 use Rattle.insn_codec.specs.declared.insn.Insn.{Insn}
 use Rattle.machine_model.specs.Edges.{Code, Fact, IsEdge, Begins, insn_at, price}
-use Rattle.machine_model.specs.Paths.{AreCosts, IsCost, path_price, price_at, price_of}
+use Rattle.machine_model.specs.Paths.{AreCosts, path_price, price_at, price_of}
 
 price-at : (code : Code) (slot : ℕ) (i : Insn) → insn_at code slot ≡ Some i → price_at code slot ≡ price i
 price-at code slot i e = ap price_of e

@@ -1,5 +1,5 @@
 -- Credit is neither made nor lost by a step.
-use Rattle.std.proofs.Common.{◌≡◌, ℕ, suc, ◌<◌, ◌≤◌, ◌+◌, ◌-◌, length, refl, sym, ◌∙◌, arith, Bool, true, false, ap, slice_set, slice_get, List, [], ◌∷◌, ◌++◌, Option, Some, None, option_and_then, ◌==◌, nat_lt, if◌then◌else◌, sum_by, get_or}
+use Rattle.std.proofs.Common.{◌≡◌, ℕ, suc, ◌<◌, ◌≤◌, ◌+◌, length, refl, sym, ◌∙◌, arith, Bool, true, false, ap, slice_set, slice_get, List, [], ◌∷◌, ◌++◌, Option, Some, None, option_and_then, ◌==◌, nat_lt, if◌then◌else◌, sum_by, get_or}
 use Rattle.std.proofs.lemmas.List.Sums.{sum_by-set, sum_by-append}
 use Rattle.std.proofs.lemmas.Option.{slice_get_within, get_or_from_slice_get}
 use Rattle.std.proofs.lemmas.Bool.Decides.{nat_tests}

@@ -1,39 +1,93 @@
 -- What the reference's records come to.
-use Rattle.std.proofs.Common.{◌≡◌, ℕ, zero, suc, ◌<◌, ◌+◌, ◌%◌, List, [], ◌∷◌, length, slice_set, slice_index_or, refl, sym, ap, ◌∙◌, arith, Option, Some, None, ℤ, ◌+ℤ◌, Bool, true, false, nat_eq, nat_lt}
+use Rattle.std.proofs.Common.{◌≡◌, ℕ, zero, suc, ◌<◌, ◌+◌, List, [], ◌∷◌, length, slice_set, refl, sym, ap, ◌∙◌, arith, Option, Result, ℤ, false, nat_eq, nat_lt}
 use Rattle.std.proofs.lemmas.Bool.Decides.{nat_tests}
 use Rattle.insn_codec.specs.declared.insn.Insn.{Insn}
 use Rattle.machine_model.specs.declared.reference_records.Content.{Content}
 use Rattle.machine_model.specs.declared.reference_records.Content.TheVariants as content
-use Rattle.machine_model.specs.Value.{Value, Unset, Num, Stack, Part, Registers, with_value}
-use Rattle.machine_model.specs.Edges.{Always, leads}
-use Rattle.machine_model.specs.Memory.{written, little_bytes}
-use Rattle.machine_model.proofs.MemoryLemmas.{set_byte}
+use Rattle.machine_model.specs.declared.reference_records.Place.{Place}
+use Rattle.machine_model.specs.declared.reference_records.TrapCause.{TrapCause}
+use Rattle.machine_model.specs.Value.{Value, Unset, Num, Stack, Part, Registers}
+use Rattle.machine_model.specs.Edges.{Always}
+use Rattle.machine_model.specs.Memory.{bytes_at, little_bytes, little_number, written}
 use Rattle.machine_model.specs.declared.program.Entry.{Entry}
-use Rattle.insn_codec.specs.declared.insn.Insn.TheVariants.{Mov}
-use Rattle.insn_codec.specs.declared.insn.Width.{Width}
-use Rattle.insn_codec.specs.declared.insn.Operand.{Operand}
-use Rattle.machine_model.specs.Outcomes.{mov_outcome}
+use Rattle.machine_model.specs.Outcomes.{on_number}
 use Rattle.machine_model.specs.Spawn.{answer_of}
-use Rattle.machine_model.specs.Machine.{State, Program, Entries, Trap, Effect, Goes, OutsideStack, OutsidePart, within, landing, onward, stored, called, writing, reading, operand_in, computing, given, moved, meaning, spawned, cost_at, answered}
-use Rattle.machine_model.specs.Reference.{at_place, registers_of, value_of}
+use Rattle.machine_model.specs.Machine.{State, Program, Entries, Effect, Goes, onward, loaded, stored, called, writing, reading, number_in, given, moved, spawned, cost_at, answered}
+use Rattle.machine_model.specs.Reference.{counting, located, placing, registers_of, value_of}
 
-pub stored_stack_byte : (i : Insn) (s : State) (k offset : ℤ) (number byte at : ℕ) → at < length s.stack → byte ≡ number % 256 →
-    ((trap : Trap) (go : ℕ → Effect) → within (k +ℤ offset) 1 512 trap go ≡ at_place trap go (Some at)) →
-    leads i s.slot Always ≡ Some (s.slot + 1) →
-    Goes (record s { slot = s.slot + 1; stack = slice_set s.stack at byte }) ≡ stored i s (Stack k) offset 1 number
-stored_stack_byte i s k offset number byte at lt is law lead =
-    ap (λ (m : List ℕ). Goes (record s { slot = s.slot + 1; stack = m })) (set_byte s.stack at number byte lt is)
-    ∙ sym (law OutsideStack (λ n. onward i Always (record s { stack = written s.stack n (little_bytes 1 number) }))
-    ∙ ap (landing (record s { stack = written s.stack at (little_bytes 1 number) })) lead)
+-- any register but R10 is written
+pub writes : (dst : ℕ) (e : Effect) → nat_eq dst 10 ≡ false → writing dst e ≡ e
+writes dst e off = rw off refl
 
-pub stored_part_byte : (i : Insn) (s : State) (k offset : ℤ) (number byte at : ℕ) → at < length s.part → byte ≡ number % 256 →
-    ((trap : Trap) (go : ℕ → Effect) → within (k +ℤ offset) 1 (length s.part) trap go ≡ at_place trap go (Some at)) →
-    leads i s.slot Always ≡ Some (s.slot + 1) →
-    Goes (record s { slot = s.slot + 1; part = slice_set s.part at byte }) ≡ stored i s (Part k) offset 1 number
-stored_part_byte i s k offset number byte at lt is law lead =
-    ap (λ (m : List ℕ). Goes (record s { slot = s.slot + 1; part = m })) (set_byte s.part at number byte lt is)
-    ∙ sym (law OutsidePart (λ n. onward i Always (record s { part = written s.part n (little_bytes 1 number) }))
-    ∙ ap (landing (record s { part = written s.part at (little_bytes 1 number) })) lead)
+-- an operation on a number that is read
+on_read : (v : Value) (f : ℕ → ℕ) (go : Value → Effect) → reading v (λ y. given (on_number f y) go) ≡ number_in v (λ n. go (Num (f n)))
+on_read Unset f go = refl
+on_read (Num n) f go = refl
+on_read (Stack k) f go = refl
+on_read (Part k) f go = refl
+
+-- what the destination gets, as a value is moved there
+abbrev pub put_into : Insn → State → ℕ → Value → Effect
+put_into i s dst v = onward i Always (moved s dst v)
+
+pub one_number : (i : Insn) (s : State) (dst : ℕ) (c : Content) (v : Value) (f : ℕ → ℕ) (r : Result ℕ TrapCause) → nat_eq dst 10 ≡ false →
+    value_of c ≡ v → ((go : ℕ → Effect) → number_in (value_of c) go ≡ counting go r) →
+    counting (λ n. put_into i s dst (Num (f n))) r ≡ writing dst (reading v (λ y. given (on_number f y) (put_into i s dst)))
+one_number i s dst c v f r off is law =
+    sym (writes dst (reading v (λ y. given (on_number f y) (put_into i s dst))) off
+    ∙ on_read v f (put_into i s dst)
+    ∙ ap (λ (w : Value). number_in w (λ n. put_into i s dst (Num (f n)))) (sym is)
+    ∙ law (λ n. put_into i s dst (Num (f n))))
+
+-- what a load makes of the bytes at a place
+abbrev pub load_from : Insn → State → ℕ → List ℕ → ℕ → (ℕ → ℕ) → ℕ → Effect
+load_from i s dst memory count widen at = put_into i s dst (Num (widen (little_number (bytes_at memory at count))))
+
+loaded_located : (i : Insn) (s : State) (dst : ℕ) (v : Value) (offset : ℤ) (count : ℕ) (widen : ℕ → ℕ) →
+    loaded i s dst v offset count widen
+    ≡ located s v offset count (load_from i s dst s.stack count widen) (load_from i s dst s.part count widen)
+loaded_located i s dst Unset offset count widen = refl
+loaded_located i s dst (Num n) offset count widen = refl
+loaded_located i s dst (Stack k) offset count widen = refl
+loaded_located i s dst (Part k) offset count widen = refl
+
+pub load_done : (i : Insn) (s : State) (dst : ℕ) (c : Content) (v : Value) (offset : ℤ) (n count : ℕ) (widen : ℕ → ℕ) (r : Result Place TrapCause) →
+    nat_eq dst 10 ≡ false → value_of c ≡ v → n ≡ count →
+    ((stack part : ℕ → Effect) → located s (value_of c) offset n stack part ≡ placing stack part r) →
+    placing (load_from i s dst s.stack count widen) (load_from i s dst s.part count widen) r ≡ writing dst (loaded i s dst v offset count widen)
+load_done i s dst c v offset n count widen r off is many law =
+    let stack : ℕ → Effect = load_from i s dst s.stack count widen in
+    let part : ℕ → Effect = load_from i s dst s.part count widen in
+    sym (writes dst (loaded i s dst v offset count widen) off
+    ∙ loaded_located i s dst v offset count widen
+    ∙ ap (λ (w : Value). located s w offset count stack part) (sym is)
+    ∙ ap (λ k. located s (value_of c) offset k stack part) (sym many)
+    ∙ law stack part)
+
+-- what a store at a place comes to
+abbrev pub store_to_stack : Insn → State → List ℕ → ℕ → Effect
+store_to_stack i s bytes at = onward i Always (record s { stack = written s.stack at bytes })
+
+abbrev pub store_to_part : Insn → State → List ℕ → ℕ → Effect
+store_to_part i s bytes at = onward i Always (record s { part = written s.part at bytes })
+
+stored_located : (i : Insn) (s : State) (v : Value) (offset : ℤ) (count number : ℕ) →
+    stored i s v offset count number
+    ≡ located s v offset count (store_to_stack i s (little_bytes count number)) (store_to_part i s (little_bytes count number))
+stored_located i s Unset offset count number = refl
+stored_located i s (Num n) offset count number = refl
+stored_located i s (Stack k) offset count number = refl
+stored_located i s (Part k) offset count number = refl
+
+pub store_done : (i : Insn) (s : State) (v : Value) (offset : ℤ) (n count number : ℕ) (r : Result Place TrapCause) → n ≡ count →
+    ((stack part : ℕ → Effect) → located s v offset n stack part ≡ placing stack part r) →
+    placing (store_to_stack i s (little_bytes count number)) (store_to_part i s (little_bytes count number)) r ≡ stored i s v offset count number
+store_done i s v offset n count number r many law =
+    let stack : ℕ → Effect = store_to_stack i s (little_bytes count number) in
+    let part : ℕ → Effect = store_to_part i s (little_bytes count number) in
+    sym (stored_located i s v offset count number
+    ∙ ap (λ k. located s v offset k stack part) (sym many)
+    ∙ law stack part)
 
 called_above : (here : Registers) (v : Value) (answer r : ℕ) → 5 < r → v ≡ here r → v ≡ called here answer r
 called_above here v answer r high is =
@@ -66,19 +120,6 @@ set_called (a ∷ b ∷ c ∷ []) answer r lt = absurd (omega arith)
 set_called (a ∷ b ∷ c ∷ d ∷ []) answer r lt = absurd (omega arith)
 set_called (a ∷ b ∷ c ∷ d ∷ e ∷ []) answer r lt = absurd (omega arith)
 set_called (a ∷ b ∷ c ∷ d ∷ e ∷ f ∷ more) answer r lt = eleven_called a b c d e f more answer r
-
-writes : (dst : ℕ) (e : Effect) → nat_eq dst 10 ≡ false → writing dst e ≡ e
-writes dst e off = rw off refl
-
--- a move that is done
-pub mov_done : (p : Program) (entries : Entries) (s : State) (w : Width) (dst : ℕ) (src : Operand) (v m : Content) → nat_eq dst 10 ≡ false →
-    value_of v ≡ operand_in s src → ((go : Value → Effect) → reading (value_of v) go ≡ go (value_of v)) →
-    Some (value_of m) ≡ mov_outcome w (value_of v) →
-    onward (Mov w dst src) Always (moved s dst (value_of m)) ≡ meaning p entries s (Mov w dst src)
-mov_done p entries s w dst src v m off is law out =
-    let go : Value → Effect = λ y. computing (Mov w dst src) s dst Unset y in
-    sym (writes dst (reading (operand_in s src) go) off ∙ ap (λ (x : Value). reading x go) (sym is) ∙ law go
-    ∙ ap (λ (o : Option Value). given o (λ u. onward (Mov w dst src) Always (moved s dst u))) (sym out))
 
 -- what follows the four numbers of a spawn
 abbrev pub spawn_with : Program → Entries → State → ℕ → ℕ → ℕ → ℕ → Effect

@@ -1,5 +1,5 @@
 -- How the reference's jobs change along a run.
-use Rattle.std.proofs.Common.{◌≡◌, add-one, ℕ, zero, suc, ◌+◌, List, [], ◌∷◌, ◌++◌, map, drop, set, slice_set, slice_get, refl, sym, ap, ◌∙◌, Bool, true, false, Option, Some, None, option_and_then}
+use Rattle.std.proofs.Common.{◌≡◌, add-one, ℕ, zero, suc, ◌+◌, List, [], ◌∷◌, ◌++◌, map, drop, set, slice_set, slice_get, refl, sym, ap, ◌∙◌, true, false, Option, Some, None, option_and_then}
 use Rattle.std.proofs.lemmas.List.{map-set, map-append}
 use Rattle.machine_model.specs.declared.reference_records.JobMember.{JobMember}
 use Rattle.machine_model.specs.declared.reference_records.JobMember.TheVariants as member
@@ -7,7 +7,7 @@ use Rattle.machine_model.specs.declared.reference_records.LiveTask.{LiveTask}
 use Rattle.machine_model.specs.declared.reference_records.ReferenceMove.{ReferenceMove}
 use Rattle.machine_model.specs.Machine.{Program}
 use Rattle.machine_model.specs.Job.{Job, Member, Move, run, step}
-use Rattle.machine_model.specs.Reference.{member_of, move_of, born_of, task_of, when}
+use Rattle.machine_model.specs.Reference.{member_of, move_of, born_of, when}
 
 with_nothing : (xs : List Member) → xs ≡ xs ++ []
 with_nothing [] = refl

@@ -1,5 +1,5 @@
 -- The ranges of the members tile the buffer before and after a step.
-use Rattle.std.proofs.Common.{◌≡◌, ℕ, suc, ◌<◌, ◌≤◌, ◌+◌, inl, inr, List, [], ◌∷◌, ◌++◌, length, length-append, set, take, drop, ◌-◌, slice_get, slice_set, refl, sym, ◌∙◌, arith, ap, subst, Bool, true, false, nat_lt, Option, Some, None}
+use Rattle.std.proofs.Common.{◌≡◌, ℕ, suc, ◌<◌, ◌≤◌, ◌+◌, inl, inr, List, [], ◌∷◌, ◌++◌, length, length-append, set, take, drop, slice_get, slice_set, refl, sym, ◌∙◌, arith, ap, subst, Bool, true, false, nat_lt, Option, Some, None}
 use Rattle.std.proofs.lemmas.Option.{slice_get_within}
 use Rattle.std.proofs.lemmas.List.{length-drop, length-take-le}
 use Rattle.std.proofs.lemmas.Bool.Decides.{nat_tests}

@@ -1,5 +1,5 @@
 -- The reference's records as those of the definitions.
-use Rattle.std.specs.Prelude.{ℕ, List, [], ◌∷◌, ◌++◌, map, slice_set, Bool, true, false, Option, Some, None, Result, Ok, Err, slice_index_or, option_map}
+use Rattle.std.specs.Prelude.{ℕ, ℤ, ◌+ℤ◌, length, List, [], ◌∷◌, ◌++◌, map, slice_set, Bool, true, false, Option, Some, None, Result, Ok, Err, slice_index_or, option_map}
 use Rattle.machine_model.specs.declared.reference_records.Content.{Content}
 use Rattle.machine_model.specs.declared.reference_records.Content.TheVariants as content
 use Rattle.machine_model.specs.declared.reference_records.TrapCause.{TrapCause}
@@ -7,6 +7,8 @@ use Rattle.machine_model.specs.declared.reference_records.TrapCause.TheVariants 
 use Rattle.machine_model.specs.declared.reference_records.ReferenceProgram.{ReferenceProgram}
 use Rattle.machine_model.specs.declared.reference_records.Running.{Running}
 use Rattle.machine_model.specs.declared.reference_records.Child.{Child}
+use Rattle.machine_model.specs.declared.reference_records.Place.{Place}
+use Rattle.machine_model.specs.declared.reference_records.Place.TheVariants as place
 use Rattle.machine_model.specs.declared.reference_records.Request.{Request}
 use Rattle.machine_model.specs.declared.reference_records.Outcome.{Outcome}
 use Rattle.machine_model.specs.declared.reference_records.Outcome.TheVariants as outcome
@@ -19,7 +21,7 @@ use Rattle.machine_model.specs.declared.reference_records.ReferenceMove.{Referen
 use Rattle.machine_model.specs.declared.reference_records.Change.{Change}
 use Rattle.machine_model.specs.Job.{Task, Ending, Member, Live, Ended, Job, Move}
 use Rattle.machine_model.specs.Value.{Value, Unset, Num, Stack, Part, Registers}
-use Rattle.machine_model.specs.Machine.{State, Program, Birth, Effect, Goes, Ends, Spawns, Traps, Trap, UnsetRead, OutsideStack, OutsidePart, WrongKind, OutsideCode, WritesStackEnd, NoHelper, OverSpent}
+use Rattle.machine_model.specs.Machine.{State, Program, Birth, Effect, Goes, Ends, Spawns, Traps, Trap, UnsetRead, OutsideStack, OutsidePart, WrongKind, OutsideCode, WritesStackEnd, NoHelper, OverSpent, within}
 
 abbrev pub value_of : Content → Value
 value_of content.Unset = Unset
@@ -67,6 +69,34 @@ effect_of (outcome.Traps trap) = Traps (trap_of trap)
 abbrev pub at_place : Trap → (ℕ → Effect) → Option ℕ → Effect
 at_place trap go (Some at) = go at
 at_place trap go None = Traps trap
+
+-- what is read, or why it isn't
+abbrev pub holding : (Value → Effect) → Result Content TrapCause → Effect
+holding go (Ok c) = go (value_of c)
+holding go (Err cause) = Traps (trap_of cause)
+
+-- the same of two operands
+abbrev pub holding_both : (Value → Value → Effect) → Result (Content × Content) TrapCause → Effect
+holding_both go (Ok both) = go (value_of both.0) (value_of both.1)
+holding_both go (Err cause) = Traps (trap_of cause)
+
+-- whether a condition holds, or why that isn't known
+abbrev pub deciding : (Bool → Effect) → Result Bool TrapCause → Effect
+deciding go (Ok b) = go b
+deciding go (Err cause) = Traps (trap_of cause)
+
+-- what follows at a place in the stack or in the part that so many bytes from a pointer on have
+abbrev pub located : State → Value → ℤ → ℕ → (ℕ → Effect) → (ℕ → Effect) → Effect
+located s Unset offset count stack part = Traps UnsetRead
+located s (Num n) offset count stack part = Traps WrongKind
+located s (Stack k) offset count stack part = within (k +ℤ offset) count 512 OutsideStack stack
+located s (Part k) offset count stack part = within (k +ℤ offset) count (length s.part) OutsidePart part
+
+-- what follows at such a place, or why there is none
+abbrev pub placing : (ℕ → Effect) → (ℕ → Effect) → Result Place TrapCause → Effect
+placing stack part (Ok (place.Stack at)) = stack at
+placing stack part (Ok (place.Part at)) = part at
+placing stack part (Err cause) = Traps (trap_of cause)
 
 -- what a spawn asks for, or why nothing can be asked
 abbrev pub asking : (ℕ → ℕ → ℕ → ℕ → Effect) → Result Request TrapCause → Effect

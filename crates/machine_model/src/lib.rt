@@ -25,8 +25,13 @@ mod memory_tests;
 
 // the reference: the definitions as a plain program
 pub mod reference;
+mod reference_calls;
+mod reference_computing;
 mod reference_effect;
+mod reference_jumps;
+mod reference_memory;
 mod reference_records;
+mod reference_registers;
 #[cfg(test)]
 mod reference_rows;
 #[cfg(test)]

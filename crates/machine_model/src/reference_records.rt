@@ -9,9 +9,7 @@ use std::alloc::{AllocError, AllocFailed};
 pub enum Unanswered {
     /// A growth was refused.
     NoMemory,
-    /// A task came to an instruction that isn't covered yet.
-    Uncovered,
-    /// A count doesn't fit its type.
+    /// A count or a position doesn't fit its type.
     TooLarge,
 }
 
@@ -91,6 +89,13 @@ pub enum Outcome {
     /// The child, and the task where the spawn is taken and where it is refused.
     Spawns(Child, Running, Running),
     Traps(TrapCause),
+}
+
+/// Where bytes are that a pointer leads to, counted from the region's start.
+#[derive(Clone, Copy)]
+pub enum Place {
+    Stack(usize),
+    Part(usize),
 }
 
 /// What a task asks of a spawn, by its registers.

@@ -1,7 +1,6 @@
-use Rattle.std.proofs.Common.{◌≡◌, ◌∙◌, map, true, false, length, ◌<◌, get_or, slice_get, Some}
+use Rattle.std.proofs.Common.{◌≡◌, ◌∙◌, map, false, get_or, slice_get, Some}
 use Rattle.std.proofs.lemmas.Option.{slice_get-get_or}
 use Rattle.machine_model.specs.declared.reference_records.ReferenceMove.{ReferenceMove}
-use Rattle.machine_model.specs.Job.{run}
 use Rattle.machine_model.specs.Reference.{job_of, program_of, move_of}
 use Rattle.machine_model.proofs.ReferenceRuns.{run_on, run_off, from_start}
 use Rattle.machine_model.proofs.reference.run.Goals as goal

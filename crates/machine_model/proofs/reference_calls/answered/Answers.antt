@@ -1,9 +1,8 @@
-use Rattle.std.proofs.Common.{◌≡◌, ℕ, ap, arith, length, ◌<◌, ◌+◌}
+use Rattle.std.proofs.Common.{ap, arith, length, ◌<◌, ◌+◌}
 use std.Path.{fun_ext}
 use Rattle.machine_model.specs.Value.{Registers}
-use Rattle.machine_model.specs.Machine.{State}
 use Rattle.machine_model.proofs.ReferenceLemmas.{set_called}
-use Rattle.machine_model.proofs.reference_effect.answered.Goals as goal
+use Rattle.machine_model.proofs.reference_calls.answered.Goals as goal
 
 pub returns : goal.returns
 returns c =
