@@ -1,3 +1,4 @@
+pub mod WordTable
 pub mod Digits
 pub mod Values
 pub mod Pairs
