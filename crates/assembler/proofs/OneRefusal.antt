@@ -11,7 +11,7 @@ use Rattle.disassembler.proofs.Words.{word_once, word_free}
 use Rattle.assembler.specs.declared.fault.TextFault.{TextFault}
 use Rattle.assembler.specs.declared.fault.TextFault.TheVariants.{UnknownWord, BadOperand, NumberRange, Empty, TooLong, NoMemory}
 use Rattle.assembler.specs.Forms.{BeginsWithWord, HasForm, IsUnknownWord, IsBadOperand, IsOutOfRange, operands_of}
-use Rattle.assembler.specs.Source.{texts_of, AreLinesOf, IsAtLine, IsTextRefusal}
+use Rattle.assembler.specs.Source.{texts_of, IsAtLine, IsTextRefusal}
 use Rattle.assembler.proofs.FormLemmas.{before, behind, tail_begins}
 use Rattle.assembler.proofs.NoFault.{known, formed, in_range, at_line, firsts}
 
