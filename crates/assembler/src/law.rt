@@ -1,4 +1,4 @@
-//! The laws of source texts: each has one program or one refusal, and what is written is read back.
+//! The laws of source texts: none has two programs or two refusals, and what is written is read back.
 
 ghost use Rattle.std.specs.Prelude.{◌≡◌, ◌≢◌, ℕ, List};
 ghost use Rattle.std.specs.List.{AllByRecursion};
