@@ -104,7 +104,7 @@ before [] h = tt
 before (c ∷ cs) (inl h) = h
 before (c ∷ cs) (inr h) = h
 
-tail_begins : (o : Operands) (tail : List ℕ) → IsTailOf o tail → BeginsWith 32 32 tail
+pub tail_begins : (o : Operands) (tail : List ℕ) → IsTailOf o tail → BeginsWith 32 32 tail
 tail_begins Zero tail h = subst (BeginsWith 32 32) (sym h) tt
 tail_begins (One f) tail h = subst (BeginsWith 32 32) (sym h.1) (inl refl)
 tail_begins (Two f g) tail h = subst (BeginsWith 32 32) (sym h.1) (inl refl)

@@ -1,9 +1,11 @@
 pub mod Digits
 pub mod Values
+pub mod WordTable
 pub mod Pairs
 pub mod Lines
 pub mod Splits
 pub mod FormLemmas
 pub mod SourceLines
 pub mod NoFault
+pub mod OneRefusal
 pub mod ReadBack

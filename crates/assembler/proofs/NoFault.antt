@@ -68,22 +68,22 @@ has_form (JumpIf w c dst src offset) h = (operands_text (JumpIf w c dst src offs
 has_form (Call helper) h = (decimal helper, refl, inl (helper, decimal_is helper (omega arith)))
 has_form Exit h = refl
 
-known : (insn : Insn) → IsUnknownWord (line_text insn) → ⊥
+pub known : (insn : Insn) → IsUnknownWord (line_text insn) → ⊥
 known insn h = h (word_of insn) (tail_text insn, refl, before (tail_text insn) (tail_begins insn))
 
-formed : (insn : Insn) → IsInsn insn → IsBadOperand (line_text insn) → ⊥
+pub formed : (insn : Insn) → IsInsn insn → IsBadOperand (line_text insn) → ⊥
 formed insn f h =
     let w = h.0 in
     let b = h.1 in
     let r = cut_line (line_text insn) (word_text w) b.0 b.1 (word_free w) (behind b.0 b.2) insn refl in
     h.2 (subst (λ (x : Word). HasForm x (line_text insn)) (sym (word_once w (word_of insn) r.0)) (tail_text insn, refl, has_form insn f))
 
-in_range : (insn : Insn) → IsInsn insn → IsOutOfRange (line_text insn) → ⊥
+pub in_range : (insn : Insn) → IsInsn insn → IsOutOfRange (line_text insn) → ⊥
 in_range insn f h = h.2 insn f refl
 
 -- ---- lists of lines
 
-firsts : (x y : List ℕ) (xs ys : List (List ℕ)) → x ∷ xs ≡ y ∷ ys → (x ≡ y) × (xs ≡ ys)
+pub firsts : (x y : List ℕ) (xs ys : List (List ℕ)) → x ∷ xs ≡ y ∷ ys → (x ≡ y) × (xs ≡ ys)
 firsts x y xs ys e = (cc, cc)
 
 middle : (xs : List (List ℕ)) (y : List ℕ) (ys : List (List ℕ)) (insns : List Insn) → AllByRecursion IsInsn insns → xs ++ y ∷ ys ≡ map line_text insns → (insn : Insn) × IsInsn insn × (y ≡ line_text insn)
@@ -92,7 +92,7 @@ middle [] y ys (i ∷ insns) f e = (i, f.0, (firsts y (line_text i) ys (map line
 middle (x ∷ xs) y ys [] f e = absurd cc
 middle (x ∷ xs) y ys (i ∷ insns) f e = middle xs y ys insns f.1 (firsts x (line_text i) (xs ++ y ∷ ys) (map line_text insns) e).1
 
-at_line : (n : ℕ) (lines : List (ℕ × List ℕ)) (P : List ℕ → Type 0) (insns : List Insn) → AreLinesOf insns lines → IsAtLine n lines P → (insn : Insn) × IsInsn insn × P (line_text insn)
+pub at_line : (n : ℕ) (lines : List (ℕ × List ℕ)) (P : List ℕ → Type 0) (insns : List Insn) → AreLinesOf insns lines → IsAtLine n lines P → (insn : Insn) × IsInsn insn × P (line_text insn)
 at_line n lines P insns r a =
     let parts : texts_of a.before ++ a.line ∷ texts_of a.after ≡ map line_text insns = sym (map-append (λ (x : ℕ × List ℕ). x.1) a.before ((n, a.line) ∷ a.after)) ∙ (ap texts_of (sym a.parts) ∙ r.read) in
     let m = middle (texts_of a.before) a.line (texts_of a.after) insns r.fit parts in

@@ -1,5 +1,6 @@
 -- What a reader of texts answers: the value that has this text, or that no fitting value has it.
-use Rattle.std.specs.Prelude.{◌≡◌, ◌≢◌, ℕ, ℤ, pos, suc, ◌<◌, ◌≤◌, ◌^◌, List, Option, Some, None, FitsSigned, nat_abs, ◌≤ℤ◌}
+use Rattle.std.specs.Prelude.{◌≡◌, ◌≢◌, ℕ, ℤ, pos, suc, ◌<◌, ◌≤◌, ◌^◌, List, [], ◌∷◌, Option, Some, None, FitsSigned, nat_abs, ◌≤ℤ◌, if◌then◌else◌}
+use Rattle.std.specs.Str.{bytes_eq}
 use Rattle.std.specs.Int.{w16, w32}
 use Rattle.std.specs.Fmt.{decimal, signed_decimal}
 use lib.IntN.{negsuc}
@@ -73,6 +74,11 @@ tested_text x = joined (operand_text x.0) (signed_text x.1)
 
 abbrev pub IsTested : Operand × ℤ → Type 0
 IsTested x = IsOperand x.0 × IsOffset x.1
+
+-- the word beside the first entry of this text
+abbrev pub first_named : List (List ℕ × Word) → List ℕ → Option Word
+first_named [] ts = None
+first_named (e ∷ es) ts = if bytes_eq e.0 ts then Some e.1 else first_named es ts
 
 -- the instruction of this word with these operands
 abbrev pub ReadsInsn : Word → List ℕ → Option Insn → Type 0

@@ -10,16 +10,22 @@ use thiserror::Error;
 /// Why a text is no program. The number is that of the line, counted from 1.
 #[derive(Clone, Copy, Debug, PartialEq, Eq, Error)]
 pub enum TextFault {
+    /// What stands in front of the first space of the line is no word.
     #[error("line {0}: no instruction has this word")]
     UnknownWord(u64),
+    /// What follows the word of the line is not of its forms.
     #[error("line {0}: the operands are not those of the word")]
     BadOperand(u64),
+    /// The forms are right, but a number or a register of the line is out of range.
     #[error("line {0}: a number or a register is out of range")]
     NumberRange(u64),
+    /// No line says an instruction.
     #[error("no instruction")]
     Empty,
+    /// The instructions take more than 4,096 slots.
     #[error("more than 4096 slots")]
     TooLong,
+    /// A growth was refused.
     #[error("out of memory")]
     NoMemory,
 }

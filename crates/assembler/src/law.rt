@@ -1,6 +1,6 @@
-//! The laws of source texts: what is written is read back, as the same program.
+//! The laws of source texts: none has two programs or two refusals, and what is written is read back.
 
-ghost use Rattle.std.specs.Prelude.{◌≡◌, ℕ, List};
+ghost use Rattle.std.specs.Prelude.{◌≡◌, ◌≢◌, ℕ, List};
 ghost use Rattle.std.specs.List.{AllByRecursion};
 ghost use Rattle.insn_codec.specs.declared.insn.Insn.{Insn};
 ghost use Rattle.insn_codec.specs.Spelling.{IsInsn, IsWhole, spellings};
@@ -18,6 +18,12 @@ pub fn one_program()
 pub fn nothing_refused()
     ensures { (insns : List Insn) (lines : List (ℕ × List ℕ)) → AreLinesOf insns lines → IsWhole (spellings insns)
         → (e : TextFault) → IsTextRefusal e lines → e ≡ NoMemory }
+{}
+
+/// A source text has one refusal at most, but for want of memory.
+pub fn one_refusal()
+    ensures { (lines : List (ℕ × List ℕ)) (e f : TextFault) → IsTextRefusal e lines → IsTextRefusal f lines
+        → e ≢ NoMemory → f ≢ NoMemory → e ≡ f }
 {}
 
 /// What `disassemble` writes has the lines of its program, so that `assemble` gives its bytes back.

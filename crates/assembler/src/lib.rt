@@ -16,7 +16,7 @@ mod word;
 
 pub use assembling::assemble;
 pub use fault::TextFault;
-pub use law::{nothing_refused, one_program, read_back};
+pub use law::{nothing_refused, one_program, one_refusal, read_back};
 
 #[cfg(test)]
 mod tests;

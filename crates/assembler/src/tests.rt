@@ -1,6 +1,6 @@
 //! Sources that are read, and near misses with the refusal and the line that they get, from the text table.
 
-use crate::{TextFault, assemble, nothing_refused, one_program, read_back};
+use crate::{TextFault, assemble, nothing_refused, one_program, one_refusal, read_back};
 use disassembler::disassemble;
 use std::test::Fail;
 
@@ -51,7 +51,7 @@ fn reads_what_is_spelled(rt: HostRuntime) -> Result<(), Fail> {
     Ok(())
 }
 
-const UNKNOWN: [(&str, u64); 24] = [
+const UNKNOWN: [(&str, u64); 28] = [
     ("movq r0, 1", 1),
     ("exit\nadd r0, 1\nmovq r0, 1", 2),
     ("mov64\tr0, 1", 1),
@@ -76,9 +76,13 @@ const UNKNOWN: [(&str, u64); 24] = [
     ("call32 1", 1),
     ("exit32", 1),
     ("\n\n# exit", 3),
+    ("mov64r0, 1", 1),
+    ("exit\rexit", 1),
+    ("\u{feff}exit", 1),
+    ("mov64\u{a0}r0, 1", 1),
 ];
 
-const MISFORMED: [(&str, u64); 66] = [
+const MISFORMED: [(&str, u64); 78] = [
     ("; a\n\nmov64 r0 1", 3),
     ("mov64", 1),
     ("mov64 ", 1),
@@ -145,6 +149,19 @@ const MISFORMED: [(&str, u64); 66] = [
     ("call", 1),
     ("call r1", 1),
     ("exit\r\nexit r0", 2),
+    // The form comes before the range.
+    ("mov64 r11", 1),
+    ("mov64 r11, 0x1", 1),
+    ("ldxw r11, [r11]", 1),
+    ("jeq r11, 2147483648, 1", 1),
+    ("mov64 r0, ; 1", 1),
+    ("mov64 ; r0, 1", 1),
+    ("mov64 r0, \u{ff11}", 1),
+    ("mov64 r0,\t1", 1),
+    ("lddw r0, 01", 1),
+    ("lddw r0, +1", 1),
+    ("call 01", 1),
+    ("call +1", 1),
 ];
 
 const OUT_OF_RANGE: [(&str, u64); 32] = [
@@ -204,6 +221,7 @@ fn reads_a_program_with_comments(rt: HostRuntime) -> Result<(), Fail> {
     assert_eq!(rt; assemble(rt.alloc(), source)?.as_slice(), bytes.as_slice());
     one_program();
     nothing_refused();
+    one_refusal();
     read_back();
     Ok(())
 }

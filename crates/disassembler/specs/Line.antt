@@ -32,6 +32,10 @@ memory_text base offset = codes "[" ++ (register_text base ++ (signed_text offse
 abbrev pub joined : List ℕ → List ℕ → List ℕ
 joined front back = front ++ (codes ", " ++ back)
 
+-- a register, what it is compared with, and an offset
+abbrev pub branch_text : ℕ → Operand → ℤ → List ℕ
+branch_text dst src offset = joined (register_text dst) (joined (operand_text src) (signed_text offset))
+
 abbrev pub operands_text : Insn → List ℕ
 operands_text (Alu width op dst src) = joined (register_text dst) (operand_text src)
 operands_text (Mov width dst src) = joined (register_text dst) (operand_text src)
@@ -44,7 +48,7 @@ operands_text (Store size base offset imm) = joined (memory_text base offset) (s
 operands_text (StoreRegister size base offset src) = joined (memory_text base offset) (register_text src)
 operands_text (Jump offset) = signed_text offset
 operands_text (Jump32 offset) = signed_text offset
-operands_text (JumpIf width condition dst src offset) = joined (register_text dst) (joined (operand_text src) (signed_text offset))
+operands_text (JumpIf width condition dst src offset) = branch_text dst src offset
 operands_text (Call helper) = decimal helper
 operands_text Exit = []
 

@@ -79,6 +79,22 @@ impl fmt::Display for Place {
     }
 }
 
+/// What a conditional jump tests and how far it goes, as `r3, 15, +3`.
+#[derive(Clone, Copy)]
+struct Branch(Register, Operand, i16);
+
+impl fmt::Display for Branch {
+    ghost use Rattle.std.specs.Prelude.{Some};
+    ghost use Rattle.disassembler.specs.Line.{branch_text};
+
+    ghost output = { λ branch. Some (branch_text branch.0 branch.1 branch.2) };
+
+    fn fmt<W: fmt::Write>(&self, f: &mut fmt::Formatter<W>) -> fmt::Result {
+        let (dst, src) = (Name(self.0), Value(self.1));
+        write!(f, "{dst}, {src}, {}", Offset(i32::from(self.2)))
+    }
+}
+
 /// What follows the word of a line: the operands, with a space in front.
 #[derive(Clone, Copy)]
 struct Tail(Insn);
@@ -123,10 +139,7 @@ impl fmt::Display for Tail {
                 src,
                 offset,
                 ..
-            } => {
-                let (dst, src) = (Name(dst), Value(src));
-                write!(f, " {dst}, {src}, {}", Offset(i32::from(offset)))
-            }
+            } => write!(f, " {}", Branch(dst, src, offset)),
             Insn::Call { helper } => write!(f, " {helper}"),
             Insn::Exit => Ok(()),
         }
