@@ -7,11 +7,8 @@ use Rattle.machine_model.specs.Memory.{written}
 use Rattle.machine_model.specs.Machine.{effect}
 use Rattle.machine_model.specs.Job as job
 use Rattle.machine_model.specs.Job.{Job}
-use Rattle.helpers.specs.Piece.{Piece}
 use Rattle.helpers.specs.declared.spawner.SpawnRecord.{SpawnRecord}
 use Rattle.verifier.specs.Checked.{Checked, program_of}
-use Rattle.interpreter.specs.declared.frame.Frame.{Frame}
-use Rattle.interpreter.specs.declared.credit.Credit.{Credit}
 use Rattle.interpreter.specs.declared.frame.StepOut.{StepOut}
 use Rattle.interpreter.specs.declared.frame.StepOut.TheVariants.{Went, Ended}
 use Rattle.interpreter.specs.Behind.{AreBehind, IsCovered, state_of, Did}
@@ -47,13 +44,14 @@ kept_is : (k : Kept) (entries : List Entry) (lives lives' : List (Option Live)) 
     let b : Kept = record k { entries = entries; lives = lives'; ends = ends'; collected = collected'; spent = spent'; returned = returned' } in a ≡ b
 kept_is k entries lives lives' ends ends' collected collected' spent spent' returned returned' e1 e2 e3 e4 e5 = rw (e1, e2, e3, e4, e5) refl
 
-module _ (kept : Kept) (n : ℕ) (live : Live) (p : Checked) (out : StepOut) (frame : Frame) (part : Piece) (credit : Credit) (old new : Ledger)
-    (here : slice_get kept.lives n ≡ Some (Some live)) (read : p ≡ get_or kept.programs live.program p) (base : part.base ≡ live.part.base)
+module _ (kept : Kept) (n : ℕ) (live : Live) (p : Checked) (out : StepOut) (after : Live) (old new : Ledger)
+    (here : slice_get kept.lives n ≡ Some (Some live)) (read : p ≡ get_or kept.programs live.program p) (base : after.part.base ≡ live.part.base)
+    (same_number : after.program ≡ live.program)
     (entries : old.entries.items ≡ kept.entries) (lives : old.lives.items ≡ set kept.lives n None)
     (ends : old.report.tasks.items ≡ kept.ends) (collected : old.report.buffer.items ≡ kept.collected)
     (spent : old.report.spent ≡ kept.spent) (returned : old.report.returned ≡ kept.returned)
     (did : (registers : Registers) → AreBehind p live.frame registers →
-    Did p (effect (program_of p) (slice_get old.entries.items) (state_of live.frame live.part live.credit registers)) out frame part credit
+    Did p (effect (program_of p) (slice_get old.entries.items) (state_of live.frame live.part live.credit registers)) out after.frame after.part after.credit
     (new ≡ old) (Told old new)) where
   same_program : (j : Job) (at : IsLiveAt kept j n live) → p ≡ at.checked
   same_program j at = read ∙ get_or_from_slice_get kept.programs live.program at.checked p at.program
@@ -61,7 +59,7 @@ module _ (kept : Kept) (n : ℕ) (live : Live) (p : Checked) (out : StepOut) (fr
   either : (E : Type 0) (j : Job) (at : IsLiveAt kept j n live) → (new ≡ old → E) →
       ((child : SpawnRecord) (reply : Result (Unit {0}) SpawnRecord) → Told old new child reply → E) → E
   either E j at first second =
-      did_either E p _ out frame part credit (new ≡ old) (Told old new) first second
+      did_either E p _ out after.frame after.part after.credit (new ≡ old) (Told old new) first second
       (did at.task.registers (subst (λ (q : Checked). AreBehind q live.frame at.task.registers) (sym (same_program j at)) at.is.behind))
 
   pub grows : (j : Job) → IsBehind kept j → (n < length new.lives.items) × (n < length new.report.tasks.items)
@@ -105,10 +103,10 @@ module _ (kept : Kept) (n : ℕ) (live : Live) (p : Checked) (out : StepOut) (fr
       subst (λ ls. Adds ls kept.ends child reply new.lives.items new.report.tasks.items) lives
       (subst (λ es. Adds old.lives.items es child reply new.lives.items new.report.tasks.items) ends told.1)
 
-  abbrev after : Live
-  after = record { program = live.program; frame = frame; part = part; credit = credit }
+  abbrev settled : Live
+  settled = record { program = live.program; frame = after.frame; part = after.part; credit = after.credit }
 
-  pub ledger_went : (j : Job) → IsBehind kept j → out ≡ Went → IsCovered p frame part credit →
+  pub ledger_went : (j : Job) → IsBehind kept j → out ≡ Went → IsCovered p after.frame after.part after.credit →
       Steps kept j n stepped.Went (record kept {
         entries = new.entries.items;
         lives = set new.lives.items n (Some after);
@@ -120,24 +118,25 @@ module _ (kept : Kept) (n : ℕ) (live : Live) (p : Checked) (out : StepOut) (fr
   ledger_went j behind is covered =
       let at = live_at kept j n live behind here in
       let same = ended_same j at in
-      let s = steps_went kept j n live behind at frame part credit base new.lives.items new.report.tasks.items (new ≡ old) (Told old new) quiet heard
+      let s = steps_went kept j n live behind at after.frame after.part after.credit base new.lives.items new.report.tasks.items (new ≡ old) (Told old new) quiet heard
       p (slice_get old.entries.items) new.entries.items (same_program j at) (λ i. ap (λ es. slice_get es i) entries) (still j at) covered
-      (λ registers stands. subst (λ (o : StepOut). Did p (effect (program_of p) (slice_get old.entries.items) (state_of live.frame live.part live.credit registers)) o frame part credit (new ≡ old) (Told old new)) is (did registers stands)) in
+      (λ registers stands. subst (λ (o : StepOut). Did p (effect (program_of p) (slice_get old.entries.items) (state_of live.frame live.part live.credit registers)) o after.frame after.part after.credit (new ≡ old) (Told old new)) is (did registers stands)) in
       subst (λ (k : Kept). Steps kept j n stepped.Went k)
-      (kept_is kept new.entries.items (set new.lives.items n (Some after)) (set new.lives.items n (Some after)) new.report.tasks.items new.report.tasks.items
-      kept.collected new.report.buffer.items kept.spent new.report.spent kept.returned new.report.returned refl refl (sym same.0) (sym same.1) (sym same.2)) s
+      (kept_is kept new.entries.items (set new.lives.items n (Some settled)) (set new.lives.items n (Some after)) new.report.tasks.items new.report.tasks.items
+      kept.collected new.report.buffer.items kept.spent new.report.spent kept.returned new.report.returned
+      (ap (λ (l : Live). set new.lives.items n (Some l)) (ap (λ (n : ℕ). let l : Live = record after { program = n } in l) (sym same_number))) refl (sym same.0) (sym same.1) (sym same.2)) s
 
   -- what the noting of an end asks and leaves
   pub record Noting (j : Job) (word : ℕ) : Type 0 where
-    pub used : credit.used ≤ credit.held
-    pub spent_fits : new.report.spent + credit.used ≤ 2147483647
-    pub returned_fits : new.report.returned + (credit.held - credit.used) ≤ 2147483647
-    pub inside : part.base + length part.bytes ≤ length new.report.buffer.items
+    pub used : after.credit.used ≤ after.credit.held
+    pub spent_fits : new.report.spent + after.credit.used ≤ 2147483647
+    pub returned_fits : new.report.returned + (after.credit.held - after.credit.used) ≤ 2147483647
+    pub inside : after.part.base + length after.part.bytes ≤ length new.report.buffer.items
     pub entry : TaskEnd
     pub noted : slice_get new.report.tasks.items n ≡ Some entry
-    pub steps : (spent' returned' : ℕ) (buffer' : List ℕ) (tasks' : List TaskEnd) → spent' ≡ new.report.spent + credit.used →
-        returned' ≡ new.report.returned + (credit.held - credit.used) → buffer' ≡ written new.report.buffer.items part.base part.bytes →
-        tasks' ≡ slice_set new.report.tasks.items n (record entry { spent = credit.used; rest = credit.held - credit.used; r0 = word; ran = true }) →
+    pub steps : (spent' returned' : ℕ) (buffer' : List ℕ) (tasks' : List TaskEnd) → spent' ≡ new.report.spent + after.credit.used →
+        returned' ≡ new.report.returned + (after.credit.held - after.credit.used) → buffer' ≡ written new.report.buffer.items after.part.base after.part.bytes →
+        tasks' ≡ slice_set new.report.tasks.items n (record entry { spent = after.credit.used; rest = after.credit.held - after.credit.used; r0 = word; ran = true }) →
         Steps kept j n (stepped.Ended word) (record kept {
           entries = new.entries.items;
           lives = new.lives.items;
@@ -151,9 +150,9 @@ module _ (kept : Kept) (n : ℕ) (live : Live) (p : Checked) (out : StepOut) (fr
   ledger_ended j behind word is =
       let at = live_at kept j n live behind here in
       let same = ended_same j at in
-      let s = steps_ended kept j n live behind at frame part credit base new.lives.items new.report.tasks.items (new ≡ old) (Told old new) quiet heard
+      let s = steps_ended kept j n live behind at after.frame after.part after.credit base new.lives.items new.report.tasks.items (new ≡ old) (Told old new) quiet heard
       p (slice_get old.entries.items) new.entries.items word (same_program j at) (λ i. ap (λ es. slice_get es i) entries) (still j at)
-      (λ registers stands. subst (λ (o : StepOut). Did p (effect (program_of p) (slice_get old.entries.items) (state_of live.frame live.part live.credit registers)) o frame part credit (new ≡ old) (Told old new)) is (did registers stands)) in
+      (λ registers stands. subst (λ (o : StepOut). Did p (effect (program_of p) (slice_get old.entries.items) (state_of live.frame live.part live.credit registers)) o after.frame after.part after.credit (new ≡ old) (Told old new)) is (did registers stands)) in
       let next = s.1.3 in
       let ends_same : new.report.tasks.items ≡ kept.ends = s.3 in
       record {
@@ -165,10 +164,10 @@ module _ (kept : Kept) (n : ℕ) (live : Live) (p : Checked) (out : StepOut) (fr
         noted = ap (λ es. slice_get es n) ends_same ∙ behind.kept_are.each_end n (job.Live at.task) at.there;
         steps = λ spent' returned' buffer' tasks' e1 e2 e3 e4.
             subst (λ (k : Kept). Steps kept j n (stepped.Ended word) k)
-            (kept_is kept new.entries.items new.lives.items new.lives.items (set new.report.tasks.items n (ended_end n at.task credit word)) tasks'
-            (written kept.collected part.base part.bytes) buffer' (kept.spent + credit.used) spent'
-            (kept.returned + (credit.held - credit.used)) returned' refl (sym e4)
-            (ap (λ b. written b part.base part.bytes) (sym same.0) ∙ sym e3)
-            (ap (λ x. x + credit.used) (sym same.1) ∙ sym e1) (ap (λ x. x + (credit.held - credit.used)) (sym same.2) ∙ sym e2))
+            (kept_is kept new.entries.items new.lives.items new.lives.items (set new.report.tasks.items n (ended_end n at.task after.credit word)) tasks'
+            (written kept.collected after.part.base after.part.bytes) buffer' (kept.spent + after.credit.used) spent'
+            (kept.returned + (after.credit.held - after.credit.used)) returned' refl (sym e4)
+            (ap (λ b. written b after.part.base after.part.bytes) (sym same.0) ∙ sym e3)
+            (ap (λ x. x + after.credit.used) (sym same.1) ∙ sym e1) (ap (λ x. x + (after.credit.held - after.credit.used)) (sym same.2) ∙ sym e2))
             s.1;
       }

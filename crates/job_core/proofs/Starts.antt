@@ -13,6 +13,8 @@ use Rattle.helpers.specs.Piece.{Piece}
 use Rattle.verifier.specs.Checked.{Checked, program_of, IsVerified, cost_at}
 use Rattle.interpreter.specs.Behind.{entry_frame, AreBehind}
 use Rattle.job_core.specs.declared.live.Live.{Live}
+use Rattle.job_core.specs.Living.{Living}
+use Rattle.interpreter.specs.declared.credit.Credit.{Credit}
 use Rattle.job_core.specs.Behind.{Kept, end_of, IsTaskOf, IsLive, IsMemberOf, AreEntries, IsBehind}
 use Rattle.job_core.specs.Admitted.{Order, IsAdmitted}
 use Rattle.job_core.proofs.Enters.{behind_entry, covered_entry}
@@ -155,6 +157,11 @@ entries_past items programs i entries e le are =
 
 pub entries_long : (programs : List Checked) (entries : List Entry) → AreEntries programs entries → length entries ≡ length programs
 entries_long programs entries are = ap length are.are ∙ length-map programs (λ (p : Checked). entry_of (program_of p))
+
+-- a live task, by its parts
+pub living_is : (l : Living) (program : ℕ) (frame : Frame) (part : Piece) (credit : Credit) → l.program ≡ program → l.frame ≡ frame →
+    l.part ≡ part → l.credit ≡ credit → let m : Living = record { program = program; frame = frame; part = part; credit = credit } in l ≡ m
+living_is l program frame part credit e1 e2 e3 e4 = rw (← e1, ← e2, ← e3, ← e4) refl
 
 -- what a world keeps once it is opened
 pub opened : (order : Order) (entries : List Entry) (frame : Frame) (part : Piece) (size : ℕ) (none lives : List (Option Live)) (none' ends : List TaskEnd)

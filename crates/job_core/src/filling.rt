@@ -14,7 +14,7 @@ pub fn fill(buffer: &mut Vec<u8>, lives: &[Option<Live>])
 {
     for live in lives {
         if let Some(live) = live {
-            live.part.copy_to(buffer);
+            live.part().copy_to(buffer);
         }
     }
 }

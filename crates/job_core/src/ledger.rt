@@ -5,11 +5,12 @@ ghost use Rattle.std.specs.Prelude.{◌≡◌, ◌≤◌, vec_len};
 use crate::live::Live;
 use crate::report::{Report, TaskEnd};
 use helpers::{Entry, SpawnRecord, Spawner};
-use interpreter::{Credit, Frame};
+use std::alloc::Global;
 
 /// The live tasks by number, the report of all of them, and what a spawn has to know of each program.
 #[derive(Drop)]
 pub struct Ledger {
+    pub alloc: Global,
     pub entries: Vec<Entry>,
     pub lives: Vec<Option<Live>>,
     pub report: Report,
@@ -40,33 +41,20 @@ impl Spawner for Ledger {
         if self.lives.reserve(1).is_err() || self.report.tasks.reserve(1).is_err() {
             return Err(child);
         }
-        let SpawnRecord {
-            program,
-            share,
-            arg,
-            part,
-        } = child;
-        let mut frame = Frame::zeroed();
-        frame.enter(part.len() as u32, arg);
-        let live = Live {
-            program,
-            frame,
-            part,
-            credit: Credit {
-                held: share,
-                used: 0,
-            },
+        let Ok(mut live) = Live::vacant(self.alloc) else {
+            return Err(child);
         };
         let entered = TaskEnd {
             number,
-            program,
-            arg,
-            given: share,
+            program: child.program,
+            arg: child.arg,
+            given: child.share,
             spent: 0,
             rest: 0,
             r0: 0,
             ran: false,
         };
+        live.enter(child);
         let _ = self.lives.push(Some(live));
         let _ = self.report.tasks.push(entered);
         Ok(())

@@ -3,7 +3,6 @@
 ghost use Rattle.std.specs.Prelude.{◌≡◌, ℕ, ◌<◌, ◌≤◌, ◌^◌, length, slice_get};
 
 use crate::ledger::Ledger;
-use crate::live::Live;
 use interpreter::StepOut;
 use std::alloc::Global;
 use verifier::Verified;
@@ -41,26 +40,16 @@ impl Tasks {
         let Some(mut live) = place.take() else {
             return Stepped::Skipped;
         };
-        let code = &self.programs[live.program as usize];
-        match live.frame.step(
-            alloc,
-            code,
-            &mut live.part,
-            &mut live.credit,
-            &mut self.ledger,
-        ) {
+        let code = &self.programs[live.program() as usize];
+        match live.step(alloc, code, &mut self.ledger) {
             StepOut::Went => {
                 self.ledger.lives[number as usize] = Some(live);
                 Stepped::Went
             }
             StepOut::Ended(r0) => {
-                let Live {
-                    program: _,
-                    frame: _,
-                    part,
-                    credit,
-                } = live;
-                self.ledger.report.end(number, credit, r0, &part);
+                self.ledger
+                    .report
+                    .end(number, live.credit(), r0, live.part());
                 Stepped::Ended(r0)
             }
         }

@@ -22,7 +22,7 @@ pub fn used_by_live(lives: &[Option<Live>]) -> u32
     let mut used = 0;
     for live in lives {
         if let Some(live) = live {
-            used += live.credit.used;
+            used += live.credit().used;
         }
     }
     used

@@ -9,8 +9,7 @@ use crate::live::Live;
 use crate::report::{Report, TaskEnd};
 use crate::tasks::{Stepped, Tasks};
 use crate::totals::{Totals, used_by_live};
-use helpers::{Entry, Part};
-use interpreter::{Credit, Frame};
+use helpers::{Entry, Part, SpawnRecord};
 use refusal::NoMemory;
 use std::alloc::Global;
 use std::marker::Model;
@@ -59,17 +58,13 @@ impl World {
             })?;
         }
         let size = buffer.len();
-        let mut frame = Frame::zeroed();
-        frame.enter(size as u32, 0);
-        let root = Live {
+        let mut root = Live::vacant(alloc)?;
+        root.enter(SpawnRecord {
             program: 0,
-            frame,
+            share: credit,
+            arg: 0,
             part: Part::whole(buffer),
-            credit: Credit {
-                held: credit,
-                used: 0,
-            },
-        };
+        });
         let mut lives = Vec::new(alloc);
         lives.push(Some(root))?;
         let mut tasks = Vec::new(alloc);
@@ -94,6 +89,7 @@ impl World {
             tasks: Tasks {
                 programs,
                 ledger: Ledger {
+                    alloc,
                     entries,
                     lives,
                     report,
@@ -184,6 +180,7 @@ impl World {
             issued: _,
         } = tasks;
         let Ledger {
+            alloc: _,
             entries: _,
             lives: _,
             report,

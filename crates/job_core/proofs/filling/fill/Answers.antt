@@ -11,14 +11,14 @@ copy_to-requires c =
     let fits = c.requires c.loop-live.live-index c.in-Some.live here in
     let le : c.in-Some.live.part.base + length c.in-Some.live.part.bytes ≤ length c.loop-live.buffer.items =
     omega (arith, fits, c.loop-live.invariant.long) in
-    le
+    rw c.part.ensures le
 
 pub loop-live-preserved : goal.loop-live-preserved
 loop-live-preserved c =
     let more = filled-more c.args.lives.now c.loop-live.live-index c.live-item.result c.args.buffer.now.items c.loop-live-test.true c.live-item.is in
     let new : c.match-live.buffer.items ≡ put c.live-item.result c.loop-live.buffer.items =
     elim c.match-live.branch [
-      | in-Some w ↦ ap (λ v. v.items) w.buffer-is ∙ w.copy_to.ensures ∙ ap (λ o. put o c.loop-live.buffer.items) (sym w.in-Some.is)
+      | in-Some w ↦ ap (λ v. v.items) w.buffer-is ∙ (rw w.part.ensures at w.copy_to.ensures) ∙ ap (λ o. put o c.loop-live.buffer.items) (sym w.in-Some.is)
       | in_default w ↦ ap (λ v. v.items) w.buffer-is ∙ sym (none_put c.live-item.result c.loop-live.buffer.items w.in_default.not-Some)
     ] in
     record {

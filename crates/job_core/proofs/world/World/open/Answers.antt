@@ -1,6 +1,8 @@
-use Rattle.std.proofs.Common.{◌≡◌, ◌≤◌, arith, rules, length}
+use Rattle.std.proofs.Common.{◌≡◌, ◌≤◌, ◌∙◌, ◌∷◌, ◌++◌, [], Some, ap, sym, refl, arith, rules, length}
+use Rattle.interpreter.specs.Behind.{entry_frame}
+use Rattle.job_core.specs.Living.{Living}
 use Rattle.machine_model.specs.Job.{start}
-use Rattle.job_core.proofs.Starts.{entries_none, entries_more, entries_past, entries_long, entry_is, opened}
+use Rattle.job_core.proofs.Starts.{entries_none, entries_more, entries_past, entries_long, entry_is, living_is, opened}
 use Rattle.job_core.proofs.world.World.open.Goals as goal
 
 pub loop-program-init : goal.loop-program-init
@@ -28,12 +30,15 @@ invariant_of-result-2 c =
     let are = entries_past c.deref-program-items.result.now c.job.inside.programs.items c.loop-program.program-index c.loop-program.entries.items
     c.deref-program-items.ensures.value past c.loop-program.invariant in
     let size : c.len-size.result ≡ length c.job.inside.buffer.items = search rules in
+    let entered = c.enter.ensures.frame ∙ ap (λ n. entry_frame n 0) (ap length c.whole.ensures.bytes ∙ sym size) in
+    let root = living_is c.enter.new.self 0 c.enter.new.self.frame c.whole.result (record { held = c.job.inside.credit; used = 0 })
+    c.enter.ensures.program refl c.enter.ensures.part c.enter.ensures.credit in
     let zeros : length c.in_ok-collected.collected.items ≡ c.len-size.result = search rules in (
       start c.job.inside.credit c.job.inside.buffer.items,
       opened (record { programs = c.job.inside.programs.items; credit = c.job.inside.credit; buffer = c.job.inside.buffer.items })
-          c.loop-program.entries.items c.enter.new.self c.whole.result c.len-size.result _ c.push-2.new.self.items _ c.push-3.new.self.items _
-          c.job.invariant are c.whole.ensures.bytes c.whole.ensures.base c.enter.ensures size
-          c.new-lives.ensures.items c.in_ok-push-2.ensures.items c.new-tasks.ensures.items c.in_ok-push-3.ensures.items zeros,
+          c.loop-program.entries.items c.enter.new.self.frame c.whole.result c.len-size.result _ c.push-2.new.self.items _ c.push-3.new.self.items _
+          c.job.invariant are c.whole.ensures.bytes c.whole.ensures.base entered size
+          c.new-lives.ensures.items (c.in_ok-push-2.ensures.items ∙ ap (λ (l : Living). c.new-lives.result.items ++ Some l ∷ []) root) c.new-tasks.ensures.items c.in_ok-push-3.ensures.items zeros,
     )
 
 pub returns-clause-start : goal.returns-clause-start
@@ -42,9 +47,12 @@ returns-clause-start c =
     let are = entries_past c.deref-program-items.result.now c.job.inside.programs.items c.loop-program.program-index c.loop-program.entries.items
     c.deref-program-items.ensures.value past c.loop-program.invariant in
     let size : c.len-size.result ≡ length c.job.inside.buffer.items = search rules in
+    let entered = c.enter.ensures.frame ∙ ap (λ n. entry_frame n 0) (ap length c.whole.ensures.bytes ∙ sym size) in
+    let root = living_is c.enter.new.self 0 c.enter.new.self.frame c.whole.result (record { held = c.job.inside.credit; used = 0 })
+    c.enter.ensures.program refl c.enter.ensures.part c.enter.ensures.credit in
     let zeros : length c.in_ok-collected.collected.items ≡ c.len-size.result = search rules in
     rw (← c.job.view_is)
     (opened (record { programs = c.job.inside.programs.items; credit = c.job.inside.credit; buffer = c.job.inside.buffer.items })
-    c.loop-program.entries.items c.enter.new.self c.whole.result c.len-size.result _ c.push-2.new.self.items _ c.push-3.new.self.items _
-    c.job.invariant are c.whole.ensures.bytes c.whole.ensures.base c.enter.ensures size
-    c.new-lives.ensures.items c.in_ok-push-2.ensures.items c.new-tasks.ensures.items c.in_ok-push-3.ensures.items zeros)
+    c.loop-program.entries.items c.enter.new.self.frame c.whole.result c.len-size.result _ c.push-2.new.self.items _ c.push-3.new.self.items _
+    c.job.invariant are c.whole.ensures.bytes c.whole.ensures.base entered size
+    c.new-lives.ensures.items (c.in_ok-push-2.ensures.items ∙ ap (λ (l : Living). c.new-lives.result.items ++ Some l ∷ []) root) c.new-tasks.ensures.items c.in_ok-push-3.ensures.items zeros)

@@ -1,0 +1,27 @@
+//! `benchmark`: runs each scenario once and prints what it came to. `benchmark time`: prints how long a step of `play` takes,
+//! in nanoseconds, and how many slots `verify` judges in a second.
+#![tactic(auto)]
+
+mod results;
+mod scenario;
+mod timing;
+
+use results::print_results;
+use std::env;
+use std::process::ExitCode;
+use timing::print_times;
+
+fn main(rt: HostRuntime) -> anyhow::Result<ExitCode> {
+    let alloc = rt.alloc();
+    let mut words = Vec::new(alloc);
+    for word in env::args(&rt)?.skip(1) {
+        words.push(word)?;
+    }
+    let mut output = rt.stdout();
+    match words.as_slice() {
+        [] => print_results(alloc, &mut output)?,
+        [word] if word.as_str() == "time" => print_times(&rt, alloc, &mut output)?,
+        _ => return Ok(ExitCode::from(2)),
+    }
+    Ok(ExitCode::SUCCESS)
+}

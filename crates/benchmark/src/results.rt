@@ -1,0 +1,50 @@
+//! What the scenarios come to: the same on every machine.
+
+use crate::scenario::{Scenario, program};
+use job_core::{ProgramBytes, Report, admit, play};
+use std::alloc::Global;
+use std::io::Write;
+
+/// The scenarios, in the order in which they are printed.
+pub const SCENARIOS: [Scenario; 4] = [
+    Scenario::Arithmetic,
+    Scenario::Memory,
+    Scenario::Ladder,
+    Scenario::Comb,
+];
+
+/// So many steps of task 0.
+pub fn schedule(alloc: Global, steps: u32) -> anyhow::Result<Vec<u32>> {
+    let mut numbers = Vec::new(alloc);
+    for _ in 0..steps {
+        numbers.push(0)?;
+    }
+    Ok(numbers)
+}
+
+/// Plays a program alone, with all the credit that it can need and a part of 8 zeros.
+fn played(alloc: Global, code: ProgramBytes, steps: u32) -> anyhow::Result<Option<Report>> {
+    let programs = [code];
+    let buffer = vec![in alloc; 0; 8]?;
+    let job = admit(alloc, &programs, steps, buffer)?;
+    let numbers = schedule(alloc, steps)?;
+    Ok(play(alloc, job, &numbers)?.close().ok())
+}
+
+/// Prints R0 and the credit spent for each scenario in 64 slots.
+pub fn print_results<W: Write>(alloc: Global, output: &mut W) -> anyhow::Result<()> {
+    for scenario in SCENARIOS {
+        let name = scenario.name();
+        let code = program(alloc, scenario, 64)?;
+        if let Some(report) = played(alloc, code, 64)? {
+            for task in &report.tasks {
+                writeln!(
+                    output,
+                    "{name} 64 slots: r0 {} spent {}",
+                    task.r0, task.spent
+                )?;
+            }
+        }
+    }
+    Ok(())
+}
