@@ -30,6 +30,8 @@ mod reference_computing;
 mod reference_effect;
 mod reference_jumps;
 mod reference_memory;
+#[cfg(test)]
+mod reference_programs;
 mod reference_records;
 mod reference_registers;
 #[cfg(test)]

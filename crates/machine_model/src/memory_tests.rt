@@ -75,58 +75,61 @@ fn stored(size: Size, at: usize, number: u64) -> Option<[u8; 12]> {
     Some(memory)
 }
 
+/// The size and the place of a store of 0x8123456789abcdef, and eight bytes from a place on that hold all it wrote.
+const STORES: [(Size, usize, usize, [u8; 8]); 8] = [
+    (
+        Size::Byte,
+        0,
+        0,
+        [0xef, 0x5a, 0x5a, 0x5a, 0x5a, 0x5a, 0x5a, 0x5a],
+    ),
+    (
+        Size::Byte,
+        11,
+        4,
+        [0x5a, 0x5a, 0x5a, 0x5a, 0x5a, 0x5a, 0x5a, 0xef],
+    ),
+    (
+        Size::Half,
+        0,
+        0,
+        [0xef, 0xcd, 0x5a, 0x5a, 0x5a, 0x5a, 0x5a, 0x5a],
+    ),
+    (
+        Size::Half,
+        10,
+        4,
+        [0x5a, 0x5a, 0x5a, 0x5a, 0x5a, 0x5a, 0xef, 0xcd],
+    ),
+    (
+        Size::Word,
+        1,
+        0,
+        [0x5a, 0xef, 0xcd, 0xab, 0x89, 0x5a, 0x5a, 0x5a],
+    ),
+    (
+        Size::Word,
+        8,
+        4,
+        [0x5a, 0x5a, 0x5a, 0x5a, 0xef, 0xcd, 0xab, 0x89],
+    ),
+    (
+        Size::Double,
+        2,
+        2,
+        [0xef, 0xcd, 0xab, 0x89, 0x67, 0x45, 0x23, 0x81],
+    ),
+    (
+        Size::Double,
+        4,
+        4,
+        [0xef, 0xcd, 0xab, 0x89, 0x67, 0x45, 0x23, 0x81],
+    ),
+];
+
 #[test]
 fn stores_the_low_bytes(rt: HostRuntime) -> Result<(), Fail> {
-    for (size, at, first, bytes) in [
-        (
-            Size::Byte,
-            0,
-            0,
-            [0xef, 0x5a, 0x5a, 0x5a, 0x5a, 0x5a, 0x5a, 0x5a],
-        ),
-        (
-            Size::Byte,
-            11,
-            4,
-            [0x5a, 0x5a, 0x5a, 0x5a, 0x5a, 0x5a, 0x5a, 0xef],
-        ),
-        (
-            Size::Half,
-            0,
-            0,
-            [0xef, 0xcd, 0x5a, 0x5a, 0x5a, 0x5a, 0x5a, 0x5a],
-        ),
-        (
-            Size::Half,
-            10,
-            4,
-            [0x5a, 0x5a, 0x5a, 0x5a, 0x5a, 0x5a, 0xef, 0xcd],
-        ),
-        (
-            Size::Word,
-            1,
-            0,
-            [0x5a, 0xef, 0xcd, 0xab, 0x89, 0x5a, 0x5a, 0x5a],
-        ),
-        (
-            Size::Word,
-            8,
-            4,
-            [0x5a, 0x5a, 0x5a, 0x5a, 0xef, 0xcd, 0xab, 0x89],
-        ),
-        (
-            Size::Double,
-            2,
-            2,
-            [0xef, 0xcd, 0xab, 0x89, 0x67, 0x45, 0x23, 0x81],
-        ),
-        (
-            Size::Double,
-            4,
-            4,
-            [0xef, 0xcd, 0xab, 0x89, 0x67, 0x45, 0x23, 0x81],
-        ),
-    ] {
+    for (size, at, first, bytes) in STORES {
         let Some(memory) = stored(size, at, 0x8123_4567_89ab_cdef) else {
             return Err(Fail::new("outside"));
         };

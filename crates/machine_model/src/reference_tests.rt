@@ -18,7 +18,7 @@ pub(crate) fn mov(dst: u8, number: i32) -> Insn
     }
 }
 
-/// A program of these instructions, each in one slot.
+/// A program of these instructions. A wide one has two slots.
 pub(crate) fn program(
     alloc: Global,
     need: u32,
@@ -28,6 +28,9 @@ pub(crate) fn program(
     let mut code = Vec::new(alloc);
     for insn in insns {
         code.push(Some(*insn))?;
+        if let Insn::LoadWide { .. } = insn {
+            code.push(None)?;
+        }
     }
     let mut costs = Vec::new(alloc);
     costs.extend_from_slice(prices)?;
