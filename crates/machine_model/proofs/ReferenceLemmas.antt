@@ -1,19 +1,19 @@
 -- What the reference's records come to.
-use Rattle.std.proofs.Common.{◌≡◌, ℕ, zero, suc, ◌<◌, ◌+◌, List, [], ◌∷◌, length, slice_set, refl, sym, ap, ◌∙◌, arith, Option, Result, ℤ, false, nat_eq, nat_lt}
+use Rattle.std.proofs.Common.{◌≡◌, ℕ, zero, suc, ◌<◌, ◌+◌, List, [], ◌∷◌, length, slice_set, refl, sym, ap, ◌∙◌, arith, Option, Result, ℤ, false, nat_eq, nat_lt, Some, None, true, subst}
 use Rattle.std.proofs.lemmas.Bool.Decides.{nat_tests}
 use Rattle.insn_codec.specs.declared.insn.Insn.{Insn}
 use Rattle.machine_model.specs.declared.reference_records.Content.{Content}
 use Rattle.machine_model.specs.declared.reference_records.Content.TheVariants as content
 use Rattle.machine_model.specs.declared.reference_records.Place.{Place}
 use Rattle.machine_model.specs.declared.reference_records.TrapCause.{TrapCause}
-use Rattle.machine_model.specs.Value.{Value, Unset, Num, Stack, Part, Registers}
-use Rattle.machine_model.specs.Edges.{Always}
+use Rattle.machine_model.specs.Value.{Value, Unset, Num, Stack, Part, Registers, with_value}
+use Rattle.machine_model.specs.Edges.{Always, leads}
 use Rattle.machine_model.specs.Memory.{bytes_at, little_bytes, little_number, written}
 use Rattle.machine_model.specs.declared.program.Entry.{Entry}
 use Rattle.machine_model.specs.Outcomes.{on_number}
 use Rattle.machine_model.specs.Spawn.{answer_of}
-use Rattle.machine_model.specs.Machine.{State, Program, Entries, Effect, Goes, onward, loaded, stored, called, writing, reading, number_in, given, moved, spawned, cost_at, answered}
-use Rattle.machine_model.specs.Reference.{counting, located, placing, registers_of, value_of}
+use Rattle.machine_model.specs.Machine.{State, Program, Entries, Effect, Goes, onward, loaded, stored, called, writing, reading, number_in, given, moved, spawned, cost_at, answered, landing}
+use Rattle.machine_model.specs.Reference.{GoesFar, IsFar, IsFarResult, counting, located, placing, registers_of, value_of}
 
 -- any register but R10 is written
 pub writes : (dst : ℕ) (e : Effect) → nat_eq dst 10 ≡ false → writing dst e ≡ e
@@ -29,6 +29,16 @@ on_read (Part k) f go = refl
 -- what the destination gets, as a value is moved there
 abbrev pub put_into : Insn → State → ℕ → Value → Effect
 put_into i s dst v = onward i Always (moved s dst v)
+
+here : (registers : Registers) (dst : ℕ) (v : Value) → v ≡ with_value registers dst v dst
+here registers dst v = let same : nat_eq dst dst ≡ true = grind (arith, nat_tests) in rw same refl
+
+-- a result that is far is put into the destination
+pub far_given : (i : Insn) (s : State) (dst : ℕ) (o : Option Value) → leads i s.slot Always ≡ Some (s.slot + 1) → IsFarResult o →
+    GoesFar (given o (put_into i s dst))
+far_given i s dst (Some v) lead far =
+    subst GoesFar (sym (ap (landing (moved s dst v)) lead)) (dst, subst IsFar (here s.registers dst v) far)
+far_given i s dst None lead far = absurd far
 
 pub one_number : (i : Insn) (s : State) (dst : ℕ) (c : Content) (v : Value) (f : ℕ → ℕ) (r : Result ℕ TrapCause) → nat_eq dst 10 ≡ false →
     value_of c ≡ v → ((go : ℕ → Effect) → number_in (value_of c) go ≡ counting go r) →

@@ -1,5 +1,7 @@
 -- The reference's records as those of the definitions.
 use Rattle.std.specs.Prelude.{ℕ, ℤ, ◌+ℤ◌, length, List, [], ◌∷◌, ◌++◌, map, slice_set, Bool, true, false, Option, Some, None, Result, Ok, Err, slice_index_or, option_map}
+use Rattle.std.specs.Int.{w64}
+use Rattle.std.specs.Int.RustNames.{FitsSigned}
 use Rattle.machine_model.specs.declared.reference_records.Content.{Content}
 use Rattle.machine_model.specs.declared.reference_records.Content.TheVariants as content
 use Rattle.machine_model.specs.declared.reference_records.TrapCause.{TrapCause}
@@ -64,6 +66,25 @@ effect_of (outcome.Goes next) = Goes (state_of next)
 effect_of (outcome.Ends r0 last) = Ends r0 (state_of last)
 effect_of (outcome.Spawns child taken refused) = Spawns (birth_from child) (state_of taken) (state_of refused)
 effect_of (outcome.Traps trap) = Traps (trap_of trap)
+
+-- the reference's positions have 64 bits
+abbrev pub IsFar : Value → Type 0
+IsFar (Stack k) = FitsSigned w64 k → ⊥
+IsFar (Part k) = FitsSigned w64 k → ⊥
+IsFar v = ⊥
+
+abbrev pub IsFarResult : Option Value → Type 0
+IsFarResult (Some v) = IsFar v
+IsFarResult None = ⊥
+
+abbrev pub IsFarPosition : Option ℤ → Type 0
+IsFarPosition (Some k) = FitsSigned w64 k → ⊥
+IsFarPosition None = ⊥
+
+-- the task goes on with a position that the reference doesn't have
+abbrev pub GoesFar : Effect → Type 0
+GoesFar (Goes s) = (r : ℕ) × IsFar (s.registers r)
+GoesFar e = ⊥
 
 -- a place that is within a region, or none
 abbrev pub at_place : Trap → (ℕ → Effect) → Option ℕ → Effect

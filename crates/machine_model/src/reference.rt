@@ -1,10 +1,12 @@
 //! The reference: runs of a job, computed as the definitions say, one function a definition. It is slow. What
 //! it is compared with shares the exact operators with it, and loads and stores of memory, but nothing else.
 
-ghost use Rattle.std.specs.Prelude.{◌≡◌, ℕ, ◌+◌, ◌<◌, length, take, drop, slice_set, map, option_map, slice_get, Bool, false, Option, Some, IfOk, OnOk};
+ghost use Rattle.std.specs.Prelude.{◌≡◌, ℕ, ◌+◌, ◌<◌, length, take, drop, slice_set, map, option_map, slice_get, Bool, false, Option, Some, Err, IfOk, OnOk};
 ghost use Rattle.machine_model.specs.Job.{Job, applied, run, start, state_in, step, with_state, child_of, ending_of, entry_registers, goes_on};
 ghost use Rattle.machine_model.specs.Machine.{Ends, Spawns, State};
 ghost use Rattle.machine_model.specs.declared.reference_records.Change.{Change};
+ghost use Rattle.machine_model.specs.declared.reference_records.Unanswered.{Unanswered};
+ghost use Rattle.machine_model.specs.declared.reference_records.Unanswered.TheVariants as unanswered;
 ghost use Rattle.machine_model.specs.Memory.{written};
 ghost use Rattle.machine_model.specs.Reference.{birth_from, changed_by, step_by, effect_of, ended_of, job_of, member_of, move_of, program_of, registers_of, state_of, task_of, when};
 
@@ -334,7 +336,8 @@ pub fn step(
 
 /// The root alone, with all the credit and the whole buffer.
 pub fn start(alloc: Global, credit: u32, buffer: Vec<u8>) -> Result<ReferenceJob, Unanswered>
-    ensures { IfOk result (λ j. job_of j ≡ start credit buffer.items) }
+    ensures value { IfOk result (λ j. job_of j ≡ start credit buffer.items) }
+    ensures memory { (error : Unanswered) → result ≡ Err error → error ≡ unanswered.NoMemory }
 {
     let size = buffer.as_slice().len();
     let root = LiveTask {

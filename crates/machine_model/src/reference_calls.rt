@@ -1,8 +1,10 @@
 //! The reference's calls and exits.
 
-ghost use Rattle.std.specs.Prelude.{◌≡◌, ℕ, ◌+◌, ◌<◌, ◌≤◌, length, map, IfOk};
+ghost use Rattle.std.specs.Prelude.{◌≡◌, ℕ, ◌+◌, ◌<◌, ◌≤◌, length, map, Err, IfOk};
 ghost use Rattle.insn_codec.specs.declared.insn.Insn.TheVariants.{Exit};
 ghost use Rattle.machine_model.specs.Job.{entries_of};
+ghost use Rattle.machine_model.specs.declared.reference_records.Unanswered.{Unanswered};
+ghost use Rattle.machine_model.specs.declared.reference_records.Unanswered.TheVariants as unanswered;
 ghost use Rattle.machine_model.specs.Machine.{Effect, Entries, Program, answered, cost_at, meaning, number_in, spawn, spawned};
 ghost use Rattle.machine_model.specs.Spawn.{answer_of};
 ghost use Rattle.machine_model.specs.Reference.{asking, effect_of, program_of, registers_of, state_of};
@@ -84,7 +86,8 @@ fn hand_over(alloc: Global, state: Running, request: Request) -> Result<Outcome,
     requires slot { state.slot < 4294967296 }
     requires share { request.share ≤ state.held }
     requires cut { request.cut ≤ length state.part.items }
-    ensures { IfOk result (λ e. effect_of e ≡ spawned (state_of state) request.program request.share request.cut request.arg 0) }
+    ensures spawned { IfOk result (λ e. effect_of e ≡ spawned (state_of state) request.program request.share request.cut request.arg 0) }
+    ensures memory { (error : Unanswered) → result ≡ Err error → error ≡ unanswered.NoMemory }
 {
     let part = state.part.as_slice();
     let keep = part.len() - request.cut as usize;
@@ -149,7 +152,8 @@ pub(crate) fn spawn(
     state: Running,
 ) -> Result<Outcome, Unanswered>
     requires { state.slot < 4294967296 }
-    ensures { IfOk result (λ e. effect_of e ≡ spawn (program_of program.now) (entries_of (map program_of programs.now)) (state_of state)) }
+    ensures spawn { IfOk result (λ e. effect_of e ≡ spawn (program_of program.now) (entries_of (map program_of programs.now)) (state_of state)) }
+    ensures memory { (error : Unanswered) → result ≡ Err error → error ≡ unanswered.NoMemory }
 {
     let asked = match request(&state) {
         Ok(asked) => asked,

@@ -1,12 +1,12 @@
 //! The reference's arithmetic and moves, by the exact operators.
 
-ghost use Rattle.std.specs.Prelude.{◌≡◌, ℕ, ◌+◌, ◌<◌, Some, option_map, IfOk};
+ghost use Rattle.std.specs.Prelude.{◌≡◌, ℕ, ◌+◌, ◌<◌, Some, option_map, IfOk, IsErr};
 ghost use Rattle.insn_codec.specs.declared.insn.Insn.{Insn};
 ghost use Rattle.insn_codec.specs.declared.insn.Insn.TheVariants.{Alu, End, LoadWide, Mov, MovSx, Neg};
 ghost use Rattle.machine_model.specs.Edges.{Always, leads};
 ghost use Rattle.machine_model.specs.Machine.{Effect, Entries, Program, given, meaning, moved, onward, operand_in, reading};
 ghost use Rattle.machine_model.specs.Outcomes.{alu_outcome, mov_outcome, position_after, position_onto};
-ghost use Rattle.machine_model.specs.Reference.{effect_of, holding_both, registers_of, state_of, value_of};
+ghost use Rattle.machine_model.specs.Reference.{GoesFar, IsFarPosition, IsFarResult, effect_of, holding_both, registers_of, state_of, value_of};
 ghost use Rattle.machine_model.specs.Value.{Value};
 
 use crate::operators::{alu_number, low_bits, signed};
@@ -22,7 +22,8 @@ fn position_after(
     position: i64,
     number: u64,
 ) -> Result<Option<i64>, Unanswered>
-    ensures { IfOk result (λ o. o ≡ position_after width op position number) }
+    ensures value { IfOk result (λ o. o ≡ position_after width op position number) }
+    ensures far { IsErr result → IsFarPosition (position_after width op position number) }
 {
     let by = signed(Width::W64, number);
     let moved = match (width, op) {
@@ -43,7 +44,8 @@ fn position_onto(
     number: u64,
     position: i64,
 ) -> Result<Option<i64>, Unanswered>
-    ensures { IfOk result (λ o. o ≡ position_onto width op number position) }
+    ensures value { IfOk result (λ o. o ≡ position_onto width op number position) }
+    ensures far { IsErr result → IsFarPosition (position_onto width op number position) }
 {
     match (width, op) {
         (Width::W64, AluOp::Add) => position_after(width, op, position, number),
@@ -58,7 +60,8 @@ fn alu_content(
     left: Content,
     right: Content,
 ) -> Result<Option<Content>, Unanswered>
-    ensures { IfOk result (λ o. option_map value_of o ≡ alu_outcome width op (value_of left) (value_of right)) }
+    ensures value { IfOk result (λ o. option_map value_of o ≡ alu_outcome width op (value_of left) (value_of right)) }
+    ensures far { IsErr result → IsFarResult (alu_outcome width op (value_of left) (value_of right)) }
 {
     match (left, right) {
         (Content::Num(x), Content::Num(y)) => {
@@ -111,7 +114,8 @@ pub(crate) fn alu(
     src: Operand,
 ) -> Result<Outcome, Unanswered>
     requires { state.slot < 4294967296 }
-    ensures { (p : Program) (entries : Entries) → IfOk result (λ e. effect_of e ≡ meaning p entries (state_of state) (Alu width op dst src)) }
+    ensures value { (p : Program) (entries : Entries) → IfOk result (λ e. effect_of e ≡ meaning p entries (state_of state) (Alu width op dst src)) }
+    ensures far { (p : Program) (entries : Entries) → IsErr result → GoesFar (meaning p entries (state_of state) (Alu width op dst src)) }
 {
     if dst.number() == 10 {
         return Ok(Outcome::Traps(TrapCause::WritesStackEnd));

@@ -1,5 +1,8 @@
 //! What the reference works on: the definition's records, with numbers of a machine.
 
+ghost use Rattle.std.specs.Prelude.{◌≡◌};
+ghost use Rattle.machine_model.specs.declared.reference_records.Unanswered.TheVariants as unanswered;
+
 use insn_codec::Insn;
 use refusal::NoMemory;
 use std::alloc::{AllocError, AllocFailed};
@@ -14,18 +17,24 @@ pub enum Unanswered {
 }
 
 impl From<AllocError> for Unanswered {
+    ghost from_gives = { λ _ error. error ≡ unanswered.NoMemory };
+
     fn from(_error: AllocError) -> Unanswered {
         Unanswered::NoMemory
     }
 }
 
 impl<T: Drop> From<AllocFailed<T>> for Unanswered {
+    ghost from_gives = { λ _ error. error ≡ unanswered.NoMemory };
+
     fn from(_error: AllocFailed<T>) -> Unanswered {
         Unanswered::NoMemory
     }
 }
 
 impl From<NoMemory> for Unanswered {
+    ghost from_gives = { λ _ error. error ≡ unanswered.NoMemory };
+
     fn from(_error: NoMemory) -> Unanswered {
         Unanswered::NoMemory
     }

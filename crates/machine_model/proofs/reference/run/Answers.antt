@@ -14,7 +14,7 @@ returns-then-not-branch c =
     let off = rw c.if-not-branch.true at c.in_ok-step.ensures in
     run_off (map program_of c.args.programs.now) (job_of c.loop-entry.job) (job_of c.step.new.job) c.args.moves.now c.loop-entry.entry-index m here off
     ∙ c.loop-entry.invariant
-    ∙ from_start (map program_of c.args.programs.now) _ _ (map move_of c.args.moves.now) c.in_ok-job.ensures
+    ∙ from_start (map program_of c.args.programs.now) _ _ (map move_of c.args.moves.now) c.in_ok-job.ensures.value
 
 pub loop-entry-preserved : goal.loop-entry-preserved
 loop-entry-preserved c =
