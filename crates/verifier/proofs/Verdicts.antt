@@ -1,7 +1,9 @@
 -- From the parts of a verdict to the whole.
 use Rattle.std.proofs.Common.{◌≡◌, ℕ, ◌≤◌, List, subst, sym}
 use Rattle.insn_codec.specs.declared.insn.Placed.{Placed}
-use Rattle.insn_codec.specs.Spelling.{IsProgram}
+use Rattle.insn_codec.specs.declared.fault.CodecFault.{CodecFault}
+use Rattle.insn_codec.specs.declared.fault.CodecFault.TheVariants as codec
+use Rattle.insn_codec.specs.Spelling.{IsProgram, IsRefusal}
 use Rattle.machine_model.specs.Edges.{Code}
 use Rattle.machine_model.specs.Paths.{AreCosts}
 use Rattle.flow_graph.specs.declared.fault.FlowFault.{FlowFault}
@@ -12,11 +14,23 @@ use Rattle.flow_graph.specs.Refusals.{Refuses as RefusesFlow, IsBuilt}
 use Rattle.helpers.specs.Table.{Table, AreKnown}
 use Rattle.verifier.specs.declared.refusals.Refusal.{Refusal}
 use Rattle.verifier.specs.declared.refusals.Refusal.TheVariants.{NeedTooLarge, Codec, Flow, UnsetRead, OutOfStack, OutOfPart, BadKind, PointerRange, FramePointer, NoHelper, NoMemory}
-use Rattle.verifier.specs.RefusalCodes.{from_flow}
+use Rattle.verifier.specs.RefusalCodes.{from_codec, from_flow}
 use Rattle.verifier.specs.Checked.{Checked, IsVerified}
 use Rattle.verifier.specs.Verdict.{IsTable, RefusesStates}
 use Rattle.verifier.specs.Refusals.{HasFlow, Refuses, IsAccepted}
 use Rattle.verifier.proofs.Soundness.{sound_of}
+
+-- the decoder's refusal
+pub codec_refused : (need : ℕ) (bytes : List ℕ) (helpers : Table) (fault : CodecFault) → need ≤ 65536 → IsRefusal fault bytes →
+    Refuses need bytes helpers (from_codec fault)
+codec_refused need bytes helpers codec.Empty small h = (small, h)
+codec_refused need bytes helpers codec.Ragged small h = (small, h)
+codec_refused need bytes helpers codec.TooLong small h = (small, h)
+codec_refused need bytes helpers (codec.UnknownOp slot) small h = (small, h)
+codec_refused need bytes helpers (codec.BadRegister slot) small h = (small, h)
+codec_refused need bytes helpers (codec.UnusedField slot) small h = (small, h)
+codec_refused need bytes helpers (codec.HalfWide slot) small h = (small, h)
+codec_refused need bytes helpers codec.NoMemory small h = tt
 
 -- the graph's refusal
 pub flow_refused : (need : ℕ) (bytes : List ℕ) (helpers : Table) (placed : List Placed) (fault : FlowFault) → need ≤ 65536 →

@@ -1,6 +1,6 @@
 //! Which programs are accepted.
 
-ghost use Rattle.std.specs.Prelude.{MatchResult};
+ghost use Rattle.std.specs.Prelude.{◌≤◌, ◌↔◌, IsTrue, MatchResult};
 ghost use Rattle.verifier.specs.Refusals.{Refuses, IsAccepted};
 
 use crate::refusals::Refusal;
@@ -16,6 +16,13 @@ use std::alloc::Global;
 /// The greatest need of a program.
 const GREATEST_NEED: u32 = 65536;
 
+/// A part may have the bytes that the program needs.
+fn is_small(need: u32) -> bool
+    ensures { IsTrue result ↔ (need ≤ 65536) }
+{
+    need <= GREATEST_NEED
+}
+
 /// Accepts a program, or tells the one reason why not: its need, then its bytes, its edges, and at last the first
 /// instruction that isn't allowed where what is known of the registers is what its paths leave. Of all that applies at
 /// one slot the lowest number is told.
@@ -28,7 +35,7 @@ pub fn verify(
     ensures { MatchResult result (λ verified. IsAccepted need code.now helpers.now verified)
         (λ refusal. Refuses need code.now helpers.now refusal) }
 {
-    if need > GREATEST_NEED {
+    if !is_small(need) {
         return Err(Refusal::NeedTooLarge);
     }
     let placed = decode(alloc, code)?;

@@ -1,8 +1,14 @@
 use Rattle.std.proofs.Common.{refl, arith}
 use Rattle.std.proofs.lemmas.Result.{err_from_is_err_and}
 use Rattle.flow_graph.proofs.Decoded.{decoded_of}
-use Rattle.verifier.proofs.Verdicts.{flow_refused, states_refused, verified_of, accepted_of}
+use Rattle.verifier.proofs.Verdicts.{codec_refused, flow_refused, states_refused, verified_of, accepted_of}
 use Rattle.verifier.proofs.verification.verify.Goals as goal
+
+pub returns-in_err-placed : goal.returns-in_err-placed
+returns-in_err-placed c =
+    let p = err_from_is_err_and c.from_residual.result c.from_residual.ensures.1 in
+    rw (p.1, p.2)
+    (codec_refused c.args.need c.args.code.now c.args.helpers.now c.in_err-placed.field-0.0 (omega arith) c.in_err-placed.ensures.refused)
 
 pub build-requires : goal.build-requires
 build-requires c = rw c.deref.ensures.value (decoded_of _ _ c.in_ok-placed.ensures.found)
