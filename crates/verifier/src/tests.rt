@@ -8,4 +8,5 @@ mod long;
 mod merges;
 mod programs;
 mod refusals;
+mod short;
 mod texts;
