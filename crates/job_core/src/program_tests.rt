@@ -153,7 +153,7 @@ const JUMPS: [(&str, &str, &str); 6] = [
 fn played(alloc: Global, code: &str, buffer: &str) -> Result<String, Fail> {
     let buffer = hex::decode(alloc, buffer)?;
     let programs = [ProgramBytes {
-        need: buffer.len() as u32,
+        need: u32::try_from(buffer.len())?,
         code: hex::decode(alloc, code)?,
     }];
     let job = admit(alloc, &programs, 100, buffer)?;
