@@ -1,6 +1,6 @@
 //! The refusals.
 
-ghost use Rattle.std.specs.Prelude.{◌≡◌, ◌≤◌};
+ghost use Rattle.std.specs.Prelude.{◌≡◌, ◌≤◌, Some};
 ghost use Rattle.verifier.specs.Arrive.{Subject};
 ghost use Rattle.verifier.specs.RefusalCodes.{number_of, slot_of, codec_slot, flow_slot};
 ghost use Rattle.verifier.specs.Verdict.{IsFirstFaulty, RefusesStates};
@@ -117,7 +117,9 @@ impl Refusal {
     /// The refusal of this number, 31 to 37, at the slot.
     pub(crate) fn at(slot: u32, number: u8) -> Refusal
         requires { (31 ≤ number) × (number ≤ 37) }
-        ensures { (p : Subject) → IsFirstFaulty p slot number → RefusesStates p result }
+        ensures first { (p : Subject) → IsFirstFaulty p slot number → RefusesStates p result }
+        ensures number { number_of result ≡ number }
+        ensures slot { slot_of result ≡ Some slot }
     {
         match number {
             31 => Refusal::UnsetRead(slot),

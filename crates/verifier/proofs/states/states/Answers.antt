@@ -12,7 +12,7 @@ at-requires c = refused_number c.args.need c.args.helpers.now c.in-Some.insn.now
 pub returns-in-Some-refused : goal.returns-in-Some-refused
 returns-in-Some-refused c =
     let below : c.loop-slot.slot < length c.loop-slot.states.items = omega (arith, c.loop-slot.invariant.slots) in
-    c.at.ensures (record { need = c.args.need; helpers = c.args.helpers.now; code = c.args.graph.now })
+    c.at.ensures.first (record { need = c.args.need; helpers = c.args.helpers.now; code = c.args.graph.now })
     (come_refused (record { need = c.args.need; helpers = c.args.helpers.now; code = c.args.graph.now })
     c.loop-slot.states.items c.loop-slot.slot c.in-Some-refused.number c.in-Some.insn.now c.in-Some-index.state
     c.slots-slots.ensures.flow.forward c.loop-slot.invariant (omega arith) (sym c.in-Some.ensures)
