@@ -1,5 +1,5 @@
 -- Programs are accepted one after the other, or one is refused.
-use Rattle.std.proofs.Common.{◌≡◌, ◌⊎◌, ℕ, ◌<◌, ◌≤◌, ◌+◌, inl, inr, rules, get_or, List, [], ◌∷◌, ◌++◌, length, slice_get, refl, sym, ◌∙◌, arith, ap, subst, Option, Some, None}
+use Rattle.std.proofs.Common.{◌≡◌, ◌⊎◌, ℕ, ◌<◌, ◌≤◌, ◌+◌, inl, inr, rules, get_or, List, [], ◌∷◌, ◌++◌, length, slice_get, refl, sym, ◌∙◌, arith, ap, subst, Some, None}
 use Rattle.std.proofs.lemmas.List.{length-append}
 use Rattle.std.proofs.lemmas.Option.{slice_get_cases, slice_get_within}
 use Rattle.machine_model.proofs.Places.{pushed}

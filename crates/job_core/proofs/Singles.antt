@@ -1,5 +1,5 @@
 -- The root's task alone, stepped to its end.
-use Rattle.std.proofs.Common.{◌≡◌, ℕ, ◌<◌, ◌≤◌, ◌+◌, List, [], ◌∷◌, ◌++◌, Option, Some, option_and_then, length, map, replicate, sym, ◌∙◌, ap, arith, subst}
+use Rattle.std.proofs.Common.{◌≡◌, ℕ, ◌<◌, ◌+◌, List, [], ◌∷◌, ◌++◌, Some, option_and_then, length, map, replicate, sym, ◌∙◌, ap, arith, subst}
 use Rattle.std.proofs.lemmas.List.{length-map, length-replicate, replicate_more}
 use Rattle.machine_model.specs.Job.{Job, Move, start, step}
 use Rattle.verifier.specs.Checked.{Checked, program_of}

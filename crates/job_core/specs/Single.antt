@@ -1,5 +1,5 @@
 -- What the root's task came to.
-use Rattle.std.specs.Prelude.{◌≡◌, ℕ, ◌≤◌, List, length, map, replicate, slice_get, sum_by, Some}
+use Rattle.std.specs.Prelude.{◌≡◌, ◌≤◌, List, length, map, replicate, slice_get, sum_by, Some}
 use Rattle.machine_model.specs.Job.{Job, Ending, Ended, Move, run, start, spent_by, returned_by}
 use Rattle.verifier.specs.Checked.{program_of}
 use Rattle.job_core.specs.declared.single.Outcome.{Outcome}

@@ -1,6 +1,9 @@
 //! One program from the command line: its task is stepped to its end, and the answer is printed.
 
-ghost use Rattle.std.specs.Prelude.{◌≡◌, ◌≢◌, ◌≤◌, length, IfOk, IfSome, IsSome};
+ghost use Rattle.std.specs.Prelude.{◌≡◌, ◌↔◌, ◌≤◌, ◌<◌, ℕ, List, map, Some, IfOk, OnOk, IfSome, IsTrue, MatchOption};
+ghost use Rattle.std.specs.Io.KnownBytes.{Appends};
+ghost use Rattle.job_core.specs.Words.{IsNumberWord, AreNumbers};
+ghost use Rattle.job_core.specs.Answered.{IsTrailing, IsTrimmed, IsAnswer, Tells, refusal_line, line_of, status_of};
 ghost use Rattle.job_core.specs.Single.{IsOutcome};
 
 use crate::admission::{AdmitFault, ProgramBytes, admit};
@@ -41,15 +44,19 @@ pub fn run_root(alloc: Global, job: Job) -> Result<Option<Outcome>, NoMemory>
     Ok(None)
 }
 
-/// What stands for one run of the program: a line and a status, or no status but failure.
+/// What one run of the program comes to: an outcome, a refusal, or no end within 4,096 steps.
 enum Answer {
     Ended(Outcome),
-    Refused(u8, Option<u32>),
+    NotHexadecimal,
+    Refused(AdmitFault),
+    NoMemory,
     Failed,
 }
 
 /// A decimal number of 32 bits: digits alone.
-fn number(word: &str) -> Option<u32> {
+fn number(word: &str) -> Option<u32>
+    ensures { MatchOption result ((n : ℕ) → IsNumberWord word.now n → ⊥) (λ n. IsNumberWord word.now n) }
+{
     if word.starts_with('+') {
         return None;
     }
@@ -58,7 +65,7 @@ fn number(word: &str) -> Option<u32> {
 
 /// The need and the credit, if the words are two decimal numbers of 32 bits.
 fn numbers(words: &[&str]) -> Option<(u32, u32)>
-    ensures { IsSome result → length words.now ≡ 2 }
+    ensures { MatchOption result ((need credit : ℕ) → AreNumbers (map (λ w. w.now) words.now) need credit → ⊥) (λ pair. AreNumbers (map (λ w. w.now) words.now) pair.0 pair.1) }
 {
     match words {
         [need, credit] => Some((number(need)?, number(credit)?)),
@@ -67,12 +74,16 @@ fn numbers(words: &[&str]) -> Option<(u32, u32)>
 }
 
 /// What follows is no part of the hexadecimal.
-fn is_trailing(byte: u8) -> bool {
+fn is_trailing(byte: u8) -> bool
+    ensures { IsTrue result ↔ IsTrailing byte }
+{
     matches!(byte, b' ' | b'\t' | b'\r' | b'\n')
 }
 
 /// The text without what trails it.
-fn trimmed(text: &[u8]) -> &[u8] {
+fn trimmed(text: &[u8]) -> &[u8]
+    ensures { IsTrimmed text.now result.now }
+{
     let mut end = text.len();
     while end > 0 && is_trailing(text[end - 1]) {
         end -= 1;
@@ -81,27 +92,40 @@ fn trimmed(text: &[u8]) -> &[u8] {
 }
 
 /// Admits the program of these words with an empty buffer, and runs it.
-fn run_text(alloc: Global, need: u32, credit: u32, text: &[u8]) -> Answer {
+fn run_text(alloc: Global, need: u32, credit: u32, text: &[u8]) -> Answer
+    ensures { IsAnswer need credit text.now result }
+{
     let code = match hex::decode(alloc, trimmed(text)) {
         Ok(code) => code,
-        Err(FromHexError::OutOfMemory) => return Answer::Refused(99, None),
-        Err(_) => return Answer::Refused(73, None),
+        Err(FromHexError::OutOfMemory) => return Answer::NoMemory,
+        Err(_) => return Answer::NotHexadecimal,
     };
     let programs = [ProgramBytes { need, code }];
     let job = match admit(alloc, &programs, credit, Vec::new(alloc)) {
         Ok(job) => job,
-        Err(fault) => return Answer::Refused(fault.code(), fault.slot()),
+        Err(fault) => return Answer::Refused(fault),
     };
     match run_root(alloc, job) {
         Ok(Some(outcome)) => Answer::Ended(outcome),
         Ok(None) => Answer::Failed,
-        Err(NoMemory) => Answer::Refused(99, None),
+        Err(NoMemory) => Answer::NoMemory,
+    }
+}
+
+/// Writes the line of a refusal.
+fn refused<W: Write>(number: u8, slot: Option<u32>, writer: &mut W) -> io::Result<()>
+    ensures { OnOk result (Appends (W.contents writer.old) (W.contents writer.new) (refusal_line number slot)) }
+{
+    match slot {
+        Some(slot) => writeln!(writer, "refused {number} at {slot}"),
+        None => writeln!(writer, "refused {number}"),
     }
 }
 
 /// Writes the line of the answer, and gives its status.
 fn told<W: Write>(answer: Answer, writer: &mut W) -> io::Result<u8>
-    ensures { IfOk result (λ status. (status ≤ 3) × (status ≢ 2)) }
+    ensures { IfOk result (λ status. (status ≡ status_of answer)
+        × Appends (W.contents writer.old) (W.contents writer.new) (line_of answer)) }
 {
     match answer {
         Answer::Ended(outcome) => {
@@ -113,12 +137,16 @@ fn told<W: Write>(answer: Answer, writer: &mut W) -> io::Result<u8>
             writeln!(writer, "r0 {r0} spent {spent} returned {returned}")?;
             Ok(0)
         }
-        Answer::Refused(number, Some(slot)) => {
-            writeln!(writer, "refused {number} at {slot}")?;
+        Answer::NotHexadecimal => {
+            refused(73, None, writer)?;
             Ok(1)
         }
-        Answer::Refused(number, None) => {
-            writeln!(writer, "refused {number}")?;
+        Answer::Refused(fault) => {
+            refused(fault.code(), fault.slot(), writer)?;
+            Ok(1)
+        }
+        Answer::NoMemory => {
+            refused(99, None, writer)?;
             Ok(1)
         }
         Answer::Failed => Ok(3),
@@ -138,8 +166,10 @@ pub fn bpf_one<R: Read, W: Write>(
     writer: &mut W,
 ) -> u8
     ensures status { result ≤ 3 }
-    ensures count { length words.now ≢ 2 → result ≡ 2 }
+    ensures words { result ≡ 2 ↔ ((need credit : ℕ) → AreNumbers (map (λ w. w.now) words.now) need credit → ⊥) }
     ensures silent { result ≡ 2 → W.contents writer.new ≡ W.contents writer.old }
+    ensures told { (text : List ℕ) → R.remaining reader.old ≡ Some text → result < 2 →
+        Tells (map (λ w. w.now) words.now) text result (Appends (W.contents writer.old) (W.contents writer.new)) }
 {
     let Some((need, credit)) = numbers(words) else {
         return 2;

@@ -1,6 +1,6 @@
 use Rattle.std.proofs.Common.{subst, ◌∙◌}
-use Rattle.machine_model.specs.Job.{Job, start}
-use Rattle.job_core.specs.Behind.{IsBehind, Steps}
+use Rattle.machine_model.specs.Job.{start}
+use Rattle.job_core.specs.Behind.{Steps}
 use Rattle.job_core.proofs.Plays.{plays_none}
 use Rattle.job_core.proofs.Singles.{alone_more, outcome_is}
 use Rattle.job_core.proofs.single.run_root.Goals as goal

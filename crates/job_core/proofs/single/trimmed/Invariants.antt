@@ -1,10 +1,12 @@
-use Rattle.std.proofs.Common.{◌≡◌, ◌≤◌, IfOk, IfErr, IfSome, ℕ, ◌+◌, ◌-◌, ◌*◌, ◌<◌, length}
-use Rattle.job_core.specs.Single.{IsOutcome}
+use Rattle.std.proofs.Common.{◌≤◌, ◌<◌, ℕ, length, slice_index}
+use Rattle.job_core.specs.Answered.{IsTrailing}
 use Rattle.job_core.proofs.single.trimmed.Given as goal
 
 abbrev pub invariant-loop-end : goal.invariant-loop-end
-invariant-loop-end l = l.end ≤ length l.text
+invariant-loop-end l = record {
+  within : l.end ≤ length l.text;
+  trails : (k : ℕ) → l.end ≤ k → k < length l.text → IsTrailing (slice_index l.text k);
+}
 
--- proposed from the loop's first test
 abbrev pub decreases-loop-end : goal.decreases-loop-end
 decreases-loop-end l = l.end

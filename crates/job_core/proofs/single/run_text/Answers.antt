@@ -1,0 +1,20 @@
+use Rattle.std.proofs.Common.{refl}
+use Rattle.job_core.proofs.single.run_text.Goals as goal
+
+pub returns-in-Err-admit : goal.returns-in-Err-admit
+returns-in-Err-admit c = record {
+  program = record { need = c.args.need; code = c.in-Ok.code };
+  needs = refl;
+  bytes = record { trimmed = c.trimmed.result.now; cut = c.trimmed.ensures; decoded = c.in-Ok.ensures.ok };
+  refused = rw c.new.ensures.items at c.in-Err-admit.ensures.refused;
+}
+
+pub returns-in-Ok-Some : goal.returns-in-Ok-Some
+returns-in-Ok-Some c = record {
+  program = record { need = c.args.need; code = c.in-Ok.code };
+  needs = refl;
+  bytes = record { trimmed = c.trimmed.result.now; cut = c.trimmed.ensures; decoded = c.in-Ok.ensures.ok };
+  order = c.in-Ok-admit.job;
+  admitted = rw c.new.ensures.items at c.in-Ok-admit.ensures.admitted;
+  ended = rw c.in-Ok-Some.field-0-is at c.in-Ok-Some.ensures;
+}
