@@ -9,3 +9,4 @@ pub mod Machine
 pub mod Job
 pub mod Computing
 pub mod Reference
+pub mod Alone

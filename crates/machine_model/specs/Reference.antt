@@ -1,5 +1,5 @@
 -- The reference's records as those of the definitions.
-use Rattle.std.specs.Prelude.{ℕ, ℤ, ◌+ℤ◌, length, List, [], ◌∷◌, ◌++◌, map, slice_set, Bool, true, false, Option, Some, None, Result, Ok, Err, slice_index_or, option_map}
+use Rattle.std.specs.Prelude.{ℕ, ◌^◌, ◌≤◌, ℤ, ◌+ℤ◌, length, List, [], ◌∷◌, ◌++◌, map, slice_set, Bool, true, false, Option, Some, None, Result, Ok, Err, slice_index_or, option_map}
 use Rattle.std.specs.Int.{w64}
 use Rattle.std.specs.Int.RustNames.{FitsSigned}
 use Rattle.machine_model.specs.declared.reference_records.Content.{Content}
@@ -23,7 +23,7 @@ use Rattle.machine_model.specs.declared.reference_records.ReferenceMove.{Referen
 use Rattle.machine_model.specs.declared.reference_records.Change.{Change}
 use Rattle.machine_model.specs.Job.{Task, Ending, Member, Live, Ended, Job, Move}
 use Rattle.machine_model.specs.Value.{Value, Unset, Num, Stack, Part, Registers}
-use Rattle.machine_model.specs.Machine.{State, Program, Birth, Effect, Goes, Ends, Spawns, Traps, Trap, UnsetRead, OutsideStack, OutsidePart, WrongKind, OutsideCode, WritesStackEnd, NoHelper, OverSpent, within}
+use Rattle.machine_model.specs.Machine.{State, Program, Birth, Effect, Goes, Ends, Spawns, Calls, Traps, Trap, UnsetRead, OutsideStack, OutsidePart, WrongKind, OutsideCode, WritesStackEnd, NoHelper, OverSpent}
 
 abbrev pub value_of : Content → Value
 value_of content.Unset = Unset
@@ -36,7 +36,12 @@ abbrev pub registers_of : List Content → Registers
 registers_of contents r = value_of (slice_index_or contents r content.Unset)
 
 abbrev pub program_of : ReferenceProgram → Program
-program_of p = record { need = p.need; code = p.code.items; costs = p.costs.items }
+program_of p = record {
+  need = p.need;
+  code = p.code.items;
+  costs = p.costs.items;
+  registered = λ helper. slice_index_or p.registered.items helper None;
+}
 
 abbrev pub state_of : Running → State
 state_of t = record {
@@ -65,13 +70,15 @@ abbrev pub effect_of : Outcome → Effect
 effect_of (outcome.Goes next) = Goes (state_of next)
 effect_of (outcome.Ends r0 last) = Ends r0 (state_of last)
 effect_of (outcome.Spawns child taken refused) = Spawns (birth_from child) (state_of taken) (state_of refused)
+effect_of (outcome.Calls helper arguments caller) = Calls helper arguments (state_of caller)
 effect_of (outcome.Traps trap) = Traps (trap_of trap)
 
--- the reference's positions have 64 bits
+-- the reference's numbers and positions have 64 bits
 abbrev pub IsFar : Value → Type 0
+IsFar (Num n) = 2 ^ 64 ≤ n
 IsFar (Stack k) = FitsSigned w64 k → ⊥
 IsFar (Part k) = FitsSigned w64 k → ⊥
-IsFar v = ⊥
+IsFar Unset = ⊥
 
 abbrev pub IsFarResult : Option Value → Type 0
 IsFarResult (Some v) = IsFar v
@@ -105,13 +112,6 @@ holding_both go (Err cause) = Traps (trap_of cause)
 abbrev pub deciding : (Bool → Effect) → Result Bool TrapCause → Effect
 deciding go (Ok b) = go b
 deciding go (Err cause) = Traps (trap_of cause)
-
--- what follows at a place in the stack or in the part that so many bytes from a pointer on have
-abbrev pub located : State → Value → ℤ → ℕ → (ℕ → Effect) → (ℕ → Effect) → Effect
-located s Unset offset count stack part = Traps UnsetRead
-located s (Num n) offset count stack part = Traps WrongKind
-located s (Stack k) offset count stack part = within (k +ℤ offset) count 512 OutsideStack stack
-located s (Part k) offset count stack part = within (k +ℤ offset) count (length s.part) OutsidePart part
 
 -- what follows at such a place, or why there is none
 abbrev pub placing : (ℕ → Effect) → (ℕ → Effect) → Result Place TrapCause → Effect

@@ -5,7 +5,7 @@ use Rattle.machine_model.specs.Edges.{Code, Fact, IsEdge, Begins, insn_at}
 use Rattle.machine_model.specs.Paths.{AreCosts}
 use Rattle.machine_model.specs.Machine.{Program}
 use Rattle.flow_graph.specs.Faults.{fault_at}
-use Rattle.helpers.specs.Table.{Table, AreKnown}
+use Rattle.helpers.specs.Table.{Table, IsHelperTable, arity_in}
 use Rattle.verifier.specs.declared.state.State.{State}
 use Rattle.verifier.specs.Covers.{IsWithin}
 use Rattle.verifier.specs.States.{entry_state, passed, fault}
@@ -19,7 +19,7 @@ pub record Checked : Type 0 where
   pub costs : List ℕ
 
 abbrev pub program_of : Checked → Program
-program_of p = record { need = p.need; code = p.code; costs = p.costs }
+program_of p = record { need = p.need; code = p.code; costs = p.costs; registered = arity_in p.helpers }
 
 abbrev pub state_at : Checked → ℕ → Option State
 state_at p slot = slice_index_or p.states slot None
@@ -43,4 +43,4 @@ pub record IsVerified (p : Checked) : Type 0 where
   pub entry : (outer : State) × (state_at p 0 ≡ Some outer) × IsWithin (entry_state p.need) outer
   pub each : (slot : ℕ) (i : Insn) (state : State) → insn_at p.code slot ≡ Some i → state_at p slot ≡ Some state → IsSoundAt p slot i state
   pub costs : AreCosts p.code p.costs
-  pub known : AreKnown p.helpers
+  pub known : IsHelperTable p.helpers

@@ -1,6 +1,6 @@
 -- What is known of the registers ahead of an instruction: at the entry, and along each edge; and what the instruction
 -- has to find known.
-use Rattle.std.specs.Prelude.{ℕ, zero, suc, ◌==◌, List, [], ◌∷◌, drop, slice_set, Bool, true, false, Option, Some, None, Result, Ok, Err, ℤ, pos, ◌+ℤ◌, int_lt, ◌||◌, if◌then◌else◌}
+use Rattle.std.specs.Prelude.{ℕ, nat_lt, zero, suc, ◌==◌, List, [], ◌∷◌, drop, slice_set, Bool, true, false, Option, Some, None, Result, Ok, Err, ℤ, pos, ◌+ℤ◌, int_lt, ◌||◌, if◌then◌else◌}
 use Rattle.insn_codec.specs.declared.insn.Operand.{Operand}
 use Rattle.insn_codec.specs.declared.insn.Operand.TheVariants.{Imm, Reg}
 use Rattle.insn_codec.specs.declared.insn.Insn.{Insn}
@@ -56,7 +56,12 @@ called_state state answer = record {
 
 -- what a helper answers
 abbrev pub answer_range : ℕ → Abs
-answer_range helper = if helper == 1 then between 0 6 else any_number
+answer_range helper =
+    if helper == 1 then between 0 6 else
+    if helper == 2 then between 0 2147483647 else
+    if helper == 3 then between 0 65536 else
+    if helper == 4 then between 0 0 else
+    if helper == 5 then between 0 130560 else any_number
 
 abbrev pub is_taken : Fact → Bool
 is_taken Taken = true
@@ -132,10 +137,31 @@ abbrev pub number_arguments : State → ℕ → Option ℕ
 number_arguments state zero = None
 number_arguments state (suc count) = first (number_arguments state count) (number_fault (abs_at state (suc count)))
 
--- the helper is in the table, and its arguments are numbers
-abbrev pub call_fault : State → Option ℕ → Option ℕ
-call_fault state None = Some 37
-call_fault state (Some arity) = first (unset_arguments state arity) (number_arguments state arity)
+-- so many bytes from each position on, of a pointer and a length, lie in the stack, or in a part of that need
+abbrev pub span_fault : ℕ → Abs → Abs → Option ℕ
+span_fault need pointer (Num len) = access_fault need pointer (pos 0) len.hi
+span_fault need pointer Unset = Some 31
+span_fault need pointer (Stack reach) = Some 34
+span_fault need pointer (Part reach) = Some 34
+
+-- a length is at most 512
+abbrev pub length_fault : Abs → Option ℕ
+length_fault (Num len) = if nat_lt 512 len.hi then Some 34 else None
+length_fault Unset = Some 31
+length_fault (Stack reach) = Some 34
+length_fault (Part reach) = Some 34
+
+-- `fill` and `sum` take a pointer and a length, and `fill` a number besides; the others take numbers
+abbrev pub kind_fault : ℕ → State → ℕ → ℕ → Option ℕ
+kind_fault need state helper arity =
+    if helper == 4 then first (span_fault need (abs_at state 1) (abs_at state 2)) (first (length_fault (abs_at state 2)) (number_fault (abs_at state 3))) else
+    if helper == 5 then first (span_fault need (abs_at state 1) (abs_at state 2)) (length_fault (abs_at state 2)) else
+    number_arguments state arity
+
+-- the helper is in the table, and its arguments are set, and of their kinds
+abbrev pub call_fault : ℕ → State → ℕ → Option ℕ → Option ℕ
+call_fault need state helper None = Some 37
+call_fault need state helper (Some arity) = first (unset_arguments state arity) (kind_fault need state helper arity)
 
 -- the lowest number that applies to the instruction where the registers are so
 abbrev pub fault : ℕ → Table → Insn → State → Option ℕ
@@ -166,5 +192,5 @@ fault need helpers (Jump32 offset) state = None
 fault need helpers (JumpIf w c dst src offset) state =
     first (unset_fault (abs_at state dst)) (first (unset_fault (operand_at state src))
     (first (number_fault (abs_at state dst)) (number_fault (operand_at state src))))
-fault need helpers (Call helper) state = call_fault state (arity_in helpers helper)
+fault need helpers (Call helper) state = call_fault need state helper (arity_in helpers helper)
 fault need helpers Exit state = number_fault (abs_at state 0)
