@@ -9,3 +9,4 @@ pub mod Stores
 pub mod Jumps
 pub mod Exits
 pub mod Calls
+pub mod Helpers
