@@ -25,6 +25,7 @@ mod memory_tests;
 
 // the reference: the definitions as a plain program
 pub mod reference;
+mod reference_alone;
 mod reference_calls;
 mod reference_computing;
 mod reference_effect;
