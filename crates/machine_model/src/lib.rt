@@ -29,6 +29,8 @@ mod reference_alone;
 mod reference_calls;
 mod reference_computing;
 mod reference_effect;
+#[cfg(test)]
+mod reference_helper_tests;
 mod reference_helpers;
 mod reference_jumps;
 mod reference_memory;

@@ -13,7 +13,7 @@ use crate::reference_records::{Outcome, ReferenceProgram, Running, Unanswered};
 use std::alloc::Global;
 
 /// The task at its start, with all the credit, these bytes as its part, and argument 0.
-fn alone(credit: u32, part: Vec<u8>) -> Running
+pub(crate) fn alone(credit: u32, part: Vec<u8>) -> Running
     ensures { state_of result ≡ alone credit part.items }
 {
     let registers = entry_registers(part.as_slice().len(), 0);
