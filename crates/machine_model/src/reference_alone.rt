@@ -3,7 +3,7 @@
 ghost use Rattle.std.specs.Prelude.{◌≡◌, ℕ, None, Some, Ok, IfOk};
 ghost use Rattle.machine_model.specs.Alone.{EndsWithin, alone};
 ghost use Rattle.machine_model.specs.Machine.{answered};
-ghost use Rattle.machine_model.specs.Reference.{StaysFor, program_of, state_of};
+ghost use Rattle.machine_model.specs.Reference.{HasOneAnswer, NeverEnds, StaysFor, program_of, state_of};
 ghost use Rattle.machine_model.specs.declared.reference_records.Running.{Running};
 
 use crate::reference::entry_registers;
@@ -60,6 +60,8 @@ pub fn run_alone<F: Fn(u32, [u64; 5]) -> u64>(
         EndsWithin (program_of program.now) (λ id arguments answer. F.post helper.now id arguments answer) r0 (state_of last) steps (alone credit part.items) }
     ensures stays { result ≡ Ok None →
         StaysFor (program_of program.now) (λ id arguments answer. F.post helper.now id arguments answer) steps (alone credit part.items) }
+    ensures never { result ≡ Ok None → HasOneAnswer (λ id arguments answer. F.post helper.now id arguments answer) →
+        NeverEnds (program_of program.now) (λ id arguments answer. F.post helper.now id arguments answer) steps (alone credit part.items) }
 {
     let mut state = alone(credit, part);
     for _ in 0..steps {
