@@ -9,3 +9,6 @@ pub mod Stores
 pub mod Jumps
 pub mod Exits
 pub mod Calls
+pub mod Places
+pub mod Enters
+pub mod Running
