@@ -11,3 +11,6 @@ pub use machine_model::Entry;
 pub use part::Part;
 pub use spawner::{SpawnRecord, Spawner};
 pub use table::HelperTable;
+
+#[cfg(test)]
+mod tests;

@@ -1,11 +1,11 @@
 //! The bytes that a task owns.
 
-ghost use Rattle.std.specs.Prelude.{◌≡◌, ℕ, ◌+◌, ◌-◌, ◌*◌, ◌^◌, ◌<◌, ◌≤◌, [], ◌++◌, length, take, drop, IfOk, OnErr};
+ghost use Rattle.std.specs.Prelude.{◌≡◌, ℕ, ◌+◌, ◌-◌, ◌*◌, ◌^◌, ◌<◌, ◌≤◌, [], ◌++◌, length, take, drop, replicate, sum, IfOk, OnErr};
 ghost use Rattle.helpers.specs.Piece.{Piece};
 ghost use Rattle.machine_model.specs.Memory.{bytes_at, little_bytes, little_number, load_bytes, store_bytes, widened, written};
 
 use insn_codec::{LoadKind, Size};
-use machine_model::memory::{load, store};
+use machine_model::memory::{fill, load, store, sum};
 use refusal::NoMemory;
 use std::alloc::Global;
 use std::marker::Model;
@@ -65,6 +65,23 @@ impl Part {
         store(size, &mut self.bytes, at, number);
     }
 
+    /// Gives so many bytes from a place on this value.
+    pub fn fill(&mut self, at: usize, count: usize, byte: u8)
+        requires { at + count ≤ length self.old.bytes }
+        ensures { self.new ≡ record self.old { bytes = written self.old.bytes at (replicate count byte) } }
+    {
+        fill(&mut self.bytes, at, count, byte);
+    }
+
+    /// The sum of so many bytes from a place on.
+    pub fn sum(&self, at: usize, count: usize) -> u64
+        requires { at + count ≤ length self.now.bytes }
+        ensures value { result ≡ sum (bytes_at self.now.bytes at count) }
+        ensures small { result ≤ 255 * count }
+    {
+        sum(&self.bytes, at, count)
+    }
+
     /// Copies the bytes to where they lie in the job's buffer.
     pub fn copy_to(&self, buffer: &mut Vec<u8>)
         requires { self.now.base + length self.now.bytes ≤ length buffer.old.items }
@@ -102,5 +119,13 @@ impl Part {
     {
         let Part { base: _, bytes } = piece;
         let _ = self.bytes.extend_from_slice(&bytes);
+    }
+
+    /// Its bytes.
+    pub fn into_bytes(self) -> Vec<u8>
+        ensures { result.items ≡ self.bytes }
+    {
+        let Part { base: _, bytes } = self;
+        bytes
     }
 }

@@ -9,6 +9,8 @@ use Rattle.verifier.specs.declared.refusals.Refusal.TheVariants.{NeedTooLarge, C
 use Rattle.verifier.specs.Checked.{Checked}
 use Rattle.verifier.specs.Refusals.{Refuses}
 use Rattle.job_core.specs.declared.admission.ProgramBytes.{ProgramBytes}
+use Rattle.job_core.specs.Admitted.{AreOwn}
+use Rattle.job_core.proofs.Simulates.{some_within}
 use Rattle.job_core.specs.Admission.{Accepts, RefusesProgram, AreAccepted, IsFirstRefused, IsFirstFault, fault_of}
 
 -- the first of the programs are accepted, so many
@@ -66,3 +68,10 @@ first_fault programs count accepted p (PointerRange slot) so_far is refuses = fi
 first_fault programs count accepted p (FramePointer slot) so_far is refuses = first_refused programs count accepted p (FramePointer slot) so_far is refuses
 first_fault programs count accepted p (NoHelper slot) so_far is refuses = first_refused programs count accepted p (NoHelper slot) so_far is refuses
 first_fault programs count accepted p NoMemory so_far is refuses = search rules
+
+-- what is accepted was verified for a job's helpers
+pub accepted_own : (programs : List ProgramBytes) (accepted : List Checked) → AreAccepted programs accepted → AreOwn accepted
+accepted_own programs accepted are n p there =
+    let within = slice_get_within accepted n p there in
+    let bytes = some_within programs n (omega (arith, within, are.count)) in
+    (are.each n bytes.0 p bytes.1 there).same_helpers

@@ -7,6 +7,8 @@ use Rattle.machine_model.specs.Memory.{written}
 use Rattle.machine_model.specs.Machine.{effect}
 use Rattle.machine_model.specs.Job as job
 use Rattle.machine_model.specs.Job.{Job}
+use Rattle.machine_model.proofs.OwnHelpers.{own_effect}
+use Rattle.helpers.specs.Table.{job_table}
 use Rattle.helpers.specs.declared.spawner.SpawnRecord.{SpawnRecord}
 use Rattle.verifier.specs.Checked.{Checked, program_of}
 use Rattle.interpreter.specs.declared.frame.StepOut.{StepOut}
@@ -18,6 +20,7 @@ use Rattle.job_core.specs.declared.report.TaskEnd.{TaskEnd}
 use Rattle.job_core.specs.declared.tasks.Stepped.TheVariants as stepped
 use Rattle.job_core.specs.Seats.{Adds}
 use Rattle.job_core.specs.Behind.{Kept, end_of, IsBehind, Steps}
+use Rattle.job_core.proofs.OwnPrograms.{nobody, own_did, own_table}
 use Rattle.job_core.proofs.Simulates.{IsLiveAt, live_at, did_either, steps_went, steps_ended, ended_end}
 
 abbrev Told : Ledger → Ledger → SpawnRecord → Result (Unit {0}) SpawnRecord → Type 0
@@ -25,6 +28,10 @@ Told old new child reply = (new.entries.items ≡ old.entries.items)
     × Adds old.lives.items old.report.tasks.items child reply new.lives.items new.report.tasks.items
     × (new.report.buffer.items ≡ old.report.buffer.items)
     × (new.report.spent ≡ old.report.spent) × (new.report.returned ≡ old.report.returned)
+
+-- nothing is left by a call of a caller's helper
+abbrev Asked : Ledger → Ledger → ℕ → List ℕ → ℕ → Type 0
+Asked old new helper arguments answer = (answer ≡ 0) × (new ≡ old)
 
 adds_lives : (lives lives' : List (Option Live)) (ends ends' : List TaskEnd) (child : SpawnRecord) (reply : Result (Unit {0}) SpawnRecord) →
     Adds lives ends child reply lives' ends' → (length lives ≤ length lives') × (length ends ≤ length ends')
@@ -52,15 +59,25 @@ module _ (kept : Kept) (n : ℕ) (live : Live) (p : Checked) (out : StepOut) (af
     (spent : old.report.spent ≡ kept.spent) (returned : old.report.returned ≡ kept.returned)
     (did : (registers : Registers) → AreBehind p live.frame registers →
     Did p (effect (program_of p) (slice_get old.entries.items) (state_of live.frame live.part live.credit registers)) out after.frame after.part after.credit
-    (new ≡ old) (Told old new)) where
+    (new ≡ old) (Told old new) (Asked old new)) where
   same_program : (j : Job) (at : IsLiveAt kept j n live) → p ≡ at.checked
   same_program j at = read ∙ get_or_from_slice_get kept.programs live.program at.checked p at.program
+
+  -- what the step did, in a program that calls a job's helpers alone
+  own : (j : Job) (at : IsLiveAt kept j n live) (registers : Registers) → AreBehind p live.frame registers →
+      Did p (effect (program_of p) (slice_get old.entries.items) (state_of live.frame live.part live.credit registers)) out after.frame after.part after.credit
+      (new ≡ old) (Told old new) nobody
+  own j at registers stands =
+      let table : p.helpers ≡ job_table = ap (λ (q : Checked). q.helpers) (same_program j at) ∙ at.own in
+      own_did p _ out after.frame after.part after.credit (new ≡ old) (Told old new) (Asked old new)
+      (own_effect (program_of p) (slice_get old.entries.items) (state_of live.frame live.part live.credit registers) (own_table p table))
+      (did registers stands)
 
   either : (E : Type 0) (j : Job) (at : IsLiveAt kept j n live) → (new ≡ old → E) →
       ((child : SpawnRecord) (reply : Result (Unit {0}) SpawnRecord) → Told old new child reply → E) → E
   either E j at first second =
       did_either E p _ out after.frame after.part after.credit (new ≡ old) (Told old new) first second
-      (did at.task.registers (subst (λ (q : Checked). AreBehind q live.frame at.task.registers) (sym (same_program j at)) at.is.behind))
+      (own j at at.task.registers (subst (λ (q : Checked). AreBehind q live.frame at.task.registers) (sym (same_program j at)) at.is.behind))
 
   pub grows : (j : Job) → IsBehind kept j → (n < length new.lives.items) × (n < length new.report.tasks.items)
   grows j behind =
@@ -120,7 +137,7 @@ module _ (kept : Kept) (n : ℕ) (live : Live) (p : Checked) (out : StepOut) (af
       let same = ended_same j at in
       let s = steps_went kept j n live behind at after.frame after.part after.credit base new.lives.items new.report.tasks.items (new ≡ old) (Told old new) quiet heard
       p (slice_get old.entries.items) new.entries.items (same_program j at) (λ i. ap (λ es. slice_get es i) entries) (still j at) covered
-      (λ registers stands. subst (λ (o : StepOut). Did p (effect (program_of p) (slice_get old.entries.items) (state_of live.frame live.part live.credit registers)) o after.frame after.part after.credit (new ≡ old) (Told old new)) is (did registers stands)) in
+      (λ registers stands. subst (λ (o : StepOut). Did p (effect (program_of p) (slice_get old.entries.items) (state_of live.frame live.part live.credit registers)) o after.frame after.part after.credit (new ≡ old) (Told old new) nobody) is (own j at registers stands)) in
       subst (λ (k : Kept). Steps kept j n stepped.Went k)
       (kept_is kept new.entries.items (set new.lives.items n (Some settled)) (set new.lives.items n (Some after)) new.report.tasks.items new.report.tasks.items
       kept.collected new.report.buffer.items kept.spent new.report.spent kept.returned new.report.returned
@@ -152,7 +169,7 @@ module _ (kept : Kept) (n : ℕ) (live : Live) (p : Checked) (out : StepOut) (af
       let same = ended_same j at in
       let s = steps_ended kept j n live behind at after.frame after.part after.credit base new.lives.items new.report.tasks.items (new ≡ old) (Told old new) quiet heard
       p (slice_get old.entries.items) new.entries.items word (same_program j at) (λ i. ap (λ es. slice_get es i) entries) (still j at)
-      (λ registers stands. subst (λ (o : StepOut). Did p (effect (program_of p) (slice_get old.entries.items) (state_of live.frame live.part live.credit registers)) o after.frame after.part after.credit (new ≡ old) (Told old new)) is (did registers stands)) in
+      (λ registers stands. subst (λ (o : StepOut). Did p (effect (program_of p) (slice_get old.entries.items) (state_of live.frame live.part live.credit registers)) o after.frame after.part after.credit (new ≡ old) (Told old new) nobody) is (own j at registers stands)) in
       let next = s.1.3 in
       let ends_same : new.report.tasks.items ≡ kept.ends = s.3 in
       record {

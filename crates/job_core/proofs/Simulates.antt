@@ -8,7 +8,7 @@ use Rattle.machine_model.specs.declared.program.Entry.{Entry}
 use Rattle.machine_model.specs.Job as job
 use Rattle.machine_model.specs.Job.{Job, Task, Member, state_in, with_state, child_of, goes_on, AreTiles, member_step, task_step, step, applied, base_of, size_of, entry_of, entries_of, credit_of, spent_by, returned_by, IsAlive, entry_registers}
 use Rattle.machine_model.specs.Memory.{written}
-use Rattle.machine_model.specs.Machine.{State, Birth, Effect, Goes, Ends, Spawns, Traps, effect, Program}
+use Rattle.machine_model.specs.Machine.{State, Birth, Effect, Goes, Ends, Spawns, Calls, Traps, effect, Program}
 use Rattle.machine_model.proofs.Places.{set_same, set_other, by_number, push_old, push_new, pushed}
 use Rattle.machine_model.proofs.Ranges.{written_same, written_below, written_above, length-written}
 use Rattle.machine_model.proofs.Splits.{Splits, Births, splits_effect, births_effect}
@@ -17,6 +17,7 @@ use Rattle.machine_model.proofs.Tables.{effect_same}
 use Rattle.machine_model.specs.Value.{Registers}
 use Rattle.machine_model.proofs.Tiles.{tiles_step, part_long}
 use Rattle.helpers.specs.Piece.{Piece}
+use Rattle.helpers.specs.Table.{job_table}
 use Rattle.helpers.specs.declared.spawner.SpawnRecord.{SpawnRecord}
 use Rattle.verifier.specs.Checked.{Checked, program_of, IsVerified, cost_at}
 use Rattle.interpreter.specs.declared.frame.Frame.{Frame}
@@ -31,6 +32,7 @@ use Rattle.job_core.specs.declared.tasks.Stepped.TheVariants as stepped
 use Rattle.job_core.specs.Seats.{live_of, entered, Adds}
 use Rattle.job_core.specs.Behind.{Kept, end_of, IsTaskOf, IsLive, IsMemberOf, AreKept, AreEntries, IsBehind, Steps}
 use Rattle.job_core.proofs.Enters.{covered_entry, behind_entry}
+use Rattle.job_core.proofs.OwnPrograms.{nobody}
 
 -- the same with other tasks
 abbrev pub keeping : Kept → List (Option Live) → List TaskEnd → List ℕ → ℕ → ℕ → Kept
@@ -337,6 +339,7 @@ pub record IsLiveAt (kept : Kept) (j : Job) (n : ℕ) (live : Live) : Type 0 whe
   pub there : slice_get j.tasks n ≡ Some (job.Live task)
   pub checked : Checked
   pub program : slice_get kept.programs live.program ≡ Some checked
+  pub own : checked.helpers ≡ job_table
   pub is : IsTaskOf checked j.buffer live task
 
 pub some_within : {X : Type 0} (xs : List X) (n : ℕ) → n < length xs → (x : X) × (slice_get xs n ≡ Some x)
@@ -345,12 +348,19 @@ some_within (x ∷ xs) zero lt = (x, refl)
 some_within (x ∷ xs) (suc n) lt = some_within xs n (omega arith)
 
 live_member : (kept : Kept) (j : Job) (n : ℕ) (live : Live) (m : Member) → slice_get kept.lives n ≡ Some (Some live) →
-    slice_get j.tasks n ≡ Some m → IsMemberOf kept j.buffer n m → IsLiveAt kept j n live
-live_member kept j n live (job.Live t) e there is =
+    slice_get j.tasks n ≡ Some m → AreEntries kept.programs kept.entries → IsMemberOf kept j.buffer n m → IsLiveAt kept j n live
+live_member kept j n live (job.Live t) e there entries is =
     let same : is.live ≡ live = cc (sym is.there ∙ e) in
     subst (λ (x : Live). IsLiveAt kept j n x) same
-    (record { task = t; there = there; checked = is.checked; program = is.program; is = is.is })
-live_member kept j n live (job.Ended x) e there is =
+    (record {
+      task = t;
+      there = there;
+      checked = is.checked;
+      program = is.program;
+      own = entries.own is.live.program is.checked is.program;
+      is = is.is;
+    })
+live_member kept j n live (job.Ended x) e there entries is =
     let none : Option Live = None in
     let clash : Some none ≡ Some (Some live) = sym is.gone ∙ e in cc
 
@@ -359,7 +369,7 @@ pub live_at : (kept : Kept) (j : Job) (n : ℕ) (live : Live) → IsBehind kept 
 live_at kept j n live behind e =
     let within = slice_get_within kept.lives n (Some live) e in
     let m = some_within j.tasks n (omega (arith, within, behind.kept_are.lives)) in
-    live_member kept j n live m.0 e m.1 (behind.kept_are.each n m.0 m.1)
+    live_member kept j n live m.0 e m.1 behind.entries (behind.kept_are.each n m.0 m.1)
 
 program_some : (o : Option Checked) (entry : Entry) → option_map entry_of (option_map program_of o) ≡ Some entry →
     (q : Checked) × (o ≡ Some q) × (entry ≡ entry_of (program_of q))
@@ -390,7 +400,7 @@ kept_same kept lives lives' ends ends' k e f are =
 -- a step told a spawner or didn't
 pub did_either : (E : Type 0) (p : Checked) (e : Effect) (out : StepOut) (frame : Frame) (part : Piece) (credit : Credit) (silent : Type 0)
     (told : SpawnRecord → Result (Unit {0}) SpawnRecord → Type 0) → (silent → E) →
-    ((child : SpawnRecord) (reply : Result (Unit {0}) SpawnRecord) → told child reply → E) → Did p e out frame part credit silent told → E
+    ((child : SpawnRecord) (reply : Result (Unit {0}) SpawnRecord) → told child reply → E) → Did p e out frame part credit silent told nobody → E
 did_either E p (Goes s) Went frame part credit silent told first second d = first d.1
 did_either E p (Ends r0 s) (Ended word) frame part credit silent told first second d = first d.2
 did_either E p (Spawns birth taken refused) Went frame part credit silent told first second d = elim d [
@@ -400,6 +410,8 @@ did_either E p (Spawns birth taken refused) Went frame part credit silent told f
 did_either E p (Goes s) (Ended word) frame part credit silent told first second d = absurd d
 did_either E p (Ends r0 s) Went frame part credit silent told first second d = absurd d
 did_either E p (Spawns birth taken refused) (Ended word) frame part credit silent told first second d = absurd d
+did_either E p (Calls helper arguments s) Went frame part credit silent told first second d = absurd d.2
+did_either E p (Calls helper arguments s) (Ended word) frame part credit silent told first second d = absurd d
 did_either E p (Traps trap) out frame part credit silent told first second d = absurd d
 
 module _ (kept : Kept) (j : Job) (n : ℕ) (live : Live) (behind : IsBehind kept j) (at : IsLiveAt kept j n live)
@@ -490,7 +502,7 @@ module _ (kept : Kept) (j : Job) (n : ℕ) (live : Live) (behind : IsBehind kept
   -- the job after the effect stands behind what is kept
   pub went : (e : Effect) → Splits (take at.task.size (drop at.task.base j.buffer)) e →
       Births (entries_of (map program_of kept.programs)) at.task.held e → IsCovered at.checked frame part credit →
-      Did at.checked e Went frame part credit silent told →
+      Did at.checked e Went frame part credit silent told nobody →
       (refuses : Bool) × (k : Job) × (applied j n at.task refuses e ≡ Some k) × AreKept (going kept (set lives n (Some after)) ends) k × IsAlive k n
   went (Goes s) splits births covered d = (
     false,
@@ -525,6 +537,7 @@ module _ (kept : Kept) (j : Job) (n : ℕ) (live : Live) (behind : IsBehind kept
           (with_state at.task refused, set_same j.tasks n (job.Live (with_state at.task refused)) tasks_within),
         )
       ]
+  went (Calls helper arguments s) splits births covered d = absurd d.2
   went (Traps trap) splits births covered d = absurd d
 
   -- what is kept where the task has ended with this R0
@@ -534,12 +547,13 @@ module _ (kept : Kept) (j : Job) (n : ℕ) (live : Live) (behind : IsBehind kept
 
   -- the same where the task ends
   pub ended : (e : Effect) (word : ℕ) → Splits (take at.task.size (drop at.task.base j.buffer)) e → Keeps at.task.held e →
-      Did at.checked e (Ended word) frame part credit silent told →
+      Did at.checked e (Ended word) frame part credit silent told nobody →
       (k : Job) × (applied j n at.task false e ≡ Some k) × AreKept (ended_kept word) k
       × (credit.used ≤ credit.held) × ((x : job.Ending) × (slice_get k.tasks n ≡ Some (job.Ended x)) × (x.r0 ≡ word))
       × (length part.bytes ≤ at.task.size) × (ends ≡ kept.ends)
   ended (Goes s) word splits keeps d = absurd d
   ended (Spawns birth taken refused) word splits keeps d = absurd d
+  ended (Calls helper arguments s) word splits keeps d = absurd d
   ended (Traps trap) word splits keeps d = absurd d
   ended (Ends r0 s) word splits keeps d =
       let t : Task = at.task in
@@ -596,13 +610,13 @@ module _ (kept : Kept) (j : Job) (n : ℕ) (live : Live) (behind : IsBehind kept
   -- what the frame's step did is the effect on the task in the job
   did_here : (p : Checked) (known : ℕ → Option Entry) (out : StepOut) → p ≡ at.checked → ((i : ℕ) → known i ≡ slice_get kept.entries i) →
       ((registers : Registers) → AreBehind p live.frame registers →
-      Did p (effect (program_of p) known (state_of live.frame live.part live.credit registers)) out frame part credit silent told) →
-      Did at.checked (effect (program_of at.checked) (entries_of (map program_of kept.programs)) (state_in j.buffer at.task)) out frame part credit silent told
+      Did p (effect (program_of p) known (state_of live.frame live.part live.credit registers)) out frame part credit silent told nobody) →
+      Did at.checked (effect (program_of at.checked) (entries_of (map program_of kept.programs)) (state_in j.buffer at.task)) out frame part credit silent told nobody
   did_here p known out same entries did =
       let registers : Registers = at.task.registers in
       let first = did registers (subst (λ (q : Checked). AreBehind q live.frame registers) (sym same) at.is.behind) in
-      let second = subst (λ (q : Checked). Did q (effect (program_of q) known (state_of live.frame live.part live.credit registers)) out frame part credit silent told) same first in
-      subst (λ (e : Effect). Did at.checked e out frame part credit silent told)
+      let second = subst (λ (q : Checked). Did q (effect (program_of q) known (state_of live.frame live.part live.credit registers)) out frame part credit silent told nobody) same first in
+      subst (λ (e : Effect). Did at.checked e out frame part credit silent told nobody)
       (effect_same (program_of at.checked) known (entries_of (map program_of kept.programs))
       (λ i. entries i ∙ entries_same kept.programs kept.entries behind.entries i) (state_of live.frame live.part live.credit registers)
       ∙ ap (effect (program_of at.checked) (entries_of (map program_of kept.programs))) (sym at.is.state))
@@ -616,7 +630,7 @@ module _ (kept : Kept) (j : Job) (n : ℕ) (live : Live) (behind : IsBehind kept
   pub steps_went : (p : Checked) (known : ℕ → Option Entry) (new : List Entry) → p ≡ at.checked → ((i : ℕ) → known i ≡ slice_get kept.entries i) →
       new ≡ kept.entries → IsCovered p frame part credit →
       ((registers : Registers) → AreBehind p live.frame registers →
-      Did p (effect (program_of p) known (state_of live.frame live.part live.credit registers)) Went frame part credit silent told) →
+      Did p (effect (program_of p) known (state_of live.frame live.part live.credit registers)) Went frame part credit silent told nobody) →
       Steps kept j n stepped.Went (with_entries (going kept (set lives n (Some after)) ends) new)
   steps_went p known new same entries still covered did =
       let e : Effect = effect (program_of at.checked) (entries_of (map program_of kept.programs)) (state_in j.buffer at.task) in
@@ -635,7 +649,7 @@ module _ (kept : Kept) (j : Job) (n : ℕ) (live : Live) (behind : IsBehind kept
   pub steps_ended : (p : Checked) (known : ℕ → Option Entry) (new : List Entry) (word : ℕ) → p ≡ at.checked → ((i : ℕ) → known i ≡ slice_get kept.entries i) →
       new ≡ kept.entries →
       ((registers : Registers) → AreBehind p live.frame registers →
-      Did p (effect (program_of p) known (state_of live.frame live.part live.credit registers)) (Ended word) frame part credit silent told) →
+      Did p (effect (program_of p) known (state_of live.frame live.part live.credit registers)) (Ended word) frame part credit silent told nobody) →
       (credit.used ≤ credit.held) × Steps kept j n (stepped.Ended word) (with_entries (ended_kept word) new)
       × (part.base + length part.bytes ≤ length kept.collected) × (ends ≡ kept.ends)
   steps_ended p known new word same entries still did =

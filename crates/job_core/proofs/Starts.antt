@@ -16,6 +16,7 @@ use Rattle.job_core.specs.declared.live.Live.{Live}
 use Rattle.job_core.specs.Living.{Living}
 use Rattle.interpreter.specs.declared.credit.Credit.{Credit}
 use Rattle.job_core.specs.Behind.{Kept, end_of, IsTaskOf, IsLive, IsMemberOf, AreEntries, IsBehind}
+use Rattle.helpers.specs.Table.{job_table}
 use Rattle.job_core.specs.Admitted.{Order, IsAdmitted}
 use Rattle.job_core.proofs.Enters.{behind_entry, covered_entry}
 
@@ -116,13 +117,16 @@ map-push f (y ∷ ys) x = ap (λ zs. f y ∷ zs) (map-push f ys x)
 no_element : (n : ℕ) (p : Checked) → let xs : List Checked = [] in slice_get xs n ≡ Some p → IsVerified p
 no_element n p e = cc
 
+no_program : (n : ℕ) (p : Checked) → let xs : List Checked = [] in slice_get xs n ≡ Some p → p.helpers ≡ job_table
+no_program n p e = cc
+
 pub entries_none : AreEntries [] []
-entries_none = record { are = refl; verified = no_element }
+entries_none = record { are = refl; verified = no_element; own = no_program }
 
 pub entries_more : (programs : List Checked) (i : ℕ) (entries : List Entry) (p : Checked) (entry : Entry) → i < length programs →
-    p ≡ get_or programs i p → IsVerified p → entry ≡ entry_of (program_of p) → AreEntries (take i programs) entries →
+    p ≡ get_or programs i p → IsVerified p → p.helpers ≡ job_table → entry ≡ entry_of (program_of p) → AreEntries (take i programs) entries →
     AreEntries (take (i + 1) programs) (entries ++ entry ∷ [])
-entries_more programs i entries p entry lt at verified is old =
+entries_more programs i entries p entry lt at verified own is old =
     let more : take (i + 1) programs ≡ take i programs ++ p ∷ [] =
     take_more programs i p lt ∙ ap (λ (q : Checked). take i programs ++ q ∷ []) (sym at) in
     subst (λ ps. AreEntries ps (entries ++ entry ∷ [])) (sym more) (record {
@@ -131,6 +135,10 @@ entries_more programs i entries p entry lt at verified is old =
       verified = λ n q e. elim (pushed (take i programs) n p q e) [
         | inl before ↦ old.verified n q before
         | inr last ↦ subst (λ (x : Checked). IsVerified x) (sym last.1) verified
+      ];
+      own = λ n q e. elim (pushed (take i programs) n p q e) [
+        | inl before ↦ old.own n q before
+        | inr last ↦ ap (λ (x : Checked). x.helpers) last.1 ∙ own
       ];
     })
 

@@ -6,6 +6,7 @@ use Rattle.machine_model.specs.Job.{Job, Task, Member, state_in, AreTiles, Move,
 use Rattle.machine_model.specs.Machine.{Program}
 use Rattle.verifier.specs.Checked.{Checked, program_of, IsVerified}
 use Rattle.interpreter.specs.Behind.{AreBehind, IsCovered, state_of}
+use Rattle.job_core.specs.Admitted.{AreOwn}
 use Rattle.job_core.specs.declared.live.Live.{Live}
 use Rattle.job_core.specs.declared.report.TaskEnd.{TaskEnd}
 use Rattle.job_core.specs.declared.tasks.Stepped.{Stepped}
@@ -81,10 +82,11 @@ pub record AreKept (kept : Kept) (j : Job) : Type 0 where
   pub spent : kept.spent ≡ sum_by spent_by j.tasks
   pub returned : kept.returned ≡ sum_by returned_by j.tasks
 
--- the programs were verified, and the entries are theirs
+-- the programs were verified for a job's helpers, and the entries are theirs
 pub record AreEntries (programs : List Checked) (entries : List Entry) : Type 0 where
   pub are : entries ≡ map (λ p. entry_of (program_of p)) programs
   pub verified : (n : ℕ) (p : Checked) → slice_get programs n ≡ Some p → IsVerified p
+  pub own : AreOwn programs
 
 -- the job stands behind what is kept
 pub record IsBehind (kept : Kept) (j : Job) : Type 0 where

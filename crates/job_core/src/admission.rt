@@ -1,6 +1,7 @@
 //! Admission: from programs as bytes to a job, or the refusal.
 
 ghost use Rattle.std.specs.Prelude.{◌≡◌, ◌≤◌, length, IfOk, IfErr};
+ghost use Rattle.job_core.specs.Admitted.{AreOwn};
 ghost use Rattle.job_core.specs.Admission.{AreAccepted, IsAdmittedFrom, IsFirstFault, RefusesJob, fault_of, number_of, slot_of};
 
 use crate::job::Job;
@@ -117,6 +118,7 @@ fn refused(index: usize, refusal: Refusal) -> AdmitFault
 fn verify_each(alloc: Global, programs: &[ProgramBytes]) -> Result<Vec<Verified>, AdmitFault>
     requires { length programs.now ≤ 16 }
     ensures accepted { IfOk result (λ accepted. AreAccepted programs.now accepted.items) }
+    ensures own { IfOk result (λ accepted. AreOwn accepted.items) }
     ensures refused { IfErr result (λ fault. IsFirstFault programs.now fault) }
 {
     let helpers = HelperTable::job();

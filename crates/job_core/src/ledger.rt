@@ -28,6 +28,8 @@ impl Spawner for Ledger {
         × (new.report.buffer.items ≡ old.report.buffer.items)
         × (new.report.spent ≡ old.report.spent) × (new.report.returned ≡ old.report.returned) };
 
+    ghost calls = { λ old helper arguments answer new. (answer ≡ 0) × (new ≡ old) };
+
     fn entry(&self, program: u64) -> Option<Entry> {
         let entry = self.entries.get(program as usize)?;
         Some(*entry)
@@ -58,5 +60,10 @@ impl Spawner for Ledger {
         let _ = self.lives.push(Some(live));
         let _ = self.report.tasks.push(entered);
         Ok(())
+    }
+
+    /// A job's programs call no helper of a caller's, so that nobody asks.
+    fn call(&mut self, _id: u32, _arguments: [u64; 5]) -> u64 {
+        0
     }
 }

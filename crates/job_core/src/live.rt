@@ -114,7 +114,8 @@ impl Live {
         ensures did { (registers : Registers) → AreBehind code.now self.old.frame registers →
             Did code.now (effect (program_of code.now) (S.entries spawner.old) (state_of self.old.frame self.old.part self.old.credit registers))
             result self.new.frame self.new.part self.new.credit (spawner.new ≡ spawner.old)
-            (λ child reply. S.spawns spawner.old child reply spawner.new) }
+            (λ child reply. S.spawns spawner.old child reply spawner.new)
+            (λ helper arguments answer. S.calls spawner.old helper arguments answer spawner.new) }
         ensures covered { result ≡ StepOut.Went → IsCovered code.now self.new.frame self.new.part self.new.credit }
         ensures base { self.new.part.base ≡ self.old.part.base }
         ensures program { self.new.program ≡ self.old.program }

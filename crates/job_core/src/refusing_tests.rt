@@ -21,6 +21,8 @@ impl Spawner for Refusing {
 
     ghost spawns = { λ old child reply new. reply ≡ Err child };
 
+    ghost calls = { λ old helper arguments answer new. answer ≡ 0 };
+
     fn entry(&self, program: u64) -> Option<Entry> {
         if program == 0 {
             Some(Entry { cost: 2, need: 0 })
@@ -32,6 +34,10 @@ impl Spawner for Refusing {
     fn spawn(&mut self, child: SpawnRecord) -> Result<(), SpawnRecord> {
         self.asked = self.asked.wrapping_add(1);
         Err(child)
+    }
+
+    fn call(&mut self, _id: u32, _arguments: [u64; 5]) -> u64 {
+        0
     }
 }
 

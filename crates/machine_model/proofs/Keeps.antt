@@ -5,7 +5,7 @@ use Rattle.std.proofs.lemmas.Option.{slice_get_within, get_or_from_slice_get}
 use Rattle.std.proofs.lemmas.Bool.Decides.{nat_tests}
 use Rattle.machine_model.specs.declared.program.Entry.{Entry}
 use Rattle.machine_model.specs.Spawn.{answer_of}
-use Rattle.machine_model.specs.Machine.{State, Program, Entries, Effect, Goes, Ends, Spawns, Traps, spawned, paid, effect, cost_at}
+use Rattle.machine_model.specs.Machine.{State, Program, Entries, Effect, Goes, Ends, Spawns, Calls, Traps, spawned, paid, effect, cost_at}
 use Rattle.machine_model.proofs.Effects.{if_holds, effect_holds}
 use Rattle.machine_model.specs.Job.{Task, Ending, goes_on, ending_of, with_state, child_of, Member, Live, Ended, Job, Move, run, step, member_step, task_step, applied, credit_of, held_by, returned_by, spent_by, state_in, entries_of}
 
@@ -35,6 +35,7 @@ abbrev pub Keeps : ℕ → Effect → Type 0
 Keeps held (Goes s) = s.held ≡ held
 Keeps held (Ends r0 s) = (s.used ≤ s.held) × (s.held ≡ held)
 Keeps held (Spawns birth taken refused) = (taken.held + birth.share ≡ held) × (refused.held ≡ held)
+Keeps held (Calls helper arguments caller) = Unit {0}
 Keeps held (Traps trap) = Unit {0}
 
 keeps_spawned : (s : State) (program share cut arg answer : ℕ) → (answer ≡ 0 → share ≤ s.held) →
@@ -52,6 +53,7 @@ keeps_effect p entries s = effect_holds (Keeps s.held) p entries s (λ _. tt) (�
   spawns = λ program share cut arg. keeps_spawned (paid s amount) program share cut arg _ (λ z.
       let l = leaves (entries program) share cut s.held (s.used + amount) (cost_at p (s.slot + 1)) (length s.part) p.need z in
       omega (arith, l.credit));
+  calls = λ helper arity arguments is other. tt;
 })
 
 -- the sum over the members, where one of them is replaced
@@ -94,6 +96,7 @@ keeps_applied j n t false (Spawns birth taken refused) k here keeps is =
     let e : made ≡ k = cc in
     ap credit_of (sym e)
     ∙ omega (arith, weight-push (slice_set j.tasks n (Live parent)) (Live (child_of t taken birth)), weight-set j.tasks n (Live t) (Live parent) here, keeps.0)
+keeps_applied j n t refuses (Calls helper arguments caller) k here keeps is = cc
 keeps_applied j n t refuses (Traps trap) k here keeps is = cc
 
 keeps_task : (programs : List Program) (j : Job) (n : ℕ) (t : Task) (refuses : Bool) (o : Option Program) (k : Job) →

@@ -2,6 +2,7 @@ pub mod Ranges
 pub mod Effects
 pub mod Keeps
 pub mod Splits
+pub mod OwnHelpers
 pub mod Tables
 pub mod Places
 pub mod Tiles

@@ -1,5 +1,5 @@
 -- What the reference's records come to.
-use Rattle.std.proofs.Common.{◌≡◌, ℕ, zero, suc, ◌<◌, ◌+◌, List, [], ◌∷◌, length, slice_set, refl, sym, ap, ◌∙◌, arith, Option, Result, ℤ, false, nat_eq, nat_lt, Some, None, true, subst}
+use Rattle.std.proofs.Common.{◌≡◌, ℕ, zero, suc, ◌<◌, ◌+◌, List, [], ◌∷◌, length, sum, slice_set, refl, sym, ap, ◌∙◌, arith, Option, Result, ℤ, false, nat_eq, nat_lt, Some, None, true, subst}
 use Rattle.std.proofs.lemmas.Bool.Decides.{nat_tests}
 use Rattle.insn_codec.specs.declared.insn.Insn.{Insn}
 use Rattle.machine_model.specs.declared.reference_records.Content.{Content}
@@ -12,8 +12,8 @@ use Rattle.machine_model.specs.Memory.{bytes_at, little_bytes, little_number, wr
 use Rattle.machine_model.specs.declared.program.Entry.{Entry}
 use Rattle.machine_model.specs.Outcomes.{on_number}
 use Rattle.machine_model.specs.Spawn.{answer_of}
-use Rattle.machine_model.specs.Machine.{State, Program, Entries, Effect, Goes, onward, loaded, stored, called, writing, reading, number_in, given, moved, spawned, cost_at, answered, landing}
-use Rattle.machine_model.specs.Reference.{GoesFar, IsFar, IsFarResult, counting, located, placing, registers_of, value_of}
+use Rattle.machine_model.specs.Machine.{State, Program, Entries, Effect, Goes, onward, loaded, stored, called, writing, reading, number_in, given, moved, spawned, cost_at, answered, landing, located}
+use Rattle.machine_model.specs.Reference.{GoesFar, IsFar, IsFarResult, counting, placing, registers_of, value_of}
 
 -- any register but R10 is written
 pub writes : (dst : ℕ) (e : Effect) → nat_eq dst 10 ≡ false → writing dst e ≡ e
@@ -148,3 +148,7 @@ spawn_by p entries s program share cut arg after reply child known cost is =
 pub spawned_other : (s : State) (program share cut arg reply : ℕ) → nat_eq reply 0 ≡ false →
     Goes (answered s reply) ≡ spawned s program share cut arg reply
 spawned_other s program share cut arg reply off = rw off refl
+
+-- what follows the sum of so many bytes from a place on
+abbrev pub sum_from : State → List ℕ → ℕ → ℕ → Effect
+sum_from s memory count at = Goes (answered s (sum (bytes_at memory at count)))

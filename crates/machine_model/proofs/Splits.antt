@@ -4,7 +4,7 @@ use Rattle.std.proofs.lemmas.List.{length-drop}
 use Rattle.std.proofs.lemmas.Bool.Decides.{nat_tests}
 use Rattle.machine_model.specs.declared.program.Entry.{Entry}
 use Rattle.machine_model.specs.Spawn.{answer_of}
-use Rattle.machine_model.specs.Machine.{State, Program, Entries, Effect, Goes, Ends, Spawns, Traps, spawned, paid, effect}
+use Rattle.machine_model.specs.Machine.{State, Program, Entries, Effect, Goes, Ends, Spawns, Calls, Traps, spawned, paid, effect}
 use Rattle.machine_model.proofs.Effects.{if_holds, effect_holds}
 use Rattle.machine_model.proofs.Keeps.{unless, leaves}
 
@@ -13,6 +13,7 @@ abbrev pub Splits : List ℕ → Effect → Type 0
 Splits part (Goes s) = length s.part ≡ length part
 Splits part (Ends r0 s) = s.part ≡ part
 Splits part (Spawns birth taken refused) = (taken.part ++ birth.bytes ≡ part) × (refused.part ≡ part)
+Splits part (Calls helper arguments caller) = Unit {0}
 Splits part (Traps trap) = Unit {0}
 
 splits_spawned : (s : State) (program share cut arg answer : ℕ) → Splits s.part (spawned s program share cut arg answer)
@@ -25,6 +26,7 @@ splits_effect p entries s = effect_holds (Splits s.part) p entries s (λ _. tt) 
   goes = λ next held size. size;
   ends = λ r0. refl;
   spawns = λ program share cut arg. splits_spawned (paid s amount) program share cut arg _;
+  calls = λ helper arity arguments is other. tt;
 })
 
 -- what stands behind a spawn that passes its tests: a program whose cost and need the birth meets, and enough credit
@@ -33,6 +35,7 @@ Births entries held (Goes s) = Unit {0}
 Births entries held (Ends r0 s) = Unit {0}
 Births entries held (Spawns birth taken refused) =
     (entry : Entry) × (entries birth.program ≡ Some entry) × (entry.cost ≤ birth.share) × (entry.need ≤ length birth.bytes) × (birth.share ≤ held)
+Births entries held (Calls helper arguments caller) = Unit {0}
 Births entries held (Traps trap) = Unit {0}
 
 -- a spawn that passes its tests names a program, whose cost and need it meets
@@ -65,4 +68,5 @@ births_effect p entries s = effect_holds (Births entries s.held) p entries s (λ
   goes = λ next held size. tt;
   ends = λ r0. tt;
   spawns = λ program share cut arg. births_spawned entries (paid s amount) program share cut arg _ p.need _ refl;
+  calls = λ helper arity arguments is other. tt;
 })

@@ -3,7 +3,7 @@ use Rattle.std.proofs.Common.{◌≡◌, ℕ, suc, ◌<◌, ◌≤◌, ◌+◌, 
 use Rattle.std.proofs.lemmas.Option.{slice_get_within}
 use Rattle.std.proofs.lemmas.List.{length-drop, length-take-le}
 use Rattle.std.proofs.lemmas.Bool.Decides.{nat_tests}
-use Rattle.machine_model.specs.Machine.{State, Program, Effect, Goes, Ends, Spawns, Traps, effect}
+use Rattle.machine_model.specs.Machine.{State, Program, Effect, Goes, Ends, Spawns, Calls, Traps, effect}
 use Rattle.machine_model.specs.Job.{Job, Task, Member, Live, Ended, Ending, goes_on, ending_of, with_state, child_of, state_in, entries_of, applied, task_step, member_step, step, base_of, size_of, IsApart, Owner, AreTiles}
 use Rattle.machine_model.specs.Memory.{written}
 use Rattle.machine_model.proofs.Places.{set_same, set_other, by_number, push_old, push_new, pushed}
@@ -165,6 +165,7 @@ tiles_applied j n t false (Spawns birth taken refused) k here splits is tiles =
     sym (length-append taken.part birth.bytes) ∙ ap length splits.0 ∙ part_long j.buffer t (tiles.inside n (Live t) here) in
     subst (Tiled j) e
     (tiles_split j.tasks n (length j.buffer) (Live t) (Live parent) (Live (child_of t taken birth)) here refl refl size tiles, refl)
+tiles_applied j n t refuses (Calls helper arguments caller) k here splits is tiles = cc
 tiles_applied j n t refuses (Traps trap) k here splits is tiles = cc
 
 tiles_task : (programs : List Program) (j : Job) (n : ℕ) (t : Task) (refuses : Bool) (o : Option Program) (k : Job) →

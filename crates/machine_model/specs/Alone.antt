@@ -1,6 +1,5 @@
 -- A program that runs alone: one task, from which nothing can be spawned.
-use Rattle.std.specs.Prelude.{◌≡◌, ℕ, zero, suc, List, length, replicate, Option, None}
-use Rattle.machine_model.specs.declared.program.Entry.{Entry}
+use Rattle.std.specs.Prelude.{◌≡◌, ℕ, zero, suc, List, length, replicate, None}
 use Rattle.machine_model.specs.Machine.{State, Program, Entries, Effect, Goes, Ends, Spawns, Calls, Traps, answered, effect}
 use Rattle.machine_model.specs.Job.{entry_registers}
 

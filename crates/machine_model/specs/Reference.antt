@@ -1,5 +1,5 @@
 -- The reference's records as those of the definitions.
-use Rattle.std.specs.Prelude.{ℕ, ◌^◌, ◌≤◌, ℤ, ◌+ℤ◌, length, List, [], ◌∷◌, ◌++◌, map, slice_set, Bool, true, false, Option, Some, None, Result, Ok, Err, slice_index_or, option_map}
+use Rattle.std.specs.Prelude.{ℕ, ◌^◌, ◌≤◌, ℤ, List, [], ◌∷◌, ◌++◌, map, slice_set, Bool, true, false, Option, Some, None, Result, Ok, Err, slice_index_or, option_map}
 use Rattle.std.specs.Int.{w64}
 use Rattle.std.specs.Int.RustNames.{FitsSigned}
 use Rattle.machine_model.specs.declared.reference_records.Content.{Content}
@@ -123,6 +123,11 @@ placing stack part (Err cause) = Traps (trap_of cause)
 abbrev pub asking : (ℕ → ℕ → ℕ → ℕ → Effect) → Result Request TrapCause → Effect
 asking go (Ok r) = go r.program r.share r.cut r.arg
 asking go (Err cause) = Traps (trap_of cause)
+
+-- the arguments of a call, or why there are none
+abbrev pub passing : (List ℕ → Effect) → Result (List ℕ) TrapCause → Effect
+passing go (Ok arguments) = go arguments
+passing go (Err cause) = Traps (trap_of cause)
 
 -- a number, or why there is none
 abbrev pub counting : (ℕ → Effect) → Result ℕ TrapCause → Effect

@@ -28,6 +28,7 @@ pub mod reference;
 mod reference_calls;
 mod reference_computing;
 mod reference_effect;
+mod reference_helpers;
 mod reference_jumps;
 mod reference_memory;
 #[cfg(test)]

@@ -1,6 +1,7 @@
 //! Loads and stores: numbers of 1, 2, 4 and 8 bytes at a place in memory, the lowest byte first (RFC 9669, section 5).
+//! And spans of bytes, which are filled and summed up.
 
-ghost use Rattle.std.specs.Prelude.{◌≡◌, ◌≤◌, ◌<◌, ◌+◌, ◌*◌, ◌^◌, length};
+ghost use Rattle.std.specs.Prelude.{◌≡◌, ◌≤◌, ◌<◌, ◌+◌, ◌*◌, ◌^◌, length, replicate, sum};
 ghost use Rattle.machine_model.specs.Memory.{bytes_at, little_bytes, little_number, load_bytes, store_bytes, widened, written};
 
 use insn_codec::{LoadKind, Size};
@@ -104,4 +105,28 @@ pub fn store(size: Size, memory: &mut [u8], at: usize, number: u64)
         }
         Size::Double => memory[at..at + 8].copy_from_slice(&number.to_le_bytes()),
     }
+}
+
+/// Puts one byte into each of so many places in memory.
+#[inline]
+pub fn fill(memory: &mut [u8], at: usize, count: usize, byte: u8)
+    requires { at + count ≤ length memory.old }
+    ensures { memory.new ≡ written memory.old at (replicate count byte) }
+{
+    memory[at..at + count].fill(byte);
+}
+
+/// The sum of so many bytes in memory.
+#[inline]
+pub fn sum(memory: &[u8], at: usize, count: usize) -> u64
+    requires there { at + count ≤ length memory.now }
+    requires few { count ≤ 2 ^ 32 }
+    ensures value { result ≡ sum (bytes_at memory.now at count) }
+    ensures small { result ≤ 255 * count }
+{
+    let mut total = 0u64;
+    for byte in &memory[at..at + count] {
+        total += u64::from(*byte);
+    }
+    total
 }

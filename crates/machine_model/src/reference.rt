@@ -263,7 +263,7 @@ fn change(
                 Ok(Some(bearing(alloc, buffer, task, child, taken)?))
             }
         }
-        Outcome::Traps(_) => Ok(None),
+        Outcome::Calls(..) | Outcome::Traps(_) => Ok(None),
     }
 }
 

@@ -18,7 +18,7 @@ use insn_codec::Register;
 use std::alloc::Global;
 
 /// After a call: the answer in R0, and no arguments.
-fn answered(mut state: Running, answer: u64) -> Running
+pub(crate) fn answered(mut state: Running, answer: u64) -> Running
     requires { state.slot < 4294967296 }
     ensures { state_of result ≡ answered (state_of state) answer }
 {

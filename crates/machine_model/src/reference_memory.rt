@@ -4,9 +4,9 @@ ghost use Rattle.std.specs.Prelude.{◌≡◌, ℕ, ◌+◌, ◌+ℤ◌, ◌<◌
 ghost use Rattle.insn_codec.specs.declared.insn.Insn.{Insn};
 ghost use Rattle.insn_codec.specs.declared.insn.Insn.TheVariants.{Load, Store, StoreRegister};
 ghost use Rattle.machine_model.specs.Edges.{Always, leads};
-ghost use Rattle.machine_model.specs.Machine.{Effect, Entries, Program, Trap, meaning, stored, within};
+ghost use Rattle.machine_model.specs.Machine.{Effect, Entries, Program, Trap, located, meaning, stored, within};
 ghost use Rattle.machine_model.specs.Memory.{store_bytes};
-ghost use Rattle.machine_model.specs.Reference.{at_place, effect_of, located, placing, state_of, value_of};
+ghost use Rattle.machine_model.specs.Reference.{at_place, effect_of, placing, state_of, value_of};
 ghost use Rattle.machine_model.specs.declared.reference_records.Place.TheVariants as place;
 
 use crate::memory::{load_bytes, store_bytes};
@@ -16,7 +16,6 @@ use insn_codec::{LoadKind, Register, Size};
 
 /// Where so many bytes from a position on are in a region of this size, if they are there.
 fn place_within(position: i64, offset: i16, count: usize, size: usize) -> Option<usize>
-    requires { count ≤ 8 }
     ensures within { (trap : Trap) (go : ℕ → Effect) → within (position +ℤ offset) count size trap go ≡ at_place trap go result }
     ensures inside { (at : ℕ) → result ≡ Some at → at + count ≤ size }
 {
@@ -31,8 +30,12 @@ fn place_within(position: i64, offset: i16, count: usize, size: usize) -> Option
 }
 
 /// Where so many bytes are that a pointer leads to.
-fn place(state: &Running, pointer: Content, offset: i16, count: usize) -> Result<Place, TrapCause>
-    requires { count ≤ 8 }
+pub(crate) fn place(
+    state: &Running,
+    pointer: Content,
+    offset: i16,
+    count: usize,
+) -> Result<Place, TrapCause>
     ensures leads { (stack part : ℕ → Effect) → located (state_of state.now) (value_of pointer) offset count stack part ≡ placing stack part result }
     ensures stack { (at : ℕ) → result ≡ Ok (place.Stack at) → at + count ≤ length state.now.stack }
     ensures part { (at : ℕ) → result ≡ Ok (place.Part at) → at + count ≤ length state.now.part.items }

@@ -62,12 +62,14 @@ pub enum TrapCause {
     OverSpent,
 }
 
-/// A program: the bytes that it needs, its instructions by slot, and the greatest cost of a run from each slot.
+/// A program: the bytes that it needs, its instructions by slot, the greatest cost of a run from each slot, and how many
+/// arguments each helper of the caller's own takes, by its id.
 #[derive(Drop)]
 pub struct ReferenceProgram {
     pub need: u32,
     pub code: Vec<Option<Insn>>,
     pub costs: Vec<u32>,
+    pub registered: Vec<Option<u32>>,
 }
 
 /// What an instruction reads and writes.
@@ -97,6 +99,8 @@ pub enum Outcome {
     Ends(u64, Running),
     /// The child, and the task where the spawn is taken and where it is refused.
     Spawns(Child, Running, Running),
+    /// A helper of the caller's own, its arguments, and the task that calls it.
+    Calls(u32, [u64; 5], Running),
     Traps(TrapCause),
 }
 

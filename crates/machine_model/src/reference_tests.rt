@@ -34,7 +34,12 @@ pub(crate) fn program(
     }
     let mut costs = Vec::new(alloc);
     costs.extend_from_slice(prices)?;
-    Ok(ReferenceProgram { need, code, costs })
+    Ok(ReferenceProgram {
+        need,
+        code,
+        costs,
+        registered: Vec::new(alloc),
+    })
 }
 
 /// R0, what was spent and what came back of the first task, if it ended.

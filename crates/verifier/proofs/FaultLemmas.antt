@@ -1,5 +1,5 @@
 -- Which numbers apply to an instruction, and what is set where none does.
-use Rattle.std.proofs.Common.{◌≡◌, ℕ, zero, suc, ◌==◌, ◌≤◌, Bool, true, false, Option, Some, None, Result, Ok, Err, inl, inr, arith, refl, subst, if◌then◌else◌, ℤ, pos, int_lt, ◌+ℤ◌, ◌||◌}
+use Rattle.std.proofs.Common.{◌≡◌, ℕ, zero, suc, nat_lt, ◌==◌, ◌≤◌, Bool, true, false, Option, Some, None, Result, Ok, Err, inl, inr, arith, refl, subst, if◌then◌else◌, ℤ, pos, int_lt, ◌+ℤ◌, ◌||◌}
 use Rattle.insn_codec.specs.declared.insn.Insn.{Insn}
 use Rattle.insn_codec.specs.declared.insn.Insn.TheVariants.{Alu, Mov, MovSx, Neg, End, LoadWide, Load, Store, StoreRegister, Jump, Jump32, JumpIf, Call, Exit}
 use Rattle.machine_model.specs.Memory.{store_bytes, load_bytes}
@@ -9,7 +9,7 @@ use Rattle.value_ranges.specs.declared.abs.Abs.{Abs}
 use Rattle.value_ranges.specs.declared.abs.Abs.TheVariants as abs
 use Rattle.verifier.specs.declared.state.State.{State}
 use Rattle.verifier.specs.Covers.{abs_at}
-use Rattle.verifier.specs.States.{operand_at, first, unset_fault, number_fault, access_fault, table_fault, write_fault, unset_arguments, number_arguments, call_fault, fault}
+use Rattle.verifier.specs.States.{operand_at, first, unset_fault, number_fault, access_fault, table_fault, write_fault, unset_arguments, number_arguments, span_fault, length_fault, kind_fault, call_fault, fault}
 use Rattle.verifier.specs.Readiness.{IsReady}
 use Rattle.verifier.proofs.TableErrors.{IsTableError, IsTableError-table_of}
 
@@ -107,10 +107,40 @@ number_argument_numbers state (suc count) =
     first_numbers (number_arguments state count) (number_fault (abs_at state (suc count))) (number_argument_numbers state count)
     (number_numbers (abs_at state (suc count)))
 
-call_numbers : (state : State) (arity : Option ℕ) → AreNumbers (call_fault state arity)
-call_numbers state None = (omega arith, omega arith)
-call_numbers state (Some arity) =
-    first_numbers (unset_arguments state arity) (number_arguments state arity) (unset_argument_numbers state arity) (number_argument_numbers state arity)
+span_numbers : (need : ℕ) (pointer len : Abs) → AreNumbers (span_fault need pointer len)
+span_numbers need pointer abs.Unset = number_31
+span_numbers need pointer (abs.Num r) = access_numbers need pointer (pos 0) r.hi
+span_numbers need pointer (abs.Stack r) = number_34
+span_numbers need pointer (abs.Part r) = number_34
+
+length_numbers : (len : Abs) → AreNumbers (length_fault len)
+length_numbers abs.Unset = number_31
+length_numbers (abs.Num r) = if_numbers (nat_lt 512 r.hi) 34 number_34
+length_numbers (abs.Stack r) = number_34
+length_numbers (abs.Part r) = number_34
+
+chosen_numbers : (b : Bool) (x y : Option ℕ) → AreNumbers x → AreNumbers y → AreNumbers (if b then x else y)
+chosen_numbers true x y h k = h
+chosen_numbers false x y h k = k
+
+kind_numbers : (need : ℕ) (state : State) (helper arity : ℕ) → AreNumbers (kind_fault need state helper arity)
+kind_numbers need state helper arity =
+    let pointer = abs_at state 1 in
+    let len = abs_at state 2 in
+    let spans = span_numbers need pointer len in
+    let fits = length_numbers len in
+    chosen_numbers (helper == 4) _ _
+    (first_numbers (span_fault need pointer len) _ spans
+    (first_numbers (length_fault len) (number_fault (abs_at state 3)) fits (number_numbers (abs_at state 3))))
+    (chosen_numbers (helper == 5) _ _
+    (first_numbers (span_fault need pointer len) (length_fault len) spans fits)
+    (number_argument_numbers state arity))
+
+call_numbers : (need : ℕ) (state : State) (helper : ℕ) (arity : Option ℕ) → AreNumbers (call_fault need state helper arity)
+call_numbers need state helper None = (omega arith, omega arith)
+call_numbers need state helper (Some arity) =
+    first_numbers (unset_arguments state arity) (kind_fault need state helper arity) (unset_argument_numbers state arity)
+    (kind_numbers need state helper arity)
 
 -- an operand that is unset, or what the table refuses, or a write of R10
 read_numbers : (b : Abs) (r : Result Abs ℕ) (dst : ℕ) → IsTableError r →
@@ -152,7 +182,7 @@ fault_numbers need helpers (JumpIf w c dst src offset) state =
     (first_numbers (unset_fault (operand_at state src)) _ (unset_numbers (operand_at state src))
     (first_numbers (number_fault (abs_at state dst)) (number_fault (operand_at state src))
     (number_numbers (abs_at state dst)) (number_numbers (operand_at state src))))
-fault_numbers need helpers (Call helper) state = call_numbers state (arity_in helpers helper)
+fault_numbers need helpers (Call helper) state = call_numbers need state helper (arity_in helpers helper)
 fault_numbers need helpers Exit state = number_numbers (abs_at state 0)
 
 pub refused_number : (need : ℕ) (helpers : Table) (i : Insn) (state : State) (number : ℕ) →

@@ -11,7 +11,7 @@ use Rattle.flow_graph.specs.declared.fault.FlowFault.TheVariants as flow
 use Rattle.flow_graph.specs.Flow.{IsForward}
 use Rattle.flow_graph.specs.Program.{code_of}
 use Rattle.flow_graph.specs.Refusals.{Refuses as RefusesFlow, IsBuilt}
-use Rattle.helpers.specs.Table.{Table, AreKnown}
+use Rattle.helpers.specs.Table.{Table, IsHelperTable}
 use Rattle.verifier.specs.declared.refusals.Refusal.{Refusal}
 use Rattle.verifier.specs.declared.refusals.Refusal.TheVariants.{NeedTooLarge, Codec, Flow, UnsetRead, OutOfStack, OutOfPart, BadKind, PointerRange, FramePointer, NoHelper, NoMemory}
 use Rattle.verifier.specs.RefusalCodes.{from_codec, from_flow}
@@ -81,7 +81,7 @@ states_refused need bytes helpers placed graph refusal small decoded built h =
     (subst (λ (code : Code). RefusesStates (record { need = need; helpers = helpers; code = code }) refusal) built.same h)
 
 -- the parts of an accepted program
-pub verified_of : (p : Checked) → p.need ≤ 65536 → IsForward p.code → AreKnown p.helpers →
+pub verified_of : (p : Checked) → p.need ≤ 65536 → IsForward p.code → IsHelperTable p.helpers →
     IsTable (record { need = p.need; helpers = p.helpers; code = p.code }) p.states → AreCosts p.code p.costs → IsVerified p
 verified_of p small forward known table costs =
     let sound = sound_of (record { need = p.need; helpers = p.helpers; code = p.code }) p.states forward table in

@@ -4,16 +4,16 @@ ghost use Rattle.std.specs.Prelude.{◌≡◌, ◌+◌, ◌≤◌, ◌<◌, IfNo
 ghost use Rattle.value_ranges.specs.Tables.{table_of, IsArithmetic, IsReadSet, IsSet};
 ghost use Rattle.machine_model.specs.Memory.{store_bytes, load_bytes};
 ghost use Rattle.verifier.specs.Covers.{abs_at};
-ghost use Rattle.verifier.specs.States.{fault, first, unset_fault, number_fault, region_fault, access_fault, table_fault, write_fault, unset_arguments, number_arguments, call_fault};
-ghost use Rattle.helpers.specs.Table.{arity_in};
+ghost use Rattle.verifier.specs.States.{fault, first, unset_fault, number_fault, region_fault, access_fault, table_fault, write_fault};
 
+use crate::calls::call_fault;
 use crate::state::State;
 use helpers::HelperTable;
 use insn_codec::{Insn, LoadKind, Register, Size};
 use value_ranges::{Abs, Reach, alu};
 
 /// A register that is read is set.
-fn unset_fault(abs: &Abs) -> Option<u8>
+pub(crate) fn unset_fault(abs: &Abs) -> Option<u8>
     ensures fault { result ≡ unset_fault abs.now }
     ensures set { IfNone result (IsSet abs.now) }
 {
@@ -24,7 +24,7 @@ fn unset_fault(abs: &Abs) -> Option<u8>
 }
 
 /// It has a number.
-fn number_fault(abs: &Abs) -> Option<u8>
+pub(crate) fn number_fault(abs: &Abs) -> Option<u8>
     ensures { result ≡ number_fault abs.now }
 {
     match abs {
@@ -47,7 +47,7 @@ fn write_fault(register: Register) -> Option<u8>
 
 /// A position, moved by an offset.
 #[tactic(auto, using(crate::proofs::StateLemmas::signed_values))]
-fn moved(position: i32, offset: i16) -> i64
+pub(crate) fn moved(position: i32, offset: i16) -> i64
     ensures { result ≡ position +ℤ offset }
 {
     i64::from(position) + i64::from(offset)
@@ -127,53 +127,6 @@ fn result_fault(insn: &Insn, dst: Abs, src: Abs, to: Register) -> Option<u8>
     match alu(insn, dst, src) {
         Err(number) => Some(number),
         Ok(_) => write_fault(to),
-    }
-}
-
-/// What is known of the register of this number: nothing, where there is none.
-fn argument(state: &State, number: u32) -> Abs
-    ensures { result ≡ abs_at state.now number }
-{
-    match state.registers.get(number as usize) {
-        Some(abs) => *abs,
-        None => Abs::Unset,
-    }
-}
-
-/// The registers from R1 on that have arguments are set.
-fn unset_arguments(state: &State, arity: u32) -> Option<u8>
-    ensures { result ≡ unset_arguments state.now arity }
-{
-    for before in 0..arity {
-        if let Some(number) = unset_fault(&argument(state, before + 1)) {
-            return Some(number);
-        }
-    }
-    None
-}
-
-/// They have numbers.
-fn number_arguments(state: &State, arity: u32) -> Option<u8>
-    ensures { result ≡ number_arguments state.now arity }
-{
-    for before in 0..arity {
-        if let Some(number) = number_fault(&argument(state, before + 1)) {
-            return Some(number);
-        }
-    }
-    None
-}
-
-/// The helper is in the table, and its arguments are numbers.
-fn call_fault(helpers: &HelperTable, state: &State, helper: u32) -> Option<u8>
-    ensures { result ≡ call_fault state.now (arity_in helpers.now helper) }
-{
-    match helpers.arity(helper) {
-        None => Some(37),
-        Some(arity) => match unset_arguments(state, arity) {
-            Some(number) => Some(number),
-            None => number_arguments(state, arity),
-        },
     }
 }
 
@@ -291,7 +244,7 @@ pub(crate) fn refused(need: u32, helpers: &HelperTable, insn: &Insn, state: &Sta
         } => store_fault(need, state.at(base), offset, size, state.at(src)),
         Insn::Jump { .. } | Insn::Jump32 { .. } => None,
         Insn::JumpIf { dst, src, .. } => compare_fault(state.at(dst), state.operand(&src)),
-        Insn::Call { helper } => call_fault(helpers, state, helper),
+        Insn::Call { helper } => call_fault(need, helpers, state, helper),
         Insn::Exit => number_fault(&state.at(Register::new(0))),
     }
 }

@@ -2,6 +2,7 @@
 #![tactic(auto)]
 
 mod allowed;
+mod calls;
 mod laws;
 mod passing;
 mod refusals;

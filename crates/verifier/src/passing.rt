@@ -28,10 +28,13 @@ fn computed(insn: &Insn, dst: Abs, src: Abs) -> Abs
 fn answer_range(helper: u32) -> Abs
     ensures { result ≡ answer_range helper }
 {
-    if helper == 1 {
-        Abs::between(0, 6)
-    } else {
-        Abs::any_number()
+    match helper {
+        1 => Abs::between(0, 6),
+        2 => Abs::between(0, 2_147_483_647),
+        3 => Abs::between(0, 65_536),
+        4 => Abs::between(0, 0),
+        5 => Abs::between(0, 130_560),
+        _ => Abs::any_number(),
     }
 }
 

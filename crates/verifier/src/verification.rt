@@ -44,12 +44,6 @@ pub fn verify(
     let costs = costs(alloc, &graph)?;
     let code = graph.into_code();
     let regions = regions(alloc, &code, &states)?;
-    Ok(Verified::of(
-        need,
-        helpers.copied(),
-        code,
-        states,
-        regions,
-        costs.into_table(),
-    ))
+    let helpers = helpers.copied(alloc)?;
+    Ok(Verified::of(need, helpers, code, states, regions, costs.into_table()))
 }

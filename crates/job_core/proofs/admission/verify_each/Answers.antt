@@ -2,7 +2,7 @@ use Rattle.std.proofs.Common.{◌≡◌, length, arith, refl, subst}
 use Rattle.std.proofs.lemmas.Option.{slice_get_read}
 use Rattle.helpers.specs.Table.{job_table}
 use Rattle.verifier.specs.Refusals.{IsAccepted, Refuses}
-use Rattle.job_core.proofs.Admissions.{accepted_none, accepted_more, accepted_all, first_fault}
+use Rattle.job_core.proofs.Admissions.{accepted_none, accepted_more, accepted_all, accepted_own, first_fault}
 use Rattle.job_core.proofs.admission.verify_each.Goals as goal
 
 pub loop-program-init : goal.loop-program-init
@@ -36,3 +36,6 @@ pub returns-clause-accepted : goal.returns-clause-accepted
 returns-clause-accepted c =
     accepted_all c.args.programs.now c.loop-program.program-index c.loop-program.accepted.items c.loop-program.invariant
     (omega (arith, c.loop-program-test.false, c.loop-program.auto.program-index-end))
+
+pub returns-clause-own : goal.returns-clause-own
+returns-clause-own c = accepted_own _ _ (returns-clause-accepted c)

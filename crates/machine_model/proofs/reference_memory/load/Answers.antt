@@ -3,10 +3,10 @@ use Rattle.std.proofs.lemmas.Bool.Decides.{nat_tests}
 use Rattle.std.proofs.lemmas.Int.{to_z-of_z}
 use Rattle.insn_codec.specs.declared.insn.Insn.{Insn}
 use Rattle.insn_codec.specs.declared.insn.Insn.TheVariants.{Load}
-use Rattle.machine_model.specs.Machine.{Effect, State}
+use Rattle.machine_model.specs.Machine.{Effect, State, located}
 use Rattle.machine_model.specs.Memory.{load_bytes, widened}
 use Rattle.machine_model.specs.declared.reference_records.Place.TheVariants as place
-use Rattle.machine_model.specs.Reference.{located, placing, state_of, value_of}
+use Rattle.machine_model.specs.Reference.{placing, state_of, value_of}
 use Rattle.machine_model.specs.Value.{Num}
 use Rattle.machine_model.proofs.ReferenceLemmas.{load_done, put_into}
 use Rattle.machine_model.proofs.reference_memory.load.Goals as goal

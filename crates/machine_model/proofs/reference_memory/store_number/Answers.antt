@@ -2,10 +2,10 @@ use Rattle.std.proofs.Common.{◌≡◌, ◌∙◌, ◌+◌, ℕ, List, length, 
 use Rattle.std.proofs.lemmas.List.{with_items_is}
 use Rattle.machine_model.proofs.Ranges.{length-written, length-little_bytes}
 use Rattle.std.proofs.lemmas.Int.{to_z-of_z}
-use Rattle.machine_model.specs.Machine.{Effect, Goes, State, landing}
+use Rattle.machine_model.specs.Machine.{Effect, Goes, State, landing, located}
 use Rattle.machine_model.specs.Memory.{little_bytes, store_bytes, written}
 use Rattle.machine_model.specs.declared.reference_records.Place.TheVariants as place
-use Rattle.machine_model.specs.Reference.{located, placing, state_of, value_of}
+use Rattle.machine_model.specs.Reference.{placing, state_of, value_of}
 use Rattle.machine_model.proofs.ReferenceLemmas.{store_done}
 use Rattle.machine_model.proofs.reference_memory.store_number.Goals as goal
 

@@ -1,4 +1,5 @@
-use Rattle.std.proofs.Common.{◌≡◌, ◌≤◌, ◌∙◌, ◌∷◌, ◌++◌, [], Some, ap, sym, refl, arith, rules, length}
+use Rattle.std.proofs.Common.{◌≡◌, ◌≤◌, ◌∙◌, ◌∷◌, ◌++◌, [], Some, ap, sym, refl, arith, rules, length, slice_get}
+use Rattle.std.proofs.lemmas.Option.{slice_get_read}
 use Rattle.interpreter.specs.Behind.{entry_frame}
 use Rattle.job_core.specs.Living.{Living}
 use Rattle.machine_model.specs.Job.{start}
@@ -13,6 +14,9 @@ loop-program-preserved c =
     rw (c.in_ok-push.ensures.items)
     (entries_more c.deref-program-items.result.now c.loop-program.program-index c.loop-program.entries.items c.program-item.result _
     c.loop-program-test.true c.program-item.is c.need-need.ensures.verified
+    (c.job.invariant.own c.loop-program.program-index c.program-item.result
+    (ap (λ ps. slice_get ps c.loop-program.program-index) (sym c.deref-program-items.ensures.value)
+    ∙ slice_get_read c.deref-program-items.result.now (length c.deref-program-items.result.now) c.loop-program.program-index c.program-item.result refl c.loop-program-test.true c.program-item.is))
     (entry_is c.program-item.result c.cost_at.result c.need-need.result c.cost_at.ensures c.need-need.ensures.need) c.loop-program.invariant)
 
 pub invariant_of-result : goal.invariant_of-result

@@ -2,7 +2,7 @@ use Rattle.std.proofs.Common.{sym, ap, ◌∙◌, add-one}
 use Rattle.value_ranges.specs.declared.abs.Abs.{Abs}
 use Rattle.verifier.specs.States.{number_fault}
 use Rattle.verifier.proofs.ArgumentLemmas.{number_there}
-use Rattle.verifier.proofs.allowed.number_arguments.Goals as goal
+use Rattle.verifier.proofs.calls.number_arguments.Goals as goal
 
 pub returns-in-Some : goal.returns-in-Some
 returns-in-Some c = sym (number_there c.args.state.now c.args.arity c.loop-before.before c.in-Some.number c.loop-before.invariant
