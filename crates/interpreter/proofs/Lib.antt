@@ -11,4 +11,6 @@ pub mod Exits
 pub mod Calls
 pub mod Places
 pub mod Enters
+pub mod Asking
 pub mod Running
+pub mod Answering

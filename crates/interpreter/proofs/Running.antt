@@ -1,11 +1,13 @@
 -- The run of a single program, step by step.
 use Rattle.std.proofs.Common.{◌≡◌, ℕ, suc, ◌<◌, ◌≤◌, ◌^◌, arith, length, refl, sym, subst, ap, ◌∙◌, List, Result, Option, Some, None}
 use Rattle.machine_model.specs.Value.{Registers}
-use Rattle.machine_model.specs.Machine.{State, Effect, Goes, Ends, Spawns, Traps, effect}
+use Rattle.machine_model.specs.Machine.{State, Effect, Goes, Ends, Spawns, Calls, Traps, answered, effect}
+use Rattle.interpreter.proofs.Asking.{Asks, asks_effect}
 use Rattle.machine_model.proofs.Splits.{Splits, splits_effect, Births, births_effect}
 use Rattle.machine_model.specs.Alone.{Answers, Follows, EndsWithin, EndsAlone, alone, no_entries}
 use Rattle.machine_model.specs.Job.{entry_registers}
 use Rattle.helpers.specs.Piece.{Piece}
+use Rattle.helpers.specs.Table.{arity_in}
 use Rattle.helpers.specs.declared.spawner.SpawnRecord.{SpawnRecord}
 use Rattle.verifier.specs.Checked.{Checked, IsVerified, program_of, cost_at}
 use Rattle.interpreter.specs.declared.frame.Frame.{Frame}
@@ -39,19 +41,36 @@ pub record Onward (p : Checked) (may : Answers) (s : State) (frame : Frame) (par
   pub size : length part.bytes ≡ length s.part
   pub quiet : silent
 
-went : (p : Checked) (may : Answers) (s : State) (e : Effect) (frame : Frame) (part : Piece) (credit : Credit) (quiet : Type 0)
-    (told : SpawnRecord → Result (Unit {0}) SpawnRecord → Type 0) → effect (program_of p) no_entries s ≡ e → Splits s.part e → Births no_entries s.held e →
-    Did p e Went frame part credit quiet told → Onward p may s frame part credit quiet
-went p may s (Goes next) frame part credit quiet told is splits births did = record {
-  registers = next.registers;
-  behind = did.0.1;
-  leads = λ r0 last ends. more p may s next r0 last (λ n within. rw is within) (rw did.0.0 ends);
-  size = sym (ap (λ (t : State). length t.part) did.0.0) ∙ splits;
-  quiet = did.1;
-}
-went p may s (Ends r0 last) frame part credit quiet told is splits births did = absurd did
-went p may s (Spawns birth taken refused) frame part credit quiet told is splits births did = cc (births.1)
-went p may s (Traps trap) frame part credit quiet told is splits births did = absurd did
+-- what the spawner may answer where it is called is what the run asks for, and it stays as it is
+abbrev pub AreAnswers : Checked → Answers → (ℕ → List ℕ → ℕ → Type 0) → Type 0 → Type 0
+AreAnswers p may asked quiet = (helper arity : ℕ) (arguments : List ℕ) (answer : ℕ) → (0 < helper → 5 < helper) →
+    arity_in p.helpers helper ≡ Some arity → asked helper arguments answer → may helper arguments answer × quiet
+
+module _ (p : Checked) (may : Answers) (s : State) (frame : Frame) (part : Piece) (credit : Credit) (quiet : Type 0)
+    (told : SpawnRecord → Result (Unit {0}) SpawnRecord → Type 0) (asked : ℕ → List ℕ → ℕ → Type 0) (are : AreAnswers p may asked quiet) where
+  went : (e : Effect) → effect (program_of p) no_entries s ≡ e → Splits s.part e → Births no_entries s.held e → Asks (program_of p) s.part e →
+      Did p e Went frame part credit quiet told asked → Onward p may s frame part credit quiet
+  went (Goes next) is splits births asks did = record {
+    registers = next.registers;
+    behind = did.0.1;
+    leads = λ r0 last ends. more p may s next r0 last (λ n within. rw is within) (rw did.0.0 ends);
+    size = sym (ap (λ (t : State). length t.part) did.0.0) ∙ splits;
+    quiet = did.1;
+  }
+  went (Ends r0 last) is splits births asks did = absurd did
+  went (Spawns birth taken refused) is splits births asks did = cc (births.1)
+  went (Calls helper arguments caller) is splits births asks did =
+      let answer = did.0 in
+      let next : State = answered caller answer in
+      let both = are helper asks.2 arguments answer asks.1 asks.3 did.2 in
+      record {
+        registers = next.registers;
+        behind = did.1.1;
+        leads = λ r0 last ends. more p may s next r0 last (λ n within. rw is (answer, both.0, within)) (rw did.1.0 ends);
+        size = sym (ap (λ (t : State). length t.part) did.1.0) ∙ ap length asks.0;
+        quiet = both.1;
+      }
+  went (Traps trap) is splits births asks did = absurd did
 
 -- a task that starts is under way
 pub enters : (p : Checked) (may : Answers) (credit len : ℕ) (part : Piece) (frame : Frame) → IsVerified p → p.need ≤ length part.bytes →
@@ -69,36 +88,41 @@ enters p may credit len part frame v need size small cost limit is =
     })
 
 module _ (p : Checked) (may : Answers) (start : State) (f : Frame) (part : Piece) (credit : Credit) (way : IsUnderWay p may start f part credit)
-    (f' : Frame) (part' : Piece) (credit' : Credit) (quiet : Type 0) (told : SpawnRecord → Result (Unit {0}) SpawnRecord → Type 0) where
-  -- what a step does to the task
+    (f' : Frame) (part' : Piece) (credit' : Credit) (quiet : Type 0) (told : SpawnRecord → Result (Unit {0}) SpawnRecord → Type 0)
+    (asked : ℕ → List ℕ → ℕ → Type 0) where
+  -- the task ahead of the step
   abbrev before : State
   before = state_of f part credit way.registers
 
   -- a step that goes on
-  pub goes_on : Did p (effect (program_of p) no_entries before) Went f' part' credit' quiet told → IsCovered p f' part' credit' →
-      IsUnderWay p may start f' part' credit' × quiet
-  goes_on did covered =
-      let on = went p may before (effect (program_of p) no_entries before) f' part' credit' quiet told refl
-          (splits_effect (program_of p) no_entries before) (births_effect (program_of p) no_entries before) did in
-      (record {
-        covered = covered;
-        registers = on.registers;
-        behind = on.behind;
-        leads = λ r0 last ends. way.leads r0 last (on.leads r0 last ends);
-        size = on.size ∙ way.size;
-      }, on.quiet)
+  pub goes_on : AreAnswers p may asked quiet → Did p (effect (program_of p) no_entries before) Went f' part' credit' quiet told asked →
+      IsCovered p f' part' credit' → IsUnderWay p may start f' part' credit' × quiet
+  goes_on are did covered =
+      let on = went p may before f' part' credit' quiet told asked are (effect (program_of p) no_entries before) refl
+      (splits_effect (program_of p) no_entries before) (births_effect (program_of p) no_entries before)
+      (asks_effect (program_of p) no_entries before) did in (
+        record {
+          covered = covered;
+          registers = on.registers;
+          behind = on.behind;
+          leads = λ r0 last ends. way.leads r0 last (on.leads r0 last ends);
+          size = on.size ∙ way.size;
+        },
+        on.quiet,
+      )
 
   ended : (word : ℕ) (e : Effect) → effect (program_of p) no_entries before ≡ e → Splits part.bytes e →
-      Did p e (Ended word) f' part' credit' quiet told →
+      Did p e (Ended word) f' part' credit' quiet told asked →
       (last : State) × EndsAlone (program_of p) may start word last × (part'.bytes ≡ last.part) × (length part'.bytes ≡ length start.part) × quiet
   ended word (Goes next) is splits did = absurd did
   ended word (Ends r0 last) is splits did =
       let left : part'.bytes ≡ last.part = sym (ap (λ (t : State). t.part) did.1) in
       (last, way.leads word last (1, rw is (did.0, refl)), left, ap length (left ∙ splits) ∙ way.size, did.2)
   ended word (Spawns birth taken refused) is splits did = absurd did
+  ended word (Calls helper arguments caller) is splits did = absurd did
   ended word (Traps trap) is splits did = absurd did
 
   -- a step at which the task ends
-  pub ends : (word : ℕ) → Did p (effect (program_of p) no_entries before) (Ended word) f' part' credit' quiet told →
+  pub ends : (word : ℕ) → Did p (effect (program_of p) no_entries before) (Ended word) f' part' credit' quiet told asked →
       (last : State) × EndsAlone (program_of p) may start word last × (part'.bytes ≡ last.part) × (length part'.bytes ≡ length start.part) × quiet
   ends word did = ended word (effect (program_of p) no_entries before) refl (splits_effect (program_of p) no_entries before) did

@@ -1,5 +1,6 @@
 -- What the functions of a caller may answer.
-use Rattle.std.specs.Prelude.{◌≡◌, ℕ, ◌-◌, List, [], ◌∷◌, Option, Some, None, slice_index_or}
+use Rattle.std.specs.Prelude.{◌≡◌, ◌≢◌, ℕ, ◌-◌, nat_lt, List, [], ◌∷◌, Option, Some, None, slice_index_or, if◌then◌else◌}
+use Rattle.helpers.specs.Table.{Table}
 use Rattle.interpreter.specs.declared.registered.Registered.{Registered}
 
 -- what a function may answer to five arguments
@@ -22,13 +23,18 @@ answers {g = g} f = to_list (λ a b c d e answer. g.post f.function (a, (b, (c, 
 
 -- the function of this id, of which the first is 64
 abbrev pub function_of : {R : Type 0} → List (Option R) → ℕ → Option R
-function_of functions id = slice_index_or functions (id - 64) None
+function_of functions id = if nat_lt id 64 then None else slice_index_or functions (id - 64) None
 
 -- what a call of this function may answer; where there is none, anything
 abbrev pub may_answer : {X : Type 0} {g : _} → Option (Registered X g) → List ℕ → ℕ → Type 0
 may_answer None arguments answer = Unit {0}
 may_answer (Some f) arguments answer = answers f arguments answer
 
--- what a call of the helper of each id may answer
-abbrev pub all_answer : {X : Type 0} {g : _} → List (Option (Registered X g)) → ℕ → List ℕ → ℕ → Type 0
-all_answer functions id = may_answer (function_of functions id)
+-- there is a function of this id, which may answer so
+abbrev pub called : {X : Type 0} {g : _} → List (Option (Registered X g)) → ℕ → List ℕ → ℕ → Type 0
+called functions id arguments answer = (f : _) × (function_of functions id ≡ Some f) × answers f arguments answer
+
+-- each helper that was added to the table has a function
+abbrev pub HaveFunctions : {R : Type 0} → Table → List (Option R) → Type 0
+HaveFunctions table functions =
+    (place arity : ℕ) → slice_index_or table place None ≡ Some arity → slice_index_or functions place None ≢ None

@@ -2,7 +2,7 @@
 
 ghost use Rattle.std.specs.Prelude.{◌≡◌, ◌≤◌, length};
 ghost use Rattle.verifier.specs.Checked.{IsVerified, cost_at};
-ghost use Rattle.interpreter.specs.Functions.{all_answer};
+ghost use Rattle.interpreter.specs.Functions.{HaveFunctions, called};
 ghost use Rattle.interpreter.specs.Executes.{Runs};
 
 use crate::credit::Credit;
@@ -21,10 +21,11 @@ pub fn run_alone(
     functions: &mut Functions,
 ) -> u64
     requires verified { IsVerified code.now }
+    requires functions { HaveFunctions code.now.helpers functions.old.places.items }
     requires need { code.now.need ≤ length part.old.bytes }
     requires cost { cost_at code.now 0 ≤ credit }
     requires limit { credit ≤ 2147483647 }
-    ensures runs { Runs code.now (all_answer functions.old.places.items) credit part.old.bytes result part.new.bytes }
+    ensures runs { Runs code.now (called functions.old.places.items) credit part.old.bytes result part.new.bytes }
     ensures len { length part.new.bytes ≡ length part.old.bytes }
     ensures functions { functions.new ≡ functions.old }
 {

@@ -16,3 +16,6 @@ pub use frame::{Frame, StepOut};
 pub use registered::Function;
 pub use vm::Vm;
 pub use vm_fault::VmFault;
+
+#[cfg(test)]
+mod vm_tests;

@@ -1,15 +1,19 @@
 //! A machine for single programs.
 
-ghost use Rattle.std.specs.Prelude.{◌≡◌, ◌↔◌, ◌≤◌, [], length, IsTrue, IsSome, IfOk, IfErr, None, Some, MatchOption, MatchResult};
-ghost use Rattle.helpers.specs.Table.{job_table};
+ghost use Rattle.std.specs.Prelude.{◌≡◌, ◌≢◌, ◌↔◌, ℕ, ◌==◌, ◌≤◌, ◌<◌, [], length, if◌then◌else◌, IsTrue, IsSome, IfOk, OnOk, OnErr, None, Some, MatchOption, MatchResult};
+ghost use Rattle.helpers.specs.Table.{arity_in, job_table};
+ghost use Rattle.verifier.specs.Checked.{Checked};
 ghost use Rattle.verifier.specs.Refusals.{Refuses};
-ghost use Rattle.interpreter.specs.Functions.{all_answer};
+ghost use Rattle.std.proofs.Props.{props};
+ghost use Rattle.interpreter.specs.Functions.{HaveFunctions, called, function_of};
 ghost use Rattle.interpreter.specs.Executes.{Executes, IsUnrunnable, IsSet};
 
 use crate::alone::run_alone;
 use crate::functions::Functions;
+use crate::registered::{Function, Registered};
 use crate::vm_fault::VmFault;
 use helpers::{HelperTable, Part};
+use refusal::NoMemory;
 use std::alloc::Global;
 use verifier::{Refusal, Verified, verify};
 
@@ -21,6 +25,8 @@ pub struct Vm {
     helpers: HelperTable,
     functions: Functions,
     room: Vec<u8>,
+    ghost same: { (p : Checked) → program ≡ Some p → p.helpers ≡ helpers } by { Prim.hlevel props },
+    ghost have: { HaveFunctions helpers functions.places.items },
 }
 
 impl Vm {
@@ -64,6 +70,34 @@ impl Vm {
         self.program.is_some()
     }
 
+    /// Registers the function of the caller's helper of this id, and how many arguments it takes, in place of those that it had:
+    /// those of the five past them are 0 when it is called.
+    pub fn register_helper(
+        &mut self,
+        alloc: Global,
+        id: u32,
+        arity: u32,
+        function: Function,
+    ) -> Result<(), NoMemory>
+        requires id { (64 ≤ id) × (id < 128) }
+        requires arity { arity ≤ 5 }
+        requires unset { self.old.program ≡ None }
+        requires callable { Function.IsAlwaysCallable function }
+        ensures arity { OnOk result ((other : ℕ) →
+            arity_in self.new.helpers other ≡ (if other == id then Some arity else arity_in self.old.helpers other)) }
+        ensures function { OnOk result ((f : _) × (function_of self.new.functions.places.items id ≡ Some f) × (f.function ≡ function)) }
+        ensures others { OnOk result ((other : ℕ) → other ≢ id →
+            function_of self.new.functions.places.items other ≡ function_of self.old.functions.places.items other) }
+        ensures err { OnErr result ((self.new.helpers ≡ self.old.helpers)
+            × ((other : ℕ) → function_of self.new.functions.places.items other ≡ function_of self.old.functions.places.items other)) }
+        ensures program { self.new.program ≡ None }
+    {
+        self.functions.make_room(alloc)?;
+        self.helpers.add(alloc, id, arity)?;
+        self.functions.put(id, Registered::of(function));
+        Ok(())
+    }
+
     /// Runs the program alone from its entry to its end, with argument 0, the memory as its part, and this credit, and gives
     /// R0. The memory is left as the run leaves it.
     ///
@@ -78,7 +112,7 @@ impl Vm {
         requires small { length mem.old ≤ 65536 }
         requires limit { credit ≤ 2147483647 }
         ensures runs { MatchResult result
-            (λ r0. Executes self.old.program (all_answer self.old.functions.places.items) credit mem.old r0 mem.new)
+            (λ r0. Executes self.old.program (called self.old.functions.places.items) credit mem.old r0 mem.new)
             (λ fault. IsUnrunnable self.old.program credit (length mem.old) fault × (mem.new ≡ mem.old)) }
         ensures kept { (self.new.program ≡ self.old.program) × (self.new.helpers ≡ self.old.helpers)
             × (self.new.functions ≡ self.old.functions) }
