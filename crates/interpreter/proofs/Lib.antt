@@ -9,6 +9,7 @@ pub mod Stores
 pub mod Jumps
 pub mod Exits
 pub mod Calls
+pub mod Helpers
 pub mod Places
 pub mod Enters
 pub mod Asking

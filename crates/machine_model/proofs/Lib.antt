@@ -13,3 +13,4 @@ pub mod ComputingLemmas
 pub mod ReferenceLemmas
 pub mod ReferenceRuns
 pub mod MemoryLemmas
+pub mod AloneLemmas

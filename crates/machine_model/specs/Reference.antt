@@ -1,5 +1,5 @@
 -- The reference's records as those of the definitions.
-use Rattle.std.specs.Prelude.{ℕ, ◌^◌, ◌≤◌, ℤ, List, [], ◌∷◌, ◌++◌, map, slice_set, Bool, true, false, Option, Some, None, Result, Ok, Err, slice_index_or, option_map}
+use Rattle.std.specs.Prelude.{ℕ, zero, suc, ◌^◌, ◌≤◌, ℤ, List, [], ◌∷◌, ◌++◌, map, slice_set, Bool, true, false, Option, Some, None, Result, Ok, Err, slice_index_or, option_map}
 use Rattle.std.specs.Int.{w64}
 use Rattle.std.specs.Int.RustNames.{FitsSigned}
 use Rattle.machine_model.specs.declared.reference_records.Content.{Content}
@@ -23,7 +23,8 @@ use Rattle.machine_model.specs.declared.reference_records.ReferenceMove.{Referen
 use Rattle.machine_model.specs.declared.reference_records.Change.{Change}
 use Rattle.machine_model.specs.Job.{Task, Ending, Member, Live, Ended, Job, Move}
 use Rattle.machine_model.specs.Value.{Value, Unset, Num, Stack, Part, Registers}
-use Rattle.machine_model.specs.Machine.{State, Program, Birth, Effect, Goes, Ends, Spawns, Calls, Traps, Trap, UnsetRead, OutsideStack, OutsidePart, WrongKind, OutsideCode, WritesStackEnd, NoHelper, OverSpent}
+use Rattle.machine_model.specs.Machine.{State, Program, Birth, Effect, Goes, Ends, Spawns, Calls, Traps, Trap, UnsetRead, OutsideStack, OutsidePart, WrongKind, OutsideCode, WritesStackEnd, NoHelper, OverSpent, answered, effect}
+use Rattle.machine_model.specs.Alone.{Answers, no_entries}
 
 abbrev pub value_of : Content → Value
 value_of content.Unset = Unset
@@ -192,3 +193,18 @@ when false j = None
 abbrev pub step_by : Job → ℕ → Option (Option Change) → Option Job
 step_by j n None = Some j
 step_by j n (Some c) = option_map (changed_by j n) c
+
+-- ---- a program alone
+
+-- what follows an effect, where the task hasn't ended: it may have trapped
+abbrev pub Stays : Answers → (State → Type 0) → Effect → Type 0
+Stays may on (Goes next) = on next
+Stays may on (Ends r0 last) = ⊥
+Stays may on (Spawns birth taken refused) = ⊥
+Stays may on (Calls helper arguments caller) = (answer : ℕ) × may helper arguments answer × on (answered caller answer)
+Stays may on (Traps trap) = Unit {0}
+
+-- with some answers, the task doesn't end within so many steps
+abbrev pub StaysFor : Program → Answers → ℕ → State → Type 0
+StaysFor p may zero s = Unit {0}
+StaysFor p may (suc n) s = Stays may (StaysFor p may n) (effect p no_entries s)

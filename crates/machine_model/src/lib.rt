@@ -25,9 +25,12 @@ mod memory_tests;
 
 // the reference: the definitions as a plain program
 pub mod reference;
+mod reference_alone;
 mod reference_calls;
 mod reference_computing;
 mod reference_effect;
+#[cfg(test)]
+mod reference_helper_tests;
 mod reference_helpers;
 mod reference_jumps;
 mod reference_memory;

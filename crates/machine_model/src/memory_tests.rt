@@ -1,6 +1,6 @@
 //! Loads and stores worked out by hand, at each size and at both ends of the memory.
 
-use crate::memory::{load, load_bytes, store, store_bytes};
+use crate::memory::{fill, load, load_bytes, store, store_bytes, sum};
 use insn_codec::{LoadKind, Size};
 use std::process::Abort;
 use std::test::Fail;
@@ -142,5 +142,59 @@ fn stores_the_low_bytes(rt: HostRuntime) -> Result<(), Fail> {
         }
     }
     assert!(rt; stored(Size::Half, 11, 0).is_none() && stored(Size::Double, 5, 0).is_none());
+    Ok(())
+}
+
+/// The sum of so many bytes there, if they are there.
+fn summed(at: usize, count: usize) -> Option<u64> {
+    let rest = MEMORY.len().checked_sub(at)?;
+    if rest < count || count > 4096 {
+        return None;
+    }
+    Some(sum(&MEMORY, at, count))
+}
+
+#[test]
+fn sums_bytes(rt: HostRuntime) {
+    for (at, count, want) in [
+        (0, 12, Some(1470)),
+        (0, 0, Some(0)),
+        (12, 0, Some(0)),
+        (3, 1, Some(255)),
+        (1, 3, Some(510)),
+        (11, 1, Some(239)),
+        (11, 2, None),
+        (0, 13, None),
+    ] {
+        assert_eq!(rt; summed(at, count), want, "{count} from {at}");
+    }
+}
+
+/// Twelve bytes of 0x5a after a fill, if it fits there.
+fn filled(at: usize, count: usize, byte: u8) -> Option<[u8; 12]> {
+    let mut memory = [0x5a; 12];
+    let rest = memory.len().checked_sub(at)?;
+    if rest < count {
+        return None;
+    }
+    fill(&mut memory, at, count, byte);
+    Some(memory)
+}
+
+#[test]
+fn fills_bytes(rt: HostRuntime) -> Result<(), Fail> {
+    for (at, count) in [(0, 12), (0, 0), (12, 0), (0, 1), (11, 1), (3, 7)] {
+        let Some(memory) = filled(at, count, 0xc3) else {
+            return Err(Fail::new("outside"));
+        };
+        for i in 0..12usize {
+            let want = match i.checked_sub(at) {
+                Some(k) if k < count => 0xc3,
+                _ => 0x5a,
+            };
+            assert_eq!(rt; memory[i], want, "byte {i} of {count} from {at}");
+        }
+    }
+    assert!(rt; filled(0, 13, 0).is_none() && filled(12, 1, 0).is_none());
     Ok(())
 }

@@ -10,6 +10,7 @@ ghost use Rattle.machine_model.specs.declared.reference_records.Unanswered.TheVa
 ghost use Rattle.machine_model.specs.Memory.{written};
 ghost use Rattle.machine_model.specs.Reference.{birth_from, changed_by, step_by, effect_of, ended_of, job_of, member_of, move_of, program_of, registers_of, state_of, task_of, when};
 
+pub use crate::reference_alone::run_alone;
 pub use crate::reference_effect::effect;
 pub use crate::reference_records::{
     Change, Child, Content, EndedTask, JobMember, LiveTask, Outcome, ReferenceJob, ReferenceMove,
@@ -97,7 +98,7 @@ fn with_state(alloc: Global, task: &LiveTask, state: &Running) -> Result<LiveTas
 }
 
 /// R1 points to the part, R2 has its length, R3 the argument, and R10 points to the stack's end.
-fn entry_registers(size: usize, arg: u64) -> [Content; 11]
+pub(crate) fn entry_registers(size: usize, arg: u64) -> [Content; 11]
     ensures { registers_of result ≡ entry_registers size arg }
 {
     [

@@ -53,13 +53,13 @@ fn alu(width: Width, op: AluOp, dst: u8, src: Operand) -> Insn
 }
 
 /// An operator with a number of the instruction.
-fn alu_imm(width: Width, op: AluOp, dst: u8, number: i32) -> Insn
+pub(crate) fn alu_imm(width: Width, op: AluOp, dst: u8, number: i32) -> Insn
     requires { dst ≤ 10 }
 {
     alu(width, op, dst, Operand::Imm(number))
 }
 
-fn mov_from(width: Width, dst: u8, src: u8) -> Insn
+pub(crate) fn mov_from(width: Width, dst: u8, src: u8) -> Insn
     requires dst { dst ≤ 10 }
     requires src { src ≤ 10 }
 {
@@ -70,7 +70,7 @@ fn mov_from(width: Width, dst: u8, src: u8) -> Insn
     }
 }
 
-fn wide(dst: u8, value: u64) -> Insn
+pub(crate) fn wide(dst: u8, value: u64) -> Insn
     requires { dst ≤ 10 }
 {
     Insn::LoadWide {
@@ -569,7 +569,7 @@ fn what_is_out_of_reach_traps(rt: HostRuntime) -> Result<(), Fail> {
         ),
         (load(LoadKind::Half, 1, 0), Exit, TrapCause::OutsidePart),
         (load(LoadKind::Byte, 1, -1), Exit, TrapCause::OutsidePart),
-        (Insn::Call { helper: 2 }, Exit, TrapCause::NoHelper),
+        (Insn::Call { helper: 6 }, Exit, TrapCause::NoHelper),
         (mov(0, 0), mov(0, 0), TrapCause::OutsideCode),
         (Insn::Jump { offset: -3 }, Exit, TrapCause::OutsideCode),
         (Insn::Jump { offset: 1 }, Exit, TrapCause::OutsideCode),

@@ -134,7 +134,7 @@ fn refuses_what_is_not_allowed(rt: HostRuntime) -> Result<(), Fail> {
         (&[half, EXIT], Refusal::BadKind(0)),
         (&[store(10, -1, 1), EXIT], Refusal::BadKind(0)),
         (&[mov(10, 1), EXIT], Refusal::FramePointer(0)),
-        (&[call(2), EXIT], Refusal::NoHelper(0)),
+        (&[call(6), EXIT], Refusal::NoHelper(0)),
     ];
     for (insns, refusal) in rows {
         assert_eq!(rt; verdict(alloc, 0, insns)?, Err(refusal));

@@ -22,6 +22,8 @@ pub(super) enum Name {
     R5,
     R6,
     R7,
+    R8,
+    R9,
     R10,
 }
 
@@ -79,6 +81,8 @@ fn register(name: Name) -> Register {
         Name::R5 => Register::new(5),
         Name::R6 => Register::new(6),
         Name::R7 => Register::new(7),
+        Name::R8 => Register::new(8),
+        Name::R9 => Register::new(9),
         Name::R10 => Register::new(10),
     }
 }
@@ -205,12 +209,22 @@ pub(super) fn verdict(
     need: u32,
     program: &[Line],
 ) -> Result<Result<u32, Refusal>, Fail> {
+    verdict_with(alloc, &HelperTable::job(), need, program)
+}
+
+/// The cost of the program where these helpers may be called, or its refusal.
+pub(super) fn verdict_with(
+    alloc: Global,
+    helpers: &HelperTable,
+    need: u32,
+    program: &[Line],
+) -> Result<Result<u32, Refusal>, Fail> {
     let mut insns = Vec::new(alloc);
     for line in program {
         insns.push(insn(*line))?;
     }
     let bytes = encode(alloc, &insns)?;
-    match verify(alloc, need, &bytes, &HelperTable::job()) {
+    match verify(alloc, need, &bytes, helpers) {
         Ok(verified) => Ok(Ok(verified.cost())),
         Err(refusal) => Ok(Err(refusal)),
     }

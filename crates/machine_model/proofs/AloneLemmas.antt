@@ -1,0 +1,66 @@
+-- What a state on the way says of the start of a program that runs alone.
+use Rattle.std.proofs.Common.{◌≡◌, ℕ, suc, List, [], refl, sym, ◌∙◌, subst, Some}
+use Rattle.machine_model.specs.declared.program.Entry.{Entry}
+use Rattle.machine_model.specs.Machine.{State, Program, Effect, Goes, Ends, Spawns, Calls, Traps, Birth, Trap, answered, effect}
+use Rattle.machine_model.specs.Job.{entries_of}
+use Rattle.machine_model.specs.Alone.{Answers, EndsWithin, Follows, no_entries}
+use Rattle.machine_model.specs.Reference.{Stays, StaysFor}
+use Rattle.machine_model.proofs.Splits.{Births, births_effect}
+use Rattle.machine_model.proofs.Tables.{effect_same}
+
+-- where there are no programs, there is nothing to spawn
+pub alone_effect : (p : Program) (s : State) → effect p (entries_of []) s ≡ effect p no_entries s
+alone_effect p s = effect_same p (entries_of []) no_entries (λ n. refl) s
+
+-- an end of the state within m steps is one of the first state within n, and so is a way on
+pub record Leads (p : Program) (may : Answers) (n : ℕ) (first : State) (m : ℕ) (s : State) : Type 0 where
+  pub ends : (r0 : ℕ) (last : State) → EndsWithin p may r0 last m s → EndsWithin p may r0 last n first
+  pub stays : StaysFor p may m s → StaysFor p may n first
+
+pub leads_same : (p : Program) (may : Answers) (n m : ℕ) (s t : State) → m ≡ n → s ≡ t → Leads p may n t m s
+leads_same p may n m s t many is = record {
+  ends = λ r0 last e. subst (EndsWithin p may r0 last n) is (subst (λ (i : ℕ). EndsWithin p may r0 last i s) many e);
+  stays = λ e. subst (StaysFor p may n) is (subst (λ (i : ℕ). StaysFor p may i s) many e);
+}
+
+module _ (p : Program) (may : Answers) (n : ℕ) (first : State) (m k : ℕ) (s : State) (one : m ≡ suc k) (leads : Leads p may n first m s) where
+  -- an end is told from what follows the effect, and so is a way on
+  by_effect : (e : Effect) → e ≡ effect p (entries_of []) s → (r0 : ℕ) (last : State) → Follows may (EndsWithin p may r0 last k) r0 last e →
+      EndsWithin p may r0 last n first
+  by_effect e is r0 last follows =
+      leads.ends r0 last (subst (λ (i : ℕ). EndsWithin p may r0 last i s) (sym one)
+      (subst (Follows may (EndsWithin p may r0 last k) r0 last) (is ∙ alone_effect p s) follows))
+
+  stays_by : (e : Effect) → e ≡ effect p (entries_of []) s → Stays may (StaysFor p may k) e → StaysFor p may n first
+  stays_by e is stays =
+      leads.stays (subst (λ (i : ℕ). StaysFor p may i s) (sym one)
+      (subst (Stays may (StaysFor p may k)) (is ∙ alone_effect p s) stays))
+
+  pub leads_goes : (next : State) → Goes next ≡ effect p (entries_of []) s → Leads p may n first k next
+  leads_goes next is = record {
+    ends = λ r0 last e. by_effect (Goes next) is r0 last e;
+    stays = λ e. stays_by (Goes next) is e;
+  }
+
+  pub leads_calls : (helper : ℕ) (arguments : List ℕ) (caller next : State) (answer : ℕ) → Calls helper arguments caller ≡ effect p (entries_of []) s →
+      may helper arguments answer → next ≡ answered caller answer → Leads p may n first k next
+  leads_calls helper arguments caller next answer is gives after = record {
+    ends = λ r0 last e. by_effect (Calls helper arguments caller) is r0 last (answer, gives, subst (EndsWithin p may r0 last k) after e);
+    stays = λ e. stays_by (Calls helper arguments caller) is (answer, gives, subst (StaysFor p may k) after e);
+  }
+
+  pub ends_there : (r0 : ℕ) (last : State) → Ends r0 last ≡ effect p (entries_of []) s → EndsWithin p may r0 last n first
+  ends_there r0 last is = by_effect (Ends r0 last) is r0 last (refl, refl)
+
+  pub stays_at_trap : (trap : Trap) → Traps trap ≡ effect p (entries_of []) s → StaysFor p may n first
+  stays_at_trap trap is = stays_by (Traps trap) is tt
+
+  pub spawns_nothing : (birth : Birth) (taken refused : State) → Spawns birth taken refused ≡ effect p (entries_of []) s → ⊥
+  spawns_nothing birth taken refused is =
+      let b = subst (Births no_entries s.held) (sym (is ∙ alone_effect p s)) (births_effect p no_entries s) in nothing b.0 b.1
+    where
+      nothing : (entry : Entry) → no_entries birth.program ≡ Some entry → ⊥
+      nothing entry e = cc
+
+pub stays_at_last : (p : Program) (may : Answers) (n : ℕ) (first : State) (m : ℕ) (s : State) → m ≡ 0 → Leads p may n first m s → StaysFor p may n first
+stays_at_last p may n first m s none leads = leads.stays (subst (λ (i : ℕ). StaysFor p may i s) (sym none) tt)
