@@ -1,0 +1,138 @@
+//! A machine for single programs.
+
+ghost use Rattle.std.specs.Prelude.{◌≡◌, ◌≢◌, ◌↔◌, ℕ, ◌==◌, ◌≤◌, ◌<◌, [], length, if◌then◌else◌, IsTrue, IsSome, IfOk, OnOk, OnErr, None, Some, MatchOption, MatchResult};
+ghost use Rattle.helpers.specs.Table.{arity_in, job_table};
+ghost use Rattle.verifier.specs.Checked.{Checked};
+ghost use Rattle.verifier.specs.Refusals.{Refuses};
+ghost use Rattle.std.proofs.Props.{props};
+ghost use Rattle.interpreter.specs.Functions.{HaveFunctions, called, function_of};
+ghost use Rattle.interpreter.specs.Executes.{Executes, IsUnrunnable, IsSet};
+
+use crate::alone::run_alone;
+use crate::functions::Functions;
+use crate::registered::{Function, Registered};
+use crate::vm_fault::VmFault;
+use helpers::{HelperTable, Part};
+use refusal::NoMemory;
+use std::alloc::Global;
+use verifier::{Refusal, Verified, verify};
+
+/// A machine for single programs: the program that is set, if one is, the helpers that a program may call, and the functions
+/// of those that the caller registered.
+#[derive(Drop)]
+pub struct Vm {
+    program: Option<Verified>,
+    helpers: HelperTable,
+    functions: Functions,
+    room: Vec<u8>,
+    ghost same: { (p : Checked) → program ≡ Some p → p.helpers ≡ helpers } by { Prim.hlevel props },
+    ghost have: { HaveFunctions helpers functions.places.items },
+}
+
+impl Vm {
+    /// A machine with the program of this need and code, if they are given, and with the helpers of a job. The program's
+    /// refusal is [`Refusal`]'s.
+    pub fn new(alloc: Global, program: Option<(u32, &[u8])>) -> Result<Vm, Refusal>
+        ensures program { MatchResult result
+            (λ vm. MatchOption program.entry (vm.program ≡ None) (λ given. IsSet given.0 given.1.now job_table vm.program))
+            (λ refusal. MatchOption program.entry ⊥ (λ given. Refuses given.0 given.1.now job_table refusal)) }
+        ensures helpers { IfOk result (λ vm. (vm.helpers ≡ job_table) × (vm.functions.places.items ≡ [])) }
+    {
+        let helpers = HelperTable::job();
+        let program = match program {
+            Some((need, code)) => Some(verify(alloc, need, code, &helpers)?),
+            None => None,
+        };
+        Ok(Vm {
+            program,
+            helpers,
+            functions: Functions::none(alloc),
+            room: Vec::new(alloc),
+        })
+    }
+
+    /// Sets the program of this need and code, verified with the machine's helpers. Where it is refused, by the refusals of
+    /// [`Refusal`], the program that was set stays.
+    pub fn set_program(&mut self, alloc: Global, need: u32, code: &[u8]) -> Result<(), Refusal>
+        ensures program { MatchResult result
+            (λ _. IsSet need code.now self.old.helpers self.new.program)
+            (λ refusal. Refuses need code.now self.old.helpers refusal × (self.new.program ≡ self.old.program)) }
+        ensures helpers { (self.new.helpers ≡ self.old.helpers) × (self.new.functions ≡ self.old.functions) }
+    {
+        self.program = Some(verify(alloc, need, code, &self.helpers)?);
+        Ok(())
+    }
+
+    /// Whether a program is set.
+    pub fn has_program(&self) -> bool
+        ensures { IsTrue result ↔ IsSome self.now.program }
+    {
+        self.program.is_some()
+    }
+
+    /// Registers the function of the caller's helper of this id, and how many arguments it takes, in place of those that it had:
+    /// those of the five past them are 0 when it is called.
+    pub fn register_helper(
+        &mut self,
+        alloc: Global,
+        id: u32,
+        arity: u32,
+        function: Function,
+    ) -> Result<(), NoMemory>
+        requires id { (64 ≤ id) × (id < 128) }
+        requires arity { arity ≤ 5 }
+        requires unset { self.old.program ≡ None }
+        requires callable { Function.IsAlwaysCallable function }
+        ensures arity { OnOk result ((other : ℕ) →
+            arity_in self.new.helpers other ≡ (if other == id then Some arity else arity_in self.old.helpers other)) }
+        ensures function { OnOk result ((f : _) × (function_of self.new.functions.places.items id ≡ Some f) × (f.function ≡ function)) }
+        ensures others { OnOk result ((other : ℕ) → other ≢ id →
+            function_of self.new.functions.places.items other ≡ function_of self.old.functions.places.items other) }
+        ensures err { OnErr result ((self.new.helpers ≡ self.old.helpers)
+            × ((other : ℕ) → function_of self.new.functions.places.items other ≡ function_of self.old.functions.places.items other)) }
+        ensures program { self.new.program ≡ None }
+    {
+        self.functions.make_room(alloc)?;
+        self.helpers.add(alloc, id, arity)?;
+        self.functions.put(id, Registered::of(function));
+        Ok(())
+    }
+
+    /// Runs the program alone from its entry to its end, with argument 0, the memory as its part, and this credit, and gives
+    /// R0. The memory is left as the run leaves it.
+    ///
+    /// The refusals, in this order, after which the memory is as it was: 41 no program is set, 42 the credit is under the
+    /// program's cost, 43 the memory is shorter than the program's need, 99 there is no memory to run it.
+    pub fn execute_program(
+        &mut self,
+        alloc: Global,
+        mem: &mut [u8],
+        credit: u32,
+    ) -> Result<u64, VmFault>
+        requires small { length mem.old ≤ 65536 }
+        requires limit { credit ≤ 2147483647 }
+        ensures runs { MatchResult result
+            (λ r0. Executes self.old.program (called self.old.functions.places.items) credit mem.old r0 mem.new)
+            (λ fault. IsUnrunnable self.old.program credit (length mem.old) fault × (mem.new ≡ mem.old)) }
+        ensures kept { (self.new.program ≡ self.old.program) × (self.new.helpers ≡ self.old.helpers)
+            × (self.new.functions ≡ self.old.functions) }
+    {
+        let Some(program) = &self.program else {
+            return Err(VmFault::NoProgram);
+        };
+        if credit < program.cost() {
+            return Err(VmFault::CreditLow);
+        }
+        if mem.len() < program.need() as usize {
+            return Err(VmFault::MemoryShort);
+        }
+        self.room.clear();
+        self.room.extend_from_slice(mem)?;
+        let bytes = std::mem::replace(&mut self.room, Vec::new(alloc));
+        let mut part = Part::whole(bytes);
+        let r0 = run_alone(alloc, program, &mut part, credit, &mut self.functions);
+        self.room = part.into_bytes();
+        mem.copy_from_slice(&self.room);
+        Ok(r0)
+    }
+}
