@@ -61,7 +61,7 @@ loop-preserved g c =
           (leads_goes p may c.args.steps first left less s one c.loop.invariant (state_of w.in-Goes.next)
           (rw w.in-Goes.is at c.in_ok-next.ensures.value))
       | in-Calls+in_ok-state-in-Calls w ↦
-          let called = w.in_ok-state-in-Calls.ensures in
+          let called = w.in_ok-state-in-Calls.ensures.next in
           subst (λ (t : Running). Leads p may c.args.steps first less (state_of t)) (sym w.state-is)
           (leads_calls p may c.args.steps first left less s one c.loop.invariant w.in-Calls.id w.in-Calls.arguments
           (state_of w.in-Calls.caller) (state_of w.in_ok-state-in-Calls.state) called.0
