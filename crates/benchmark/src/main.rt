@@ -1,9 +1,10 @@
 //! `benchmark`: runs each scenario once and prints what it came to. `benchmark time`: prints how long a step of `play` takes,
-//! in nanoseconds, and how many slots `verify` judges in a second.
+//! in nanoseconds, how many slots `verify` judges in a second, and how quick `execute_program` is.
 #![tactic(auto)]
 
 mod results;
 mod scenario;
+mod single;
 mod timing;
 
 use results::print_results;

@@ -1,6 +1,8 @@
 //! What the scenarios come to: the same on every machine.
 
 use crate::scenario::{Scenario, program};
+use crate::single::{executed, filter, sum};
+use interpreter::Vm;
 use job_core::{ProgramBytes, Report, admit, play};
 use std::alloc::Global;
 use std::io::Write;
@@ -31,7 +33,7 @@ fn played(alloc: Global, code: ProgramBytes, steps: u32) -> anyhow::Result<Optio
     Ok(play(alloc, job, &numbers)?.close().ok())
 }
 
-/// Prints R0 and the credit spent for each scenario in 64 slots.
+/// Prints R0 and the credit spent for each scenario in 64 slots, and R0 of each single program.
 pub fn print_results<W: Write>(alloc: Global, output: &mut W) -> anyhow::Result<()> {
     for scenario in SCENARIOS {
         let name = scenario.name();
@@ -45,6 +47,11 @@ pub fn print_results<W: Write>(alloc: Global, output: &mut W) -> anyhow::Result<
                 )?;
             }
         }
+    }
+    for mut single in [filter(alloc)?, sum(alloc)?] {
+        let mut vm = Vm::new(alloc, Some((single.need, &single.code)))?;
+        let r0 = executed(alloc, &mut vm, &mut single)?;
+        writeln!(output, "{} of {} bytes: r0 {r0}", single.name, single.need)?;
     }
     Ok(())
 }

@@ -2,7 +2,9 @@
 
 use crate::results::{SCENARIOS, schedule};
 use crate::scenario::{Scenario, program};
+use crate::single::{Single, executed, filter, sum};
 use helpers::HelperTable;
+use interpreter::Vm;
 use job_core::{admit, play};
 use std::alloc::Global;
 use std::io::Write;
@@ -12,6 +14,9 @@ use verifier::verify;
 
 /// How often each program is run.
 const ROUNDS: u32 = 500;
+
+/// How often each single program is run.
+const SINGLE_ROUNDS: u32 = 20_000;
 
 /// The longest of the programs, in slots.
 const LONGEST: u32 = 4096;
@@ -48,7 +53,36 @@ fn judged<C: Clock>(
     Ok(start.elapsed(clock)?)
 }
 
-/// Prints nanoseconds a step, and slots a second of `verify`.
+/// The nanoseconds that a run of a single program takes.
+fn run_alone<C: Clock>(clock: &C, alloc: Global, single: &mut Single) -> anyhow::Result<u128> {
+    let mut vm = Vm::new(alloc, Some((single.need, &single.code)))?;
+    let start = Instant::now(clock)?;
+    for _ in 0..SINGLE_ROUNDS {
+        executed(alloc, &mut vm, single)?;
+    }
+    Ok(start.elapsed(clock)?.as_nanos() / u128::from(SINGLE_ROUNDS))
+}
+
+/// Prints runs of the filter a second, and the bytes that a sum goes over in a second.
+fn print_single_times<C: Clock, W: Write>(
+    clock: &C,
+    alloc: Global,
+    output: &mut W,
+) -> anyhow::Result<()> {
+    let nanos = run_alone(clock, alloc, &mut filter(alloc)?)?.max(1);
+    writeln!(
+        output,
+        "execute_program filter: {} runs a second",
+        1_000_000_000 / nanos
+    )?;
+    let mut whole = sum(alloc)?;
+    let nanos = run_alone(clock, alloc, &mut whole)?.max(1);
+    let bytes = u128::from(whole.need).saturating_mul(1000) / nanos;
+    writeln!(output, "sum of 65536 bytes: {bytes} million bytes a second")?;
+    Ok(())
+}
+
+/// Prints nanoseconds a step, slots a second of `verify`, and how quick single programs are.
 pub fn print_times<C: Clock, W: Write>(
     clock: &C,
     alloc: Global,
@@ -78,5 +112,5 @@ pub fn print_times<C: Clock, W: Write>(
             )?;
         }
     }
-    Ok(())
+    print_single_times(clock, alloc, output)
 }
