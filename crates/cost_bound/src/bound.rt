@@ -1,32 +1,16 @@
-//! Prices, and the greatest sum of prices from each slot.
+//! The greatest sum of prices from each slot.
 
 ghost use Rattle.std.specs.Prelude.{◌≡◌, ◌+◌, ◌*◌, ◌≤◌, ◌<◌, length, IfOk, Some};
-ghost use Rattle.machine_model.specs.Edges.{insn_at, price};
+ghost use Rattle.machine_model.specs.Edges.{insn_at};
 ghost use Rattle.machine_model.specs.Paths.{IsCost, AreCosts};
 ghost use Rattle.cost_bound.specs.Table.{AreCostsFrom};
 
 use crate::table::Costs;
 use flow_graph::{Graph, Next};
 use insn_codec::Insn;
+use machine_model::price;
 use refusal::NoMemory;
 use std::alloc::Global;
-
-/// What an instruction costs: 1, but for a call, which costs what its helper does.
-pub fn price(insn: &Insn) -> u32
-    ensures price { result ≡ price insn.now }
-    ensures least { 1 ≤ result }
-    ensures most { result ≤ 32 }
-{
-    match insn {
-        Insn::Call { helper } => match *helper {
-            1 => 16,
-            2 | 3 => 2,
-            4 | 5 => 32,
-            _ => 8,
-        },
-        _ => 1,
-    }
-}
 
 /// The cost of one slot, from those of the slots that it leads to.
 fn cost_of(graph: &Graph, table: &[u32], slot: u32, insn: &Insn) -> u32

@@ -4,7 +4,8 @@
 mod bound;
 mod table;
 
-pub use bound::{costs, price};
+pub use bound::costs;
+pub use machine_model::price;
 pub use table::Costs;
 
 #[cfg(test)]

@@ -1,5 +1,5 @@
 -- A job's programs call no helper of a caller's.
-use Rattle.std.proofs.Common.{◌≡◌, ℕ, zero, suc, ◌<◌, ◌≤◌, ◌-◌, List, [], arith, Bool, true, false, Some, None, nat_lt, Result, if◌then◌else◌, Option}
+use Rattle.std.proofs.Common.{◌≡◌, ℕ, zero, suc, ◌<◌, ◌≤◌, ◌-◌, List, arith, Bool, true, false, Some, None, nat_lt, Result, if◌then◌else◌, Option}
 use Rattle.std.specs.Prelude.{slice_index_or}
 use Rattle.machine_model.specs.Machine.{Effect, Goes, Ends, Spawns, Calls, Traps}
 use Rattle.machine_model.proofs.OwnHelpers.{IsOwn, HasOwnHelpers}
@@ -47,4 +47,3 @@ own_did p (Spawns birth taken refused) Went frame part credit silent told called
 own_did p (Spawns birth taken refused) (Ended word) frame part credit silent told called own d = d
 own_did p (Calls helper arguments s) out frame part credit silent told called own d = absurd own
 own_did p (Traps trap) out frame part credit silent told called own d = d
-

@@ -6,7 +6,7 @@ use Rattle.hex.specs.declared.error.FromHexError.{FromHexError}
 use Rattle.job_core.specs.declared.admission.ProgramBytes.{ProgramBytes}
 use Rattle.job_core.specs.declared.admission.AdmitFault.{AdmitFault}
 use Rattle.job_core.specs.declared.single.Answer.{Answer}
-use Rattle.job_core.specs.declared.single.Answer.TheVariants.{Ended, NotHexadecimal, Refused, NoMemory, Failed}
+use Rattle.job_core.specs.declared.single.Answer.TheVariants.{Ended, NotHexadecimal, Refused, NoMemory}
 use Rattle.job_core.specs.declared.single.Outcome.{Outcome}
 use Rattle.job_core.specs.Admitted.{Order}
 use Rattle.job_core.specs.Admission.{IsAdmittedFrom, RefusesJob, number_of, slot_of}
@@ -59,7 +59,6 @@ IsAnswer need credit text (Ended outcome) = CameTo need credit text outcome
 IsAnswer need credit text NotHexadecimal = IsNoHexadecimal text
 IsAnswer need credit text (Refused fault) = WasRefused need credit text fault
 IsAnswer need credit text NoMemory = Unit {0}
-IsAnswer need credit text Failed = Unit {0}
 
 -- `refused N`, or `refused N at K`
 abbrev pub refusal_line : ℕ → Option ℕ → List ℕ
@@ -72,12 +71,10 @@ line_of (Ended o) = codes "r0 " ++ (decimal o.r0 ++ (codes " spent " ++ (decimal
 line_of NotHexadecimal = refusal_line 73 None
 line_of (Refused fault) = refusal_line (number_of fault) (slot_of fault)
 line_of NoMemory = refusal_line 99 None
-line_of Failed = []
 
 -- the status of the answer
 abbrev pub status_of : Answer → ℕ
 status_of (Ended o) = 0
-status_of Failed = 3
 status_of answer = 1
 
 -- the words are a need and a credit, and the line of the answer to them is written. `appends` says what is written

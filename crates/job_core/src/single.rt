@@ -1,6 +1,6 @@
 //! One program from the command line: its task is stepped to its end, and the answer is printed.
 
-ghost use Rattle.std.specs.Prelude.{◌≡◌, ◌↔◌, ◌≤◌, ◌<◌, ℕ, List, map, Some, IfOk, OnOk, IfSome, IsTrue, MatchOption};
+ghost use Rattle.std.specs.Prelude.{◌≡◌, ◌↔◌, ◌≤◌, ◌<◌, ℕ, List, map, Some, IfOk, OnOk, IsTrue, MatchOption};
 ghost use Rattle.std.specs.Io.KnownBytes.{Appends};
 ghost use Rattle.job_core.specs.Words.{IsNumberWord, AreNumbers};
 ghost use Rattle.job_core.specs.Answered.{IsTrailing, IsTrimmed, IsAnswer, Tells, refusal_line, line_of, status_of};
@@ -26,31 +26,30 @@ pub struct Outcome {
     pub returned: u32,
 }
 
-/// Steps the root's task to its end. `None` if it isn't there after 4,096 steps.
-pub fn run_root(alloc: Global, job: Job) -> Result<Option<Outcome>, NoMemory>
-    ensures { IfOk result (λ found. IfSome found (λ outcome. IsOutcome job outcome)) }
+/// Steps the root's task to its end, which it reaches within 4,096 steps.
+pub fn run_root(alloc: Global, job: Job) -> Result<Outcome, NoMemory>
+    ensures { IfOk result (λ outcome. IsOutcome job outcome) }
 {
     let mut world = World::open(alloc, job)?;
     for _ in 0..STEPS {
         if let Stepped::Ended(r0) = world.step(alloc, 0) {
             let totals = world.totals();
-            return Ok(Some(Outcome {
+            return Ok(Outcome {
                 r0,
                 spent: totals.spent,
                 returned: totals.returned,
-            }));
+            });
         }
     }
-    Ok(None)
+    unreachable!()
 }
 
-/// What one run of the program comes to: an outcome, a refusal, or no end within 4,096 steps.
+/// What one run of the program comes to: an outcome, or a refusal.
 enum Answer {
     Ended(Outcome),
     NotHexadecimal,
     Refused(AdmitFault),
     NoMemory,
-    Failed,
 }
 
 /// A decimal number of 32 bits: digits alone.
@@ -106,8 +105,7 @@ fn run_text(alloc: Global, need: u32, credit: u32, text: &[u8]) -> Answer
         Err(fault) => return Answer::Refused(fault),
     };
     match run_root(alloc, job) {
-        Ok(Some(outcome)) => Answer::Ended(outcome),
-        Ok(None) => Answer::Failed,
+        Ok(outcome) => Answer::Ended(outcome),
         Err(NoMemory) => Answer::NoMemory,
     }
 }
@@ -149,7 +147,6 @@ fn told<W: Write>(answer: Answer, writer: &mut W) -> io::Result<u8>
             refused(99, None, writer)?;
             Ok(1)
         }
-        Answer::Failed => Ok(3),
     }
 }
 

@@ -1,10 +1,10 @@
 -- What a state on the way says of the start of a program that runs alone.
-use Rattle.std.proofs.Common.{◌≡◌, ℕ, suc, List, [], refl, sym, ◌∙◌, subst, Some}
+use Rattle.std.proofs.Common.{◌≡◌, ℕ, zero, suc, List, [], refl, sym, ◌∙◌, subst, Some}
 use Rattle.machine_model.specs.declared.program.Entry.{Entry}
 use Rattle.machine_model.specs.Machine.{State, Program, Effect, Goes, Ends, Spawns, Calls, Traps, Birth, Trap, answered, effect}
 use Rattle.machine_model.specs.Job.{entries_of}
 use Rattle.machine_model.specs.Alone.{Answers, EndsWithin, Follows, no_entries}
-use Rattle.machine_model.specs.Reference.{Stays, StaysFor}
+use Rattle.machine_model.specs.Reference.{HasOneAnswer, NeverEnds, Stays, StaysFor}
 use Rattle.machine_model.proofs.Splits.{Births, births_effect}
 use Rattle.machine_model.proofs.Tables.{effect_same}
 
@@ -64,3 +64,19 @@ module _ (p : Program) (may : Answers) (n : ℕ) (first : State) (m k : ℕ) (s 
 
 pub stays_at_last : (p : Program) (may : Answers) (n : ℕ) (first : State) (m : ℕ) (s : State) → m ≡ 0 → Leads p may n first m s → StaysFor p may n first
 stays_at_last p may n first m s none leads = leads.stays (subst (λ (i : ℕ). StaysFor p may i s) (sym none) tt)
+
+apart : (may : Answers) → HasOneAnswer may → (A B : State → Type 0) → ((s : State) → A s → B s → ⊥) → (r0 : ℕ) (last : State) (e : Effect) →
+    Stays may A e → Follows may B r0 last e → ⊥
+apart may one A B each r0 last (Goes next) a b = each next a b
+apart may one A B each r0 last (Ends word state) a b = a
+apart may one A B each r0 last (Spawns birth taken refused) a b = a
+apart may one A B each r0 last (Calls helper arguments caller) a b =
+    each (answered caller b.0) (subst (λ (n : ℕ). A (answered caller n)) (one helper arguments a.0 b.0 a.1 b.1) a.2) b.2
+apart may one A B each r0 last (Traps trap) a b = b
+
+-- a task that stays with some answers doesn't end with others, where there are none
+pub never_ends : (p : Program) (may : Answers) → HasOneAnswer may → (n : ℕ) (s : State) → StaysFor p may n s → NeverEnds p may n s
+never_ends p may one zero s stays = λ r0 last ends. ends
+never_ends p may one (suc n) s stays = λ r0 last ends.
+    apart may one (StaysFor p may n) (EndsWithin p may r0 last n) (λ next a b. never_ends p may one n next a r0 last b) r0 last
+    (effect p no_entries s) stays ends

@@ -46,14 +46,14 @@ keeps_spawned s program share cut arg answer few =
     (λ _. refl)
 
 pub keeps_effect : (p : Program) (entries : Entries) (s : State) → Keeps s.held (effect p entries s)
-keeps_effect p entries s = effect_holds (Keeps s.held) p entries s (λ _. tt) (λ amount le. record {
+keeps_effect p entries s = effect_holds (Keeps s.held) p entries s (λ _. tt) (λ i amount there le. record {
   traps = λ _. tt;
-  goes = λ next held size. held;
+  goes = λ next fact leads held size. held;
   ends = λ r0. (le, refl);
-  spawns = λ program share cut arg. keeps_spawned (paid s amount) program share cut arg _ (λ z.
+  spawns = λ program share cut arg on. keeps_spawned (paid s amount) program share cut arg _ (λ z.
       let l = leaves (entries program) share cut s.held (s.used + amount) (cost_at p (s.slot + 1)) (length s.part) p.need z in
       omega (arith, l.credit));
-  calls = λ helper arity arguments is other. tt;
+  calls = λ helper arity arguments on is other. tt;
 })
 
 -- the sum over the members, where one of them is replaced

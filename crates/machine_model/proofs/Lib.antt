@@ -14,3 +14,4 @@ pub mod ReferenceLemmas
 pub mod ReferenceRuns
 pub mod MemoryLemmas
 pub mod AloneLemmas
+pub mod FollowingLemmas

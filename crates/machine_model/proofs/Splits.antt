@@ -21,12 +21,12 @@ splits_spawned s program share cut arg answer =
     if_holds (Splits s.part) (answer == 0) _ _ (λ t. (take-append-drop (length s.part - cut) s.part, refl)) (λ _. refl)
 
 pub splits_effect : (p : Program) (entries : Entries) (s : State) → Splits s.part (effect p entries s)
-splits_effect p entries s = effect_holds (Splits s.part) p entries s (λ _. tt) (λ amount le. record {
+splits_effect p entries s = effect_holds (Splits s.part) p entries s (λ _. tt) (λ i amount there le. record {
   traps = λ _. tt;
-  goes = λ next held size. size;
+  goes = λ next fact leads held size. size;
   ends = λ r0. refl;
-  spawns = λ program share cut arg. splits_spawned (paid s amount) program share cut arg _;
-  calls = λ helper arity arguments is other. tt;
+  spawns = λ program share cut arg on. splits_spawned (paid s amount) program share cut arg _;
+  calls = λ helper arity arguments on is other. tt;
 })
 
 -- what stands behind a spawn that passes its tests: a program whose cost and need the birth meets, and enough credit
@@ -63,10 +63,10 @@ births_spawned entries s program share cut arg after need answer is =
     (λ _. tt)
 
 pub births_effect : (p : Program) (entries : Entries) (s : State) → Births entries s.held (effect p entries s)
-births_effect p entries s = effect_holds (Births entries s.held) p entries s (λ _. tt) (λ amount le. record {
+births_effect p entries s = effect_holds (Births entries s.held) p entries s (λ _. tt) (λ i amount there le. record {
   traps = λ _. tt;
-  goes = λ next held size. tt;
+  goes = λ next fact leads held size. tt;
   ends = λ r0. tt;
-  spawns = λ program share cut arg. births_spawned entries (paid s amount) program share cut arg _ p.need _ refl;
-  calls = λ helper arity arguments is other. tt;
+  spawns = λ program share cut arg on. births_spawned entries (paid s amount) program share cut arg _ p.need _ refl;
+  calls = λ helper arity arguments on is other. tt;
 })

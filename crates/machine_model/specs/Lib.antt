@@ -10,3 +10,4 @@ pub mod Job
 pub mod Computing
 pub mod Reference
 pub mod Alone
+pub mod Following

@@ -1,5 +1,5 @@
 -- The reference's records as those of the definitions.
-use Rattle.std.specs.Prelude.{ℕ, zero, suc, ◌^◌, ◌≤◌, ℤ, List, [], ◌∷◌, ◌++◌, map, slice_set, Bool, true, false, Option, Some, None, Result, Ok, Err, slice_index_or, option_map}
+use Rattle.std.specs.Prelude.{◌≡◌, ℕ, zero, suc, ◌^◌, ◌≤◌, ℤ, List, [], ◌∷◌, ◌++◌, map, slice_set, Bool, true, false, Option, Some, None, Result, Ok, Err, slice_index_or, option_map}
 use Rattle.std.specs.Int.{w64}
 use Rattle.std.specs.Int.RustNames.{FitsSigned}
 use Rattle.machine_model.specs.declared.reference_records.Content.{Content}
@@ -24,7 +24,7 @@ use Rattle.machine_model.specs.declared.reference_records.Change.{Change}
 use Rattle.machine_model.specs.Job.{Task, Ending, Member, Live, Ended, Job, Move}
 use Rattle.machine_model.specs.Value.{Value, Unset, Num, Stack, Part, Registers}
 use Rattle.machine_model.specs.Machine.{State, Program, Birth, Effect, Goes, Ends, Spawns, Calls, Traps, Trap, UnsetRead, OutsideStack, OutsidePart, WrongKind, OutsideCode, WritesStackEnd, NoHelper, OverSpent, answered, effect}
-use Rattle.machine_model.specs.Alone.{Answers, no_entries}
+use Rattle.machine_model.specs.Alone.{Answers, EndsWithin, no_entries}
 
 abbrev pub value_of : Content → Value
 value_of content.Unset = Unset
@@ -208,3 +208,11 @@ Stays may on (Traps trap) = Unit {0}
 abbrev pub StaysFor : Program → Answers → ℕ → State → Type 0
 StaysFor p may zero s = Unit {0}
 StaysFor p may (suc n) s = Stays may (StaysFor p may n) (effect p no_entries s)
+
+-- a helper gives the same answer to the same arguments
+abbrev pub HasOneAnswer : Answers → Type 0
+HasOneAnswer may = (helper : ℕ) (arguments : List ℕ) (a b : ℕ) → may helper arguments a → may helper arguments b → a ≡ b
+
+-- the task doesn't end within so many steps, whatever is answered
+abbrev pub NeverEnds : Program → Answers → ℕ → State → Type 0
+NeverEnds p may n s = (r0 : ℕ) (last : State) → EndsWithin p may r0 last n s → ⊥

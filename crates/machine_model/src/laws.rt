@@ -1,7 +1,8 @@
 //! The laws of the definitions.
 
 ghost use Rattle.std.specs.Prelude.{◌≡◌, ℕ, List, length, Bool, Some};
-ghost use Rattle.machine_model.specs.Machine.{Program};
+ghost use Rattle.machine_model.specs.Following.{FollowsEdge};
+ghost use Rattle.machine_model.specs.Machine.{Entries, Program, State, effect};
 ghost use Rattle.machine_model.specs.Job.{Job, Move, run, step, credit_of, AreTiles};
 
 /// Over every schedule, the credit that is held, returned and spent is what was there at the start.
@@ -14,4 +15,9 @@ pub fn conserves_credit()
 pub fn keeps_tiling()
     ensures { (programs : List Program) (j k : Job) (n : ℕ) (refuses : Bool) → step programs j n refuses ≡ Some k →
         AreTiles j.tasks (length j.buffer) → AreTiles k.tasks (length k.buffer) }
+{}
+
+/// Where an instruction doesn't end its task, the task goes on at the end of one of the instruction's edges.
+pub fn steps_follow_edges()
+    ensures { (p : Program) (entries : Entries) (s : State) → FollowsEdge p.code s.slot (effect p entries s) }
 {}

@@ -2,9 +2,11 @@
 #![tactic(auto)]
 
 mod laws;
+mod prices;
 mod program;
 
-pub use laws::{conserves_credit, keeps_tiling};
+pub use laws::{conserves_credit, keeps_tiling, steps_follow_edges};
+pub use prices::{helper_price, price};
 pub use program::Entry;
 
 // the exact operators

@@ -87,7 +87,7 @@ pub fn apply_alu(op: AluOp, width: Width, a: u64, b: u64) -> u64
 
 /// What an instruction with this operator gives on two registers' numbers. The width is told apart first, so that the
 /// compiler can lay out each width's operators without a test of it.
-#[inline]
+#[inline(always)]
 pub fn alu_number(op: AluOp, width: Width, x: u64, y: u64) -> u64
     ensures { result ≡ number_result width op x y }
 {

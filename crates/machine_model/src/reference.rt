@@ -1,5 +1,5 @@
 //! The reference: runs of a job, computed as the definitions say, one function a definition. It is slow. What
-//! it is compared with shares the exact operators with it, and loads and stores of memory, but nothing else.
+//! it is compared with shares the exact operators with it, and loads, stores and fills of memory, but nothing else.
 
 ghost use Rattle.std.specs.Prelude.{◌≡◌, ℕ, ◌+◌, ◌<◌, length, take, drop, slice_set, map, option_map, slice_get, Bool, false, Option, Some, Err, IfOk, OnOk};
 ghost use Rattle.machine_model.specs.Job.{Job, applied, run, start, state_in, step, with_state, child_of, ending_of, entry_registers, goes_on};

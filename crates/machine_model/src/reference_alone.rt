@@ -1,10 +1,11 @@
 //! The reference's run of one program alone, with helpers of the caller's own.
 
-ghost use Rattle.std.specs.Prelude.{◌≡◌, ℕ, None, Some, Ok, IfOk};
+ghost use Rattle.std.specs.Prelude.{◌≡◌, ◌≤◌, ℕ, None, Some, Ok, Err, IfOk};
 ghost use Rattle.machine_model.specs.Alone.{EndsWithin, alone};
 ghost use Rattle.machine_model.specs.Machine.{answered};
-ghost use Rattle.machine_model.specs.Reference.{StaysFor, program_of, state_of};
+ghost use Rattle.machine_model.specs.Reference.{HasOneAnswer, NeverEnds, StaysFor, program_of, state_of};
 ghost use Rattle.machine_model.specs.declared.reference_records.Running.{Running};
+ghost use Rattle.machine_model.specs.declared.reference_records.Unanswered.{Unanswered};
 
 use crate::reference::entry_registers;
 use crate::reference_calls;
@@ -35,7 +36,8 @@ fn answered<F: Fn(u32, [u64; 5]) -> u64>(
     caller: Running,
 ) -> Result<Running, Unanswered>
     requires { F.IsAlwaysCallable helper.now }
-    ensures { IfOk result (λ next. (answer : ℕ) × F.post helper.now id arguments answer × (state_of next ≡ answered (state_of caller) answer)) }
+    ensures next { IfOk result (λ next. (answer : ℕ) × F.post helper.now id arguments answer × (state_of next ≡ answered (state_of caller) answer)) }
+    ensures large { (error : Unanswered) → result ≡ Err error → 4294967296 ≤ caller.slot }
 {
     if caller.slot >= 4_294_967_296 {
         return Err(Unanswered::TooLarge);
@@ -60,6 +62,8 @@ pub fn run_alone<F: Fn(u32, [u64; 5]) -> u64>(
         EndsWithin (program_of program.now) (λ id arguments answer. F.post helper.now id arguments answer) r0 (state_of last) steps (alone credit part.items) }
     ensures stays { result ≡ Ok None →
         StaysFor (program_of program.now) (λ id arguments answer. F.post helper.now id arguments answer) steps (alone credit part.items) }
+    ensures never { result ≡ Ok None → HasOneAnswer (λ id arguments answer. F.post helper.now id arguments answer) →
+        NeverEnds (program_of program.now) (λ id arguments answer. F.post helper.now id arguments answer) steps (alone credit part.items) }
 {
     let mut state = alone(credit, part);
     for _ in 0..steps {

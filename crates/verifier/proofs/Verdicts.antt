@@ -94,6 +94,7 @@ verified_of p small forward known table costs =
         allowed = sound.allowed slot i state there at;
         covered = sound.covered slot i state there at;
         lands = λ fact next edge. (forward.lands slot fact next edge).1;
+        onward = λ fact next edge. forward.onward slot fact next edge;
         faultless = forward.faultless slot;
       };
       costs = costs;

@@ -1,13 +1,11 @@
-use Rattle.std.proofs.Common.{subst, ◌∙◌}
-use Rattle.machine_model.specs.Job.{start}
+use Rattle.std.proofs.Common.{subst, ◌∙◌, arith}
 use Rattle.job_core.specs.Behind.{Steps}
-use Rattle.job_core.proofs.Plays.{plays_none}
-use Rattle.job_core.proofs.Singles.{alone_more, outcome_is}
+use Rattle.job_core.proofs.Singles.{alone_none, alone_more, alone_ends, outcome_is}
 use Rattle.job_core.proofs.single.run_root.Goals as goal
 
 pub loop-init : goal.loop-init
 loop-init c = record {
-  alone = plays_none c.args.job.programs (start c.args.job.credit c.args.job.buffer) c.in_ok-world.world c.in_ok-world.ensures.start;
+  alone = alone_none c.args.job c.in_ok-world.world c.in_ok-world.ensures.start;
   programs = c.in_ok-world.ensures.programs;
 }
 
@@ -22,6 +20,11 @@ pub loop-preserved : goal.loop-preserved
 loop-preserved c = record {
   alone =
       alone_more c.args.job c.loop.counter c.step.result c.loop.world c.step.new.self c.loop.invariant.programs c.loop.invariant.alone
-      c.step.ensures.steps;
+      c.in_default.not-Ended c.step.ensures.steps;
   programs = c.step.ensures.programs ∙ c.loop.invariant.programs;
 }
+
+pub unreachable-requires : goal.unreachable-requires
+unreachable-requires c =
+    let ends = alone_ends c.args.job c.loop.counter c.loop.world c.loop.invariant.alone in
+    absurd (omega (arith, ends, c.loop-test.false))

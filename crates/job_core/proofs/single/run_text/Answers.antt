@@ -9,12 +9,12 @@ returns-in-Err-admit c = record {
   refused = rw c.new.ensures.items at c.in-Err-admit.ensures.refused;
 }
 
-pub returns-in-Ok-Some : goal.returns-in-Ok-Some
-returns-in-Ok-Some c = record {
+pub returns-in-Ok-run_root : goal.returns-in-Ok-run_root
+returns-in-Ok-run_root c = record {
   program = record { need = c.args.need; code = c.in-Ok.code };
   needs = refl;
   bytes = record { trimmed = c.trimmed.result.now; cut = c.trimmed.ensures; decoded = c.in-Ok.ensures.ok };
   order = c.in-Ok-admit.job;
   admitted = rw c.new.ensures.items at c.in-Ok-admit.ensures.admitted;
-  ended = rw c.in-Ok-Some.field-0-is at c.in-Ok-Some.ensures;
+  ended = c.in-Ok-run_root.ensures;
 }

@@ -3,7 +3,7 @@ use Rattle.machine_model.specs.declared.reference_records.Running.{Running}
 use Rattle.machine_model.specs.Alone.{Answers, EndsWithin, alone}
 use Rattle.machine_model.specs.Machine.{Program, State}
 use Rattle.machine_model.specs.Reference.{program_of, state_of}
-use Rattle.machine_model.proofs.AloneLemmas.{Leads, leads_same, leads_goes, leads_calls, ends_there, stays_at_trap, spawns_nothing, stays_at_last}
+use Rattle.machine_model.proofs.AloneLemmas.{Leads, leads_same, leads_goes, leads_calls, never_ends, ends_there, stays_at_trap, spawns_nothing, stays_at_last}
 use Rattle.machine_model.proofs.reference_alone.run_alone.Goals as goal
 use Rattle.machine_model.proofs.reference_alone.run_alone.Goals.{in-Goes, in-Calls+in_ok-state-in-Calls}
 
@@ -22,7 +22,7 @@ returns-in-Ends-clause-ends g c = λ r0 last e.
     let there = ends_there p may c.args.steps first left less s one c.loop.invariant c.in-Ends.r0 (state_of c.in-Ends.last)
     (rw c.in-Ends.is at c.in_ok-next.ensures.value) in
     let same : (c.in-Ends.r0, c.in-Ends.last) ≡ (r0, last) = cc in
-    subst (λ (x : ℕ × Running). EndsWithin p may x.0 (state_of x.1) c.args.steps first) same there
+    subst (λ (x : ℕ × Running). EndsWithin p may x.0 (state_of x.1) c.args.steps first) {x = (c.in-Ends.r0, c.in-Ends.last)} {y = (r0, last)} same there
 
 pub returns-in-Traps-clause-stays : goal.returns-in-Traps-clause-stays
 returns-in-Traps-clause-stays g c = λ _.
@@ -61,7 +61,7 @@ loop-preserved g c =
           (leads_goes p may c.args.steps first left less s one c.loop.invariant (state_of w.in-Goes.next)
           (rw w.in-Goes.is at c.in_ok-next.ensures.value))
       | in-Calls+in_ok-state-in-Calls w ↦
-          let called = w.in_ok-state-in-Calls.ensures in
+          let called = w.in_ok-state-in-Calls.ensures.next in
           subst (λ (t : Running). Leads p may c.args.steps first less (state_of t)) (sym w.state-is)
           (leads_calls p may c.args.steps first left less s one c.loop.invariant w.in-Calls.id w.in-Calls.arguments
           (state_of w.in-Calls.caller) (state_of w.in_ok-state-in-Calls.state) called.0
@@ -71,3 +71,18 @@ loop-preserved g c =
 pub returns-clause-stays : goal.returns-clause-stays
 returns-clause-stays g c = λ _.
     stays_at_last _ _ _ _ _ _ (omega (arith, c.loop-test.false)) c.loop.invariant
+
+pub returns-in-Traps-clause-never : goal.returns-in-Traps-clause-never
+returns-in-Traps-clause-never g c = λ none one.
+    never_ends (program_of c.args.program.now) (λ id arguments answer. goal.F-post g c.args.helper.now id arguments answer) one c.args.steps
+    (alone c.args.credit c.args.part.items) (returns-in-Traps-clause-stays g c none)
+
+pub returns-in-Spawns-clause-never : goal.returns-in-Spawns-clause-never
+returns-in-Spawns-clause-never g c = λ none one.
+    never_ends (program_of c.args.program.now) (λ id arguments answer. goal.F-post g c.args.helper.now id arguments answer) one c.args.steps
+    (alone c.args.credit c.args.part.items) (returns-in-Spawns-clause-stays g c none)
+
+pub returns-clause-never : goal.returns-clause-never
+returns-clause-never g c = λ none one.
+    never_ends (program_of c.args.program.now) (λ id arguments answer. goal.F-post g c.args.helper.now id arguments answer) one c.args.steps
+    (alone c.args.credit c.args.part.items) (returns-clause-stays g c none)

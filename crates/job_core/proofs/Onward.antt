@@ -1,0 +1,84 @@
+-- A task that goes on is further on in its program.
+use Rattle.std.proofs.Common.{◌≡◌, ℕ, suc, ◌<◌, List, length, map, set, slice_get, sym, subst, ◌∙◌, arith, ap, Bool, true, false, Option, Some, option_map}
+use Rattle.std.proofs.lemmas.Option.{slice_get_within, slice_get-map}
+use Rattle.machine_model.specs.Edges.{Fact, Always, IsEdge}
+use Rattle.machine_model.specs.Machine.{State, Program, Effect, Goes, Ends, Spawns, Calls, Traps, effect}
+use Rattle.machine_model.specs.Following.{FollowsEdge}
+use Rattle.machine_model.specs.Job as job
+use Rattle.machine_model.specs.Job.{Job, Task, applied, child_of, entries_of, ending_of, member_step, state_in, step, task_step, with_state}
+use Rattle.machine_model.proofs.Codes.{begins_within}
+use Rattle.machine_model.proofs.FollowingLemmas.{follows_edge}
+use Rattle.machine_model.proofs.Places.{set_same, push_old}
+use Rattle.verifier.specs.Checked.{program_of}
+use Rattle.job_core.specs.Behind.{Kept, IsBehind}
+
+-- the slot of a live task under a number
+slot_of_live : (tasks : List job.Member) (n : ℕ) (t u : Task) → slice_get tasks n ≡ Some (job.Live t) → slice_get tasks n ≡ Some (job.Live u) → u.slot ≡ t.slot
+slot_of_live tasks n t u here there =
+    let same : Some (job.Live u) ≡ Some (job.Live t) = sym there ∙ here in
+    let is : u ≡ t = cc in
+    ap (λ (x : Task). x.slot) is
+
+no_live : (tasks : List job.Member) (n : ℕ) (x : job.Ending) (u : Task) → slice_get tasks n ≡ Some (job.Ended x) → slice_get tasks n ≡ Some (job.Live u) → ⊥
+no_live tasks n x u here there = let clash : Some (job.Ended x) ≡ Some (job.Live u) = sym here ∙ there in cc
+
+-- what one of two equal jobs has under a number, the other has too
+same_member : (x k : Job) (n : ℕ) (m : job.Member) → Some x ≡ Some k → slice_get x.tasks n ≡ Some m → slice_get k.tasks n ≡ Some m
+same_member x k n m e is = let same : x ≡ k = cc in subst (λ (y : Job). slice_get y.tasks n ≡ Some m) same is
+
+-- what the effect makes of a task that goes on is at the end of an edge
+module _ (p : Program) (j k : Job) (n : ℕ) (t u : Task) (within : n < length j.tasks) (there : slice_get k.tasks n ≡ Some (job.Live u)) where
+  at_end : (v : Task) (fact : Fact) → slice_get k.tasks n ≡ Some (job.Live v) → IsEdge p.code t.slot fact v.slot → (f : Fact) × IsEdge p.code t.slot f u.slot
+  at_end v fact at edge = (fact, subst (λ slot. IsEdge p.code t.slot fact slot) (sym (slot_of_live k.tasks n v u at there)) edge)
+
+  along : (refuses : Bool) (e : Effect) → FollowsEdge p.code t.slot e → applied j n t refuses e ≡ Some k → (f : Fact) × IsEdge p.code t.slot f u.slot
+  along refuses (Goes s) follows is =
+      at_end (with_state t s) follows.0 (same_member _ k n (job.Live (with_state t s)) is (set_same j.tasks n (job.Live (with_state t s)) within)) follows.1
+  along refuses (Ends r0 s) follows is =
+      absurd (no_live k.tasks n (ending_of t s r0) u
+      (same_member _ k n (job.Ended (ending_of t s r0)) is (set_same j.tasks n (job.Ended (ending_of t s r0)) within)) there)
+  along true (Spawns birth taken refused) follows is =
+      at_end (with_state t refused) Always
+      (same_member _ k n (job.Live (with_state t refused)) is (set_same j.tasks n (job.Live (with_state t refused)) within)) follows.1
+  along false (Spawns birth taken refused) follows is =
+      let parent : Task = record (with_state t taken) { children = suc t.children } in
+      at_end parent Always
+      (same_member _ k n (job.Live parent) is (push_old (set j.tasks n (job.Live parent)) n (job.Live (child_of t taken birth)) (job.Live parent)
+      (set_same j.tasks n (job.Live parent) within))) follows.0
+  along refuses (Calls helper arguments s) follows is = cc
+  along refuses (Traps trap) follows is = cc
+
+  along_program : (programs : List Program) (refuses : Bool) (o : Option Program) → o ≡ Some p → task_step programs j n t refuses o ≡ Some k →
+      (f : Fact) × IsEdge p.code t.slot f u.slot
+  along_program programs refuses o e is =
+      let stepped : task_step programs j n t refuses (Some p) ≡ Some k = ap (task_step programs j n t refuses) (sym e) ∙ is in
+      along refuses (effect p (entries_of programs) (state_in j.buffer t)) (follows_edge p (entries_of programs) (state_in j.buffer t)) stepped
+
+-- a live task's slot is one of its program's
+pub slot_below : (kept : Kept) (j : Job) (n : ℕ) (t : Task) → IsBehind kept j → slice_get j.tasks n ≡ Some (job.Live t) → t.slot < 4096
+slot_below kept j n t behind there =
+    let is = behind.kept_are.each n (job.Live t) there in
+    let slot : t.slot ≡ is.live.frame.slot = ap (λ (s : State). s.slot) is.is.state in
+    let verified = behind.entries.verified is.live.program is.checked is.program in
+    let within = begins_within is.checked.code is.live.frame.slot is.is.covered.begins in
+    omega (arith, slot, within, verified.few)
+
+-- a task that is alive after its step is further on
+pub further_on : (kept : Kept) (j k : Job) (n : ℕ) (refuses : Bool) (t u : Task) → IsBehind kept j → step (map program_of kept.programs) j n refuses ≡ Some k →
+    slice_get j.tasks n ≡ Some (job.Live t) → slice_get k.tasks n ≡ Some (job.Live u) → t.slot < u.slot
+further_on kept j k n refuses t u behind stepped there then =
+    let is = behind.kept_are.each n (job.Live t) there in
+    let slot : t.slot ≡ is.live.frame.slot = ap (λ (s : State). s.slot) is.is.state in
+    let verified = behind.entries.verified is.live.program is.checked is.program in
+    let program : slice_get (map program_of kept.programs) t.program ≡ Some (program_of is.checked) =
+    slice_get-map program_of kept.programs t.program
+    ∙ ap (λ number. option_map program_of (slice_get kept.programs number)) is.is.program ∙ ap (option_map program_of) is.program in
+    let member : task_step (map program_of kept.programs) j n t refuses (slice_get (map program_of kept.programs) t.program) ≡ Some k =
+    ap (member_step (map program_of kept.programs) j n refuses) (sym there) ∙ stepped in
+    let edge = along_program (program_of is.checked) j k n t u (slice_get_within j.tasks n (job.Live t) there) then (map program_of kept.programs) refuses
+    (slice_get (map program_of kept.programs) t.program) program member in
+    let begins = is.is.covered.begins in
+    let known = is.is.behind.known in
+    let onward = (verified.each is.live.frame.slot begins.0 is.is.behind.state begins.1 known).onward edge.0 u.slot
+    (subst (λ s. IsEdge is.checked.code s edge.0 u.slot) slot edge.1) in
+    omega (arith, onward, slot)
