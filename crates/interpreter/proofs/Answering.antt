@@ -1,10 +1,9 @@
 -- What the functions answer is what the run asks for.
-use Rattle.std.proofs.Common.{◌≡◌, ℕ, ◌<◌, subst, sym, Option, Some, None, List}
-use Rattle.helpers.specs.Table.{arity_in}
+use Rattle.std.proofs.Common.{◌≡◌, ℕ, subst, Option, Some, List}
 use Rattle.verifier.specs.Checked.{Checked}
 use Rattle.interpreter.specs.declared.functions.Functions.{Functions}
 use Rattle.interpreter.specs.declared.registered.Registered.{Registered}
-use Rattle.interpreter.specs.Functions.{HaveFunctions, function_of, may_answer, answers, called}
+use Rattle.interpreter.specs.Functions.{HaveFunctions, function_of, may_answer, called}
 use Rattle.interpreter.proofs.Asking.{has_function}
 use Rattle.interpreter.proofs.Running.{AreAnswers}
 

@@ -2,7 +2,7 @@
 use Rattle.std.proofs.Common.{◌≡◌, ◌≢◌, ℕ, ◌+◌, ◌-◌, ◌<◌, ◌≤◌, ◌==◌, nat_lt, refl, sym, ◌∙◌, ap, arith, Bool, true, false, List, length, Option, Some, None, slice_index_or, slice_set, if◌then◌else◌}
 use Rattle.std.proofs.lemmas.Bool.Decides.{nat_tests}
 use Rattle.std.proofs.lemmas.List.{get_or-set_same, get_or-set_other}
-use Rattle.helpers.specs.Table.{Table, own_arity, arity_in}
+use Rattle.helpers.specs.Table.{Table, arity_in}
 use Rattle.interpreter.specs.Functions.{HaveFunctions, function_of}
 
 over_64 : (place : ℕ) → nat_lt (place + 64) 64 ≡ false

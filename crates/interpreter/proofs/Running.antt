@@ -1,5 +1,5 @@
 -- The run of a single program, step by step.
-use Rattle.std.proofs.Common.{◌≡◌, ℕ, suc, ◌<◌, ◌≤◌, ◌^◌, arith, length, refl, sym, subst, ap, ◌∙◌, List, Result, Option, Some, None}
+use Rattle.std.proofs.Common.{◌≡◌, ℕ, suc, ◌<◌, ◌≤◌, ◌^◌, arith, length, refl, sym, subst, ap, ◌∙◌, List, Result, Some}
 use Rattle.machine_model.specs.Value.{Registers}
 use Rattle.machine_model.specs.Machine.{State, Effect, Goes, Ends, Spawns, Calls, Traps, answered, effect}
 use Rattle.interpreter.proofs.Asking.{Asks, asks_effect}
@@ -15,7 +15,6 @@ use Rattle.interpreter.specs.declared.credit.Credit.{Credit}
 use Rattle.interpreter.specs.declared.frame.StepOut.TheVariants.{Went, Ended}
 use Rattle.interpreter.specs.Behind.{AreBehind, IsCovered, Did, state_of, entry_frame}
 use Rattle.interpreter.proofs.Enters.{behind_entry, covered_entry}
-use Rattle.interpreter.specs.Executes.{Runs}
 
 -- A task stands behind the frame, which leads from the start to wherever that task leads.
 pub record IsUnderWay (p : Checked) (may : Answers) (start : State) (frame : Frame) (part : Piece) (credit : Credit) : Type 0 where

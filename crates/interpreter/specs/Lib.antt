@@ -5,3 +5,4 @@ pub mod Behind
 pub mod Functions
 pub mod VmFaultCodes
 pub mod Executes
+pub mod Holding

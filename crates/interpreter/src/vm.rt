@@ -24,19 +24,24 @@ pub struct Vm {
     program: Option<Verified>,
     helpers: HelperTable,
     functions: Functions,
+    /// Room for the memory of the next run.
     room: Vec<u8>,
+    /// The program was verified with these helpers.
     ghost same: { (p : Checked) → program ≡ Some p → p.helpers ≡ helpers } by { Prim.hlevel props },
+    /// Each helper that was registered has its function.
     ghost have: { HaveFunctions helpers functions.places.items },
 }
 
 impl Vm {
+    ghost use Rattle.interpreter.specs.Holding.{program_in, helpers_in, functions_in};
+
     /// A machine with the program of this need and code, if they are given, and with the helpers of a job. The program's
     /// refusal is [`Refusal`]'s.
     pub fn new(alloc: Global, program: Option<(u32, &[u8])>) -> Result<Vm, Refusal>
         ensures program { MatchResult result
-            (λ vm. MatchOption program.entry (vm.program ≡ None) (λ given. IsSet given.0 given.1.now job_table vm.program))
+            (λ vm. MatchOption program.entry (program_in vm ≡ None) (λ given. IsSet given.0 given.1.now job_table (program_in vm)))
             (λ refusal. MatchOption program.entry ⊥ (λ given. Refuses given.0 given.1.now job_table refusal)) }
-        ensures helpers { IfOk result (λ vm. (vm.helpers ≡ job_table) × (vm.functions.places.items ≡ [])) }
+        ensures helpers { IfOk result (λ vm. (helpers_in vm ≡ job_table) × (functions_in vm ≡ [])) }
     {
         let helpers = HelperTable::job();
         let program = match program {
@@ -55,9 +60,9 @@ impl Vm {
     /// [`Refusal`], the program that was set stays.
     pub fn set_program(&mut self, alloc: Global, need: u32, code: &[u8]) -> Result<(), Refusal>
         ensures program { MatchResult result
-            (λ _. IsSet need code.now self.old.helpers self.new.program)
-            (λ refusal. Refuses need code.now self.old.helpers refusal × (self.new.program ≡ self.old.program)) }
-        ensures helpers { (self.new.helpers ≡ self.old.helpers) × (self.new.functions ≡ self.old.functions) }
+            (λ _. IsSet need code.now (helpers_in self.old) (program_in self.new))
+            (λ refusal. Refuses need code.now (helpers_in self.old) refusal × (program_in self.new ≡ program_in self.old)) }
+        ensures helpers { (helpers_in self.new ≡ helpers_in self.old) × (functions_in self.new ≡ functions_in self.old) }
     {
         self.program = Some(verify(alloc, need, code, &self.helpers)?);
         Ok(())
@@ -65,13 +70,16 @@ impl Vm {
 
     /// Whether a program is set.
     pub fn has_program(&self) -> bool
-        ensures { IsTrue result ↔ IsSome self.now.program }
+        ensures { IsTrue result ↔ IsSome (program_in self.now) }
     {
         self.program.is_some()
     }
 
-    /// Registers the function of the caller's helper of this id, and how many arguments it takes, in place of those that it had:
-    /// those of the five past them are 0 when it is called.
+    /// Registers the caller's helper of this id: its function, and how many arguments that takes. It has those that it had no
+    /// longer. Arguments past them are 0 when the function is called.
+    ///
+    /// It asks for an id of 64 to 127, for at most 5 arguments, for a function that may be called on any five numbers, and that
+    /// no program is set. The refusal, 99, leaves all as it was.
     pub fn register_helper(
         &mut self,
         alloc: Global,
@@ -81,16 +89,16 @@ impl Vm {
     ) -> Result<(), NoMemory>
         requires id { (64 ≤ id) × (id < 128) }
         requires arity { arity ≤ 5 }
-        requires unset { self.old.program ≡ None }
+        requires unset { program_in self.old ≡ None }
         requires callable { Function.IsAlwaysCallable function }
         ensures arity { OnOk result ((other : ℕ) →
-            arity_in self.new.helpers other ≡ (if other == id then Some arity else arity_in self.old.helpers other)) }
-        ensures function { OnOk result ((f : _) × (function_of self.new.functions.places.items id ≡ Some f) × (f.function ≡ function)) }
+            arity_in (helpers_in self.new) other ≡ (if other == id then Some arity else arity_in (helpers_in self.old) other)) }
+        ensures function { OnOk result ((f : _) × (function_of (functions_in self.new) id ≡ Some f) × (f.function ≡ function)) }
         ensures others { OnOk result ((other : ℕ) → other ≢ id →
-            function_of self.new.functions.places.items other ≡ function_of self.old.functions.places.items other) }
-        ensures err { OnErr result ((self.new.helpers ≡ self.old.helpers)
-            × ((other : ℕ) → function_of self.new.functions.places.items other ≡ function_of self.old.functions.places.items other)) }
-        ensures program { self.new.program ≡ None }
+            function_of (functions_in self.new) other ≡ function_of (functions_in self.old) other) }
+        ensures err { OnErr result ((helpers_in self.new ≡ helpers_in self.old)
+            × ((other : ℕ) → function_of (functions_in self.new) other ≡ function_of (functions_in self.old) other)) }
+        ensures program { program_in self.new ≡ None }
     {
         self.functions.make_room(alloc)?;
         self.helpers.add(alloc, id, arity)?;
@@ -99,7 +107,8 @@ impl Vm {
     }
 
     /// Runs the program alone from its entry to its end, with argument 0, the memory as its part, and this credit, and gives
-    /// R0. The memory is left as the run leaves it.
+    /// R0. The memory is left as the run leaves it. Each spawn is answered 1. It asks for at most 65,536 bytes of memory and for a
+    /// credit of at most 2,147,483,647.
     ///
     /// The refusals, in this order, after which the memory is as it was: 41 no program is set, 42 the credit is under the
     /// program's cost, 43 the memory is shorter than the program's need, 99 there is no memory to run it.
@@ -112,10 +121,10 @@ impl Vm {
         requires small { length mem.old ≤ 65536 }
         requires limit { credit ≤ 2147483647 }
         ensures runs { MatchResult result
-            (λ r0. Executes self.old.program (called self.old.functions.places.items) credit mem.old r0 mem.new)
-            (λ fault. IsUnrunnable self.old.program credit (length mem.old) fault × (mem.new ≡ mem.old)) }
-        ensures kept { (self.new.program ≡ self.old.program) × (self.new.helpers ≡ self.old.helpers)
-            × (self.new.functions ≡ self.old.functions) }
+            (λ r0. Executes (program_in self.old) (called (functions_in self.old)) credit mem.old r0 mem.new)
+            (λ fault. IsUnrunnable (program_in self.old) credit (length mem.old) fault × (mem.new ≡ mem.old)) }
+        ensures kept { (program_in self.new ≡ program_in self.old) × (helpers_in self.new ≡ helpers_in self.old)
+            × (functions_in self.new ≡ functions_in self.old) }
     {
         let Some(program) = &self.program else {
             return Err(VmFault::NoProgram);

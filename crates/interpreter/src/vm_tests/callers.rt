@@ -4,7 +4,7 @@ use super::programs::Came::{NotRun, Refused, To};
 use super::programs::Line::{Alu, AluBy, Call, Copy, Exit, Load, Set};
 use super::programs::Name::{R0, R1, R2, R3, R4, R5, R6};
 use super::programs::{Came, Line, Row, agree, bytes_of, run};
-use crate::{Vm, VmFault};
+use crate::{Function, Vm, VmFault};
 use insn_codec::AluOp::{Add, And};
 use insn_codec::LoadKind::Byte;
 use std::alloc::Global;
@@ -105,16 +105,19 @@ fn of_one_argument_take_a_number(rt: HostRuntime) -> Result<(), Fail> {
     agree(&rt, alloc, &mut vm, &TAKING)
 }
 
-/// A machine with helpers of each arity from 0 to 5, of ids 64 to 69, and one of id 127.
-fn weighing(alloc: Global) -> Result<Vm, Fail> {
+/// A machine with one function as the helpers of each arity from 0 to 5, of ids 64 to 69, and another one as that of id 127.
+fn with_helpers(alloc: Global, each: Function, last: Function) -> Result<Vm, Fail>
+    requires each { Function.IsAlwaysCallable each }
+    requires last { Function.IsAlwaysCallable last }
+{
     let mut vm = Vm::new(alloc, None)?;
-    vm.register_helper(alloc, 64, 0, weighed)?;
-    vm.register_helper(alloc, 65, 1, weighed)?;
-    vm.register_helper(alloc, 66, 2, weighed)?;
-    vm.register_helper(alloc, 67, 3, weighed)?;
-    vm.register_helper(alloc, 68, 4, weighed)?;
-    vm.register_helper(alloc, 69, 5, weighed)?;
-    vm.register_helper(alloc, 127, 0, greatest)?;
+    vm.register_helper(alloc, 64, 0, each)?;
+    vm.register_helper(alloc, 65, 1, each)?;
+    vm.register_helper(alloc, 66, 2, each)?;
+    vm.register_helper(alloc, 67, 3, each)?;
+    vm.register_helper(alloc, 68, 4, each)?;
+    vm.register_helper(alloc, 69, 5, each)?;
+    vm.register_helper(alloc, 127, 0, last)?;
     Ok(vm)
 }
 
@@ -145,7 +148,7 @@ const WEIGHED: [(u32, u64); 7] = [
 #[test]
 fn take_as_many_arguments(rt: HostRuntime) -> Result<(), Fail> {
     let alloc = rt.alloc();
-    let mut vm = weighing(alloc)?;
+    let mut vm = with_helpers(alloc, weighed, greatest)?;
     let mut mem = Vec::new(alloc);
     for (helper, want) in WEIGHED {
         let bytes = bytes_of(alloc, &setting(helper))?;
@@ -205,7 +208,7 @@ const ARGUMENTS: [Row; 7] = [
 
 #[test]
 fn want_their_arguments(rt: HostRuntime) -> Result<(), Fail> {
-    let mut vm = weighing(rt.alloc())?;
+    let mut vm = with_helpers(rt.alloc(), weighed, greatest)?;
     agree(&rt, rt.alloc(), &mut vm, &ARGUMENTS)
 }
 
