@@ -31,7 +31,7 @@ use Rattle.job_core.specs.declared.report.TaskEnd.{TaskEnd}
 use Rattle.job_core.specs.declared.tasks.Stepped.TheVariants as stepped
 use Rattle.job_core.specs.Seats.{live_of, entered, Adds}
 use Rattle.job_core.specs.Behind.{Kept, end_of, IsTaskOf, IsLive, IsMemberOf, AreKept, AreEntries, IsBehind, Steps}
-use Rattle.job_core.proofs.Enters.{covered_entry, behind_entry}
+use Rattle.interpreter.proofs.Enters.{covered_entry, behind_entry}
 use Rattle.job_core.proofs.OwnPrograms.{nobody}
 
 -- the same with other tasks

@@ -18,7 +18,7 @@ use Rattle.interpreter.specs.declared.credit.Credit.{Credit}
 use Rattle.job_core.specs.Behind.{Kept, end_of, IsTaskOf, IsLive, IsMemberOf, AreEntries, IsBehind}
 use Rattle.helpers.specs.Table.{job_table}
 use Rattle.job_core.specs.Admitted.{Order, IsAdmitted}
-use Rattle.job_core.proofs.Enters.{behind_entry, covered_entry}
+use Rattle.interpreter.proofs.Enters.{behind_entry, covered_entry}
 
 abbrev root_live : ℕ → Piece → Live
 root_live credit part = record { program = 0; frame = entry_frame (length part.bytes) 0; part = part; credit = record { held = credit; used = 0 } }

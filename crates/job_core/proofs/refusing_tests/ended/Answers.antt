@@ -1,7 +1,7 @@
 use Rattle.std.proofs.Common.{◌≡◌, ◌≤◌, ◌<◌, ◌^◌, length, arith, rules, subst, ap, ◌∙◌}
 use Rattle.verifier.specs.Checked.{cost_at}
 use Rattle.interpreter.specs.Behind.{IsCovered, entry_frame}
-use Rattle.job_core.proofs.Enters.{covered_entry}
+use Rattle.interpreter.proofs.Enters.{covered_entry}
 use Rattle.job_core.proofs.refusing_tests.ended.Goals as goal
 
 pub loop-init : goal.loop-init
