@@ -82,6 +82,36 @@ fn print_single_times<C: Clock, W: Write>(
     Ok(())
 }
 
+/// The time that `ROUNDS` runs of the program by the machine for single programs take.
+fn executed_alone<C: Clock>(
+    clock: &C,
+    alloc: Global,
+    scenario: Scenario,
+) -> anyhow::Result<Duration> {
+    let code = program(alloc, scenario, LONGEST)?;
+    let mut vm = Vm::new(alloc, Some((code.need, &code.code)))?;
+    let mut memory = [0; 8];
+    let start = Instant::now(clock)?;
+    for _ in 0..ROUNDS {
+        vm.execute_program(alloc, &mut memory, LONGEST)?;
+    }
+    Ok(start.elapsed(clock)?)
+}
+
+/// Prints what takes so long, in nanoseconds for each slot of the longest program.
+fn print_slot_time<W: Write>(
+    output: &mut W,
+    what: &str,
+    name: &str,
+    whole: Duration,
+) -> anyhow::Result<()> {
+    let slots = u128::from(ROUNDS * LONGEST);
+    let hundredths = whole.as_nanos().saturating_mul(100) / slots;
+    let (units, rest) = (hundredths / 100, hundredths % 100);
+    writeln!(output, "{what} {name}: {units}.{rest:02} ns a slot")?;
+    Ok(())
+}
+
 /// Prints nanoseconds a step, slots a second of `verify`, and how quick single programs are.
 pub fn print_times<C: Clock, W: Write>(
     clock: &C,
@@ -90,15 +120,9 @@ pub fn print_times<C: Clock, W: Write>(
 ) -> anyhow::Result<()> {
     for scenario in SCENARIOS {
         let name = scenario.name();
-        let nanos = played(clock, alloc, scenario)?.as_nanos();
-        let steps = u128::from(ROUNDS * LONGEST);
-        let hundredths = nanos.saturating_mul(100) / steps;
-        writeln!(
-            output,
-            "play {name}: {}.{:02} ns a slot",
-            hundredths / 100,
-            hundredths % 100
-        )?;
+        print_slot_time(output, "play", name, played(clock, alloc, scenario)?)?;
+        let whole = executed_alone(clock, alloc, scenario)?;
+        print_slot_time(output, "execute_program", name, whole)?;
     }
     for scenario in SCENARIOS {
         let name = scenario.name();
