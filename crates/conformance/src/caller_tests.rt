@@ -123,20 +123,28 @@ const CALLS: [([u32; 3], u32, &[&str], u64, u32); 11] = [
 #[test]
 fn call_the_callers_helpers(rt: HostRuntime) -> Result<(), Fail> {
     let alloc = rt.alloc();
-    for (arities, credit, program, r0, used) in CALLS {
+    for (place, (arities, credit, program, r0, used)) in CALLS.iter().enumerate() {
         let start = Start {
-            code: assembled(alloc, program)?,
+            code: assembled(alloc, *program)?,
             need: 0,
-            credit,
+            credit: *credit,
             memory: &[1, 2, 3],
         };
-        let mut vm = machine_with(alloc, arities)?;
+        let mut vm = machine_with(alloc, *arities)?;
         let (answer, left) = by_vm(alloc, &mut vm, &start)?;
-        assert_eq!(rt; answer, r0, "by the machine for single programs");
-        assert_eq!(rt; left.as_slice(), [1, 2, 3].as_slice());
-        let (answer, spent, left) = by_reference(alloc, &start, registered(alloc, arities)?)?;
-        assert_eq!(rt; (answer, spent), (r0, used), "by the reference");
-        assert_eq!(rt; left.as_slice(), [1, 2, 3].as_slice());
+        assert_eq!(rt;
+            answer,
+            *r0,
+            "at {place} by the machine for single programs"
+        );
+        assert_eq!(rt; left.as_slice(), [1, 2, 3].as_slice(), "at {place}");
+        let (answer, spent, left) = by_reference(alloc, &start, registered(alloc, *arities)?)?;
+        assert_eq!(rt;
+            (answer, spent),
+            (*r0, *used),
+            "at {place} by the reference"
+        );
+        assert_eq!(rt; left.as_slice(), [1, 2, 3].as_slice(), "at {place}");
     }
     Ok(())
 }

@@ -159,19 +159,31 @@ fn told_by_admit(
     }
 }
 
-/// The program is refused for one reason in each way.
+/// The program of this place is refused for one reason in each way.
 fn refused<R: Abort>(
     rt: &R,
     alloc: Global,
-    need: u32,
-    code: &[u8],
+    place: usize,
+    (need, code): (u32, &[u8]),
     want: Told,
 ) -> Result<(), Fail> {
-    assert_eq!(rt; told_by_new(alloc, need, code), Some(want));
-    assert_eq!(rt; told_by_set(alloc, need, code)?, Some(want));
+    assert_eq!(rt;
+        told_by_new(alloc, need, code),
+        Some(want),
+        "at {place} as the first"
+    );
+    assert_eq!(rt;
+        told_by_set(alloc, need, code)?,
+        Some(want),
+        "at {place} as the second"
+    );
     for others in [0, 1, 15] {
         let told = told_by_admit(alloc, others, need, code)?;
-        assert_eq!(rt; told, Some((want, others)));
+        assert_eq!(rt;
+            told,
+            Some((want, others)),
+            "at {place} behind {others} others"
+        );
     }
     Ok(())
 }
@@ -179,9 +191,9 @@ fn refused<R: Abort>(
 #[test]
 fn programs_are_refused(rt: HostRuntime) -> Result<(), Fail> {
     let alloc = rt.alloc();
-    for (need, program, number, slot) in PROGRAMS {
-        let code = assembled(alloc, program)?;
-        refused(&rt, alloc, need, &code, (number, slot))?;
+    for (place, (need, program, number, slot)) in PROGRAMS.iter().enumerate() {
+        let code = assembled(alloc, *program)?;
+        refused(&rt, alloc, place, (*need, &code), (*number, *slot))?;
     }
     Ok(())
 }
@@ -189,9 +201,9 @@ fn programs_are_refused(rt: HostRuntime) -> Result<(), Fail> {
 #[test]
 fn bytes_are_refused(rt: HostRuntime) -> Result<(), Fail> {
     let alloc = rt.alloc();
-    for (need, bytes, number, slot) in BYTES {
-        let code = hex::decode(alloc, bytes)?;
-        refused(&rt, alloc, need, &code, (number, slot))?;
+    for (place, (need, bytes, number, slot)) in BYTES.iter().enumerate() {
+        let code = hex::decode(alloc, *bytes)?;
+        refused(&rt, alloc, place, (*need, &code), (*number, *slot))?;
     }
     Ok(())
 }
