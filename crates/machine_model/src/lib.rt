@@ -41,6 +41,4 @@ mod reference_programs;
 mod reference_records;
 mod reference_registers;
 #[cfg(test)]
-mod reference_rows;
-#[cfg(test)]
 mod reference_tests;

@@ -1,28 +1,18 @@
 //! Many tasks: a job takes exactly the steps of its tasks' instructions, whatever their number.
 
-use super::*;
+use crate::spawning::spawn_each;
+use insn_codec::encode;
+use job_core::{ProgramBytes, Stepped, World, admit};
 use std::alloc::Global;
 use std::test::Fail;
 
-/// The bytes of `mov64` of a number.
-fn mov(register: u8, number: u32) -> [u8; 8] {
-    let [a, b, c, d] = number.to_le_bytes();
-    [0xb7, register, 0, 0, a, b, c, d]
-}
-
-/// A program that spawns `count` tasks of a program, each with the share, and ends: five slots a task, and two.
-fn spawning(alloc: Global, program: u32, share: u32, count: u32) -> Result<ProgramBytes, Fail> {
-    let mut code = Vec::new(alloc);
-    for _ in 0..count {
-        code.extend_from_slice(&mov(1, program))?;
-        code.extend_from_slice(&mov(2, share))?;
-        code.extend_from_slice(&mov(3, 0))?;
-        code.extend_from_slice(&mov(4, 0))?;
-        code.extend_from_slice(&[0x85, 0, 0, 0, 1, 0, 0, 0])?;
-    }
-    code.extend_from_slice(&mov(0, 0))?;
-    code.extend_from_slice(&[0x95, 0, 0, 0, 0, 0, 0, 0])?;
-    Ok(ProgramBytes { need: 0, code })
+/// A program that spawns `count` tasks of a program, each with the share.
+fn spawning(alloc: Global, program: i32, share: u32, count: u32) -> Result<ProgramBytes, Fail> {
+    let insns = spawn_each(alloc, program, i32::try_from(share)?, count)?;
+    Ok(ProgramBytes {
+        need: 0,
+        code: encode(alloc, &insns)?,
+    })
 }
 
 /// Steps each task of a job to its end, in order of number, and tells the tasks, the steps, and what was spent and returned.

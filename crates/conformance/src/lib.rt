@@ -1,0 +1,36 @@
+//! The worked rows that cross crates, as tests over tables. Nothing stands on it.
+#![tactic(auto)]
+
+#[cfg(test)]
+mod scale_tests;
+pub mod spawning;
+
+// one program, run in three ways
+#[cfg(test)]
+mod access_tests;
+#[cfg(test)]
+mod arithmetic_tests;
+#[cfg(test)]
+mod bit_tests;
+#[cfg(test)]
+mod caller_tests;
+#[cfg(test)]
+mod callers;
+#[cfg(test)]
+mod helper_tests;
+#[cfg(test)]
+mod jump_tests;
+#[cfg(test)]
+mod move_tests;
+#[cfg(test)]
+mod rows;
+#[cfg(test)]
+mod ways;
+
+// programs that are refused, in three ways
+#[cfg(test)]
+mod refusal_tests;
+
+// jobs of two tasks, run in two ways
+#[cfg(test)]
+mod family_tests;

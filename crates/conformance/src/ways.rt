@@ -1,0 +1,99 @@
+//! The ways to run a program.
+
+use crate::callers::answered;
+use assembler::assemble;
+use cost_bound::costs;
+use flow_graph::build;
+use insn_codec::decode;
+use interpreter::Vm;
+use job_core::{ProgramBytes, admit, play};
+use machine_model::reference::{ReferenceProgram, run_alone};
+use std::alloc::Global;
+use std::test::Fail;
+
+/// The bytes of a program, of which each line is an instruction.
+pub(crate) fn assembled(alloc: Global, lines: &[&str]) -> Result<Vec<u8>, Fail> {
+    let mut source = String::new(alloc);
+    for line in lines {
+        source.push_str(line)?;
+        source.push('\n')?;
+    }
+    Ok(assemble(alloc, source.as_str())?)
+}
+
+pub(crate) fn copied(alloc: Global, bytes: &[u8]) -> Result<Vec<u8>, Fail> {
+    let mut copy = Vec::new(alloc);
+    copy.extend_from_slice(bytes)?;
+    Ok(copy)
+}
+
+/// A program as the reference takes it.
+pub(crate) fn reference_program(
+    alloc: Global,
+    need: u32,
+    code: &[u8],
+    registered: Vec<Option<u32>>,
+) -> Result<ReferenceProgram, Fail> {
+    let placed = decode(alloc, code)?;
+    let graph = build(alloc, &placed)?;
+    let table = costs(alloc, &graph)?;
+    Ok(ReferenceProgram {
+        need,
+        code: graph.into_code(),
+        costs: table.into_table(),
+        registered,
+    })
+}
+
+/// A program, the bytes that it needs, and the credit and the memory that it starts with.
+#[derive(Drop)]
+pub(crate) struct Start {
+    pub(crate) code: Vec<u8>,
+    pub(crate) need: u32,
+    pub(crate) credit: u32,
+    pub(crate) memory: &'static [u8],
+}
+
+/// R0 and the memory after a run by a machine for single programs.
+pub(crate) fn by_vm(alloc: Global, vm: &mut Vm, start: &Start) -> Result<(u64, Vec<u8>), Fail> {
+    vm.set_program(alloc, start.need, &start.code)?;
+    let mut memory = copied(alloc, start.memory)?;
+    memory.truncate(65536);
+    let r0 = vm.execute_program(alloc, &mut memory, start.credit.min(2_147_483_647))?;
+    Ok((r0, memory))
+}
+
+/// R0, the credit used and the memory after the job of this program alone, whose buffer is the memory.
+pub(crate) fn by_job(alloc: Global, start: &Start) -> Result<(u64, u32, Vec<u8>), Fail> {
+    let programs = [ProgramBytes {
+        need: start.need,
+        code: copied(alloc, &start.code)?,
+    }];
+    let buffer = copied(alloc, start.memory)?;
+    let job = admit(alloc, &programs, start.credit, buffer)?;
+    let schedule = vec![in alloc; 0u32; start.code.len()]?;
+    let world = play(alloc, job, &schedule)?;
+    let Some(report) = world.report() else {
+        return Err(Fail::new("the job isn't complete"));
+    };
+    let [root] = report.tasks.as_slice() else {
+        return Err(Fail::new("there are more tasks than one"));
+    };
+    Ok((root.r0, world.totals().used, world.buffer(alloc)?))
+}
+
+/// R0, the credit used and the memory after a run by the reference.
+pub(crate) fn by_reference(
+    alloc: Global,
+    start: &Start,
+    registered: Vec<Option<u32>>,
+) -> Result<(u64, u32, Vec<u8>), Fail> {
+    let program = reference_program(alloc, start.need, &start.code, registered)?;
+    let memory = copied(alloc, start.memory)?;
+    let steps = u32::try_from(start.code.len())?;
+    let helper = |id: u32, arguments: [u64; 5]| answered(id, arguments);
+    match run_alone(alloc, &program, start.credit, memory, steps, &helper) {
+        Ok(Some((r0, last))) => Ok((r0, last.used, last.part)),
+        _ => Err(Fail::new("the run has no end")),
+    }
+}
