@@ -17,6 +17,8 @@ mod caller_tests;
 #[cfg(test)]
 mod callers;
 #[cfg(test)]
+mod embedding_tests;
+#[cfg(test)]
 mod helper_tests;
 #[cfg(test)]
 mod jump_tests;
