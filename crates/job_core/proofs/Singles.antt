@@ -14,7 +14,8 @@ use Rattle.job_core.specs.Admitted.{Order}
 use Rattle.job_core.specs.Answers.{AreTotals}
 use Rattle.job_core.specs.Behind.{Kept, IsBehind, Plays, Steps}
 use Rattle.job_core.specs.Single.{IsOutcome}
-use Rattle.job_core.proofs.Plays.{plays_more, plays_none, run-push, map-push}
+use Rattle.machine_model.proofs.Runs.{run-push}
+use Rattle.job_core.proofs.Plays.{plays_more, plays_none, map-push}
 use Rattle.job_core.proofs.Onward.{further_on, slot_below}
 
 -- so many steps of task 0, which is alive, and at least so far on

@@ -1,10 +1,10 @@
 -- What a state on the way says of the start of a program that runs alone.
-use Rattle.std.proofs.Common.{◌≡◌, ℕ, zero, suc, List, [], refl, sym, ◌∙◌, subst, Some}
+use Rattle.std.proofs.Common.{◌≡◌, ◌≤◌, ◌⊎◌, inl, inr, ℕ, zero, suc, List, [], refl, sym, ◌∙◌, subst, Some}
 use Rattle.machine_model.specs.declared.program.Entry.{Entry}
 use Rattle.machine_model.specs.Machine.{State, Program, Effect, Goes, Ends, Spawns, Calls, Traps, Birth, Trap, answered, effect}
 use Rattle.machine_model.specs.Job.{entries_of}
 use Rattle.machine_model.specs.Alone.{Answers, EndsWithin, Follows, no_entries}
-use Rattle.machine_model.specs.Reference.{HasOneAnswer, NeverEnds, Stays, StaysFor}
+use Rattle.machine_model.specs.Reference.{FarOn, FarWithin, GoesFar, HasOneAnswer, NeverEnds, Stays, StaysFor}
 use Rattle.machine_model.proofs.Splits.{Births, births_effect}
 use Rattle.machine_model.proofs.Tables.{effect_same}
 
@@ -12,15 +12,17 @@ use Rattle.machine_model.proofs.Tables.{effect_same}
 pub alone_effect : (p : Program) (s : State) → effect p (entries_of []) s ≡ effect p no_entries s
 alone_effect p s = effect_same p (entries_of []) no_entries (λ n. refl) s
 
--- an end of the state within m steps is one of the first state within n, and so is a way on
+-- an end of the state within m steps is one of the first state within n, and so is a way on, or one to more than the reference has
 pub record Leads (p : Program) (may : Answers) (n : ℕ) (first : State) (m : ℕ) (s : State) : Type 0 where
   pub ends : (r0 : ℕ) (last : State) → EndsWithin p may r0 last m s → EndsWithin p may r0 last n first
   pub stays : StaysFor p may m s → StaysFor p may n first
+  pub far : FarWithin p may m s → FarWithin p may n first
 
 pub leads_same : (p : Program) (may : Answers) (n m : ℕ) (s t : State) → m ≡ n → s ≡ t → Leads p may n t m s
 leads_same p may n m s t many is = record {
   ends = λ r0 last e. subst (EndsWithin p may r0 last n) is (subst (λ (i : ℕ). EndsWithin p may r0 last i s) many e);
   stays = λ e. subst (StaysFor p may n) is (subst (λ (i : ℕ). StaysFor p may i s) many e);
+  far = λ e. subst (FarWithin p may n) is (subst (λ (i : ℕ). FarWithin p may i s) many e);
 }
 
 module _ (p : Program) (may : Answers) (n : ℕ) (first : State) (m k : ℕ) (s : State) (one : m ≡ suc k) (leads : Leads p may n first m s) where
@@ -36,10 +38,25 @@ module _ (p : Program) (may : Answers) (n : ℕ) (first : State) (m k : ℕ) (s 
       leads.stays (subst (λ (i : ℕ). StaysFor p may i s) (sym one)
       (subst (Stays may (StaysFor p may k)) (is ∙ alone_effect p s) stays))
 
+  pub far_there : (4294967296 ≤ s.slot) ⊎ GoesFar (effect p (entries_of []) s) → FarWithin p may n first
+  far_there here =
+      leads.far (subst (λ (i : ℕ). FarWithin p may i s) (sym one)
+      (elim here [ inl past ↦ inl past | inr goes ↦ inr (inl (subst GoesFar (alone_effect p s) goes)) ]))
+
+  far_by : (e : Effect) → e ≡ effect p (entries_of []) s → FarOn may (FarWithin p may k) e → FarWithin p may n first
+  far_by e is far =
+      leads.far (subst (λ (i : ℕ). FarWithin p may i s) (sym one)
+      (inr (inr (subst (FarOn may (FarWithin p may k)) (is ∙ alone_effect p s) far))))
+
+  pub far_call : (helper : ℕ) (arguments : List ℕ) (caller : State) → Calls helper arguments caller ≡ effect p (entries_of []) s →
+      4294967296 ≤ caller.slot → FarWithin p may n first
+  far_call helper arguments caller is past = far_by (Calls helper arguments caller) is (inl past)
+
   pub leads_goes : (next : State) → Goes next ≡ effect p (entries_of []) s → Leads p may n first k next
   leads_goes next is = record {
     ends = λ r0 last e. by_effect (Goes next) is r0 last e;
     stays = λ e. stays_by (Goes next) is e;
+    far = λ e. far_by (Goes next) is e;
   }
 
   pub leads_calls : (helper : ℕ) (arguments : List ℕ) (caller next : State) (answer : ℕ) → Calls helper arguments caller ≡ effect p (entries_of []) s →
@@ -47,6 +64,7 @@ module _ (p : Program) (may : Answers) (n : ℕ) (first : State) (m k : ℕ) (s 
   leads_calls helper arguments caller next answer is gives after = record {
     ends = λ r0 last e. by_effect (Calls helper arguments caller) is r0 last (answer, gives, subst (EndsWithin p may r0 last k) after e);
     stays = λ e. stays_by (Calls helper arguments caller) is (answer, gives, subst (StaysFor p may k) after e);
+    far = λ e. far_by (Calls helper arguments caller) is (inr (answer, gives, subst (FarWithin p may k) after e));
   }
 
   pub ends_there : (r0 : ℕ) (last : State) → Ends r0 last ≡ effect p (entries_of []) s → EndsWithin p may r0 last n first

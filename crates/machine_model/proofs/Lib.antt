@@ -11,6 +11,7 @@ pub mod Codes
 pub mod Costs
 pub mod ComputingLemmas
 pub mod ReferenceLemmas
+pub mod Runs
 pub mod ReferenceRuns
 pub mod MemoryLemmas
 pub mod AloneLemmas

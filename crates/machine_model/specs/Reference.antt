@@ -1,5 +1,5 @@
 -- The reference's records as those of the definitions.
-use Rattle.std.specs.Prelude.{◌≡◌, ℕ, zero, suc, ◌^◌, ◌≤◌, ℤ, List, [], ◌∷◌, ◌++◌, map, slice_set, Bool, true, false, Option, Some, None, Result, Ok, Err, slice_index_or, option_map}
+use Rattle.std.specs.Prelude.{◌≡◌, ℕ, zero, suc, ◌^◌, ◌≤◌, ℤ, List, [], ◌∷◌, ◌++◌, map, slice_set, Bool, true, false, Option, Some, None, Result, Ok, Err, slice_index_or, option_map, ◌+◌, ◌⊎◌, slice_get, take, length}
 use Rattle.std.specs.Int.{w64}
 use Rattle.std.specs.Int.RustNames.{FitsSigned}
 use Rattle.machine_model.specs.declared.reference_records.Content.{Content}
@@ -21,7 +21,7 @@ use Rattle.machine_model.specs.declared.reference_records.JobMember.TheVariants 
 use Rattle.machine_model.specs.declared.reference_records.ReferenceJob.{ReferenceJob}
 use Rattle.machine_model.specs.declared.reference_records.ReferenceMove.{ReferenceMove}
 use Rattle.machine_model.specs.declared.reference_records.Change.{Change}
-use Rattle.machine_model.specs.Job.{Task, Ending, Member, Live, Ended, Job, Move}
+use Rattle.machine_model.specs.Job.{Task, Ending, Member, Live, Ended, Job, Move, entries_of, run, state_in}
 use Rattle.machine_model.specs.Value.{Value, Unset, Num, Stack, Part, Registers}
 use Rattle.machine_model.specs.Machine.{State, Program, Birth, Effect, Goes, Ends, Spawns, Calls, Traps, Trap, UnsetRead, OutsideStack, OutsidePart, WrongKind, OutsideCode, WritesStackEnd, NoHelper, OverSpent, answered, effect}
 use Rattle.machine_model.specs.Alone.{Answers, EndsWithin, no_entries}
@@ -216,3 +216,43 @@ HasOneAnswer may = (helper : ℕ) (arguments : List ℕ) (a b : ℕ) → may hel
 -- the task doesn't end within so many steps, whatever is answered
 abbrev pub NeverEnds : Program → Answers → ℕ → State → Type 0
 NeverEnds p may n s = (r0 : ℕ) (last : State) → EndsWithin p may r0 last n s → ⊥
+
+-- what follows an effect is more than the reference has
+abbrev pub FarOn : Answers → (State → Type 0) → Effect → Type 0
+FarOn may on (Goes next) = on next
+FarOn may on (Ends r0 last) = ⊥
+FarOn may on (Spawns birth taken refused) = ⊥
+FarOn may on (Calls helper arguments caller) =
+    (4294967296 ≤ caller.slot) ⊎ ((answer : ℕ) × may helper arguments answer × on (answered caller answer))
+FarOn may on (Traps trap) = ⊥
+
+-- within so many steps a task that runs alone may get to more than the reference has
+abbrev pub FarWithin : Program → Answers → ℕ → State → Type 0
+FarWithin p may zero s = ⊥
+FarWithin p may (suc n) s =
+    (4294967296 ≤ s.slot) ⊎ (GoesFar (effect p no_entries s) ⊎ FarOn may (FarWithin p may n) (effect p no_entries s))
+
+-- a child's base, or its number, is more than the reference has
+abbrev pub BearsFar : Task → Effect → Type 0
+BearsFar t (Spawns birth taken refused) = (2 ^ 64 ≤ t.base + length taken.part) ⊎ (2 ^ 64 ≤ t.children + 1)
+BearsFar t e = ⊥
+
+-- the effect on a task is more than the reference has
+abbrev pub IsFarEffect : Task → Effect → Type 0
+IsFarEffect t e = (4294967296 ≤ t.slot) ⊎ (GoesFar e ⊎ BearsFar t e)
+
+-- a step of the number is one of a live task, and its effect is more than the reference has
+pub record IsFarStep (programs : List Program) (j : Job) (n : ℕ) : Type 0 where
+  pub task : Task
+  pub alive : slice_get j.tasks n ≡ Some (Live task)
+  pub program : Program
+  pub there : slice_get programs task.program ≡ Some program
+  pub far : IsFarEffect task (effect program (entries_of programs) (state_in j.buffer task))
+
+-- a run gets to such a step
+pub record IsFarRun (programs : List Program) (j : Job) (moves : List Move) : Type 0 where
+  pub count : ℕ
+  pub job : Job
+  pub runs : run programs j (take count moves) ≡ Some job
+  pub number : ℕ
+  pub step : IsFarStep programs job number

@@ -1,14 +1,14 @@
 //! The reference: runs of a job, computed as the definitions say, one function a definition. It is slow. What
 //! it is compared with shares the exact operators with it, and loads, stores and fills of memory, but nothing else.
 
-ghost use Rattle.std.specs.Prelude.{◌≡◌, ℕ, ◌+◌, ◌<◌, length, take, drop, slice_set, map, option_map, slice_get, Bool, false, Option, Some, Err, IfOk, OnOk};
+ghost use Rattle.std.specs.Prelude.{◌≡◌, ℕ, ◌+◌, ◌^◌, ◌<◌, ◌≤◌, ◌⊎◌, length, take, drop, slice_set, map, option_map, slice_get, Bool, false, Option, Some, Err, IfOk, OnOk};
 ghost use Rattle.machine_model.specs.Job.{Job, applied, run, start, state_in, step, with_state, child_of, ending_of, entry_registers, goes_on};
 ghost use Rattle.machine_model.specs.Machine.{Ends, Spawns, State};
 ghost use Rattle.machine_model.specs.declared.reference_records.Change.{Change};
 ghost use Rattle.machine_model.specs.declared.reference_records.Unanswered.{Unanswered};
 ghost use Rattle.machine_model.specs.declared.reference_records.Unanswered.TheVariants as unanswered;
 ghost use Rattle.machine_model.specs.Memory.{written};
-ghost use Rattle.machine_model.specs.Reference.{birth_from, changed_by, step_by, effect_of, ended_of, job_of, member_of, move_of, program_of, registers_of, state_of, task_of, when};
+ghost use Rattle.machine_model.specs.Reference.{BearsFar, IsFarRun, IsFarStep, birth_from, changed_by, step_by, effect_of, ended_of, job_of, member_of, move_of, program_of, registers_of, state_of, task_of, when};
 
 pub use crate::reference_alone::run_alone;
 pub use crate::reference_effect::effect;
@@ -39,7 +39,8 @@ fn drop_first(bytes: &[u8], count: usize) -> &[u8]
 }
 
 fn copied(alloc: Global, places: &[u64]) -> Result<Vec<u64>, Unanswered>
-    ensures { IfOk result (λ v. v.items ≡ places.now) }
+    ensures value { IfOk result (λ v. v.items ≡ places.now) }
+    ensures memory { (error : Unanswered) → result ≡ Err error → error ≡ unanswered.NoMemory }
 {
     let mut copy = Vec::new(alloc);
     copy.extend_from_slice(places)?;
@@ -48,7 +49,8 @@ fn copied(alloc: Global, places: &[u64]) -> Result<Vec<u64>, Unanswered>
 
 /// The state of a task, with the bytes of its range.
 fn state_in(alloc: Global, buffer: &[u8], task: &LiveTask) -> Result<Running, Unanswered>
-    ensures { IfOk result (λ s. state_of s ≡ state_in buffer.now (task_of task.now)) }
+    ensures value { IfOk result (λ s. state_of s ≡ state_in buffer.now (task_of task.now)) }
+    ensures memory { (error : Unanswered) → result ≡ Err error → error ≡ unanswered.NoMemory }
 {
     let mut part = Vec::new(alloc);
     part.extend_from_slice(take_first(drop_first(buffer, task.base), task.size))?;
@@ -64,20 +66,19 @@ fn state_in(alloc: Global, buffer: &[u8], task: &LiveTask) -> Result<Running, Un
 
 /// The buffer with these bytes from a place on.
 fn written(alloc: Global, buffer: &[u8], at: usize, bytes: &[u8]) -> Result<Vec<u8>, Unanswered>
-    ensures { IfOk result (λ v. v.items ≡ written buffer.now at bytes.now) }
+    ensures value { IfOk result (λ v. v.items ≡ written buffer.now at bytes.now) }
+    ensures memory { (error : Unanswered) → result ≡ Err error → error ≡ unanswered.NoMemory }
 {
-    let Some(end) = at.checked_add(bytes.len()) else {
-        return Err(Unanswered::TooLarge);
-    };
     let mut whole = Vec::new(alloc);
     whole.extend_from_slice(take_first(buffer, at))?;
     whole.extend_from_slice(bytes)?;
-    whole.extend_from_slice(drop_first(buffer, end))?;
+    whole.extend_from_slice(drop_first(drop_first(buffer, at), bytes.len()))?;
     Ok(whole)
 }
 
 fn with_state(alloc: Global, task: &LiveTask, state: &Running) -> Result<LiveTask, Unanswered>
-    ensures { IfOk result (λ t. task_of t ≡ with_state (task_of task.now) (state_of state.now)) }
+    ensures value { IfOk result (λ t. task_of t ≡ with_state (task_of task.now) (state_of state.now)) }
+    ensures memory { (error : Unanswered) → result ≡ Err error → error ≡ unanswered.NoMemory }
 {
     let place = copied(alloc, &task.place)?;
     let part = state.part.as_slice();
@@ -123,7 +124,8 @@ fn child_of(
     state: &Running,
     child: &Child,
 ) -> Result<LiveTask, Unanswered>
-    ensures { IfOk result (λ t. task_of t ≡ child_of (task_of task.now) (state_of state.now) (birth_from child.now)) }
+    ensures value { IfOk result (λ t. task_of t ≡ child_of (task_of task.now) (state_of state.now) (birth_from child.now)) }
+    ensures far { result ≡ Err unanswered.TooLarge → 2 ^ 64 ≤ task.now.base + length state.now.part.items }
 {
     let mut place = copied(alloc, &task.place)?;
     place.push(task.children)?;
@@ -155,7 +157,8 @@ fn ending_of(
     state: &Running,
     r0: u64,
 ) -> Result<EndedTask, Unanswered>
-    ensures { IfOk result (λ e. ended_of e ≡ ending_of (task_of task.now) (state_of state.now) r0) }
+    ensures value { IfOk result (λ e. ended_of e ≡ ending_of (task_of task.now) (state_of state.now) r0) }
+    ensures memory { (error : Unanswered) → result ≡ Err error → error ≡ unanswered.NoMemory }
 {
     let place = copied(alloc, &task.place)?;
     Ok(EndedTask {
@@ -178,8 +181,9 @@ fn going(
     task: &LiveTask,
     next: &Running,
 ) -> Result<Change, Unanswered>
-    ensures { IfOk result (λ c. (j : Job) (n : ℕ) → j.buffer ≡ buffer.now →
+    ensures value { IfOk result (λ c. (j : Job) (n : ℕ) → j.buffer ≡ buffer.now →
         changed_by j n c ≡ goes_on j n (task_of task.now) (state_of next.now)) }
+    ensures memory { (error : Unanswered) → result ≡ Err error → error ≡ unanswered.NoMemory }
 {
     let buffer = written(alloc, buffer, task.base, &next.part)?;
     let live = with_state(alloc, task, next)?;
@@ -191,7 +195,8 @@ fn going(
 }
 
 fn copied_bytes(alloc: Global, bytes: &[u8]) -> Result<Vec<u8>, Unanswered>
-    ensures { IfOk result (λ v. v.items ≡ bytes.now) }
+    ensures value { IfOk result (λ v. v.items ≡ bytes.now) }
+    ensures memory { (error : Unanswered) → result ≡ Err error → error ≡ unanswered.NoMemory }
 {
     let mut copy = Vec::new(alloc);
     copy.extend_from_slice(bytes)?;
@@ -206,8 +211,9 @@ fn ending(
     last: &Running,
     r0: u64,
 ) -> Result<Change, Unanswered>
-    ensures { IfOk result (λ c. (j : Job) (n : ℕ) → j.buffer ≡ buffer.now → (refuses : Bool) →
+    ensures value { IfOk result (λ c. (j : Job) (n : ℕ) → j.buffer ≡ buffer.now → (refuses : Bool) →
         Some (changed_by j n c) ≡ applied j n (task_of task.now) refuses (Ends r0 (state_of last.now))) }
+    ensures memory { (error : Unanswered) → result ≡ Err error → error ≡ unanswered.NoMemory }
 {
     let buffer = copied_bytes(alloc, buffer)?;
     let ended = ending_of(alloc, task, last, r0)?;
@@ -226,8 +232,10 @@ fn bearing(
     child: &Child,
     taken: &Running,
 ) -> Result<Change, Unanswered>
-    ensures { IfOk result (λ c. (j : Job) (n : ℕ) → j.buffer ≡ buffer.now → (refused : State) →
+    ensures value { IfOk result (λ c. (j : Job) (n : ℕ) → j.buffer ≡ buffer.now → (refused : State) →
         Some (changed_by j n c) ≡ applied j n (task_of task.now) false (Spawns (birth_from child.now) (state_of taken.now) refused)) }
+    ensures far { result ≡ Err unanswered.TooLarge →
+        (2 ^ 64 ≤ task.now.base + length taken.now.part.items) ⊎ (2 ^ 64 ≤ task.now.children + 1) }
 {
     let buffer = copied_bytes(alloc, buffer)?;
     let mut parent = with_state(alloc, task, taken)?;
@@ -251,8 +259,9 @@ fn change(
     refuses: bool,
     outcome: &Outcome,
 ) -> Result<Option<Change>, Unanswered>
-    ensures { IfOk result (λ o. (j : Job) (n : ℕ) → j.buffer ≡ buffer.now →
+    ensures value { IfOk result (λ o. (j : Job) (n : ℕ) → j.buffer ≡ buffer.now →
         option_map (changed_by j n) o ≡ applied j n (task_of task.now) refuses (effect_of outcome.now)) }
+    ensures far { result ≡ Err unanswered.TooLarge → BearsFar (task_of task.now) (effect_of outcome.now) }
 {
     match outcome {
         Outcome::Goes(next) => Ok(Some(going(alloc, buffer, task, next)?)),
@@ -271,7 +280,8 @@ fn change(
 /// Puts the change of task `n` into the job.
 fn apply(job: &mut ReferenceJob, n: usize, change: Change) -> Result<(), Unanswered>
     requires { n < length job.old.tasks.items }
-    ensures { OnOk result (job_of job.new ≡ changed_by (job_of job.old) n change) }
+    ensures value { OnOk result (job_of job.new ≡ changed_by (job_of job.old) n change) }
+    ensures memory { (error : Unanswered) → result ≡ Err error → error ≡ unanswered.NoMemory }
 {
     let Change {
         buffer,
@@ -297,6 +307,7 @@ fn stepped(
 ) -> Result<Option<Option<Change>>, Unanswered>
     ensures steps { IfOk result (λ o. step_by (job_of job.now) n o ≡ step (map program_of programs.now) (job_of job.now) n refuses) }
     ensures within { IfOk result (λ o. (c : Option Change) → o ≡ Some c → n < length job.now.tasks.items) }
+    ensures far { result ≡ Err unanswered.TooLarge → IsFarStep (map program_of programs.now) (job_of job.now) n }
 {
     match job.tasks.get(n) {
         None => Ok(None),
@@ -323,7 +334,8 @@ pub fn step(
     n: usize,
     refuses: bool,
 ) -> Result<bool, Unanswered>
-    ensures { IfOk result (λ went. when went (job_of job.new) ≡ step (map program_of programs.now) (job_of job.old) n refuses) }
+    ensures value { IfOk result (λ went. when went (job_of job.new) ≡ step (map program_of programs.now) (job_of job.old) n refuses) }
+    ensures far { result ≡ Err unanswered.TooLarge → IsFarStep (map program_of programs.now) (job_of job.old) n }
 {
     match stepped(alloc, programs, job, n, refuses)? {
         None => Ok(true),
@@ -361,7 +373,7 @@ pub fn start(alloc: Global, credit: u32, buffer: Vec<u8>) -> Result<ReferenceJob
 }
 
 /// The job after these moves, from the start of one with this credit and buffer. None where a task traps on the way. An
-/// Err says only that there is no answer.
+/// Err says that there is no answer: for want of memory, or where a number on the way doesn't fit its type.
 pub fn run(
     alloc: Global,
     programs: &[ReferenceProgram],
@@ -369,7 +381,9 @@ pub fn run(
     buffer: Vec<u8>,
     moves: &[ReferenceMove],
 ) -> Result<Option<ReferenceJob>, Unanswered>
-    ensures { IfOk result (λ o. option_map job_of o ≡ run (map program_of programs.now) (start credit buffer.items) (map move_of moves.now)) }
+    ensures value { IfOk result (λ o. option_map job_of o ≡ run (map program_of programs.now) (start credit buffer.items) (map move_of moves.now)) }
+    ensures far { result ≡ Err unanswered.TooLarge →
+        IsFarRun (map program_of programs.now) (start credit buffer.items) (map move_of moves.now) }
 {
     let mut job = start(alloc, credit, buffer)?;
     for entry in moves {

@@ -3,9 +3,10 @@
 ghost use Rattle.std.specs.Prelude.{◌≡◌, ◌≤◌, ℕ, None, Some, Ok, Err, IfOk};
 ghost use Rattle.machine_model.specs.Alone.{EndsWithin, alone};
 ghost use Rattle.machine_model.specs.Machine.{answered};
-ghost use Rattle.machine_model.specs.Reference.{HasOneAnswer, NeverEnds, StaysFor, program_of, state_of};
+ghost use Rattle.machine_model.specs.Reference.{FarWithin, HasOneAnswer, NeverEnds, StaysFor, program_of, state_of};
 ghost use Rattle.machine_model.specs.declared.reference_records.Running.{Running};
 ghost use Rattle.machine_model.specs.declared.reference_records.Unanswered.{Unanswered};
+ghost use Rattle.machine_model.specs.declared.reference_records.Unanswered.TheVariants as unanswered;
 
 use crate::reference::entry_registers;
 use crate::reference_calls;
@@ -48,7 +49,8 @@ fn answered<F: Fn(u32, [u64; 5]) -> u64>(
 
 /// R0 and the last state of the program alone, with this credit and these bytes as its part, if it ends within so many
 /// steps. `helper` answers the calls of the helpers that are registered, by their ids. None where the program traps, or
-/// goes on after so many steps. An Err says only that there is no answer.
+/// goes on after so many steps. An Err says that there is no answer: for want of memory, or where a number on the way
+/// doesn't fit its type.
 pub fn run_alone<F: Fn(u32, [u64; 5]) -> u64>(
     alloc: Global,
     program: &ReferenceProgram,
@@ -64,6 +66,8 @@ pub fn run_alone<F: Fn(u32, [u64; 5]) -> u64>(
         StaysFor (program_of program.now) (λ id arguments answer. F.post helper.now id arguments answer) steps (alone credit part.items) }
     ensures never { result ≡ Ok None → HasOneAnswer (λ id arguments answer. F.post helper.now id arguments answer) →
         NeverEnds (program_of program.now) (λ id arguments answer. F.post helper.now id arguments answer) steps (alone credit part.items) }
+    ensures far { result ≡ Err unanswered.TooLarge →
+        FarWithin (program_of program.now) (λ id arguments answer. F.post helper.now id arguments answer) steps (alone credit part.items) }
 {
     let mut state = alone(credit, part);
     for _ in 0..steps {

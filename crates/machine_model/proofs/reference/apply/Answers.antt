@@ -1,11 +1,11 @@
 use Rattle.machine_model.proofs.ReferenceRuns.{put_alone, put_child}
 use Rattle.machine_model.proofs.reference.apply.Goals as goal
 
-pub returns-in_ok-push : goal.returns-in_ok-push
-returns-in_ok-push c =
+pub returns-in_ok-push-clause-value : goal.returns-in_ok-push-clause-value
+returns-in_ok-push-clause-value c =
     put_child c.args.change.buffer.items c.args.job.now.tasks.items c.push.new.self.items c.args.n c.args.change.member c.in-Some.task
     c.args.change.born c.in-Some.is c.in_ok-push.ensures.items
 
-pub returns-in_default : goal.returns-in_default
-returns-in_default c =
+pub returns-in_default-clause-value : goal.returns-in_default-clause-value
+returns-in_default-clause-value c =
     put_alone c.args.change.buffer.items c.args.job.now.tasks.items c.args.n c.args.change.member c.args.change.born c.in_default.is

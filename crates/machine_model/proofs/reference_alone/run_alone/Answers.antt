@@ -1,9 +1,11 @@
-use Rattle.std.proofs.Common.{◌≡◌, ◌-◌, ◌+◌, ℕ, suc, arith, subst, sym}
+use Rattle.std.proofs.Common.{◌≡◌, ◌-◌, ◌+◌, ℕ, suc, arith, refl, subst, sym}
 use Rattle.machine_model.specs.declared.reference_records.Running.{Running}
 use Rattle.machine_model.specs.Alone.{Answers, EndsWithin, alone}
 use Rattle.machine_model.specs.Machine.{Program, State}
 use Rattle.machine_model.specs.Reference.{program_of, state_of}
-use Rattle.machine_model.proofs.AloneLemmas.{Leads, leads_same, leads_goes, leads_calls, never_ends, ends_there, stays_at_trap, spawns_nothing, stays_at_last}
+use Rattle.machine_model.proofs.AloneLemmas.{Leads, leads_same, leads_goes, leads_calls, never_ends, ends_there, stays_at_trap, spawns_nothing, stays_at_last, far_there, far_call}
+use Rattle.machine_model.proofs.ReferenceRuns.{same_error}
+use Rattle.std.proofs.lemmas.Result.{err_from_is_err_and}
 use Rattle.machine_model.proofs.reference_alone.run_alone.Goals as goal
 use Rattle.machine_model.proofs.reference_alone.run_alone.Goals.{in-Goes, in-Calls+in_ok-state-in-Calls}
 
@@ -86,3 +88,27 @@ pub returns-clause-never : goal.returns-clause-never
 returns-clause-never g c = λ none one.
     never_ends (program_of c.args.program.now) (λ id arguments answer. goal.F-post g c.args.helper.now id arguments answer) one c.args.steps
     (alone c.args.credit c.args.part.items) (returns-clause-stays g c none)
+
+pub returns-in_err-next-clause-far : goal.returns-in_err-next-clause-far
+returns-in_err-next-clause-far g c = λ is.
+    let p : Program = program_of c.args.program.now in
+    let may : Answers = λ id arguments answer. goal.F-post g c.args.helper.now id arguments answer in
+    let first : State = alone c.args.credit c.args.part.items in
+    let s : State = state_of c.loop.state in
+    let left : ℕ = c.args.steps - c.loop.counter in
+    let less : ℕ = c.args.steps - (c.loop.counter + 1) in
+    let one : left ≡ suc less = omega (arith, c.loop-test.true) in
+    let q = err_from_is_err_and c.from_residual.result c.from_residual.ensures.1 in
+    far_there p may c.args.steps first left less s one c.loop.invariant (c.in_err-next.ensures.far (same_error _ _ _ _ q.1 q.2 is))
+
+pub returns-in_err-state-in-Calls-clause-far : goal.returns-in_err-state-in-Calls-clause-far
+returns-in_err-state-in-Calls-clause-far g c = λ _.
+    let p : Program = program_of c.args.program.now in
+    let may : Answers = λ id arguments answer. goal.F-post g c.args.helper.now id arguments answer in
+    let first : State = alone c.args.credit c.args.part.items in
+    let s : State = state_of c.loop.state in
+    let left : ℕ = c.args.steps - c.loop.counter in
+    let less : ℕ = c.args.steps - (c.loop.counter + 1) in
+    let one : left ≡ suc less = omega (arith, c.loop-test.true) in
+    far_call p may c.args.steps first left less s one c.loop.invariant c.in-Calls.id c.in-Calls.arguments (state_of c.in-Calls.caller)
+    (rw c.in-Calls.is at c.in_ok-next.ensures.value) (c.in_err-state-in-Calls.ensures.large c.in_err-state-in-Calls.field-0.0 refl)
