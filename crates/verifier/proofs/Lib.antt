@@ -6,3 +6,4 @@ pub mod Soundness
 pub mod FaultLemmas
 pub mod Verdicts
 pub mod TableErrors
+pub mod Predecodings

@@ -16,7 +16,7 @@ pub use laws::{arrivals_are_joined, arrivals_are_unique};
 pub use refusals::Refusal;
 pub use state::State;
 pub use verification::verify;
-pub use verified::{Region, Verified};
+pub use verified::Verified;
 
 #[cfg(test)]
 mod tests;

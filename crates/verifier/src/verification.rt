@@ -4,7 +4,7 @@ ghost use Rattle.std.specs.Prelude.{◌≤◌, ◌↔◌, IsTrue, MatchResult};
 ghost use Rattle.verifier.specs.Refusals.{Refuses, IsAccepted};
 
 use crate::refusals::Refusal;
-use crate::regions::regions;
+use crate::regions::predecoded;
 use crate::states::states;
 use crate::verified::Verified;
 use cost_bound::costs;
@@ -43,7 +43,7 @@ pub fn verify(
     let states = states(alloc, need, helpers, &graph)?;
     let costs = costs(alloc, &graph)?;
     let code = graph.into_code();
-    let regions = regions(alloc, &code, &states)?;
+    let predecoded = predecoded(alloc, &code, &states)?;
     let helpers = helpers.copied(alloc)?;
-    Ok(Verified::of(need, helpers, code, states, regions, costs.into_table()))
+    Ok(Verified::of(need, helpers, predecoded, states, costs.into_table()))
 }
