@@ -8,7 +8,6 @@ pub mod Loads
 pub mod Stores
 pub mod Jumps
 pub mod Exits
-pub mod EndSlots
 pub mod Calls
 pub mod Helpers
 pub mod Places
@@ -16,3 +15,4 @@ pub mod Enters
 pub mod Asking
 pub mod Running
 pub mod Answering
+pub mod Dispatch

@@ -6,7 +6,7 @@ ghost use Rattle.interpreter.specs.Functions.{HaveFunctions, called};
 ghost use Rattle.interpreter.specs.Executes.{Runs};
 
 use crate::credit::Credit;
-use crate::frame::{Frame, StepOut};
+use crate::frame::{Frame, Next};
 use crate::functions::Functions;
 use helpers::Part;
 use std::alloc::Global;
@@ -35,10 +35,11 @@ pub fn run_alone(
         held: credit,
         used: 0,
     };
+    let mut slot = 0;
     loop {
-        match frame.step(alloc, code, part, &mut credit, functions) {
-            StepOut::Went => {}
-            StepOut::Ended(r0) => return r0,
+        match frame.step_at(alloc, code, slot, part, &mut credit, functions) {
+            Next::At(next) => slot = next,
+            Next::Ended(r0) => return r0,
         }
     }
 }

@@ -1,12 +1,19 @@
 //! Runs verified programs, one instruction at a time.
 #![tactic(auto)]
 
+mod access;
+mod advance;
 mod alone;
+mod arithmetic;
 mod credit;
 mod frame;
 mod functions;
+mod helper_calls;
+mod jumping;
 mod position;
+mod progress;
 mod registered;
+mod site;
 mod spawning;
 mod vm;
 mod vm_fault;

@@ -1,38 +1,49 @@
-use Rattle.std.proofs.Common.{◌∙◌, refl, arith}
+use Rattle.std.proofs.Common.{◌∙◌, refl, ap, arith}
+use Rattle.interpreter.specs.declared.frame.Frame.{Frame}
+use Rattle.interpreter.specs.Behind.{at_slot}
 use Rattle.interpreter.specs.Functions.{called}
 use Rattle.interpreter.proofs.Running.{enters, goes_on, ends}
 use Rattle.interpreter.proofs.Answering.{are_answers}
 use Rattle.interpreter.proofs.alone.run_alone.Goals as goal
 
-pub loop-r0-init : goal.loop-r0-init
-loop-r0-init g c = record {
-  way = enters c.args.code.now (called c.args.functions.now.places.items) c.args.credit c.len.result c.args.part.now c.enter.new.self
-      c.requires.verified c.requires.need c.len.ensures.len (omega (arith, c.len.ensures.small)) c.requires.cost c.requires.limit c.enter.ensures;
+pub loop-next-init : goal.loop-next-init
+loop-next-init g c = record {
+  way = enters c.args.code.now (called c.args.functions.now.places.items) c.args.credit c.len.result c.args.part.now (at_slot c.enter.new.self 0)
+      c.requires.verified c.requires.need c.len.ensures.len (omega (arith, c.len.ensures.small)) c.requires.cost c.requires.limit (ap (λ (f : Frame). at_slot f 0) c.enter.ensures);
   functions = refl;
 }
 
 pub returns-in-Ended-clause-runs : goal.returns-in-Ended-clause-runs
 returns-in-Ended-clause-runs g c =
-    let way = c.loop-r0.invariant.way in
-    let end = ends _ _ _ _ _ _ way _ _ _ _ _ _ c.in-Ended.r0 (c.in-Ended.ensures.did way.registers way.behind) in
+    let way = c.loop-next.invariant.way in
+    let end = ends _ _ _ _ _ _ way _ _ _ _ _ _ c.in-Ended.r0 (rw c.in-Ended.is at (c.step_at.ensures.did way.registers way.behind)) in
     record { last = end.0; ends = end.1; leaves = end.2 }
 
 pub returns-in-Ended-clause-len : goal.returns-in-Ended-clause-len
 returns-in-Ended-clause-len g c =
-    let way = c.loop-r0.invariant.way in
-    let end = ends _ _ _ _ _ _ way _ _ _ _ _ _ c.in-Ended.r0 (c.in-Ended.ensures.did way.registers way.behind) in
+    let way = c.loop-next.invariant.way in
+    let end = ends _ _ _ _ _ _ way _ _ _ _ _ _ c.in-Ended.r0 (rw c.in-Ended.is at (c.step_at.ensures.did way.registers way.behind)) in
     end.3
 
 pub returns-in-Ended-clause-functions : goal.returns-in-Ended-clause-functions
 returns-in-Ended-clause-functions g c =
-    let way = c.loop-r0.invariant.way in
-    let end = ends _ _ _ _ _ _ way _ _ _ _ _ _ c.in-Ended.r0 (c.in-Ended.ensures.did way.registers way.behind) in
-    end.4 ∙ c.loop-r0.invariant.functions
+    let way = c.loop-next.invariant.way in
+    let end = ends _ _ _ _ _ _ way _ _ _ _ _ _ c.in-Ended.r0 (rw c.in-Ended.is at (c.step_at.ensures.did way.registers way.behind)) in
+    end.4 ∙ c.loop-next.invariant.functions
 
-pub loop-r0-preserved : goal.loop-r0-preserved
-loop-r0-preserved g c =
-    let way = c.loop-r0.invariant.way in
-    let quiet = c.loop-r0.invariant.functions in
-    let on = goes_on _ _ _ _ _ _ way _ _ _ _ _ _ (are_answers c.args.code.now c.args.functions.now c.loop-r0.functions c.step.new.spawner quiet
-    c.requires.functions) (c.in-Went.ensures.did way.registers way.behind) (c.in-Went.ensures.covered refl) in
+pub loop-next-preserved : goal.loop-next-preserved
+loop-next-preserved g c =
+    let way = c.loop-next.invariant.way in
+    let quiet = c.loop-next.invariant.functions in
+    let did = rw c.in-At.is at (c.step_at.ensures.did way.registers way.behind) in
+    let on = goes_on _ _ _ _ _ _ way _ _ _ _ _ _ (are_answers c.args.code.now c.args.functions.now c.loop-next.functions c.step_at.new.spawner quiet
+    c.requires.functions) did (c.step_at.ensures.covered c.in-At.next c.in-At.is) in
     record { way = on.0; functions = on.1 ∙ quiet }
+
+pub loop-next-smaller : goal.loop-next-smaller
+loop-next-smaller g c =
+    let covered = c.step_at.ensures.covered c.in-At.next c.in-At.is in
+    let affords = covered.affords in
+    let spends = c.step_at.ensures.spends in
+    let holds = c.step_at.ensures.holds in
+    omega (arith, affords, spends, holds)
