@@ -8,3 +8,5 @@ pub mod Readiness
 pub mod Coming
 pub mod RefusalCodes
 pub mod Refusals
+pub mod Joining
+pub mod Judged

@@ -1,16 +1,18 @@
-//! What an instruction has to find known.
+//! What an instruction has to find known, and what it leaves in its destination.
 
 ghost use Rattle.std.specs.Prelude.{◌≡◌, ◌+◌, ◌≤◌, ◌<◌, IfNone, ℤ, pos, ◌+ℤ◌, int_lt, ◌||◌};
 ghost use Rattle.value_ranges.specs.Tables.{table_of, IsArithmetic, IsReadSet, IsSet};
 ghost use Rattle.machine_model.specs.Memory.{store_bytes, load_bytes};
 ghost use Rattle.verifier.specs.Covers.{abs_at};
-ghost use Rattle.verifier.specs.States.{fault, first, unset_fault, number_fault, region_fault, access_fault, table_fault, write_fault};
+ghost use Rattle.verifier.specs.States.{fault, first, unset_fault, number_fault, region_fault, access_fault, table_fault, write_fault, or_unset, answer_range};
+ghost use Rattle.verifier.specs.Judged.{judged, left_by};
+ghost use Rattle.value_ranges.specs.Words.{loaded};
 
 use crate::calls::call_fault;
 use crate::state::State;
 use helpers::HelperTable;
 use insn_codec::{Insn, LoadKind, Register, Size};
-use value_ranges::{Abs, Reach, alu};
+use value_ranges::{Abs, Reach, alu, loaded};
 
 /// A register that is read is set.
 pub(crate) fn unset_fault(abs: &Abs) -> Option<u8>
@@ -118,25 +120,42 @@ fn load_bytes(kind: LoadKind) -> u8
     }
 }
 
-/// The table allows an arithmetic instruction or a move, and its destination may be written.
-fn result_fault(insn: &Insn, dst: Abs, src: Abs, to: Register) -> Option<u8>
-    requires arithmetic { IsArithmetic insn.now }
-    requires set { IsReadSet insn.now dst src }
-    ensures { result ≡ first (table_fault (table_of insn.now dst src)) (write_fault to) }
+/// What an instruction leaves in its destination, unless that may not be written.
+fn written(to: Register, left: Abs) -> Result<Abs, u8>
+    ensures { result ≡ judged (write_fault to) left }
 {
-    match alu(insn, dst, src) {
-        Err(number) => Some(number),
-        Ok(_) => write_fault(to),
+    unless(write_fault(to), left)
+}
+
+/// What is left, unless there is a refusal.
+fn unless(fault: Option<u8>, left: Abs) -> Result<Abs, u8>
+    ensures { result ≡ judged fault left }
+{
+    match fault {
+        Some(number) => Err(number),
+        None => Ok(left),
     }
 }
 
-/// A load is allowed, and its destination may be written.
-fn load_fault(need: u32, base: Abs, offset: i16, kind: LoadKind, to: Register) -> Option<u8>
-    ensures { result ≡ first (access_fault need base offset (load_bytes kind)) (write_fault to) }
+/// What the table gives for an arithmetic instruction or a move, if it allows it and the destination may be written.
+fn computed(insn: &Insn, dst: Abs, src: Abs, to: Register) -> Result<Abs, u8>
+    requires arithmetic { IsArithmetic insn.now }
+    requires set { IsReadSet insn.now dst src }
+    ensures { result ≡ judged (first (table_fault (table_of insn.now dst src)) (write_fault to)) (or_unset (table_of insn.now dst src)) }
+{
+    match alu(insn, dst, src) {
+        Err(number) => Err(number),
+        Ok(left) => written(to, left),
+    }
+}
+
+/// What a load leaves, if it is allowed and its destination may be written.
+fn load(need: u32, base: Abs, offset: i16, kind: LoadKind, to: Register) -> Result<Abs, u8>
+    ensures { result ≡ judged (first (access_fault need base offset (load_bytes kind)) (write_fault to)) (loaded kind) }
 {
     match access_fault(need, base, offset, load_bytes(kind)) {
-        Some(number) => Some(number),
-        None => write_fault(to),
+        Some(number) => Err(number),
+        None => written(to, loaded(kind)),
     }
 }
 
@@ -173,78 +192,97 @@ fn compare_fault(dst: Abs, src: Abs) -> Option<u8>
     }
 }
 
-/// The lowest number that applies to a move, which reads the second operand alone.
-fn move_fault(insn: &Insn, dst: Abs, src: Abs, to: Register) -> Option<u8>
+/// A move reads the second operand alone.
+fn moved_to(insn: &Insn, dst: Abs, src: Abs, to: Register) -> Result<Abs, u8>
     requires arithmetic { IsArithmetic insn.now }
     requires reads { IsSet src → IsReadSet insn.now dst src }
-    ensures { result ≡ first (unset_fault src) (first (table_fault (table_of insn.now dst src)) (write_fault to)) }
+    ensures { result ≡ judged (first (unset_fault src) (first (table_fault (table_of insn.now dst src)) (write_fault to)))
+        (or_unset (table_of insn.now dst src)) }
 {
     match unset_fault(&src) {
-        Some(number) => Some(number),
-        None => result_fault(insn, dst, src, to),
+        Some(number) => Err(number),
+        None => computed(insn, dst, src, to),
     }
 }
 
-/// The lowest number that applies to an arithmetic instruction that reads its destination alone.
-fn unary_fault(insn: &Insn, dst: Abs, src: Abs, to: Register) -> Option<u8>
+/// Some arithmetic instructions read their destination alone.
+fn unary(insn: &Insn, dst: Abs, src: Abs, to: Register) -> Result<Abs, u8>
     requires arithmetic { IsArithmetic insn.now }
     requires reads { IsSet dst → IsReadSet insn.now dst src }
-    ensures { result ≡ first (unset_fault dst) (first (table_fault (table_of insn.now dst src)) (write_fault to)) }
+    ensures { result ≡ judged (first (unset_fault dst) (first (table_fault (table_of insn.now dst src)) (write_fault to)))
+        (or_unset (table_of insn.now dst src)) }
 {
     match unset_fault(&dst) {
-        Some(number) => Some(number),
-        None => result_fault(insn, dst, src, to),
+        Some(number) => Err(number),
+        None => computed(insn, dst, src, to),
     }
 }
 
-/// The lowest number that applies to an arithmetic instruction that reads both operands.
-fn binary_fault(insn: &Insn, dst: Abs, src: Abs, to: Register) -> Option<u8>
+/// The others read both operands.
+fn binary(insn: &Insn, dst: Abs, src: Abs, to: Register) -> Result<Abs, u8>
     requires arithmetic { IsArithmetic insn.now }
     requires reads { IsSet dst → IsSet src → IsReadSet insn.now dst src }
-    ensures { result ≡ first (unset_fault dst) (first (unset_fault src) (first (table_fault (table_of insn.now dst src)) (write_fault to))) }
+    ensures { result ≡ judged (first (unset_fault dst) (first (unset_fault src) (first (table_fault (table_of insn.now dst src)) (write_fault to))))
+        (or_unset (table_of insn.now dst src)) }
 {
     if let Some(number) = unset_fault(&dst) {
-        return Some(number);
+        return Err(number);
     }
     match unset_fault(&src) {
-        Some(number) => Some(number),
-        None => result_fault(insn, dst, src, to),
+        Some(number) => Err(number),
+        None => computed(insn, dst, src, to),
     }
 }
 
-/// The lowest number that applies to the instruction where the registers are so.
-pub(crate) fn refused(need: u32, helpers: &HelperTable, insn: &Insn, state: &State) -> Option<u8>
-    ensures { result ≡ fault need helpers.now insn.now state.now }
+/// What a helper answers.
+fn answer_range(helper: u32) -> Abs
+    ensures { result ≡ answer_range helper }
+{
+    match helper {
+        1 => Abs::between(0, 6),
+        2 => Abs::between(0, 2_147_483_647),
+        3 => Abs::between(0, 65_536),
+        4 => Abs::between(0, 0),
+        5 => Abs::between(0, 130_560),
+        _ => Abs::any_number(),
+    }
+}
+
+/// What the instruction leaves in its destination, or the lowest number that applies to it where the registers are so.
+pub(crate) fn judge(need: u32, helpers: &HelperTable, insn: &Insn, state: &State) -> Result<Abs, u8>
+    ensures { result ≡ judged (fault need helpers.now insn.now state.now) (left_by insn.now state.now) }
 {
     match *insn {
-        Insn::Alu { dst, src, .. } => binary_fault(insn, state.at(dst), state.operand(&src), dst),
-        Insn::Mov { dst, src, .. } => move_fault(insn, state.at(dst), state.operand(&src), dst),
-        Insn::MovSx { dst, src, .. } => move_fault(insn, state.at(dst), state.at(src), dst),
+        Insn::Alu { dst, src, .. } => binary(insn, state.at(dst), state.operand(&src), dst),
+        Insn::Mov { dst, src, .. } => moved_to(insn, state.at(dst), state.operand(&src), dst),
+        Insn::MovSx { dst, src, .. } => moved_to(insn, state.at(dst), state.at(src), dst),
         Insn::Neg { dst, .. } | Insn::End { dst, .. } => {
-            unary_fault(insn, state.at(dst), state.at(dst), dst)
+            unary(insn, state.at(dst), state.at(dst), dst)
         }
-        Insn::LoadWide { dst, .. } => write_fault(dst),
+        Insn::LoadWide { dst, value } => written(dst, Abs::single(value)),
         Insn::Load {
             kind,
             dst,
             base,
             offset,
-        } => load_fault(need, state.at(base), offset, kind, dst),
+        } => load(need, state.at(base), offset, kind, dst),
+        Insn::Call { helper } => unless(call_fault(need, helpers, state, helper), answer_range(helper)),
         Insn::Store {
             size,
             base,
             offset,
             ..
-        } => access_fault(need, state.at(base), offset, store_bytes(size)),
+        } => unless(access_fault(need, state.at(base), offset, store_bytes(size)), Abs::Unset),
         Insn::StoreRegister {
             size,
             base,
             offset,
             src,
-        } => store_fault(need, state.at(base), offset, size, state.at(src)),
-        Insn::Jump { .. } | Insn::Jump32 { .. } => None,
-        Insn::JumpIf { dst, src, .. } => compare_fault(state.at(dst), state.operand(&src)),
-        Insn::Call { helper } => call_fault(need, helpers, state, helper),
-        Insn::Exit => number_fault(&state.at(Register::new(0))),
+        } => unless(store_fault(need, state.at(base), offset, size, state.at(src)), Abs::Unset),
+        Insn::Jump { .. } | Insn::Jump32 { .. } => Ok(Abs::Unset),
+        Insn::JumpIf { dst, src, .. } => {
+            unless(compare_fault(state.at(dst), state.operand(&src)), Abs::Unset)
+        }
+        Insn::Exit => unless(number_fault(&state.at(Register::new(0))), Abs::Unset),
     }
 }
