@@ -1,5 +1,5 @@
 -- States as lists of eleven.
-use Rattle.std.proofs.Common.{◌≡◌, ◌∙◌, ap, sym, ℕ, zero, suc, ◌+◌, ◌≤◌, ◌<◌, List, [], ◌∷◌, length, drop, slice_set, slice_index_or, arith, refl, inl, inr, ◌⊎◌, to_z-of_z}
+use Rattle.std.proofs.Common.{◌≡◌, Option, Some, None, Result, Ok, Err, ℕ, zero, suc, ◌+◌, ◌≤◌, ◌<◌, List, [], ◌∷◌, length, drop, slice_set, slice_index_or, arith, refl, inl, inr, ◌⊎◌, to_z-of_z}
 use Rattle.std.proofs.lemmas.Int.{ints}
 use Rattle.value_ranges.specs.declared.abs.Abs.{Abs}
 use Rattle.value_ranges.specs.declared.abs.Abs.TheVariants.{Unset, Num, Stack, Part}
@@ -7,6 +7,7 @@ use Rattle.value_ranges.specs.Joins.{joined}
 use Rattle.verifier.specs.declared.state.State.{State}
 use Rattle.verifier.specs.Covers.{abs_at}
 use Rattle.verifier.specs.Joining.{joined_below}
+use Rattle.verifier.specs.Judged.{judged}
 use Rattle.verifier.specs.States.{joined_state, with_abs, called_state}
 
 pub ruleset signed_values = (ints, to_z-of_z)
@@ -83,3 +84,15 @@ joined_called s t a long =
     of_eleven (λ (xs : List Abs). called_state (joined_state s (record { registers = xs })) (joined (abs_at s 0) a)
     ≡ joined_state s (called_state (record { registers = xs }) a))
     (λ b c d e f g h i j k l. simp joined_unset) t.registers long
+
+-- what a verdict says
+pub refused_is : (o : Option ℕ) (left : Abs) (number : ℕ) → Err number ≡ judged o left → o ≡ Some number
+refused_is None left number e = absurd (cc)
+refused_is (Some other) left number e = cc
+
+pub allowed_is : (o : Option ℕ) (left found : Abs) → Ok found ≡ judged o left → (o ≡ None) × (found ≡ left)
+allowed_is None left found e = (refl, cc)
+allowed_is (Some other) left found e = absurd (cc)
+
+pub one_state : (o : Option State) (s t : State) → Some s ≡ o → Some t ≡ o → s ≡ t
+one_state o s t x y = cc

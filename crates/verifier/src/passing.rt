@@ -78,8 +78,8 @@ fn come_refined(
 }
 
 /// What is known behind an instruction, on its edge for a jump that is taken or on another, comes to a place.
-pub(crate) fn pass(place: &mut Option<State>, insn: &Insn, taken: bool, left: Abs, state: &State)
-    requires { left ≡ left_by insn.now state.now }
+pub(crate) fn pass(place: &mut Option<State>, insn: &Insn, taken: bool, left: &Abs, state: &State)
+    requires { left.now ≡ left_by insn.now state.now }
     ensures { place.new ≡ come_to place.old (passed insn.now (if taken then Taken else NotTaken) state.now) }
 {
     match *insn {
@@ -89,8 +89,8 @@ pub(crate) fn pass(place: &mut Option<State>, insn: &Insn, taken: bool, left: Ab
         | Insn::Neg { dst, .. }
         | Insn::End { dst, .. }
         | Insn::LoadWide { dst, .. }
-        | Insn::Load { dst, .. } => come_set(place, state, dst, left),
-        Insn::Call { .. } => come_called(place, state, left),
+        | Insn::Load { dst, .. } => come_set(place, state, dst, *left),
+        Insn::Call { .. } => come_called(place, state, *left),
         Insn::JumpIf { dst, src, .. } => come_refined(place, insn, taken, state, dst, &src),
         Insn::Store { .. }
         | Insn::StoreRegister { .. }

@@ -1,6 +1,6 @@
 //! The state that arrives at each slot.
 
-ghost use Rattle.std.specs.Prelude.{◌≡◌, ℕ, ◌+◌, ◌<◌, ◌≤◌, ◌==◌, length, slice_index_or, Option, Some, None, MatchResult, if◌then◌else◌};
+ghost use Rattle.std.specs.Prelude.{◌≡◌, ◌≢◌, ℕ, ◌+◌, ◌<◌, ◌≤◌, ◌==◌, length, slice_index_or, Option, Some, None, MatchResult, if◌then◌else◌};
 ghost use Rattle.machine_model.specs.Edges.{insn_at, leads_at, Always, NotTaken, Taken};
 ghost use Rattle.flow_graph.specs.Flow.{IsFlow};
 ghost use Rattle.verifier.specs.States.{passed};
@@ -20,11 +20,12 @@ use value_ranges::Abs;
 use std::alloc::Global;
 
 /// What the instruction at a slot passes on comes to a slot ahead of it, besides what came before.
-fn push(states: &mut [Option<State>], slot: u32, to: u32, insn: &Insn, taken: bool, left: Abs)
+fn push(states: &mut [Option<State>], slot: u32, to: u32, insn: &Insn, taken: bool, left: &Abs)
     requires ahead { slot < to }
     requires inside { to < length states.old }
-    requires left { (state : State) → Some state ≡ slice_index_or states.old slot None → left ≡ left_by insn.now state }
+    requires left { (state : State) → Some state ≡ slice_index_or states.old slot None → left.now ≡ left_by insn.now state }
     ensures length { length states.new ≡ length states.old }
+    ensures others { (s : ℕ) → s ≢ to → slice_index_or states.new s None ≡ slice_index_or states.old s None }
     ensures met { (state : State) → Some state ≡ slice_index_or states.old slot None → (s : ℕ) → s < length states.old →
         arrival_of (slice_index_or states.new s None) ≡ met (arrival_of (slice_index_or states.old s None))
         (if to == s then Comes (passed insn.now (if taken then Taken else NotTaken) state) else Nothing) }
@@ -36,10 +37,10 @@ fn push(states: &mut [Option<State>], slot: u32, to: u32, insn: &Insn, taken: bo
 }
 
 /// What the instruction at a slot passes on comes to the slots that it leads to.
-fn push_on(states: &mut [Option<State>], graph: &Graph, slot: u32, insn: &Insn, left: Abs)
+fn push_on(states: &mut [Option<State>], graph: &Graph, slot: u32, insn: &Insn, left: &Abs)
     requires insn { insn_at graph.now slot ≡ Some insn.now }
     requires length { length states.old ≡ length graph.now }
-    requires left { (state : State) → Some state ≡ slice_index_or states.old slot None → left ≡ left_by insn.now state }
+    requires left { (state : State) → Some state ≡ slice_index_or states.old slot None → left.now ≡ left_by insn.now state }
     ensures length { length states.new ≡ length states.old }
     ensures met { (state : State) → Some state ≡ slice_index_or states.old slot None → (s : ℕ) → s < length states.old →
         arrival_of (slice_index_or states.new s None)
@@ -79,7 +80,7 @@ pub(crate) fn states(
             if let Some(state) = &states[slot as usize] {
                 match judge(need, helpers, insn, state) {
                     Err(number) => return Err(Refusal::at(slot, number)),
-                    Ok(left) => push_on(&mut states, graph, slot, insn, left),
+                    Ok(left) => push_on(&mut states, graph, slot, insn, &left),
                 }
             }
         }

@@ -1,4 +1,4 @@
-use Rattle.std.proofs.Common.{◌≡◌, length, arith}
+use Rattle.std.proofs.Common.{◌≡◌, length}
 use Rattle.verifier.proofs.StateLemmas.{joined_called}
 use Rattle.verifier.proofs.state.State.join_answer.Goals as goal
 

@@ -1,4 +1,4 @@
-use Rattle.std.proofs.Common.{◌≡◌, ◌≤◌, ◌∙◌, length, slice_set, arith, ap}
+use Rattle.std.proofs.Common.{◌≡◌, ◌≤◌, length, slice_set}
 use Rattle.std.proofs.Math.ListN.{length-set}
 use Rattle.verifier.specs.States.{with_abs}
 use Rattle.verifier.proofs.StateLemmas.{joined_set}
