@@ -8,8 +8,8 @@ use std::marker::Model;
 /// The positions from `lo` to `hi`, of which there is at least one.
 #[derive(Clone, Copy, Debug, PartialEq, Eq)]
 pub struct Reach {
-    lo: i32,
-    hi: i32,
+    lo: i64,
+    hi: i64,
 }
 
 impl Model for Reach {
@@ -27,7 +27,7 @@ impl Model for Reach {
 
 impl Reach {
     /// The positions from `lo` to `hi`.
-    pub fn new(lo: i32, hi: i32) -> Self
+    pub fn new(lo: i64, hi: i64) -> Self
         requires { lo ≤ℤ hi }
         ensures { result ≡ record { lo = lo; hi = hi } }
     {
@@ -35,7 +35,7 @@ impl Reach {
     }
 
     /// The least of them.
-    pub fn lo(self) -> i32
+    pub fn lo(self) -> i64
         ensures value { result ≡ self.lo }
         ensures ordered { self.lo ≤ℤ self.hi }
     {
@@ -43,7 +43,7 @@ impl Reach {
     }
 
     /// The greatest of them.
-    pub fn hi(self) -> i32
+    pub fn hi(self) -> i64
         ensures value { result ≡ self.hi }
         ensures ordered { self.lo ≤ℤ self.hi }
     {

@@ -49,26 +49,26 @@ fn write_fault(register: Register) -> Option<u8>
 
 /// A position, moved by an offset.
 #[tactic(auto, using(crate::proofs::StateLemmas::signed_values))]
-pub(crate) fn moved(position: i32, offset: i16) -> i64
+pub(crate) fn moved(position: i64, offset: i16) -> i128
     ensures { result ≡ position +ℤ offset }
 {
-    i64::from(position) + i64::from(offset)
+    i128::from(position) + i128::from(offset)
 }
 
 /// The end of so many bytes from a position on, moved by an offset.
 #[tactic(auto, using(crate::proofs::StateLemmas::signed_values))]
-fn end_of(position: i32, offset: i16, count: u8) -> i64
+fn end_of(position: i64, offset: i16, count: u8) -> i128
     ensures { result ≡ position +ℤ offset +ℤ pos count }
 {
-    i64::from(position) + i64::from(offset) + i64::from(count)
+    i128::from(position) + i128::from(offset) + i128::from(count)
 }
 
 /// What goes from one position to another doesn't lie in a region of that size.
 #[tactic(auto, using(crate::proofs::StateLemmas::signed_values))]
-fn lies_outside(size: u32, from: i64, end: i64) -> bool
+pub(crate) fn lies_outside(size: u32, from: i128, end: i128) -> bool
     ensures { result ≡ (int_lt from (pos 0) || int_lt (pos size) end) }
 {
-    from < 0 || i64::from(size) < end
+    from < 0 || i128::from(size) < end
 }
 
 /// So many bytes from each position on, moved by an offset, lie in a region of that size.
@@ -138,6 +138,7 @@ fn unless(fault: Option<u8>, left: Abs) -> Result<Abs, u8>
 }
 
 /// What the table gives for an arithmetic instruction or a move, if it allows it and the destination may be written.
+#[inline(always)]
 fn computed(insn: &Insn, dst: Abs, src: Abs, to: Register) -> Result<Abs, u8>
     requires arithmetic { IsArithmetic insn.now }
     requires set { IsReadSet insn.now dst src }
@@ -193,6 +194,7 @@ fn compare_fault(dst: Abs, src: Abs) -> Option<u8>
 }
 
 /// A move reads the second operand alone.
+#[inline(always)]
 fn moved_to(insn: &Insn, dst: Abs, src: Abs, to: Register) -> Result<Abs, u8>
     requires arithmetic { IsArithmetic insn.now }
     requires reads { IsSet src → IsReadSet insn.now dst src }
@@ -206,6 +208,7 @@ fn moved_to(insn: &Insn, dst: Abs, src: Abs, to: Register) -> Result<Abs, u8>
 }
 
 /// Some arithmetic instructions read their destination alone.
+#[inline(always)]
 fn unary(insn: &Insn, dst: Abs, src: Abs, to: Register) -> Result<Abs, u8>
     requires arithmetic { IsArithmetic insn.now }
     requires reads { IsSet dst → IsReadSet insn.now dst src }
@@ -219,6 +222,7 @@ fn unary(insn: &Insn, dst: Abs, src: Abs, to: Register) -> Result<Abs, u8>
 }
 
 /// The others read both operands.
+#[inline(always)]
 fn binary(insn: &Insn, dst: Abs, src: Abs, to: Register) -> Result<Abs, u8>
     requires arithmetic { IsArithmetic insn.now }
     requires reads { IsSet dst → IsSet src → IsReadSet insn.now dst src }
@@ -249,6 +253,7 @@ fn answer_range(helper: u32) -> Abs
 }
 
 /// What the instruction leaves in its destination, or the lowest number that applies to it where the registers are so.
+#[inline(always)]
 pub(crate) fn judge(need: u32, helpers: &HelperTable, insn: &Insn, state: &State) -> Result<Abs, u8>
     ensures { result ≡ judged (fault need helpers.now insn.now state.now) (left_by insn.now state.now) }
 {

@@ -23,6 +23,7 @@ fn come(place: &mut Option<State>, state: &State)
 }
 
 /// A state comes to a place with one register changed.
+#[inline(always)]
 fn come_set(place: &mut Option<State>, state: &State, register: Register, abs: Abs)
     ensures { place.new ≡ come_to place.old (with_abs state.now register abs) }
 {
@@ -53,6 +54,7 @@ fn come_called(place: &mut Option<State>, state: &State, answer: Abs)
 }
 
 /// A state comes to a place with what a conditional jump tells of its operands.
+#[inline(always)]
 fn come_refined(
     place: &mut Option<State>,
     insn: &Insn,
@@ -78,6 +80,7 @@ fn come_refined(
 }
 
 /// What is known behind an instruction, on its edge for a jump that is taken or on another, comes to a place.
+#[inline(always)]
 pub(crate) fn pass(place: &mut Option<State>, insn: &Insn, taken: bool, left: &Abs, state: &State)
     requires { left.now ≡ left_by insn.now state.now }
     ensures { place.new ≡ come_to place.old (passed insn.now (if taken then Taken else NotTaken) state.now) }

@@ -20,6 +20,7 @@ use value_ranges::Abs;
 use std::alloc::Global;
 
 /// What the instruction at a slot passes on comes to a slot ahead of it, besides what came before.
+#[inline(always)]
 fn push(states: &mut [Option<State>], slot: u32, to: u32, insn: &Insn, taken: bool, left: &Abs)
     requires ahead { slot < to }
     requires inside { to < length states.old }
@@ -37,6 +38,7 @@ fn push(states: &mut [Option<State>], slot: u32, to: u32, insn: &Insn, taken: bo
 }
 
 /// What the instruction at a slot passes on comes to the slots that it leads to.
+#[inline(always)]
 fn push_on(states: &mut [Option<State>], graph: &Graph, slot: u32, insn: &Insn, left: &Abs)
     requires insn { insn_at graph.now slot ≡ Some insn.now }
     requires length { length states.old ≡ length graph.now }

@@ -1,4 +1,4 @@
-use Rattle.std.proofs.Common.{◌≡◌, ◌≢◌, ◌<◌, ◌==◌, ◌∙◌, ap, sym, length, arith, if◌then◌else◌}
+use Rattle.std.proofs.Common.{◌≢◌, ◌<◌, ◌==◌, ◌∙◌, ap, sym, length, arith, if◌then◌else◌}
 use Rattle.machine_model.specs.Edges.{NotTaken, Taken}
 use Rattle.verifier.specs.States.{passed}
 use Rattle.verifier.specs.Arrive.{Arrival, Nothing, Comes, met}

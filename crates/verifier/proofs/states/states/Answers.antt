@@ -1,8 +1,6 @@
-use Rattle.std.proofs.Common.{◌≡◌, ◌<◌, ◌∙◌, sym, ap, arith, add-one, length, Option, Some, None, slice_index_or, subst}
+use Rattle.std.proofs.Common.{◌≡◌, ◌<◌, ◌∙◌, sym, ap, arith, add-one, length, None}
 use Rattle.std.proofs.lemmas.List.{get_or_default, with_items_is}
-use Rattle.verifier.specs.declared.state.State.{State}
 use Rattle.verifier.specs.Judged.{left_by}
-use Rattle.verifier.specs.States.{fault}
 use Rattle.verifier.proofs.Comings.{come_pushed, come_unreached, come_second, come_done, come_refused}
 use Rattle.verifier.proofs.FaultLemmas.{refused_number}
 use Rattle.verifier.proofs.StateLemmas.{refused_is, allowed_is, one_state}
