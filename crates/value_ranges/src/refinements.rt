@@ -146,6 +146,7 @@ fn refined_pair(from_register: bool, a: Range, b: Range, new: Option<(Range, Ran
     }
 }
 
+#[inline(always)]
 fn jump_refined(insn: &Insn, taken: bool, a: Range, b: Range) -> (Abs, Abs)
     ensures { result ≡ refined_by insn.now taken (Abs.Num a) (Abs.Num b) }
 {
@@ -169,6 +170,7 @@ fn jump_refined(insn: &Insn, taken: bool, a: Range, b: Range) -> (Abs, Abs)
     }
 }
 
+#[inline(always)]
 fn refined_by(insn: &Insn, taken: bool, dst: Abs, src: Abs) -> (Abs, Abs)
     ensures { result ≡ refined_by insn.now taken dst src }
 {
@@ -182,6 +184,7 @@ fn refined_by(insn: &Insn, taken: bool, dst: Abs, src: Abs) -> (Abs, Abs)
 }
 
 /// What is known of the two operands of a conditional jump on one of its edges.
+#[inline(always)]
 pub fn refine(insn: &Insn, taken: bool, dst: Abs, src: Abs) -> (Abs, Abs)
     requires { IsConditional insn.now }
     ensures table { result ≡ refined_by insn.now taken dst src }
