@@ -38,7 +38,6 @@ fn push(states: &mut [Option<State>], slot: u32, to: u32, insn: &Insn, taken: bo
 }
 
 /// What the instruction at a slot passes on comes to the slots that it leads to.
-#[inline(always)]
 fn push_on(states: &mut [Option<State>], graph: &Graph, slot: u32, insn: &Insn, left: &Abs)
     requires insn { insn_at graph.now slot ≡ Some insn.now }
     requires length { length states.old ≡ length graph.now }
