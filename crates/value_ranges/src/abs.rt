@@ -5,7 +5,8 @@ ghost use Rattle.std.specs.Prelude.{◌≡◌, ◌≤ℤ◌};
 use crate::range::Range;
 use std::marker::Model;
 
-/// The positions from `lo` to `hi`, of which there is at least one.
+/// The positions from `lo` to `hi`, of which there is at least one. They have the width of a `Range`'s ends, so that an `Abs`
+/// of any kind is copied by whole words.
 #[derive(Clone, Copy, Debug, PartialEq, Eq)]
 pub struct Reach {
     lo: i64,

@@ -1,10 +1,12 @@
-//! What an instruction has to find known, and what it leaves in its destination.
+//! What an instruction has to find known, and what it leaves in its destination. The hints on inlining keep what is known of
+//! a register out of memory.
 
 ghost use Rattle.std.specs.Prelude.{◌≡◌, ◌+◌, ◌≤◌, ◌<◌, IfNone, ℤ, pos, ◌+ℤ◌, int_lt, ◌||◌};
 ghost use Rattle.value_ranges.specs.Tables.{table_of, IsArithmetic, IsReadSet, IsSet};
+ghost use Rattle.helpers.specs.Table.{arity_in};
 ghost use Rattle.machine_model.specs.Memory.{store_bytes, load_bytes};
 ghost use Rattle.verifier.specs.Covers.{abs_at};
-ghost use Rattle.verifier.specs.States.{fault, first, unset_fault, number_fault, region_fault, access_fault, table_fault, write_fault, or_unset, answer_range};
+ghost use Rattle.verifier.specs.States.{fault, first, unset_fault, number_fault, region_fault, access_fault, table_fault, write_fault, call_fault, or_unset, answer_range};
 ghost use Rattle.verifier.specs.Judged.{judged, left_by};
 ghost use Rattle.value_ranges.specs.Words.{loaded};
 
@@ -120,21 +122,28 @@ fn load_bytes(kind: LoadKind) -> u8
     }
 }
 
-/// What an instruction leaves in its destination, unless that may not be written.
-fn written(to: Register, left: Abs) -> Result<Abs, u8>
-    ensures { result ≡ judged (write_fault to) left }
-{
-    unless(write_fault(to), left)
-}
-
-/// What is left, unless there is a refusal.
-fn unless(fault: Option<u8>, left: Abs) -> Result<Abs, u8>
+/// What an instruction leaves in its destination, unless it is refused.
+fn unless_refused(fault: Option<u8>, left: Abs) -> Result<Abs, u8>
     ensures { result ≡ judged fault left }
 {
     match fault {
         Some(number) => Err(number),
         None => Ok(left),
     }
+}
+
+/// The same where the instruction has no destination.
+fn nothing_unless_refused(fault: Option<u8>) -> Result<Abs, u8>
+    ensures { result ≡ judged fault Abs.Unset }
+{
+    unless_refused(fault, Abs::Unset)
+}
+
+/// What is left in a destination, unless that may not be written.
+fn written(to: Register, left: Abs) -> Result<Abs, u8>
+    ensures { result ≡ judged (write_fault to) left }
+{
+    unless_refused(write_fault(to), left)
 }
 
 /// What the table gives for an arithmetic instruction or a move, if it allows it and the destination may be written.
@@ -160,36 +169,43 @@ fn load(need: u32, base: Abs, offset: i16, kind: LoadKind, to: Register) -> Resu
     }
 }
 
-/// The store of a register is allowed.
-fn store_fault(need: u32, base: Abs, offset: i16, size: Size, src: Abs) -> Option<u8>
-    ensures { result ≡ first (unset_fault base) (first (unset_fault src)
-        (first (access_fault need base offset (store_bytes size)) (number_fault src))) }
+/// A store of a number leaves nothing, if it is allowed.
+fn store(need: u32, base: Abs, offset: i16, size: Size) -> Result<Abs, u8>
+    ensures { result ≡ judged (access_fault need base offset (store_bytes size)) Abs.Unset }
+{
+    nothing_unless_refused(access_fault(need, base, offset, store_bytes(size)))
+}
+
+/// So does the store of a register.
+fn store_register(need: u32, base: Abs, offset: i16, size: Size, src: Abs) -> Result<Abs, u8>
+    ensures { result ≡ judged (first (unset_fault base) (first (unset_fault src)
+        (first (access_fault need base offset (store_bytes size)) (number_fault src)))) Abs.Unset }
 {
     if let Some(number) = unset_fault(&base) {
-        return Some(number);
+        return Err(number);
     }
     if let Some(number) = unset_fault(&src) {
-        return Some(number);
+        return Err(number);
     }
     match access_fault(need, base, offset, store_bytes(size)) {
-        Some(number) => Some(number),
-        None => number_fault(&src),
+        Some(number) => Err(number),
+        None => nothing_unless_refused(number_fault(&src)),
     }
 }
 
-/// Both operands of a comparison are numbers.
-fn compare_fault(dst: Abs, src: Abs) -> Option<u8>
-    ensures { result ≡ first (unset_fault dst) (first (unset_fault src) (first (number_fault dst) (number_fault src))) }
+/// So does a comparison, whose operands both are numbers.
+fn compared(dst: Abs, src: Abs) -> Result<Abs, u8>
+    ensures { result ≡ judged (first (unset_fault dst) (first (unset_fault src) (first (number_fault dst) (number_fault src)))) Abs.Unset }
 {
     if let Some(number) = unset_fault(&dst) {
-        return Some(number);
+        return Err(number);
     }
     if let Some(number) = unset_fault(&src) {
-        return Some(number);
+        return Err(number);
     }
     match number_fault(&dst) {
-        Some(number) => Some(number),
-        None => number_fault(&src),
+        Some(number) => Err(number),
+        None => nothing_unless_refused(number_fault(&src)),
     }
 }
 
@@ -252,6 +268,16 @@ fn answer_range(helper: u32) -> Abs
     }
 }
 
+/// A call leaves its answer, if it is allowed.
+fn called(need: u32, helpers: &HelperTable, state: &State, helper: u32) -> Result<Abs, u8>
+    ensures { result ≡ judged (call_fault need state.now helper (arity_in helpers.now helper)) (answer_range helper) }
+{
+    unless_refused(
+        call_fault(need, helpers, state, helper),
+        answer_range(helper),
+    )
+}
+
 /// What the instruction leaves in its destination, or the lowest number that applies to it where the registers are so.
 pub(crate) fn judge(need: u32, helpers: &HelperTable, insn: &Insn, state: &State) -> Result<Abs, u8>
     ensures { result ≡ judged (fault need helpers.now insn.now state.now) (left_by insn.now state.now) }
@@ -260,9 +286,12 @@ pub(crate) fn judge(need: u32, helpers: &HelperTable, insn: &Insn, state: &State
         Insn::Alu { dst, src, .. } => binary(insn, state.at(dst), state.operand(&src), dst),
         Insn::Mov { dst, src, .. } => moved_to(insn, state.at(dst), state.operand(&src), dst),
         Insn::MovSx { dst, src, .. } => moved_to(insn, state.at(dst), state.at(src), dst),
-        Insn::Neg { dst, .. } | Insn::End { dst, .. } => {
-            unary(insn, state.at(dst), state.at(dst), dst)
-        }
+        Insn::Neg { dst, .. } | Insn::End { dst, .. } => unary(
+            insn,
+            state.at(dst),
+            state.at(dst),
+            dst,
+        ),
         Insn::LoadWide { dst, value } => written(dst, Abs::single(value)),
         Insn::Load {
             kind,
@@ -270,23 +299,21 @@ pub(crate) fn judge(need: u32, helpers: &HelperTable, insn: &Insn, state: &State
             base,
             offset,
         } => load(need, state.at(base), offset, kind, dst),
-        Insn::Call { helper } => unless(call_fault(need, helpers, state, helper), answer_range(helper)),
         Insn::Store {
             size,
             base,
             offset,
             ..
-        } => unless(access_fault(need, state.at(base), offset, store_bytes(size)), Abs::Unset),
+        } => store(need, state.at(base), offset, size),
         Insn::StoreRegister {
             size,
             base,
             offset,
             src,
-        } => unless(store_fault(need, state.at(base), offset, size, state.at(src)), Abs::Unset),
+        } => store_register(need, state.at(base), offset, size, state.at(src)),
         Insn::Jump { .. } | Insn::Jump32 { .. } => Ok(Abs::Unset),
-        Insn::JumpIf { dst, src, .. } => {
-            unless(compare_fault(state.at(dst), state.operand(&src)), Abs::Unset)
-        }
-        Insn::Exit => unless(number_fault(&state.at(Register::new(0))), Abs::Unset),
+        Insn::JumpIf { dst, src, .. } => compared(state.at(dst), state.operand(&src)),
+        Insn::Call { helper } => called(need, helpers, state, helper),
+        Insn::Exit => nothing_unless_refused(number_fault(&state.at(Register::new(0)))),
     }
 }

@@ -16,8 +16,8 @@ use crate::state::State;
 use flow_graph::{Graph, Next};
 use helpers::HelperTable;
 use insn_codec::Insn;
-use value_ranges::Abs;
 use std::alloc::Global;
+use value_ranges::Abs;
 
 /// What the instruction at a slot passes on comes to a slot ahead of it, besides what came before.
 #[inline(always)]

@@ -26,8 +26,8 @@ push_on-requires-clause-left c =
     let below : c.loop-slot.slot < length c.loop-slot.states.items = omega (arith, c.loop-slot.invariant.slots) in
     let there = sym c.in-Some-index.is ∙ (c.index.ensures ∙ get_or_default c.loop-slot.states.items c.loop-slot.slot c.index.result.now None below) in
     λ state again.
-        (allowed_is _ (left_by c.in-Some.insn.now c.in-Some-index.state) c.in-Ok.left (sym c.in-Ok.is ∙ c.judge.ensures)).1
-        ∙ ap (left_by c.in-Some.insn.now) (one_state _ c.in-Some-index.state state there (rw c.deref_mut.ensures.value at again))
+    (allowed_is _ (left_by c.in-Some.insn.now c.in-Some-index.state) c.in-Ok.left (sym c.in-Ok.is ∙ c.judge.ensures)).1
+    ∙ ap (left_by c.in-Some.insn.now) (one_state _ c.in-Some-index.state state there (rw c.deref_mut.ensures.value at again))
 
 pub loop-slot-preserved : goal.loop-slot-preserved
 loop-slot-preserved c =
