@@ -5,11 +5,12 @@ ghost use Rattle.std.specs.Prelude.{◌≡◌, ◌≤ℤ◌};
 use crate::range::Range;
 use std::marker::Model;
 
-/// The positions from `lo` to `hi`, of which there is at least one.
+/// The positions from `lo` to `hi`, of which there is at least one. They have the width of a `Range`'s ends, so that an `Abs`
+/// of any kind is copied by whole words.
 #[derive(Clone, Copy, Debug, PartialEq, Eq)]
 pub struct Reach {
-    lo: i32,
-    hi: i32,
+    lo: i64,
+    hi: i64,
 }
 
 impl Model for Reach {
@@ -27,7 +28,7 @@ impl Model for Reach {
 
 impl Reach {
     /// The positions from `lo` to `hi`.
-    pub fn new(lo: i32, hi: i32) -> Self
+    pub fn new(lo: i64, hi: i64) -> Self
         requires { lo ≤ℤ hi }
         ensures { result ≡ record { lo = lo; hi = hi } }
     {
@@ -35,7 +36,7 @@ impl Reach {
     }
 
     /// The least of them.
-    pub fn lo(self) -> i32
+    pub fn lo(self) -> i64
         ensures value { result ≡ self.lo }
         ensures ordered { self.lo ≤ℤ self.hi }
     {
@@ -43,7 +44,7 @@ impl Reach {
     }
 
     /// The greatest of them.
-    pub fn hi(self) -> i32
+    pub fn hi(self) -> i64
         ensures value { result ≡ self.hi }
         ensures ordered { self.lo ≤ℤ self.hi }
     {

@@ -30,6 +30,7 @@ fn in_part(p: Result<Reach, u8>) -> Result<Abs, u8>
 }
 
 /// The second operand is a number.
+#[inline(always)]
 fn with_number(width: Width, op: AluOp, dst: Abs, b: Range) -> Result<Abs, u8>
     ensures { result ≡ alu_table width op dst (Abs.Num b) }
 {
@@ -41,6 +42,7 @@ fn with_number(width: Width, op: AluOp, dst: Abs, b: Range) -> Result<Abs, u8>
     }
 }
 
+#[inline(always)]
 fn binary(width: Width, op: AluOp, dst: Abs, src: Abs) -> Result<Abs, u8>
     ensures { result ≡ alu_table width op dst src }
 {
@@ -58,6 +60,7 @@ fn binary(width: Width, op: AluOp, dst: Abs, src: Abs) -> Result<Abs, u8>
     }
 }
 
+#[inline(always)]
 fn copied(width: Width, src: Abs) -> Result<Abs, u8>
     ensures { result ≡ move_table width src }
 {
@@ -68,6 +71,7 @@ fn copied(width: Width, src: Abs) -> Result<Abs, u8>
     }
 }
 
+#[inline(always)]
 fn by_table(insn: &Insn, dst: Abs, src: Abs) -> Result<Abs, u8>
     ensures { result ≡ table_of insn.now dst src }
 {
@@ -92,6 +96,7 @@ fn by_table(insn: &Insn, dst: Abs, src: Abs) -> Result<Abs, u8>
 
 /// What an arithmetic instruction or a move leaves in its destination, from what is known of the destination and of the
 /// second operand. Refused with 34 where there is a pointer and no result on it, and with 35 where a pointer may go too far.
+#[inline(always)]
 #[tactic(auto, using(crate::proofs::TableLemmas::table_covers))]
 pub fn alu(insn: &Insn, dst: Abs, src: Abs) -> Result<Abs, u8>
     requires arithmetic { IsArithmetic insn.now }

@@ -1,5 +1,6 @@
 //! What is known of a register before a program runs: ranges of numbers, and of positions in the stack and in the part.
-//! Each table is exact, and covers what the machine can give.
+//! Each table is exact, and covers what the machine can give. The hints on inlining keep what a verifier asks at each
+//! instruction out of memory.
 #![tactic(auto)]
 
 mod abs;

@@ -61,6 +61,7 @@ fn without(a: Range, b: Range) -> (u128, u64)
 }
 
 /// The numbers of two ranges that stand so, unless there are none. A lower end may be one above the greatest `u64`.
+#[inline(always)]
 fn narrowed(relation: Relation, a: Range, b: Range) -> Option<(Range, Range)>
     ensures { result ≡ unless_empty (narrowed relation a b) }
 {
@@ -85,6 +86,7 @@ fn narrowed(relation: Relation, a: Range, b: Range) -> Option<(Range, Range)>
     }
 }
 
+#[inline(always)]
 fn refined_ranges(relation: Option<Relation>, a: Range, b: Range) -> Option<(Range, Range)>
     ensures { result ≡ refined_ranges relation a b }
 {
@@ -146,6 +148,7 @@ fn refined_pair(from_register: bool, a: Range, b: Range, new: Option<(Range, Ran
     }
 }
 
+#[inline(always)]
 fn jump_refined(insn: &Insn, taken: bool, a: Range, b: Range) -> (Abs, Abs)
     ensures { result ≡ refined_by insn.now taken (Abs.Num a) (Abs.Num b) }
 {
@@ -169,6 +172,7 @@ fn jump_refined(insn: &Insn, taken: bool, a: Range, b: Range) -> (Abs, Abs)
     }
 }
 
+#[inline(always)]
 fn refined_by(insn: &Insn, taken: bool, dst: Abs, src: Abs) -> (Abs, Abs)
     ensures { result ≡ refined_by insn.now taken dst src }
 {
@@ -182,6 +186,7 @@ fn refined_by(insn: &Insn, taken: bool, dst: Abs, src: Abs) -> (Abs, Abs)
 }
 
 /// What is known of the two operands of a conditional jump on one of its edges.
+#[inline(always)]
 pub fn refine(insn: &Insn, taken: bool, dst: Abs, src: Abs) -> (Abs, Abs)
     requires { IsConditional insn.now }
     ensures table { result ≡ refined_by insn.now taken dst src }

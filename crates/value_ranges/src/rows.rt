@@ -171,6 +171,7 @@ fn row(op: AluOp, width: Width, a: Range, b: Range) -> Range
 }
 
 /// The numbers that the operator can give on numbers of two ranges.
+#[inline(always)]
 pub fn number_range(op: AluOp, width: Width, a: Range, b: Range) -> Range
     ensures { result ≡ number_range width op a b }
 {

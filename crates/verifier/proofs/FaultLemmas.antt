@@ -1,51 +1,16 @@
--- Which numbers apply to an instruction, and what is set where none does.
-use Rattle.std.proofs.Common.{◌≡◌, ℕ, zero, suc, nat_lt, ◌==◌, ◌≤◌, Bool, true, false, Option, Some, None, Result, Ok, Err, inl, inr, arith, refl, subst, if◌then◌else◌, ℤ, pos, int_lt, ◌+ℤ◌, ◌||◌}
+-- Which numbers apply to an instruction.
+use Rattle.std.proofs.Common.{◌≡◌, ℕ, zero, suc, nat_lt, ◌==◌, ◌≤◌, Bool, true, false, Option, Some, None, Result, Ok, Err, inl, inr, arith, subst, if◌then◌else◌, ℤ, pos, int_lt, ◌+ℤ◌, ◌||◌}
 use Rattle.insn_codec.specs.declared.insn.Insn.{Insn}
 use Rattle.insn_codec.specs.declared.insn.Insn.TheVariants.{Alu, Mov, MovSx, Neg, End, LoadWide, Load, Store, StoreRegister, Jump, Jump32, JumpIf, Call, Exit}
 use Rattle.machine_model.specs.Memory.{store_bytes, load_bytes}
 use Rattle.helpers.specs.Table.{Table, arity_in}
-use Rattle.value_ranges.specs.Tables.{IsSet, table_of}
+use Rattle.value_ranges.specs.Tables.{table_of}
 use Rattle.value_ranges.specs.declared.abs.Abs.{Abs}
 use Rattle.value_ranges.specs.declared.abs.Abs.TheVariants as abs
 use Rattle.verifier.specs.declared.state.State.{State}
 use Rattle.verifier.specs.Covers.{abs_at}
 use Rattle.verifier.specs.States.{operand_at, first, unset_fault, number_fault, access_fault, table_fault, write_fault, unset_arguments, number_arguments, span_fault, length_fault, kind_fault, call_fault, fault}
-use Rattle.verifier.specs.Readiness.{IsReady}
 use Rattle.verifier.proofs.TableErrors.{IsTableError, IsTableError-table_of}
-
-set_of : (a : Abs) → unset_fault a ≡ None → IsSet a
-set_of abs.Unset e = absurd (cc)
-set_of (abs.Num r) e = tt
-set_of (abs.Stack r) e = tt
-set_of (abs.Part r) e = tt
-
-first_none : (a b : Option ℕ) → first a b ≡ None → a ≡ None
-first_none None b e = refl
-first_none (Some n) b e = e
-
-second_none : (a b : Option ℕ) → first a b ≡ None → b ≡ None
-second_none None b e = e
-second_none (Some n) b e = absurd (cc)
-
--- what an allowed instruction reads is set
-pub ready_of : (need : ℕ) (helpers : Table) (i : Insn) (state : State) → fault need helpers i state ≡ None → IsReady i state
-ready_of need helpers (Alu w op dst src) state e = (
-  set_of (abs_at state dst) (first_none (unset_fault (abs_at state dst)) _ e),
-  set_of (operand_at state src) (first_none (unset_fault (operand_at state src)) _ (second_none (unset_fault (abs_at state dst)) _ e)),
-)
-ready_of need helpers (Mov w dst src) state e = set_of (operand_at state src) (first_none (unset_fault (operand_at state src)) _ e)
-ready_of need helpers (MovSx x dst src) state e = set_of (abs_at state src) (first_none (unset_fault (abs_at state src)) _ e)
-ready_of need helpers (Neg w dst) state e = set_of (abs_at state dst) (first_none (unset_fault (abs_at state dst)) _ e)
-ready_of need helpers (End order s dst) state e = set_of (abs_at state dst) (first_none (unset_fault (abs_at state dst)) _ e)
-ready_of need helpers (LoadWide dst value) state e = tt
-ready_of need helpers (Load kind dst base offset) state e = tt
-ready_of need helpers (Store s base offset imm) state e = tt
-ready_of need helpers (StoreRegister s base offset src) state e = tt
-ready_of need helpers (Jump offset) state e = tt
-ready_of need helpers (Jump32 offset) state e = tt
-ready_of need helpers (JumpIf w c dst src offset) state e = tt
-ready_of need helpers (Call helper) state e = tt
-ready_of need helpers Exit state e = tt
 
 -- the numbers of instructions that aren't allowed
 abbrev pub AreNumbers : Option ℕ → Type 0

@@ -4,7 +4,8 @@ pub mod Checked
 pub mod Regions
 pub mod Arrive
 pub mod Verdict
-pub mod Readiness
 pub mod Coming
 pub mod RefusalCodes
 pub mod Refusals
+pub mod Joining
+pub mod Judged

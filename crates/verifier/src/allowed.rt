@@ -1,16 +1,20 @@
-//! What an instruction has to find known.
+//! What an instruction has to find known, and what it leaves in its destination. The hints on inlining keep what is known of
+//! a register out of memory.
 
 ghost use Rattle.std.specs.Prelude.{◌≡◌, ◌+◌, ◌≤◌, ◌<◌, IfNone, ℤ, pos, ◌+ℤ◌, int_lt, ◌||◌};
 ghost use Rattle.value_ranges.specs.Tables.{table_of, IsArithmetic, IsReadSet, IsSet};
+ghost use Rattle.helpers.specs.Table.{arity_in};
 ghost use Rattle.machine_model.specs.Memory.{store_bytes, load_bytes};
 ghost use Rattle.verifier.specs.Covers.{abs_at};
-ghost use Rattle.verifier.specs.States.{fault, first, unset_fault, number_fault, region_fault, access_fault, table_fault, write_fault};
+ghost use Rattle.verifier.specs.States.{fault, first, unset_fault, number_fault, region_fault, access_fault, table_fault, write_fault, call_fault, or_unset, answer_range};
+ghost use Rattle.verifier.specs.Judged.{judged, left_by};
+ghost use Rattle.value_ranges.specs.Words.{loaded};
 
 use crate::calls::call_fault;
 use crate::state::State;
 use helpers::HelperTable;
 use insn_codec::{Insn, LoadKind, Register, Size};
-use value_ranges::{Abs, Reach, alu};
+use value_ranges::{Abs, Reach, alu, loaded};
 
 /// A register that is read is set.
 pub(crate) fn unset_fault(abs: &Abs) -> Option<u8>
@@ -47,26 +51,26 @@ fn write_fault(register: Register) -> Option<u8>
 
 /// A position, moved by an offset.
 #[tactic(auto, using(crate::proofs::StateLemmas::signed_values))]
-pub(crate) fn moved(position: i32, offset: i16) -> i64
+pub(crate) fn moved(position: i64, offset: i16) -> i128
     ensures { result ≡ position +ℤ offset }
 {
-    i64::from(position) + i64::from(offset)
+    i128::from(position) + i128::from(offset)
 }
 
 /// The end of so many bytes from a position on, moved by an offset.
 #[tactic(auto, using(crate::proofs::StateLemmas::signed_values))]
-fn end_of(position: i32, offset: i16, count: u8) -> i64
+fn end_of(position: i64, offset: i16, count: u8) -> i128
     ensures { result ≡ position +ℤ offset +ℤ pos count }
 {
-    i64::from(position) + i64::from(offset) + i64::from(count)
+    i128::from(position) + i128::from(offset) + i128::from(count)
 }
 
 /// What goes from one position to another doesn't lie in a region of that size.
 #[tactic(auto, using(crate::proofs::StateLemmas::signed_values))]
-fn lies_outside(size: u32, from: i64, end: i64) -> bool
+pub(crate) fn lies_outside(size: u32, from: i128, end: i128) -> bool
     ensures { result ≡ (int_lt from (pos 0) || int_lt (pos size) end) }
 {
-    from < 0 || i64::from(size) < end
+    from < 0 || i128::from(size) < end
 }
 
 /// So many bytes from each position on, moved by an offset, lie in a region of that size.
@@ -118,133 +122,198 @@ fn load_bytes(kind: LoadKind) -> u8
     }
 }
 
-/// The table allows an arithmetic instruction or a move, and its destination may be written.
-fn result_fault(insn: &Insn, dst: Abs, src: Abs, to: Register) -> Option<u8>
+/// What an instruction leaves in its destination, unless it is refused.
+fn unless_refused(fault: Option<u8>, left: Abs) -> Result<Abs, u8>
+    ensures { result ≡ judged fault left }
+{
+    match fault {
+        Some(number) => Err(number),
+        None => Ok(left),
+    }
+}
+
+/// The same where the instruction has no destination.
+fn nothing_unless_refused(fault: Option<u8>) -> Result<Abs, u8>
+    ensures { result ≡ judged fault Abs.Unset }
+{
+    unless_refused(fault, Abs::Unset)
+}
+
+/// What is left in a destination, unless that may not be written.
+fn written(to: Register, left: Abs) -> Result<Abs, u8>
+    ensures { result ≡ judged (write_fault to) left }
+{
+    unless_refused(write_fault(to), left)
+}
+
+/// What the table gives for an arithmetic instruction or a move, if it allows it and the destination may be written.
+#[inline(always)]
+fn computed(insn: &Insn, dst: Abs, src: Abs, to: Register) -> Result<Abs, u8>
     requires arithmetic { IsArithmetic insn.now }
     requires set { IsReadSet insn.now dst src }
-    ensures { result ≡ first (table_fault (table_of insn.now dst src)) (write_fault to) }
+    ensures { result ≡ judged (first (table_fault (table_of insn.now dst src)) (write_fault to)) (or_unset (table_of insn.now dst src)) }
 {
     match alu(insn, dst, src) {
-        Err(number) => Some(number),
-        Ok(_) => write_fault(to),
+        Err(number) => Err(number),
+        Ok(left) => written(to, left),
     }
 }
 
-/// A load is allowed, and its destination may be written.
-fn load_fault(need: u32, base: Abs, offset: i16, kind: LoadKind, to: Register) -> Option<u8>
-    ensures { result ≡ first (access_fault need base offset (load_bytes kind)) (write_fault to) }
+/// What a load leaves, if it is allowed and its destination may be written.
+fn load(need: u32, base: Abs, offset: i16, kind: LoadKind, to: Register) -> Result<Abs, u8>
+    ensures { result ≡ judged (first (access_fault need base offset (load_bytes kind)) (write_fault to)) (loaded kind) }
 {
     match access_fault(need, base, offset, load_bytes(kind)) {
-        Some(number) => Some(number),
-        None => write_fault(to),
+        Some(number) => Err(number),
+        None => written(to, loaded(kind)),
     }
 }
 
-/// The store of a register is allowed.
-fn store_fault(need: u32, base: Abs, offset: i16, size: Size, src: Abs) -> Option<u8>
-    ensures { result ≡ first (unset_fault base) (first (unset_fault src)
-        (first (access_fault need base offset (store_bytes size)) (number_fault src))) }
+/// A store of a number leaves nothing, if it is allowed.
+fn store(need: u32, base: Abs, offset: i16, size: Size) -> Result<Abs, u8>
+    ensures { result ≡ judged (access_fault need base offset (store_bytes size)) Abs.Unset }
+{
+    nothing_unless_refused(access_fault(need, base, offset, store_bytes(size)))
+}
+
+/// So does the store of a register.
+fn store_register(need: u32, base: Abs, offset: i16, size: Size, src: Abs) -> Result<Abs, u8>
+    ensures { result ≡ judged (first (unset_fault base) (first (unset_fault src)
+        (first (access_fault need base offset (store_bytes size)) (number_fault src)))) Abs.Unset }
 {
     if let Some(number) = unset_fault(&base) {
-        return Some(number);
+        return Err(number);
     }
     if let Some(number) = unset_fault(&src) {
-        return Some(number);
+        return Err(number);
     }
     match access_fault(need, base, offset, store_bytes(size)) {
-        Some(number) => Some(number),
-        None => number_fault(&src),
+        Some(number) => Err(number),
+        None => nothing_unless_refused(number_fault(&src)),
     }
 }
 
-/// Both operands of a comparison are numbers.
-fn compare_fault(dst: Abs, src: Abs) -> Option<u8>
-    ensures { result ≡ first (unset_fault dst) (first (unset_fault src) (first (number_fault dst) (number_fault src))) }
+/// So does a comparison, whose operands both are numbers.
+fn compared(dst: Abs, src: Abs) -> Result<Abs, u8>
+    ensures { result ≡ judged (first (unset_fault dst) (first (unset_fault src) (first (number_fault dst) (number_fault src)))) Abs.Unset }
 {
     if let Some(number) = unset_fault(&dst) {
-        return Some(number);
+        return Err(number);
     }
     if let Some(number) = unset_fault(&src) {
-        return Some(number);
+        return Err(number);
     }
     match number_fault(&dst) {
-        Some(number) => Some(number),
-        None => number_fault(&src),
+        Some(number) => Err(number),
+        None => nothing_unless_refused(number_fault(&src)),
     }
 }
 
-/// The lowest number that applies to a move, which reads the second operand alone.
-fn move_fault(insn: &Insn, dst: Abs, src: Abs, to: Register) -> Option<u8>
+/// A move reads the second operand alone.
+#[inline(always)]
+fn moved_to(insn: &Insn, dst: Abs, src: Abs, to: Register) -> Result<Abs, u8>
     requires arithmetic { IsArithmetic insn.now }
     requires reads { IsSet src → IsReadSet insn.now dst src }
-    ensures { result ≡ first (unset_fault src) (first (table_fault (table_of insn.now dst src)) (write_fault to)) }
+    ensures { result ≡ judged (first (unset_fault src) (first (table_fault (table_of insn.now dst src)) (write_fault to)))
+        (or_unset (table_of insn.now dst src)) }
 {
     match unset_fault(&src) {
-        Some(number) => Some(number),
-        None => result_fault(insn, dst, src, to),
+        Some(number) => Err(number),
+        None => computed(insn, dst, src, to),
     }
 }
 
-/// The lowest number that applies to an arithmetic instruction that reads its destination alone.
-fn unary_fault(insn: &Insn, dst: Abs, src: Abs, to: Register) -> Option<u8>
+/// Some arithmetic instructions read their destination alone.
+#[inline(always)]
+fn unary(insn: &Insn, dst: Abs, src: Abs, to: Register) -> Result<Abs, u8>
     requires arithmetic { IsArithmetic insn.now }
     requires reads { IsSet dst → IsReadSet insn.now dst src }
-    ensures { result ≡ first (unset_fault dst) (first (table_fault (table_of insn.now dst src)) (write_fault to)) }
+    ensures { result ≡ judged (first (unset_fault dst) (first (table_fault (table_of insn.now dst src)) (write_fault to)))
+        (or_unset (table_of insn.now dst src)) }
 {
     match unset_fault(&dst) {
-        Some(number) => Some(number),
-        None => result_fault(insn, dst, src, to),
+        Some(number) => Err(number),
+        None => computed(insn, dst, src, to),
     }
 }
 
-/// The lowest number that applies to an arithmetic instruction that reads both operands.
-fn binary_fault(insn: &Insn, dst: Abs, src: Abs, to: Register) -> Option<u8>
+/// The others read both operands.
+#[inline(always)]
+fn binary(insn: &Insn, dst: Abs, src: Abs, to: Register) -> Result<Abs, u8>
     requires arithmetic { IsArithmetic insn.now }
     requires reads { IsSet dst → IsSet src → IsReadSet insn.now dst src }
-    ensures { result ≡ first (unset_fault dst) (first (unset_fault src) (first (table_fault (table_of insn.now dst src)) (write_fault to))) }
+    ensures { result ≡ judged (first (unset_fault dst) (first (unset_fault src) (first (table_fault (table_of insn.now dst src)) (write_fault to))))
+        (or_unset (table_of insn.now dst src)) }
 {
     if let Some(number) = unset_fault(&dst) {
-        return Some(number);
+        return Err(number);
     }
     match unset_fault(&src) {
-        Some(number) => Some(number),
-        None => result_fault(insn, dst, src, to),
+        Some(number) => Err(number),
+        None => computed(insn, dst, src, to),
     }
 }
 
-/// The lowest number that applies to the instruction where the registers are so.
-pub(crate) fn refused(need: u32, helpers: &HelperTable, insn: &Insn, state: &State) -> Option<u8>
-    ensures { result ≡ fault need helpers.now insn.now state.now }
+/// What a helper answers.
+fn answer_range(helper: u32) -> Abs
+    ensures { result ≡ answer_range helper }
+{
+    match helper {
+        1 => Abs::between(0, 6),
+        2 => Abs::between(0, 2_147_483_647),
+        3 => Abs::between(0, 65_536),
+        4 => Abs::between(0, 0),
+        5 => Abs::between(0, 130_560),
+        _ => Abs::any_number(),
+    }
+}
+
+/// A call leaves its answer, if it is allowed.
+fn called(need: u32, helpers: &HelperTable, state: &State, helper: u32) -> Result<Abs, u8>
+    ensures { result ≡ judged (call_fault need state.now helper (arity_in helpers.now helper)) (answer_range helper) }
+{
+    unless_refused(
+        call_fault(need, helpers, state, helper),
+        answer_range(helper),
+    )
+}
+
+/// What the instruction leaves in its destination, or the lowest number that applies to it where the registers are so.
+pub(crate) fn judge(need: u32, helpers: &HelperTable, insn: &Insn, state: &State) -> Result<Abs, u8>
+    ensures { result ≡ judged (fault need helpers.now insn.now state.now) (left_by insn.now state.now) }
 {
     match *insn {
-        Insn::Alu { dst, src, .. } => binary_fault(insn, state.at(dst), state.operand(&src), dst),
-        Insn::Mov { dst, src, .. } => move_fault(insn, state.at(dst), state.operand(&src), dst),
-        Insn::MovSx { dst, src, .. } => move_fault(insn, state.at(dst), state.at(src), dst),
-        Insn::Neg { dst, .. } | Insn::End { dst, .. } => {
-            unary_fault(insn, state.at(dst), state.at(dst), dst)
-        }
-        Insn::LoadWide { dst, .. } => write_fault(dst),
+        Insn::Alu { dst, src, .. } => binary(insn, state.at(dst), state.operand(&src), dst),
+        Insn::Mov { dst, src, .. } => moved_to(insn, state.at(dst), state.operand(&src), dst),
+        Insn::MovSx { dst, src, .. } => moved_to(insn, state.at(dst), state.at(src), dst),
+        Insn::Neg { dst, .. } | Insn::End { dst, .. } => unary(
+            insn,
+            state.at(dst),
+            state.at(dst),
+            dst,
+        ),
+        Insn::LoadWide { dst, value } => written(dst, Abs::single(value)),
         Insn::Load {
             kind,
             dst,
             base,
             offset,
-        } => load_fault(need, state.at(base), offset, kind, dst),
+        } => load(need, state.at(base), offset, kind, dst),
         Insn::Store {
             size,
             base,
             offset,
             ..
-        } => access_fault(need, state.at(base), offset, store_bytes(size)),
+        } => store(need, state.at(base), offset, size),
         Insn::StoreRegister {
             size,
             base,
             offset,
             src,
-        } => store_fault(need, state.at(base), offset, size, state.at(src)),
-        Insn::Jump { .. } | Insn::Jump32 { .. } => None,
-        Insn::JumpIf { dst, src, .. } => compare_fault(state.at(dst), state.operand(&src)),
-        Insn::Call { helper } => call_fault(need, helpers, state, helper),
-        Insn::Exit => number_fault(&state.at(Register::new(0))),
+        } => store_register(need, state.at(base), offset, size, state.at(src)),
+        Insn::Jump { .. } | Insn::Jump32 { .. } => Ok(Abs::Unset),
+        Insn::JumpIf { dst, src, .. } => compared(state.at(dst), state.operand(&src)),
+        Insn::Call { helper } => called(need, helpers, state, helper),
+        Insn::Exit => nothing_unless_refused(number_fault(&state.at(Register::new(0)))),
     }
 }

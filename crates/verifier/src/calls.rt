@@ -5,7 +5,7 @@ ghost use Rattle.helpers.specs.Table.{arity_in};
 ghost use Rattle.verifier.specs.Covers.{abs_at};
 ghost use Rattle.verifier.specs.States.{first, unset_fault, number_fault, region_fault, access_fault, unset_arguments, number_arguments, span_fault, length_fault, kind_fault, call_fault};
 
-use crate::allowed::{moved, number_fault, unset_fault};
+use crate::allowed::{lies_outside, moved, number_fault, unset_fault};
 use crate::state::State;
 use helpers::HelperTable;
 use value_ranges::{Abs, Reach};
@@ -49,18 +49,10 @@ fn number_arguments(state: &State, arity: u32) -> Option<u8>
 
 /// The end of so many bytes from a position on.
 #[tactic(auto, using(crate::proofs::StateLemmas::signed_values))]
-fn span_end(position: i32, count: u64) -> i128
+fn span_end(position: i64, count: u64) -> i128
     ensures { result ≡ position +ℤ pos 0 +ℤ pos count }
 {
     i128::from(position) + i128::from(count)
-}
-
-/// What goes from one position to another doesn't lie in a region of that size.
-#[tactic(auto, using(crate::proofs::StateLemmas::signed_values))]
-fn lies_outside(size: u32, from: i64, end: i128) -> bool
-    ensures { result ≡ (int_lt from (pos 0) || int_lt (pos size) end) }
-{
-    from < 0 || i128::from(size) < end
 }
 
 /// So many bytes from each position on lie in a region of that size.

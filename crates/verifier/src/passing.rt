@@ -1,82 +1,104 @@
-//! What is known on the edges that leave an instruction.
+//! What comes along the edges that leave an instruction.
 
-ghost use Rattle.std.specs.Prelude.{◌≡◌, ◌==◌, if◌then◌else◌, None, true, false};
-ghost use Rattle.machine_model.specs.Edges.{Always, NotTaken, Taken};
-ghost use Rattle.value_ranges.specs.Tables.{table_of, IsArithmetic, IsReadSet};
+ghost use Rattle.std.specs.Prelude.{◌≡◌, if◌then◌else◌};
+ghost use Rattle.machine_model.specs.Edges.{NotTaken, Taken};
 ghost use Rattle.value_ranges.specs.Refinements.{IsConditional, refined_by};
 ghost use Rattle.verifier.specs.Covers.{abs_at};
-ghost use Rattle.verifier.specs.States.{passed, or_unset, operand_at, answer_range, refined_state};
-ghost use Rattle.verifier.specs.Readiness.{IsReady};
+ghost use Rattle.verifier.specs.Joining.{come_to};
+ghost use Rattle.verifier.specs.Judged.{left_by};
+ghost use Rattle.verifier.specs.States.{passed, operand_at, with_abs, called_state, refined_state};
 
 use crate::state::State;
 use insn_codec::{Insn, Operand, Register};
-use value_ranges::{Abs, alu, loaded, refine};
+use value_ranges::{Abs, refine};
 
-/// What an arithmetic instruction or a move leaves in its destination.
-fn computed(insn: &Insn, dst: Abs, src: Abs) -> Abs
-    requires arithmetic { IsArithmetic insn.now }
-    requires set { IsReadSet insn.now dst src }
-    ensures { result ≡ or_unset (table_of insn.now dst src) }
+/// A state comes to a place as it is.
+fn come(place: &mut Option<State>, state: &State)
+    ensures { place.new ≡ come_to place.old state.now }
 {
-    match alu(insn, dst, src) {
-        Ok(abs) => abs,
-        Err(_) => Abs::Unset,
+    match place {
+        Some(before) => before.join(state),
+        None => *place = Some(*state),
     }
 }
 
-/// What a helper answers.
-fn answer_range(helper: u32) -> Abs
-    ensures { result ≡ answer_range helper }
+/// A state comes to a place with one register changed.
+#[inline(always)]
+fn come_set(place: &mut Option<State>, state: &State, register: Register, abs: Abs)
+    ensures { place.new ≡ come_to place.old (with_abs state.now register abs) }
 {
-    match helper {
-        1 => Abs::between(0, 6),
-        2 => Abs::between(0, 2_147_483_647),
-        3 => Abs::between(0, 65_536),
-        4 => Abs::between(0, 0),
-        5 => Abs::between(0, 130_560),
-        _ => Abs::any_number(),
+    match place {
+        Some(before) => before.join_set(state, register, abs),
+        None => {
+            *place = Some(*state);
+            if let Some(next) = place {
+                next.set(register, abs);
+            }
+        }
     }
 }
 
-/// What is known behind an instruction that isn't a conditional jump.
-pub(crate) fn passed_on(insn: &Insn, state: &State) -> State
-    requires { IsReady insn.now state.now }
-    ensures { result ≡ passed insn.now Always state.now }
+/// A state comes to a place as a call leaves it.
+fn come_called(place: &mut Option<State>, state: &State, answer: Abs)
+    ensures { place.new ≡ come_to place.old (called_state state.now answer) }
 {
-    match *insn {
-        Insn::Alu { dst, src, .. } | Insn::Mov { dst, src, .. } => {
-            state.with(dst, computed(insn, state.at(dst), state.operand(&src)))
+    match place {
+        Some(before) => before.join_answer(state, answer),
+        None => {
+            *place = Some(*state);
+            if let Some(next) = place {
+                next.set_answer(answer);
+            }
         }
-        Insn::MovSx { dst, src, .. } => {
-            state.with(dst, computed(insn, state.at(dst), state.at(src)))
-        }
-        Insn::Neg { dst, .. } | Insn::End { dst, .. } => {
-            state.with(dst, computed(insn, state.at(dst), state.at(dst)))
-        }
-        Insn::LoadWide { dst, value } => state.with(dst, Abs::single(value)),
-        Insn::Load { kind, dst, .. } => state.with(dst, loaded(kind)),
-        Insn::Call { helper } => state.called(answer_range(helper)),
-        Insn::JumpIf { dst, src, .. } => refined(insn, false, state, dst, &src),
-        _ => *state,
     }
 }
 
-/// The state with what a conditional jump tells of its operands.
-fn refined(insn: &Insn, taken: bool, state: &State, dst: Register, src: &Operand) -> State
+/// A state comes to a place with what a conditional jump tells of its operands.
+#[inline(always)]
+fn come_refined(
+    place: &mut Option<State>,
+    insn: &Insn,
+    taken: bool,
+    state: &State,
+    dst: Register,
+    src: &Operand,
+)
     requires { IsConditional insn.now }
-    ensures { result ≡ refined_state state.now dst src.now (refined_by insn.now taken (abs_at state.now dst) (operand_at state.now src.now)) }
+    ensures { place.new ≡ come_to place.old
+        (refined_state state.now dst src.now (refined_by insn.now taken (abs_at state.now dst) (operand_at state.now src.now))) }
 {
     let (left, right) = refine(insn, taken, state.at(dst), state.operand(src));
-    state.with(dst, left).with_operand(src, right)
+    match place {
+        Some(before) => before.join_operands(state, dst, src, left, right),
+        None => {
+            *place = Some(*state);
+            if let Some(next) = place {
+                next.set_operands(dst, src, left, right);
+            }
+        }
+    }
 }
 
-/// What is known on an edge of a conditional jump.
-pub(crate) fn passed_where(insn: &Insn, taken: bool, state: &State) -> State
-    requires { IsConditional insn.now }
-    ensures { result ≡ passed insn.now (if taken then Taken else NotTaken) state.now }
+/// What is known behind an instruction, on its edge for a jump that is taken or on another, comes to a place.
+#[inline(always)]
+pub(crate) fn pass(place: &mut Option<State>, insn: &Insn, taken: bool, left: &Abs, state: &State)
+    requires { left.now ≡ left_by insn.now state.now }
+    ensures { place.new ≡ come_to place.old (passed insn.now (if taken then Taken else NotTaken) state.now) }
 {
     match *insn {
-        Insn::JumpIf { dst, src, .. } => refined(insn, taken, state, dst, &src),
-        _ => *state,
+        Insn::Alu { dst, .. }
+        | Insn::Mov { dst, .. }
+        | Insn::MovSx { dst, .. }
+        | Insn::Neg { dst, .. }
+        | Insn::End { dst, .. }
+        | Insn::LoadWide { dst, .. }
+        | Insn::Load { dst, .. } => come_set(place, state, dst, *left),
+        Insn::Call { .. } => come_called(place, state, *left),
+        Insn::JumpIf { dst, src, .. } => come_refined(place, insn, taken, state, dst, &src),
+        Insn::Store { .. }
+        | Insn::StoreRegister { .. }
+        | Insn::Jump { .. }
+        | Insn::Jump32 { .. }
+        | Insn::Exit => come(place, state),
     }
 }

@@ -1,9 +1,10 @@
 //! What is known of the registers ahead of a slot.
 
-ghost use Rattle.std.specs.Prelude.{◌≡◌, ◌≤◌, ◌<◌, ◌+◌};
+ghost use Rattle.std.specs.Prelude.{◌≡◌, ◌≤◌, IsTrue, length};
 ghost use Rattle.value_ranges.specs.Joins.{joined};
 ghost use Rattle.verifier.specs.Covers.{abs_at};
-ghost use Rattle.verifier.specs.States.{entry_state, joined_state, operand_at, with_abs, with_operand, called_state};
+ghost use Rattle.verifier.specs.Joining.{joined_to};
+ghost use Rattle.verifier.specs.States.{entry_state, joined_state, operand_at, refined_state, with_abs, called_state};
 
 use insn_codec::{Operand, Register};
 use value_ranges::{Abs, entry, immediate, join};
@@ -12,15 +13,6 @@ use value_ranges::{Abs, entry, immediate, join};
 #[derive(Clone, Copy, Debug, PartialEq, Eq)]
 pub struct State {
     pub(crate) registers: [Abs; 11],
-}
-
-/// What is known of a register where two ways meet.
-fn joined_at(a: &State, b: &State, number: u8) -> Abs
-    requires { number ≤ 10 }
-    ensures { result ≡ joined (abs_at a.now number) (abs_at b.now number) }
-{
-    let register = Register::new(number);
-    join(a.at(register), b.at(register))
 }
 
 impl State {
@@ -46,32 +38,21 @@ impl State {
         }
     }
 
-    /// What is known where two ways meet.
-    pub(crate) fn join(a: &State, b: &State) -> State
-        ensures { result ≡ joined_state a.now b.now }
-    {
-        State {
-            registers: [
-                joined_at(a, b, 0),
-                joined_at(a, b, 1),
-                joined_at(a, b, 2),
-                joined_at(a, b, 3),
-                joined_at(a, b, 4),
-                joined_at(a, b, 5),
-                joined_at(a, b, 6),
-                joined_at(a, b, 7),
-                joined_at(a, b, 8),
-                joined_at(a, b, 9),
-                joined_at(a, b, 10),
-            ],
-        }
-    }
-
     /// What is known of the register.
     pub(crate) fn at(&self, register: Register) -> Abs
-        ensures { result ≡ abs_at self.now register }
+        ensures value { result ≡ abs_at self.now register }
+        ensures range { register ≤ 10 }
     {
         self.registers[register.number() as usize]
+    }
+
+    /// It has all eleven registers.
+    fn is_whole(&self) -> bool
+        ensures result { IsTrue result }
+        ensures count { length self.now.registers ≡ 11 }
+    {
+        let _first = self.registers[0];
+        true
     }
 
     /// What is known of the operand: an imm is one number.
@@ -84,37 +65,92 @@ impl State {
         }
     }
 
-    /// The same with one register changed.
-    pub(crate) fn with(&self, register: Register, abs: Abs) -> State
-        ensures { result ≡ with_abs self.now register abs }
+    /// One register changes.
+    pub(crate) fn set(&mut self, register: Register, abs: Abs)
+        ensures { self.new ≡ with_abs self.old register abs }
     {
-        let mut next = *self;
-        next.registers[register.number() as usize] = abs;
-        next
+        self.registers[register.number() as usize] = abs;
     }
 
-    /// The same with the operand changed, where it is a register.
-    pub(crate) fn with_operand(&self, operand: &Operand, abs: Abs) -> State
-        ensures { result ≡ with_operand self.now operand.now abs }
+    /// The operands of a conditional jump change, where they are registers.
+    pub(crate) fn set_operands(&mut self, dst: Register, src: &Operand, left: Abs, right: Abs)
+        ensures { self.new ≡ refined_state self.old dst src.now (left, right) }
     {
-        match *operand {
-            Operand::Imm(_) => *self,
-            Operand::Reg(register) => self.with(register, abs),
+        self.set(dst, left);
+        if let Operand::Reg(register) = *src {
+            self.set(register, right);
         }
     }
 
-    /// What is known after a call with this answer: the arguments are unset.
+    /// A call leaves its answer, and the arguments unset.
     #[tactic(auto, using(crate::proofs::StateLemmas::called))]
-    pub(crate) fn called(&self, answer: Abs) -> State
-        ensures { result ≡ called_state self.now answer }
+    pub(crate) fn set_answer(&mut self, answer: Abs)
+        ensures { self.new ≡ called_state self.old answer }
     {
-        let mut next = *self;
-        next.registers[0] = answer;
-        next.registers[1] = Abs::Unset;
-        next.registers[2] = Abs::Unset;
-        next.registers[3] = Abs::Unset;
-        next.registers[4] = Abs::Unset;
-        next.registers[5] = Abs::Unset;
-        next
+        self.registers[0] = answer;
+        self.registers[1] = Abs::Unset;
+        self.registers[2] = Abs::Unset;
+        self.registers[3] = Abs::Unset;
+        self.registers[4] = Abs::Unset;
+        self.registers[5] = Abs::Unset;
+    }
+
+    /// What is known of one register where another way leads here.
+    fn join_at(&mut self, other: &State, register: Register)
+        ensures { self.new ≡ joined_to self.old other.now register }
+    {
+        let joined = join(self.at(register), other.at(register));
+        self.set(register, joined);
+    }
+
+    /// Another way leads here.
+    pub(crate) fn join(&mut self, other: &State)
+        ensures { self.new ≡ joined_state self.old other.now }
+    {
+        for number in 0u8..11 {
+            self.join_at(other, Register::new(number));
+        }
+    }
+
+    /// Another way leads here, on which one register has changed.
+    pub(crate) fn join_set(&mut self, other: &State, register: Register, abs: Abs)
+        ensures { self.new ≡ joined_state self.old (with_abs other.now register abs) }
+    {
+        prove!(other.is_whole());
+        let joined = join(self.at(register), abs);
+        self.join(other);
+        self.set(register, joined);
+    }
+
+    /// Another way leads here, on which the operands of a conditional jump have changed.
+    pub(crate) fn join_operands(
+        &mut self,
+        other: &State,
+        dst: Register,
+        src: &Operand,
+        left: Abs,
+        right: Abs,
+    )
+        ensures { self.new ≡ joined_state self.old (refined_state other.now dst src.now (left, right)) }
+    {
+        match *src {
+            Operand::Imm(_) => self.join_set(other, dst, left),
+            Operand::Reg(register) => {
+                prove!(other.is_whole());
+                let joined = join(self.at(register), right);
+                self.join_set(other, dst, left);
+                self.set(register, joined);
+            }
+        }
+    }
+
+    /// Another way leads here, on which a call has left its answer.
+    pub(crate) fn join_answer(&mut self, other: &State, answer: Abs)
+        ensures { self.new ≡ joined_state self.old (called_state other.now answer) }
+    {
+        prove!(other.is_whole());
+        let joined = join(self.at(Register::new(0)), answer);
+        self.join(other);
+        self.set_answer(joined);
     }
 }

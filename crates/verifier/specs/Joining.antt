@@ -1,0 +1,20 @@
+-- Two states joined register by register.
+use Rattle.std.specs.Prelude.{ℕ, zero, suc, Option, Some, None}
+use Rattle.value_ranges.specs.Joins.{joined}
+use Rattle.verifier.specs.declared.state.State.{State}
+use Rattle.verifier.specs.Covers.{abs_at}
+use Rattle.verifier.specs.States.{with_abs, joined_state}
+
+-- the first with this register joined
+abbrev pub joined_to : State → State → ℕ → State
+joined_to s t r = with_abs s r (joined (abs_at s r) (abs_at t r))
+
+-- and with the registers below n
+abbrev pub joined_below : State → State → ℕ → State
+joined_below s t zero = s
+joined_below s t (suc n) = joined_to (joined_below s t n) t n
+
+-- a state comes to a place that may have one
+abbrev pub come_to : Option State → State → Option State
+come_to None state = Some state
+come_to (Some before) state = Some (joined_state before state)
