@@ -5,12 +5,11 @@ ghost use Rattle.std.specs.Prelude.{◌≡◌, ◌≤ℤ◌};
 use crate::range::Range;
 use std::marker::Model;
 
-/// The positions from `lo` to `hi`, of which there is at least one. They have the width of a `Range`'s ends, so that an `Abs`
-/// of any kind is copied by whole words.
+/// The positions from `lo` to `hi`, of which there is at least one.
 #[derive(Clone, Copy, Debug, PartialEq, Eq)]
 pub struct Reach {
-    lo: i64,
-    hi: i64,
+    lo: i32,
+    hi: i32,
 }
 
 impl Model for Reach {
@@ -28,7 +27,7 @@ impl Model for Reach {
 
 impl Reach {
     /// The positions from `lo` to `hi`.
-    pub fn new(lo: i64, hi: i64) -> Self
+    pub fn new(lo: i32, hi: i32) -> Self
         requires { lo ≤ℤ hi }
         ensures { result ≡ record { lo = lo; hi = hi } }
     {
@@ -36,7 +35,7 @@ impl Reach {
     }
 
     /// The least of them.
-    pub fn lo(self) -> i64
+    pub fn lo(self) -> i32
         ensures value { result ≡ self.lo }
         ensures ordered { self.lo ≤ℤ self.hi }
     {
@@ -44,7 +43,7 @@ impl Reach {
     }
 
     /// The greatest of them.
-    pub fn hi(self) -> i64
+    pub fn hi(self) -> i32
         ensures value { result ≡ self.hi }
         ensures ordered { self.lo ≤ℤ self.hi }
     {

@@ -25,14 +25,14 @@ fn signed_ends(r: Range) -> Option<SignedRange>
 }
 
 /// `at` and `by` together.
-fn above(at: i64, by: i64) -> i128
+fn above(at: i32, by: i64) -> i128
     ensures { result ≡ at +ℤ by }
 {
     i128::from(at) + i128::from(by)
 }
 
 /// `at` less `by`.
-fn below(at: i64, by: i64) -> i128
+fn below(at: i32, by: i64) -> i128
     ensures { result ≡ at -ℤ by }
 {
     i128::from(at) - i128::from(by)
@@ -46,7 +46,7 @@ fn positions(lo: i128, hi: i128) -> Result<Reach, u8>
     if lo < -1_048_576 || hi > 1_048_576 {
         return Err(TOO_FAR);
     }
-    Ok(Reach::new(lo as i64, hi as i64))
+    Ok(Reach::new(lo as i32, hi as i32))
 }
 
 /// A pointer plus a number.

@@ -31,7 +31,7 @@ fn number<R: Abort + Copy>(rt: R, ends: (u64, u64)) -> Abs
     Abs::between(ends.0, ends.1)
 }
 
-fn reach<R: Abort + Copy>(rt: R, ends: (i64, i64)) -> Reach {
+fn reach<R: Abort + Copy>(rt: R, ends: (i32, i32)) -> Reach {
     assert!(rt; ends.0 <= ends.1);
     Reach::new(ends.0, ends.1)
 }
@@ -195,7 +195,7 @@ fn one_operand_has_its_ranges(rt: HostRuntime) {
 }
 
 /// A pointer plus or less a number: the positions before and after.
-const POINTER_MOVES: [(AluOp, (i64, i64), (u64, u64), (i64, i64)); 10] = [
+const POINTER_MOVES: [(AluOp, (i32, i32), (u64, u64), (i32, i32)); 10] = [
     (Add, (0, 0), (1, 1), (1, 1)),
     (Add, (0, 0), (TOP, TOP), (-1, -1)),
     (Add, (0, 0), (TOP - 7, TOP), (-8, -1)),
@@ -214,7 +214,7 @@ const POINTER_MOVES: [(AluOp, (i64, i64), (u64, u64), (i64, i64)); 10] = [
 ];
 
 /// The same where the pointer may go too far.
-const POINTERS_TOO_FAR: [(AluOp, (i64, i64), (u64, u64)); 8] = [
+const POINTERS_TOO_FAR: [(AluOp, (i32, i32), (u64, u64)); 8] = [
     (Add, (0, 0), (1_048_577, 1_048_577)),
     (Add, (1, 1), (0, 1_048_576)),
     (Add, (0, 0), (TOP - 1_048_576, TOP)),

@@ -51,7 +51,7 @@ fn write_fault(register: Register) -> Option<u8>
 
 /// A position, moved by an offset.
 #[tactic(auto, using(crate::proofs::StateLemmas::signed_values))]
-pub(crate) fn moved(position: i64, offset: i16) -> i128
+pub(crate) fn moved(position: i32, offset: i16) -> i128
     ensures { result ≡ position +ℤ offset }
 {
     i128::from(position) + i128::from(offset)
@@ -59,7 +59,7 @@ pub(crate) fn moved(position: i64, offset: i16) -> i128
 
 /// The end of so many bytes from a position on, moved by an offset.
 #[tactic(auto, using(crate::proofs::StateLemmas::signed_values))]
-fn end_of(position: i64, offset: i16, count: u8) -> i128
+fn end_of(position: i32, offset: i16, count: u8) -> i128
     ensures { result ≡ position +ℤ offset +ℤ pos count }
 {
     i128::from(position) + i128::from(offset) + i128::from(count)

@@ -49,7 +49,7 @@ fn number_arguments(state: &State, arity: u32) -> Option<u8>
 
 /// The end of so many bytes from a position on.
 #[tactic(auto, using(crate::proofs::StateLemmas::signed_values))]
-fn span_end(position: i64, count: u64) -> i128
+fn span_end(position: i32, count: u64) -> i128
     ensures { result ≡ position +ℤ pos 0 +ℤ pos count }
 {
     i128::from(position) + i128::from(count)
