@@ -45,5 +45,5 @@ pub fn verify(
     let code = graph.into_code();
     let predecoded = predecoded(alloc, &code, &states)?;
     let helpers = helpers.copied(alloc)?;
-    Ok(Verified::of(need, helpers, predecoded, states, costs.into_table()))
+    Ok(Verified::of(need, helpers, code, predecoded, states, costs.into_table()))
 }
