@@ -1,6 +1,6 @@
 //! What a call has to find known.
 
-ghost use Rattle.std.specs.Prelude.{◌≡◌, ◌+◌, ◌≤◌, ◌<◌, ℤ, pos, ◌+ℤ◌, int_lt, ◌||◌};
+ghost use Rattle.std.specs.Prelude.{◌≡◌, ◌+◌, ◌≤◌, ◌<◌, ℤ, pos, ◌+ℤ◌};
 ghost use Rattle.helpers.specs.Table.{arity_in};
 ghost use Rattle.verifier.specs.Covers.{abs_at};
 ghost use Rattle.verifier.specs.States.{first, unset_fault, number_fault, region_fault, access_fault, unset_arguments, number_arguments, span_fault, length_fault, kind_fault, call_fault};
