@@ -5,22 +5,23 @@ ghost use Rattle.std.specs.Prelude.{◌≡◌, ◌≤ℤ◌};
 use crate::range::Range;
 use std::marker::Model;
 
-/// The positions from `lo` to `hi`, of which there is at least one.
+/// The positions from `lo` to `hi`, of which there is at least one. Positions have 32 bits; they are kept in 64, as a `Range`'s
+/// ends are, so that an `Abs` of any kind is copied by whole words.
 #[derive(Clone, Copy, Debug, PartialEq, Eq)]
 pub struct Reach {
-    lo: i32,
-    hi: i32,
+    lo: i64,
+    hi: i64,
 }
 
 impl Model for Reach {
-    ghost use Rattle.std.specs.Prelude.{◌≤ℤ◌};
+    ghost use Rattle.std.specs.Prelude.{◌≤ℤ◌, pos, negsuc};
     ghost use Rattle.value_ranges.specs.Span.{Span};
 
     ghost Value = { Span };
 
     ghost view = { λ r. record { lo = r.lo; hi = r.hi } };
 
-    ghost invariant = { λ r. r.lo ≤ℤ r.hi };
+    ghost invariant = { λ r. (r.lo ≤ℤ r.hi) × (negsuc 2147483647 ≤ℤ r.lo) × (r.hi ≤ℤ pos 2147483647) };
 
     ghost inverse = { λ v. record { lo = v.lo; hi = v.hi } };
 }
@@ -31,7 +32,10 @@ impl Reach {
         requires { lo ≤ℤ hi }
         ensures { result ≡ record { lo = lo; hi = hi } }
     {
-        Reach { lo, hi }
+        Reach {
+            lo: i64::from(lo),
+            hi: i64::from(hi),
+        }
     }
 
     /// The least of them.
@@ -39,7 +43,7 @@ impl Reach {
         ensures value { result ≡ self.lo }
         ensures ordered { self.lo ≤ℤ self.hi }
     {
-        self.lo
+        self.lo as i32
     }
 
     /// The greatest of them.
@@ -47,7 +51,7 @@ impl Reach {
         ensures value { result ≡ self.hi }
         ensures ordered { self.lo ≤ℤ self.hi }
     {
-        self.hi
+        self.hi as i32
     }
 }
 
