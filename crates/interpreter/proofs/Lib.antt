@@ -8,6 +8,7 @@ pub mod Loads
 pub mod Stores
 pub mod Jumps
 pub mod Exits
+pub mod EndSlots
 pub mod Calls
 pub mod Helpers
 pub mod Places

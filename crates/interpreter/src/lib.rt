@@ -12,7 +12,7 @@ mod vm;
 mod vm_fault;
 
 pub use credit::Credit;
-pub use frame::{Frame, StepOut};
+pub use frame::{Frame, Next, StepOut};
 pub use registered::Function;
 pub use vm::Vm;
 pub use vm_fault::VmFault;
