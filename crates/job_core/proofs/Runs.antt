@@ -1,8 +1,7 @@
 -- A task that is out of its place goes on along a schedule.
-use Rattle.std.proofs.Common.{◌≡◌, ℕ, ◌<◌, ◌+◌, ◌-◌, List, [], ◌∷◌, ◌++◌, get_or, length, set, slice_get, take, drop, refl, sym, ◌∙◌, ap, subst, Some, None}
+use Rattle.std.proofs.Common.{◌≡◌, ℕ, ◌<◌, List, [], ◌∷◌, ◌++◌, get_or, length, set, slice_get, refl, sym, ◌∙◌, ap, subst, Some, None}
 use Rattle.std.proofs.lemmas.Option.{slice_get_within, get_or_from_slice_get}
-use Rattle.std.proofs.lemmas.List.{append-nil, append_assoc, length-drop, set-get_or, set-set, take_more}
-use Rattle.std.proofs.Math.Seq.{take-length}
+use Rattle.std.proofs.lemmas.List.{append-nil, append_assoc, set-get_or, set-set}
 use Rattle.machine_model.specs.Value.{Registers}
 use Rattle.machine_model.specs.Machine.{effect}
 use Rattle.machine_model.specs.Job.{Job}
@@ -50,21 +49,13 @@ pub behind_led : (old new : Kept) (numbers : List ℕ) (j : Job) → IsBehind ol
 behind_led old new numbers j behind leads =
     let plays = leads.plays j [] (plays_none old.programs j old behind) in (plays.last, plays.behind)
 
--- a first entry that names no live task changes nothing
-pub leads_skipped : (kept : Kept) (schedule : List ℕ) → 0 < length schedule →
-    ((j : Job) → IsBehind kept j → Steps kept j (get_or schedule 0 0) stepped.Skipped kept) → LeadsOn kept (take 1 schedule) kept
-leads_skipped kept schedule some steps =
-    subst (λ ns. LeadsOn kept ns kept) (sym (take_more schedule 0 0 some))
-    (leads_more kept kept kept [] (get_or schedule 0 0) stepped.Skipped (leads_none kept) refl steps)
+-- an entry that names no live task changes nothing
+pub leads_skipped : (kept : Kept) (n : ℕ) → ((j : Job) → IsBehind kept j → Steps kept j n stepped.Skipped kept) → LeadsOn kept (n ∷ []) kept
+leads_skipped kept n steps = leads_more kept kept kept [] n stepped.Skipped (leads_none kept) refl steps
 
--- one more entry that names the number
-pub take_named : (schedule : List ℕ) (gone n : ℕ) → gone < length schedule → get_or schedule gone 0 ≡ n →
-    take (gone + 1) schedule ≡ take gone schedule ++ n ∷ []
-take_named schedule gone n lt named = take_more schedule gone 0 lt ∙ ap (λ k. take gone schedule ++ k ∷ []) named
-
--- what is left of a schedule, as a slice
-pub left_is : (schedule : List ℕ) (gone : ℕ) → take (length schedule - gone) (drop gone schedule) ≡ drop gone schedule
-left_is schedule gone = ap (λ n. take n (drop gone schedule)) (sym (length-drop gone schedule)) ∙ take-length (drop gone schedule)
+-- one more number is gone along
+pub gone_along : (whole numbers rest : List ℕ) (n : ℕ) → whole ≡ numbers ++ n ∷ rest → whole ≡ (numbers ++ n ∷ []) ++ rest
+gone_along whole numbers rest n is = is ∙ sym (append_assoc numbers (n ∷ []) rest)
 
 -- ---- a task out of its place
 

@@ -1,6 +1,6 @@
 //! The tasks of a job and the step of one of them.
 
-ghost use Rattle.std.specs.Prelude.{◌≡◌, ℕ, ◌<◌, ◌≤◌, ◌^◌, length, slice_get, take};
+ghost use Rattle.std.specs.Prelude.{◌≡◌, ℕ, ◌<◌, ◌≤◌, ◌^◌, length, slice_get, List, ◌∷◌, ◌++◌};
 
 use crate::ledger::Ledger;
 use interpreter::{Next, StepOut};
@@ -55,43 +55,45 @@ impl Tasks {
         }
     }
 
-    /// Goes along a schedule as long as it names the task that it begins with, one instruction for each entry. How many they are.
+    /// One instruction of a task, and one more for each entry that names it again where the schedule goes on. What is left of the
+    /// schedule.
     ///
     /// The task is taken from its place, and its program looked up, but once.
-    pub fn run(&mut self, alloc: Global, schedule: &[u32]) -> usize
-        requires behind { (j : Job) × IsBehind (kept_of self.old) j }
-        requires some { 0 < length schedule.now }
-        ensures leads { LeadsOn (kept_of self.old) (take result schedule.now) (kept_of self.new) }
-        ensures some { 0 < result }
-        ensures within { result ≤ length schedule.now }
+    pub fn run<'a>(&mut self, alloc: Global, number: u32, schedule: &'a [u32]) -> &'a [u32]
+        requires { (j : Job) × IsBehind (kept_of self.old) j }
+        ensures leads { (numbers : List ℕ) × (number ∷ schedule.now ≡ numbers ++ result.now)
+            × LeadsOn (kept_of self.old) numbers (kept_of self.new) }
+        ensures shorter { length result.now ≤ length schedule.now }
     {
-        let number = schedule[0];
         let Tasks {
             programs,
             ledger,
             ..
         } = self;
         let Some(place) = ledger.lives.get_mut(number as usize) else {
-            return 1;
+            return schedule;
         };
         let Some(mut live) = place.take() else {
-            return 1;
+            return schedule;
         };
         let code = &programs[live.program() as usize];
         let mut slot = live.slot();
-        let mut gone = 0;
-        while gone < schedule.len() && schedule[gone] == number {
-            gone += 1;
+        let mut rest = schedule;
+        loop {
             match live.step_at(alloc, code, slot, ledger) {
                 Next::At(next) => slot = next,
                 Next::Ended(r0) => {
                     ledger.report.end(number, live.credit(), r0, live.part());
-                    return gone;
+                    return rest;
                 }
+            }
+            match rest.split_first() {
+                Some((next, after)) if *next == number => rest = after,
+                _ => break,
             }
         }
         live.note_slot(slot);
         ledger.lives[number as usize] = Some(live);
-        gone
+        rest
     }
 }

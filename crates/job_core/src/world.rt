@@ -33,7 +33,7 @@ impl Model for World {
 }
 
 impl World {
-    ghost use Rattle.std.specs.Prelude.{◌≡◌, ◌<◌, ◌≤◌, ◌↔◌, length, take, IfOk, IfErr, IfSome, IsSome, IsTrue};
+    ghost use Rattle.std.specs.Prelude.{◌≡◌, ℕ, ◌≤◌, ◌↔◌, List, ◌∷◌, ◌++◌, length, IfOk, IfErr, IfSome, IsSome, IsTrue};
     ghost use Rattle.machine_model.specs.Job as model;
     ghost use Rattle.machine_model.specs.Job.{start, IsAlive, IsComplete};
     ghost use Rattle.job_core.specs.Behind.{IsBehind, Steps, LeadsOn};
@@ -106,14 +106,13 @@ impl World {
         self.tasks.step(alloc, number)
     }
 
-    /// Goes along a schedule as long as it names the task that it begins with, one instruction for each entry. How many they are.
-    fn run(&mut self, alloc: Global, schedule: &[u32]) -> usize
-        requires { 0 < length schedule.now }
-        ensures leads { LeadsOn self.old (take result schedule.now) self.new }
-        ensures some { 0 < result }
-        ensures within { result ≤ length schedule.now }
+    /// One instruction of a task, and one more for each entry that names it again where the schedule goes on. What is left of the
+    /// schedule.
+    fn run<'a>(&mut self, alloc: Global, number: u32, schedule: &'a [u32]) -> &'a [u32]
+        ensures leads { (numbers : List ℕ) × (number ∷ schedule.now ≡ numbers ++ result.now) × LeadsOn self.old numbers self.new }
+        ensures shorter { length result.now ≤ length schedule.now }
     {
-        self.tasks.run(alloc, schedule)
+        self.tasks.run(alloc, number, schedule)
     }
 
     /// Whether the task is alive.
@@ -206,9 +205,9 @@ pub fn play(alloc: Global, job: Job, schedule: &[u32]) -> Result<World, NoMemory
     ensures { IfOk result (λ world. Plays job.programs (start job.credit job.buffer) schedule.now world) }
 {
     let mut world = World::open(alloc, job)?;
-    let mut gone = 0;
-    while gone < schedule.len() {
-        gone += world.run(alloc, &schedule[gone..]);
+    let mut rest = schedule;
+    while let Some((number, after)) = rest.split_first() {
+        rest = world.run(alloc, *number, after);
     }
     Ok(world)
 }

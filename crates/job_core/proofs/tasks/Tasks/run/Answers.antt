@@ -1,129 +1,148 @@
-use Rattle.std.proofs.Common.{◌≡◌, ◌<◌, ◌∙◌, refl, sym, ap, rules, arith, length, take, slice_get, set, get_or, Some, None}
+use Rattle.std.proofs.Common.{◌≡◌, ◌<◌, ◌∙◌, [], ◌∷◌, ◌++◌, refl, sym, ap, rules, arith, length, slice_get, set, Some, None}
 use Rattle.std.proofs.lemmas.Option.{slice_get_read, slice_get_within, get_or_from_slice_get}
 use Rattle.std.proofs.lemmas.List.{set-get_or}
 use Rattle.job_core.specs.Keeping.{kept_of}
 use Rattle.job_core.proofs.Simulates.{live_at, skipped, unknown}
 use Rattle.job_core.specs.declared.tasks.Stepped.TheVariants as stepped
-use Rattle.job_core.proofs.Runs.{leads_skipped, leads_more, take_named, sets_out, covered_there, way_on, way_ends}
+use Rattle.job_core.proofs.Runs.{leads_skipped, leads_more, gone_along, sets_out, covered_there, way_on, way_ends}
 use Rattle.job_core.proofs.tasks.Tasks.run.Goals as goal
+use Rattle.job_core.proofs.tasks.Tasks.run.Goals.{in_default-split_first-2, in_default-split_first}
 
 pub returns-in_default-clause-leads : goal.returns-in_default-clause-leads
 returns-in_default-clause-leads c =
-    leads_skipped (kept_of c.args.self.now) c.args.schedule.now c.requires.some (λ j behind. unknown (kept_of c.args.self.now) j _ behind (search rules))
+    (c.args.number ∷ [], refl, leads_skipped (kept_of c.args.self.now) c.args.number (λ j behind. unknown (kept_of c.args.self.now) j _ behind (search rules)))
 
 pub returns-in_default-take-clause-leads : goal.returns-in_default-take-clause-leads
 returns-in_default-take-clause-leads c =
     let lives = c.args.self.now.ledger.lives.items in
-    let number = get_or c.args.schedule.now 0 0 in
-    let lt : number < length lives = c.in-Some.ensures.item.3.0 in
+    let lt : c.args.number < length lives = c.in-Some.ensures.item.3.0 in
     let none_is : c.in-Some.place.now ≡ None = sym c.take.ensures.value ∙ c.in_default-take.is in
-    let here : slice_get lives number ≡ Some None =
-    slice_get_read lives (length lives) number c.in-Some.place.now refl lt c.in-Some.ensures.value ∙ ap Some none_is in
-    let same : set lives number None ≡ lives = ap (set lives number) (sym (get_or_from_slice_get lives number None None here)) ∙ set-get_or lives number None in
+    let here : slice_get lives c.args.number ≡ Some None =
+    slice_get_read lives (length lives) c.args.number c.in-Some.place.now refl lt c.in-Some.ensures.value ∙ ap Some none_is in
+    let same : set lives c.args.number None ≡ lives = ap (set lives c.args.number) (sym (get_or_from_slice_get lives c.args.number None None here)) ∙ set-get_or lives c.args.number None in
     rw (c.take.ensures.after, same)
-    (leads_skipped (kept_of c.args.self.now) c.args.schedule.now c.requires.some (λ j behind. skipped (kept_of c.args.self.now) j number behind here))
+    (c.args.number ∷ [], refl, leads_skipped (kept_of c.args.self.now) c.args.number (λ j behind. skipped (kept_of c.args.self.now) j c.args.number behind here))
 
 pub index-code-requires : goal.index-code-requires
 index-code-requires c =
     let lives = c.args.self.now.ledger.lives.items in
-    let number = get_or c.args.schedule.now 0 0 in
-    let lt : number < length lives = c.in-Some.ensures.item.3.0 in
-    let here : slice_get lives number ≡ Some (Some c.in-Some-take.live) =
+    let lt : c.args.number < length lives = c.in-Some.ensures.item.3.0 in
+    let here : slice_get lives c.args.number ≡ Some (Some c.in-Some-take.live) =
     slice_get_read _ _ _ c.in-Some.place.now refl lt c.in-Some.ensures.value ∙ ap Some (sym c.take.ensures.value ∙ c.in-Some-take.is) in
-    let live = live_at _ c.requires.behind.0 number c.in-Some-take.live c.requires.behind.1 here in
+    let live = live_at _ c.requires.0 c.args.number c.in-Some-take.live c.requires.1 here in
     let within = slice_get_within c.args.self.now.programs.items c.in-Some-take.live.program live.checked live.program in
     let at = c.program.ensures in
     search (rules, within, at)
 
-pub loop-gone-init : goal.loop-gone-init
-loop-gone-init c =
+pub loop-next-init : goal.loop-next-init
+loop-next-init c =
     let lives = c.args.self.now.ledger.lives.items in
-    let number = get_or c.args.schedule.now 0 0 in
-    let lt : number < length lives = c.in-Some.ensures.item.3.0 in
-    let here : slice_get lives number ≡ Some (Some c.in-Some-take.live) =
+    let lt : c.args.number < length lives = c.in-Some.ensures.item.3.0 in
+    let here : slice_get lives c.args.number ≡ Some (Some c.in-Some-take.live) =
     slice_get_read _ _ _ c.in-Some.place.now refl lt c.in-Some.ensures.value ∙ ap Some (sym c.take.ensures.value ∙ c.in-Some-take.is) in
     record {
       way = rw (c.take.ensures.after, c.slot-slot.ensures)
-          (sets_out (kept_of c.args.self.now) number c.in-Some-take.live c.index-code.result.now here (rw c.program.ensures at c.index-code.ensures) c.requires.behind);
-      within = omega arith;
+          ([], refl, sets_out (kept_of c.args.self.now) c.args.number c.in-Some-take.live c.index-code.result.now here (rw c.program.ensures at c.index-code.ensures) c.requires);
+      shorter = omega arith;
     }
 
 pub step_at-requires : goal.step_at-requires
 step_at-requires c =
-    covered_there (kept_of c.args.self.now) (record c.args.self.now { ledger = c.loop-gone.ledger }) (take c.loop-gone.gone c.args.schedule.now)
-    (get_or c.args.schedule.now 0 0) c.loop-gone.live c.loop-gone.slot c.index-code.result.now c.loop-gone.invariant.way
+    covered_there (kept_of c.args.self.now) (record c.args.self.now { ledger = c.loop-next.ledger }) c.loop-next.invariant.way.0
+    c.args.number c.loop-next.live c.loop-next.slot c.index-code.result.now c.loop-next.invariant.way.2
 
-pub loop-gone-preserved : goal.loop-gone-preserved
-loop-gone-preserved c =
-    let on = way_on (kept_of c.args.self.now) (record c.args.self.now { ledger = c.loop-gone.ledger }) (take c.loop-gone.gone c.args.schedule.now)
-    (get_or c.args.schedule.now 0 0) c.loop-gone.live c.loop-gone.slot c.index-code.result.now c.loop-gone.invariant.way
+pub loop-next-preserved : goal.loop-next-preserved
+loop-next-preserved c =
+    let on = way_on (kept_of c.args.self.now) (record c.args.self.now { ledger = c.loop-next.ledger }) c.loop-next.invariant.way.0
+    c.args.number c.loop-next.live c.loop-next.slot c.index-code.result.now c.loop-next.invariant.way.2
     c.step_at.result c.step_at.new.self c.step_at.new.spawner c.step_at.ensures.base c.step_at.ensures.program c.step_at.ensures.did
     c.in-At.next c.in-At.is (c.step_at.ensures.covered c.in-At.next c.in-At.is) in
+    let along = gone_along (c.args.number ∷ c.args.schedule.now) c.loop-next.invariant.way.0 c.loop-next.rest.now c.args.number c.loop-next.invariant.way.1 in
+    let again : c.loop-next.rest.now ≡ c.args.number ∷ c.in-Some-split_first.after.now =
+    c.in-Some-split_first.ensures.cases.0 ∙ ap (λ n. n ∷ c.in-Some-split_first.after.now) c.if-next-number.true in
     record {
-      way = rw (take_named c.args.schedule.now c.loop-gone.gone (get_or c.args.schedule.now 0 0) c.loop-gone-test.true c.if-schedule-gone.true) on;
-      within = omega (arith, c.loop-gone-test.true);
+      way = (c.loop-next.invariant.way.0 ++ c.args.number ∷ [], rw again at along, on);
+      shorter = omega (arith, c.in-Some-split_first.ensures.cases.1, c.loop-next.invariant.shorter);
     }
 
 pub end-requires-clause-there : goal.end-requires-clause-there
 end-requires-clause-there c =
-    let way = c.loop-gone.invariant.way in
-    let noting = way_ends (kept_of c.args.self.now) (record c.args.self.now { ledger = c.loop-gone.ledger }) (take c.loop-gone.gone c.args.schedule.now)
-    (get_or c.args.schedule.now 0 0) c.loop-gone.live c.loop-gone.slot c.index-code.result.now way
+    let way = c.loop-next.invariant.way.2 in
+    let noting = way_ends (kept_of c.args.self.now) (record c.args.self.now { ledger = c.loop-next.ledger }) c.loop-next.invariant.way.0
+    c.args.number c.loop-next.live c.loop-next.slot c.index-code.result.now way
     c.step_at.result c.step_at.new.self c.step_at.new.spawner c.step_at.ensures.base c.step_at.ensures.program c.step_at.ensures.did
     way.behind.0 way.behind.1 c.in-Ended.r0 c.in-Ended.is in
-    let within = slice_get_within c.step_at.new.spawner.report.tasks.items (get_or c.args.schedule.now 0 0) noting.entry noting.noted in
+    let within = slice_get_within c.step_at.new.spawner.report.tasks.items c.args.number noting.entry noting.noted in
     search (rules, within)
 
 pub end-requires-clause-used : goal.end-requires-clause-used
 end-requires-clause-used c =
-    let way = c.loop-gone.invariant.way in
-    let noting = way_ends (kept_of c.args.self.now) (record c.args.self.now { ledger = c.loop-gone.ledger }) (take c.loop-gone.gone c.args.schedule.now)
-    (get_or c.args.schedule.now 0 0) c.loop-gone.live c.loop-gone.slot c.index-code.result.now way
+    let way = c.loop-next.invariant.way.2 in
+    let noting = way_ends (kept_of c.args.self.now) (record c.args.self.now { ledger = c.loop-next.ledger }) c.loop-next.invariant.way.0
+    c.args.number c.loop-next.live c.loop-next.slot c.index-code.result.now way
     c.step_at.result c.step_at.new.self c.step_at.new.spawner c.step_at.ensures.base c.step_at.ensures.program c.step_at.ensures.did
     way.behind.0 way.behind.1 c.in-Ended.r0 c.in-Ended.is in
     rw c.credit.ensures noting.used
 
 pub end-requires-clause-spent : goal.end-requires-clause-spent
 end-requires-clause-spent c =
-    let way = c.loop-gone.invariant.way in
-    let noting = way_ends (kept_of c.args.self.now) (record c.args.self.now { ledger = c.loop-gone.ledger }) (take c.loop-gone.gone c.args.schedule.now)
-    (get_or c.args.schedule.now 0 0) c.loop-gone.live c.loop-gone.slot c.index-code.result.now way
+    let way = c.loop-next.invariant.way.2 in
+    let noting = way_ends (kept_of c.args.self.now) (record c.args.self.now { ledger = c.loop-next.ledger }) c.loop-next.invariant.way.0
+    c.args.number c.loop-next.live c.loop-next.slot c.index-code.result.now way
     c.step_at.result c.step_at.new.self c.step_at.new.spawner c.step_at.ensures.base c.step_at.ensures.program c.step_at.ensures.did
     way.behind.0 way.behind.1 c.in-Ended.r0 c.in-Ended.is in
     rw c.credit.ensures (omega (arith, noting.spent_fits))
 
 pub end-requires-clause-returned : goal.end-requires-clause-returned
 end-requires-clause-returned c =
-    let way = c.loop-gone.invariant.way in
-    let noting = way_ends (kept_of c.args.self.now) (record c.args.self.now { ledger = c.loop-gone.ledger }) (take c.loop-gone.gone c.args.schedule.now)
-    (get_or c.args.schedule.now 0 0) c.loop-gone.live c.loop-gone.slot c.index-code.result.now way
+    let way = c.loop-next.invariant.way.2 in
+    let noting = way_ends (kept_of c.args.self.now) (record c.args.self.now { ledger = c.loop-next.ledger }) c.loop-next.invariant.way.0
+    c.args.number c.loop-next.live c.loop-next.slot c.index-code.result.now way
     c.step_at.result c.step_at.new.self c.step_at.new.spawner c.step_at.ensures.base c.step_at.ensures.program c.step_at.ensures.did
     way.behind.0 way.behind.1 c.in-Ended.r0 c.in-Ended.is in
     rw c.credit.ensures (omega (arith, noting.returned_fits))
 
 pub end-requires-clause-inside : goal.end-requires-clause-inside
 end-requires-clause-inside c =
-    let way = c.loop-gone.invariant.way in
-    let noting = way_ends (kept_of c.args.self.now) (record c.args.self.now { ledger = c.loop-gone.ledger }) (take c.loop-gone.gone c.args.schedule.now)
-    (get_or c.args.schedule.now 0 0) c.loop-gone.live c.loop-gone.slot c.index-code.result.now way
+    let way = c.loop-next.invariant.way.2 in
+    let noting = way_ends (kept_of c.args.self.now) (record c.args.self.now { ledger = c.loop-next.ledger }) c.loop-next.invariant.way.0
+    c.args.number c.loop-next.live c.loop-next.slot c.index-code.result.now way
     c.step_at.result c.step_at.new.self c.step_at.new.spawner c.step_at.ensures.base c.step_at.ensures.program c.step_at.ensures.did
     way.behind.0 way.behind.1 c.in-Ended.r0 c.in-Ended.is in
     rw c.part.ensures noting.inside
 
 pub returns-in-Ended-clause-leads : goal.returns-in-Ended-clause-leads
 returns-in-Ended-clause-leads c =
-    let way = c.loop-gone.invariant.way in
-    rw (take_named c.args.schedule.now c.loop-gone.gone (get_or c.args.schedule.now 0 0) c.loop-gone-test.true c.if-schedule-gone.true)
-    (leads_more (kept_of c.args.self.now) _ _ (take c.loop-gone.gone c.args.schedule.now) (get_or c.args.schedule.now 0 0) (stepped.Ended c.in-Ended.r0) way.leads refl
-    (λ j behind.
-    let noting = way_ends (kept_of c.args.self.now) (record c.args.self.now { ledger = c.loop-gone.ledger }) (take c.loop-gone.gone c.args.schedule.now)
-    (get_or c.args.schedule.now 0 0) c.loop-gone.live c.loop-gone.slot c.index-code.result.now way
-    c.step_at.result c.step_at.new.self c.step_at.new.spawner c.step_at.ensures.base c.step_at.ensures.program c.step_at.ensures.did
-    j behind c.in-Ended.r0 c.in-Ended.is in
-    noting.steps _ _ _ _ (rw c.credit.ensures at c.end.ensures.spent) (rw c.credit.ensures at c.end.ensures.returned)
-    (rw c.part.ensures at c.end.ensures.buffer) (rw c.credit.ensures at (c.end.ensures.tasks noting.entry noting.noted))))
+    let way = c.loop-next.invariant.way.2 in (
+      c.loop-next.invariant.way.0 ++ c.args.number ∷ [],
+      gone_along (c.args.number ∷ c.args.schedule.now) c.loop-next.invariant.way.0 c.loop-next.rest.now c.args.number c.loop-next.invariant.way.1,
+      leads_more (kept_of c.args.self.now) _ _ c.loop-next.invariant.way.0 c.args.number (stepped.Ended c.in-Ended.r0) way.leads refl
+          (λ j behind.
+          let noting = way_ends (kept_of c.args.self.now) (record c.args.self.now { ledger = c.loop-next.ledger }) c.loop-next.invariant.way.0
+          c.args.number c.loop-next.live c.loop-next.slot c.index-code.result.now way
+          c.step_at.result c.step_at.new.self c.step_at.new.spawner c.step_at.ensures.base c.step_at.ensures.program c.step_at.ensures.did
+          j behind c.in-Ended.r0 c.in-Ended.is in
+          noting.steps _ _ _ _ (rw c.credit.ensures at c.end.ensures.spent) (rw c.credit.ensures at c.end.ensures.returned)
+          (rw c.part.ensures at c.end.ensures.buffer) (rw c.credit.ensures at (c.end.ensures.tasks noting.entry noting.noted))),
+    )
 
 pub index_mut-requires : goal.index_mut-requires
 index_mut-requires c =
-    let within = slice_get_within c.loop-gone.ledger.lives.items (get_or c.args.schedule.now 0 0) None c.loop-gone.invariant.way.out in
+    let on = way_on (kept_of c.args.self.now) (record c.args.self.now { ledger = c.loop-next.ledger }) c.loop-next.invariant.way.0
+    c.args.number c.loop-next.live c.loop-next.slot c.index-code.result.now c.loop-next.invariant.way.2
+    c.step_at.result c.step_at.new.self c.step_at.new.spawner c.step_at.ensures.base c.step_at.ensures.program c.step_at.ensures.did
+    c.in-At.next c.in-At.is (c.step_at.ensures.covered c.in-At.next c.in-At.is) in
+    let within = slice_get_within c.step_at.new.spawner.lives.items c.args.number None on.out in
     search (rules, within)
+
+pub returns-clause-leads : goal.returns-clause-leads
+returns-clause-leads c =
+    let on = way_on (kept_of c.args.self.now) (record c.args.self.now { ledger = c.loop-next.ledger }) c.loop-next.invariant.way.0
+    c.args.number c.loop-next.live c.loop-next.slot c.index-code.result.now c.loop-next.invariant.way.2
+    c.step_at.result c.step_at.new.self c.step_at.new.spawner c.step_at.ensures.base c.step_at.ensures.program c.step_at.ensures.did
+    c.in-At.next c.in-At.is (c.step_at.ensures.covered c.in-At.next c.in-At.is) in
+    let along = gone_along (c.args.number ∷ c.args.schedule.now) c.loop-next.invariant.way.0 c.loop-next.rest.now c.args.number c.loop-next.invariant.way.1 in
+    elim c.match-split_first.branch [
+      | in_default-split_first-2 w ↦ rw (w.self-is, c.note_slot.ensures) (c.loop-next.invariant.way.0 ++ c.args.number ∷ [], along, on.leads)
+      | in_default-split_first w ↦ rw (w.self-is, c.note_slot.ensures) (c.loop-next.invariant.way.0 ++ c.args.number ∷ [], along, on.leads)
+    ]
