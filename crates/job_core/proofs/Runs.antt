@@ -1,5 +1,5 @@
 -- A task that is out of its place goes on along a schedule.
-use Rattle.std.proofs.Common.{◌≡◌, ℕ, ◌<◌, List, [], ◌∷◌, ◌++◌, get_or, length, set, slice_get, refl, sym, ◌∙◌, ap, subst, Some, None}
+use Rattle.std.proofs.Common.{◌≡◌, ℕ, ◌<◌, List, [], ◌∷◌, ◌++◌, get_or, length, set, slice_get, refl, sym, ◌∙◌, arith, ap, subst, Some, None}
 use Rattle.std.proofs.lemmas.Option.{slice_get_within, get_or_from_slice_get}
 use Rattle.std.proofs.lemmas.List.{append-nil, append_assoc, set-get_or, set-set}
 use Rattle.machine_model.specs.Value.{Registers}
@@ -54,8 +54,23 @@ pub leads_skipped : (kept : Kept) (n : ℕ) → ((j : Job) → IsBehind kept j �
 leads_skipped kept n steps = leads_more kept kept kept [] n stepped.Skipped (leads_none kept) refl steps
 
 -- one more number is gone along
-pub gone_along : (whole numbers rest : List ℕ) (n : ℕ) → whole ≡ numbers ++ n ∷ rest → whole ≡ (numbers ++ n ∷ []) ++ rest
-gone_along whole numbers rest n is = is ∙ sym (append_assoc numbers (n ∷ []) rest)
+pub gone_along : (whole numbers rest after : List ℕ) (n : ℕ) → rest ≡ n ∷ after → whole ≡ numbers ++ rest → whole ≡ (numbers ++ n ∷ []) ++ after
+gone_along whole numbers rest after n named is = is ∙ ap (λ ns. numbers ++ ns) named ∙ sym (append_assoc numbers (n ∷ []) after)
+
+abbrev pub first_of : List ℕ → ℕ
+first_of schedule = get_or schedule 0 0
+
+-- a schedule that isn't empty has a first entry
+pub first_is : (rest : List ℕ) → 0 < length rest → (after : List ℕ) × (rest ≡ first_of rest ∷ after)
+first_is [] some = absurd (omega arith)
+first_is (n ∷ ns) some = (ns, refl)
+
+-- a first entry that is named is the number
+pub named_first : (rest named after : List ℕ) (n first : ℕ) → rest ≡ n ∷ named → rest ≡ first ∷ after → rest ≡ n ∷ after
+named_first rest named after n first is parts =
+    let e : n ∷ named ≡ first ∷ after = sym is ∙ parts in
+    let same : first ≡ n = cc in
+    parts ∙ ap (λ k. k ∷ after) same
 
 -- ---- a task out of its place
 

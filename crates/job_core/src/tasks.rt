@@ -1,6 +1,6 @@
 //! The tasks of a job and the step of one of them.
 
-ghost use Rattle.std.specs.Prelude.{◌≡◌, ℕ, ◌<◌, ◌≤◌, ◌^◌, length, slice_get, List, ◌∷◌, ◌++◌};
+ghost use Rattle.std.specs.Prelude.{◌≡◌, ℕ, ◌<◌, ◌≤◌, ◌^◌, length, slice_get, List, ◌∷◌, ◌++◌, IsTrue};
 
 use crate::ledger::Ledger;
 use interpreter::{Next, StepOut};
@@ -21,6 +21,26 @@ pub enum Stepped {
     Skipped,
     Went,
     Ended(u64),
+}
+
+/// The schedule without its first entry.
+#[inline(always)]
+fn after_first(schedule: &[u32]) -> &[u32]
+    requires { 0 < length schedule.now }
+    ensures { (first : ℕ) × (schedule.now ≡ first ∷ result.now) }
+{
+    &schedule[1..]
+}
+
+/// Whether the schedule's first entry names this task.
+#[inline(always)]
+fn begins_with(schedule: &[u32], number: u32) -> bool
+    ensures { IsTrue result → (after : List ℕ) × (schedule.now ≡ number ∷ after) }
+{
+    match schedule.first() {
+        Some(first) => *first == number,
+        None => false,
+    }
 }
 
 impl Tasks {
@@ -55,26 +75,26 @@ impl Tasks {
         }
     }
 
-    /// One instruction of a task, and one more for each entry that names it again where the schedule goes on. What is left of the
-    /// schedule.
+    /// Goes along a schedule as long as it names the task that it begins with, one instruction for each entry. What is left of it.
     ///
     /// The task is taken from its place, and its program looked up, but once.
-    pub fn run<'a>(&mut self, alloc: Global, number: u32, schedule: &'a [u32]) -> &'a [u32]
-        requires { (j : Job) × IsBehind (kept_of self.old) j }
-        ensures leads { (numbers : List ℕ) × (number ∷ schedule.now ≡ numbers ++ result.now)
-            × LeadsOn (kept_of self.old) numbers (kept_of self.new) }
-        ensures shorter { length result.now ≤ length schedule.now }
+    pub fn run<'a>(&mut self, alloc: Global, schedule: &'a [u32]) -> &'a [u32]
+        requires behind { (j : Job) × IsBehind (kept_of self.old) j }
+        requires some { 0 < length schedule.now }
+        ensures leads { (numbers : List ℕ) × (schedule.now ≡ numbers ++ result.now) × LeadsOn (kept_of self.old) numbers (kept_of self.new) }
+        ensures shorter { length result.now < length schedule.now }
     {
+        let number = schedule[0];
         let Tasks {
             programs,
             ledger,
             ..
         } = self;
         let Some(place) = ledger.lives.get_mut(number as usize) else {
-            return schedule;
+            return after_first(schedule);
         };
         let Some(mut live) = place.take() else {
-            return schedule;
+            return after_first(schedule);
         };
         let code = &programs[live.program() as usize];
         let mut slot = live.slot();
@@ -84,12 +104,12 @@ impl Tasks {
                 Next::At(next) => slot = next,
                 Next::Ended(r0) => {
                     ledger.report.end(number, live.credit(), r0, live.part());
-                    return rest;
+                    return after_first(rest);
                 }
             }
-            match rest.split_first() {
-                Some((next, after)) if *next == number => rest = after,
-                _ => break,
+            rest = after_first(rest);
+            if !begins_with(rest, number) {
+                break;
             }
         }
         live.note_slot(slot);

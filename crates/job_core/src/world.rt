@@ -33,7 +33,7 @@ impl Model for World {
 }
 
 impl World {
-    ghost use Rattle.std.specs.Prelude.{◌≡◌, ℕ, ◌≤◌, ◌↔◌, List, ◌∷◌, ◌++◌, length, IfOk, IfErr, IfSome, IsSome, IsTrue};
+    ghost use Rattle.std.specs.Prelude.{◌≡◌, ℕ, ◌<◌, ◌↔◌, List, ◌++◌, length, IfOk, IfErr, IfSome, IsSome, IsTrue};
     ghost use Rattle.machine_model.specs.Job as model;
     ghost use Rattle.machine_model.specs.Job.{start, IsAlive, IsComplete};
     ghost use Rattle.job_core.specs.Behind.{IsBehind, Steps, LeadsOn};
@@ -106,13 +106,13 @@ impl World {
         self.tasks.step(alloc, number)
     }
 
-    /// One instruction of a task, and one more for each entry that names it again where the schedule goes on. What is left of the
-    /// schedule.
-    fn run<'a>(&mut self, alloc: Global, number: u32, schedule: &'a [u32]) -> &'a [u32]
-        ensures leads { (numbers : List ℕ) × (number ∷ schedule.now ≡ numbers ++ result.now) × LeadsOn self.old numbers self.new }
-        ensures shorter { length result.now ≤ length schedule.now }
+    /// Goes along a schedule as long as it names the task that it begins with, one instruction for each entry. What is left of it.
+    fn run<'a>(&mut self, alloc: Global, schedule: &'a [u32]) -> &'a [u32]
+        requires { 0 < length schedule.now }
+        ensures leads { (numbers : List ℕ) × (schedule.now ≡ numbers ++ result.now) × LeadsOn self.old numbers self.new }
+        ensures shorter { length result.now < length schedule.now }
     {
-        self.tasks.run(alloc, number, schedule)
+        self.tasks.run(alloc, schedule)
     }
 
     /// Whether the task is alive.
@@ -206,8 +206,8 @@ pub fn play(alloc: Global, job: Job, schedule: &[u32]) -> Result<World, NoMemory
 {
     let mut world = World::open(alloc, job)?;
     let mut rest = schedule;
-    while let Some((number, after)) = rest.split_first() {
-        rest = world.run(alloc, *number, after);
+    while !rest.is_empty() {
+        rest = world.run(alloc, rest);
     }
     Ok(world)
 }
