@@ -1,7 +1,8 @@
 -- A task that is out of its place goes on along a schedule.
-use Rattle.std.proofs.Common.{◌≡◌, ℕ, ◌<◌, List, [], ◌∷◌, ◌++◌, get_or, length, set, slice_get, refl, sym, ◌∙◌, arith, ap, subst, Some, None}
+use Rattle.std.proofs.Common.{◌≡◌, ℕ, ◌<◌, ◌+◌, ◌-◌, List, [], ◌∷◌, ◌++◌, get_or, length, set, slice_get, take, take-append-drop, drop, refl, sym, ◌∙◌, ap, subst, Some, None}
 use Rattle.std.proofs.lemmas.Option.{slice_get_within, get_or_from_slice_get}
-use Rattle.std.proofs.lemmas.List.{append-nil, append_assoc, set-get_or, set-set}
+use Rattle.std.proofs.lemmas.List.{append-nil, append_assoc, length-drop, set-get_or, set-set, take_more}
+use Rattle.std.proofs.Math.Seq.{take-length}
 use Rattle.machine_model.specs.Value.{Registers}
 use Rattle.machine_model.specs.Machine.{effect}
 use Rattle.machine_model.specs.Job.{Job}
@@ -53,24 +54,19 @@ behind_led old new numbers j behind leads =
 pub leads_skipped : (kept : Kept) (n : ℕ) → ((j : Job) → IsBehind kept j → Steps kept j n stepped.Skipped kept) → LeadsOn kept (n ∷ []) kept
 leads_skipped kept n steps = leads_more kept kept kept [] n stepped.Skipped (leads_none kept) refl steps
 
--- one more number is gone along
-pub gone_along : (whole numbers rest after : List ℕ) (n : ℕ) → rest ≡ n ∷ after → whole ≡ numbers ++ rest → whole ≡ (numbers ++ n ∷ []) ++ after
-gone_along whole numbers rest after n named is = is ∙ ap (λ ns. numbers ++ ns) named ∙ sym (append_assoc numbers (n ∷ []) after)
-
 abbrev pub first_of : List ℕ → ℕ
 first_of schedule = get_or schedule 0 0
 
--- a schedule that isn't empty has a first entry
-pub first_is : (rest : List ℕ) → 0 < length rest → (after : List ℕ) × (rest ≡ first_of rest ∷ after)
-first_is [] some = absurd (omega arith)
-first_is (n ∷ ns) some = (ns, refl)
+-- one more entry that names the number
+pub take_named : (schedule : List ℕ) (gone n : ℕ) → gone < length schedule → get_or schedule gone 0 ≡ n →
+    take (gone + 1) schedule ≡ take gone schedule ++ n ∷ []
+take_named schedule gone n lt named = take_more schedule gone 0 lt ∙ ap (λ k. take gone schedule ++ k ∷ []) named
 
--- a first entry that is named is the number
-pub named_first : (rest named after : List ℕ) (n first : ℕ) → rest ≡ n ∷ named → rest ≡ first ∷ after → rest ≡ n ∷ after
-named_first rest named after n first is parts =
-    let e : n ∷ named ≡ first ∷ after = sym is ∙ parts in
-    let same : first ≡ n = cc in
-    parts ∙ ap (λ k. k ∷ after) same
+-- what is gone along, and what is left as a slice
+pub parts : (schedule : List ℕ) (gone : ℕ) → schedule ≡ take gone schedule ++ take (length schedule - gone) (drop gone schedule)
+parts schedule gone =
+    sym (take-append-drop gone schedule)
+    ∙ ap (λ rest. take gone schedule ++ rest) (sym (take-length (drop gone schedule)) ∙ ap (λ n. take n (drop gone schedule)) (length-drop gone schedule))
 
 -- ---- a task out of its place
 

@@ -1,6 +1,6 @@
 //! The tasks of a job and the step of one of them.
 
-ghost use Rattle.std.specs.Prelude.{◌≡◌, ℕ, ◌<◌, ◌≤◌, ◌^◌, length, slice_get, List, ◌∷◌, ◌++◌, IsTrue};
+ghost use Rattle.std.specs.Prelude.{◌≡◌, ℕ, ◌<◌, ◌≤◌, ◌^◌, length, slice_get, List, ◌++◌};
 
 use crate::ledger::Ledger;
 use interpreter::{Next, StepOut};
@@ -21,26 +21,6 @@ pub enum Stepped {
     Skipped,
     Went,
     Ended(u64),
-}
-
-/// The schedule without its first entry.
-#[inline(always)]
-fn after_first(schedule: &[u32]) -> &[u32]
-    requires { 0 < length schedule.now }
-    ensures { (first : ℕ) × (schedule.now ≡ first ∷ result.now) }
-{
-    &schedule[1..]
-}
-
-/// Whether the schedule's first entry names this task.
-#[inline(always)]
-fn begins_with(schedule: &[u32], number: u32) -> bool
-    ensures { IsTrue result → (after : List ℕ) × (schedule.now ≡ number ∷ after) }
-{
-    match schedule.first() {
-        Some(first) => *first == number,
-        None => false,
-    }
 }
 
 impl Tasks {
@@ -91,29 +71,26 @@ impl Tasks {
             ..
         } = self;
         let Some(place) = ledger.lives.get_mut(number as usize) else {
-            return after_first(schedule);
+            return &schedule[1..];
         };
         let Some(mut live) = place.take() else {
-            return after_first(schedule);
+            return &schedule[1..];
         };
         let code = &programs[live.program() as usize];
         let mut slot = live.slot();
-        let mut rest = schedule;
-        loop {
+        let mut gone = 0;
+        while gone < schedule.len() && schedule[gone] == number {
+            gone += 1;
             match live.step_at(alloc, code, slot, ledger) {
                 Next::At(next) => slot = next,
                 Next::Ended(r0) => {
                     ledger.report.end(number, live.credit(), r0, live.part());
-                    return after_first(rest);
+                    return &schedule[gone..];
                 }
-            }
-            rest = after_first(rest);
-            if !begins_with(rest, number) {
-                break;
             }
         }
         live.note_slot(slot);
         ledger.lives[number as usize] = Some(live);
-        rest
+        &schedule[gone..]
     }
 }
