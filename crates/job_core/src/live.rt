@@ -122,6 +122,7 @@ impl Live {
     }
 
     /// The slot of its next instruction.
+    #[inline(always)]
     pub fn slot(&self) -> u32
         ensures { result ≡ self.now.frame.slot }
     {
@@ -129,6 +130,7 @@ impl Live {
     }
 
     /// Notes the slot of its next instruction.
+    #[inline(always)]
     pub fn note_slot(&mut self, slot: u32)
         ensures { self.new ≡ record self.old { frame = at_slot self.old.frame slot } }
     {
