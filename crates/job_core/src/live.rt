@@ -9,7 +9,7 @@ ghost use Rattle.interpreter.specs.Behind.{AreBehind, IsCovered, Did, state_of, 
 ghost use Rattle.job_core.specs.Living.{Living};
 
 use helpers::{Part, SpawnRecord, Spawner};
-use interpreter::{Credit, Frame, Next, StepOut};
+use interpreter::{Credit, Frame, Next};
 use refusal::NoMemory;
 use std::alloc::Global;
 use std::marker::Model;
@@ -97,7 +97,6 @@ impl Model for Live {
 }
 
 impl Live {
-    ghost use Rattle.interpreter.specs.declared.frame.StepOut.{StepOut};
     ghost use Rattle.interpreter.specs.declared.frame.Next.TheVariants as Next;
 
     /// The number of its program.
@@ -160,27 +159,5 @@ impl Live {
     {
         let body = &mut *self.body;
         body.frame.step_at(alloc, code, slot, &mut body.part, &mut body.credit, spawner)
-    }
-
-    /// One instruction of its program.
-    #[inline]
-    pub fn step<S: Spawner>(&mut self, alloc: Global, code: &Verified, spawner: &mut S) -> StepOut
-        requires { IsCovered code.now self.old.frame self.old.part self.old.credit }
-        ensures did { (registers : Registers) → AreBehind code.now self.old.frame registers →
-            Did code.now (effect (program_of code.now) (S.entries spawner.old) (state_of self.old.frame self.old.part self.old.credit registers))
-            result self.new.frame self.new.part self.new.credit (spawner.new ≡ spawner.old)
-            (λ child reply. S.spawns spawner.old child reply spawner.new)
-            (λ helper arguments answer. S.calls spawner.old helper arguments answer spawner.new) }
-        ensures covered { result ≡ StepOut.Went → IsCovered code.now self.new.frame self.new.part self.new.credit }
-        ensures base { self.new.part.base ≡ self.old.part.base }
-        ensures program { self.new.program ≡ self.old.program }
-    {
-        match self.step_at(alloc, code, self.slot(), spawner) {
-            Next::At(slot) => {
-                self.note_slot(slot);
-                StepOut::Went
-            }
-            Next::Ended(r0) => StepOut::Ended(r0),
-        }
     }
 }

@@ -3,7 +3,7 @@
 ghost use Rattle.std.specs.Prelude.{◌≡◌, ℕ, ◌<◌, ◌≤◌, ◌^◌, length, slice_get, List, ◌++◌};
 
 use crate::ledger::Ledger;
-use interpreter::{Next, StepOut};
+use interpreter::Next;
 use std::alloc::Global;
 use verifier::Verified;
 
@@ -41,12 +41,13 @@ impl Tasks {
             return Stepped::Skipped;
         };
         let code = &self.programs[live.program() as usize];
-        match live.step(alloc, code, &mut self.ledger) {
-            StepOut::Went => {
+        match live.step_at(alloc, code, live.slot(), &mut self.ledger) {
+            Next::At(next) => {
+                live.note_slot(next);
                 self.ledger.lives[number as usize] = Some(live);
                 Stepped::Went
             }
-            StepOut::Ended(r0) => {
+            Next::Ended(r0) => {
                 self.ledger
                     .report
                     .end(number, live.credit(), r0, live.part());
