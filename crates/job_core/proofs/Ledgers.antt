@@ -18,19 +18,20 @@ use Rattle.job_core.specs.declared.ledger.Ledger.{Ledger}
 use Rattle.job_core.specs.declared.live.Live.{Live}
 use Rattle.job_core.specs.declared.report.TaskEnd.{TaskEnd}
 use Rattle.job_core.specs.declared.tasks.Stepped.TheVariants as stepped
-use Rattle.job_core.specs.Seats.{Adds}
+use Rattle.machine_model.proofs.Places.{set_same, push_old}
+use Rattle.job_core.specs.Seats.{Adds, live_of}
 use Rattle.job_core.specs.Behind.{Kept, end_of, IsBehind, Steps}
 use Rattle.job_core.proofs.OwnPrograms.{nobody, own_did, own_table}
 use Rattle.job_core.proofs.Simulates.{IsLiveAt, live_at, did_either, steps_went, steps_ended, ended_end}
 
-abbrev Told : Ledger → Ledger → SpawnRecord → Result (Unit {0}) SpawnRecord → Type 0
+abbrev pub Told : Ledger → Ledger → SpawnRecord → Result (Unit {0}) SpawnRecord → Type 0
 Told old new child reply = (new.entries.items ≡ old.entries.items)
     × Adds old.lives.items old.report.tasks.items child reply new.lives.items new.report.tasks.items
     × (new.report.buffer.items ≡ old.report.buffer.items)
     × (new.report.spent ≡ old.report.spent) × (new.report.returned ≡ old.report.returned)
 
 -- nothing is left by a call of a caller's helper
-abbrev Asked : Ledger → Ledger → ℕ → List ℕ → ℕ → Type 0
+abbrev pub Asked : Ledger → Ledger → ℕ → List ℕ → ℕ → Type 0
 Asked old new helper arguments answer = (answer ≡ 0) × (new ≡ old)
 
 adds_lives : (lives lives' : List (Option Live)) (ends ends' : List TaskEnd) (child : SpawnRecord) (reply : Result (Unit {0}) SpawnRecord) →
@@ -43,6 +44,13 @@ adds_lives lives lives' ends ends' child (Err back) adds =
     let e : length lives' ≡ length lives = ap length adds.0 in
     let f : length ends' ≡ length ends = ap length adds.1 in
     (omega (arith, e), omega (arith, f))
+
+-- an empty place stays empty
+adds_out : (lives lives' : List (Option Live)) (ends ends' : List TaskEnd) (child : SpawnRecord) (reply : Result (Unit {0}) SpawnRecord) (n : ℕ) →
+    Adds lives ends child reply lives' ends' → slice_get lives n ≡ Some None → slice_get lives' n ≡ Some None
+adds_out lives lives' ends ends' child (Ok done) n adds out =
+    ap (λ (ls : List (Option Live)). slice_get ls n) adds.1 ∙ push_old lives n (Some (live_of child)) None out
+adds_out lives lives' ends ends' child (Err back) n adds out = ap (λ (ls : List (Option Live)). slice_get ls n) adds.0 ∙ out
 
 -- what is kept, by its parts
 kept_is : (k : Kept) (entries : List Entry) (lives lives' : List (Option Live)) (ends ends' : List TaskEnd) (collected collected' : List ℕ) (spent spent' returned returned' : ℕ) →
@@ -119,6 +127,16 @@ module _ (kept : Kept) (n : ℕ) (live : Live) (p : Checked) (out : StepOut) (af
   heard child reply told =
       subst (λ ls. Adds ls kept.ends child reply new.lives.items new.report.tasks.items) lives
       (subst (λ es. Adds old.lives.items es child reply new.lives.items new.report.tasks.items) ends told.1)
+
+  -- a spawn leaves the place of the task that asked for it empty
+  pub still_out : (j : Job) → IsBehind kept j → slice_get new.lives.items n ≡ Some None
+  still_out j behind =
+      let at = live_at kept j n live behind here in
+      let lt = slice_get_within kept.lives n (Some live) here in
+      let out : slice_get old.lives.items n ≡ Some None = ap (λ (ls : List (Option Live)). slice_get ls n) lives ∙ set_same kept.lives n None lt in
+      either (slice_get new.lives.items n ≡ Some None) j at
+      (λ e. ap (λ (l : Ledger). slice_get l.lives.items n) e ∙ out)
+      (λ child reply told. adds_out old.lives.items new.lives.items old.report.tasks.items new.report.tasks.items child reply n told.1 out)
 
   abbrev settled : Live
   settled = record { program = live.program; frame = after.frame; part = after.part; credit = after.credit }

@@ -1,5 +1,5 @@
 -- Which jobs stand behind the tasks that a world keeps.
-use Rattle.std.specs.Prelude.{◌≡◌, ◌↔◌, ℕ, ◌≤◌, List, map, length, take, drop, slice_get, sum_by, Bool, true, false, Option, Some, None}
+use Rattle.std.specs.Prelude.{◌≡◌, ◌↔◌, ℕ, ◌≤◌, List, ◌++◌, map, length, take, drop, slice_get, sum_by, Bool, true, false, Option, Some, None}
 use Rattle.machine_model.specs.declared.program.Entry.{Entry}
 use Rattle.machine_model.specs.Job as job
 use Rattle.machine_model.specs.Job.{Job, Task, Member, state_in, AreTiles, Move, step, run, entry_of, credit_of, spent_by, returned_by, IsAlive, IsComplete}
@@ -128,3 +128,8 @@ pub record Plays (programs : List Checked) (j : Job) (schedule : List ℕ) (kept
   pub behind : IsBehind kept last
   pub always : (i : ℕ) → Reaches (map program_of programs) j (take i moves)
   pub complete : IsFinished kept ↔ IsComplete last
+
+-- Every run to what was kept goes on along these numbers to what is kept.
+pub record LeadsOn (old : Kept) (numbers : List ℕ) (new : Kept) : Type 0 where
+  pub programs : new.programs ≡ old.programs
+  pub plays : (j : Job) (schedule : List ℕ) → Plays old.programs j schedule old → Plays old.programs j (schedule ++ numbers) new

@@ -2,7 +2,7 @@
 
 ghost use Rattle.std.specs.Prelude.{◌≡◌, ◌≤◌, vec_len};
 
-use crate::live::Live;
+use crate::live::{Live, Vacant};
 use crate::report::{Report, TaskEnd};
 use helpers::{Entry, SpawnRecord, Spawner};
 use std::alloc::Global;
@@ -43,7 +43,7 @@ impl Spawner for Ledger {
         if self.lives.reserve(1).is_err() || self.report.tasks.reserve(1).is_err() {
             return Err(child);
         }
-        let Ok(mut live) = Live::vacant(self.alloc) else {
+        let Ok(place) = Vacant::new(self.alloc) else {
             return Err(child);
         };
         let entered = TaskEnd {
@@ -56,8 +56,7 @@ impl Spawner for Ledger {
             r0: 0,
             ran: false,
         };
-        live.enter(child);
-        let _ = self.lives.push(Some(live));
+        let _ = self.lives.push(Some(place.enter(child)));
         let _ = self.report.tasks.push(entered);
         Ok(())
     }

@@ -5,23 +5,75 @@ ghost use Rattle.helpers.specs.Piece.{Piece};
 ghost use Rattle.machine_model.specs.Machine.{effect};
 ghost use Rattle.machine_model.specs.Value.{Registers};
 ghost use Rattle.verifier.specs.Checked.{program_of};
-ghost use Rattle.interpreter.specs.Behind.{AreBehind, IsCovered, Did, state_of, entry_frame};
+ghost use Rattle.interpreter.specs.Behind.{AreBehind, IsCovered, Did, state_of, entry_frame, at_slot, out_of, slot_after};
 ghost use Rattle.job_core.specs.Living.{Living};
 
 use helpers::{Part, SpawnRecord, Spawner};
-use interpreter::{Credit, Frame, StepOut};
+use interpreter::{Credit, Frame, Next};
 use refusal::NoMemory;
 use std::alloc::Global;
 use std::marker::Model;
 use verifier::Verified;
 
-/// The number of a task's program, its frame, its part and its credit.
+/// The number of a task's program, its frame, the slot of its next instruction, its part and its credit. The frame's own slot says
+/// nothing here.
 #[derive(Drop)]
 struct Body {
     program: u16,
+    slot: u32,
     frame: Frame,
     part: Part,
     credit: Credit,
+}
+
+/// A place for a task that starts: a frame of zeros, in a box.
+#[derive(Drop)]
+pub struct Vacant {
+    body: Box<Body>,
+    ghost zeroed: { body.value.frame ≡ record { words = replicate 11 0; stack = replicate 512 0; slot = 0 } },
+}
+
+impl Vacant {
+    ghost use Rattle.helpers.specs.declared.spawner.SpawnRecord.{SpawnRecord};
+
+    /// A place in memory of its own.
+    pub fn new(alloc: Global) -> Result<Vacant, NoMemory> {
+        let body = Body {
+            program: 0,
+            slot: 0,
+            frame: Frame::zeroed(),
+            part: Part::whole(Vec::new(alloc)),
+            credit: Credit { held: 0, used: 0 },
+        };
+        Ok(Vacant {
+            body: Box::new(alloc, body)?,
+        })
+    }
+
+    /// Starts a task in it.
+    pub fn enter(self, child: SpawnRecord) -> Live
+        ensures program { result.program ≡ child.program }
+        ensures frame { result.frame ≡ entry_frame (length child.part.bytes) child.arg }
+        ensures part { result.part ≡ child.part }
+        ensures credit { result.credit ≡ record { held = child.share; used = 0 } }
+    {
+        let Vacant { mut body } = self;
+        let SpawnRecord {
+            program,
+            share,
+            arg,
+            part,
+        } = child;
+        body.program = program;
+        body.slot = 0;
+        body.frame.enter(part.len() as u32, arg);
+        body.part = part;
+        body.credit = Credit {
+            held: share,
+            used: 0,
+        };
+        Live { body }
+    }
 }
 
 /// A live task, in a box: a step takes it from its place and puts it back, which moves one pointer.
@@ -31,60 +83,21 @@ pub struct Live {
 }
 
 impl Model for Live {
+    ghost use Rattle.interpreter.specs.Behind.{at_slot};
     ghost use Rattle.job_core.specs.Living.{Living};
 
     ghost Value = { Living };
 
     ghost view = { λ l. record {
       program = l.body.value.program;
-      frame = l.body.value.frame;
+      frame = at_slot l.body.value.frame l.body.value.slot;
       part = l.body.value.part;
       credit = l.body.value.credit;
     } };
 }
 
 impl Live {
-    ghost use Rattle.helpers.specs.declared.spawner.SpawnRecord.{SpawnRecord};
-    ghost use Rattle.interpreter.specs.declared.frame.StepOut.{StepOut};
-
-    /// A place for a task that starts: a zeroed frame.
-    pub fn vacant(alloc: Global) -> Result<Live, NoMemory>
-        ensures { IfOk result (λ live. live.frame ≡ record { words = replicate 11 0; stack = replicate 512 0; slot = 0 }) }
-    {
-        let body = Body {
-            program: 0,
-            frame: Frame::zeroed(),
-            part: Part::whole(Vec::new(alloc)),
-            credit: Credit { held: 0, used: 0 },
-        };
-        Ok(Live {
-            body: Box::new(alloc, body)?,
-        })
-    }
-
-    /// Starts a task in a vacant place.
-    pub fn enter(&mut self, child: SpawnRecord)
-        requires { self.old.frame ≡ record { words = replicate 11 0; stack = replicate 512 0; slot = 0 } }
-        ensures program { self.new.program ≡ child.program }
-        ensures frame { self.new.frame ≡ entry_frame (length child.part.bytes) child.arg }
-        ensures part { self.new.part ≡ child.part }
-        ensures credit { self.new.credit ≡ record { held = child.share; used = 0 } }
-    {
-        let SpawnRecord {
-            program,
-            share,
-            arg,
-            part,
-        } = child;
-        let body = &mut *self.body;
-        body.program = program;
-        body.frame.enter(part.len() as u32, arg);
-        body.part = part;
-        body.credit = Credit {
-            held: share,
-            used: 0,
-        };
-    }
+    ghost use Rattle.interpreter.specs.declared.frame.Next.TheVariants as Next;
 
     /// The number of its program.
     pub fn program(&self) -> u16
@@ -107,21 +120,44 @@ impl Live {
         self.body.credit
     }
 
-    /// One instruction of its program.
-    #[inline]
-    pub fn step<S: Spawner>(&mut self, alloc: Global, code: &Verified, spawner: &mut S) -> StepOut
-        requires { IsCovered code.now self.old.frame self.old.part self.old.credit }
-        ensures did { (registers : Registers) → AreBehind code.now self.old.frame registers →
-            Did code.now (effect (program_of code.now) (S.entries spawner.old) (state_of self.old.frame self.old.part self.old.credit registers))
-            result self.new.frame self.new.part self.new.credit (spawner.new ≡ spawner.old)
+    /// The slot of its next instruction.
+    #[inline(always)]
+    pub fn slot(&self) -> u32
+        ensures { result ≡ self.now.frame.slot }
+    {
+        self.body.slot
+    }
+
+    /// Notes the slot of its next instruction.
+    #[inline(always)]
+    pub fn note_slot(&mut self, slot: u32)
+        ensures { self.new ≡ record self.old { frame = at_slot self.old.frame slot } }
+    {
+        self.body.slot = slot;
+    }
+
+    /// The instruction at a slot of its program, which is its next one. It stays noted where it was.
+    #[inline(always)]
+    pub fn step_at<S: Spawner>(
+        &mut self,
+        alloc: Global,
+        code: &Verified,
+        slot: u32,
+        spawner: &mut S,
+    ) -> Next
+        requires { IsCovered code.now (at_slot self.old.frame slot) self.old.part self.old.credit }
+        ensures did { (registers : Registers) → AreBehind code.now (at_slot self.old.frame slot) registers →
+            Did code.now (effect (program_of code.now) (S.entries spawner.old)
+            (state_of (at_slot self.old.frame slot) self.old.part self.old.credit registers))
+            (out_of result) (at_slot self.new.frame (slot_after slot result)) self.new.part self.new.credit (spawner.new ≡ spawner.old)
             (λ child reply. S.spawns spawner.old child reply spawner.new)
             (λ helper arguments answer. S.calls spawner.old helper arguments answer spawner.new) }
-        ensures covered { result ≡ StepOut.Went → IsCovered code.now self.new.frame self.new.part self.new.credit }
+        ensures covered { (next : ℕ) → result ≡ Next.At next → IsCovered code.now (at_slot self.new.frame next) self.new.part self.new.credit }
         ensures base { self.new.part.base ≡ self.old.part.base }
         ensures program { self.new.program ≡ self.old.program }
+        ensures slot { self.new.frame.slot ≡ self.old.frame.slot }
     {
         let body = &mut *self.body;
-        body.frame
-            .step(alloc, code, &mut body.part, &mut body.credit, spawner)
+        body.frame.step_at(alloc, code, slot, &mut body.part, &mut body.credit, spawner)
     }
 }

@@ -1,9 +1,9 @@
 //! The tasks of a job and the step of one of them.
 
-ghost use Rattle.std.specs.Prelude.{◌≡◌, ℕ, ◌<◌, ◌≤◌, ◌^◌, length, slice_get};
+ghost use Rattle.std.specs.Prelude.{◌≡◌, ℕ, ◌<◌, ◌≤◌, ◌^◌, length, slice_get, List, ◌++◌};
 
 use crate::ledger::Ledger;
-use interpreter::StepOut;
+use interpreter::Next;
 use std::alloc::Global;
 use verifier::Verified;
 
@@ -25,7 +25,7 @@ pub enum Stepped {
 
 impl Tasks {
     ghost use Rattle.machine_model.specs.Job.{Job};
-    ghost use Rattle.job_core.specs.Behind.{IsBehind, Steps};
+    ghost use Rattle.job_core.specs.Behind.{IsBehind, Steps, LeadsOn};
     ghost use Rattle.job_core.specs.Keeping.{kept_of};
 
     /// One instruction of a task, if it is alive.
@@ -41,17 +41,57 @@ impl Tasks {
             return Stepped::Skipped;
         };
         let code = &self.programs[live.program() as usize];
-        match live.step(alloc, code, &mut self.ledger) {
-            StepOut::Went => {
+        match live.step_at(alloc, code, live.slot(), &mut self.ledger) {
+            Next::At(next) => {
+                live.note_slot(next);
                 self.ledger.lives[number as usize] = Some(live);
                 Stepped::Went
             }
-            StepOut::Ended(r0) => {
+            Next::Ended(r0) => {
                 self.ledger
                     .report
                     .end(number, live.credit(), r0, live.part());
                 Stepped::Ended(r0)
             }
         }
+    }
+
+    /// Goes along a schedule as long as it names the task that it begins with, one instruction for each entry. What is left of it.
+    ///
+    /// The task is taken from its place, and its program looked up, but once.
+    pub fn run<'a>(&mut self, alloc: Global, schedule: &'a [u32]) -> &'a [u32]
+        requires behind { (j : Job) × IsBehind (kept_of self.old) j }
+        requires some { 0 < length schedule.now }
+        ensures leads { (numbers : List ℕ) × (schedule.now ≡ numbers ++ result.now) × LeadsOn (kept_of self.old) numbers (kept_of self.new) }
+        ensures shorter { length result.now < length schedule.now }
+    {
+        let number = schedule[0];
+        let Tasks {
+            programs,
+            ledger,
+            ..
+        } = self;
+        let Some(place) = ledger.lives.get_mut(number as usize) else {
+            return &schedule[1..];
+        };
+        let Some(mut live) = place.take() else {
+            return &schedule[1..];
+        };
+        let code = &programs[live.program() as usize];
+        let mut slot = live.slot();
+        let mut gone = 0;
+        while gone < schedule.len() && schedule[gone] == number {
+            gone += 1;
+            match live.step_at(alloc, code, slot, ledger) {
+                Next::At(next) => slot = next,
+                Next::Ended(r0) => {
+                    ledger.report.end(number, live.credit(), r0, live.part());
+                    return &schedule[gone..];
+                }
+            }
+        }
+        live.note_slot(slot);
+        ledger.lives[number as usize] = Some(live);
+        &schedule[gone..]
     }
 }

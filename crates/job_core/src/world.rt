@@ -5,7 +5,7 @@ ghost use Rattle.std.specs.Prelude.{◌≡◌, IfOk};
 use crate::filling::fill;
 use crate::job::Job;
 use crate::ledger::Ledger;
-use crate::live::Live;
+use crate::live::Vacant;
 use crate::report::{Report, TaskEnd};
 use crate::tasks::{Stepped, Tasks};
 use crate::totals::{Totals, used_by_live};
@@ -33,10 +33,10 @@ impl Model for World {
 }
 
 impl World {
-    ghost use Rattle.std.specs.Prelude.{◌≡◌, ◌↔◌, IfOk, IfErr, IfSome, IsSome, IsTrue};
+    ghost use Rattle.std.specs.Prelude.{◌≡◌, ℕ, ◌<◌, ◌↔◌, List, ◌++◌, length, IfOk, IfErr, IfSome, IsSome, IsTrue};
     ghost use Rattle.machine_model.specs.Job as model;
     ghost use Rattle.machine_model.specs.Job.{start, IsAlive, IsComplete};
-    ghost use Rattle.job_core.specs.Behind.{IsBehind, Steps};
+    ghost use Rattle.job_core.specs.Behind.{IsBehind, Steps, LeadsOn};
     ghost use Rattle.job_core.specs.Answers.{AreTotals, IsReportOf};
 
     /// The job at its start: the root alone, with all the credit and the whole buffer.
@@ -58,8 +58,7 @@ impl World {
             })?;
         }
         let size = buffer.len();
-        let mut root = Live::vacant(alloc)?;
-        root.enter(SpawnRecord {
+        let root = Vacant::new(alloc)?.enter(SpawnRecord {
             program: 0,
             share: credit,
             arg: 0,
@@ -105,6 +104,15 @@ impl World {
         ensures programs { self.new.programs ≡ self.old.programs }
     {
         self.tasks.step(alloc, number)
+    }
+
+    /// Goes along a schedule as long as it names the task that it begins with, one instruction for each entry. What is left of it.
+    fn run<'a>(&mut self, alloc: Global, schedule: &'a [u32]) -> &'a [u32]
+        requires { 0 < length schedule.now }
+        ensures leads { (numbers : List ℕ) × (schedule.now ≡ numbers ++ result.now) × LeadsOn self.old numbers self.new }
+        ensures shorter { length result.now < length schedule.now }
+    {
+        self.tasks.run(alloc, schedule)
     }
 
     /// Whether the task is alive.
@@ -197,8 +205,9 @@ pub fn play(alloc: Global, job: Job, schedule: &[u32]) -> Result<World, NoMemory
     ensures { IfOk result (λ world. Plays job.programs (start job.credit job.buffer) schedule.now world) }
 {
     let mut world = World::open(alloc, job)?;
-    for number in schedule {
-        let _ = world.step(alloc, *number);
+    let mut rest = schedule;
+    while !rest.is_empty() {
+        rest = world.run(alloc, rest);
     }
     Ok(world)
 }

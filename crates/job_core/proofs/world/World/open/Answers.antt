@@ -34,13 +34,13 @@ invariant_of-result-2 c =
     let are = entries_past c.deref-program-items.result.now c.job.inside.programs.items c.loop-program.program-index c.loop-program.entries.items
     c.deref-program-items.ensures.value past c.loop-program.invariant in
     let size : c.len-size.result ≡ length c.job.inside.buffer.items = search rules in
-    let entered = c.enter.ensures.frame ∙ ap (λ n. entry_frame n 0) (ap length c.whole.ensures.bytes ∙ sym size) in
-    let root = living_is c.enter.new.self 0 c.enter.new.self.frame c.whole.result (record { held = c.job.inside.credit; used = 0 })
-    c.enter.ensures.program refl c.enter.ensures.part c.enter.ensures.credit in
+    let entered = c.enter-root.ensures.frame ∙ ap (λ n. entry_frame n 0) (ap length c.whole.ensures.bytes ∙ sym size) in
+    let root = living_is c.enter-root.result 0 c.enter-root.result.frame c.whole.result (record { held = c.job.inside.credit; used = 0 })
+    c.enter-root.ensures.program refl c.enter-root.ensures.part c.enter-root.ensures.credit in
     let zeros : length c.in_ok-collected.collected.items ≡ c.len-size.result = search rules in (
       start c.job.inside.credit c.job.inside.buffer.items,
       opened (record { programs = c.job.inside.programs.items; credit = c.job.inside.credit; buffer = c.job.inside.buffer.items })
-          c.loop-program.entries.items c.enter.new.self.frame c.whole.result c.len-size.result _ c.push-2.new.self.items _ c.push-3.new.self.items _
+          c.loop-program.entries.items c.enter-root.result.frame c.whole.result c.len-size.result _ c.push-2.new.self.items _ c.push-3.new.self.items _
           c.job.invariant are c.whole.ensures.bytes c.whole.ensures.base entered size
           c.new-lives.ensures.items (c.in_ok-push-2.ensures.items ∙ ap (λ (l : Living). c.new-lives.result.items ++ Some l ∷ []) root) c.new-tasks.ensures.items c.in_ok-push-3.ensures.items zeros,
     )
@@ -51,12 +51,12 @@ returns-clause-start c =
     let are = entries_past c.deref-program-items.result.now c.job.inside.programs.items c.loop-program.program-index c.loop-program.entries.items
     c.deref-program-items.ensures.value past c.loop-program.invariant in
     let size : c.len-size.result ≡ length c.job.inside.buffer.items = search rules in
-    let entered = c.enter.ensures.frame ∙ ap (λ n. entry_frame n 0) (ap length c.whole.ensures.bytes ∙ sym size) in
-    let root = living_is c.enter.new.self 0 c.enter.new.self.frame c.whole.result (record { held = c.job.inside.credit; used = 0 })
-    c.enter.ensures.program refl c.enter.ensures.part c.enter.ensures.credit in
+    let entered = c.enter-root.ensures.frame ∙ ap (λ n. entry_frame n 0) (ap length c.whole.ensures.bytes ∙ sym size) in
+    let root = living_is c.enter-root.result 0 c.enter-root.result.frame c.whole.result (record { held = c.job.inside.credit; used = 0 })
+    c.enter-root.ensures.program refl c.enter-root.ensures.part c.enter-root.ensures.credit in
     let zeros : length c.in_ok-collected.collected.items ≡ c.len-size.result = search rules in
     rw (← c.job.view_is)
     (opened (record { programs = c.job.inside.programs.items; credit = c.job.inside.credit; buffer = c.job.inside.buffer.items })
-    c.loop-program.entries.items c.enter.new.self.frame c.whole.result c.len-size.result _ c.push-2.new.self.items _ c.push-3.new.self.items _
+    c.loop-program.entries.items c.enter-root.result.frame c.whole.result c.len-size.result _ c.push-2.new.self.items _ c.push-3.new.self.items _
     c.job.invariant are c.whole.ensures.bytes c.whole.ensures.base entered size
     c.new-lives.ensures.items (c.in_ok-push-2.ensures.items ∙ ap (λ (l : Living). c.new-lives.result.items ++ Some l ∷ []) root) c.new-tasks.ensures.items c.in_ok-push-3.ensures.items zeros)

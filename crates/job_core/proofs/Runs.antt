@@ -1,0 +1,164 @@
+-- A task that is out of its place goes on along a schedule.
+use Rattle.std.proofs.Common.{◌≡◌, ℕ, ◌<◌, ◌+◌, ◌-◌, List, [], ◌∷◌, ◌++◌, get_or, length, set, slice_get, take, take-append-drop, drop, refl, sym, ◌∙◌, ap, subst, Some, None}
+use Rattle.std.proofs.lemmas.Option.{slice_get_within, get_or_from_slice_get}
+use Rattle.std.proofs.lemmas.List.{append-nil, append_assoc, length-drop, set-get_or, set-set, take_more}
+use Rattle.std.proofs.Math.Seq.{take-length}
+use Rattle.machine_model.specs.Value.{Registers}
+use Rattle.machine_model.specs.Machine.{effect}
+use Rattle.machine_model.specs.Job.{Job}
+use Rattle.machine_model.proofs.Places.{set_same}
+use Rattle.verifier.specs.Checked.{Checked, program_of}
+use Rattle.interpreter.specs.declared.frame.Next.{Next}
+use Rattle.interpreter.specs.declared.frame.Next.TheVariants.{At, Ended}
+use Rattle.interpreter.specs.Behind.{AreBehind, IsCovered, Did, at_slot, out_of, slot_after, state_of}
+use Rattle.job_core.specs.declared.ledger.Ledger.{Ledger}
+use Rattle.job_core.specs.declared.live.Live.{Live}
+use Rattle.job_core.specs.declared.tasks.Stepped.{Stepped}
+use Rattle.job_core.specs.declared.tasks.Stepped.TheVariants as stepped
+use Rattle.job_core.specs.declared.tasks.Tasks.{Tasks}
+use Rattle.job_core.specs.Behind.{Kept, IsBehind, LeadsOn, Plays, Steps}
+use Rattle.job_core.specs.Keeping.{kept_of}
+use Rattle.job_core.proofs.Ledgers.{Told, Asked, Noting, ledger_went, ledger_ended, still_out}
+use Rattle.job_core.proofs.Plays.{plays_more, plays_none}
+use Rattle.job_core.proofs.Simulates.{live_at}
+
+-- ---- runs that lead on
+
+pub leads_none : (kept : Kept) → LeadsOn kept [] kept
+leads_none kept = record {
+  programs = refl;
+  plays = λ j schedule plays. subst (λ ns. Plays kept.programs j ns kept) (sym (append-nil schedule)) plays;
+}
+
+pub leads_more : (old mid new : Kept) (numbers : List ℕ) (n : ℕ) (out : Stepped) → LeadsOn old numbers mid → new.programs ≡ mid.programs →
+    ((j : Job) → IsBehind mid j → Steps mid j n out new) → LeadsOn old (numbers ++ n ∷ []) new
+leads_more old mid new numbers n out so_far same steps = record {
+  programs = same ∙ so_far.programs;
+  plays = λ j schedule plays. subst (λ ns. Plays old.programs j ns new) (append_assoc schedule numbers (n ∷ []))
+      (plays_more old.programs j (schedule ++ numbers) n out mid new so_far.programs (so_far.plays j schedule plays) steps);
+}
+
+-- what leads on leads from each run on
+pub plays_led : (programs : List Checked) (j : Job) (schedule numbers : List ℕ) (old new : Kept) → old.programs ≡ programs →
+    Plays programs j schedule old → LeadsOn old numbers new → Plays programs j (schedule ++ numbers) new
+plays_led programs j schedule numbers old new same plays leads =
+    subst (λ ps. Plays ps j (schedule ++ numbers) new) same
+    (leads.plays j schedule (subst (λ ps. Plays ps j schedule old) (sym same) plays))
+
+-- a job stands behind what is led to
+pub behind_led : (old new : Kept) (numbers : List ℕ) (j : Job) → IsBehind old j → LeadsOn old numbers new → (k : Job) × IsBehind new k
+behind_led old new numbers j behind leads =
+    let plays = leads.plays j [] (plays_none old.programs j old behind) in (plays.last, plays.behind)
+
+-- an entry that names no live task changes nothing
+pub leads_skipped : (kept : Kept) (n : ℕ) → ((j : Job) → IsBehind kept j → Steps kept j n stepped.Skipped kept) → LeadsOn kept (n ∷ []) kept
+leads_skipped kept n steps = leads_more kept kept kept [] n stepped.Skipped (leads_none kept) refl steps
+
+abbrev pub first_of : List ℕ → ℕ
+first_of schedule = get_or schedule 0 0
+
+-- one more entry that names the number
+pub take_named : (schedule : List ℕ) (gone n : ℕ) → gone < length schedule → get_or schedule gone 0 ≡ n →
+    take (gone + 1) schedule ≡ take gone schedule ++ n ∷ []
+take_named schedule gone n lt named = take_more schedule gone 0 lt ∙ ap (λ k. take gone schedule ++ k ∷ []) named
+
+-- what is gone along, and what is left as a slice
+pub parts : (schedule : List ℕ) (gone : ℕ) → schedule ≡ take gone schedule ++ take (length schedule - gone) (drop gone schedule)
+parts schedule gone =
+    sym (take-append-drop gone schedule)
+    ∙ ap (λ rest. take gone schedule ++ rest) (sym (take-length (drop gone schedule)) ∙ ap (λ n. take n (drop gone schedule)) (length-drop gone schedule))
+
+-- ---- a task out of its place
+
+-- the task with this slot as its next
+abbrev pub living_at : Live → ℕ → Live
+living_at live slot = record live { frame = at_slot live.frame slot }
+
+-- what is kept with the task in its place
+abbrev pub standing : Kept → ℕ → Live → Kept
+standing kept n live = record kept { lives = set kept.lives n (Some live) }
+
+-- The task is out of its place. With it there, what was kept leads on along these numbers to what is kept.
+pub record IsUnderWay (old now : Kept) (numbers : List ℕ) (n : ℕ) (live : Live) (slot : ℕ) (code : Checked) : Type 0 where
+  pub out : slice_get now.lives n ≡ Some None
+  pub read : code ≡ get_or now.programs live.program code
+  pub behind : (j : Job) × IsBehind (standing now n (living_at live slot)) j
+  pub leads : LeadsOn old numbers (standing now n (living_at live slot))
+
+-- a list with what stands in a place put there
+same_set : {X : Type 0} (xs : List X) (n : ℕ) (x : X) → slice_get xs n ≡ Some x → set xs n x ≡ xs
+same_set xs n x here = ap (set xs n) (sym (get_or_from_slice_get xs n x x here)) ∙ set-get_or xs n x
+
+-- the task is taken from its place
+pub sets_out : (kept : Kept) (n : ℕ) (live : Live) (code : Checked) → slice_get kept.lives n ≡ Some (Some live) →
+    code ≡ get_or kept.programs live.program code → (j : Job) × IsBehind kept j →
+    IsUnderWay kept (record kept { lives = set kept.lives n None }) [] n live live.frame.slot code
+sets_out kept n live code here read behind =
+    let back : kept.lives ≡ set (set kept.lives n None) n (Some live) =
+    sym (set-set kept.lives n None (Some live) ∙ same_set kept.lives n (Some live) here) in
+    let same : kept ≡ standing (record kept { lives = set kept.lives n None }) n live =
+    ap (λ ls. let k : Kept = record kept { lives = ls } in k) back in
+    record {
+      out = set_same kept.lives n None (slice_get_within kept.lives n (Some live) here);
+      read = read;
+      behind = (behind.0, subst (λ k. IsBehind k behind.0) same behind.1);
+      leads = subst (λ k. LeadsOn kept [] k) same (leads_none kept);
+    }
+
+module _ (old : Kept) (tasks : Tasks) (numbers : List ℕ) (n : ℕ) (live : Live) (slot : ℕ) (code : Checked)
+    (way : IsUnderWay old (kept_of tasks) numbers n live slot code) where
+  pub within : n < length tasks.ledger.lives.items
+  within = slice_get_within tasks.ledger.lives.items n None way.out
+
+  abbrev pub place : Kept
+  place = standing (kept_of tasks) n (living_at live slot)
+
+  pub here : slice_get place.lives n ≡ Some (Some (living_at live slot))
+  here = set_same tasks.ledger.lives.items n (Some (living_at live slot)) within
+
+  -- its program covers it
+  pub covered_there : IsCovered code (at_slot live.frame slot) live.part live.credit
+  covered_there =
+      let at = live_at place way.behind.0 n (living_at live slot) way.behind.1 here in
+      let same : code ≡ at.checked = way.read ∙ get_or_from_slice_get place.programs live.program at.checked code at.program in
+      subst (λ (p : Checked). IsCovered p (at_slot live.frame slot) live.part live.credit) (sym same) at.is.covered
+
+  pub lives_are : tasks.ledger.lives.items ≡ set place.lives n None
+  lives_are = sym (set-set tasks.ledger.lives.items n (Some (living_at live slot)) None ∙ same_set tasks.ledger.lives.items n None way.out)
+
+  module _ (next : Next) (after : Live) (ledger : Ledger) (base : after.part.base ≡ live.part.base) (same_number : after.program ≡ live.program)
+      (did : (registers : Registers) → AreBehind code (at_slot live.frame slot) registers →
+      Did code (effect (program_of code) (slice_get tasks.ledger.entries.items) (state_of (at_slot live.frame slot) live.part live.credit registers))
+      (out_of next) (at_slot after.frame (slot_after slot next)) after.part after.credit
+      (ledger ≡ tasks.ledger) (Told tasks.ledger ledger) (Asked tasks.ledger ledger)) where
+    abbrev pub then_at : Live
+    then_at = living_at after (slot_after slot next)
+
+    abbrev pub then_kept : Kept
+    then_kept = kept_of (record tasks { ledger = ledger })
+
+    -- it goes on
+    pub way_on : (to : ℕ) → next ≡ At to → IsCovered code (at_slot after.frame to) after.part after.credit →
+        IsUnderWay old then_kept (numbers ++ n ∷ []) n after to code
+    way_on to is covered =
+        let reached : slot_after slot next ≡ to = ap (slot_after slot) is in
+        let steps : (j : Job) → IsBehind place j → Steps place j n stepped.Went (standing then_kept n then_at) = λ j behind.
+        ledger_went place n (living_at live slot) code (out_of next) then_at tasks.ledger ledger here way.read base same_number
+        refl lives_are refl refl refl refl did j behind (ap out_of is)
+        (subst (λ s. IsCovered code (at_slot after.frame s) after.part after.credit) (sym reached) covered) in
+        let first = steps way.behind.0 way.behind.1 in
+        subst (λ s. IsUnderWay old then_kept (numbers ++ n ∷ []) n after s code) reached (record {
+          out = still_out place n (living_at live slot) code (out_of next) then_at tasks.ledger ledger here way.read base same_number
+              refl lives_are refl refl refl refl did way.behind.0 way.behind.1;
+          read = way.read ∙ ap (λ number. get_or tasks.programs.items number code) (sym same_number);
+          behind = (first.1, first.3);
+          leads = leads_more old place (standing then_kept n then_at) numbers n stepped.Went way.leads refl steps;
+        })
+
+    -- it ends
+    pub way_ends : (j : Job) → IsBehind place j → (word : ℕ) → next ≡ Ended word →
+        Noting place n (living_at live slot) code (out_of next) then_at tasks.ledger ledger here way.read base same_number
+        refl lives_are refl refl refl refl did j word
+    way_ends j behind word is =
+        ledger_ended place n (living_at live slot) code (out_of next) then_at tasks.ledger ledger here way.read base same_number
+        refl lives_are refl refl refl refl did j behind word (ap out_of is)
