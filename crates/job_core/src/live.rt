@@ -15,15 +15,12 @@ use std::alloc::Global;
 use std::marker::Model;
 use verifier::Verified;
 
-/// The number of a task's program, its frame, the slot of its next instruction, its part and its credit. The frame's own slot says
-/// nothing here.
+/// The number of a task's program, its frame and its part. The frame's own slot says nothing here.
 #[derive(Drop)]
 struct Body {
     program: u16,
-    slot: u32,
     frame: Frame,
     part: Part,
-    credit: Credit,
 }
 
 /// A place for a task that starts: a frame of zeros, in a box.
@@ -40,10 +37,8 @@ impl Vacant {
     pub fn new(alloc: Global) -> Result<Vacant, NoMemory> {
         let body = Body {
             program: 0,
-            slot: 0,
             frame: Frame::zeroed(),
             part: Part::whole(Vec::new(alloc)),
-            credit: Credit { held: 0, used: 0 },
         };
         Ok(Vacant {
             body: Box::new(alloc, body)?,
@@ -65,20 +60,25 @@ impl Vacant {
             part,
         } = child;
         body.program = program;
-        body.slot = 0;
         body.frame.enter(part.len() as u32, arg);
         body.part = part;
-        body.credit = Credit {
-            held: share,
-            used: 0,
-        };
-        Live { body }
+        Live {
+            slot: 0,
+            credit: Credit {
+                held: share,
+                used: 0,
+            },
+            body,
+        }
     }
 }
 
-/// A live task, in a box: a step takes it from its place and puts it back, which moves one pointer.
+/// A live task: the slot of its next instruction and its credit, which each step changes, and the rest in a box. A run of steps
+/// takes it from its place, which moves a few words, and holds these two in registers.
 #[derive(Drop)]
 pub struct Live {
+    slot: u32,
+    credit: Credit,
     body: Box<Body>,
 }
 
@@ -90,9 +90,9 @@ impl Model for Live {
 
     ghost view = { λ l. record {
       program = l.body.value.program;
-      frame = at_slot l.body.value.frame l.body.value.slot;
+      frame = at_slot l.body.value.frame l.slot;
       part = l.body.value.part;
-      credit = l.body.value.credit;
+      credit = l.credit;
     } };
 }
 
@@ -117,7 +117,7 @@ impl Live {
     pub fn credit(&self) -> Credit
         ensures { result ≡ self.now.credit }
     {
-        self.body.credit
+        self.credit
     }
 
     /// The slot of its next instruction.
@@ -125,7 +125,7 @@ impl Live {
     pub fn slot(&self) -> u32
         ensures { result ≡ self.now.frame.slot }
     {
-        self.body.slot
+        self.slot
     }
 
     /// Notes the slot of its next instruction.
@@ -133,7 +133,7 @@ impl Live {
     pub fn note_slot(&mut self, slot: u32)
         ensures { self.new ≡ record self.old { frame = at_slot self.old.frame slot } }
     {
-        self.body.slot = slot;
+        self.slot = slot;
     }
 
     /// The instruction at a slot of its program, which is its next one. It stays noted where it was.
@@ -158,6 +158,6 @@ impl Live {
         ensures slot { self.new.frame.slot ≡ self.old.frame.slot }
     {
         let body = &mut *self.body;
-        body.frame.step_at(alloc, code, slot, &mut body.part, &mut body.credit, spawner)
+        body.frame.step_at(alloc, code, slot, &mut body.part, &mut self.credit, spawner)
     }
 }

@@ -59,7 +59,6 @@ impl Tasks {
     /// Goes along a schedule as long as it names the task that it begins with, one instruction for each entry. What is left of it.
     ///
     /// The task is taken from its place, and its program looked up, but once.
-    #[inline(never)]
     pub fn run<'a>(&mut self, alloc: Global, schedule: &'a [u32]) -> &'a [u32]
         requires behind { (j : Job) × IsBehind (kept_of self.old) j }
         requires some { 0 < length schedule.now }
