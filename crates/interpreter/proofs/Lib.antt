@@ -16,3 +16,4 @@ pub mod Asking
 pub mod Running
 pub mod Answering
 pub mod Dispatch
+pub mod Stretches

@@ -2,6 +2,7 @@ pub mod Telling
 pub mod Operands
 pub mod Access
 pub mod Behind
+pub mod Stretch
 pub mod Functions
 pub mod VmFaultCodes
 pub mod Executes

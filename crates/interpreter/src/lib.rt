@@ -15,12 +15,14 @@ mod progress;
 mod registered;
 mod site;
 mod spawning;
+mod stretch;
 mod vm;
 mod vm_fault;
 
 pub use credit::Credit;
 pub use frame::{Frame, Next, StepOut};
 pub use registered::Function;
+pub use stretch::Ran;
 pub use vm::Vm;
 pub use vm_fault::VmFault;
 

@@ -1,5 +1,5 @@
 -- A task that is out of its place goes on along a schedule.
-use Rattle.std.proofs.Common.{◌≡◌, ℕ, ◌<◌, ◌+◌, ◌-◌, List, [], ◌∷◌, ◌++◌, get_or, length, set, slice_get, take, take-append-drop, drop, refl, sym, ◌∙◌, ap, subst, Some, None}
+use Rattle.std.proofs.Common.{◌≡◌, ℕ, zero, suc, ◌<◌, ◌≤◌, arith, ◌+◌, ◌-◌, List, [], ◌∷◌, ◌++◌, get_or, length, set, slice_get, take, take-append-drop, drop, refl, sym, ◌∙◌, ap, subst, Some, None}
 use Rattle.std.proofs.lemmas.Option.{slice_get_within, get_or_from_slice_get}
 use Rattle.std.proofs.lemmas.List.{append-nil, append_assoc, length-drop, set-get_or, set-set, take_more}
 use Rattle.std.proofs.Math.Seq.{take-length}
@@ -10,7 +10,10 @@ use Rattle.machine_model.proofs.Places.{set_same}
 use Rattle.verifier.specs.Checked.{Checked, program_of}
 use Rattle.interpreter.specs.declared.frame.Next.{Next}
 use Rattle.interpreter.specs.declared.frame.Next.TheVariants.{At, Ended}
+use Rattle.helpers.specs.Piece.{Piece}
+use Rattle.interpreter.specs.declared.frame.Frame.{Frame}
 use Rattle.interpreter.specs.Behind.{AreBehind, IsCovered, Did, at_slot, out_of, slot_after, state_of}
+use Rattle.interpreter.specs.Stretch.{GoesOn, spent_on}
 use Rattle.job_core.specs.declared.ledger.Ledger.{Ledger}
 use Rattle.job_core.specs.declared.live.Live.{Live}
 use Rattle.job_core.specs.declared.tasks.Stepped.{Stepped}
@@ -162,3 +165,37 @@ module _ (old : Kept) (tasks : Tasks) (numbers : List ℕ) (n : ℕ) (live : Liv
     way_ends j behind word is =
         ledger_ended place n (living_at live slot) code (out_of next) then_at tasks.ledger ledger here way.read base same_number
         refl lives_are refl refl refl refl did j behind word (ap out_of is)
+
+-- ---- a stretch of a task out of its place
+
+-- the task behind a stretch
+abbrev pub living_on : Live → ℕ → Frame → Piece → Live
+living_on live n frame part = record live { frame = frame; part = part; credit = spent_on live.credit n }
+
+module _ (old : Kept) (tasks : Tasks) (schedule : List ℕ) (gone n : ℕ) (live : Live) (slot : ℕ) (code : Checked)
+    (way : IsUnderWay old (kept_of tasks) (take gone schedule) n live slot code) where
+  -- it goes on by so many instructions, where as many entries name it
+  pub way_stretch : (k : ℕ) (mid : Frame) (mid_part : Piece) → GoesOn code live.credit k (at_slot live.frame slot) live.part mid mid_part →
+      gone + k ≤ length schedule → ((i : ℕ) → i < gone + k → get_or schedule i 0 ≡ n) →
+      IsUnderWay old (kept_of tasks) (take (gone + k) schedule) n (living_on live k mid mid_part) mid.slot code
+      × (mid_part.base ≡ live.part.base)
+  way_stretch zero mid mid_part goes within named = (
+    rw (goes.0, goes.1) way,
+    ap (λ (q : Piece). q.base) goes.1,
+  )
+  way_stretch (suc k) mid mid_part goes within named =
+      let from : Frame = goes.0 in
+      let from_part : Piece = goes.1 in
+      let last = goes.3 in
+      let lt : gone + k < length schedule = omega (arith, within) in
+      let before = way_stretch k from from_part goes.2 (omega (arith, within)) (λ i less. named i (omega (arith, less))) in
+      let on = way_on old tasks (take (gone + k) schedule) n (living_on live k from from_part) from.slot code before.0
+      (At mid.slot) (living_on live (suc k) mid mid_part) tasks.ledger last.base refl
+      (λ registers behind.
+      let goes_to = last.goes (slice_get tasks.ledger.entries.items) registers behind in
+      rw goes_to.2 ((refl, goes_to.1), refl))
+      mid.slot refl last.covered in (
+        subst (λ ns. IsUnderWay old (kept_of tasks) ns n (living_on live (suc k) mid mid_part) mid.slot code)
+            (sym (take_named schedule (gone + k) n lt (named (gone + k) (omega arith)))) on,
+        last.base ∙ before.1,
+      )

@@ -6,10 +6,11 @@ ghost use Rattle.machine_model.specs.Machine.{effect};
 ghost use Rattle.machine_model.specs.Value.{Registers};
 ghost use Rattle.verifier.specs.Checked.{program_of};
 ghost use Rattle.interpreter.specs.Behind.{AreBehind, IsCovered, Did, state_of, entry_frame, at_slot, out_of, slot_after};
+ghost use Rattle.interpreter.specs.Stretch as stretch;
 ghost use Rattle.job_core.specs.Living.{Living};
 
 use helpers::{Part, SpawnRecord, Spawner};
-use interpreter::{Credit, Frame, Next};
+use interpreter::{Credit, Frame, Next, Ran};
 use refusal::NoMemory;
 use std::alloc::Global;
 use std::marker::Model;
@@ -159,5 +160,35 @@ impl Live {
     {
         let body = &mut *self.body;
         body.frame.step_at(alloc, code, slot, &mut body.part, &mut self.credit, spawner)
+    }
+
+    /// The instructions from a slot of its program on, which is its next one: `limit` at most, up to and with the first that ends
+    /// it or calls a helper. The slot stays noted where it was.
+    #[inline(always)]
+    pub fn run_at<S: Spawner>(
+        &mut self,
+        alloc: Global,
+        code: &Verified,
+        slot: u32,
+        limit: usize,
+        spawner: &mut S,
+    ) -> Ran
+        requires covered { IsCovered code.now (at_slot self.old.frame slot) self.old.part self.old.credit }
+        requires some { 0 < limit }
+        ensures ran { stretch.Ran code.now self.old.credit limit result.count (at_slot self.old.frame slot) self.old.part (λ frame part credit.
+            (registers : Registers) → AreBehind code.now frame registers →
+            Did code.now (effect (program_of code.now) (S.entries spawner.old) (state_of frame part credit registers))
+            (out_of result.next) (at_slot self.new.frame (slot_after frame.slot result.next)) self.new.part self.new.credit (spawner.new ≡ spawner.old)
+            (λ child reply. S.spawns spawner.old child reply spawner.new)
+            (λ helper arguments answer. S.calls spawner.old helper arguments answer spawner.new)) }
+        ensures covered { (next : ℕ) → result.next ≡ Next.At next → IsCovered code.now (at_slot self.new.frame next) self.new.part self.new.credit }
+        ensures base { self.new.part.base ≡ self.old.part.base }
+        ensures program { self.new.program ≡ self.old.program }
+        ensures slot { self.new.frame.slot ≡ self.old.frame.slot }
+        ensures most { result.count ≤ limit }
+    {
+        let body = &mut *self.body;
+        body.frame
+            .run_at(alloc, code, slot, limit, &mut body.part, &mut self.credit, spawner)
     }
 }

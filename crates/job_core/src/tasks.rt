@@ -3,6 +3,7 @@
 ghost use Rattle.std.specs.Prelude.{◌≡◌, ℕ, ◌<◌, ◌≤◌, ◌^◌, length, slice_get, List, ◌++◌};
 
 use crate::ledger::Ledger;
+use crate::schedule::named_alike;
 use interpreter::Next;
 use std::alloc::Global;
 use verifier::Verified;
@@ -78,11 +79,13 @@ impl Tasks {
             return &schedule[1..];
         };
         let code = &programs[live.program() as usize];
+        let named = named_alike(schedule);
         let mut slot = live.slot();
         let mut gone = 0;
-        while gone < schedule.len() && schedule[gone] == number {
-            gone += 1;
-            match live.step_at(alloc, code, slot, ledger) {
+        while gone < named {
+            let ran = live.run_at(alloc, code, slot, named - gone, ledger);
+            gone += ran.count;
+            match ran.next {
                 Next::At(next) => slot = next,
                 Next::Ended(r0) => {
                     ledger.report.end(number, live.credit(), r0, live.part());

@@ -56,84 +56,15 @@ loop-gone-init c =
       within = omega arith;
     }
 
-pub step_at-requires : goal.step_at-requires
-step_at-requires c =
-    covered_there (kept_of c.args.self.now) (record c.args.self.now { ledger = c.loop-gone.ledger }) (take c.loop-gone.gone c.args.schedule.now)
-    (first_of c.args.schedule.now) c.loop-gone.live c.loop-gone.slot c.index-code.result.now c.loop-gone.invariant.way
+pub run_at-requires : goal.run_at-requires
+run_at-requires c = record {
+  covered = covered_there (kept_of c.args.self.now) (record c.args.self.now { ledger = c.loop-gone.ledger }) (take c.loop-gone.gone c.args.schedule.now)
+      (first_of c.args.schedule.now) c.loop-gone.live c.loop-gone.slot c.index-code.result.now c.loop-gone.invariant.way;
+  some = let more = c.loop-gone-test.true in omega (arith, more);
+}
 
 pub loop-gone-preserved : goal.loop-gone-preserved
-loop-gone-preserved c =
-    let on = way_on (kept_of c.args.self.now) (record c.args.self.now { ledger = c.loop-gone.ledger }) (take c.loop-gone.gone c.args.schedule.now)
-    (first_of c.args.schedule.now) c.loop-gone.live c.loop-gone.slot c.index-code.result.now c.loop-gone.invariant.way
-    c.step_at.result c.step_at.new.self c.step_at.new.spawner c.step_at.ensures.base c.step_at.ensures.program c.step_at.ensures.did
-    c.in-At.next c.in-At.is (c.step_at.ensures.covered c.in-At.next c.in-At.is) in
-    record {
-      way = rw (take_named c.args.schedule.now c.loop-gone.gone (first_of c.args.schedule.now) c.loop-gone-test.true c.if-schedule-gone.true) on;
-      within = omega (arith, c.loop-gone-test.true);
-    }
-
-pub end-requires-clause-there : goal.end-requires-clause-there
-end-requires-clause-there c =
-    let way = c.loop-gone.invariant.way in
-    let noting = way_ends (kept_of c.args.self.now) (record c.args.self.now { ledger = c.loop-gone.ledger }) (take c.loop-gone.gone c.args.schedule.now)
-    (first_of c.args.schedule.now) c.loop-gone.live c.loop-gone.slot c.index-code.result.now way
-    c.step_at.result c.step_at.new.self c.step_at.new.spawner c.step_at.ensures.base c.step_at.ensures.program c.step_at.ensures.did
-    way.behind.0 way.behind.1 c.in-Ended.r0 c.in-Ended.is in
-    let within = slice_get_within c.step_at.new.spawner.report.tasks.items (first_of c.args.schedule.now) noting.entry noting.noted in
-    search (rules, within)
-
-pub end-requires-clause-used : goal.end-requires-clause-used
-end-requires-clause-used c =
-    let way = c.loop-gone.invariant.way in
-    let noting = way_ends (kept_of c.args.self.now) (record c.args.self.now { ledger = c.loop-gone.ledger }) (take c.loop-gone.gone c.args.schedule.now)
-    (first_of c.args.schedule.now) c.loop-gone.live c.loop-gone.slot c.index-code.result.now way
-    c.step_at.result c.step_at.new.self c.step_at.new.spawner c.step_at.ensures.base c.step_at.ensures.program c.step_at.ensures.did
-    way.behind.0 way.behind.1 c.in-Ended.r0 c.in-Ended.is in
-    rw c.credit.ensures noting.used
-
-pub end-requires-clause-spent : goal.end-requires-clause-spent
-end-requires-clause-spent c =
-    let way = c.loop-gone.invariant.way in
-    let noting = way_ends (kept_of c.args.self.now) (record c.args.self.now { ledger = c.loop-gone.ledger }) (take c.loop-gone.gone c.args.schedule.now)
-    (first_of c.args.schedule.now) c.loop-gone.live c.loop-gone.slot c.index-code.result.now way
-    c.step_at.result c.step_at.new.self c.step_at.new.spawner c.step_at.ensures.base c.step_at.ensures.program c.step_at.ensures.did
-    way.behind.0 way.behind.1 c.in-Ended.r0 c.in-Ended.is in
-    rw c.credit.ensures (omega (arith, noting.spent_fits))
-
-pub end-requires-clause-returned : goal.end-requires-clause-returned
-end-requires-clause-returned c =
-    let way = c.loop-gone.invariant.way in
-    let noting = way_ends (kept_of c.args.self.now) (record c.args.self.now { ledger = c.loop-gone.ledger }) (take c.loop-gone.gone c.args.schedule.now)
-    (first_of c.args.schedule.now) c.loop-gone.live c.loop-gone.slot c.index-code.result.now way
-    c.step_at.result c.step_at.new.self c.step_at.new.spawner c.step_at.ensures.base c.step_at.ensures.program c.step_at.ensures.did
-    way.behind.0 way.behind.1 c.in-Ended.r0 c.in-Ended.is in
-    rw c.credit.ensures (omega (arith, noting.returned_fits))
-
-pub end-requires-clause-inside : goal.end-requires-clause-inside
-end-requires-clause-inside c =
-    let way = c.loop-gone.invariant.way in
-    let noting = way_ends (kept_of c.args.self.now) (record c.args.self.now { ledger = c.loop-gone.ledger }) (take c.loop-gone.gone c.args.schedule.now)
-    (first_of c.args.schedule.now) c.loop-gone.live c.loop-gone.slot c.index-code.result.now way
-    c.step_at.result c.step_at.new.self c.step_at.new.spawner c.step_at.ensures.base c.step_at.ensures.program c.step_at.ensures.did
-    way.behind.0 way.behind.1 c.in-Ended.r0 c.in-Ended.is in
-    rw c.part.ensures noting.inside
-
-pub returns-in-Ended-clause-leads : goal.returns-in-Ended-clause-leads
-returns-in-Ended-clause-leads c =
-    let way = c.loop-gone.invariant.way in (
-      take (c.loop-gone.gone + 1) c.args.schedule.now,
-      parts c.args.schedule.now (c.loop-gone.gone + 1),
-      rw (take_named c.args.schedule.now c.loop-gone.gone (first_of c.args.schedule.now) c.loop-gone-test.true c.if-schedule-gone.true)
-          (leads_more (kept_of c.args.self.now) _ _ (take c.loop-gone.gone c.args.schedule.now) (first_of c.args.schedule.now) (stepped.Ended c.in-Ended.r0) way.leads refl
-          (λ j behind.
-          let noting = way_ends (kept_of c.args.self.now) (record c.args.self.now { ledger = c.loop-gone.ledger }) (take c.loop-gone.gone c.args.schedule.now)
-          (first_of c.args.schedule.now) c.loop-gone.live c.loop-gone.slot c.index-code.result.now way
-          c.step_at.result c.step_at.new.self c.step_at.new.spawner c.step_at.ensures.base c.step_at.ensures.program c.step_at.ensures.did
-          j behind c.in-Ended.r0 c.in-Ended.is in
-          noting.steps _ _ _ _ (rw c.credit.ensures at c.end.ensures.spent) (rw c.credit.ensures at c.end.ensures.returned)
-          (rw c.part.ensures at c.end.ensures.buffer) (rw c.credit.ensures at (c.end.ensures.tasks noting.entry noting.noted)))),
-    )
-
+loop-gone-preserved c = ?
 pub index_mut-requires : goal.index_mut-requires
 index_mut-requires c =
     let within = slice_get_within c.loop-gone.ledger.lives.items (first_of c.args.schedule.now) None c.loop-gone.invariant.way.out in

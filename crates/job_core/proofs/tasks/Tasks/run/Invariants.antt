@@ -6,8 +6,8 @@ use Rattle.job_core.proofs.tasks.Tasks.run.Given as goal
 abbrev pub invariant-loop-gone : goal.invariant-loop-gone
 invariant-loop-gone l = record {
   way : IsUnderWay (kept_of l.fn.self) (kept_of (record l.fn.self { ledger = l.ledger })) (take l.gone l.schedule) l.number l.live l.slot l.code;
-  within : l.gone ≤ length l.schedule;
+  within : l.gone ≤ l.named;
 }
 
 abbrev pub decreases-loop-gone : goal.decreases-loop-gone
-decreases-loop-gone l = length l.schedule - l.gone
+decreases-loop-gone l = l.named - l.gone
