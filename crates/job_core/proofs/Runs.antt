@@ -13,7 +13,8 @@ use Rattle.interpreter.specs.declared.frame.Next.TheVariants.{At, Ended}
 use Rattle.helpers.specs.Piece.{Piece}
 use Rattle.interpreter.specs.declared.frame.Frame.{Frame}
 use Rattle.interpreter.specs.Behind.{AreBehind, IsCovered, Did, at_slot, out_of, slot_after, state_of}
-use Rattle.interpreter.specs.Stretch.{GoesOn, spent_on}
+use Rattle.interpreter.specs.declared.credit.Credit.{Credit}
+use Rattle.interpreter.specs.Stretch.{GoesOn, Ran, spent_on}
 use Rattle.job_core.specs.declared.ledger.Ledger.{Ledger}
 use Rattle.job_core.specs.declared.live.Live.{Live}
 use Rattle.job_core.specs.declared.tasks.Stepped.{Stepped}
@@ -172,6 +173,20 @@ module _ (old : Kept) (tasks : Tasks) (numbers : List ℕ) (n : ℕ) (live : Liv
 abbrev pub living_on : Live → ℕ → Frame → Piece → Live
 living_on live n frame part = record live { frame = frame; part = part; credit = spent_on live.credit n }
 
+-- no instruction, and so the same task
+no_stretch : (old now : Kept) (numbers ns : List ℕ) (n : ℕ) (live : Live) (slot : ℕ) (code : Checked) → IsUnderWay old now numbers n live slot code →
+    numbers ≡ ns → IsUnderWay old now ns n (living_on live 0 (at_slot live.frame slot) live.part) slot code
+no_stretch old now numbers ns n live slot code way same =
+    let none : living_at live slot ≡ living_on live 0 (at_slot live.frame slot) live.part =
+    ap (λ u. let l : Live = record live { frame = at_slot live.frame slot; credit = record { held = live.credit.held; used = u } } in l) (omega arith) in
+    record {
+      out = way.out;
+      read = way.read;
+      behind = (way.behind.0, subst (λ (l : Live). IsBehind (standing now n l) way.behind.0) none way.behind.1);
+      leads = subst (λ ms. LeadsOn old ms (standing now n (living_on live 0 (at_slot live.frame slot) live.part))) same
+          (subst (λ (l : Live). LeadsOn old numbers (standing now n l)) none way.leads);
+    }
+
 module _ (old : Kept) (tasks : Tasks) (schedule : List ℕ) (gone n : ℕ) (live : Live) (slot : ℕ) (code : Checked)
     (way : IsUnderWay old (kept_of tasks) (take gone schedule) n live slot code) where
   -- it goes on by so many instructions, where as many entries name it
@@ -179,23 +194,39 @@ module _ (old : Kept) (tasks : Tasks) (schedule : List ℕ) (gone n : ℕ) (live
       gone + k ≤ length schedule → ((i : ℕ) → i < gone + k → get_or schedule i 0 ≡ n) →
       IsUnderWay old (kept_of tasks) (take (gone + k) schedule) n (living_on live k mid mid_part) mid.slot code
       × (mid_part.base ≡ live.part.base)
-  way_stretch zero mid mid_part goes within named = (
-    rw (goes.0, goes.1) way,
-    ap (λ (q : Piece). q.base) goes.1,
-  )
-  way_stretch (suc k) mid mid_part goes within named =
+  way_stretch zero mid mid_part goes fits named =
+      let all : gone ≡ gone + 0 = omega arith in
+      rw (goes.0, goes.1)
+      (no_stretch old (kept_of tasks) (take gone schedule) (take (gone + 0) schedule) n live slot code way (ap (λ m. take m schedule) all), refl)
+  way_stretch (suc k) mid mid_part goes fits named =
       let from : Frame = goes.0 in
       let from_part : Piece = goes.1 in
       let last = goes.3 in
-      let lt : gone + k < length schedule = omega (arith, within) in
-      let before = way_stretch k from from_part goes.2 (omega (arith, within)) (λ i less. named i (omega (arith, less))) in
+      let lt : gone + k < length schedule = omega (arith, fits) in
+      let before = way_stretch k from from_part goes.2 (omega (arith, fits)) (λ i less. named i (omega (arith, less))) in
       let on = way_on old tasks (take (gone + k) schedule) n (living_on live k from from_part) from.slot code before.0
       (At mid.slot) (living_on live (suc k) mid mid_part) tasks.ledger last.base refl
       (λ registers behind.
       let goes_to = last.goes (slice_get tasks.ledger.entries.items) registers behind in
       rw goes_to.2 ((refl, goes_to.1), refl))
-      mid.slot refl last.covered in (
+      mid.slot refl last.covered in
+      let one_more : gone + k + 1 ≡ gone + suc k = omega arith in (
         subst (λ ns. IsUnderWay old (kept_of tasks) ns n (living_on live (suc k) mid mid_part) mid.slot code)
-            (sym (take_named schedule (gone + k) n lt (named (gone + k) (omega arith)))) on,
+            (sym (take_named schedule (gone + k) n lt (named (gone + k) (omega arith))) ∙ ap (λ m. take m schedule) one_more) on,
         last.base ∙ before.1,
+      )
+
+  -- it goes on by these instructions but the last one, which then takes it to what is told of that
+  pub way_ran : (limit count : ℕ) (told : Frame → Piece → Credit → Type 0) → (ran : Ran code live.credit limit count (at_slot live.frame slot) live.part told) →
+      gone + count ≤ length schedule → ((i : ℕ) → i < gone + count → get_or schedule i 0 ≡ n) →
+      IsUnderWay old (kept_of tasks) (take (gone + ran.before) schedule) n (living_on live ran.before ran.mid ran.mid_part) ran.mid.slot code
+      × (ran.mid_part.base ≡ live.part.base)
+      × (take (gone + count) schedule ≡ take (gone + ran.before) schedule ++ n ∷ [])
+  way_ran limit count told ran fits named =
+      let is = ran.count in
+      let both = way_stretch ran.before ran.mid ran.mid_part ran.goes (omega (arith, fits, is)) (λ i less. named i (omega (arith, less, is))) in
+      let last : gone + count ≡ gone + ran.before + 1 = omega (arith, is) in (
+        both.0,
+        both.1,
+        ap (λ m. take m schedule) last ∙ take_named schedule (gone + ran.before) n (omega (arith, fits, is)) (named (gone + ran.before) (omega (arith, is))),
       )

@@ -4,9 +4,8 @@ use Rattle.std.proofs.lemmas.List.{set-get_or}
 use Rattle.job_core.specs.Keeping.{kept_of}
 use Rattle.job_core.proofs.Simulates.{live_at, skipped, unknown}
 use Rattle.job_core.specs.declared.tasks.Stepped.TheVariants as stepped
-use Rattle.job_core.proofs.Runs.{leads_skipped, leads_more, first_of, take_named, parts, sets_out, covered_there, way_on, way_ends}
+use Rattle.job_core.proofs.Runs.{leads_skipped, leads_more, first_of, take_named, parts, sets_out, covered_there, living_on, way_ran, way_on, way_ends}
 use Rattle.job_core.proofs.tasks.Tasks.run.Goals as goal
-use Rattle.job_core.proofs.tasks.Tasks.run.Goals.{then-loop-gone-test+else-schedule-gone, else-loop-gone-test}
 
 pub returns-in_default-clause-leads : goal.returns-in_default-clause-leads
 returns-in_default-clause-leads c = (
@@ -56,15 +55,80 @@ loop-gone-init c =
       within = omega arith;
     }
 
-pub run_at-requires : goal.run_at-requires
-run_at-requires c = record {
-  covered = covered_there (kept_of c.args.self.now) (record c.args.self.now { ledger = c.loop-gone.ledger }) (take c.loop-gone.gone c.args.schedule.now)
-      (first_of c.args.schedule.now) c.loop-gone.live c.loop-gone.slot c.index-code.result.now c.loop-gone.invariant.way;
-  some = let more = c.loop-gone-test.true in omega (arith, more);
-}
+pub run_at-ran-requires-clause-covered : goal.run_at-ran-requires-clause-covered
+run_at-ran-requires-clause-covered c =
+    covered_there (kept_of c.args.self.now) (record c.args.self.now { ledger = c.loop-gone.ledger }) (take c.loop-gone.gone c.args.schedule.now)
+    (first_of c.args.schedule.now) c.loop-gone.live c.loop-gone.slot c.index-code.result.now c.loop-gone.invariant.way
 
 pub loop-gone-preserved : goal.loop-gone-preserved
-loop-gone-preserved c = ?
+loop-gone-preserved c =
+    let tasks = record c.args.self.now { ledger = c.loop-gone.ledger } in
+    let ran = c.run_at-ran.ensures.ran in
+    let most = c.run_at-ran.ensures.most in
+    let within = c.loop-gone.invariant.within in
+    let long = c.named_alike-named.ensures.some.1 in
+    let more = c.loop-gone-test.true in
+    let both = way_ran (kept_of c.args.self.now) tasks c.args.schedule.now c.loop-gone.gone (first_of c.args.schedule.now) c.loop-gone.live c.loop-gone.slot
+    c.index-code.result.now c.loop-gone.invariant.way _ _ _ ran (omega (arith, most, within, long, more))
+    (λ i less. c.named_alike-named.ensures.alike i (omega (arith, less, most, within, more))) in
+    record {
+      way = rw both.2
+          (way_on (kept_of c.args.self.now) tasks _ (first_of c.args.schedule.now) _ _ c.index-code.result.now both.0
+          c.run_at-ran.result.next c.run_at-ran.new.self c.run_at-ran.new.spawner (c.run_at-ran.ensures.base ∙ sym both.1) c.run_at-ran.ensures.program ran.last_one
+          c.in-At.next c.in-At.is (c.run_at-ran.ensures.covered c.in-At.next c.in-At.is));
+      within = omega (arith, most, within, more);
+    }
+
+pub end-requires : goal.end-requires
+end-requires c =
+    let tasks = record c.args.self.now { ledger = c.loop-gone.ledger } in
+    let ran = c.run_at-ran.ensures.ran in
+    let most = c.run_at-ran.ensures.most in
+    let within = c.loop-gone.invariant.within in
+    let long = c.named_alike-named.ensures.some.1 in
+    let more = c.loop-gone-test.true in
+    let both = way_ran (kept_of c.args.self.now) tasks c.args.schedule.now c.loop-gone.gone (first_of c.args.schedule.now) c.loop-gone.live c.loop-gone.slot
+    c.index-code.result.now c.loop-gone.invariant.way _ _ _ ran (omega (arith, most, within, long, more))
+    (λ i less. c.named_alike-named.ensures.alike i (omega (arith, less, most, within, more))) in
+    let noting = way_ends (kept_of c.args.self.now) tasks (take (c.loop-gone.gone + ran.before) c.args.schedule.now) (first_of c.args.schedule.now)
+    (living_on c.loop-gone.live ran.before ran.mid ran.mid_part) ran.mid.slot c.index-code.result.now both.0
+    c.run_at-ran.result.next c.run_at-ran.new.self c.run_at-ran.new.spawner (c.run_at-ran.ensures.base ∙ sym both.1) c.run_at-ran.ensures.program ran.last_one
+    both.0.behind.0 both.0.behind.1 c.in-Ended.r0 c.in-Ended.is in
+    let there = slice_get_within c.run_at-ran.new.spawner.report.tasks.items (first_of c.args.schedule.now) noting.entry noting.noted in
+    rw (c.credit.ensures, c.part.ensures) (record {
+      there = search (rules, there);
+      used = noting.used;
+      spent = omega (arith, noting.spent_fits);
+      returned = omega (arith, noting.returned_fits);
+      inside = noting.inside;
+    })
+
+pub returns-in-Ended-clause-leads : goal.returns-in-Ended-clause-leads
+returns-in-Ended-clause-leads c =
+    let tasks = record c.args.self.now { ledger = c.loop-gone.ledger } in
+    let ran = c.run_at-ran.ensures.ran in
+    let most = c.run_at-ran.ensures.most in
+    let within = c.loop-gone.invariant.within in
+    let long = c.named_alike-named.ensures.some.1 in
+    let more = c.loop-gone-test.true in
+    let both = way_ran (kept_of c.args.self.now) tasks c.args.schedule.now c.loop-gone.gone (first_of c.args.schedule.now) c.loop-gone.live c.loop-gone.slot
+    c.index-code.result.now c.loop-gone.invariant.way _ _ _ ran (omega (arith, most, within, long, more))
+    (λ i less. c.named_alike-named.ensures.alike i (omega (arith, less, most, within, more))) in
+    (
+      take (c.loop-gone.gone + c.run_at-ran.result.count) c.args.schedule.now,
+      parts c.args.schedule.now (c.loop-gone.gone + c.run_at-ran.result.count),
+      rw both.2
+          (leads_more (kept_of c.args.self.now) _ _ (take (c.loop-gone.gone + ran.before) c.args.schedule.now) (first_of c.args.schedule.now)
+          (stepped.Ended c.in-Ended.r0) both.0.leads refl
+          (λ j behind.
+          let noting = way_ends (kept_of c.args.self.now) tasks (take (c.loop-gone.gone + ran.before) c.args.schedule.now) (first_of c.args.schedule.now)
+    (living_on c.loop-gone.live ran.before ran.mid ran.mid_part) ran.mid.slot c.index-code.result.now both.0
+    c.run_at-ran.result.next c.run_at-ran.new.self c.run_at-ran.new.spawner (c.run_at-ran.ensures.base ∙ sym both.1) c.run_at-ran.ensures.program ran.last_one
+    j behind c.in-Ended.r0 c.in-Ended.is in
+          noting.steps _ _ _ _ (rw c.credit.ensures at c.end.ensures.spent) (rw c.credit.ensures at c.end.ensures.returned)
+          (rw c.part.ensures at c.end.ensures.buffer) (rw c.credit.ensures at (c.end.ensures.tasks noting.entry noting.noted)))),
+    )
+
 pub index_mut-requires : goal.index_mut-requires
 index_mut-requires c =
     let within = slice_get_within c.loop-gone.ledger.lives.items (first_of c.args.schedule.now) None c.loop-gone.invariant.way.out in
@@ -72,9 +136,4 @@ index_mut-requires c =
 
 pub returns-clause-leads : goal.returns-clause-leads
 returns-clause-leads c =
-    let gone = take c.loop-gone.gone c.args.schedule.now in
-    let both = parts c.args.schedule.now c.loop-gone.gone in
-    elim c.loop-gone-test.branch [
-      | then-loop-gone-test+else-schedule-gone w ↦ rw (w.self-is, c.note_slot.ensures) (gone, both, c.loop-gone.invariant.way.leads)
-      | else-loop-gone-test w ↦ rw (w.self-is, c.note_slot.ensures) (gone, both, c.loop-gone.invariant.way.leads)
-    ]
+    rw c.note_slot.ensures (take c.loop-gone.gone c.args.schedule.now, parts c.args.schedule.now c.loop-gone.gone, c.loop-gone.invariant.way.leads)
