@@ -21,23 +21,23 @@ const SINGLE_ROUNDS: u32 = 20_000;
 /// The longest of the programs, in slots.
 const LONGEST: u32 = 4096;
 
-/// The time that `ROUNDS` runs of the program take, without the admissions.
+/// The time that the quickest of `ROUNDS` runs of the program takes, without its admission.
 fn played<C: Clock>(clock: &C, alloc: Global, scenario: Scenario) -> anyhow::Result<Duration> {
     let numbers = schedule(alloc, LONGEST)?;
     let programs = [program(alloc, scenario, LONGEST)?];
-    let mut whole = Duration::ZERO;
+    let mut quickest = Duration::MAX;
     for _ in 0..ROUNDS {
         let buffer = vec![in alloc; 0; 8]?;
         let job = admit(alloc, &programs, LONGEST, buffer)?;
         let start = Instant::now(clock)?;
         let world = play(alloc, job, &numbers)?;
-        whole = whole.saturating_add(start.elapsed(clock)?);
+        quickest = quickest.min(start.elapsed(clock)?);
         drop(world);
     }
-    Ok(whole)
+    Ok(quickest)
 }
 
-/// The time that `ROUNDS` verdicts on a program take.
+/// The time that the quickest of `ROUNDS` verdicts on a program takes.
 fn judged<C: Clock>(
     clock: &C,
     alloc: Global,
@@ -46,11 +46,13 @@ fn judged<C: Clock>(
 ) -> anyhow::Result<Duration> {
     let helpers = HelperTable::job();
     let code = program(alloc, scenario, slots)?;
-    let start = Instant::now(clock)?;
+    let mut quickest = Duration::MAX;
     for _ in 0..ROUNDS {
+        let start = Instant::now(clock)?;
         drop(verify(alloc, code.need, &code.code, &helpers)?);
+        quickest = quickest.min(start.elapsed(clock)?);
     }
-    Ok(start.elapsed(clock)?)
+    Ok(quickest)
 }
 
 /// The nanoseconds that a run of a single program takes.
@@ -82,7 +84,7 @@ fn print_single_times<C: Clock, W: Write>(
     Ok(())
 }
 
-/// The time that `ROUNDS` runs of the program by the machine for single programs take.
+/// The time that the quickest of `ROUNDS` runs of the program by the machine for single programs takes.
 fn executed_alone<C: Clock>(
     clock: &C,
     alloc: Global,
@@ -91,11 +93,13 @@ fn executed_alone<C: Clock>(
     let code = program(alloc, scenario, LONGEST)?;
     let mut vm = Vm::new(alloc, Some((code.need, &code.code)))?;
     let mut memory = [0; 8];
-    let start = Instant::now(clock)?;
+    let mut quickest = Duration::MAX;
     for _ in 0..ROUNDS {
+        let start = Instant::now(clock)?;
         vm.execute_program(alloc, &mut memory, LONGEST)?;
+        quickest = quickest.min(start.elapsed(clock)?);
     }
-    Ok(start.elapsed(clock)?)
+    Ok(quickest)
 }
 
 /// Prints what takes so long, in nanoseconds for each slot of the longest program.
@@ -105,8 +109,7 @@ fn print_slot_time<W: Write>(
     name: &str,
     whole: Duration,
 ) -> anyhow::Result<()> {
-    let slots = u128::from(ROUNDS * LONGEST);
-    let hundredths = whole.as_nanos().saturating_mul(100) / slots;
+    let hundredths = whole.as_nanos().saturating_mul(100) / u128::from(LONGEST);
     let (units, rest) = (hundredths / 100, hundredths % 100);
     writeln!(output, "{what} {name}: {units}.{rest:02} ns a slot")?;
     Ok(())
@@ -127,12 +130,11 @@ pub fn print_times<C: Clock, W: Write>(
     for scenario in SCENARIOS {
         let name = scenario.name();
         for slots in [64, 512, LONGEST] {
-            let micros = judged(clock, alloc, scenario, slots)?.as_micros().max(1);
-            let judged = u128::from(slots) * u128::from(ROUNDS);
+            let nanos = judged(clock, alloc, scenario, slots)?.as_nanos().max(1);
             writeln!(
                 output,
                 "verify {name} {slots}: {} slots a millisecond",
-                judged * 1000 / micros
+                u128::from(slots) * 1_000_000 / nanos
             )?;
         }
     }

@@ -54,10 +54,6 @@ pub behind_led : (old new : Kept) (numbers : List ℕ) (j : Job) → IsBehind ol
 behind_led old new numbers j behind leads =
     let plays = leads.plays j [] (plays_none old.programs j old behind) in (plays.last, plays.behind)
 
--- an entry that names no live task changes nothing
-pub leads_skipped : (kept : Kept) (n : ℕ) → ((j : Job) → IsBehind kept j → Steps kept j n stepped.Skipped kept) → LeadsOn kept (n ∷ []) kept
-leads_skipped kept n steps = leads_more kept kept kept [] n stepped.Skipped (leads_none kept) refl steps
-
 abbrev pub first_of : List ℕ → ℕ
 first_of schedule = get_or schedule 0 0
 
@@ -65,6 +61,17 @@ first_of schedule = get_or schedule 0 0
 pub take_named : (schedule : List ℕ) (gone n : ℕ) → gone < length schedule → get_or schedule gone 0 ≡ n →
     take (gone + 1) schedule ≡ take gone schedule ++ n ∷ []
 take_named schedule gone n lt named = take_more schedule gone 0 lt ∙ ap (λ k. take gone schedule ++ k ∷ []) named
+
+-- entries that name no live task change nothing
+pub leads_skips : (kept : Kept) (schedule : List ℕ) (n : ℕ) → ((j : Job) → IsBehind kept j → Steps kept j n stepped.Skipped kept) →
+    (k : ℕ) → k ≤ length schedule → ((i : ℕ) → i < k → get_or schedule i 0 ≡ n) → LeadsOn kept (take k schedule) kept
+leads_skips kept schedule n steps zero fits named = leads_none kept
+leads_skips kept schedule n steps (suc k) fits named =
+    let lt : k < length schedule = omega (arith, fits) in
+    let on = leads_skips kept schedule n steps k (omega (arith, fits)) (λ i less. named i (omega (arith, less))) in
+    let one_more : k + 1 ≡ suc k = omega arith in
+    subst (λ ns. LeadsOn kept ns kept) (sym (take_named schedule k n lt (named k (omega arith))) ∙ ap (λ m. take m schedule) one_more)
+    (leads_more kept kept kept (take k schedule) n stepped.Skipped on refl steps)
 
 -- what is gone along, and what is left as a slice
 pub parts : (schedule : List ℕ) (gone : ℕ) → schedule ≡ take gone schedule ++ take (length schedule - gone) (drop gone schedule)

@@ -188,7 +188,14 @@ impl Live {
         ensures most { result.count ≤ limit }
     {
         let body = &mut *self.body;
-        body.frame
-            .run_at(alloc, code, slot, limit, &mut body.part, &mut self.credit, spawner)
+        body.frame.run_at(
+            alloc,
+            code,
+            slot,
+            limit,
+            &mut body.part,
+            &mut self.credit,
+            spawner,
+        )
     }
 }

@@ -13,7 +13,7 @@ const ROOT: &str =
 const CHILD: &str = "b700000001000000070000000400000067000000030000009500000000000000";
 
 /// A schedule, of which each digit is a task's number, and what it comes to.
-const SCHEDULES: [(&str, &str); 7] = [
+const SCHEDULES: [(&str, &str); 10] = [
     ("", "40 0 0 0"),
     ("0000011", "40 0 0 22"),
     ("00000001111", "0 14 26 26 | 0 7 22 8 | 1 40 4 6"),
@@ -23,6 +23,13 @@ const SCHEDULES: [(&str, &str); 7] = [
     // tasks that end while they are named on, and numbers of no task
     ("0000000000001111111", "0 14 26 26 | 0 7 22 8 | 1 40 4 6"),
     ("9911000000111111000990", "0 14 26 26 | 0 7 22 8 | 1 40 4 6"),
+    // the same number many times over: of an ended task, of no task, and then of one that is alive
+    ("0000000000000000000000000000000000000011", "10 8 22 24"),
+    ("99999999999999999000000011", "10 8 22 24"),
+    (
+        "0000000111999999999999999999999999999999991",
+        "0 14 26 26 | 0 7 22 8 | 1 40 4 6",
+    ),
 ];
 
 fn job(alloc: Global) -> Result<Job, Fail> {

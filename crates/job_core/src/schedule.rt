@@ -1,6 +1,21 @@
 //! Schedules: the number of the task that runs, one for each instruction.
 
-ghost use Rattle.std.specs.Prelude.{◌≡◌, ◌≢◌, ℕ, ◌<◌, ◌≤◌, length, get_or};
+ghost use Rattle.std.specs.Prelude.{◌≡◌, ◌≢◌, ◌↔◌, ℕ, ◌<◌, ◌≤◌, length, get_or, IsTrue};
+
+/// So many entries are looked at together.
+const BLOCK: usize = 16;
+
+/// Whether each entry names this task. It looks at all of them, which is quicker than to stop at the first other one.
+#[inline(always)]
+fn all_name(entries: &[u32], number: u32) -> bool
+    ensures { IsTrue result ↔ ((i : ℕ) → i < length entries.now → get_or entries.now i 0 ≡ number) }
+{
+    let mut all = true;
+    for entry in entries {
+        all &= *entry == number;
+    }
+    all
+}
 
 /// How many of the first entries name the task that the first one names.
 pub fn named_alike(schedule: &[u32]) -> usize
@@ -11,6 +26,9 @@ pub fn named_alike(schedule: &[u32]) -> usize
 {
     let number = schedule[0];
     let mut named = 1;
+    while schedule.len() - named >= BLOCK && all_name(&schedule[named..named + BLOCK], number) {
+        named += BLOCK;
+    }
     while named < schedule.len() && schedule[named] == number {
         named += 1;
     }

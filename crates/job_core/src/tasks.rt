@@ -57,9 +57,10 @@ impl Tasks {
         }
     }
 
-    /// Goes along a schedule as long as it names the task that it begins with, one instruction for each entry. What is left of it.
+    /// Goes along a schedule as long as it names the task that it begins with, one instruction for each entry, or until the task
+    /// ends. What is left of it.
     ///
-    /// The task is taken from its place, and its program looked up, but once.
+    /// The task is taken from its place, and its program looked up, but once. Where it isn't alive, all these entries are passed over.
     pub fn run<'a>(&mut self, alloc: Global, schedule: &'a [u32]) -> &'a [u32]
         requires behind { (j : Job) × IsBehind (kept_of self.old) j }
         requires some { 0 < length schedule.now }
@@ -67,19 +68,19 @@ impl Tasks {
         ensures shorter { length result.now < length schedule.now }
     {
         let number = schedule[0];
+        let named = named_alike(schedule);
         let Tasks {
             programs,
             ledger,
             ..
         } = self;
         let Some(place) = ledger.lives.get_mut(number as usize) else {
-            return &schedule[1..];
+            return &schedule[named..];
         };
         let Some(mut live) = place.take() else {
-            return &schedule[1..];
+            return &schedule[named..];
         };
         let code = &programs[live.program() as usize];
-        let named = named_alike(schedule);
         let mut slot = live.slot();
         let mut gone = 0;
         while gone < named {

@@ -1,12 +1,15 @@
-use Rattle.std.proofs.Common.{◌≡◌, ◌<◌, ◌≤◌, ◌-◌, ℕ, length, get_or}
+use Rattle.std.proofs.Common.{◌-◌, length}
+use Rattle.job_core.proofs.Schedules.{AreNamed}
 use Rattle.job_core.proofs.schedule.named_alike.Given as goal
 
 abbrev pub invariant-loop-named : goal.invariant-loop-named
-invariant-loop-named l = record {
-  some : 0 < l.named;
-  within : l.named ≤ length l.schedule;
-  alike : (i : ℕ) → i < l.named → get_or l.schedule i 0 ≡ l.number;
-}
+invariant-loop-named l = AreNamed l.schedule l.named l.number
 
 abbrev pub decreases-loop-named : goal.decreases-loop-named
 decreases-loop-named l = length l.schedule - l.named
+
+abbrev pub invariant-loop-named-2 : goal.invariant-loop-named-2
+invariant-loop-named-2 l = AreNamed l.schedule l.named l.number
+
+abbrev pub decreases-loop-named-2 : goal.decreases-loop-named-2
+decreases-loop-named-2 l = length l.schedule - l.named

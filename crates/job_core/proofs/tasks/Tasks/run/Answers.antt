@@ -4,30 +4,36 @@ use Rattle.std.proofs.lemmas.List.{set-get_or}
 use Rattle.job_core.specs.Keeping.{kept_of}
 use Rattle.job_core.proofs.Simulates.{live_at, skipped, unknown}
 use Rattle.job_core.specs.declared.tasks.Stepped.TheVariants as stepped
-use Rattle.job_core.proofs.Runs.{leads_skipped, leads_more, first_of, take_named, parts, sets_out, covered_there, living_on, way_ran, way_on, way_ends}
+use Rattle.job_core.proofs.Runs.{leads_skips, leads_more, first_of, parts, sets_out, covered_there, living_on, way_ran, way_on, way_ends}
 use Rattle.job_core.proofs.tasks.Tasks.run.Goals as goal
 
 pub returns-in_default-clause-leads : goal.returns-in_default-clause-leads
-returns-in_default-clause-leads c = (
-  take 1 c.args.schedule.now,
-  parts c.args.schedule.now 1,
-  rw (take_named c.args.schedule.now 0 (first_of c.args.schedule.now) c.requires.some refl)
-      (leads_skipped (kept_of c.args.self.now) (first_of c.args.schedule.now) (λ j behind. unknown (kept_of c.args.self.now) j _ behind (search rules))),
-)
+returns-in_default-clause-leads c =
+    let kept = kept_of c.args.self.now in
+    let schedule = c.args.schedule.now in
+    let named = c.named_alike-named.ensures in (
+      take c.named_alike-named.result schedule,
+      parts schedule c.named_alike-named.result,
+      leads_skips kept schedule (first_of schedule) (λ j behind. unknown kept j _ behind (search rules))
+          c.named_alike-named.result named.some.1 named.alike,
+    )
 
 pub returns-in_default-take-clause-leads : goal.returns-in_default-take-clause-leads
 returns-in_default-take-clause-leads c =
+    let kept = kept_of c.args.self.now in
+    let schedule = c.args.schedule.now in
+    let named = c.named_alike-named.ensures in
     let lives = c.args.self.now.ledger.lives.items in
-    let number = first_of c.args.schedule.now in
+    let number = first_of schedule in
     let lt : number < length lives = c.in-Some.ensures.item.3.0 in
     let none_is : c.in-Some.place.now ≡ None = sym c.take.ensures.value ∙ c.in_default-take.is in
     let here : slice_get lives number ≡ Some None =
     slice_get_read lives (length lives) number c.in-Some.place.now refl lt c.in-Some.ensures.value ∙ ap Some none_is in
     let same : set lives number None ≡ lives = ap (set lives number) (sym (get_or_from_slice_get lives number None None here)) ∙ set-get_or lives number None in (
-      take 1 c.args.schedule.now,
-      parts c.args.schedule.now 1,
-      rw (take_named c.args.schedule.now 0 number c.requires.some refl, c.take.ensures.after, same)
-          (leads_skipped (kept_of c.args.self.now) number (λ j behind. skipped (kept_of c.args.self.now) j number behind here)),
+      take c.named_alike-named.result schedule,
+      parts schedule c.named_alike-named.result,
+      rw (c.take.ensures.after, same)
+          (leads_skips kept schedule number (λ j behind. skipped kept j number behind here) c.named_alike-named.result named.some.1 named.alike),
     )
 
 pub index-code-requires : goal.index-code-requires
@@ -113,8 +119,7 @@ returns-in-Ended-clause-leads c =
     let more = c.loop-gone-test.true in
     let both = way_ran (kept_of c.args.self.now) tasks c.args.schedule.now c.loop-gone.gone (first_of c.args.schedule.now) c.loop-gone.live c.loop-gone.slot
     c.index-code.result.now c.loop-gone.invariant.way _ _ _ ran (omega (arith, most, within, long, more))
-    (λ i less. c.named_alike-named.ensures.alike i (omega (arith, less, most, within, more))) in
-    (
+    (λ i less. c.named_alike-named.ensures.alike i (omega (arith, less, most, within, more))) in (
       take (c.loop-gone.gone + c.run_at-ran.result.count) c.args.schedule.now,
       parts c.args.schedule.now (c.loop-gone.gone + c.run_at-ran.result.count),
       rw both.2
@@ -122,9 +127,9 @@ returns-in-Ended-clause-leads c =
           (stepped.Ended c.in-Ended.r0) both.0.leads refl
           (λ j behind.
           let noting = way_ends (kept_of c.args.self.now) tasks (take (c.loop-gone.gone + ran.before) c.args.schedule.now) (first_of c.args.schedule.now)
-    (living_on c.loop-gone.live ran.before ran.mid ran.mid_part) ran.mid.slot c.index-code.result.now both.0
-    c.run_at-ran.result.next c.run_at-ran.new.self c.run_at-ran.new.spawner (c.run_at-ran.ensures.base ∙ sym both.1) c.run_at-ran.ensures.program ran.last_one
-    j behind c.in-Ended.r0 c.in-Ended.is in
+          (living_on c.loop-gone.live ran.before ran.mid ran.mid_part) ran.mid.slot c.index-code.result.now both.0
+          c.run_at-ran.result.next c.run_at-ran.new.self c.run_at-ran.new.spawner (c.run_at-ran.ensures.base ∙ sym both.1) c.run_at-ran.ensures.program ran.last_one
+          j behind c.in-Ended.r0 c.in-Ended.is in
           noting.steps _ _ _ _ (rw c.credit.ensures at c.end.ensures.spent) (rw c.credit.ensures at c.end.ensures.returned)
           (rw c.part.ensures at c.end.ensures.buffer) (rw c.credit.ensures at (c.end.ensures.tasks noting.entry noting.noted)))),
     )

@@ -1,4 +1,4 @@
-use Rattle.std.proofs.Common.{length, ◌-◌, ◌≤◌, take}
+use Rattle.std.proofs.Common.{◌-◌, ◌≤◌, take}
 use Rattle.job_core.specs.Keeping.{kept_of}
 use Rattle.job_core.proofs.Runs.{IsUnderWay}
 use Rattle.job_core.proofs.tasks.Tasks.run.Given as goal
