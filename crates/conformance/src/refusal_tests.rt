@@ -101,6 +101,18 @@ const BYTES: [(u32, &str, u8, Option<u32>); 8] = [
     (65537, "", 38, None),
 ];
 
+/// The same of one slot, in hexadecimal, so many times over, and then more bytes.
+const REPEATED: [(u32, &str, u32, &str, u8, Option<u32>); 6] = [
+    // 4096 slots are decoded, of which only the first is reached
+    (0, "9500000000000000", 4096, "", 25, Some(1)),
+    (0, "9500000000000000", 4097, "", 3, None),
+    // the length ahead of what the slots are, and whole slots ahead of it
+    (0, "8d00000000000000", 4097, "", 3, None),
+    (0, "1800000000000000", 4097, "", 3, None),
+    (0, "9500000000000000", 4097, "95", 2, None),
+    (65537, "9500000000000000", 4097, "", 38, None),
+];
+
 /// The number and the slot of a refusal.
 type Told = (u8, Option<u32>);
 
@@ -203,6 +215,22 @@ fn bytes_are_refused(rt: HostRuntime) -> Result<(), Fail> {
     let alloc = rt.alloc();
     for (place, (need, bytes, number, slot)) in BYTES.iter().enumerate() {
         let code = hex::decode(alloc, *bytes)?;
+        refused(&rt, alloc, place, (*need, &code), (*number, *slot))?;
+    }
+    Ok(())
+}
+
+#[test]
+fn long_programs_are_refused(rt: HostRuntime) -> Result<(), Fail> {
+    let alloc = rt.alloc();
+    for (place, (need, slot_bytes, slots, rest, number, slot)) in REPEATED.iter().enumerate() {
+        let one = hex::decode(alloc, *slot_bytes)?;
+        let mut code = Vec::new(alloc);
+        for _ in 0..*slots {
+            code.extend_from_slice(&one)?;
+        }
+        let more = hex::decode(alloc, *rest)?;
+        code.extend_from_slice(&more)?;
         refused(&rt, alloc, place, (*need, &code), (*number, *slot))?;
     }
     Ok(())

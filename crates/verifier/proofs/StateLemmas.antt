@@ -6,7 +6,7 @@ use Rattle.value_ranges.specs.declared.abs.Abs.TheVariants.{Unset, Num, Stack, P
 use Rattle.value_ranges.specs.Joins.{joined}
 use Rattle.verifier.specs.declared.state.State.{State}
 use Rattle.verifier.specs.Covers.{abs_at}
-use Rattle.verifier.specs.Joining.{joined_below}
+use Rattle.verifier.specs.Joining.{joined_to}
 use Rattle.verifier.specs.Judged.{judged}
 use Rattle.verifier.specs.States.{joined_state, with_abs, called_state}
 
@@ -40,6 +40,11 @@ of_eleven P go (a ∷ b ∷ c ∷ d ∷ e ∷ f ∷ g ∷ []) long = absurd (ome
 of_eleven P go (a ∷ b ∷ c ∷ d ∷ e ∷ f ∷ g ∷ h ∷ []) long = absurd (omega (arith, long))
 of_eleven P go (a ∷ b ∷ c ∷ d ∷ e ∷ f ∷ g ∷ h ∷ i ∷ []) long = absurd (omega (arith, long))
 of_eleven P go (a ∷ b ∷ c ∷ d ∷ e ∷ f ∷ g ∷ h ∷ i ∷ j ∷ []) long = absurd (omega (arith, long))
+
+-- the registers below n joined, one after the other
+abbrev pub joined_below : State → State → ℕ → State
+joined_below s t zero = s
+joined_below s t (suc n) = joined_to (joined_below s t n) t n
 
 -- eleven registers are all
 pub joined_all : (s t : State) → length s.registers ≡ 11 → joined_below s t 11 ≡ joined_state s t

@@ -1,5 +1,5 @@
 -- Two states joined register by register.
-use Rattle.std.specs.Prelude.{ℕ, zero, suc, Option, Some, None}
+use Rattle.std.specs.Prelude.{ℕ, Option, Some, None}
 use Rattle.value_ranges.specs.Joins.{joined}
 use Rattle.verifier.specs.declared.state.State.{State}
 use Rattle.verifier.specs.Covers.{abs_at}
@@ -8,11 +8,6 @@ use Rattle.verifier.specs.States.{with_abs, joined_state}
 -- the first with this register joined
 abbrev pub joined_to : State → State → ℕ → State
 joined_to s t r = with_abs s r (joined (abs_at s r) (abs_at t r))
-
--- and with the registers below n
-abbrev pub joined_below : State → State → ℕ → State
-joined_below s t zero = s
-joined_below s t (suc n) = joined_to (joined_below s t n) t n
 
 -- a state comes to a place that may have one
 abbrev pub come_to : Option State → State → Option State

@@ -1,6 +1,5 @@
 use Rattle.std.proofs.Common.{◌≡◌, ap, ◌∙◌, arith, length, ℕ}
-use Rattle.verifier.specs.Joining.{joined_below}
-use Rattle.verifier.proofs.StateLemmas.{joined_all}
+use Rattle.verifier.proofs.StateLemmas.{joined_below, joined_all}
 use Rattle.verifier.proofs.state.State.join.Goals as goal
 
 pub returns : goal.returns

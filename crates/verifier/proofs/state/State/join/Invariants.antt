@@ -1,5 +1,5 @@
 use Rattle.std.specs.Prelude.{◌≡◌}
-use Rattle.verifier.specs.Joining.{joined_below}
+use Rattle.verifier.proofs.StateLemmas.{joined_below}
 use Rattle.verifier.proofs.state.State.join.Given as goal
 
 abbrev pub invariant-loop-number : goal.invariant-loop-number
