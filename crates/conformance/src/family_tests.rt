@@ -4,7 +4,7 @@
 use crate::ways::{assembled, copied, reference_program};
 use assembler::assemble;
 use job_core::{ProgramBytes, Totals, admit, play};
-use machine_model::reference::{JobMember, ReferenceJob, ReferenceMove, run};
+use reference::{JobMember, ReferenceJob, ReferenceMove, run};
 use std::alloc::Global;
 use std::test::Fail;
 

@@ -7,7 +7,7 @@ use flow_graph::build;
 use insn_codec::decode;
 use interpreter::Vm;
 use job_core::{ProgramBytes, admit, play};
-use machine_model::reference::{ReferenceProgram, run_alone};
+use reference::{ReferenceProgram, run_alone};
 use std::alloc::Global;
 use std::test::Fail;
 

@@ -1,7 +1,7 @@
 //! The bytes that a task owns.
 
 ghost use Rattle.std.specs.Prelude.{◌≡◌, ℕ, ◌+◌, ◌-◌, ◌*◌, ◌^◌, ◌<◌, ◌≤◌, [], ◌++◌, length, take, drop, replicate, sum, IfOk, OnErr};
-ghost use Rattle.helpers.specs.Piece.{Piece};
+ghost use Rattle.helpers.specs.Piece.{joined_room};
 ghost use Rattle.machine_model.specs.Memory.{bytes_at, little_bytes, little_number, load_bytes, store_bytes, widened, written};
 
 use insn_codec::{LoadKind, Size};
@@ -9,6 +9,7 @@ use machine_model::memory::{fill, load, store, sum};
 use refusal::NoMemory;
 use std::alloc::Global;
 use std::marker::Model;
+use std::mem;
 
 /// Owned bytes, and where they lie in the job's buffer, which has at most 65,536.
 #[derive(Drop)]
@@ -91,17 +92,35 @@ impl Part {
         buffer[self.base..end].copy_from_slice(&self.bytes);
     }
 
-    /// Moves the last `count` bytes out. Their room is kept.
+    /// For how many bytes it has room.
+    pub fn room(&self) -> usize
+        ensures room { result ≡ self.now.room }
+        ensures fits { length self.now.bytes ≤ self.now.room }
+    {
+        self.bytes.capacity()
+    }
+
+    /// Moves the last `count` bytes out. Their room is kept, so that the piece can be put back without memory. Where they are all
+    /// the bytes, the piece takes them with their room: nothing is copied then, and no memory is asked for.
     pub fn cut(&mut self, alloc: Global, count: usize) -> Result<Part, NoMemory>
         requires { count ≤ length self.old.bytes }
-        ensures rest { IfOk result (λ piece.
-            self.new ≡ record self.old { bytes = take (length self.old.bytes - count) self.old.bytes }) }
+        ensures rest { IfOk result (λ piece. (self.new.base ≡ self.old.base) ×
+            (self.new.bytes ≡ take (length self.old.bytes - count) self.old.bytes)) }
         ensures bytes { IfOk result (λ piece. piece.bytes ≡ drop (length self.old.bytes - count) self.old.bytes) }
         ensures base { IfOk result (λ piece. piece.base ≡ self.old.base + length self.new.bytes) }
-        ensures room { IfOk result (λ piece. length self.new.bytes + length piece.bytes ≤ self.new.room) }
+        ensures room { IfOk result (λ piece. joined_room self.new piece ≡ self.old.room) }
+        ensures fits { IfOk result (λ piece. length self.new.bytes + length piece.bytes ≤ joined_room self.new piece) }
         ensures err { OnErr result (self.new ≡ self.old) }
+        ensures copies { OnErr result (count < length self.old.bytes) }
     {
         let keep = self.bytes.len() - count;
+        if keep == 0 {
+            let bytes = mem::replace(&mut self.bytes, Vec::new(alloc));
+            return Ok(Part {
+                base: self.base,
+                bytes,
+            });
+        }
         let mut bytes = Vec::new(alloc);
         bytes.extend_from_slice(&self.bytes[keep..])?;
         self.bytes.truncate(keep);
@@ -111,14 +130,29 @@ impl Part {
         })
     }
 
-    /// Puts a piece back where it was cut.
+    /// Puts a piece back where it was cut. Pieces that were cut one after the other are put back in the opposite order.
     pub fn rejoin(&mut self, piece: Part)
         requires base { piece.base ≡ self.old.base + length self.old.bytes }
-        requires room { length self.old.bytes + length piece.bytes ≤ self.old.room }
-        ensures { (self.new.base ≡ self.old.base) × (self.new.bytes ≡ self.old.bytes ++ piece.bytes) }
+        requires room { length self.old.bytes + length piece.bytes ≤ joined_room self.old piece }
+        ensures bytes { (self.new.base ≡ self.old.base) × (self.new.bytes ≡ self.old.bytes ++ piece.bytes) }
+        ensures room { joined_room self.old piece ≤ self.new.room }
     {
         let Part { base: _, bytes } = piece;
-        let _ = self.bytes.extend_from_slice(&bytes);
+        if self.bytes.is_empty() {
+            self.bytes = bytes;
+        } else {
+            let _ = self.bytes.extend_from_slice(&bytes);
+        }
+    }
+
+    /// Gives back the room that the bytes don't need, where it is as much again as they take, or more.
+    pub fn shed_room(&mut self)
+        ensures bytes { (self.new.base ≡ self.old.base) × (self.new.bytes ≡ self.old.bytes) }
+        ensures room { self.new.room ≤ self.old.room }
+    {
+        if self.bytes.len() < self.bytes.capacity() / 2 {
+            self.bytes.shrink_to_fit();
+        }
     }
 
     /// Its bytes.

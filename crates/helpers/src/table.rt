@@ -1,6 +1,6 @@
 //! The helpers that a program may call.
 
-ghost use Rattle.std.specs.Prelude.{◌≡◌, ℕ, ◌==◌, ◌≤◌, ◌<◌, [], Some, length, slice_set, if◌then◌else◌, IfOk, OnErr};
+ghost use Rattle.std.specs.Prelude.{◌≡◌, ◌≢◌, ℕ, ◌==◌, ◌≤◌, ◌<◌, [], Some, length, slice_set, if◌then◌else◌, IfOk, OnErr};
 ghost use Rattle.helpers.specs.Table.{arity_in, own_arity, job_table, IsHelperTable};
 
 use refusal::NoMemory;
@@ -84,6 +84,7 @@ impl HelperTable {
     /// The same table.
     pub fn copied(&self, alloc: Global) -> Result<HelperTable, NoMemory>
         ensures same { IfOk result (λ copy. copy ≡ self.now) }
+        ensures added { OnErr result (self.now ≢ job_table) }
         ensures known { IsHelperTable self.now }
     {
         let added = match &self.added {

@@ -97,6 +97,41 @@ fn pieces_come_back(rt: HostRuntime) -> Result<(), Fail> {
 }
 
 #[test]
+fn nested_pieces_come_back_in_turn(rt: HostRuntime) -> Result<(), Fail> {
+    let alloc = rt.alloc();
+    let mut part = Part::whole(vec![in alloc; 1, 2, 3, 4, 5, 6]?);
+    let mut outer = part.cut(alloc, 4)?;
+    let mut inner = outer.cut(alloc, 1)?;
+    // all that is left moves, with its room
+    let whole = outer.cut(alloc, 3)?;
+    assert_eq!(rt; (outer.len(), outer.room(), whole.len()), (0, 0, 3));
+    assert!(rt; 4 <= whole.room());
+    inner.fill(0, 1, 60);
+    outer.rejoin(whole);
+    outer.rejoin(inner);
+    part.rejoin(outer);
+    assert_eq!(rt;
+        part.into_bytes().as_slice(),
+        [1, 2, 3, 4, 5, 60].as_slice()
+    );
+    Ok(())
+}
+
+#[test]
+fn room_is_given_back(rt: HostRuntime) -> Result<(), Fail> {
+    let alloc = rt.alloc();
+    let mut part = Part::whole(vec![in alloc; 7; 1000]?);
+    let piece = part.cut(alloc, 500)?;
+    part.shed_room();
+    assert_eq!(rt; part.room(), 1000);
+    let more = part.cut(alloc, 499)?;
+    part.shed_room();
+    assert_eq!(rt; (part.room(), piece.room(), more.room()), (1, 500, 499));
+    assert_eq!(rt; part.into_bytes().as_slice(), [7].as_slice());
+    Ok(())
+}
+
+#[test]
 fn no_bytes_are_filled_or_summed_up(rt: HostRuntime) -> Result<(), Fail> {
     let alloc = rt.alloc();
     let mut part = Part::whole(vec![in alloc; 7, 8]?);

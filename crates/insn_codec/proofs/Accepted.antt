@@ -79,7 +79,7 @@ half_there (LoadWide dst value) more e n = absurd cc
 half_there insn more e n = absurd cc
 
 -- no fault stands where an instruction is spelled
-no_fault : (f : SlotFault) (insn : Insn) (more : List ℕ) → IsInsn insn → StepFault f (spelling insn ++ more) → ⊥
+pub no_fault : (f : SlotFault) (insn : Insn) (more : List ℕ) → IsInsn insn → StepFault f (spelling insn ++ more) → ⊥
 no_fault f insn more h = go f
   where
     s : slot_at (spelling insn ++ more) ≡ first_slot insn

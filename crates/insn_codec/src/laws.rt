@@ -1,6 +1,6 @@
 //! The laws of the definitions.
 
-ghost use Rattle.std.specs.Prelude.{◌≡◌, ℕ, List, ◌++◌};
+ghost use Rattle.std.specs.Prelude.{◌≡◌, ◌≢◌, ℕ, List, ◌++◌};
 ghost use Rattle.insn_codec.specs.Spelling.{IsInsn, IsRefusal, IsWhole, spelling, spellings};
 ghost use Rattle.std.specs.List.{AllByRecursion};
 ghost use Rattle.insn_codec.specs.declared.fault.CodecFault.{CodecFault};
@@ -17,4 +17,10 @@ pub fn one_spelling()
 pub fn nothing_refused()
     ensures { (insns : List Insn) → AllByRecursion IsInsn insns → IsWhole (spellings insns)
         → (e : CodecFault) → IsRefusal e (spellings insns) → e ≡ NoMemory }
+{}
+
+/// Bytes have one refusal at most, but for want of memory.
+pub fn one_refusal()
+    ensures { (bytes : List ℕ) (e f : CodecFault) → IsRefusal e bytes → IsRefusal f bytes
+        → e ≢ NoMemory → f ≢ NoMemory → e ≡ f }
 {}

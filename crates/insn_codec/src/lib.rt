@@ -17,7 +17,7 @@ pub use insn::{
     AluOp, ByteOrder, Condition, EndSize, Insn, LoadKind, Operand, Placed, SignExtension, Size,
     Width,
 };
-pub use laws::{nothing_refused, one_spelling};
+pub use laws::{nothing_refused, one_refusal, one_spelling};
 pub use register::Register;
 
 #[cfg(test)]

@@ -7,7 +7,7 @@ use helpers::{Part, SpawnRecord, Spawner};
 use std::alloc::Global;
 
 /// Cuts the last `count` bytes off the part and hands them over to a child. Where there is no memory, or the spawner
-/// refuses the child, the part is whole again.
+/// refuses the child, the part is whole again. Where the child is taken, nothing comes back, so that the part needs no room for it.
 pub fn hand_over<S: Spawner>(
     alloc: Global,
     program: u16,
@@ -39,7 +39,10 @@ pub fn hand_over<S: Spawner>(
         part: piece,
     };
     match spawner.spawn(child) {
-        Ok(()) => true,
+        Ok(()) => {
+            part.shed_room();
+            true
+        }
         Err(child) => {
             let SpawnRecord {
                 program: _,

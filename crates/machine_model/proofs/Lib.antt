@@ -10,9 +10,6 @@ pub mod OperatorLemmas
 pub mod Codes
 pub mod Costs
 pub mod ComputingLemmas
-pub mod ReferenceLemmas
 pub mod Runs
-pub mod ReferenceRuns
 pub mod MemoryLemmas
-pub mod AloneLemmas
 pub mod FollowingLemmas

@@ -8,6 +8,5 @@ pub mod Spawn
 pub mod Machine
 pub mod Job
 pub mod Computing
-pub mod Reference
 pub mod Alone
 pub mod Following

@@ -10,13 +10,11 @@ pub use prices::{helper_price, price};
 pub use program::Entry;
 
 // the exact operators
-mod computing;
 #[cfg(test)]
 mod operator_tests;
 mod operators;
 mod unary;
 
-pub use computing::compute;
 pub use operators::{alu_number, apply_alu, bits, holds, low_bits, residue, shift_count, signed};
 pub use unary::{extension_width, low_end, negate, reorder_bytes, sign_extend};
 
@@ -24,21 +22,3 @@ pub use unary::{extension_width, low_end, negate, reorder_bytes, sign_extend};
 pub mod memory;
 #[cfg(test)]
 mod memory_tests;
-
-// the reference: the definitions as a plain program
-pub mod reference;
-mod reference_alone;
-mod reference_calls;
-mod reference_computing;
-mod reference_effect;
-#[cfg(test)]
-mod reference_helper_tests;
-mod reference_helpers;
-mod reference_jumps;
-mod reference_memory;
-#[cfg(test)]
-mod reference_programs;
-mod reference_records;
-mod reference_registers;
-#[cfg(test)]
-mod reference_tests;

@@ -1,13 +1,10 @@
 //! Rows worked out by hand from RFC 9669. Registers hold 64 bits, so rows of 32 bits have upper halves to be cut.
 
-use crate::computing::compute;
 use crate::operators::{alu_number, holds, low_bits};
 use crate::unary::{negate, reorder_bytes, sign_extend};
 use insn_codec::AluOp::{Add, And, Arsh, Div, Lsh, Mod, Mul, Or, Rsh, Sdiv, Smod, Sub, Xor};
 use insn_codec::Width::{W32, W64};
-use insn_codec::{
-    AluOp, ByteOrder, Condition, EndSize, Insn, Operand, Register, SignExtension, Width,
-};
+use insn_codec::{AluOp, ByteOrder, Condition, EndSize, SignExtension, Width};
 use std::process::Abort;
 
 /// An operator, its width, two registers and the result.
@@ -500,52 +497,4 @@ fn conditions_hold_as_worked(rt: HostRuntime) {
         let holds = holds(condition, width, low_bits(width, a), low_bits(width, b));
         assert_eq!(rt; holds, want, "{condition:?} {width:?} {a} {b}");
     }
-}
-
-#[test]
-fn instructions_compute_on_words(rt: HostRuntime) {
-    let dst = Register::new(1);
-    let add = Insn::Alu {
-        width: W64,
-        op: Add,
-        dst,
-        src: Operand::Imm(8),
-    };
-    // position -8 moved by 8
-    assert_eq!(rt; compute(&add, 0xffff_ffff_ffff_fff8, 8), 0);
-    let subtract = Insn::Alu {
-        width: W64,
-        op: Sub,
-        dst,
-        src: Operand::Imm(-8),
-    };
-    assert_eq!(rt; compute(&subtract, 504, 0xffff_ffff_ffff_fff8), 512);
-    let copy = Insn::Mov {
-        width: W64,
-        dst,
-        src: Operand::Imm(5),
-    };
-    assert_eq!(rt; compute(&copy, 1, 0x1_0000_0005), 0x1_0000_0005);
-    let cut = Insn::Mov {
-        width: W32,
-        dst,
-        src: Operand::Imm(5),
-    };
-    assert_eq!(rt; compute(&cut, 1, 0x1_0000_0005), 5);
-    let extend = Insn::MovSx {
-        extension: SignExtension::From8To32,
-        dst,
-        src: dst,
-    };
-    assert_eq!(rt; compute(&extend, 1, 0x80), 0xffff_ff80);
-    assert_eq!(rt;
-        compute(&Insn::Neg { width: W64, dst }, 1, 7),
-        0xffff_ffff_ffff_ffff
-    );
-    let turn = Insn::End {
-        order: ByteOrder::Big,
-        size: EndSize::Bits16,
-        dst,
-    };
-    assert_eq!(rt; compute(&turn, 4660, 7), 13330);
 }

@@ -1,5 +1,0 @@
-use Rattle.std.proofs.Common.{◌≡◌, sum, take}
-use Rattle.machine_model.proofs.reference_helpers.total.Given as goal
-
-abbrev pub invariant-loop-byte : goal.invariant-loop-byte
-invariant-loop-byte l = l.total ≡ sum (take l.byte-index l.bytes)

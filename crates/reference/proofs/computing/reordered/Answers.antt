@@ -1,0 +1,25 @@
+use Rattle.std.proofs.Common.{◌≡◌, ◌∙◌, ap, refl, arith, nat_eq, false, Ok, Err}
+use Rattle.std.proofs.lemmas.Bool.Decides.{nat_tests}
+use Rattle.insn_codec.specs.declared.insn.Insn.{Insn}
+use Rattle.insn_codec.specs.declared.insn.Insn.TheVariants.{End}
+use Rattle.machine_model.specs.Machine.{State}
+use Rattle.machine_model.specs.Outcomes.{ordered_by}
+use Rattle.reference.specs.Records.{state_of}
+use Rattle.machine_model.specs.Value.{Num}
+use Rattle.reference.proofs.EffectLemmas.{one_number, put_into}
+use Rattle.reference.proofs.computing.reordered.Goals as goal
+
+pub returns-in-Err : goal.returns-in-Err
+returns-in-Err c = λ p entries.
+    let off : nat_eq c.args.dst 10 ≡ false = grind (arith, nat_tests, c.number.ensures.value, c.if-number-eq10.false) in
+    one_number (End c.args.order c.args.size c.args.dst) (state_of c.args.state) c.args.dst c.content.result ((state_of c.args.state).registers c.args.dst) (ordered_by c.args.order c.args.size)
+    (Err c.in-Err.cause) off c.content.ensures c.in-Err.ensures
+
+pub returns-in-Ok : goal.returns-in-Ok
+returns-in-Ok c = λ p entries.
+    let i : Insn = End c.args.order c.args.size c.args.dst in
+    let s : State = state_of c.args.state in
+    let off : nat_eq c.args.dst 10 ≡ false = grind (arith, nat_tests, c.number.ensures.value, c.if-number-eq10.false) in
+    c.put.ensures i refl
+    ∙ ap (λ n. put_into i s c.args.dst (Num n)) c.reorder_bytes.ensures
+    ∙ one_number i s c.args.dst c.content.result (s.registers c.args.dst) (ordered_by c.args.order c.args.size) (Ok c.in-Ok.x) off c.content.ensures c.in-Ok.ensures

@@ -1,0 +1,36 @@
+//! The reference: the definitions of `machine_model` as a plain, slow program, one function a definition. What it is compared with
+//! shares the exact operators with it, and loads, stores and fills of memory, but nothing else.
+#![tactic(auto)]
+
+// what it works on
+mod records;
+mod registers;
+
+pub use records::{
+    Change, Child, Content, EndedTask, JobMember, LiveTask, Outcome, ReferenceJob, ReferenceMove,
+    ReferenceProgram, Request, Running, TrapCause, Unanswered,
+};
+
+// what one instruction does to one task
+mod accesses;
+mod calls;
+mod computing;
+mod effects;
+mod helper_calls;
+mod jumps;
+
+pub use effects::effect;
+
+// a program alone, and a job over a schedule
+mod alone;
+mod runs;
+
+pub use alone::run_alone;
+pub use runs::{run, start, step};
+
+#[cfg(test)]
+mod helper_tests;
+#[cfg(test)]
+mod programs;
+#[cfg(test)]
+mod tests;
