@@ -31,7 +31,8 @@ stxb [r6+0], r0\nmov64 r0, 0\nexit\n"
 /// The child stores its argument in its first byte. It needs 4 bytes and costs 3.
 const CHILD: [&str; 3] = ["stxb [r1+0], r3", "mov64 r0, 0", "exit"];
 
-/// The buffer, what is held, returned, spent and used, and whether the job is complete, after it is played.
+/// The buffer, what is held, returned, spent and used, whether the job is complete, and if it is, of each task number, program,
+/// argument, the credit that it was given, and R0, after it is played.
 fn played(alloc: Global, family: &Family) -> Result<String, Fail> {
     let programs = [
         ProgramBytes {
@@ -58,7 +59,33 @@ fn played(alloc: Global, family: &Family) -> Result<String, Fail> {
     } = world.totals();
     let buffer = hex::encode(alloc, world.buffer(alloc)?.as_slice())?;
     let complete = world.report().is_some();
-    Ok(format!(in alloc; "{buffer} {held} {returned} {spent} {used} {complete}")?)
+    let mut text = format!(in alloc; "{buffer} {held} {returned} {spent} {used} {complete}")?;
+    if let Some(report) = world.report() {
+        for end in &report.tasks {
+            let (number, program, arg) = (end.number, end.program, end.arg);
+            let (given, r0) = (end.given, end.r0);
+            text.push_str(task_text(
+                alloc,
+                u64::from(number),
+                u64::from(program),
+                arg,
+                given,
+                r0,
+            )?.as_str())?;
+        }
+    }
+    Ok(text)
+}
+
+fn task_text(
+    alloc: Global,
+    number: u64,
+    program: u64,
+    arg: u64,
+    given: u32,
+    r0: u64,
+) -> Result<String, Fail> {
+    Ok(format!(in alloc; ", task {number}: program {program} on {arg} with {given} gives {r0}")?)
 }
 
 /// The same of a job of the reference.
@@ -81,7 +108,16 @@ fn told(alloc: Global, job: &ReferenceJob) -> Result<String, Fail> {
         }
     }
     let buffer = hex::encode(alloc, job.buffer.as_slice())?;
-    Ok(format!(in alloc; "{buffer} {held} {returned} {spent} {used} {complete}")?)
+    let mut text = format!(in alloc; "{buffer} {held} {returned} {spent} {used} {complete}")?;
+    let mut number = 0;
+    for member in &job.tasks {
+        if let (true, JobMember::Ended(end)) = (complete, member) {
+            let (program, arg, given, r0) = (end.program, end.arg, end.given, end.r0);
+            text.push_str(task_text(alloc, number, program, arg, given, r0)?.as_str())?;
+        }
+        number = number.wrapping_add(1);
+    }
+    Ok(text)
 }
 
 /// The same after the reference runs it.
@@ -113,7 +149,7 @@ const FAMILIES: [(u32, u32, u32, u32, usize, &str, &str); 9] = [
         34,
         8,
         "000000000111",
-        "0000000009000000 0 7 27 27 true",
+        "0000000009000000 0 7 27 27 true, task 0: program 0 on 0 with 34 gives 0, task 1: program 1 on 9 with 10 gives 0",
     ),
     (
         1,
@@ -122,7 +158,7 @@ const FAMILIES: [(u32, u32, u32, u32, usize, &str, &str); 9] = [
         33,
         8,
         "000000000",
-        "0300000000000000 0 9 24 24 true",
+        "0300000000000000 0 9 24 24 true, task 0: program 0 on 0 with 33 gives 0",
     ),
     (
         1,
@@ -131,7 +167,7 @@ const FAMILIES: [(u32, u32, u32, u32, usize, &str, &str); 9] = [
         34,
         7,
         "000000000",
-        "05000000000000 0 10 24 24 true",
+        "05000000000000 0 10 24 24 true, task 0: program 0 on 0 with 34 gives 0",
     ),
     (
         2,
@@ -140,7 +176,7 @@ const FAMILIES: [(u32, u32, u32, u32, usize, &str, &str); 9] = [
         34,
         8,
         "000000000",
-        "0100000000000000 0 10 24 24 true",
+        "0100000000000000 0 10 24 24 true, task 0: program 0 on 0 with 34 gives 0",
     ),
     (
         1,
@@ -149,7 +185,7 @@ const FAMILIES: [(u32, u32, u32, u32, usize, &str, &str); 9] = [
         34,
         8,
         "000000000",
-        "0200000000000000 0 10 24 24 true",
+        "0200000000000000 0 10 24 24 true, task 0: program 0 on 0 with 34 gives 0",
     ),
     (
         1,
@@ -158,7 +194,7 @@ const FAMILIES: [(u32, u32, u32, u32, usize, &str, &str); 9] = [
         34,
         8,
         "000000000",
-        "0400000000000000 0 10 24 24 true",
+        "0400000000000000 0 10 24 24 true, task 0: program 0 on 0 with 34 gives 0",
     ),
     (
         1,
@@ -167,7 +203,7 @@ const FAMILIES: [(u32, u32, u32, u32, usize, &str, &str); 9] = [
         34,
         8,
         "000000111000",
-        "0000000009000000 0 7 27 27 true",
+        "0000000009000000 0 7 27 27 true, task 0: program 0 on 0 with 34 gives 0, task 1: program 1 on 9 with 10 gives 0",
     ),
     // steps of a task that there is not, or is no more, do nothing
     (
@@ -177,7 +213,7 @@ const FAMILIES: [(u32, u32, u32, u32, usize, &str, &str); 9] = [
         34,
         8,
         "51000000101000019",
-        "0000000009000000 0 7 27 27 true",
+        "0000000009000000 0 7 27 27 true, task 0: program 0 on 0 with 34 gives 0, task 1: program 1 on 9 with 10 gives 0",
     ),
     (
         1,

@@ -33,6 +33,10 @@ mod ways;
 #[cfg(test)]
 mod refusal_tests;
 
-// jobs of two tasks, run in two ways
+// jobs of several tasks
+#[cfg(test)]
+mod chain_tests;
 #[cfg(test)]
 mod family_tests;
+#[cfg(test)]
+mod place_tests;

@@ -7,6 +7,7 @@ use crate::job::Job;
 use crate::ledger::Ledger;
 use crate::live::Vacant;
 use crate::report::{Report, TaskEnd};
+use crate::room::room_of;
 use crate::tasks::{Stepped, Tasks};
 use crate::totals::{Totals, used_by_live};
 use helpers::{Entry, Part, SpawnRecord};
@@ -38,6 +39,7 @@ impl World {
     ghost use Rattle.machine_model.specs.Job.{start, IsAlive, IsComplete};
     ghost use Rattle.job_core.specs.Behind.{IsBehind, Steps, LeadsOn};
     ghost use Rattle.job_core.specs.Answers.{AreTotals, IsReportOf};
+    ghost use Rattle.job_core.specs.Rooms.{room_at};
 
     /// The job at its start: the root alone, with all the credit and the whole buffer.
     pub fn open(alloc: Global, job: Job) -> Result<World, NoMemory>
@@ -122,6 +124,16 @@ impl World {
         match self.tasks.ledger.lives.get(number as usize) {
             Some(live) => live.is_some(),
             None => false,
+        }
+    }
+
+    /// For how many bytes the task's part has room, which is the memory that it takes. None where the task isn't alive.
+    pub fn part_room(&self, number: u32) -> Option<usize>
+        ensures { result ≡ room_at self.now.lives number }
+    {
+        match self.tasks.ledger.lives.get(number as usize) {
+            Some(live) => room_of(live),
+            None => None,
         }
     }
 
