@@ -29,6 +29,10 @@ mod rows;
 #[cfg(test)]
 mod ways;
 
+// programs, memories and shares at their limits
+#[cfg(test)]
+mod limit_tests;
+
 // programs that are refused, in three ways
 #[cfg(test)]
 mod refusal_tests;
