@@ -2,7 +2,7 @@
 
 use crate::scenario::{Scenario, program};
 use crate::single::{executed, filter, sum};
-use interpreter::Vm;
+use virtual_machine::Vm;
 use job_core::{ProgramBytes, Report, admit, play};
 use std::alloc::Global;
 use std::io::Write;

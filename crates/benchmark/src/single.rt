@@ -4,7 +4,7 @@ ghost use Rattle.std.specs.Prelude.{◌≤◌, vec_len};
 
 use assembler::assemble;
 use insn_codec::{AluOp, Insn, Operand, Register, Width, encode};
-use interpreter::Vm;
+use virtual_machine::Vm;
 use std::alloc::Global;
 
 /// Takes a packet of the protocols TCP over IP, version 4, to port 80 or 443: 1 for such a one, else 0.

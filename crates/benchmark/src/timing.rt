@@ -4,7 +4,7 @@ use crate::results::{SCENARIOS, schedule};
 use crate::scenario::{Scenario, program};
 use crate::single::{Single, executed, filter, sum};
 use helpers::HelperTable;
-use interpreter::Vm;
+use virtual_machine::Vm;
 use job_core::{admit, play};
 use std::alloc::Global;
 use std::io::Write;

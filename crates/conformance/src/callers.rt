@@ -1,7 +1,7 @@
 //! Helpers of a caller's own: 64 adds its first two numbers, of 65 each number counts twice as much as the one ahead of it, and
 //! 127 answers the greatest number.
 
-use interpreter::Vm;
+use virtual_machine::Vm;
 use std::alloc::Global;
 use std::test::Fail;
 

@@ -1,7 +1,7 @@
 //! How a host embeds the machine for single programs: the example of the README.
 
 use assembler::assemble;
-use interpreter::Vm;
+use virtual_machine::Vm;
 use std::alloc::Global;
 use std::test::Fail;
 

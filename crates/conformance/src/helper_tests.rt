@@ -2,7 +2,7 @@
 
 use crate::rows::{CreditRow, agree_on_credit};
 use crate::ways::{Start, assembled, by_job, by_reference, by_vm};
-use interpreter::Vm;
+use virtual_machine::Vm;
 use std::test::Fail;
 
 const TOLD: [CreditRow; 8] = [

@@ -1,7 +1,7 @@
 //! Programs that are refused: each way tells the same number and slot. They were worked out by hand.
 
 use crate::ways::{assembled, copied};
-use interpreter::Vm;
+use virtual_machine::Vm;
 use job_core::{AdmitFault, ProgramBytes, admit};
 use std::alloc::Global;
 use std::process::Abort;

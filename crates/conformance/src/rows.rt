@@ -1,7 +1,7 @@
 //! Rows of programs that all ways run to one answer.
 
 use crate::ways::{Start, assembled, by_job, by_reference, by_vm};
-use interpreter::Vm;
+use virtual_machine::Vm;
 use std::alloc::Global;
 use std::process::Abort;
 use std::test::Fail;

@@ -5,7 +5,7 @@ use assembler::assemble;
 use cost_bound::costs;
 use flow_graph::build;
 use insn_codec::decode;
-use interpreter::Vm;
+use virtual_machine::Vm;
 use job_core::{ProgramBytes, admit, play};
 use machine_model::reference::{ReferenceProgram, run_alone};
 use std::alloc::Global;

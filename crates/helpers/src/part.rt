@@ -1,6 +1,6 @@
 //! The bytes that a task owns.
 
-ghost use Rattle.std.specs.Prelude.{◌≡◌, ℕ, ◌+◌, ◌-◌, ◌*◌, ◌^◌, ◌<◌, ◌≤◌, [], ◌++◌, length, take, drop, replicate, sum, IfOk, OnErr};
+ghost use Rattle.std.specs.Prelude.{◌≡◌, ℕ, ◌+◌, ◌-◌, ◌*◌, ◌^◌, ◌<◌, ◌≤◌, [], ◌++◌, length, take, drop, replicate, sum, vec_capacity, IfOk, OnErr};
 ghost use Rattle.helpers.specs.Piece.{Piece};
 ghost use Rattle.machine_model.specs.Memory.{bytes_at, little_bytes, little_number, load_bytes, store_bytes, widened, written};
 
@@ -127,5 +127,25 @@ impl Part {
     {
         let Part { base: _, bytes } = self;
         bytes
+    }
+
+    /// Takes its bytes out. Until bytes are put into it again, it has none.
+    #[inline]
+    pub fn take_bytes(&mut self, alloc: Global) -> Vec<u8>
+        ensures bytes { result.items ≡ self.old.bytes }
+        ensures room { vec_capacity result ≡ self.old.room }
+        ensures base { self.new.base ≡ self.old.base }
+        ensures small { self.old.base + length self.old.bytes ≤ 65536 }
+    {
+        std::mem::replace(&mut self.bytes, Vec::new(alloc))
+    }
+
+    /// Puts bytes into it in place of those that it has.
+    #[inline]
+    pub fn put_bytes(&mut self, bytes: Vec<u8>)
+        requires { self.old.base + length bytes.items ≤ 65536 }
+        ensures { self.new ≡ record { base = self.old.base; bytes = bytes.items; room = vec_capacity bytes } }
+    {
+        self.bytes = bytes;
     }
 }

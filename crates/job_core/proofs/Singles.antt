@@ -25,11 +25,11 @@ pub record IsAlone (order : Order) (i : ℕ) (kept : Kept) : Type 0 where
   pub alive : slice_get kept.lives 0 ≡ Some (Some live)
   pub onward : i ≤ live.frame.slot
 
-pub alone_none : (order : Order) (kept : Kept) → IsBehind kept (start order.credit order.buffer) → IsAlone order 0 kept
-alone_none order kept behind =
+pub alone_none : (order : Order) (kept : Kept) → kept.programs ≡ order.programs → IsBehind kept (start order.credit order.buffer) → IsAlone order 0 kept
+alone_none order kept same behind =
     let is = behind.kept_are.each 0 _ refl in
     record {
-      plays = plays_none order.programs (start order.credit order.buffer) kept behind;
+      plays = plays_none order.programs (start order.credit order.buffer) kept same behind;
       live = is.live;
       alive = is.there;
       onward = omega arith;

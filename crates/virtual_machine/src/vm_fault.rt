@@ -1,7 +1,7 @@
 //! Why a single program isn't run.
 
 ghost use Rattle.std.specs.Prelude.{◌≡◌};
-ghost use Rattle.interpreter.specs.VmFaultCodes.{code_of_fault};
+ghost use Rattle.virtual_machine.specs.VmFaultCodes.{code_of_fault};
 
 use refusal::NoMemory;
 use std::alloc::AllocError;
@@ -39,7 +39,7 @@ impl VmFault {
 }
 
 impl From<NoMemory> for VmFault {
-    ghost use Rattle.interpreter.specs.declared.vm_fault.VmFault.TheVariants as fault;
+    ghost use Rattle.virtual_machine.specs.declared.vm_fault.VmFault.TheVariants as fault;
 
     ghost from_gives = { λ _ refusal. refusal ≡ fault.NoMemory };
 
@@ -49,7 +49,7 @@ impl From<NoMemory> for VmFault {
 }
 
 impl From<AllocError> for VmFault {
-    ghost use Rattle.interpreter.specs.declared.vm_fault.VmFault.TheVariants as fault;
+    ghost use Rattle.virtual_machine.specs.declared.vm_fault.VmFault.TheVariants as fault;
 
     ghost from_gives = { λ _ refusal. refusal ≡ fault.NoMemory };
 

@@ -1,6 +1,6 @@
 use Rattle.std.proofs.Common.{arith}
-use Rattle.interpreter.proofs.Places.{have_same, have_put, function_put}
-use Rattle.interpreter.proofs.vm.Vm.register_helper.Goals as goal
+use Rattle.virtual_machine.proofs.Places.{have_same, have_put, function_put}
+use Rattle.virtual_machine.proofs.vm.Vm.register_helper.Goals as goal
 
 pub invariant_of-self : goal.invariant_of-self
 invariant_of-self g c = record {

@@ -1,10 +1,10 @@
 use Rattle.std.proofs.Common.{◌∙◌, refl, ap, arith}
 use Rattle.interpreter.specs.declared.frame.Frame.{Frame}
 use Rattle.interpreter.specs.Behind.{at_slot}
-use Rattle.interpreter.specs.Functions.{called}
-use Rattle.interpreter.proofs.Running.{enters, goes_on, ends}
-use Rattle.interpreter.proofs.Answering.{are_answers}
-use Rattle.interpreter.proofs.alone.run_alone.Goals as goal
+use Rattle.virtual_machine.specs.Functions.{called}
+use Rattle.virtual_machine.proofs.Running.{enters, goes_on, ends}
+use Rattle.virtual_machine.proofs.Answering.{are_answers}
+use Rattle.virtual_machine.proofs.alone.run_alone.Goals as goal
 
 pub loop-next-init : goal.loop-next-init
 loop-next-init g c = record {

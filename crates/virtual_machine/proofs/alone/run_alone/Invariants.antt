@@ -1,9 +1,9 @@
 use Rattle.std.proofs.Common.{◌≡◌, ◌-◌}
 use Rattle.machine_model.specs.Alone.{alone}
-use Rattle.interpreter.specs.Functions.{called}
+use Rattle.virtual_machine.specs.Functions.{called}
 use Rattle.interpreter.specs.Behind.{at_slot}
-use Rattle.interpreter.proofs.Running.{IsUnderWay}
-use Rattle.interpreter.proofs.alone.run_alone.Given as goal
+use Rattle.virtual_machine.proofs.Running.{IsUnderWay}
+use Rattle.virtual_machine.proofs.alone.run_alone.Given as goal
 
 abbrev pub invariant-loop-next : goal.invariant-loop-next
 invariant-loop-next g l = record {

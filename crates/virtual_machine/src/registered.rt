@@ -13,7 +13,7 @@ pub struct Registered {
 }
 
 impl Registered {
-    ghost use Rattle.interpreter.specs.Functions.{answers};
+    ghost use Rattle.virtual_machine.specs.Functions.{answers};
 
     /// The function, ready to be called.
     pub fn of(function: Function) -> Registered

@@ -1,11 +1,11 @@
 -- What the functions answer is what the run asks for.
 use Rattle.std.proofs.Common.{◌≡◌, ℕ, subst, Option, Some, List}
 use Rattle.verifier.specs.Checked.{Checked}
-use Rattle.interpreter.specs.declared.functions.Functions.{Functions}
-use Rattle.interpreter.specs.declared.registered.Registered.{Registered}
-use Rattle.interpreter.specs.Functions.{HaveFunctions, function_of, may_answer, called}
-use Rattle.interpreter.proofs.Asking.{has_function}
-use Rattle.interpreter.proofs.Running.{AreAnswers}
+use Rattle.virtual_machine.specs.declared.functions.Functions.{Functions}
+use Rattle.virtual_machine.specs.declared.registered.Registered.{Registered}
+use Rattle.virtual_machine.specs.Functions.{HaveFunctions, function_of, may_answer, called}
+use Rattle.virtual_machine.proofs.Asking.{has_function}
+use Rattle.virtual_machine.proofs.Running.{AreAnswers}
 
 -- the function that there is answers
 there_called : {X : Type 0} {g : _} (functions : List (Option (Registered X g))) (helper : ℕ) (arguments : List ℕ) (answer : ℕ) →

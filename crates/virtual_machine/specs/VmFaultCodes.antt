@@ -1,7 +1,7 @@
 -- The numbers of the refusals.
 use Rattle.std.specs.Prelude.{ℕ}
-use Rattle.interpreter.specs.declared.vm_fault.VmFault.{VmFault}
-use Rattle.interpreter.specs.declared.vm_fault.VmFault.TheVariants.{NoProgram, CreditLow, MemoryShort, NoMemory}
+use Rattle.virtual_machine.specs.declared.vm_fault.VmFault.{VmFault}
+use Rattle.virtual_machine.specs.declared.vm_fault.VmFault.TheVariants.{NoProgram, CreditLow, MemoryShort, NoMemory}
 
 abbrev pub code_of_fault : VmFault → ℕ
 code_of_fault NoProgram = 41

@@ -2,8 +2,8 @@
 use Rattle.std.specs.Prelude.{List, Option}
 use Rattle.helpers.specs.Table.{Table}
 use Rattle.verifier.specs.Checked.{Checked}
-use Rattle.interpreter.specs.declared.registered.Registered.{Registered}
-use Rattle.interpreter.specs.declared.vm.Vm.{Vm}
+use Rattle.virtual_machine.specs.declared.registered.Registered.{Registered}
+use Rattle.virtual_machine.specs.declared.vm.Vm.{Vm}
 
 -- the program that is set, if one is
 abbrev pub program_in : {X : Type 0} {g : _} → Vm X g → Option Checked

@@ -3,7 +3,7 @@ use Rattle.std.proofs.Common.{◌≡◌, ◌≢◌, ℕ, ◌+◌, ◌-◌, ◌<�
 use Rattle.std.proofs.lemmas.Bool.Decides.{nat_tests}
 use Rattle.std.proofs.lemmas.List.{get_or-set_same, get_or-set_other}
 use Rattle.helpers.specs.Table.{Table, arity_in}
-use Rattle.interpreter.specs.Functions.{HaveFunctions, function_of}
+use Rattle.virtual_machine.specs.Functions.{HaveFunctions, function_of}
 
 over_64 : (place : ℕ) → nat_lt (place + 64) 64 ≡ false
 over_64 place = grind (arith, nat_tests)

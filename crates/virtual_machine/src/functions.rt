@@ -21,7 +21,7 @@ pub struct Functions {
 }
 
 impl Functions {
-    ghost use Rattle.interpreter.specs.Functions.{function_of};
+    ghost use Rattle.virtual_machine.specs.Functions.{function_of};
 
     /// No functions.
     pub fn none(alloc: Global) -> Functions
@@ -69,7 +69,7 @@ impl Functions {
 impl Spawner for Functions {
     ghost use Rattle.std.specs.Prelude.{◌≡◌, Err};
     ghost use Rattle.machine_model.specs.Alone.{no_entries};
-    ghost use Rattle.interpreter.specs.Functions.{function_of, may_answer};
+    ghost use Rattle.virtual_machine.specs.Functions.{function_of, may_answer};
 
     ghost entries = { λ s. no_entries };
 

@@ -1,7 +1,7 @@
 -- What the functions of a caller may answer.
 use Rattle.std.specs.Prelude.{◌≡◌, ◌≢◌, ℕ, ◌-◌, nat_lt, List, [], ◌∷◌, Option, Some, None, slice_index_or, if◌then◌else◌}
 use Rattle.helpers.specs.Table.{Table}
-use Rattle.interpreter.specs.declared.registered.Registered.{Registered}
+use Rattle.virtual_machine.specs.declared.registered.Registered.{Registered}
 
 -- what a function may answer to five arguments
 abbrev pub Post : Type 1

@@ -2,11 +2,10 @@
 
 ghost use Rattle.std.specs.Prelude.{◌≡◌, ◌≤◌, length};
 ghost use Rattle.verifier.specs.Checked.{IsVerified, cost_at};
-ghost use Rattle.interpreter.specs.Functions.{HaveFunctions, called};
-ghost use Rattle.interpreter.specs.Executes.{Runs};
+ghost use Rattle.virtual_machine.specs.Functions.{HaveFunctions, called};
+ghost use Rattle.virtual_machine.specs.Executes.{Runs};
 
-use crate::credit::Credit;
-use crate::frame::{Frame, Next};
+use interpreter::{Credit, Frame, Next};
 use crate::functions::Functions;
 use helpers::Part;
 use std::alloc::Global;

@@ -5,8 +5,8 @@ ghost use Rattle.helpers.specs.Table.{arity_in, job_table};
 ghost use Rattle.verifier.specs.Checked.{Checked};
 ghost use Rattle.verifier.specs.Refusals.{Refuses};
 ghost use Rattle.std.proofs.Props.{props};
-ghost use Rattle.interpreter.specs.Functions.{HaveFunctions, called, function_of};
-ghost use Rattle.interpreter.specs.Executes.{Executes, IsUnrunnable, IsSet};
+ghost use Rattle.virtual_machine.specs.Functions.{HaveFunctions, called, function_of};
+ghost use Rattle.virtual_machine.specs.Executes.{Executes, IsUnrunnable, IsSet};
 
 use crate::alone::run_alone;
 use crate::functions::Functions;
@@ -33,7 +33,7 @@ pub struct Vm {
 }
 
 impl Vm {
-    ghost use Rattle.interpreter.specs.Holding.{program_in, helpers_in, functions_in};
+    ghost use Rattle.virtual_machine.specs.Holding.{program_in, helpers_in, functions_in};
 
     /// A machine with the program of this need and code, if they are given, and with the helpers of a job. The program's
     /// refusal is [`Refusal`]'s.

@@ -3,7 +3,7 @@ use Rattle.std.proofs.Common.{◌≡◌, ◌≢◌, ℕ, zero, suc, ◌-◌, ◌
 use Rattle.machine_model.specs.Machine.{State, Program, Entries, Effect, Goes, Ends, Spawns, Calls, Traps, spawned, paid, effect}
 use Rattle.machine_model.proofs.Effects.{if_holds, effect_holds}
 use Rattle.helpers.specs.Table.{Table, own_arity, arity_in}
-use Rattle.interpreter.specs.Functions.{HaveFunctions, function_of}
+use Rattle.virtual_machine.specs.Functions.{HaveFunctions, function_of}
 
 -- a call asks for a helper that is registered and isn't one of the machine's own, and leaves the part as it was
 abbrev pub Asks : Program → List ℕ → Effect → Type 0

@@ -2,7 +2,7 @@
 use Rattle.std.proofs.Common.{◌≡◌, ℕ, suc, ◌<◌, ◌≤◌, ◌^◌, arith, length, refl, sym, subst, ap, ◌∙◌, List, Result, Some}
 use Rattle.machine_model.specs.Value.{Registers}
 use Rattle.machine_model.specs.Machine.{State, Effect, Goes, Ends, Spawns, Calls, Traps, answered, effect}
-use Rattle.interpreter.proofs.Asking.{Asks, asks_effect}
+use Rattle.virtual_machine.proofs.Asking.{Asks, asks_effect}
 use Rattle.machine_model.proofs.Splits.{Splits, splits_effect, Births, births_effect}
 use Rattle.machine_model.specs.Alone.{Answers, Follows, EndsWithin, EndsAlone, alone, no_entries}
 use Rattle.machine_model.specs.Job.{entry_registers}

@@ -5,8 +5,8 @@ use Rattle.machine_model.specs.Alone.{Answers, EndsAlone, alone}
 use Rattle.helpers.specs.Table.{Table}
 use Rattle.verifier.specs.Checked.{Checked, program_of, cost_at}
 use Rattle.verifier.specs.Refusals.{IsAccepted}
-use Rattle.interpreter.specs.declared.vm_fault.VmFault.{VmFault}
-use Rattle.interpreter.specs.declared.vm_fault.VmFault.TheVariants.{NoProgram, CreditLow, MemoryShort, NoMemory}
+use Rattle.virtual_machine.specs.declared.vm_fault.VmFault.{VmFault}
+use Rattle.virtual_machine.specs.declared.vm_fault.VmFault.TheVariants.{NoProgram, CreditLow, MemoryShort, NoMemory}
 
 -- the program runs alone from its entry to its end with R0, and leaves these bytes
 pub record Runs (p : Checked) (may : Answers) (credit : ℕ) (bytes : List ℕ) (r0 : ℕ) (left : List ℕ) : Type 0 where
