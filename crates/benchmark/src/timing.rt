@@ -96,7 +96,7 @@ fn executed_alone<C: Clock>(
     let mut quickest = Duration::MAX;
     for _ in 0..ROUNDS {
         let start = Instant::now(clock)?;
-        vm.execute_program(alloc, &mut memory, LONGEST)?;
+        vm.execute_program(&mut memory, LONGEST)?;
         quickest = quickest.min(start.elapsed(clock)?);
     }
     Ok(quickest)

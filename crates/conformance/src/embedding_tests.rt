@@ -15,7 +15,7 @@ fn answer(alloc: Global, memory: &mut [u8; 16], credit: u8) -> Result<u64, Fail>
     let mut vm = Vm::new(alloc, None)?;
     vm.register_helper(alloc, 64, 2, add)?;
     vm.set_program(alloc, 0, &code)?;
-    Ok(vm.execute_program(alloc, memory, u32::from(credit))?)
+    Ok(vm.execute_program(memory, u32::from(credit))?)
 }
 
 #[test]

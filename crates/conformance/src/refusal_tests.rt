@@ -138,7 +138,7 @@ fn told_by_set(alloc: Global, need: u32, code: &[u8]) -> Result<Option<Told>, Fa
         Err(refusal) => Some((refusal.code(), refusal.slot())),
     };
     let mut memory = [0; 1];
-    match vm.execute_program(alloc, &mut memory, 2) {
+    match vm.execute_program(&mut memory, 2) {
         Ok(42) => Ok(told),
         _ => Err(Fail::new("the program that was set is gone")),
     }

@@ -59,7 +59,7 @@ pub(crate) fn by_vm(alloc: Global, vm: &mut Vm, start: &Start) -> Result<(u64, V
     vm.set_program(alloc, start.need, &start.code)?;
     let mut memory = copied(alloc, start.memory)?;
     memory.truncate(65536);
-    let r0 = vm.execute_program(alloc, &mut memory, start.credit.min(2_147_483_647))?;
+    let r0 = vm.execute_program(&mut memory, start.credit.min(2_147_483_647))?;
     Ok((r0, memory))
 }
 

@@ -13,3 +13,4 @@ pub mod Helpers
 pub mod Enters
 pub mod Dispatch
 pub mod Stretches
+pub mod Lending

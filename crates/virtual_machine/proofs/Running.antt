@@ -1,5 +1,5 @@
 -- The run of a single program, step by step.
-use Rattle.std.proofs.Common.{◌≡◌, ℕ, suc, ◌<◌, ◌≤◌, ◌^◌, arith, length, refl, sym, subst, ap, ◌∙◌, List, Result, Some}
+use Rattle.std.proofs.Common.{◌≡◌, ℕ, zero, suc, ◌+◌, ◌<◌, ◌≤◌, ◌^◌, arith, length, refl, sym, subst, ap, ◌∙◌, List, Result, Some}
 use Rattle.machine_model.specs.Value.{Registers}
 use Rattle.machine_model.specs.Machine.{State, Effect, Goes, Ends, Spawns, Calls, Traps, answered, effect}
 use Rattle.virtual_machine.proofs.Asking.{Asks, asks_effect}
@@ -14,6 +14,7 @@ use Rattle.interpreter.specs.declared.frame.Frame.{Frame}
 use Rattle.interpreter.specs.declared.credit.Credit.{Credit}
 use Rattle.interpreter.specs.declared.frame.StepOut.TheVariants.{Went, Ended}
 use Rattle.interpreter.specs.Behind.{AreBehind, IsCovered, Did, state_of, entry_frame}
+use Rattle.interpreter.specs.Stretch.{GoesOn, spent_on}
 use Rattle.interpreter.proofs.Enters.{behind_entry, covered_entry}
 
 -- A task stands behind the frame, which leads from the start to wherever that task leads.
@@ -125,3 +126,15 @@ module _ (p : Checked) (may : Answers) (start : State) (f : Frame) (part : Piece
   pub ends : (word : ℕ) → Did p (effect (program_of p) no_entries before) (Ended word) f' part' credit' quiet told asked →
       (last : State) × EndsAlone (program_of p) may start word last × (part'.bytes ≡ last.part) × (length part'.bytes ≡ length start.part) × quiet
   ends word did = ended word (effect (program_of p) no_entries before) refl (splits_effect (program_of p) no_entries before) did
+
+-- a stretch of instructions that go on
+pub goes_far : (p : Checked) (may : Answers) (start : State) (f : Frame) (part : Piece) (credit : Credit) → IsUnderWay p may start f part credit →
+    (n : ℕ) (mid : Frame) (mid_part : Piece) → GoesOn p credit n f part mid mid_part → IsUnderWay p may start mid mid_part (spent_on credit n)
+goes_far p may start f part credit way zero mid mid_part goes =
+    let none : credit ≡ spent_on credit zero = ap (λ u. let c : Credit = record { held = credit.held; used = u } in c) (omega arith) in
+    rw (goes.0, goes.1) (subst (λ c. IsUnderWay p may start f part c) none way)
+goes_far p may start f part credit way (suc n) mid mid_part goes =
+    let before = goes_far p may start f part credit way n goes.0 goes.1 goes.2 in
+    let next = goes.3.goes no_entries before.registers before.behind in
+    (goes_on p may start goes.0 goes.1 (spent_on credit n) before mid mid_part (spent_on credit (suc n)) (Unit {0}) (λ child reply. ⊥)
+    (λ helper arguments answer. ⊥) (λ helper arity arguments answer over is asked. absurd asked) (rw next.2 ((refl, next.1), tt)) goes.3.covered).0

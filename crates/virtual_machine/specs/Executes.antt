@@ -26,12 +26,12 @@ pub record Executes (program : Option Checked) (may : Answers) (credit : ℕ) (b
   pub runnable : IsRunnable program credit (length bytes) p
   pub runs : Runs p may credit bytes r0 left
 
--- why it doesn't run
+-- why it doesn't run; a run takes no memory
 abbrev pub IsUnrunnable : Option Checked → ℕ → ℕ → VmFault → Type 0
 IsUnrunnable program credit len NoProgram = program ≡ None
 IsUnrunnable program credit len CreditLow = (p : Checked) × (program ≡ Some p) × (credit < cost_at p 0)
 IsUnrunnable program credit len MemoryShort = (p : Checked) × (program ≡ Some p) × (cost_at p 0 ≤ credit) × (len < p.need)
-IsUnrunnable program credit len NoMemory = (p : Checked) × IsRunnable program credit len p
+IsUnrunnable program credit len NoMemory = ⊥
 
 -- the program is that of the bytes, verified with these helpers
 abbrev pub IsSet : ℕ → List ℕ → Table → Option Checked → Type 0

@@ -12,7 +12,7 @@ use crate::alone::run_alone;
 use crate::functions::Functions;
 use crate::registered::{Function, Registered};
 use crate::vm_fault::VmFault;
-use helpers::{HelperTable, Part};
+use helpers::HelperTable;
 use refusal::NoMemory;
 use std::alloc::Global;
 use verifier::{Refusal, Verified, verify};
@@ -24,8 +24,6 @@ pub struct Vm {
     program: Option<Verified>,
     helpers: HelperTable,
     functions: Functions,
-    /// Room for the memory of the next run.
-    room: Vec<u8>,
     /// The program was verified with these helpers.
     ghost same: { (p : Checked) → program ≡ Some p → p.helpers ≡ helpers } by { Prim.hlevel props },
     /// Each helper that was registered has its function.
@@ -52,7 +50,6 @@ impl Vm {
             program,
             helpers,
             functions: Functions::none(alloc),
-            room: Vec::new(alloc),
         })
     }
 
@@ -107,14 +104,13 @@ impl Vm {
     }
 
     /// Runs the program alone from its entry to its end, with argument 0, the memory as its part, and this credit, and gives
-    /// R0. The memory is left as the run leaves it. Each spawn is answered 1. It asks for at most 65,536 bytes of memory and for a
-    /// credit of at most 2,147,483,647.
+    /// R0. It works on the memory in place, and leaves it as the run leaves it. Each spawn is answered 1. It asks for at most 65,536
+    /// bytes of memory and for a credit of at most 2,147,483,647.
     ///
     /// The refusals, in this order, after which the memory is as it was: 41 no program is set, 42 the credit is under the
-    /// program's cost, 43 the memory is shorter than the program's need, 99 there is no memory to run it.
+    /// program's cost, 43 the memory is shorter than the program's need. It takes no memory of its own, so that 99 never comes.
     pub fn execute_program(
         &mut self,
-        alloc: Global,
         mem: &mut [u8],
         credit: u32,
     ) -> Result<u64, VmFault>
@@ -135,13 +131,6 @@ impl Vm {
         if mem.len() < program.need() as usize {
             return Err(VmFault::MemoryShort);
         }
-        self.room.clear();
-        self.room.extend_from_slice(mem)?;
-        let bytes = std::mem::replace(&mut self.room, Vec::new(alloc));
-        let mut part = Part::whole(bytes);
-        let r0 = run_alone(alloc, program, &mut part, credit, &mut self.functions);
-        self.room = part.into_bytes();
-        mem.copy_from_slice(&self.room);
-        Ok(r0)
+        Ok(run_alone(program, mem, credit, &mut self.functions))
     }
 }

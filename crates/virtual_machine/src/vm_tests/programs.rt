@@ -151,7 +151,7 @@ pub(super) enum Came {
 /// Runs the program that is set, with at most 65,536 bytes of memory and a credit of at most 2,147,483,647.
 pub(super) fn run(vm: &mut Vm, alloc: Global, mem: &mut Vec<u8>, credit: u32) -> Came {
     mem.truncate(65536);
-    match vm.execute_program(alloc, mem, credit.min(2147483647)) {
+    match vm.execute_program(mem, credit.min(2147483647)) {
         Ok(r0) => Came::To(r0),
         Err(fault) => Came::NotRun(fault),
     }
