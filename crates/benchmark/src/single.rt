@@ -112,6 +112,6 @@ pub fn sum(alloc: Global) -> anyhow::Result<Single> {
 }
 
 /// Runs the program once, and gives R0.
-pub fn executed(alloc: Global, vm: &mut Vm, single: &mut Single) -> anyhow::Result<u64> {
+pub fn executed(vm: &mut Vm, single: &mut Single) -> anyhow::Result<u64> {
     Ok(vm.execute_program(&mut single.memory, u32::from(single.credit))?)
 }

@@ -60,7 +60,7 @@ fn run_alone<C: Clock>(clock: &C, alloc: Global, single: &mut Single) -> anyhow:
     let mut vm = Vm::new(alloc, Some((single.need, &single.code)))?;
     let start = Instant::now(clock)?;
     for _ in 0..SINGLE_ROUNDS {
-        executed(alloc, &mut vm, single)?;
+        executed(&mut vm, single)?;
     }
     Ok(start.elapsed(clock)?.as_nanos() / u128::from(SINGLE_ROUNDS))
 }

@@ -46,8 +46,8 @@ leads_more old mid new numbers n out so_far same steps = record {
 pub plays_led : (programs : List Checked) (j : Job) (schedule numbers : List ℕ) (old new : Kept) →
     Plays programs j schedule old → LeadsOn old numbers new → Plays programs j (schedule ++ numbers) new
 plays_led programs j schedule numbers old new plays leads =
-    subst (λ ps. Plays ps j (schedule ++ numbers) new) plays.programs
-    (leads.plays j schedule (subst (λ ps. Plays ps j schedule old) (sym plays.programs) plays))
+    subst (λ ps. Plays ps j (schedule ++ numbers) new) plays.same_programs
+    (leads.plays j schedule (subst (λ ps. Plays ps j schedule old) (sym plays.same_programs) plays))
 
 -- a job stands behind what is led to
 pub behind_led : (old new : Kept) (numbers : List ℕ) (j : Job) → IsBehind old j → LeadsOn old numbers new → (k : Job) × IsBehind new k

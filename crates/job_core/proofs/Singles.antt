@@ -36,7 +36,7 @@ alone_none order kept same behind =
     }
 
 -- a step that is no end goes on
-alone_by : (order : Order) (i : ℕ) (out : Stepped) (kept new : Kept) → kept.programs ≡ order.programs → (so_far : IsAlone order i kept) →
+alone_by : (order : Order) (i : ℕ) (out : Stepped) (kept new : Kept) → new.programs ≡ kept.programs → (so_far : IsAlone order i kept) →
     ((r0 : ℕ) → out ≡ Ended r0 → ⊥) → ((k : Job) → IsBehind kept k → Steps kept k 0 out new) → IsAlone order (i + 1) new
 alone_by order i (Ended r0) kept new same so_far none steps = absurd (none r0 refl)
 alone_by order i Skipped kept new same so_far none steps =
@@ -58,7 +58,7 @@ alone_by order i Went kept new same so_far none steps =
       onward = omega (arith, so_far.onward, further, before, after);
     }
 
-pub alone_more : (order : Order) (i : ℕ) (out : Stepped) (kept new : Kept) → kept.programs ≡ order.programs → IsAlone order i kept →
+pub alone_more : (order : Order) (i : ℕ) (out : Stepped) (kept new : Kept) → new.programs ≡ kept.programs → IsAlone order i kept →
     ((r0 : ℕ) → out ≡ Ended r0 → ⊥) → ((k : Job) → IsBehind kept k → Steps kept k 0 out new) → IsAlone order (i + 1) new
 alone_more order i out kept new same so_far none steps = alone_by order i out kept new same so_far none steps
 

@@ -153,7 +153,7 @@ fn take_as_many_arguments(rt: HostRuntime) -> Result<(), Fail> {
     for (helper, want) in WEIGHED {
         let bytes = bytes_of(alloc, &setting(helper))?;
         vm.set_program(alloc, 0, &bytes)?;
-        assert_eq!(rt; run(&mut vm, alloc, &mut mem, 14), To(want), "at {helper}");
+        assert_eq!(rt; run(&mut vm, &mut mem, 14), To(want), "at {helper}");
     }
     Ok(())
 }
@@ -223,7 +223,7 @@ fn are_replaced(rt: HostRuntime) -> Result<(), Fail> {
     for (helper, want) in [(64, 3), (65, 18446744073709551615)] {
         let bytes = bytes_of(alloc, &setting(helper))?;
         vm.set_program(alloc, 0, &bytes)?;
-        assert_eq!(rt; run(&mut vm, alloc, &mut mem, 14), Came::To(want));
+        assert_eq!(rt; run(&mut vm, &mut mem, 14), Came::To(want));
     }
     Ok(())
 }

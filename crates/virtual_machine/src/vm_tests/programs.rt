@@ -149,7 +149,7 @@ pub(super) enum Came {
 }
 
 /// Runs the program that is set, with at most 65,536 bytes of memory and a credit of at most 2,147,483,647.
-pub(super) fn run(vm: &mut Vm, alloc: Global, mem: &mut Vec<u8>, credit: u32) -> Came {
+pub(super) fn run(vm: &mut Vm, mem: &mut Vec<u8>, credit: u32) -> Came {
     mem.truncate(65536);
     match vm.execute_program(mem, credit.min(2147483647)) {
         Ok(r0) => Came::To(r0),
@@ -179,7 +179,7 @@ pub(super) fn agree<R: Abort>(
         mem.extend_from_slice(given)?;
         let bytes = bytes_of(alloc, program)?;
         let came = match vm.set_program(alloc, *need, &bytes) {
-            Ok(()) => run(vm, alloc, &mut mem, *credit),
+            Ok(()) => run(vm, &mut mem, *credit),
             Err(refusal) => Came::Refused(refusal),
         };
         assert_eq!(rt; came, *want, "at {place}");

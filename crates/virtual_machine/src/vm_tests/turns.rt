@@ -19,12 +19,12 @@ fn start_without_a_program(rt: HostRuntime) -> Result<(), Fail> {
     assert!(rt; !vm.has_program());
     let mut mem = Vec::new(alloc);
     assert_eq!(rt;
-        run(&mut vm, alloc, &mut mem, 100),
+        run(&mut vm, &mut mem, 100),
         NotRun(VmFault::NoProgram)
     );
     vm.set_program(alloc, 0, &FORTY_TWO)?;
     assert!(rt; vm.has_program());
-    assert_eq!(rt; run(&mut vm, alloc, &mut mem, 100), To(42));
+    assert_eq!(rt; run(&mut vm, &mut mem, 100), To(42));
     Ok(())
 }
 
@@ -34,9 +34,9 @@ fn start_with_a_program(rt: HostRuntime) -> Result<(), Fail> {
     let mut vm = Vm::new(alloc, Some((0, &FORTY_TWO)))?;
     assert!(rt; vm.has_program());
     let mut mem = Vec::new(alloc);
-    assert_eq!(rt; run(&mut vm, alloc, &mut mem, 2), To(42));
+    assert_eq!(rt; run(&mut vm, &mut mem, 2), To(42));
     assert_eq!(rt;
-        run(&mut vm, alloc, &mut mem, 1),
+        run(&mut vm, &mut mem, 1),
         NotRun(VmFault::CreditLow)
     );
     let refusal = Vm::new(alloc, Some((65537, &FORTY_TWO))).err();
@@ -55,10 +55,10 @@ fn keep_the_old_program_or_take_the_new(rt: HostRuntime) -> Result<(), Fail> {
         Err(Refusal::NoHelper(0))
     );
     assert!(rt; vm.has_program());
-    assert_eq!(rt; run(&mut vm, alloc, &mut mem, 2), To(42));
+    assert_eq!(rt; run(&mut vm, &mut mem, 2), To(42));
     let accepted = bytes_of(alloc, &[Set(R0, 7), Exit])?;
     vm.set_program(alloc, 0, &accepted)?;
-    assert_eq!(rt; run(&mut vm, alloc, &mut mem, 2), To(7));
+    assert_eq!(rt; run(&mut vm, &mut mem, 2), To(7));
     Ok(())
 }
 
@@ -77,15 +77,15 @@ fn run_again(rt: HostRuntime) -> Result<(), Fail> {
     ] {
         let mut mem = Vec::new(alloc);
         mem.extend_from_slice(&given)?;
-        assert_eq!(rt; run(&mut vm, alloc, &mut mem, 99), To(came));
+        assert_eq!(rt; run(&mut vm, &mut mem, 99), To(came));
         assert_eq!(rt; mem.as_slice(), left.as_slice());
     }
     let mut mem = vec![in alloc; 9; 2]?;
-    assert_eq!(rt; run(&mut vm, alloc, &mut mem, 99), To(2));
+    assert_eq!(rt; run(&mut vm, &mut mem, 99), To(2));
     assert_eq!(rt; mem.as_slice(), [9, 9].as_slice());
     mem.truncate(1);
     assert_eq!(rt;
-        run(&mut vm, alloc, &mut mem, 99),
+        run(&mut vm, &mut mem, 99),
         NotRun(VmFault::MemoryShort)
     );
     assert_eq!(rt; mem.as_slice(), [9].as_slice());

@@ -9,7 +9,7 @@ use Rattle.virtual_machine.proofs.alone.run_alone.Goals as goal
 pub loop-next-init : goal.loop-next-init
 loop-next-init g c = record {
   way = enters c.args.code.now (called c.args.functions.now.places.items) c.args.credit _ (lent c.args.bytes.now) (at_slot c.enter.new.self 0)
-      c.requires.verified c.requires.need ? c.requires.small c.requires.cost c.requires.limit (ap (λ (f : Frame). at_slot f 0) c.enter.ensures);
+      c.requires.verified c.requires.need refl c.requires.small c.requires.cost c.requires.limit (ap (λ (f : Frame). at_slot f 0) c.enter.ensures);
   functions = refl;
 }
 
