@@ -2,10 +2,10 @@
 
 use crate::scenario::{Scenario, program};
 use crate::single::{executed, filter, sum};
-use virtual_machine::Vm;
 use job_core::{ProgramBytes, Report, admit, play};
 use std::alloc::Global;
 use std::io::Write;
+use virtual_machine::Vm;
 
 /// The scenarios, in the order in which they are printed.
 pub const SCENARIOS: [Scenario; 4] = [

@@ -4,8 +4,8 @@ ghost use Rattle.std.specs.Prelude.{◌≤◌, vec_len};
 
 use assembler::assemble;
 use insn_codec::{AluOp, Insn, Operand, Register, Width, encode};
-use virtual_machine::Vm;
 use std::alloc::Global;
+use virtual_machine::Vm;
 
 /// Takes a packet of the protocols TCP over IP, version 4, to port 80 or 443: 1 for such a one, else 0.
 const FILTER: &str = "\

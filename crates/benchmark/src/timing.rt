@@ -4,13 +4,13 @@ use crate::results::{SCENARIOS, schedule};
 use crate::scenario::{Scenario, program};
 use crate::single::{Single, executed, filter, sum};
 use helpers::HelperTable;
-use virtual_machine::Vm;
 use job_core::{admit, play};
 use std::alloc::Global;
 use std::io::Write;
 use std::rt::Clock;
 use std::time::{Duration, Instant};
 use verifier::verify;
+use virtual_machine::Vm;
 
 /// How often each program is run.
 const ROUNDS: u32 = 500;

@@ -1,9 +1,9 @@
 //! How a host embeds the machine for single programs: the example of the README.
 
 use assembler::assemble;
-use virtual_machine::Vm;
 use std::alloc::Global;
 use std::test::Fail;
+use virtual_machine::Vm;
 
 /// A helper of the host's own: adds its first two arguments.
 fn add(a: u64, b: u64, _c: u64, _d: u64, _e: u64) -> u64 {

@@ -1,11 +1,11 @@
 //! Programs that are refused: each way tells the same number and slot. They were worked out by hand.
 
 use crate::ways::{assembled, copied};
-use virtual_machine::Vm;
 use job_core::{AdmitFault, ProgramBytes, admit};
 use std::alloc::Global;
 use std::process::Abort;
 use std::test::Fail;
+use virtual_machine::Vm;
 
 /// A need, a program that is refused, the refusal's number, and the slot that it tells.
 const PROGRAMS: [(u32, &[&str], u8, Option<u32>); 30] = [

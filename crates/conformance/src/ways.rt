@@ -5,11 +5,11 @@ use assembler::assemble;
 use cost_bound::costs;
 use flow_graph::build;
 use insn_codec::decode;
-use virtual_machine::Vm;
 use job_core::{ProgramBytes, admit, play};
 use machine_model::reference::{ReferenceProgram, run_alone};
 use std::alloc::Global;
 use std::test::Fail;
+use virtual_machine::Vm;
 
 /// The bytes of a program, of which each line is an instruction.
 pub(crate) fn assembled(alloc: Global, lines: &[&str]) -> Result<Vec<u8>, Fail> {

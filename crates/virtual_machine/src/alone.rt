@@ -10,12 +10,7 @@ use interpreter::{Credit, Frame, Next};
 use verifier::Verified;
 
 /// Runs a program alone on these bytes, with argument 0, from its entry to its end, and gives R0.
-pub fn run_alone(
-    code: &Verified,
-    bytes: &mut [u8],
-    credit: u32,
-    functions: &mut Functions,
-) -> u64
+pub fn run_alone(code: &Verified, bytes: &mut [u8], credit: u32, functions: &mut Functions) -> u64
     requires verified { IsVerified code.now }
     requires functions { HaveFunctions code.now.helpers functions.old.places.items }
     requires need { code.now.need ≤ length bytes.old }

@@ -109,11 +109,7 @@ impl Vm {
     ///
     /// The refusals, in this order, after which the memory is as it was: 41 no program is set, 42 the credit is under the
     /// program's cost, 43 the memory is shorter than the program's need. It takes no memory of its own, so that 99 never comes.
-    pub fn execute_program(
-        &mut self,
-        mem: &mut [u8],
-        credit: u32,
-    ) -> Result<u64, VmFault>
+    pub fn execute_program(&mut self, mem: &mut [u8], credit: u32) -> Result<u64, VmFault>
         requires small { length mem.old ≤ 65536 }
         requires limit { credit ≤ 2147483647 }
         ensures runs { MatchResult result

@@ -18,10 +18,7 @@ fn start_without_a_program(rt: HostRuntime) -> Result<(), Fail> {
     let mut vm = Vm::new(alloc, None)?;
     assert!(rt; !vm.has_program());
     let mut mem = Vec::new(alloc);
-    assert_eq!(rt;
-        run(&mut vm, &mut mem, 100),
-        NotRun(VmFault::NoProgram)
-    );
+    assert_eq!(rt; run(&mut vm, &mut mem, 100), NotRun(VmFault::NoProgram));
     vm.set_program(alloc, 0, &FORTY_TWO)?;
     assert!(rt; vm.has_program());
     assert_eq!(rt; run(&mut vm, &mut mem, 100), To(42));
@@ -35,10 +32,7 @@ fn start_with_a_program(rt: HostRuntime) -> Result<(), Fail> {
     assert!(rt; vm.has_program());
     let mut mem = Vec::new(alloc);
     assert_eq!(rt; run(&mut vm, &mut mem, 2), To(42));
-    assert_eq!(rt;
-        run(&mut vm, &mut mem, 1),
-        NotRun(VmFault::CreditLow)
-    );
+    assert_eq!(rt; run(&mut vm, &mut mem, 1), NotRun(VmFault::CreditLow));
     let refusal = Vm::new(alloc, Some((65537, &FORTY_TWO))).err();
     assert_eq!(rt; refusal, Some(Refusal::NeedTooLarge));
     Ok(())
@@ -84,10 +78,7 @@ fn run_again(rt: HostRuntime) -> Result<(), Fail> {
     assert_eq!(rt; run(&mut vm, &mut mem, 99), To(2));
     assert_eq!(rt; mem.as_slice(), [9, 9].as_slice());
     mem.truncate(1);
-    assert_eq!(rt;
-        run(&mut vm, &mut mem, 99),
-        NotRun(VmFault::MemoryShort)
-    );
+    assert_eq!(rt; run(&mut vm, &mut mem, 99), NotRun(VmFault::MemoryShort));
     assert_eq!(rt; mem.as_slice(), [9].as_slice());
     Ok(())
 }

@@ -15,7 +15,7 @@ invariant_of-self-2 g c =
     let roomed = have_same _ _ _ c.args.self.now.have c.make_room.ensures.same in
     record {
       same = λ p is. cc (c.requires.unset, is);
-      have = have_put c.args.self.now.helpers c.add.new.self c.make_room.new.self.places.items c.args.id c.args.arity c.of.result id.0
+      have = have_put c.args.self.now.helpers c.add.new.self c.make_room.new.self.places.items c.args.id _ c.of.result id.0
           (omega (arith, id.0, id.1, room)) roomed c.in_ok-add.ensures.ok c.put.new.self.places.items c.put.ensures;
     }
 
