@@ -2,10 +2,10 @@
 
 use crate::scenario::{Scenario, program};
 use crate::single::{executed, filter, sum};
-use interpreter::Vm;
 use job_core::{ProgramBytes, Report, admit, play};
 use std::alloc::Global;
 use std::io::Write;
+use virtual_machine::Vm;
 
 /// The scenarios, in the order in which they are printed.
 pub const SCENARIOS: [Scenario; 4] = [
@@ -50,7 +50,7 @@ pub fn print_results<W: Write>(alloc: Global, output: &mut W) -> anyhow::Result<
     }
     for mut single in [filter(alloc)?, sum(alloc)?] {
         let mut vm = Vm::new(alloc, Some((single.need, &single.code)))?;
-        let r0 = executed(alloc, &mut vm, &mut single)?;
+        let r0 = executed(&mut vm, &mut single)?;
         writeln!(output, "{} of {} bytes: r0 {r0}", single.name, single.need)?;
     }
     Ok(())

@@ -4,8 +4,8 @@ ghost use Rattle.std.specs.Prelude.{◌≤◌, vec_len};
 
 use assembler::assemble;
 use insn_codec::{AluOp, Insn, Operand, Register, Width, encode};
-use interpreter::Vm;
 use std::alloc::Global;
+use virtual_machine::Vm;
 
 /// Takes a packet of the protocols TCP over IP, version 4, to port 80 or 443: 1 for such a one, else 0.
 const FILTER: &str = "\
@@ -112,6 +112,6 @@ pub fn sum(alloc: Global) -> anyhow::Result<Single> {
 }
 
 /// Runs the program once, and gives R0.
-pub fn executed(alloc: Global, vm: &mut Vm, single: &mut Single) -> anyhow::Result<u64> {
-    Ok(vm.execute_program(alloc, &mut single.memory, u32::from(single.credit))?)
+pub fn executed(vm: &mut Vm, single: &mut Single) -> anyhow::Result<u64> {
+    Ok(vm.execute_program(&mut single.memory, u32::from(single.credit))?)
 }

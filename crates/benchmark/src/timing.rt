@@ -4,13 +4,13 @@ use crate::results::{SCENARIOS, schedule};
 use crate::scenario::{Scenario, program};
 use crate::single::{Single, executed, filter, sum};
 use helpers::HelperTable;
-use interpreter::Vm;
 use job_core::{admit, play};
 use std::alloc::Global;
 use std::io::Write;
 use std::rt::Clock;
 use std::time::{Duration, Instant};
 use verifier::verify;
+use virtual_machine::Vm;
 
 /// How often each program is run.
 const ROUNDS: u32 = 500;
@@ -60,7 +60,7 @@ fn run_alone<C: Clock>(clock: &C, alloc: Global, single: &mut Single) -> anyhow:
     let mut vm = Vm::new(alloc, Some((single.need, &single.code)))?;
     let start = Instant::now(clock)?;
     for _ in 0..SINGLE_ROUNDS {
-        executed(alloc, &mut vm, single)?;
+        executed(&mut vm, single)?;
     }
     Ok(start.elapsed(clock)?.as_nanos() / u128::from(SINGLE_ROUNDS))
 }
@@ -96,7 +96,7 @@ fn executed_alone<C: Clock>(
     let mut quickest = Duration::MAX;
     for _ in 0..ROUNDS {
         let start = Instant::now(clock)?;
-        vm.execute_program(alloc, &mut memory, LONGEST)?;
+        vm.execute_program(&mut memory, LONGEST)?;
         quickest = quickest.min(start.elapsed(clock)?);
     }
     Ok(quickest)

@@ -1,9 +1,9 @@
 //! Helpers of a caller's own: 64 adds its first two numbers, of 65 each number counts twice as much as the one ahead of it, and
 //! 127 answers the greatest number.
 
-use interpreter::Vm;
 use std::alloc::Global;
 use std::test::Fail;
+use virtual_machine::Vm;
 
 fn added(a: u64, b: u64, _c: u64, _d: u64, _e: u64) -> u64 {
     a.wrapping_add(b)

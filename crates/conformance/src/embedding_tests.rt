@@ -1,9 +1,9 @@
 //! How a host embeds the machine for single programs: the example of the README.
 
 use assembler::assemble;
-use interpreter::Vm;
 use std::alloc::Global;
 use std::test::Fail;
+use virtual_machine::Vm;
 
 /// A helper of the host's own: adds its first two arguments.
 fn add(a: u64, b: u64, _c: u64, _d: u64, _e: u64) -> u64 {
@@ -15,7 +15,7 @@ fn answer(alloc: Global, memory: &mut [u8; 16], credit: u8) -> Result<u64, Fail>
     let mut vm = Vm::new(alloc, None)?;
     vm.register_helper(alloc, 64, 2, add)?;
     vm.set_program(alloc, 0, &code)?;
-    Ok(vm.execute_program(alloc, memory, u32::from(credit))?)
+    Ok(vm.execute_program(memory, u32::from(credit))?)
 }
 
 #[test]

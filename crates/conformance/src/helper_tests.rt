@@ -2,8 +2,8 @@
 
 use crate::rows::{CreditRow, agree_on_credit};
 use crate::ways::{Start, assembled, by_job, by_reference, by_vm};
-use interpreter::Vm;
 use std::test::Fail;
+use virtual_machine::Vm;
 
 const TOLD: [CreditRow; 8] = [
     (2, &[], &["mov64 r0, 42", "exit"], 42, 2, &[]),

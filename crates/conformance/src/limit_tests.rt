@@ -4,10 +4,10 @@ use crate::ways::{Start, assembled, by_job, by_reference, by_vm, copied};
 use cost_bound::costs;
 use flow_graph::build;
 use insn_codec::decode;
-use interpreter::Vm;
 use job_core::{ProgramBytes, admit, play};
 use std::alloc::Global;
 use std::test::Fail;
+use virtual_machine::Vm;
 
 /// 4,095 moves and an end.
 fn longest(alloc: Global) -> Result<Vec<u8>, Fail> {
@@ -71,7 +71,7 @@ fn the_longest_memory_is_written_to_its_last_byte(rt: HostRuntime) -> Result<(),
     let mut vm = Vm::new(alloc, None)?;
     vm.set_program(alloc, 65_536, &code)?;
     let mut memory = vec![in alloc; 3; 65_536]?;
-    assert_eq!(rt; vm.execute_program(alloc, &mut memory, 5)?, 3);
+    assert_eq!(rt; vm.execute_program(&mut memory, 5)?, 3);
     assert_eq!(rt; (memory[0], memory[65_534], memory[65_535]), (3, 3, 9));
     Ok(())
 }

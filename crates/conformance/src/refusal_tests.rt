@@ -1,11 +1,11 @@
 //! Programs that are refused: each way tells the same number and slot. They were worked out by hand.
 
 use crate::ways::{assembled, copied};
-use interpreter::Vm;
 use job_core::{AdmitFault, ProgramBytes, admit};
 use std::alloc::Global;
 use std::process::Abort;
 use std::test::Fail;
+use virtual_machine::Vm;
 
 /// A need, a program that is refused, the refusal's number, and the slot that it tells.
 const PROGRAMS: [(u32, &[&str], u8, Option<u32>); 30] = [
@@ -138,7 +138,7 @@ fn told_by_set(alloc: Global, need: u32, code: &[u8]) -> Result<Option<Told>, Fa
         Err(refusal) => Some((refusal.code(), refusal.slot())),
     };
     let mut memory = [0; 1];
-    match vm.execute_program(alloc, &mut memory, 2) {
+    match vm.execute_program(&mut memory, 2) {
         Ok(42) => Ok(told),
         _ => Err(Fail::new("the program that was set is gone")),
     }

@@ -1,10 +1,10 @@
 //! Rows of programs that all ways run to one answer.
 
 use crate::ways::{Start, assembled, by_job, by_reference, by_vm};
-use interpreter::Vm;
 use std::alloc::Global;
 use std::process::Abort;
 use std::test::Fail;
+use virtual_machine::Vm;
 
 /// A program, R0 and the credit used. It starts with a credit of 100 and no memory.
 pub(crate) type Row = (&'static [&'static str], u64, u32);

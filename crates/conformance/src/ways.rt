@@ -5,11 +5,11 @@ use assembler::assemble;
 use cost_bound::costs;
 use flow_graph::build;
 use insn_codec::decode;
-use interpreter::Vm;
 use job_core::{ProgramBytes, admit, play};
 use reference::{ReferenceProgram, run_alone};
 use std::alloc::Global;
 use std::test::Fail;
+use virtual_machine::Vm;
 
 /// The bytes of a program, of which each line is an instruction.
 pub(crate) fn assembled(alloc: Global, lines: &[&str]) -> Result<Vec<u8>, Fail> {
@@ -59,7 +59,7 @@ pub(crate) fn by_vm(alloc: Global, vm: &mut Vm, start: &Start) -> Result<(u64, V
     vm.set_program(alloc, start.need, &start.code)?;
     let mut memory = copied(alloc, start.memory)?;
     memory.truncate(65536);
-    let r0 = vm.execute_program(alloc, &mut memory, start.credit.min(2_147_483_647))?;
+    let r0 = vm.execute_program(&mut memory, start.credit.min(2_147_483_647))?;
     Ok((r0, memory))
 }
 

@@ -1,7 +1,7 @@
 //! The bytes that a task owns.
 
-ghost use Rattle.std.specs.Prelude.{◌≡◌, ℕ, ◌+◌, ◌-◌, ◌*◌, ◌^◌, ◌<◌, ◌≤◌, [], ◌++◌, length, take, drop, replicate, sum, IfOk, OnErr};
-ghost use Rattle.helpers.specs.Piece.{joined_room};
+ghost use Rattle.std.specs.Prelude.{◌≡◌, ℕ, ◌+◌, ◌-◌, ◌*◌, ◌^◌, ◌<◌, ◌≤◌, [], ◌++◌, length, take, drop, replicate, sum, vec_capacity, IfOk, OnErr};
+ghost use Rattle.helpers.specs.Piece.{Piece, joined_room};
 ghost use Rattle.machine_model.specs.Memory.{bytes_at, little_bytes, little_number, load_bytes, store_bytes, widened, written};
 
 use insn_codec::{LoadKind, Size};
@@ -137,11 +137,14 @@ impl Part {
         ensures bytes { (self.new.base ≡ self.old.base) × (self.new.bytes ≡ self.old.bytes ++ piece.bytes) }
         ensures room { joined_room self.old piece ≤ self.new.room }
     {
-        let Part { base: _, bytes } = piece;
+        let Part {
+            base: _,
+            bytes: piece,
+        } = piece;
         if self.bytes.is_empty() {
-            self.bytes = bytes;
+            self.bytes = piece;
         } else {
-            let _ = self.bytes.extend_from_slice(&bytes);
+            let _ = self.bytes.extend_from_slice(&piece);
         }
     }
 
@@ -161,5 +164,25 @@ impl Part {
     {
         let Part { base: _, bytes } = self;
         bytes
+    }
+
+    /// Takes its bytes out. Until bytes are put into it again, it has none.
+    #[inline]
+    pub fn take_bytes(&mut self, alloc: Global) -> Vec<u8>
+        ensures bytes { result.items ≡ self.old.bytes }
+        ensures room { vec_capacity result ≡ self.old.room }
+        ensures base { self.new.base ≡ self.old.base }
+        ensures small { self.old.base + length self.old.bytes ≤ 65536 }
+    {
+        mem::replace(&mut self.bytes, Vec::new(alloc))
+    }
+
+    /// Puts bytes into it in place of those that it has.
+    #[inline]
+    pub fn put_bytes(&mut self, bytes: Vec<u8>)
+        requires { self.old.base + length bytes.items ≤ 65536 }
+        ensures { self.new ≡ record { base = self.old.base; bytes = bytes.items; room = vec_capacity bytes } }
+    {
+        self.bytes = bytes;
     }
 }

@@ -10,10 +10,7 @@ pub mod Jumps
 pub mod Exits
 pub mod Calls
 pub mod Helpers
-pub mod Places
 pub mod Enters
-pub mod Asking
-pub mod Running
-pub mod Answering
 pub mod Dispatch
 pub mod Stretches
+pub mod Lending

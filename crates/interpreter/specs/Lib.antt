@@ -3,7 +3,3 @@ pub mod Operands
 pub mod Access
 pub mod Behind
 pub mod Stretch
-pub mod Functions
-pub mod VmFaultCodes
-pub mod Executes
-pub mod Holding

@@ -39,20 +39,20 @@ pub leads_more : (old mid new : Kept) (numbers : List ℕ) (n : ℕ) (out : Step
 leads_more old mid new numbers n out so_far same steps = record {
   programs = same ∙ so_far.programs;
   plays = λ j schedule plays. subst (λ ns. Plays old.programs j ns new) (append_assoc schedule numbers (n ∷ []))
-      (plays_more old.programs j (schedule ++ numbers) n out mid new so_far.programs (so_far.plays j schedule plays) steps);
+      (plays_more old.programs j (schedule ++ numbers) n out mid new same (so_far.plays j schedule plays) steps);
 }
 
 -- what leads on leads from each run on
-pub plays_led : (programs : List Checked) (j : Job) (schedule numbers : List ℕ) (old new : Kept) → old.programs ≡ programs →
+pub plays_led : (programs : List Checked) (j : Job) (schedule numbers : List ℕ) (old new : Kept) →
     Plays programs j schedule old → LeadsOn old numbers new → Plays programs j (schedule ++ numbers) new
-plays_led programs j schedule numbers old new same plays leads =
-    subst (λ ps. Plays ps j (schedule ++ numbers) new) same
-    (leads.plays j schedule (subst (λ ps. Plays ps j schedule old) (sym same) plays))
+plays_led programs j schedule numbers old new plays leads =
+    subst (λ ps. Plays ps j (schedule ++ numbers) new) plays.same_programs
+    (leads.plays j schedule (subst (λ ps. Plays ps j schedule old) (sym plays.same_programs) plays))
 
 -- a job stands behind what is led to
 pub behind_led : (old new : Kept) (numbers : List ℕ) (j : Job) → IsBehind old j → LeadsOn old numbers new → (k : Job) × IsBehind new k
 behind_led old new numbers j behind leads =
-    let plays = leads.plays j [] (plays_none old.programs j old behind) in (plays.last, plays.behind)
+    let plays = leads.plays j [] (plays_none old.programs j old refl behind) in (plays.last, plays.behind)
 
 abbrev pub first_of : List ℕ → ℕ
 first_of schedule = get_or schedule 0 0

@@ -25,18 +25,18 @@ pub record IsAlone (order : Order) (i : ℕ) (kept : Kept) : Type 0 where
   pub alive : slice_get kept.lives 0 ≡ Some (Some live)
   pub onward : i ≤ live.frame.slot
 
-pub alone_none : (order : Order) (kept : Kept) → IsBehind kept (start order.credit order.buffer) → IsAlone order 0 kept
-alone_none order kept behind =
+pub alone_none : (order : Order) (kept : Kept) → kept.programs ≡ order.programs → IsBehind kept (start order.credit order.buffer) → IsAlone order 0 kept
+alone_none order kept same behind =
     let is = behind.kept_are.each 0 _ refl in
     record {
-      plays = plays_none order.programs (start order.credit order.buffer) kept behind;
+      plays = plays_none order.programs (start order.credit order.buffer) kept same behind;
       live = is.live;
       alive = is.there;
       onward = omega arith;
     }
 
 -- a step that is no end goes on
-alone_by : (order : Order) (i : ℕ) (out : Stepped) (kept new : Kept) → kept.programs ≡ order.programs → (so_far : IsAlone order i kept) →
+alone_by : (order : Order) (i : ℕ) (out : Stepped) (kept new : Kept) → new.programs ≡ kept.programs → (so_far : IsAlone order i kept) →
     ((r0 : ℕ) → out ≡ Ended r0 → ⊥) → ((k : Job) → IsBehind kept k → Steps kept k 0 out new) → IsAlone order (i + 1) new
 alone_by order i (Ended r0) kept new same so_far none steps = absurd (none r0 refl)
 alone_by order i Skipped kept new same so_far none steps =
@@ -58,7 +58,7 @@ alone_by order i Went kept new same so_far none steps =
       onward = omega (arith, so_far.onward, further, before, after);
     }
 
-pub alone_more : (order : Order) (i : ℕ) (out : Stepped) (kept new : Kept) → kept.programs ≡ order.programs → IsAlone order i kept →
+pub alone_more : (order : Order) (i : ℕ) (out : Stepped) (kept new : Kept) → new.programs ≡ kept.programs → IsAlone order i kept →
     ((r0 : ℕ) → out ≡ Ended r0 → ⊥) → ((k : Job) → IsBehind kept k → Steps kept k 0 out new) → IsAlone order (i + 1) new
 alone_more order i out kept new same so_far none steps = alone_by order i out kept new same so_far none steps
 

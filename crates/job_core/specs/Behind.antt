@@ -118,9 +118,10 @@ pub record Reaches (programs : List Program) (j : Job) (moves : List Move) : Typ
 abbrev pub IsFinished : Kept → Type 0
 IsFinished kept = (n : ℕ) (live : Live) → slice_get kept.lives n ≡ Some (Some live) → ⊥
 
--- A run over the schedule, for some choice of refusals, leads from the job to one behind what is kept. Each of its beginnings keeps the
--- credit, and no live task is kept exactly if the last job is complete.
+-- A run over the schedule, for some choice of refusals, leads from the job to one behind what is kept, which has these programs. Each of
+-- its beginnings keeps the credit, and no live task is kept exactly if the last job is complete.
 pub record Plays (programs : List Checked) (j : Job) (schedule : List ℕ) (kept : Kept) : Type 0 where
+  pub same_programs : kept.programs ≡ programs
   pub moves : List Move
   pub numbers : map (λ (m : Move). m.number) moves ≡ schedule
   pub last : Job

@@ -137,31 +137,6 @@ impl Live {
         self.slot = slot;
     }
 
-    /// The instruction at a slot of its program, which is its next one. It stays noted where it was.
-    #[inline(always)]
-    pub fn step_at<S: Spawner>(
-        &mut self,
-        alloc: Global,
-        code: &Verified,
-        slot: u32,
-        spawner: &mut S,
-    ) -> Next
-        requires { IsCovered code.now (at_slot self.old.frame slot) self.old.part self.old.credit }
-        ensures did { (registers : Registers) → AreBehind code.now (at_slot self.old.frame slot) registers →
-            Did code.now (effect (program_of code.now) (S.entries spawner.old)
-            (state_of (at_slot self.old.frame slot) self.old.part self.old.credit registers))
-            (out_of result) (at_slot self.new.frame (slot_after slot result)) self.new.part self.new.credit (spawner.new ≡ spawner.old)
-            (λ child reply. S.spawns spawner.old child reply spawner.new)
-            (λ helper arguments answer. S.calls spawner.old helper arguments answer spawner.new) }
-        ensures covered { (next : ℕ) → result ≡ Next.At next → IsCovered code.now (at_slot self.new.frame next) self.new.part self.new.credit }
-        ensures base { self.new.part.base ≡ self.old.part.base }
-        ensures program { self.new.program ≡ self.old.program }
-        ensures slot { self.new.frame.slot ≡ self.old.frame.slot }
-    {
-        let body = &mut *self.body;
-        body.frame.step_at(alloc, code, slot, &mut body.part, &mut self.credit, spawner)
-    }
-
     /// The instructions from a slot of its program on, which is its next one: `limit` at most, up to and with the first that ends
     /// it or calls a helper. The slot stays noted where it was.
     #[inline(always)]

@@ -42,7 +42,8 @@ impl Tasks {
             return Stepped::Skipped;
         };
         let code = &self.programs[live.program() as usize];
-        match live.step_at(alloc, code, live.slot(), &mut self.ledger) {
+        let ran = live.run_at(alloc, code, live.slot(), 1, &mut self.ledger);
+        match ran.next {
             Next::At(next) => {
                 live.note_slot(next);
                 self.ledger.lives[number as usize] = Some(live);

@@ -137,16 +137,12 @@ impl World {
         }
     }
 
-    /// Whether no task is alive.
+    /// Whether no task is alive: each live one holds some of the credit, so that what was issued is spent or returned.
     fn complete(&self) -> bool
         ensures { (j : model.Job) → IsBehind self.now j → (IsTrue result ↔ IsComplete j) }
     {
-        for live in &self.tasks.ledger.lives {
-            if live.is_some() {
-                return false;
-            }
-        }
-        true
+        let report = &self.tasks.ledger.report;
+        report.spent + report.returned == self.tasks.issued
     }
 
     /// The credit that live tasks hold, and that ended tasks returned and spent, and what all of them have used.

@@ -5,7 +5,7 @@ use Rattle.job_core.proofs.single.run_root.Goals as goal
 
 pub loop-init : goal.loop-init
 loop-init c = record {
-  alone = alone_none c.args.job c.in_ok-world.world c.in_ok-world.ensures.start;
+  alone = alone_none c.args.job c.in_ok-world.world c.in_ok-world.ensures.programs c.in_ok-world.ensures.start;
   programs = c.in_ok-world.ensures.programs;
 }
 
@@ -19,7 +19,7 @@ returns-in-Ended c =
 pub loop-preserved : goal.loop-preserved
 loop-preserved c = record {
   alone =
-      alone_more c.args.job c.loop.counter c.step.result c.loop.world c.step.new.self c.loop.invariant.programs c.loop.invariant.alone
+      alone_more c.args.job c.loop.counter c.step.result c.loop.world c.step.new.self c.step.ensures.programs c.loop.invariant.alone
       c.in_default.not-Ended c.step.ensures.steps;
   programs = c.step.ensures.programs ∙ c.loop.invariant.programs;
 }

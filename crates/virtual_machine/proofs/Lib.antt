@@ -1,0 +1,4 @@
+pub mod Asking
+pub mod Running
+pub mod Answering
+pub mod Places

@@ -1,0 +1,4 @@
+pub mod Functions
+pub mod VmFaultCodes
+pub mod Executes
+pub mod Holding

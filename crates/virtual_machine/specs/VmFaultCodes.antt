@@ -1,0 +1,10 @@
+-- The numbers of the refusals.
+use Rattle.std.specs.Prelude.{ℕ}
+use Rattle.virtual_machine.specs.declared.vm_fault.VmFault.{VmFault}
+use Rattle.virtual_machine.specs.declared.vm_fault.VmFault.TheVariants.{NoProgram, CreditLow, MemoryShort, NoMemory}
+
+abbrev pub code_of_fault : VmFault → ℕ
+code_of_fault NoProgram = 41
+code_of_fault CreditLow = 42
+code_of_fault MemoryShort = 43
+code_of_fault NoMemory = 99

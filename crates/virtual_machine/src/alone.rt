@@ -1,0 +1,37 @@
+//! The run of a single program.
+
+ghost use Rattle.std.specs.Prelude.{◌≡◌, ◌≤◌, length};
+ghost use Rattle.verifier.specs.Checked.{IsVerified, cost_at};
+ghost use Rattle.virtual_machine.specs.Functions.{HaveFunctions, called};
+ghost use Rattle.virtual_machine.specs.Executes.{Runs};
+
+use crate::functions::Functions;
+use interpreter::{Credit, Frame, Next};
+use verifier::Verified;
+
+/// Runs a program alone on these bytes, with argument 0, from its entry to its end, and gives R0.
+pub fn run_alone(code: &Verified, bytes: &mut [u8], credit: u32, functions: &mut Functions) -> u64
+    requires verified { IsVerified code.now }
+    requires functions { HaveFunctions code.now.helpers functions.old.places.items }
+    requires need { code.now.need ≤ length bytes.old }
+    requires small { length bytes.old ≤ 65536 }
+    requires cost { cost_at code.now 0 ≤ credit }
+    requires limit { credit ≤ 2147483647 }
+    ensures runs { Runs code.now (called functions.old.places.items) credit bytes.old result bytes.new }
+    ensures functions { functions.new ≡ functions.old }
+{
+    let mut frame = Frame::zeroed();
+    frame.enter(bytes.len() as u32, 0);
+    let mut credit = Credit {
+        held: credit,
+        used: 0,
+    };
+    let mut slot = 0;
+    loop {
+        let ran = frame.run_on(code, slot, usize::MAX, bytes, &mut credit, functions);
+        match ran.next {
+            Next::At(next) => slot = next,
+            Next::Ended(r0) => return r0,
+        }
+    }
+}

@@ -1,0 +1,15 @@
+//! A machine that runs a single verified program.
+#![tactic(auto)]
+
+mod alone;
+mod functions;
+mod registered;
+mod vm;
+mod vm_fault;
+
+pub use registered::Function;
+pub use vm::Vm;
+pub use vm_fault::VmFault;
+
+#[cfg(test)]
+mod vm_tests;
