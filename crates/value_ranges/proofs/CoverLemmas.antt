@@ -5,7 +5,7 @@ use Rattle.value_ranges.specs.Covers.{Covers}
 use Rattle.value_ranges.specs.Interval.{interval}
 use Rattle.value_ranges.specs.Numbers.{Ranges, Among}
 use Rattle.value_ranges.specs.Span.{Span, span, Between}
-use Rattle.value_ranges.specs.Words.{any_number, between, single_value}
+use Rattle.value_ranges.specs.Words.{any_number, between, greatest, single_value}
 use Rattle.value_ranges.specs.declared.abs.Abs.TheVariants.{Num, Stack, Part}
 use Rattle.value_ranges.proofs.SignedLemmas.{Among-spanned}
 use Rattle.machine_model.specs.Value.{Value}
@@ -42,3 +42,7 @@ covers_any x h = covers_between 0 (2 ^ 64 - 1) x (omega arith) (omega arith) h
 
 pub between_alone : (z : ℤ) → Between (span z z) z
 between_alone z = (omega (arith, ints), omega (arith, ints))
+
+-- no covered number is over the greatest
+pub under_greatest : (n : Ranges) (x : ℕ) → Covers (Num n) (value.Num x) → x ≤ greatest n
+under_greatest n x h = h.0.0.1

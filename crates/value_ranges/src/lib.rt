@@ -1,6 +1,5 @@
-//! What is known of a register before a program runs: ranges of numbers, as they are and
-//! read as signed numbers, and of positions in the stack and in the part.
-//! Each table is exact, and covers what the machine can give. The hints on inlining keep what a verifier asks at each
+//! What is known of a register before a program runs: ranges of numbers, as they are and read as signed numbers, and of
+//! positions in the stack and in the part. Each table is exact, and covers what the machine can give. The hints on inlining keep what a verifier asks at each
 //! instruction out of memory.
 #![tactic(auto)]
 
@@ -13,6 +12,8 @@ mod range;
 mod refinements;
 mod rows;
 mod signed_rows;
+#[cfg(test)]
+mod signed_tests;
 #[cfg(test)]
 mod tests;
 mod unary_rows;
