@@ -184,9 +184,9 @@ unsigned_stays n e = by_sign (int_le (pos 0) n.signed.lo || int_lt n.signed.hi (
         (ranges (interval (max n.unsigned.lo lo) (min n.unsigned.hi hi)) n.signed) (still n.unsigned lo hi n.signed f)
     by_sign false lo hi = e
 
-pub tidied_is : (n m k : Ranges) (o : Option Ranges) → Some m ≡ nonempty (cut_signed n) → Some k ≡ nonempty (cut_unsigned m) → o ≡ nonempty (cut_signed k) → o ≡ some_tidied n
+pub tidied_is : (n m k : Ranges) (o : Option Ranges) → o ≡ nonempty (cut_signed k) → Some k ≡ nonempty (cut_unsigned m) → Some m ≡ nonempty (cut_signed n) → o ≡ some_tidied n
 unfolding some_tidied
-tidied_is n m k o p q e =
+tidied_is n m k o e q p =
     let first = itself (cut_signed n) m p in
     let second = itself (cut_unsigned m) k q in
     let all : k ≡ cut_unsigned (cut_signed n) = subst (λ (i : Ranges). k ≡ cut_unsigned i) first second in

@@ -189,7 +189,7 @@ fn arithmetic_on_both_sides_of_zero(rt: HostRuntime) -> Result<(), Fail> {
 #[test]
 fn ways_that_meet_on_both_sides_of_zero(rt: HostRuntime) -> Result<(), Fail> {
     for (up, need, want) in [
-        (8, 16, Ok(6)),
+        (8, 16, Ok(7)),
         (7, 16, Err(OutOfPart(5))),
         (8, 15, Err(OutOfPart(5))),
     ] {
@@ -218,7 +218,7 @@ fn edges_that_tell_less(rt: HostRuntime) -> Result<(), Fail> {
         (If(SignedLess, R3, 0, 4), 16, Ok(5)),
         (If32(SignedLess, R3, 0, 4), 65536, Err(PointerRange(2))),
         (IfBy(SignedLess, R3, R3, 4), 65536, Err(PointerRange(2))),
-        (IfBy(SignedLess, R3, R2, 4), 65536, Err(OutOfPart(3))),
+        (IfBy(SignedLess, R3, R2, 4), 0, Err(OutOfPart(3))),
     ] {
         let program = [
             jump,
