@@ -3,6 +3,7 @@ pub mod RowLemmas
 pub mod BitRows
 pub mod Dispatch
 pub mod Extensions
+pub mod SignedLemmas
 pub mod PointerLemmas
 pub mod TableLemmas
 pub mod MergeLemmas

@@ -12,7 +12,7 @@ mod_once : (m x : ℕ) → m ≤ x → x < m + m → x % m ≡ x - m
 mod_once m x h k = mod-eq-sub-mod h ∙ mod-eq_of_lt (omega arith)
 
 -- a quotient grows with the dividend and shrinks with the divisor
-div_mono : (a a' b b' : ℕ) → a ≤ a' → 0 < b' → b' ≤ b → a / b ≤ a' / b'
+pub div_mono : (a a' b b' : ℕ) → a ≤ a' → 0 < b' → b' ≤ b → a / b ≤ a' / b'
 div_mono a a' b b' h z k =
     le-div (a / b) a' b' z (omega (arith, div-mul-le_self a b, mul-le (a / b) b' (a / b) b (omega arith) k))
 

@@ -1,10 +1,12 @@
 -- The table of arithmetic instructions covers what they give.
-use Rattle.std.proofs.Common.{◌≡◌, ℕ, ℤ, IfOk, Result, Ok, Err, Option, Some, arith, refl, sym, ◌%◌, ◌^◌, ◌<◌}
+use Rattle.std.proofs.Common.{◌≡◌, ℕ, ℤ, IfOk, Result, Ok, Err, Option, Some, arith, refl, sym, ◌&&◌, ◌%◌, ◌^◌, ◌<◌}
 use Rattle.value_ranges.specs.Covers.{Covers, CoversOutcomes}
-use Rattle.value_ranges.specs.Interval.{Interval, Within}
+use Rattle.value_ranges.specs.Interval.{Interval, is_single, Within}
+use Rattle.value_ranges.specs.Numbers.{Ranges, Among}
+use Rattle.value_ranges.specs.Ranges.{cut}
 use Rattle.machine_model.specs.Outcomes.{outcome_of, alu_outcome, mov_outcome, number_result, on_number, extended_by, negated, ordered_by, width_to}
 use Rattle.machine_model.specs.Outcomes as outcome
-use Rattle.value_ranges.specs.Tables.{table_of, alu_table, move_table, on_range, IsArithmetic, IsReadSet, IsSet, number_range, extension_range, negated_range, ordered_range}
+use Rattle.value_ranges.specs.Tables.{table_of, alu_table, move_table, on_range, IsArithmetic, IsReadSet, IsSet, number_ranges, extension_range, negated_range, ordered_range}
 use Rattle.value_ranges.specs.Tables as table
 use Rattle.value_ranges.specs.Span.{Span}
 use Rattle.machine_model.specs.Value.{Value}
@@ -21,6 +23,7 @@ use Rattle.value_ranges.proofs.CoverLemmas.{is_number, is_stack, is_part}
 use Rattle.value_ranges.proofs.Dispatch.{Within-number_range}
 use Rattle.value_ranges.proofs.RowLemmas.{Within-cut}
 use Rattle.value_ranges.proofs.Extensions.{Within-extension, Within-negated, Within-ordered}
+use Rattle.value_ranges.proofs.SignedLemmas.{Among-beside, Among-spanned, Between-row_unless}
 use Rattle.value_ranges.proofs.PointerLemmas.{HasPosition, after, onto}
 
 -- the value that the instruction gives is there, and covered
@@ -35,13 +38,26 @@ on_part : (r : Result Span ℕ) (o : Option ℤ) → IfOk r (HasPosition o) → 
 on_part (Ok q) o h = rw h.1 (value.Part h.0, refl, h.2)
 on_part (Err e) o h = tt
 
+numbers : (w : Width) (op : AluOp) (a b : Ranges) (x y : ℕ) → x < 2 ^ 64 → y < 2 ^ 64 → Among a x → Among b y →
+    HasValue (Some (value.Num (number_result w op x y))) (Num (number_ranges w op a b))
+numbers w op a b x y p q h k =
+    let small = below_64 _ _ (bits_of-le w) (number_result-lt w op x y) in (
+      value.Num (number_result w op x y),
+      refl,
+      (
+        Among-beside _ _ _ small (Within-number_range w op a.unsigned b.unsigned x y h.0 k.0)
+            (Between-row_unless (is_single a.unsigned && is_single b.unsigned) w op a b x y p q h k),
+        small,
+      ),
+    )
+
 binary : (w : Width) (op : AluOp) (a b : Abs) (x y : Value) → IsSet a → IsSet b → Covers a x → Covers b y → IfOk (alu_table w op a b) (HasValue (alu_outcome w op x y))
 binary w op Unset b x y s t h k = absurd s
 binary w op (Num a) Unset x y s t h k = absurd t
 binary w op (Num a) (Num b) x y s t h k =
     let i = is_number a x h in
     let j = is_number b y k in
-    rw (i.1, j.1) (value.Num (number_result w op i.0 j.0), refl, (Within-number_range w op a b i.0 j.0 i.2 j.2, below_64 _ _ (bits_of-le w) (number_result-lt w op i.0 j.0)))
+    rw (i.1, j.1) (numbers w op a b i.0 j.0 i.3 j.3 i.2 j.2)
 binary w op (Num a) (Stack p) x y s t h k =
     let i = is_number a x h in
     let j = is_stack p y k in
@@ -70,13 +86,13 @@ copied w Unset y t k = absurd t
 copied W64 (Num b) y t k = let j = is_number b y k in rw j.1 (value.Num j.0, refl, (j.2, j.3))
 copied W64 (Stack p) y t k = let j = is_stack p y k in rw j.1 (value.Stack j.0, refl, j.2)
 copied W64 (Part p) y t k = let j = is_part p y k in rw j.1 (value.Part j.0, refl, j.2)
-copied W32 (Num b) y t k = let j = is_number b y k in rw j.1 (value.Num (j.0 % 2 ^ 32), refl, (Within-cut 32 b j.0 j.2, omega arith))
+copied W32 (Num b) y t k = let j = is_number b y k in rw j.1 (value.Num (j.0 % 2 ^ 32), refl, (Among-spanned (cut 32 b.unsigned) (j.0 % 2 ^ 32) (omega arith) (Within-cut 32 b.unsigned j.0 j.2.0), omega arith))
 copied W32 (Stack p) y t k = tt
 copied W32 (Part p) y t k = tt
 
 unary : (f : Interval → Interval) (g : ℕ → ℕ) → ((r : Interval) (x : ℕ) → Within r x → Within (f r) (g x)) → ((x : ℕ) → g x < 2 ^ 64) → (a : Abs) (x : Value) → IsSet a → Covers a x → IfOk (on_range f a) (HasValue (on_number g x))
 unary f g sound fits Unset x s h = absurd s
-unary f g sound fits (Num r) x s h = let i = is_number r x h in rw i.1 (value.Num (g i.0), refl, (sound r i.0 i.2, fits i.0))
+unary f g sound fits (Num r) x s h = let i = is_number r x h in rw i.1 (value.Num (g i.0), refl, (Among-spanned (f r.unsigned) (g i.0) (fits i.0) (sound r.unsigned i.0 i.2.0), fits i.0))
 unary f g sound fits (Stack p) x s h = tt
 unary f g sound fits (Part p) x s h = tt
 

@@ -1,7 +1,7 @@
 -- Which values an abstract value stands for.
-use Rattle.std.specs.Prelude.{ℤ, ◌≤ℤ◌, ◌≡◌, ◌<◌, ◌^◌, ◌⊎◌, Some}
-use Rattle.value_ranges.specs.Interval.{Within}
-use Rattle.value_ranges.specs.Span.{Span}
+use Rattle.std.specs.Prelude.{◌≡◌, ◌<◌, ◌^◌, ◌⊎◌, Some}
+use Rattle.value_ranges.specs.Numbers.{Among}
+use Rattle.value_ranges.specs.Span.{Between}
 use Rattle.machine_model.specs.Value.{Value}
 use Rattle.machine_model.specs.Value as value
 use Rattle.machine_model.specs.Outcomes.{outcome_of}
@@ -9,13 +9,10 @@ use Rattle.insn_codec.specs.declared.insn.Insn.{Insn}
 use Rattle.value_ranges.specs.declared.abs.Abs.{Abs}
 use Rattle.value_ranges.specs.declared.abs.Abs.TheVariants.{Unset, Num, Stack, Part}
 
-abbrev pub Between : Span → ℤ → Type 0
-Between p k = (p.lo ≤ℤ k) × (k ≤ℤ p.hi)
-
--- v is among the values that a stands for; a number has 64 bits
+-- v is among the values that a stands for; a number has 64 bits, and lies in both ranges
 abbrev pub Covers : Abs → Value → Type 0
 Covers Unset v = Unit {0}
-Covers (Num r) (value.Num x) = Within r x × (x < 2 ^ 64)
+Covers (Num n) (value.Num x) = Among n x × (x < 2 ^ 64)
 Covers (Stack p) (value.Stack k) = Between p k
 Covers (Part p) (value.Part k) = Between p k
 Covers _ _ = ⊥

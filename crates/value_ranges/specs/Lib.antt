@@ -1,6 +1,8 @@
 pub mod Interval
 pub mod Span
+pub mod Numbers
 pub mod Ranges
+pub mod SignedRows
 pub mod Covers
 pub mod Words
 pub mod Tables

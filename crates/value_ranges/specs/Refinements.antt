@@ -1,8 +1,11 @@
 -- What an edge of a conditional jump tells of the operands.
-use Rattle.std.specs.Prelude.{ℕ, Bool, true, false, ◌≡◌, ◌+◌, ◌-◌, ◌%◌, ◌^◌, nat_lt, nat_le, ◌==◌, not, ◌&&◌, if◌then◌else◌, min, max, Option, Some, None}
+use Rattle.std.specs.Prelude.{ℕ, ℤ, pos, ◌+ℤ◌, ◌-ℤ◌, Bool, true, false, ◌≡◌, ◌+◌, ◌-◌, ◌%◌, ◌^◌, nat_lt, nat_le, ◌==◌, not, ◌&&◌, if◌then◌else◌, min, max, Option, Some, None}
+use Rattle.std.specs.Int.{int_min, int_max}
 use Rattle.value_ranges.specs.Covers.{Covers}
 use Rattle.value_ranges.specs.Interval.{Interval, interval, is_single}
+use Rattle.value_ranges.specs.Numbers.{Ranges, ranges, spanned, meet, some_span, some_tidied}
 use Rattle.value_ranges.specs.Ranges.{cut}
+use Rattle.value_ranges.specs.Span.{Span, span}
 use Rattle.machine_model.specs.Operators.{bits_of, holds}
 use Rattle.machine_model.specs.Value.{Value}
 use Rattle.machine_model.specs.Value as value
@@ -13,7 +16,7 @@ use Rattle.insn_codec.specs.declared.insn.Width.TheVariants.{W32, W64}
 use Rattle.insn_codec.specs.declared.insn.Operand.{Operand}
 use Rattle.insn_codec.specs.declared.insn.Operand.TheVariants as operand
 use Rattle.insn_codec.specs.declared.insn.Condition.{Condition}
-use Rattle.insn_codec.specs.declared.insn.Condition.TheVariants.{Equal, NotEqual, Greater, GreaterEqual, Less, LessEqual}
+use Rattle.insn_codec.specs.declared.insn.Condition.TheVariants.{Equal, NotEqual, Greater, GreaterEqual, Less, LessEqual, SignedGreater, SignedGreaterEqual, SignedLess, SignedLessEqual}
 use Rattle.insn_codec.specs.declared.insn.Insn.{Insn}
 use Rattle.insn_codec.specs.declared.insn.Insn.TheVariants.{JumpIf}
 use Rattle.value_ranges.specs.declared.refinements.Relation.{Relation}
@@ -35,6 +38,18 @@ relation_of LessEqual true = Some AtMost
 relation_of LessEqual false = Some Above
 relation_of _ _ = None
 
+-- how their signed readings stand: the jump compares 64 bits
+abbrev pub signed_relation_of : Width → Condition → Bool → Option Relation
+signed_relation_of W64 SignedGreater true = Some Above
+signed_relation_of W64 SignedGreater false = Some AtMost
+signed_relation_of W64 SignedGreaterEqual true = Some AtLeast
+signed_relation_of W64 SignedGreaterEqual false = Some Below
+signed_relation_of W64 SignedLess true = Some Below
+signed_relation_of W64 SignedLess false = Some AtLeast
+signed_relation_of W64 SignedLessEqual true = Some AtMost
+signed_relation_of W64 SignedLessEqual false = Some Above
+signed_relation_of _ _ _ = None
+
 -- a without the one number of b, where that is an end of it
 abbrev pub without : Interval → Interval → Interval
 without a b =
@@ -54,6 +69,42 @@ narrowed Differs a b = (without a b, b)
 abbrev pub unless_empty : Interval × Interval → Option (Interval × Interval)
 unless_empty r = if nat_le r.0.lo r.0.hi && nat_le r.1.lo r.1.hi then Some r else None
 
+-- those of the numbers from x on, or up to x
+abbrev pub at_least : Span → ℤ → Span
+at_least s x = span (int_max s.lo x) s.hi
+
+abbrev pub at_most : Span → ℤ → Span
+at_most s x = span s.lo (int_min s.hi x)
+
+-- the two ranges of signed readings that stand so
+abbrev pub signed_narrowed : Relation → Span → Span → Span × Span
+signed_narrowed Same a b = (meet a b, meet a b)
+signed_narrowed Above a b = (at_least a (b.lo +ℤ pos 1), at_most b (a.hi -ℤ pos 1))
+signed_narrowed AtLeast a b = (at_least a b.lo, at_most b a.hi)
+signed_narrowed Below a b = (at_most a (b.hi -ℤ pos 1), at_least b (a.lo +ℤ pos 1))
+signed_narrowed AtMost a b = (at_most a b.hi, at_least b a.lo)
+signed_narrowed Differs a b = (a, b)
+
+-- both, if there are both
+abbrev pub both : {A : Type 0} → Option A → Option A → Option (A × A)
+both (Some a) (Some b) = Some (a, b)
+both (Some a) None = None
+both None o = None
+
+abbrev pub signed_pair : Span × Span → Option (Span × Span)
+signed_pair s = both (some_span s.0) (some_span s.1)
+
+abbrev pub tidied_both : Ranges → Ranges → Option (Ranges × Ranges)
+tidied_both a b = both (some_tidied a) (some_tidied b)
+
+abbrev pub with_unsigned : Ranges → Ranges → Option (Interval × Interval) → Option (Ranges × Ranges)
+with_unsigned a b None = None
+with_unsigned a b (Some r) = tidied_both (ranges r.0 a.signed) (ranges r.1 b.signed)
+
+abbrev pub with_signed : Ranges → Ranges → Option (Span × Span) → Option (Ranges × Ranges)
+with_signed a b None = None
+with_signed a b (Some s) = tidied_both (ranges a.unsigned s.0) (ranges b.unsigned s.1)
+
 -- the source is another register or an immediate
 abbrev pub is_other : ℕ → Operand → Bool
 is_other d (operand.Reg s) = not (d == s)
@@ -64,20 +115,22 @@ is_register (operand.Reg s) = true
 is_register (operand.Imm z) = false
 
 -- what the jump compares the first operand with: an immediate is one number of the width
-abbrev pub compared : Operand → Width → Interval → Interval
+abbrev pub compared : Operand → Width → Ranges → Ranges
 compared (operand.Reg s) w b = b
-compared (operand.Imm z) w b = cut (bits_of w) b
+compared (operand.Imm z) w b = spanned (cut (bits_of w) b.unsigned)
 
 -- the jump compares the numbers as they are
-abbrev pub is_whole : Width → Interval → Interval → Bool
+abbrev pub is_whole : Width → Ranges → Ranges → Bool
 is_whole W64 a b = true
-is_whole W32 a b = nat_lt a.hi (2 ^ 32) && nat_lt b.hi (2 ^ 32)
+is_whole W32 a b = nat_lt a.unsigned.hi (2 ^ 32) && nat_lt b.unsigned.hi (2 ^ 32)
 
-abbrev pub refined_ranges : Option Relation → Interval → Interval → Option (Interval × Interval)
-refined_ranges None a b = None
-refined_ranges (Some f) a b = unless_empty (narrowed f a b)
+-- what the two are where they stand so, as numbers or as signed readings
+abbrev pub refined_ranges : Option Relation → Option Relation → Ranges → Ranges → Option (Ranges × Ranges)
+refined_ranges (Some f) g a b = with_unsigned a b (unless_empty (narrowed f a.unsigned b.unsigned))
+refined_ranges None (Some g) a b = with_signed a b (signed_pair (signed_narrowed g a.signed b.signed))
+refined_ranges None None a b = None
 
-abbrev pub refined_pair : Bool → Interval → Interval → Option (Interval × Interval) → Abs × Abs
+abbrev pub refined_pair : Bool → Ranges → Ranges → Option (Ranges × Ranges) → Abs × Abs
 refined_pair source a b None = (Num a, Num b)
 refined_pair source a b (Some r) = (Num r.0, Num (if source then r.1 else b))
 
@@ -85,7 +138,7 @@ refined_pair source a b (Some r) = (Num r.0, Num (if source then r.1 else b))
 abbrev pub refined_by : Insn → Bool → Abs → Abs → Abs × Abs
 refined_by (JumpIf w t d s o) taken (Num a) (Num b) =
     if is_other d s && is_whole w a (compared s w b)
-    then refined_pair (is_register s) a b (refined_ranges (relation_of t taken) a (compared s w b))
+    then refined_pair (is_register s) a b (refined_ranges (relation_of t taken) (signed_relation_of w t taken) a (compared s w b))
     else (Num a, Num b)
 refined_by i taken a b = (a, b)
 

@@ -1,4 +1,4 @@
-use Rattle.std.specs.Prelude.{ℤ}
+use Rattle.std.specs.Prelude.{ℤ, ◌≤ℤ◌}
 
 -- the whole numbers from lo to hi
 pub record Span : Type 0 where
@@ -7,3 +7,7 @@ pub record Span : Type 0 where
 
 abbrev pub span : ℤ → ℤ → Span
 span lo hi = record { lo = lo; hi = hi }
+
+-- k is one of the numbers
+abbrev pub Between : Span → ℤ → Type 0
+Between p k = (p.lo ≤ℤ k) × (k ≤ℤ p.hi)

@@ -1,8 +1,10 @@
 -- The table of arithmetic instructions on abstract values.
-use Rattle.std.specs.Prelude.{ℕ, ℤ, pos, ◌+ℤ◌, ◌-ℤ◌, neg_ℤ, ◌^◌, nat_lt, nat_le, if◌then◌else◌, Option, Some, None, Result, Ok, Err, int_lt, ◌||◌, Bool, true, false}
+use Rattle.std.specs.Prelude.{ℕ, ℤ, pos, ◌+ℤ◌, ◌-ℤ◌, neg_ℤ, if◌then◌else◌, None, Result, Ok, Err, int_lt, ◌||◌, ◌&&◌, Bool, true, false}
 use Rattle.value_ranges.specs.Interval.{Interval, single, full, is_single}
+use Rattle.value_ranges.specs.Numbers.{Ranges, spanned}
 use Rattle.value_ranges.specs.Span.{Span, span}
 use Rattle.value_ranges.specs.Ranges.{cut, range_of, extended_range, low_range}
+use Rattle.value_ranges.specs.SignedRows.{signed_row, beside}
 use Rattle.machine_model.specs.Operators.{bits_of}
 use Rattle.insn_codec.specs.declared.insn.Width.{Width}
 use Rattle.insn_codec.specs.declared.insn.Width.TheVariants.{W32, W64}
@@ -18,35 +20,27 @@ use Rattle.insn_codec.specs.declared.insn.Insn.TheVariants.{Alu, Mov, MovSx, Neg
 use Rattle.value_ranges.specs.declared.abs.Abs.{Abs}
 use Rattle.value_ranges.specs.declared.abs.Abs.TheVariants.{Unset, Num, Stack, Part}
 
--- the least and the greatest signed reading, where all have one sign
-abbrev pub signed_ends : Interval → Option Span
-signed_ends r =
-    if nat_lt r.hi (2 ^ 63) then Some (span (pos r.lo) (pos r.hi))
-    else (if nat_le (2 ^ 63) r.lo then Some (span (pos r.lo -ℤ pos (2 ^ 64)) (pos r.hi -ℤ pos (2 ^ 64)))
-    else None)
-
 -- positions within the limit, or refusal 35
 abbrev pub positions : ℤ → ℤ → Result Span ℕ
 positions lo hi =
     if int_lt lo (neg_ℤ (pos 1048576)) || int_lt (pos 1048576) hi
     then Err 35 else Ok (span lo hi)
 
-abbrev pub moved_up : Span → Option Span → Result Span ℕ
-moved_up p None = Err 35
-moved_up p (Some e) = positions (p.lo +ℤ e.lo) (p.hi +ℤ e.hi)
+-- a pointer moved by the signed readings of numbers
+abbrev pub moved_up : Span → Span → Result Span ℕ
+moved_up p s = positions (p.lo +ℤ s.lo) (p.hi +ℤ s.hi)
 
-abbrev pub moved_down : Span → Option Span → Result Span ℕ
-moved_down p None = Err 35
-moved_down p (Some e) = positions (p.lo -ℤ e.hi) (p.hi -ℤ e.lo)
+abbrev pub moved_down : Span → Span → Result Span ℕ
+moved_down p s = positions (p.lo -ℤ s.hi) (p.hi -ℤ s.lo)
 
-abbrev pub positions_after : Width → AluOp → Span → Interval → Result Span ℕ
-positions_after W64 Add p r = moved_up p (signed_ends r)
-positions_after W64 Sub p r = moved_down p (signed_ends r)
-positions_after w op p r = Err 34
+abbrev pub positions_after : Width → AluOp → Span → Ranges → Result Span ℕ
+positions_after W64 Add p n = moved_up p n.signed
+positions_after W64 Sub p n = moved_down p n.signed
+positions_after w op p n = Err 34
 
-abbrev pub positions_onto : Width → AluOp → Interval → Span → Result Span ℕ
-positions_onto W64 Add r p = moved_up p (signed_ends r)
-positions_onto w op r p = Err 34
+abbrev pub positions_onto : Width → AluOp → Ranges → Span → Result Span ℕ
+positions_onto W64 Add n p = moved_up p n.signed
+positions_onto w op n p = Err 34
 
 abbrev pub in_stack : Result Span ℕ → Result Abs ℕ
 in_stack (Ok p) = Ok (Stack p)
@@ -59,8 +53,14 @@ in_part (Err e) = Err e
 abbrev pub number_range : Width → AluOp → Interval → Interval → Interval
 number_range w op a b = range_of op (bits_of w) (cut (bits_of w) a) (cut (bits_of w) b)
 
+-- of more than one number the operator may tell the signed range too
+abbrev pub number_ranges : Width → AluOp → Ranges → Ranges → Ranges
+number_ranges w op a b =
+    beside (number_range w op a.unsigned b.unsigned)
+    (if is_single a.unsigned && is_single b.unsigned then None else signed_row w op a b)
+
 abbrev pub alu_table : Width → AluOp → Abs → Abs → Result Abs ℕ
-alu_table w op (Num a) (Num b) = Ok (Num (number_range w op a b))
+alu_table w op (Num a) (Num b) = Ok (Num (number_ranges w op a b))
 alu_table w op (Stack p) (Num b) = in_stack (positions_after w op p b)
 alu_table w op (Part p) (Num b) = in_part (positions_after w op p b)
 alu_table w op (Num a) (Stack p) = in_stack (positions_onto w op a p)
@@ -69,11 +69,11 @@ alu_table w op _ _ = Err 34
 
 abbrev pub move_table : Width → Abs → Result Abs ℕ
 move_table W64 b = Ok b
-move_table W32 (Num b) = Ok (Num (cut 32 b))
+move_table W32 (Num b) = Ok (Num (spanned (cut 32 b.unsigned)))
 move_table W32 _ = Err 34
 
 abbrev pub on_range : (Interval → Interval) → Abs → Result Abs ℕ
-on_range f (Num r) = Ok (Num (f r))
+on_range f (Num n) = Ok (Num (spanned (f n.unsigned)))
 on_range f _ = Err 34
 
 abbrev pub extension_range : SignExtension → Interval → Interval

@@ -1,6 +1,7 @@
 -- The words by which the layers above speak of abstract values.
 use Rattle.std.specs.Prelude.{ℕ, pos, ◌≤◌, ◌<◌, ◌*◌, ◌-◌, ◌^◌, ◌==◌, if◌then◌else◌}
-use Rattle.value_ranges.specs.Interval.{Interval, interval}
+use Rattle.value_ranges.specs.Interval.{interval}
+use Rattle.value_ranges.specs.Numbers.{Ranges, spanned}
 use Rattle.value_ranges.specs.Span.{span}
 use Rattle.value_ranges.specs.Covers.{Covers}
 use Rattle.value_ranges.specs.declared.abs.Abs.{Abs}
@@ -13,7 +14,7 @@ use Rattle.insn_codec.specs.declared.insn.LoadKind.TheVariants as kind
 
 -- some number from lo to hi
 abbrev pub between : ℕ → ℕ → Abs
-between lo hi = Num (interval lo hi)
+between lo hi = Num (spanned (interval lo hi))
 
 -- this one number
 abbrev pub single_value : ℕ → Abs
@@ -24,8 +25,8 @@ abbrev pub any_number : Abs
 any_number = between 0 (2 ^ 64 - 1)
 
 -- the greatest of the numbers
-abbrev pub greatest : Interval → ℕ
-greatest r = r.hi
+abbrev pub greatest : Ranges → ℕ
+greatest n = n.unsigned.hi
 
 -- what a load gives
 abbrev pub loaded : LoadKind → Abs

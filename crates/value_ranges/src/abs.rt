@@ -2,7 +2,7 @@
 
 ghost use Rattle.std.specs.Prelude.{◌≡◌, ◌≤ℤ◌};
 
-use crate::range::Range;
+use crate::numbers::Numbers;
 use std::marker::Model;
 
 /// The positions from `lo` to `hi`, of which there is at least one. Positions have 32 bits; they are kept in 64, as a `Range`'s
@@ -55,12 +55,12 @@ impl Reach {
     }
 }
 
-/// What is known of a register: nothing, or that it holds a number of a range, or a pointer into the stack or into the
+/// What is known of a register: nothing, or that it holds a number of two ranges, or a pointer into the stack or into the
 /// part at a position of a reach.
 #[derive(Clone, Copy, Debug, PartialEq, Eq)]
 pub enum Abs {
     Unset,
-    Num(Range),
+    Num(Numbers),
     Stack(Reach),
     Part(Reach),
 }

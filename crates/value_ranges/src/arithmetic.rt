@@ -2,12 +2,13 @@
 
 ghost use Rattle.std.specs.Prelude.{◌≡◌, IfOk};
 ghost use Rattle.value_ranges.specs.Covers.{CoversOutcomes};
-ghost use Rattle.value_ranges.specs.Tables.{IsArithmetic, IsReadSet, alu_table, in_part, in_stack, move_table, table_of};
+ghost use Rattle.value_ranges.specs.Tables.{IsArithmetic, IsReadSet, alu_table, in_part, in_stack, move_table, number_ranges, table_of};
 
 use crate::abs::{Abs, Reach};
+use crate::numbers::{Numbers, beside};
 use crate::pointers::{WRONG_KIND, positions_after, positions_onto};
-use crate::range::Range;
 use crate::rows::{cut, number_range};
+use crate::signed_rows::signed_row;
 use crate::unary_rows::{extension_range, negated_range, ordered_range};
 use insn_codec::{AluOp, Insn, Width};
 
@@ -29,13 +30,25 @@ fn in_part(p: Result<Reach, u8>) -> Result<Abs, u8>
     }
 }
 
+/// What an operator gives on numbers: of more than one it may tell the signed range too.
+#[inline(always)]
+fn number_ranges(width: Width, op: AluOp, a: Numbers, b: Numbers) -> Numbers
+    ensures { result ≡ number_ranges width op a b }
+{
+    let range = number_range(op, width, a.unsigned(), b.unsigned());
+    if a.unsigned().is_single() && b.unsigned().is_single() {
+        return Numbers::spanned(range);
+    }
+    beside(range, signed_row(op, width, a, b))
+}
+
 /// The second operand is a number.
 #[inline(always)]
-fn with_number(width: Width, op: AluOp, dst: Abs, b: Range) -> Result<Abs, u8>
+fn with_number(width: Width, op: AluOp, dst: Abs, b: Numbers) -> Result<Abs, u8>
     ensures { result ≡ alu_table width op dst (Abs.Num b) }
 {
     match dst {
-        Abs::Num(a) => Ok(Abs::Num(number_range(op, width, a, b))),
+        Abs::Num(a) => Ok(Abs::Num(number_ranges(width, op, a, b))),
         Abs::Stack(p) => in_stack(positions_after(width, op, p, b)),
         Abs::Part(p) => in_part(positions_after(width, op, p, b)),
         Abs::Unset => Err(WRONG_KIND),
@@ -66,7 +79,7 @@ fn copied(width: Width, src: Abs) -> Result<Abs, u8>
 {
     match (width, src) {
         (Width::W64, _) => Ok(src),
-        (Width::W32, Abs::Num(r)) => Ok(Abs::Num(cut(width, r))),
+        (Width::W32, Abs::Num(r)) => Ok(Abs::Num(Numbers::spanned(cut(width, r.unsigned())))),
         (Width::W32, _) => Err(WRONG_KIND),
     }
 }
@@ -79,15 +92,15 @@ fn by_table(insn: &Insn, dst: Abs, src: Abs) -> Result<Abs, u8>
         Insn::Alu { width, op, .. } => binary(width, op, dst, src),
         Insn::Mov { width, .. } => copied(width, src),
         Insn::MovSx { extension, .. } => match src {
-            Abs::Num(r) => Ok(Abs::Num(extension_range(extension, r))),
+            Abs::Num(r) => Ok(Abs::Num(Numbers::spanned(extension_range(extension, r.unsigned())))),
             _ => Err(WRONG_KIND),
         },
         Insn::Neg { width, .. } => match dst {
-            Abs::Num(r) => Ok(Abs::Num(negated_range(width, r))),
+            Abs::Num(r) => Ok(Abs::Num(Numbers::spanned(negated_range(width, r.unsigned())))),
             _ => Err(WRONG_KIND),
         },
         Insn::End { order, size, .. } => match dst {
-            Abs::Num(r) => Ok(Abs::Num(ordered_range(order, size, r))),
+            Abs::Num(r) => Ok(Abs::Num(Numbers::spanned(ordered_range(order, size, r.unsigned())))),
             _ => Err(WRONG_KIND),
         },
         _ => Err(WRONG_KIND),

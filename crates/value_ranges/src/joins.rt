@@ -2,10 +2,12 @@
 
 ghost use Rattle.std.specs.Prelude.{◌≡◌};
 ghost use Rattle.value_ranges.specs.Covers.{CoversBoth};
-ghost use Rattle.value_ranges.specs.Joins.{hull, joined, span_hull};
+ghost use Rattle.value_ranges.specs.Numbers.{or_else, some_tidied};
+ghost use Rattle.value_ranges.specs.Joins.{hull, joined, ranges_hull, span_hull};
 
 use crate::abs::{Abs, Reach};
-use crate::range::Range;
+use crate::numbers::{Numbers, tidied};
+use crate::range::{Range, SignedRange};
 
 /// The least range with both.
 fn hull(a: Range, b: Range) -> Range
@@ -22,12 +24,41 @@ fn span_hull(p: Reach, q: Reach) -> Reach
     Reach::new(p.lo().min(q.lo()), p.hi().max(q.hi()))
 }
 
+/// The least signed range with both.
+#[tactic(auto, using(crate::proofs::PointerLemmas::signed_values, std::proofs::lemmas::Int::clamps))]
+fn signed_hull(p: SignedRange, q: SignedRange) -> SignedRange
+    ensures { result ≡ span_hull p q }
+{
+    SignedRange::new(p.lo().min(q.lo()), p.hi().max(q.hi()))
+}
+
+/// The least two ranges with both.
+fn ranges_hull(a: Numbers, b: Numbers) -> Numbers
+    ensures { result ≡ ranges_hull a b }
+{
+    Numbers::new(
+        hull(a.unsigned(), b.unsigned()),
+        signed_hull(a.signed(), b.signed()),
+    )
+}
+
+/// The same, tidied unless that leaves nothing.
+fn numbers_joined(a: Numbers, b: Numbers) -> Numbers
+    ensures { result ≡ or_else (ranges_hull a b) (some_tidied (ranges_hull a b)) }
+{
+    let hull = ranges_hull(a, b);
+    match tidied(hull) {
+        Some(numbers) => numbers,
+        None => hull,
+    }
+}
+
 fn joined(a: Abs, b: Abs) -> Abs
     ensures { result ≡ joined a b }
 {
     match a {
         Abs::Num(r) => match b {
-            Abs::Num(s) => Abs::Num(hull(r, s)),
+            Abs::Num(s) => Abs::Num(numbers_joined(r, s)),
             _ => Abs::Unset,
         },
         Abs::Stack(p) => match b {

@@ -1,15 +1,19 @@
-//! What is known of a register before a program runs: ranges of numbers, and of positions in the stack and in the part.
-//! Each table is exact, and covers what the machine can give. The hints on inlining keep what a verifier asks at each
+//! What is known of a register before a program runs: ranges of numbers, as they are and read as signed numbers, and of
+//! positions in the stack and in the part. Each table is exact, and covers what the machine can give. The hints on inlining keep what a verifier asks at each
 //! instruction out of memory.
 #![tactic(auto)]
 
 mod abs;
 mod arithmetic;
 mod joins;
+mod numbers;
 mod pointers;
 mod range;
 mod refinements;
 mod rows;
+mod signed_rows;
+#[cfg(test)]
+mod signed_tests;
 #[cfg(test)]
 mod tests;
 mod unary_rows;
@@ -18,6 +22,7 @@ mod words;
 pub use abs::{Abs, Reach};
 pub use arithmetic::alu;
 pub use joins::join;
+pub use numbers::Numbers;
 pub use range::Range;
 pub use refinements::refine;
 pub use words::{entry, immediate, loaded};

@@ -1,11 +1,13 @@
 //! What is known of a conditional jump's operands on each of its edges.
 
-ghost use Rattle.std.specs.Prelude.{◌≡◌};
+ghost use Rattle.std.specs.Prelude.{pos, ◌≡◌, ◌+ℤ◌, ◌-ℤ◌};
 ghost use Rattle.value_ranges.specs.Interval.{interval};
-ghost use Rattle.value_ranges.specs.Refinements.{CoversEdge, IsConditional, compared, is_other, is_register, is_whole, narrowed, refined_by, refined_pair, refined_ranges, relation_of, unless_empty, without};
+ghost use Rattle.value_ranges.specs.Numbers.{some_span};
+ghost use Rattle.value_ranges.specs.Refinements.{CoversEdge, IsConditional, compared, is_other, is_register, is_whole, narrowed, refined_by, refined_pair, refined_ranges, relation_of, at_least, at_most, both, signed_narrowed, signed_pair, signed_relation_of, tidied_both, unless_empty, with_signed, with_unsigned, without};
 
 use crate::abs::Abs;
-use crate::range::Range;
+use crate::numbers::{Numbers, meet, tidied};
+use crate::range::{Range, SignedRange};
 use crate::rows::cut;
 use insn_codec::{Condition, Insn, Operand, Register, Width};
 
@@ -31,6 +33,23 @@ fn relation_of(condition: Condition, taken: bool) -> Option<Relation>
         (Condition::Greater, false) | (Condition::LessEqual, true) => Some(Relation::AtMost),
         (Condition::GreaterEqual, true) | (Condition::Less, false) => Some(Relation::AtLeast),
         (Condition::GreaterEqual, false) | (Condition::Less, true) => Some(Relation::Below),
+        _ => None,
+    }
+}
+
+/// How their signed readings stand: the jump compares 64 bits.
+fn signed_relation_of(width: Width, condition: Condition, taken: bool) -> Option<Relation>
+    ensures { result ≡ signed_relation_of width condition taken }
+{
+    match (width, condition, taken) {
+        (Width::W64, Condition::SignedGreater, true)
+        | (Width::W64, Condition::SignedLessEqual, false) => { Some(Relation::Above) }
+        (Width::W64, Condition::SignedGreater, false)
+        | (Width::W64, Condition::SignedLessEqual, true) => { Some(Relation::AtMost) }
+        (Width::W64, Condition::SignedGreaterEqual, true)
+        | (Width::W64, Condition::SignedLess, false) => { Some(Relation::AtLeast) }
+        (Width::W64, Condition::SignedGreaterEqual, false)
+        | (Width::W64, Condition::SignedLess, true) => { Some(Relation::Below) }
         _ => None,
     }
 }
@@ -86,13 +105,136 @@ fn narrowed(relation: Relation, a: Range, b: Range) -> Option<(Range, Range)>
     }
 }
 
-#[inline(always)]
-fn refined_ranges(relation: Option<Relation>, a: Range, b: Range) -> Option<(Range, Range)>
-    ensures { result ≡ refined_ranges relation a b }
+/// The numbers of a signed range from `x` on, if there are any.
+#[tactic(auto, using(crate::proofs::PointerLemmas::signed_values, std::proofs::lemmas::Int::clamps))]
+fn at_least(r: SignedRange, x: i64) -> Option<SignedRange>
+    ensures { result ≡ some_span (at_least r x) }
+{
+    let lo = r.lo().max(x);
+    if lo <= r.hi() {
+        Some(SignedRange::new(lo, r.hi()))
+    } else {
+        None
+    }
+}
+
+/// Those up to `x`.
+#[tactic(auto, using(crate::proofs::PointerLemmas::signed_values, std::proofs::lemmas::Int::clamps))]
+fn at_most(r: SignedRange, x: i64) -> Option<SignedRange>
+    ensures { result ≡ some_span (at_most r x) }
+{
+    let hi = r.hi().min(x);
+    if r.lo() <= hi {
+        Some(SignedRange::new(r.lo(), hi))
+    } else {
+        None
+    }
+}
+
+/// Those over `x`.
+#[tactic(auto, using(crate::proofs::PointerLemmas::signed_values, std::proofs::lemmas::Int::clamps))]
+fn above(r: SignedRange, x: i64) -> Option<SignedRange>
+    ensures { result ≡ some_span (at_least r (x +ℤ pos 1)) }
+{
+    if x == i64::MAX {
+        let _greatest = r.hi();
+        return None;
+    }
+    at_least(r, x + 1)
+}
+
+/// Those under `x`.
+#[tactic(auto, using(crate::proofs::PointerLemmas::signed_values, std::proofs::lemmas::Int::clamps))]
+fn below(r: SignedRange, x: i64) -> Option<SignedRange>
+    ensures { result ≡ some_span (at_most r (x -ℤ pos 1)) }
+{
+    if x == i64::MIN {
+        let _least = r.lo();
+        return None;
+    }
+    at_most(r, x - 1)
+}
+
+/// Two ranges, if there are both.
+fn both(a: Option<SignedRange>, b: Option<SignedRange>) -> Option<(SignedRange, SignedRange)>
+    ensures { result ≡ both a b }
+{
+    match a {
+        Some(a) => match b {
+            Some(b) => Some((a, b)),
+            None => None,
+        },
+        None => None,
+    }
+}
+
+/// The signed numbers of two ranges that stand so, unless there are none.
+#[tactic(auto, using(crate::proofs::PointerLemmas::signed_values))]
+fn signed_narrowed(
+    relation: Relation,
+    a: SignedRange,
+    b: SignedRange,
+) -> Option<(SignedRange, SignedRange)>
+    ensures { result ≡ signed_pair (signed_narrowed relation a b) }
 {
     match relation {
-        Some(relation) => narrowed(relation, a, b),
+        Relation::Same => both(meet(a, b), meet(a, b)),
+        Relation::Differs => Some((a, b)),
+        Relation::Above => both(above(a, b.lo()), below(b, a.hi())),
+        Relation::AtLeast => both(at_least(a, b.lo()), at_most(b, a.hi())),
+        Relation::Below => both(below(a, b.hi()), above(b, a.lo())),
+        Relation::AtMost => both(at_most(a, b.hi()), at_least(b, a.lo())),
+    }
+}
+
+/// Both tidied, unless one of them is left with nothing.
+fn tidied_both(a: Numbers, b: Numbers) -> Option<(Numbers, Numbers)>
+    ensures { result ≡ tidied_both a b }
+{
+    match tidied(a) {
+        Some(a) => match tidied(b) {
+            Some(b) => Some((a, b)),
+            None => None,
+        },
         None => None,
+    }
+}
+
+/// What two numbers are where they stand so.
+fn with_unsigned(relation: Relation, a: Numbers, b: Numbers) -> Option<(Numbers, Numbers)>
+    ensures { result ≡ with_unsigned a b (unless_empty (narrowed relation a.unsigned b.unsigned)) }
+{
+    match narrowed(relation, a.unsigned(), b.unsigned()) {
+        Some((r, s)) => tidied_both(Numbers::new(r, a.signed()), Numbers::new(s, b.signed())),
+        None => None,
+    }
+}
+
+/// What they are where their signed readings stand so.
+fn with_signed(relation: Relation, a: Numbers, b: Numbers) -> Option<(Numbers, Numbers)>
+    ensures { result ≡ with_signed a b (signed_pair (signed_narrowed relation a.signed b.signed)) }
+{
+    match signed_narrowed(relation, a.signed(), b.signed()) {
+        Some((r, s)) => tidied_both(Numbers::new(a.unsigned(), r), Numbers::new(b.unsigned(), s)),
+        None => None,
+    }
+}
+
+#[inline(always)]
+fn refined_ranges(
+    relation: Option<Relation>,
+    signed: Option<Relation>,
+    a: Numbers,
+    b: Numbers,
+) -> Option<(Numbers, Numbers)>
+    ensures { result ≡ refined_ranges relation signed a b }
+{
+    match relation {
+        Some(relation) => with_unsigned(relation, a, b),
+        None => match signed {
+            Some(relation) => with_signed(relation, a, b),
+            None => None,
+        },
     }
 }
 
@@ -116,27 +258,32 @@ fn is_other(dst: Register, operand: &Operand) -> bool
 }
 
 /// What the jump compares the first operand with: an immediate is one number of the width.
-fn compared(src: &Operand, width: Width, b: Range) -> Range
+fn compared(src: &Operand, width: Width, b: Numbers) -> Numbers
     ensures { result ≡ compared src.now width b }
 {
     match src {
         Operand::Reg(_) => b,
-        Operand::Imm(_) => cut(width, b),
+        Operand::Imm(_) => Numbers::spanned(cut(width, b.unsigned())),
     }
 }
 
 /// Whether the jump compares the numbers as they are, and not their low bits.
-fn is_whole(width: Width, a: Range, b: Range) -> bool
+fn is_whole(width: Width, a: Numbers, b: Numbers) -> bool
     ensures { result ≡ is_whole width a b }
 {
     match width {
         Width::W64 => true,
-        Width::W32 => a.hi() < 1 << 32 && b.hi() < 1 << 32,
+        Width::W32 => a.greatest() < 1 << 32 && b.greatest() < 1 << 32,
     }
 }
 
 /// The new ranges, if there are any; an immediate keeps its own.
-fn refined_pair(from_register: bool, a: Range, b: Range, new: Option<(Range, Range)>) -> (Abs, Abs)
+fn refined_pair(
+    from_register: bool,
+    a: Numbers,
+    b: Numbers,
+    new: Option<(Numbers, Numbers)>,
+) -> (Abs, Abs)
     ensures { result ≡ refined_pair from_register a b new }
 {
     match new {
@@ -149,7 +296,7 @@ fn refined_pair(from_register: bool, a: Range, b: Range, new: Option<(Range, Ran
 }
 
 #[inline(always)]
-fn jump_refined(insn: &Insn, taken: bool, a: Range, b: Range) -> (Abs, Abs)
+fn jump_refined(insn: &Insn, taken: bool, a: Numbers, b: Numbers) -> (Abs, Abs)
     ensures { result ≡ refined_by insn.now taken (Abs.Num a) (Abs.Num b) }
 {
     match insn {
@@ -162,7 +309,8 @@ fn jump_refined(insn: &Insn, taken: bool, a: Range, b: Range) -> (Abs, Abs)
         } => {
             let other = compared(src, *width, b);
             if is_other(*dst, src) && is_whole(*width, a, other) {
-                let ranges = refined_ranges(relation_of(*condition, taken), a, other);
+                let signed = signed_relation_of(*width, *condition, taken);
+                let ranges = refined_ranges(relation_of(*condition, taken), signed, a, other);
                 refined_pair(is_register(src), a, b, ranges)
             } else {
                 (Abs::Num(a), Abs::Num(b))

@@ -36,7 +36,7 @@ fn reach<R: Abort + Copy>(rt: R, ends: (i32, i32)) -> Reach {
     Reach::new(ends.0, ends.1)
 }
 
-/// An operator, its width, the ranges of two registers and what is known of the result.
+/// An operator, its width, the ranges of two registers and of the result.
 type Row = (AluOp, Width, (u64, u64), (u64, u64), (u64, u64));
 
 const SUMS: [Row; 17] = [
@@ -117,11 +117,11 @@ fn check<R: Abort + Copy>(rt: R, rows: &[Row]) {
             dst: Register::new(0),
             src: Operand::Reg(Register::new(1)),
         };
-        let given = alu(&insn, number(rt, a), number(rt, b));
-        assert!(rt;
-            given == Ok(number(rt, want)),
-            "{op:?} {width:?} {a:?} {b:?}"
-        );
+        let given = match alu(&insn, number(rt, a), number(rt, b)) {
+            Ok(Abs::Num(numbers)) => Some((numbers.unsigned().lo(), numbers.unsigned().hi())),
+            _ => None,
+        };
+        assert!(rt; given == Some(want), "{op:?} {width:?} {a:?} {b:?}");
     }
 }
 
@@ -317,7 +317,7 @@ fn ways_that_meet(rt: HostRuntime) {
 /// A condition, whether the jump is taken, and the ranges of two registers before and after.
 type Edge = (Condition, bool, [(u64, u64); 2], [(u64, u64); 2]);
 
-const EDGES: [Edge; 27] = [
+const EDGES: [Edge; 25] = [
     (
         Condition::Equal,
         true,
@@ -438,13 +438,6 @@ const EDGES: [Edge; 27] = [
         [(6, 10), (5, 9)],
     ),
     (Condition::Set, true, [FULL, (1, 1)], [FULL, (1, 1)]),
-    (Condition::SignedLess, true, [FULL, (1, 1)], [FULL, (1, 1)]),
-    (
-        Condition::SignedGreaterEqual,
-        false,
-        [FULL, (1, 1)],
-        [FULL, (1, 1)],
-    ),
 ];
 
 fn jump(width: Width, condition: Condition, src: Operand) -> Insn

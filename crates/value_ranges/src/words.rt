@@ -8,6 +8,7 @@ ghost use Rattle.value_ranges.specs.Tables.{IsSet, is_set};
 ghost use Rattle.value_ranges.specs.Words.{CoversEntry, CoversLoads, any_number, between, entry, loaded, single_value};
 
 use crate::abs::{Abs, Reach};
+use crate::numbers::Numbers;
 use crate::range::Range;
 use insn_codec::{LoadKind, Register};
 
@@ -17,10 +18,11 @@ impl Abs {
         requires { lo ≤ hi }
         ensures { result ≡ between lo hi }
     {
-        Abs::Num(Range::new(lo, hi))
+        Abs::Num(Numbers::spanned(Range::new(lo, hi)))
     }
 
     /// This one number.
+    #[tactic(auto, using(crate::proofs::CoverLemmas::covers_single))]
     pub fn single(x: u64) -> Self
         ensures value { result ≡ single_value x }
         ensures covered { Covers result (Num x) }

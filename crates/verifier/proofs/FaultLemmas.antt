@@ -5,6 +5,7 @@ use Rattle.insn_codec.specs.declared.insn.Insn.TheVariants.{Alu, Mov, MovSx, Neg
 use Rattle.machine_model.specs.Memory.{store_bytes, load_bytes}
 use Rattle.helpers.specs.Table.{Table, arity_in}
 use Rattle.value_ranges.specs.Tables.{table_of}
+use Rattle.value_ranges.specs.Words.{greatest}
 use Rattle.value_ranges.specs.declared.abs.Abs.{Abs}
 use Rattle.value_ranges.specs.declared.abs.Abs.TheVariants as abs
 use Rattle.verifier.specs.declared.state.State.{State}
@@ -74,13 +75,13 @@ number_argument_numbers state (suc count) =
 
 span_numbers : (need : ℕ) (pointer len : Abs) → AreNumbers (span_fault need pointer len)
 span_numbers need pointer abs.Unset = number_31
-span_numbers need pointer (abs.Num r) = access_numbers need pointer (pos 0) r.hi
+span_numbers need pointer (abs.Num r) = access_numbers need pointer (pos 0) (greatest r)
 span_numbers need pointer (abs.Stack r) = number_34
 span_numbers need pointer (abs.Part r) = number_34
 
 length_numbers : (len : Abs) → AreNumbers (length_fault len)
 length_numbers abs.Unset = number_31
-length_numbers (abs.Num r) = if_numbers (nat_lt 512 r.hi) 34 number_34
+length_numbers (abs.Num r) = if_numbers (nat_lt 512 (greatest r)) 34 number_34
 length_numbers (abs.Stack r) = number_34
 length_numbers (abs.Part r) = number_34
 

@@ -1,5 +1,5 @@
 -- The refusals of the table of arithmetic instructions.
-use Rattle.std.proofs.Common.{◌≡◌, ◌⊎◌, ℕ, ℤ, pos, ◌+ℤ◌, ◌-ℤ◌, neg_ℤ, int_lt, ◌||◌, Bool, true, false, Option, Some, None, Result, Ok, Err, refl, inl, inr, if◌then◌else◌}
+use Rattle.std.proofs.Common.{◌≡◌, ◌⊎◌, ℕ, ℤ, pos, ◌+ℤ◌, ◌-ℤ◌, neg_ℤ, int_lt, ◌||◌, Bool, true, false, Result, Ok, Err, refl, inl, inr, if◌then◌else◌}
 use Rattle.insn_codec.specs.declared.insn.Width.{Width}
 use Rattle.insn_codec.specs.declared.insn.Width.TheVariants.{W32, W64}
 use Rattle.insn_codec.specs.declared.insn.AluOp.{AluOp}
@@ -7,8 +7,9 @@ use Rattle.insn_codec.specs.declared.insn.AluOp.TheVariants.{Add, Sub}
 use Rattle.insn_codec.specs.declared.insn.Insn.{Insn}
 use Rattle.insn_codec.specs.declared.insn.Insn.TheVariants.{Alu, Mov, MovSx, Neg, End}
 use Rattle.value_ranges.specs.Interval.{Interval}
+use Rattle.value_ranges.specs.Numbers.{Ranges}
 use Rattle.value_ranges.specs.Span.{Span, span}
-use Rattle.value_ranges.specs.Tables.{signed_ends, positions, moved_up, moved_down, positions_after, positions_onto, in_stack, in_part, alu_table, move_table, on_range, extension_range, negated_range, ordered_range, table_of}
+use Rattle.value_ranges.specs.Tables.{positions, moved_up, moved_down, positions_after, positions_onto, in_stack, in_part, alu_table, move_table, on_range, extension_range, negated_range, ordered_range, table_of}
 use Rattle.value_ranges.specs.declared.abs.Abs.{Abs}
 use Rattle.value_ranges.specs.declared.abs.Abs.TheVariants.{Unset, Num, Stack, Part}
 
@@ -24,22 +25,20 @@ of_test false p = tt
 of_positions : (lo hi : ℤ) → IsTableError (positions lo hi)
 of_positions lo hi = of_test (int_lt lo (neg_ℤ (pos 1048576)) || int_lt (pos 1048576) hi) (span lo hi)
 
-up : (p : Span) (o : Option Span) → IsTableError (moved_up p o)
-up p None = inr refl
-up p (Some e) = of_positions (p.lo +ℤ e.lo) (p.hi +ℤ e.hi)
+up : (p s : Span) → IsTableError (moved_up p s)
+up p s = of_positions (p.lo +ℤ s.lo) (p.hi +ℤ s.hi)
 
-down : (p : Span) (o : Option Span) → IsTableError (moved_down p o)
-down p None = inr refl
-down p (Some e) = of_positions (p.lo -ℤ e.hi) (p.hi -ℤ e.lo)
+down : (p s : Span) → IsTableError (moved_down p s)
+down p s = of_positions (p.lo -ℤ s.hi) (p.hi -ℤ s.lo)
 
-after : (w : Width) (op : AluOp) (p : Span) (r : Interval) → IsTableError (positions_after w op p r)
-after W64 Add p r = up p (signed_ends r)
-after W64 Sub p r = down p (signed_ends r)
-after w op p r = inl refl
+after : (w : Width) (op : AluOp) (p : Span) (n : Ranges) → IsTableError (positions_after w op p n)
+after W64 Add p n = up p n.signed
+after W64 Sub p n = down p n.signed
+after w op p n = inl refl
 
-onto : (w : Width) (op : AluOp) (r : Interval) (p : Span) → IsTableError (positions_onto w op r p)
-onto W64 Add r p = up p (signed_ends r)
-onto w op r p = inl refl
+onto : (w : Width) (op : AluOp) (n : Ranges) (p : Span) → IsTableError (positions_onto w op n p)
+onto W64 Add n p = up p n.signed
+onto w op n p = inl refl
 
 stack : (r : Result Span ℕ) → IsTableError r → IsTableError (in_stack r)
 stack (Ok p) h = tt

@@ -10,7 +10,7 @@ use Rattle.machine_model.specs.Memory.{store_bytes, load_bytes}
 use Rattle.machine_model.specs.Edges.{Fact, Taken}
 use Rattle.helpers.specs.Table.{Table, arity_in}
 use Rattle.value_ranges.specs.Span.{Span}
-use Rattle.value_ranges.specs.Words.{entry, between, single_value, any_number, loaded}
+use Rattle.value_ranges.specs.Words.{entry, between, single_value, any_number, loaded, greatest}
 use Rattle.value_ranges.specs.Joins.{joined}
 use Rattle.value_ranges.specs.Refinements.{refined_by}
 use Rattle.value_ranges.specs.Tables.{table_of}
@@ -139,14 +139,14 @@ number_arguments state (suc count) = first (number_arguments state count) (numbe
 
 -- so many bytes from each position on, of a pointer and a length, lie in the stack, or in a part of that need
 abbrev pub span_fault : ℕ → Abs → Abs → Option ℕ
-span_fault need pointer (Num len) = access_fault need pointer (pos 0) len.hi
+span_fault need pointer (Num len) = access_fault need pointer (pos 0) (greatest len)
 span_fault need pointer Unset = Some 31
 span_fault need pointer (Stack reach) = Some 34
 span_fault need pointer (Part reach) = Some 34
 
 -- a length is at most 512
 abbrev pub length_fault : Abs → Option ℕ
-length_fault (Num len) = if nat_lt 512 len.hi then Some 34 else None
+length_fault (Num len) = if nat_lt 512 (greatest len) then Some 34 else None
 length_fault Unset = Some 31
 length_fault (Stack reach) = Some 34
 length_fault (Part reach) = Some 34

@@ -86,7 +86,7 @@ fn span_fault(need: u32, pointer: Abs, len: &Abs) -> Option<u8>
 {
     match len {
         Abs::Unset => Some(31),
-        Abs::Num(range) => bytes_fault(need, pointer, range.hi()),
+        Abs::Num(numbers) => bytes_fault(need, pointer, numbers.greatest()),
         Abs::Stack(_) | Abs::Part(_) => Some(34),
     }
 }
@@ -97,7 +97,7 @@ fn length_fault(len: &Abs) -> Option<u8>
 {
     match len {
         Abs::Unset => Some(31),
-        Abs::Num(range) if range.hi() <= GREATEST_LENGTH => None,
+        Abs::Num(numbers) if numbers.greatest() <= GREATEST_LENGTH => None,
         Abs::Num(_) | Abs::Stack(_) | Abs::Part(_) => Some(34),
     }
 }

@@ -12,5 +12,6 @@ mod merges;
 mod programs;
 mod refusals;
 mod short;
+mod signed;
 mod spans;
 mod texts;
