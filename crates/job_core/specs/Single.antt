@@ -5,11 +5,11 @@ use Rattle.verifier.specs.Checked.{program_of}
 use Rattle.job_core.specs.declared.single.Outcome.{Outcome}
 use Rattle.job_core.specs.Admitted.{Order}
 
--- Some moves of task 0 alone, 4,096 at most, lead from the job's start to its end, with this R0 and these sums.
+-- Some moves of task 0 alone, no more than the job's credit, lead from the job's start to its end, with this R0 and these sums.
 pub record IsOutcome (order : Order) (outcome : Outcome) : Type 0 where
   pub moves : List Move
   pub alone : map (λ (m : Move). m.number) moves ≡ replicate (length moves) 0
-  pub few : length moves ≤ 4096
+  pub few : length moves ≤ order.credit
   pub last : Job
   pub runs : run (map program_of order.programs) (start order.credit order.buffer) moves ≡ Some last
   pub ended : (e : Ending) × (slice_get last.tasks 0 ≡ Some (Ended e)) × (e.r0 ≡ outcome.r0)

@@ -15,9 +15,6 @@ use refusal::NoMemory;
 use std::alloc::Global;
 use std::io::{self, Read, Write};
 
-/// How often the task is stepped at most. A program has 4,096 slots at most and goes forward at each step.
-const STEPS: u32 = 4096;
-
 /// What the root's task came to: its R0, and the credit that ended tasks spent and returned until then.
 #[derive(Clone, Copy, Debug, PartialEq, Eq)]
 pub struct Outcome {
@@ -26,12 +23,13 @@ pub struct Outcome {
     pub returned: u32,
 }
 
-/// Steps the root's task to its end, which it reaches within 4,096 steps.
+/// Steps the root's task to its end, which it reaches within as many steps as the job has credit: each step costs some of it.
 pub fn run_root(alloc: Global, job: Job) -> Result<Outcome, NoMemory>
     ensures { IfOk result (λ outcome. IsOutcome job outcome) }
 {
+    let steps = job.credit;
     let mut world = World::open(alloc, job)?;
-    for _ in 0..STEPS {
+    for _ in 0..steps {
         if let Stepped::Ended(r0) = world.step(alloc, 0) {
             let totals = world.totals();
             return Ok(Outcome {

@@ -1,4 +1,5 @@
-use Rattle.std.proofs.Common.{subst, ◌∙◌, arith}
+use Rattle.std.proofs.Common.{subst, ◌∙◌, ◌<◌, ap, arith}
+use Rattle.job_core.specs.Admitted.{Order}
 use Rattle.job_core.specs.Behind.{Steps}
 use Rattle.job_core.proofs.Singles.{alone_none, alone_more, alone_ends, outcome_is}
 use Rattle.job_core.proofs.single.run_root.Goals as goal
@@ -11,7 +12,8 @@ loop-init c = record {
 
 pub returns-in-Ended : goal.returns-in-Ended
 returns-in-Ended c =
-    outcome_is c.args.job c.loop.counter c.in-Ended.r0 c.loop.world c.step.new.self c.totals-totals.result c.loop-test.true c.loop.invariant.programs
+    outcome_is c.args.job c.loop.counter c.in-Ended.r0 c.loop.world c.step.new.self c.totals-totals.result
+    (subst (λ n. c.loop.counter < n) (ap (λ (o : Order). o.credit) c.job.view_is) c.loop-test.true) c.loop.invariant.programs
     c.loop.invariant.alone
     (λ k behind. subst (λ out. Steps c.loop.world k 0 out c.step.new.self) c.in-Ended.is (c.step.ensures.steps k behind))
     (λ k behind. c.totals-totals.ensures k behind)
@@ -27,4 +29,5 @@ loop-preserved c = record {
 pub unreachable-requires : goal.unreachable-requires
 unreachable-requires c =
     let ends = alone_ends c.args.job c.loop.counter c.loop.world c.loop.invariant.alone in
-    absurd (omega (arith, ends, c.loop-test.false))
+    let credit = ap (λ (o : Order). o.credit) c.job.view_is in
+    absurd (omega (arith, ends, credit, c.loop-test.false))
