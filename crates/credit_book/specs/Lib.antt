@@ -1,0 +1,5 @@
+pub mod History
+pub mod Rule
+pub mod Boards
+pub mod Books
+pub mod Tasks
