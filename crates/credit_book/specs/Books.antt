@@ -12,12 +12,14 @@ use Rattle.credit_book.specs.declared.task.Outcome.{Outcome}
 use Rattle.credit_book.specs.declared.book.Report.{Report}
 use Rattle.helpers.specs.Piece.{Piece}
 use Rattle.credit_book.specs.Boards.{Sign}
+use Rattle.credit_book.specs.Buffers.{buffer_of}
 use Rattle.credit_book.specs.History.{Table, May, table_of, IsHistoryOf, IsComplete, spent_in, returned_in, word_of, standing_at, is_fresh, may_work}
 
--- the job's board, its history, and the tickets that are parked now, the first parked first
+-- the job's board, its history, the length of its buffer, and the tickets that are parked now, the first parked first
 pub record Account : Type 0 where
   pub board : Sign
   pub history : List Event
+  pub size : ℕ
   pub waiting : List Ticket
 
 -- what the book's fields are, by its history
@@ -77,11 +79,9 @@ IsParkFault a t NoMemory = ⊥
 abbrev pub root_ticket : ℕ → ℕ → Piece → Ticket
 root_ticket job issued part = record { job = job; number = 0; program = 0; held = issued; arg = 0; part = part }
 
--- the report of this history
-abbrev pub IsReport : List Event → Report → Type 0
-IsReport history r =
-    (r.spent ≡ spent_in (table_of history)) × (r.returned ≡ returned_in (table_of history)) × (r.tasks.items ≡ (table_of history).tasks)
-
--- the report of a legal history with no live task
-abbrev pub IsFinal : Report → Type 0
-IsFinal r = (job : ℕ) × (issued : ℕ) × (history : List Event) × IsHistoryOf job issued history × IsComplete (table_of history) × IsReport history r
+-- the report of this history of a job with so many bytes
+pub record IsReport (size : ℕ) (history : List Event) (r : Report) : Type 0 where
+  pub spent : r.spent ≡ spent_in (table_of history)
+  pub returned : r.returned ≡ returned_in (table_of history)
+  pub buffer : r.buffer.items ≡ buffer_of size history
+  pub tasks : r.tasks.items ≡ (table_of history).tasks

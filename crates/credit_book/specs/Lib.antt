@@ -3,3 +3,4 @@ pub mod Rule
 pub mod Boards
 pub mod Books
 pub mod Tasks
+pub mod Buffers

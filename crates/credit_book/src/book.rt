@@ -22,6 +22,7 @@ use std::marker::{Brand, Model};
 pub struct Report {
     pub spent: u32,
     pub returned: u32,
+    pub buffer: Vec<u8>,
     pub tasks: Vec<TaskEnd>,
 }
 
@@ -39,12 +40,13 @@ impl Model for Book {
     ghost use Rattle.std.specs.Prelude.{map, length, ◌≤◌};
     ghost use Rattle.std.specs.VecDeque.{deque_capacity};
     ghost use Rattle.credit_book.specs.Books.{Account, IsBook, IsPosted};
+    ghost use Rattle.credit_book.specs.Buffers.{IsCollected};
 
     ghost Value = { Account };
 
-    ghost view = { λ b. record { board = b.writer.board; history = b.past; waiting = b.parked.items } };
+    ghost view = { λ b. record { board = b.writer.board; history = b.past; size = length b.report.buffer.items; waiting = b.parked.items } };
 
-    ghost invariant = { λ b. IsBook b.writer.board b.past b.standings.items b.report.tasks.items (map (λ t. t.number) b.parked.items) b.report.spent b.report.returned × (length b.standings.items ≤ deque_capacity b.parked) × IsPosted b.writer.history b.past };
+    ghost invariant = { λ b. IsBook b.writer.board b.past b.standings.items b.report.tasks.items (map (λ t. t.number) b.parked.items) b.report.spent b.report.returned × (length b.standings.items ≤ deque_capacity b.parked) × IsPosted b.writer.history b.past × IsCollected b.report.buffer.items b.past };
 }
 
 impl Stage {
@@ -98,7 +100,7 @@ impl Book {
 
     /// Ends a task: what it used is spent, the rest of what it held comes back.
     pub fn end(&mut self, outcome: Outcome) -> Result<Progress, Refused<Outcome>>
-        ensures done { IfOk result (λ p. (self.new.board ≡ self.old.board) × (self.new.waiting ≡ self.old.waiting) × (outcome.job ≡ self.old.board.job) × (self.new.history ≡ self.old.history ++ end_event outcome ∷ [])) }
+        ensures done { IfOk result (λ p. (self.new.board ≡ self.old.board) × (self.new.size ≡ self.old.size) × (self.new.waiting ≡ self.old.waiting) × (outcome.job ≡ self.old.board.job) × (self.new.history ≡ self.old.history ++ end_event outcome ∷ [])) }
         ensures legal { IfOk result (λ _. IsHistoryOf self.new.board.job self.new.board.issued self.new.history) }
         ensures totals { IfOk result (λ p. (p.spent ≡ spent_in (table_of self.new.history)) × (p.returned ≡ returned_in (table_of self.new.history))) }
         ensures complete { IfOk result (λ p. IsTrue p.complete ↔ IsComplete (table_of self.new.history)) }
@@ -125,6 +127,7 @@ impl Book {
             stage: Stage::Ended,
         };
         end_task(&mut self.report.tasks, &outcome, rest);
+        outcome.part.copy_within(&mut self.report.buffer);
         self.report.spent += outcome.used;
         self.report.returned += rest;
         let amount = (u64::from(rest) << 32) + u64::from(outcome.used);
@@ -158,10 +161,11 @@ fn reserve_task(
 
 impl Book {
     ghost use Rattle.credit_book.specs.Books.{IsReport, root_ticket};
+    ghost use Rattle.credit_book.specs.Buffers.{buffer_of};
 
     /// The book with the root's task alone, which holds all the credit.
     pub fn open(alloc: Global, post: Post, root: Part) -> Result<(Book, Ticket), NoMemory>
-        ensures book { IfOk result (λ r. (r.0.board ≡ post.board) × (r.0.history ≡ post.history) × (r.0.waiting ≡ [])) }
+        ensures book { IfOk result (λ r. (r.0.board ≡ post.board) × (r.0.history ≡ post.history) × (r.0.size ≡ length root.bytes) × (r.0.waiting ≡ [])) }
         ensures ticket { IfOk result (λ r. r.1 ≡ root_ticket post.board.job post.board.issued root) }
     {
         let writer = post.into_writer();
@@ -176,9 +180,11 @@ impl Book {
             stage: Stage::Fresh,
         });
         tasks.push_reserved(new_task(0, 0, 0, opening.issued));
+        let buffer = vec![in alloc; 0; root.len()]?;
         let report = Report {
             spent: 0,
             returned: 0,
+            buffer,
             tasks,
         };
         let book = Book {
@@ -206,6 +212,26 @@ impl Book {
         self.writer.opening().job
     }
 
+    /// What the tasks that ended have left in the job's buffer so far.
+    pub fn collected(&self) -> &[u8]
+        ensures { result.now ≡ buffer_of self.now.size self.now.history }
+    {
+        &self.report.buffer
+    }
+
+    /// What was spent and returned so far.
+    pub fn progress(&self) -> Progress
+        ensures totals { (result.spent ≡ spent_in (table_of self.now.history)) × (result.returned ≡ returned_in (table_of self.now.history)) }
+        ensures complete { IsTrue result.complete ↔ IsComplete (table_of self.now.history) }
+    {
+        let complete = self.is_complete();
+        Progress {
+            spent: self.report.spent,
+            returned: self.report.returned,
+            complete,
+        }
+    }
+
     // No task is alive.
     fn is_complete(&self) -> bool
         ensures { IsTrue result ↔ IsComplete (table_of self.now.history) }
@@ -217,7 +243,7 @@ impl Book {
     /// What the job came to, where no task is alive.
     pub fn report(&self) -> Option<&Report>
         ensures variant { IsSome result ↔ IsComplete (table_of self.now.history) }
-        ensures report { IfSome result (λ r. IsReport self.now.history r.now) }
+        ensures report { IfSome result (λ r. IsReport self.now.size self.now.history r.now) }
         ensures legal { IfSome result (λ _. IsHistoryOf self.now.board.job self.now.board.issued self.now.history) }
     {
         if self.is_complete() {
@@ -230,7 +256,7 @@ impl Book {
     /// The same, for the book. It comes back where a task is alive.
     pub fn close(self) -> Result<Report, Book>
         ensures variant { IsOk result ↔ IsComplete (table_of self.history) }
-        ensures report { IfOk result (λ r. IsReport self.history r) }
+        ensures report { IfOk result (λ r. IsReport self.size self.history r) }
         ensures legal { IfOk result (λ _. IsHistoryOf self.board.job self.board.issued self.history) }
         ensures same { IfErr result (λ b. b ≡ self) }
     {
@@ -247,7 +273,7 @@ impl Book {
 
     /// Keeps the ticket of a task that has not run.
     pub fn park(&mut self, ticket: Ticket) -> Result<(), Refused<Ticket>>
-        ensures done { IfOk result (λ _. (self.new.board ≡ self.old.board) × (self.new.waiting ≡ self.old.waiting ++ ticket ∷ []) × (ticket.job ≡ self.old.board.job) × (self.new.history ≡ self.old.history ++ Park ticket.number ∷ [])) }
+        ensures done { IfOk result (λ _. (self.new.board ≡ self.old.board) × (self.new.size ≡ self.old.size) × (self.new.waiting ≡ self.old.waiting ++ ticket ∷ []) × (ticket.job ≡ self.old.board.job) × (self.new.history ≡ self.old.history ++ Park ticket.number ∷ [])) }
         ensures legal { IfOk result (λ _. IsHistoryOf self.new.board.job self.new.board.issued self.new.history) }
         ensures refused { IfErr result (λ r. (self.new ≡ self.old) × (r.value ≡ ticket) × IsParkFault self.old ticket r.fault) }
     {
@@ -271,7 +297,7 @@ impl Book {
 
     /// The ticket that was parked first.
     pub fn claim(&mut self) -> Option<Ticket>
-        ensures some { IfSome result (λ t. (self.new.board ≡ self.old.board) × (self.old.waiting ≡ t ∷ self.new.waiting) × (self.new.history ≡ self.old.history ++ Claim t.number ∷ [])) }
+        ensures some { IfSome result (λ t. (self.new.board ≡ self.old.board) × (self.new.size ≡ self.old.size) × (self.old.waiting ≡ t ∷ self.new.waiting) × (self.new.history ≡ self.old.history ++ Claim t.number ∷ [])) }
         ensures legal { IfSome result (λ _. IsHistoryOf self.new.board.job self.new.board.issued self.new.history) }
         ensures none { IfNone result ((self.old.waiting ≡ []) × (self.new ≡ self.old)) }
     {
@@ -288,7 +314,7 @@ impl Book {
 
     /// A new task, with a share of its parent's credit.
     pub fn spawn(&mut self, parent: u32, asked: SpawnRecord) -> Result<Ticket, Refused<SpawnRecord>>
-        ensures done { let child = length (table_of self.old.history).standings in IfOk result (λ t. (self.new.board ≡ self.old.board) × (self.new.waiting ≡ self.old.waiting) × (t ≡ ticket_of self.old.board.job child asked) × (self.new.history ≡ self.old.history ++ spawn_event parent child asked ∷ [])) }
+        ensures done { let child = length (table_of self.old.history).standings in IfOk result (λ t. (self.new.board ≡ self.old.board) × (self.new.size ≡ self.old.size) × (self.new.waiting ≡ self.old.waiting) × (t ≡ ticket_of self.old.board.job child asked) × (self.new.history ≡ self.old.history ++ spawn_event parent child asked ∷ [])) }
         ensures legal { IfOk result (λ _. IsHistoryOf self.new.board.job self.new.board.issued self.new.history) }
         ensures refused { IfErr result (λ r. (self.new ≡ self.old) × (r.value ≡ asked) × IsSpawnFault self.old parent asked r.fault) }
     {

@@ -6,6 +6,7 @@ use Rattle.credit_book.specs.declared.event.Standing.{Standing}
 use Rattle.credit_book.specs.declared.task.Ticket.{Ticket}
 use Rattle.credit_book.specs.Books.{Account, IsBook}
 use Rattle.credit_book.proofs.Books.{gone, Spawned, claimed, claim_within, same_numbers, posted-quiet}
+use Rattle.credit_book.proofs.BufferLemmas.{collected-quiet}
 use Rattle.credit_book.proofs.book.Book.claim.Goals as goal
 
 pub index_mut-requires : goal.index_mut-requires
@@ -19,6 +20,7 @@ invariant_of-self c = (
   same_numbers _ _ _ _ _ _ _ _ c.in_err-ticket.ensures.items c.self.invariant.0,
   (let cap = c.pop_front.ensures.capacity in let room = c.self.invariant.1 in omega arith),
   c.self.invariant.2,
+  c.self.invariant.3,
 )
 
 pub invariant_of-self-2 : goal.invariant_of-self-2
@@ -29,6 +31,7 @@ invariant_of-self-2 c =
           let l = length-set c.self.inside.standings.items c.in_ok-ticket.ticket.number (record { held = c.standing_of-standing.result.held; stage = Claimed }) in omega arith),
       posted-quiet _ _ _ (Claim c.in_ok-ticket.ticket.number) c.self.invariant.2 tt
           (claimed _ _ _ _ _ _ _ c.self.invariant.0 c.in_ok-ticket.ticket.number c.standing_of-standing.result.held _ (ap (λ (s : Standing). s.held) is) (ap (λ ts. map (λ (t : Ticket). t.number) ts) c.in_ok-ticket.ensures.items)).word c.add.ensures,
+      collected-quiet _ _ _ (Claim c.in_ok-ticket.ticket.number) c.self.invariant.3 refl c.add.ensures,
     )
 
 pub returns-clause-legal : goal.returns-clause-legal

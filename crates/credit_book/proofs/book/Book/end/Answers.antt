@@ -6,6 +6,7 @@ use Rattle.credit_book.specs.Boards.{Sign}
 use Rattle.credit_book.specs.Books.{Account, IsBook, end_event}
 use Rattle.credit_book.specs.History.{may_work, table_of, standing_at, IsComplete}
 use Rattle.credit_book.proofs.Books.{gone, Read, read, end_legal, posted_prefix, posted-all, end_within_tasks, end_fits, issued_small, end_amount, end_book_as, book_complete, on_board}
+use Rattle.credit_book.proofs.BufferLemmas.{collected-end, length-collected}
 use Rattle.credit_book.proofs.book.Book.end.Goals as goal
 
 pub end_task-requires : goal.end_task-requires
@@ -51,11 +52,13 @@ invariant_of-self c = (
       (end_book_as _ _ _ _ _ _ _ c.self.invariant.0 c.args.outcome r.works r.le _ _ _ c.add.ensures (ap (λ h. h - c.args.outcome.used) r.held) c.end_task.ensures.items)),
   subst (λ (n : ℕ). n ≤ deque_capacity c.self.inside.parked) (sym (length-set c.self.inside.standings.items c.args.outcome.number gone)) c.self.invariant.1,
   posted-all _ _ (c.publish.ensures.history ∙ sym c.add.ensures),
+  collected-end _ _ _ _ c.args.outcome c.self.invariant.3 c.copy_within.ensures c.add.ensures,
 )
 
 pub returns-clause-done : goal.returns-clause-done
 returns-clause-done c = (
   c.publish.ensures.board ∙ ap (λ (a : Account). a.board) c.self.view_is,
+  length-collected _ _ c.args.outcome c.copy_within.ensures ∙ ap (λ (a : Account). a.size) c.self.view_is,
   ap (λ (a : Account). a.waiting) c.self.view_is,
   c.if-outcome-opening.false ∙ (c.opening-opening.ensures.same.0 ∙ ap (λ (a : Account). a.board.job) c.self.view_is),
   c.add.ensures ∙ ap (λ (a : Account). a.history ++ end_event c.args.outcome ∷ []) c.self.view_is,

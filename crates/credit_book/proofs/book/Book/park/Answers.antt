@@ -8,6 +8,7 @@ use Rattle.credit_book.specs.Books.{Account, IsBook}
 use Rattle.credit_book.specs.History.{is_fresh}
 use Rattle.credit_book.proofs.Books.{gone, quiet_word, posted-quiet, quiet_book, park_becomes, sound_book, numbers-push, length-numbers}
 use Rattle.credit_book.proofs.Sound.{parked_lt}
+use Rattle.credit_book.proofs.BufferLemmas.{collected-quiet}
 use Rattle.credit_book.proofs.book.Book.park.Goals as goal
 
 pub push_back_reserved-requires : goal.push_back_reserved-requires
@@ -28,11 +29,13 @@ invariant_of-self c =
           let l = length-set c.self.inside.standings.items c.args.ticket.number (record { held = c.standing_of-standing.result.held; stage = Parked }) in omega arith),
       posted-quiet _ _ _ (Park c.args.ticket.number) c.self.invariant.2 tt
           (quiet_word _ _ _ _ _ _ _ c.self.invariant.0 (Park c.args.ticket.number) _ _ _ fresh (park_becomes c.self.inside.standings.items _ _ _ _ _ refl refl) refl refl) c.add.ensures,
+      collected-quiet _ _ _ (Park c.args.ticket.number) c.self.invariant.3 refl c.add.ensures,
     )
 
 pub returns-clause-done : goal.returns-clause-done
 returns-clause-done c = (
   ap (λ (a : Account). a.board) c.self.view_is,
+  ap (λ (a : Account). a.size) c.self.view_is,
   c.push_back_reserved.ensures.items ∙ ap (λ (a : Account). a.waiting ++ c.args.ticket ∷ []) c.self.view_is,
   c.if-ticket-opening.false ∙ (c.opening-opening.ensures.same.0 ∙ ap (λ (a : Account). a.board.job) c.self.view_is),
   c.add.ensures ∙ ap (λ (a : Account). a.history ++ Park c.args.ticket.number ∷ []) c.self.view_is,

@@ -7,6 +7,7 @@ use Rattle.credit_book.specs.declared.task.Ticket.{Ticket}
 use Rattle.credit_book.specs.Books.{Account, IsBook, spawn_event, ticket_of}
 use Rattle.credit_book.specs.History.{Table, table_of, may_work}
 use Rattle.credit_book.proofs.Books.{gone, table_with, Spawned, spawned, child_small, tasks_number, same_numbers, same_book, not_failed, posted-quiet}
+use Rattle.credit_book.proofs.BufferLemmas.{collected-quiet}
 use Rattle.credit_book.proofs.book.Book.spawn.Goals as goal
 
 pub overflow_cast-child : goal.overflow_cast-child
@@ -20,6 +21,7 @@ invariant_of-self c = (
   same_book _ _ _ _ _ _ _ _ _ _ c.reserve_task.ensures.items.0 c.reserve_task.ensures.items.1 c.reserve_task.ensures.items.2 c.self.invariant.0,
   (let l = ap length c.reserve_task.ensures.items.0 in let k = c.reserve_task.ensures.kept in let room = c.self.invariant.1 in omega arith),
   c.self.invariant.2,
+  c.self.invariant.3,
 )
 
 pub invariant_of-self-2 : goal.invariant_of-self-2
@@ -41,6 +43,7 @@ invariant_of-self-2 c =
           _ _ _ _ _ _ is (sym c.may_work.ensures ∙ c.if-not-may_work.false) (let len = c.len-child.ensures in let l = ap length c.reserve_task.ensures.items.0 in omega arith)
           (let z : c.args.asked.share ≢ 0 = c.if-asked-eq0.false in omega arith) c.if-asked-standing.false
           c.reserve_task.ensures.items.0 c.reserve_task.ensures.items.1 refl c.new_task.ensures c.push_reserved.ensures.items c.push_reserved-2.ensures.items).word c.add.ensures,
+      collected-quiet _ _ _ (Spawn c.args.parent c.len-child.result c.args.asked.program c.args.asked.share c.args.asked.arg c.args.asked.part.base (length c.args.asked.part.bytes)) c.self.invariant.3 refl c.add.ensures,
     )
 
 pub returns-clause-done : goal.returns-clause-done
@@ -49,6 +52,7 @@ returns-clause-done c =
     (let t = tasks_number _ _ _ _ _ _ _ c.self.invariant.0 c.args.self.now.history (ap (λ (a : Account). a.history) c.self.view_is) in
     let len = c.len-child.ensures in let l = ap length c.reserve_task.ensures.items.0 in omega arith) in (
       ap (λ (a : Account). a.board) c.self.view_is,
+      ap (λ (a : Account). a.size) c.self.view_is,
       c.reserve_task.ensures.items.2 ∙ ap (λ (a : Account). a.waiting) c.self.view_is,
       (let job = c.opening-opening.ensures.same.0 ∙ ap (λ (a : Account). a.board.job) c.self.view_is in
           let f : ℕ × ℕ → Ticket = λ x. ticket_of x.0 x.1 c.args.asked in ap f (λ i. (job i, number i))),
