@@ -4,8 +4,8 @@ use Rattle.credit_book.specs.declared.event.Event.{Event}
 use Rattle.credit_book.specs.declared.event.Event.TheVariants.{Open, Spawn, Park, Claim, End}
 use Rattle.credit_book.specs.declared.event.Standing.{Standing}
 use Rattle.credit_book.specs.declared.event.TaskEnd.{TaskEnd}
-use Rattle.credit_book.specs.declared.fault.Fault.{Fault}
-use Rattle.credit_book.specs.declared.fault.Fault.TheVariants.{Stranger, OverSpent, CreditLow, NoMemory}
+use Rattle.credit_book.specs.declared.fault.BookFault.{BookFault}
+use Rattle.credit_book.specs.declared.fault.BookFault.TheVariants.{Stranger, OverSpent, CreditLow, NoMemory}
 use Rattle.credit_book.specs.declared.task.Ticket.{Ticket}
 use Rattle.helpers.specs.declared.spawner.SpawnRecord.{SpawnRecord}
 use Rattle.credit_book.specs.declared.task.Outcome.{Outcome}
@@ -53,14 +53,14 @@ abbrev pub end_event : Outcome → Event
 end_event o = End o.number o.used o.r0 o.ran o.part.base o.part.bytes
 
 -- why an end is refused
-abbrev pub IsEndFault : Account → Outcome → Fault → Type 0
+abbrev pub IsEndFault : Account → Outcome → BookFault → Type 0
 IsEndFault a o Stranger = o.job ≡ a.board.job → ¬ (may_work (standing_at (table_of a.history) o.number).stage ≡ true)
 IsEndFault a o OverSpent = (o.job ≡ a.board.job) × (may_work (standing_at (table_of a.history) o.number).stage ≡ true) × ((standing_at (table_of a.history) o.number).held < o.used)
 IsEndFault a o CreditLow = ⊥
 IsEndFault a o NoMemory = ⊥
 
 -- why a spawn is refused; want of memory comes only where the spawn would be legal
-abbrev pub IsSpawnFault : Account → ℕ → SpawnRecord → Fault → Type 0
+abbrev pub IsSpawnFault : Account → ℕ → SpawnRecord → BookFault → Type 0
 IsSpawnFault a parent r Stranger = ¬ (may_work (standing_at (table_of a.history) parent).stage ≡ true)
 IsSpawnFault a parent r OverSpent = ⊥
 IsSpawnFault a parent r CreditLow =
@@ -70,7 +70,7 @@ IsSpawnFault a parent r NoMemory = May (table_of a.history) (spawn_event parent 
 abbrev pub ticket_of : ℕ → ℕ → SpawnRecord → Ticket
 ticket_of job number r = record { job = job; number = number; program = r.program; held = r.share; arg = r.arg; part = r.part }
 
-abbrev pub IsParkFault : Account → Ticket → Fault → Type 0
+abbrev pub IsParkFault : Account → Ticket → BookFault → Type 0
 IsParkFault a t Stranger = t.job ≡ a.board.job → ¬ (is_fresh (standing_at (table_of a.history) t.number).stage ≡ true)
 IsParkFault a t OverSpent = ⊥
 IsParkFault a t CreditLow = ⊥

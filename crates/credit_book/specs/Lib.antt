@@ -4,3 +4,4 @@ pub mod Boards
 pub mod Books
 pub mod Tasks
 pub mod Buffers
+pub mod BookFaultCodes

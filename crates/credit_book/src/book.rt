@@ -8,7 +8,7 @@ ghost use Rattle.credit_book.specs.Tasks.{no_task, ended_task, blank_task};
 
 use crate::board::{Post, Progress, Writer};
 use crate::event::{Stage, Standing, TaskEnd};
-use crate::fault::{Fault, Refused};
+use crate::fault::{BookFault, Refused};
 use crate::past::Past;
 use crate::task::{Outcome, Ticket};
 use helpers::{Part, SpawnRecord};
@@ -111,13 +111,13 @@ impl Book {
         let standing = standing_of(self.standings.as_slice(), outcome.number);
         if outcome.job != opening.job || !standing.stage.may_work() {
             return Err(Refused {
-                fault: Fault::Stranger,
+                fault: BookFault::Stranger,
                 value: outcome,
             });
         }
         if outcome.used > standing.held {
             return Err(Refused {
-                fault: Fault::OverSpent,
+                fault: BookFault::OverSpent,
                 value: outcome,
             });
         }
@@ -282,7 +282,7 @@ impl Book {
         let standing = standing_of(self.standings.as_slice(), ticket.number);
         if ticket.job != opening.job || !standing.stage.is_fresh() {
             return Err(Refused {
-                fault: Fault::Stranger,
+                fault: BookFault::Stranger,
                 value: ticket,
             });
         }
@@ -322,13 +322,13 @@ impl Book {
         let standing = standing_of(self.standings.as_slice(), parent);
         if !standing.stage.may_work() {
             return Err(Refused {
-                fault: Fault::Stranger,
+                fault: BookFault::Stranger,
                 value: asked,
             });
         }
         if asked.share == 0 || asked.share >= standing.held {
             return Err(Refused {
-                fault: Fault::CreditLow,
+                fault: BookFault::CreditLow,
                 value: asked,
             });
         }
@@ -340,7 +340,7 @@ impl Book {
         .is_err()
         {
             return Err(Refused {
-                fault: Fault::NoMemory,
+                fault: BookFault::NoMemory,
                 value: asked,
             });
         }
