@@ -29,6 +29,14 @@ impl Model for Part {
     ghost invariant = { λ p. p.base + length p.bytes.items ≤ 65536 };
 }
 
+/// Puts bytes into a buffer, from a place on.
+fn put(buffer: &mut Vec<u8>, at: usize, bytes: &[u8])
+    requires { at + length bytes.now ≤ length buffer.old.items }
+    ensures { buffer.new.items ≡ written buffer.old.items at bytes.now }
+{
+    buffer[at..at + bytes.len()].copy_from_slice(bytes);
+}
+
 impl Part {
     /// The whole buffer, of at most 65,536 bytes.
     pub fn whole(bytes: Vec<u8>) -> Part
@@ -88,8 +96,24 @@ impl Part {
         requires { self.now.base + length self.now.bytes ≤ length buffer.old.items }
         ensures { buffer.new.items ≡ written buffer.old.items self.now.base self.now.bytes }
     {
-        let end = self.base + self.bytes.len();
-        buffer[self.base..end].copy_from_slice(&self.bytes);
+        put(buffer, self.base, &self.bytes);
+    }
+
+    /// The same as far as the buffer reaches: what would lie past its end is left out.
+    #[tactic(auto, using(crate::proofs::PieceLemmas::written_past, crate::proofs::PieceLemmas::written_inside, crate::proofs::PieceLemmas::written_across))]
+    pub fn copy_within(&self, buffer: &mut Vec<u8>)
+        ensures { buffer.new.items ≡ take (length buffer.old.items) (written buffer.old.items self.now.base self.now.bytes) }
+    {
+        let length = buffer.len();
+        if length <= self.base {
+            return;
+        }
+        let room = length - self.base;
+        if self.bytes.len() <= room {
+            put(buffer, self.base, &self.bytes);
+        } else {
+            put(buffer, self.base, &self.bytes[..room]);
+        }
     }
 
     /// For how many bytes it has room.

@@ -1,0 +1,7 @@
+pub mod History
+pub mod Rule
+pub mod Boards
+pub mod Books
+pub mod Tasks
+pub mod Buffers
+pub mod BookFaultCodes
