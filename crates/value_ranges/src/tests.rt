@@ -108,6 +108,17 @@ const BITS: [Row; 23] = [
     (Arsh, W64, (TOP, TOP), (1, 1), (TOP, TOP)),
 ];
 
+/// The ends of a number's unsigned range.
+fn ends(abs: Abs) -> Option<(u64, u64)> {
+    match abs {
+        Abs::Num(numbers) => {
+            let range = numbers.unsigned();
+            Some((range.lo(), range.hi()))
+        }
+        _ => None,
+    }
+}
+
 fn check<R: Abort + Copy>(rt: R, rows: &[Row]) {
     for row in rows {
         let (op, width, a, b, want) = *row;
@@ -118,8 +129,8 @@ fn check<R: Abort + Copy>(rt: R, rows: &[Row]) {
             src: Operand::Reg(Register::new(1)),
         };
         let given = match alu(&insn, number(rt, a), number(rt, b)) {
-            Ok(Abs::Num(numbers)) => Some((numbers.unsigned().lo(), numbers.unsigned().hi())),
-            _ => None,
+            Ok(abs) => ends(abs),
+            Err(_) => None,
         };
         assert!(rt; given == Some(want), "{op:?} {width:?} {a:?} {b:?}");
     }
