@@ -1,9 +1,6 @@
 //! Programs, memories and shares at their limits: nothing there is refused that needn't be.
 
-use crate::ways::{Start, assembled, by_job, by_reference, by_vm, copied};
-use cost_bound::costs;
-use flow_graph::build;
-use insn_codec::decode;
+use crate::ways::{Start, assembled, by_job, by_reference, by_vm, copied, reference_program};
 use job_core::{ProgramBytes, admit, play};
 use std::alloc::Global;
 use std::test::Fail;
@@ -41,7 +38,8 @@ fn the_longest_program_runs(rt: HostRuntime) -> Result<(), Fail> {
 fn the_longest_program_costs_its_slots(rt: HostRuntime) -> Result<(), Fail> {
     let alloc = rt.alloc();
     let code = longest(alloc)?;
-    let table = costs(alloc, &build(alloc, &decode(alloc, &code)?)?)?.into_table();
+    let program = reference_program(alloc, 0, &code, Vec::new(alloc))?;
+    let table = program.costs.as_slice();
     assert_eq!(rt; table.len(), 4096);
     assert_eq!(rt; (table[0], table[1], table[4095]), (4096, 4095, 1));
     let programs = [ProgramBytes {
