@@ -1,9 +1,12 @@
--- What arrives at each slot of a program whose edges lead forward.
-use Rattle.std.proofs.Common.{◌≡◌, ℕ, zero, suc, ◌+◌, ◌≤◌, ◌<◌, ◌≢◌, ◌==◌, length, Some, None, Option, ap, sym, ◌∙◌, arith, refl, inl, inr, if◌then◌else◌}
-use Rattle.std.proofs.lemmas.Bool.{cases_lt}
+-- What arrives at each slot of a program that has an order.
+use Rattle.std.proofs.Common.{◌≡◌, ℕ, zero, suc, ◌+◌, ◌≤◌, ◌<◌, ◌≢◌, ◌==◌, List, length, slice_index, Some, None, Option, ap, sym, ◌∙◌, arith, refl, subst, inl, inr, if◌then◌else◌}
+use Rattle.std.proofs.lemmas.Bool.{cases_eq}
 use Rattle.std.proofs.lemmas.Bool.Decides.{nat_tests}
-use Rattle.machine_model.specs.Edges.{Fact, Always, NotTaken, Taken, insn_at, leads_at}
-use Rattle.flow_graph.specs.Flow.{IsForward}
+use Rattle.insn_codec.specs.declared.insn.Insn.{Insn}
+use Rattle.std.specs.Prelude.{option_and_then}
+use Rattle.machine_model.specs.Edges.{Code, Fact, Always, NotTaken, Taken, IsEdge, Begins, insn_at, leads, leads_at}
+use Rattle.machine_model.proofs.Codes.{begins_within}
+use Rattle.flow_graph.specs.Flow.{IsJoined, IsOrder}
 use Rattle.verifier.specs.States.{entry_state}
 use Rattle.verifier.specs.Arrive.{Subject, Arrival, Nothing, Undefined, Comes, met, sent, landed, over, joined_over, arriving, IsArrive, arrive_within, arrive}
 
@@ -20,79 +23,154 @@ landed_nothing : (o : Option ℕ) (s : ℕ) (a : Arrival) → ((t : ℕ) → o �
 landed_nothing None s a ne = refl
 landed_nothing (Some t) s a ne = landed_not t s a (ne t refl)
 
--- no edge leads back
-pub over_back : (subject : Subject) (a : ℕ → Arrival) (s p : ℕ) (fact : Fact) → IsForward subject.code → s ≤ p → over subject a s p fact ≡ Nothing
-over_back subject a s p fact f le = landed_nothing (leads_at subject.code p fact) s (sent subject (insn_at subject.code p) fact (a p))
-    (λ t e. let lt : p < t = f.onward p fact t e in omega arith)
+-- nothing passes where no edge leads
+pub over_none : (p : Subject) (a : ℕ → Arrival) (s k : ℕ) (fact : Fact) → (IsEdge p.code k fact s → ⊥) → over p a s k fact ≡ Nothing
+over_none p a s k fact none = landed_nothing (leads_at p.code k fact) s (sent p (insn_at p.code k) fact (a k))
+    (λ t e same. none (subst (λ (u : ℕ). leads_at p.code k fact ≡ Some u) same e))
+
+-- what passes an edge comes from its slot alone
+over_same : (p : Subject) (a b : ℕ → Arrival) (s k : ℕ) (fact : Fact) → (IsEdge p.code k fact s → a k ≡ b k) →
+    over p a s k fact ≡ over p b s k fact
+over_same p a b s k fact same = by_end (leads_at p.code k fact) same
+  where
+    by_end : (o : Option ℕ) → (o ≡ Some s → a k ≡ b k) →
+        landed o s (sent p (insn_at p.code k) fact (a k)) ≡ landed o s (sent p (insn_at p.code k) fact (b k))
+    by_end None h = refl
+    by_end (Some t) h = elim (cases_eq t s) [
+      | inl e ↦ ap (λ (x : Arrival). landed (Some t) s (sent p (insn_at p.code k) fact x)) (h (ap Some e))
+      | inr ne ↦ landed_not t s (sent p (insn_at p.code k) fact (a k)) ne ∙ sym (landed_not t s (sent p (insn_at p.code k) fact (b k)) ne)
+    ]
+
+-- an edge leaves an instruction
+pub edge_begins : (code : Code) (k : ℕ) (fact : Fact) (s : ℕ) → IsEdge code k fact s → Begins code k
+edge_begins code k fact s edge = by_insn (insn_at code k) refl edge
+  where
+    by_insn : (o : Option Insn) → insn_at code k ≡ o → option_and_then (λ i. leads i k fact) o ≡ Some s → Begins code k
+    by_insn None e x = absurd (cc)
+    by_insn (Some i) e x = (i, e)
 
 three : (x a b c : Arrival) → a ≡ Nothing → b ≡ Nothing → c ≡ Nothing → met (met (met x a) b) c ≡ x
 three x a b c p q r = simp (p, q, r, met_nothing)
 
--- the join over one slot more
-pub arriving_next : (subject : Subject) (a : ℕ → Arrival) (s p : ℕ) → IsForward subject.code →
-    arriving subject a s (suc p) ≡ met (met (met (arriving subject a s p) (over subject a s p Always)) (over subject a s p NotTaken)) (over subject a s p Taken)
-arriving_next subject a zero p f =
-    sym (three (Comes (entry_state subject.need)) (over subject a 0 p Always) (over subject a 0 p NotTaken) (over subject a 0 p Taken)
-    (over_back subject a 0 p Always f (omega arith)) (over_back subject a 0 p NotTaken f (omega arith)) (over_back subject a 0 p Taken f (omega arith)))
-arriving_next subject a (suc s) p f = refl
+-- a slot that doesn't lead there adds nothing
+pub joined_over_none : (p : Subject) (a : ℕ → Arrival) (s k : ℕ) → ((fact : Fact) → IsEdge p.code k fact s → ⊥) →
+    joined_over p a s (suc k) ≡ joined_over p a s k
+joined_over_none p a s k none =
+    three (joined_over p a s k) (over p a s k Always) (over p a s k NotTaken) (over p a s k Taken)
+    (over_none p a s k Always (none Always)) (over_none p a s k NotTaken (none NotTaken)) (over_none p a s k Taken (none Taken))
 
--- the slots from the slot on add nothing
-pub arriving_stops : (subject : Subject) (a : ℕ → Arrival) (n m s : ℕ) → IsForward subject.code → m ≡ n + s → arriving subject a s m ≡ arriving subject a s s
-arriving_stops subject a zero m s f e = ap (arriving subject a s) (let h : m ≡ s = omega arith in h)
-arriving_stops subject a (suc n) zero s f e = absurd (omega arith)
-arriving_stops subject a (suc n) (suc m) s f e =
-    let le : s ≤ m = omega arith in
-    arriving_next subject a s m f
-    ∙ (three (arriving subject a s m) (over subject a s m Always) (over subject a s m NotTaken) (over subject a s m Taken)
-    (over_back subject a s m Always f le) (over_back subject a s m NotTaken f le) (over_back subject a s m Taken f le)
-    ∙ arriving_stops subject a n m s f (omega arith))
+-- nor do all the slots from m on up to n
+pub joined_over_stops : (p : Subject) (a : ℕ → Arrival) (s m d n : ℕ) → n ≡ d + m →
+    ((k : ℕ) → m ≤ k → k < n → (fact : Fact) → IsEdge p.code k fact s → ⊥) → joined_over p a s n ≡ joined_over p a s m
+joined_over_stops p a s m zero n e none = ap (joined_over p a s) (let h : n ≡ m = omega arith in h)
+joined_over_stops p a s m (suc d) zero e none = absurd (omega arith)
+joined_over_stops p a s m (suc d) (suc n) e none =
+    let le : m ≤ n = omega arith in
+    let lt : n < suc n = omega arith in
+    joined_over_none p a s n (none n le lt)
+    ∙ joined_over_stops p a s m d n (omega arith) (λ k l h. let h' : k < suc n = omega arith in none k l h')
 
-over_same : (subject : Subject) (a b : ℕ → Arrival) (s p : ℕ) (fact : Fact) → IsForward subject.code → (p < s → a p ≡ b p) →
-    over subject a s p fact ≡ over subject b s p fact
-over_same subject a b s p fact f same = elim (cases_lt p s) [
-  | inl h ↦ ap (λ (x : Arrival). landed (leads_at subject.code p fact) s (sent subject (insn_at subject.code p) fact x)) (same h)
-  | inr h ↦ over_back subject a s p fact f h ∙ sym (over_back subject b s p fact f h)
-]
-
--- what arrives at a slot comes from the slots below it alone
-pub arriving_same : (subject : Subject) (a b : ℕ → Arrival) (s n : ℕ) → IsForward subject.code → ((p : ℕ) → p < s → a p ≡ b p) →
-    arriving subject a s n ≡ arriving subject b s n
-arriving_same subject a b zero n f same = refl
-arriving_same subject a b (suc s) zero f same = refl
-arriving_same subject a b (suc s) (suc p) f same =
-    let r : joined_over subject a (suc s) p ≡ joined_over subject b (suc s) p = arriving_same subject a b (suc s) p f same in
-    let x : over subject a (suc s) p Always ≡ over subject b (suc s) p Always = over_same subject a b (suc s) p Always f (same p) in
-    let y : over subject a (suc s) p NotTaken ≡ over subject b (suc s) p NotTaken = over_same subject a b (suc s) p NotTaken f (same p) in
-    let z : over subject a (suc s) p Taken ≡ over subject b (suc s) p Taken = over_same subject a b (suc s) p Taken f (same p) in
+-- what arrives at a slot comes from the slots that lead there alone
+pub arriving_same : (p : Subject) (a b : ℕ → Arrival) (s n : ℕ) → ((k : ℕ) (fact : Fact) → IsEdge p.code k fact s → a k ≡ b k) →
+    arriving p a s n ≡ arriving p b s n
+arriving_same p a b zero n same = refl
+arriving_same p a b (suc s) zero same = refl
+arriving_same p a b (suc s) (suc k) same =
+    let r : joined_over p a (suc s) k ≡ joined_over p b (suc s) k = arriving_same p a b (suc s) k same in
+    let x : over p a (suc s) k Always ≡ over p b (suc s) k Always = over_same p a b (suc s) k Always (same k Always) in
+    let y : over p a (suc s) k NotTaken ≡ over p b (suc s) k NotTaken = over_same p a b (suc s) k NotTaken (same k NotTaken) in
+    let z : over p a (suc s) k Taken ≡ over p b (suc s) k Taken = over_same p a b (suc s) k Taken (same k Taken) in
     four r x y z
   where
     four : {v w x y z : Arrival} {p q r : Arrival} → v ≡ w → x ≡ p → y ≡ q → z ≡ r → met (met (met v x) y) z ≡ met (met (met w p) q) r
     four e f g h = cc
 
+-- each slot that leads to this one has one of the first n places
+abbrev pub AreBehind : Subject → List ℕ → ℕ → ℕ → Type 0
+AreBehind p order s n = (k : ℕ) (fact : Fact) → IsEdge p.code k fact s → (place : ℕ) × (place < n) × (place < length order) × (slice_index order place ≡ k)
+
+-- those that lead to the slot at a place have a place ahead of it
+pub behind_place : (p : Subject) (order : List ℕ) (place : ℕ) → IsOrder p.code order → place < length order →
+    AreBehind p order (slice_index order place) place
+behind_place p order place f lt k fact edge =
+    let from = f.each k (edge_begins p.code k fact (slice_index order place) edge) in
+    let on = subst (λ (x : ℕ). IsEdge p.code x fact (slice_index order place)) (sym from.2) edge in
+    (from.0, f.onward from.0 place fact from.1 lt on, from.1, from.2)
+
+pub behind_below : (p : Subject) (order : List ℕ) (place n : ℕ) → IsOrder p.code order → place ≤ n → place < length order →
+    AreBehind p order (slice_index order place) n
+behind_below p order place n f le lt k fact edge =
+    let at = behind_place p order place f lt k fact edge in
+    let below : at.0 < place = at.1 in
+    let low : at.0 < n = omega (arith, below, le) in (at.0, low, at.2, at.3)
+
+-- and those that lead to any slot have a place
+pub behind_all : (p : Subject) (order : List ℕ) (s : ℕ) → IsOrder p.code order → AreBehind p order s (length order)
+behind_all p order s f k fact edge =
+    let from = f.each k (edge_begins p.code k fact s edge) in (from.0, from.1, from.1, from.2)
+
 -- there is only one solution
-pub arrive_unique : (subject : Subject) (a b : ℕ → Arrival) (n s : ℕ) → IsForward subject.code → IsArrive subject a → IsArrive subject b →
-    s < n → s < length subject.code → a s ≡ b s
-arrive_unique subject a b zero s f x y lt within = absurd (omega arith)
-arrive_unique subject a b (suc n) s f x y lt within =
+unique_at : (p : Subject) (a b : ℕ → Arrival) (order : List ℕ) (n s : ℕ) → IsJoined p.code → IsOrder p.code order → IsArrive p a → IsArrive p b →
+    AreBehind p order s n → s < length p.code → a s ≡ b s
+unique_at p a b order zero s j f x y behind within =
     x s within
-    ∙ (arriving_same subject a b s (length subject.code) f
-    (λ p h. let low : p < n = omega arith in let inside : p < length subject.code = omega arith in arrive_unique subject a b n p f x y low inside)
+    ∙ (arriving_same p a b s (length p.code) (λ k fact edge. absurd (none (behind k fact edge)))
+    ∙ sym (y s within))
+  where
+    none : {k : ℕ} → (place : ℕ) × (place < 0) × (place < length order) × (slice_index order place ≡ k) → ⊥
+    none h = let lt : h.0 < 0 = h.1 in omega (arith, lt)
+unique_at p a b order (suc n) s j f x y behind within =
+    x s within
+    ∙ (arriving_same p a b s (length p.code)
+    (λ k fact edge.
+        let h = behind k fact edge in
+        let below : h.0 < suc n = h.1 in
+        let low : h.0 ≤ n = omega (arith, below) in
+        unique_at p a b order n k j f x y (subst (λ (u : ℕ). AreBehind p order u n) h.3 (behind_below p order h.0 n f low h.2))
+        (begins_within p.code k (edge_begins p.code k fact s edge)))
     ∙ sym (y s within))
 
-within_same : (subject : Subject) (n m s : ℕ) → IsForward subject.code → s < n → s < m → arrive_within subject n s ≡ arrive_within subject m s
-within_same subject zero m s f x y = absurd (omega arith)
-within_same subject (suc n) zero s f x y = absurd (omega arith)
-within_same subject (suc n) (suc m) s f x y =
-    arriving_same subject (arrive_within subject n) (arrive_within subject m) s (length subject.code) f
-    (λ p h. let l : p < n = omega arith in let r : p < m = omega arith in within_same subject n m p f l r)
+pub arrive_unique : (p : Subject) (a b : ℕ → Arrival) (order : List ℕ) (s : ℕ) → IsJoined p.code → IsOrder p.code order → IsArrive p a →
+    IsArrive p b → s < length p.code → a s ≡ b s
+arrive_unique p a b order s j f x y within = unique_at p a b order (length order) s j f x y (behind_all p order s f) within
 
-within_is : (subject : Subject) (n s : ℕ) → IsForward subject.code → s < n → arrive_within subject n s ≡ arriving subject (arrive_within subject n) s (length subject.code)
-within_is subject zero s f x = absurd (omega arith)
-within_is subject (suc n) s f x =
-    arriving_same subject (arrive_within subject n) (arrive_within subject (suc n)) s (length subject.code) f
-    (λ p h. let l : p < n = omega arith in let r : p < suc n = omega arith in within_same subject n (suc n) p f l r)
+-- what arrives by paths of enough slots doesn't change with more
+within_same : (p : Subject) (order : List ℕ) (n m l s : ℕ) → IsOrder p.code order → AreBehind p order s n → n < m → n < l →
+    arrive_within p m s ≡ arrive_within p l s
+within_same p order n zero l s f behind x y = absurd (omega arith)
+within_same p order n (suc m) zero s f behind x y = absurd (omega arith)
+within_same p order n (suc m) (suc l) s f behind x y =
+    arriving_same p (arrive_within p m) (arrive_within p l) s (length p.code)
+    (λ k fact edge.
+        let h = behind k fact edge in
+        let below : h.0 < n = h.1 in
+        let left : h.0 < m = omega (arith, below, x) in
+        let right : h.0 < l = omega (arith, below, y) in
+        within_same p order h.0 m l k f (subst (λ (u : ℕ). AreBehind p order u h.0) h.3 (behind_place p order h.0 f h.2)) left right)
 
--- and there is one
-pub arrive_is : (subject : Subject) → IsForward subject.code → IsArrive subject (arrive subject)
+-- at the slot of a place
+pub arrive_at_place : (p : Subject) (order : List ℕ) (place : ℕ) → IsOrder p.code order → length order ≤ length p.code → place < length order →
+    arrive_within p (length p.code) (slice_index order place) ≡ arrive_within p (suc (length p.code)) (slice_index order place)
+arrive_at_place p order place f short lt =
+    let x : place < length p.code = omega arith in
+    let y : place < suc (length p.code) = omega arith in
+    within_same p order place (length p.code) (suc (length p.code)) (slice_index order place) f (behind_place p order place f lt) x y
+
+-- there is a solution
+pub arrive_is : (p : Subject) (order : List ℕ) → IsJoined p.code → IsOrder p.code order → length order ≤ length p.code → IsArrive p (arrive p)
 unfolding arrive
-arrive_is subject f s within = within_is subject (length subject.code) s f within
+arrive_is p order j f short s within = by_slot (insn_at p.code s) refl
+  where
+    more : 0 < length p.code
+    more = j.starts
+
+    by_slot : (o : Option Insn) → insn_at p.code s ≡ o → arrive_within p (length p.code) s ≡ arrive_within p (suc (length p.code)) s
+    by_slot (Some i) there =
+        let at = f.each s (i, there) in
+        subst (λ (u : ℕ). arrive_within p (length p.code) u ≡ arrive_within p (suc (length p.code)) u) at.2 (arrive_at_place p order at.0 f short at.1)
+    by_slot None none =
+        let y : 0 < suc (length p.code) = omega arith in
+        within_same p order 0 (length p.code) (suc (length p.code)) s f (λ k fact edge. absurd (second (j.lands k fact s edge).1)) more y
+      where
+        second : Begins p.code s → ⊥
+        second b = let e = b.1 in let n = none in cc

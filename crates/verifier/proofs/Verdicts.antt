@@ -39,7 +39,7 @@ flow_refused need bytes helpers placed (flow.JumpOut slot) small decoded h =
     record { small = small; placed = placed; decoded = decoded; refused = h }
 flow_refused need bytes helpers placed (flow.IntoWide slot) small decoded h =
     record { small = small; placed = placed; decoded = decoded; refused = h }
-flow_refused need bytes helpers placed (flow.BackEdge slot) small decoded h =
+flow_refused need bytes helpers placed (flow.Cycle slot) small decoded h =
     record { small = small; placed = placed; decoded = decoded; refused = h }
 flow_refused need bytes helpers placed (flow.FallsOff slot) small decoded h =
     record { small = small; placed = placed; decoded = decoded; refused = h }

@@ -4,7 +4,9 @@ pub mod Checked
 pub mod Regions
 pub mod Arrive
 pub mod Verdict
+pub mod Survey
 pub mod Coming
+pub mod Sources
 pub mod RefusalCodes
 pub mod Refusals
 pub mod Joining

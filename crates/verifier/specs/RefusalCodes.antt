@@ -32,7 +32,7 @@ codec_slot fault = None
 abbrev pub flow_slot : FlowFault → Option ℕ
 flow_slot (flow.JumpOut slot) = Some slot
 flow_slot (flow.IntoWide slot) = Some slot
-flow_slot (flow.BackEdge slot) = Some slot
+flow_slot (flow.Cycle slot) = Some slot
 flow_slot (flow.FallsOff slot) = Some slot
 flow_slot (flow.Unreachable slot) = Some slot
 flow_slot flow.NoMemory = None

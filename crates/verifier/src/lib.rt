@@ -8,6 +8,7 @@ mod passing;
 mod refusals;
 mod regions;
 mod state;
+mod sources;
 mod states;
 mod verification;
 mod verified;

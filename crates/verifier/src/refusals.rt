@@ -69,7 +69,7 @@ fn flow_slot(fault: &FlowFault) -> Option<u32>
     match *fault {
         FlowFault::JumpOut(slot)
         | FlowFault::IntoWide(slot)
-        | FlowFault::BackEdge(slot)
+        | FlowFault::Cycle(slot)
         | FlowFault::FallsOff(slot)
         | FlowFault::Unreachable(slot) => Some(slot),
         FlowFault::NoMemory => None,

@@ -9,7 +9,7 @@ use super::programs::{Row, agree};
 use crate::Refusal::{
     BadKind, Flow, FramePointer, NoHelper, OutOfPart, OutOfStack, PointerRange, UnsetRead,
 };
-use flow_graph::FlowFault::{BackEdge, FallsOff, IntoWide, JumpOut, Unreachable};
+use flow_graph::FlowFault::{Cycle, FallsOff, IntoWide, JumpOut, Unreachable};
 use insn_codec::AluOp::{Add, Mul, Sub};
 use insn_codec::ByteOrder::Swap;
 use insn_codec::Condition::{Equal, SignedLess};
@@ -37,11 +37,11 @@ const EDGES: [Row; 12] = [
         &[Set(R0, 0), If(Equal, R3, 0, 1), Wide(R0, 1), Exit],
         Err(Flow(IntoWide(1))),
     ),
-    (0, &[Set(R0, 0), Set(R0, 1), Ja(-2)], Err(Flow(BackEdge(2)))),
+    (0, &[Set(R0, 0), Set(R0, 1), Ja(-2)], Err(Flow(Cycle(2)))),
     (
         0,
         &[Set(R0, 0), If(Equal, R3, 0, -1), Exit],
-        Err(Flow(BackEdge(1))),
+        Err(Flow(Cycle(1))),
     ),
     (0, &[Set(R0, 0), Set(R0, 1)], Err(Flow(FallsOff(1)))),
     (0, &[Set(R0, 0), Wide(R0, 1)], Err(Flow(FallsOff(1)))),

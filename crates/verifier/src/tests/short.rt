@@ -4,7 +4,7 @@ use super::programs::Line::{Alu, AluBy, AluBy32, Copy, End, Exit, If, Ja, Load, 
 use super::programs::Name::{R0, R1, R3, R6, R10};
 use super::programs::{Row, agree};
 use crate::Refusal::{BadKind, Flow, FramePointer, OutOfPart, OutOfStack, PointerRange, UnsetRead};
-use flow_graph::FlowFault::{BackEdge, FallsOff, IntoWide, JumpOut, Unreachable};
+use flow_graph::FlowFault::{Cycle, FallsOff, IntoWide, JumpOut, Unreachable};
 use insn_codec::AluOp::{Add, Lsh, Mod, Sdiv};
 use insn_codec::ByteOrder::Big;
 use insn_codec::Condition::{Equal, Greater};
@@ -108,7 +108,7 @@ const EDGES: [Row; 7] = [
         Err(OutOfPart(2)),
     ),
     (0, &[Ja(1), Wide(R0, 1), Exit], Err(Flow(IntoWide(0)))),
-    (0, &[Ja(-1)], Err(Flow(BackEdge(0)))),
+    (0, &[Ja(-1)], Err(Flow(Cycle(0)))),
     (0, &[Set(R0, 0)], Err(Flow(FallsOff(0)))),
     (0, &[Exit, Exit], Err(Flow(Unreachable(1)))),
     (0, &[Ja(1), Exit], Err(Flow(JumpOut(0)))),

@@ -18,7 +18,7 @@ const ROWS: [Row; 12] = [
         "half of a wide instruction at slot 9",
     ),
     (
-        Refusal::Flow(FlowFault::BackEdge(3)),
+        Refusal::Flow(FlowFault::Cycle(3)),
         23,
         Some(3),
         "jump backward at slot 3",
