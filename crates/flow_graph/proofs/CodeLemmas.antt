@@ -8,7 +8,7 @@ use Rattle.flow_graph.specs.declared.onward.Onward.TheVariants.{Steps, StepsWide
 use Rattle.flow_graph.specs.Onward.{onward_of}
 use Rattle.flow_graph.specs.Program.{second_slot, code_of, IsDecoded}
 use Rattle.flow_graph.proofs.Onwards.{width_of, other_slot, second_is}
-use Rattle.flow_graph.proofs.Forward.{IsLaid}
+use Rattle.flow_graph.proofs.Joining.{IsLaid}
 
 record Follows (code : Code) : Type 0 where
   opens : 0 < length code → Begins code 0

@@ -1,5 +1,5 @@
 pub mod Onwards
-pub mod Forward
+pub mod Joining
 pub mod Marks
 pub mod CodeLemmas
 pub mod FaultLemmas
