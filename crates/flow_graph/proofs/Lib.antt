@@ -5,3 +5,8 @@ pub mod CodeLemmas
 pub mod FaultLemmas
 pub mod PlacedLemmas
 pub mod Decoded
+pub mod Lists
+pub mod MarkLemmas
+pub mod WalkLemmas
+pub mod PlaceLemmas
+pub mod OrderLemmas

@@ -58,10 +58,7 @@ impl Graph {
     pub fn insn(&self, slot: u32) -> Option<&Insn>
         ensures { option_copied result ≡ insn_at self.now.code slot }
     {
-        match self.code.get(slot as usize) {
-            Some(Some(insn)) => Some(insn),
-            _ => None,
-        }
+        insn_at(&self.code, slot)
     }
 
     /// The slots that the instruction at the slot leads to.
@@ -88,8 +85,29 @@ impl Graph {
     }
 }
 
+ghost use Rattle.std.specs.Prelude.{◌↔◌, IsTrue};
 ghost use Rattle.machine_model.specs.Edges.{Begins};
 ghost use Rattle.flow_graph.specs.Flow.{AreNext, IsJoined, IsNext, HasTarget};
+
+/// The instruction that begins at the slot.
+fn insn_at(code: &[Option<Insn>], slot: u32) -> Option<&Insn>
+    ensures { option_copied result ≡ insn_at code.now slot }
+{
+    match code.get(slot as usize) {
+        Some(Some(insn)) => Some(insn),
+        _ => None,
+    }
+}
+
+/// Whether an instruction begins at the slot.
+pub(crate) fn begins_at(code: &[Option<Insn>], slot: u32) -> bool
+    ensures { IsTrue result ↔ Begins code.now slot }
+{
+    match insn_at(code, slot) {
+        Some(_) => true,
+        None => false,
+    }
+}
 
 /// The slots that an instruction leads to which goes on in this way.
 fn next_after(onward: Onward, slot: u32) -> Next

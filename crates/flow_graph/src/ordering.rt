@@ -8,7 +8,7 @@ ghost use Rattle.flow_graph.specs.Places.{ArePlaces, IsBehind, IsPlaced, place_a
 ghost use Rattle.flow_graph.specs.Program.{code_of, IsDecoded};
 
 use crate::building::code_of;
-use crate::graph::{Next, next_of};
+use crate::graph::{Next, begins_at, next_of};
 use insn_codec::{Insn, Placed};
 use refusal::NoMemory;
 use std::alloc::Global;
@@ -20,14 +20,14 @@ fn places_of(alloc: Global, code: &[Option<Insn>], order: &[u32]) -> Result<Opti
 {
     let mut places = vec![in alloc; None; code.len()]?;
     for place in 0..order.len() {
-        let slot = order[place] as usize;
-        let Some(Some(_)) = code.get(slot) else {
-            return Ok(None);
-        };
-        if let Some(_) = places[slot] {
+        let slot = order[place];
+        if !begins_at(code, slot) {
             return Ok(None);
         }
-        places[slot] = Some(place);
+        if let Some(_) = places[slot as usize] {
+            return Ok(None);
+        }
+        places[slot as usize] = Some(place);
     }
     Ok(Some(places))
 }
@@ -72,7 +72,7 @@ pub fn check_order(alloc: Global, placed: &[Placed], order: &[u32]) -> Result<bo
     };
     let slots = code.len() as u32;
     for slot in 0..slots {
-        if let Some(_) = &code[slot as usize] {
+        if begins_at(&code, slot) {
             if !is_placed(&code, &places, slot) {
                 return Ok(false);
             }

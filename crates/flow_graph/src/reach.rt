@@ -6,7 +6,7 @@ ghost use Rattle.machine_model.specs.Paths.{IsReached};
 ghost use Rattle.flow_graph.specs.Flow.{IsJoined};
 ghost use Rattle.flow_graph.specs.Reached.{AreAhead, IsMarkedOn, IsFirstUnreached};
 
-use crate::graph::{Next, next_of};
+use crate::graph::{Next, begins_at, next_of};
 use insn_codec::Insn;
 use refusal::NoMemory;
 use std::alloc::Global;
@@ -54,7 +54,7 @@ pub(crate) fn first_unreached(alloc: Global, code: &[Option<Insn>]) -> Result<Op
     let marks = slots_ahead(alloc, code, 0)?;
     let slots = code.len() as u32;
     for slot in 1..slots {
-        if let Some(_) = &code[slot as usize] {
+        if begins_at(code, slot) {
             if !marks[slot as usize] {
                 return Ok(Some(slot));
             }

@@ -6,7 +6,7 @@ ghost use Rattle.flow_graph.specs.Flow.{IsJoined};
 ghost use Rattle.flow_graph.specs.Walks.{mark_at, way_to, IsWay, IsWalk, HasEnded, HasMet, HasWalked};
 ghost use Rattle.flow_graph.specs.declared.walk.Mark.TheVariants.{Open, Done};
 
-use crate::graph::{Next, next_of};
+use crate::graph::{Next, begins_at, next_of};
 use insn_codec::Insn;
 use refusal::NoMemory;
 use std::alloc::Global;
@@ -134,7 +134,7 @@ fn walk_from(code: &[Option<Insn>], mut walk: Walk, slot: u32) -> Result<Walked,
     ensures ended { IfOk result (λ walked. HasEnded code.now walk.marks.items walked) }
     ensures met { IfOk result (λ walked. HasMet slot walked) }
 {
-    if walk.marks[slot as usize] == Mark::New {
+    if let Mark::New = walk.marks[slot as usize] {
         walk.path.push(slot)?;
         walk.marks[slot as usize] = Mark::Open;
         return walk_on(code, walk);
@@ -155,7 +155,7 @@ pub(crate) fn walk_all(alloc: Global, code: &[Option<Insn>]) -> Result<Walked, N
         done: Vec::new(alloc),
     };
     for slot in 0..slots {
-        if let Some(_) = &code[slot as usize] {
+        if begins_at(code, slot) {
             match walk_from(code, walk, slot)? {
                 Walked::All(further) => walk = further,
                 Walked::Cycle(marks, slot) => return Ok(Walked::Cycle(marks, slot)),
