@@ -1,17 +1,18 @@
 -- The cost of a slot, from the costs of the slots that it leads to.
-use Rattle.std.proofs.Common.{◌≡◌, ℕ, ◌+◌, ◌≤◌, ◌<◌, List, [], ◌∷◌, length, Some, None, Option, ap, ◌∙◌, arith, refl, max, subst, inl, inr, ◌*◌, slice_index, slice_set, slice_get, ◌≢◌}
+use Rattle.std.proofs.Common.{◌≡◌, ℕ, ◌+◌, ◌≤◌, ◌<◌, List, [], ◌∷◌, length, Some, None, Option, ap, sym, ◌∙◌, arith, refl, max, subst, inl, inr, ◌*◌, slice_index, slice_set, slice_get, ◌≢◌, rules, Bor, IsSome}
 use Rattle.std.specs.Prelude.{option_and_then}
+use Rattle.std.specs.Option.{option_copied}
 use Rattle.std.proofs.lemmas.Bool.{cases_lt}
 use Rattle.std.proofs.lemmas.List.Sums.{sum_by-cons}
 use Rattle.std.proofs.lemmas.List.{get_or-set_same, get_or-set_other}
-use Rattle.std.proofs.lemmas.Option.{slice_get_past}
 use Rattle.std.proofs.Math.ListN.{length-set}
 use Rattle.insn_codec.specs.declared.insn.Insn.{Insn}
 use Rattle.insn_codec.specs.declared.insn.Insn.TheVariants.{Exit}
 use Rattle.machine_model.specs.Edges.{Code, Fact, Begins, insn_at, leads, leads_at, IsEdge, Always, NotTaken, Taken, price}
 use Rattle.machine_model.specs.Paths.{price_of, price_at, IsExitPath, path_price, IsCost, AreCosts}
 use Rattle.flow_graph.specs.declared.graph.Next.TheVariants.{Zero, One, Two}
-use Rattle.flow_graph.specs.Flow.{IsForward, AreNext}
+use Rattle.machine_model.proofs.Codes.{begins_within}
+use Rattle.flow_graph.specs.Flow.{Flow, IsFlow, AreNext}
 use Rattle.cost_bound.specs.Table.{AreCostsFrom}
 
 leads_of : (code : Code) (p : ℕ) (i : Insn) (fact : Fact) → insn_at code p ≡ Some i → leads_at code p fact ≡ leads i p fact
@@ -118,86 +119,92 @@ cost_two code p i s t c d e next left right =
         subst (λ (v : ℕ). IsExitPath code v path → path_price code v path ≤ d) same (right.greatest path) h in
         omega arith
 
+-- an edge from the slot at a place leads to a slot at a later one
+later_place : (flow : Flow) (place p s : ℕ) (fact : Fact) → IsFlow flow → place < length flow.order → slice_index flow.order place ≡ p →
+    IsEdge flow.code p fact s → (q : ℕ) × (place < q) × (q < length flow.order) × (slice_index flow.order q ≡ s)
+later_place flow place p s fact f lt is edge =
+    let i = f.order.each s (f.joined.lands p fact s edge).1 in
+    let up : place < i.0 = f.order.onward place i.0 fact lt i.1
+        (subst (λ (r : ℕ). IsEdge flow.code r fact (slice_index flow.order i.0)) (sym is) (subst (IsEdge flow.code p fact) (sym i.2) edge)) in
+    (i.0, up, i.1, i.2)
+
 -- the cost of a slot that an edge leads to stands in the table
-pub cost_over : (code : Code) (table : List ℕ) (p s : ℕ) (fact : Fact) → IsForward code → AreCostsFrom code table (p + 1) →
-    IsEdge code p fact s → IsCost code s (slice_index table s)
-cost_over code table p s fact f later edge =
-    let up : p < s = f.onward p fact s edge in
-    let above : p + 1 ≤ s = omega arith in
-    later.each s above (f.lands p fact s edge).1
+pub cost_over : (flow : Flow) (table : List ℕ) (place p s : ℕ) (fact : Fact) → IsFlow flow → AreCostsFrom flow table (place + 1) →
+    place < length flow.order → slice_index flow.order place ≡ p → IsEdge flow.code p fact s → IsCost flow.code s (slice_index table s)
+cost_over flow table place p s fact f later lt is edge =
+    let q = later_place flow place p s fact f lt is edge in
+    let up : place < q.0 = q.1 in
+    let above : place + 1 ≤ q.0 = omega arith in
+    subst (λ (t : ℕ). IsCost flow.code t (slice_index table t)) q.3 (later.each q.0 above q.2)
 
-begins_below : (code : Code) (s : ℕ) → Begins code s → s < length code
-begins_below code s b = elim (cases_lt s (length code)) [
-  | inl h ↦ h
-  | inr h ↦ absurd (past code s h b)
-]
-  where
-    past : (code : Code) (s : ℕ) → length code ≤ s → Begins code s → ⊥
-    past code s h b =
-        let e : slice_get code s ≡ None = slice_get_past code s h in
-        let n : insn_at code s ≡ None = ap (λ (o : Option (Option Insn)). option_and_then (λ i. i) o) e in
-        let i : insn_at code s ≡ Some b.0 = b.1 in
-        cc
+-- and leaves room for one price more
+pub few_over : (flow : Flow) (table : List ℕ) (place p s : ℕ) (fact : Fact) → IsFlow flow → AreCostsFrom flow table (place + 1) →
+    place < length flow.order → slice_index flow.order place ≡ p → IsEdge flow.code p fact s →
+    slice_index table s + 32 * place + 32 ≤ 32 * length flow.order
+few_over flow table place p s fact f later lt is edge =
+    let q = later_place flow place p s fact f lt is edge in
+    let up : place < q.0 = q.1 in
+    let above : place + 1 ≤ q.0 = omega arith in
+    let few : slice_index table s + 32 * q.0 ≤ 32 * length flow.order =
+        subst (λ (t : ℕ). slice_index table t + 32 * q.0 ≤ 32 * length flow.order) q.3 (later.few q.0 above q.2) in
+    omega arith
 
--- past the last slot no instruction begins
-pub costs_end : (code : Code) (table : List ℕ) (from : ℕ) → length table ≡ length code → from ≡ length code → AreCostsFrom code table from
-costs_end code table from len end = record {
+pub at_begins : (flow : Flow) (place : ℕ) → IsFlow flow → place < length flow.order → Begins flow.code (slice_index flow.order place)
+at_begins flow place f lt = f.order.begins place lt
+
+pub at_within : (flow : Flow) (place : ℕ) → IsFlow flow → place < length flow.order → slice_index flow.order place < length flow.code
+at_within flow place f lt = begins_within flow.code (slice_index flow.order place) (f.order.begins place lt)
+
+-- behind the last place there is none
+pub costs_end : (flow : Flow) (table : List ℕ) (from : ℕ) → length table ≡ length flow.code → length flow.order ≤ from → AreCostsFrom flow table from
+costs_end flow table from len end = record {
   slots = len;
-  each = λ s h b. let lt : s < length code = begins_below code s b in absurd (omega arith);
-  few = λ s h b. let lt : s < length code = begins_below code s b in absurd (omega arith);
+  each = λ place h lt. absurd (omega arith);
+  few = λ place h lt. absurd (omega arith);
 }
 
--- a slot where no instruction begins has no cost
-pub costs_skip : (code : Code) (table : List ℕ) (p q : ℕ) → AreCostsFrom code table q → q ≡ p + 1 → insn_at code p ≡ None →
-    AreCostsFrom code table p
-costs_skip code table p q later e none = record {
-  slots = later.slots;
-  each = λ s h b.
-      let ne : s ≡ p → ⊥ = nothing code p s none b in
-      let above : q ≤ s = omega arith in later.each s above b;
-  few = λ s h b.
-      let ne : s ≡ p → ⊥ = nothing code p s none b in
-      let above : q ≤ s = omega arith in later.few s above b;
+-- the cost at one more place
+pub costs_set : (flow : Flow) (table : List ℕ) (p q c : ℕ) → IsFlow flow → AreCostsFrom flow table q → q ≡ p + 1 → p < length flow.order →
+    IsCost flow.code (slice_index flow.order p) c → c + 32 * p ≤ 32 * length flow.order →
+    AreCostsFrom flow (slice_set table (slice_index flow.order p) c) p
+costs_set flow table p q c f later e lt cost few = record {
+  slots = length-set table (slice_index flow.order p) c ∙ later.slots;
+  each = λ place h low. elim (cases_lt p place) [
+    | inl over ↦
+        let above : q ≤ place = omega arith in
+        rw (get_or-set_other table (slice_index flow.order p) (slice_index flow.order place) c 0 (apart place low over)) (later.each place above low)
+    | inr under ↦
+        let same : p ≡ place = omega arith in
+        subst (λ (k : ℕ). IsCost flow.code (slice_index flow.order k) (slice_index (slice_set table (slice_index flow.order p) c) (slice_index flow.order k))) same
+        (rw (get_or-set_same table (slice_index flow.order p) c 0 inside) cost)
+  ];
+  few = λ place h low. elim (cases_lt p place) [
+    | inl over ↦
+        let above : q ≤ place = omega arith in
+        rw (get_or-set_other table (slice_index flow.order p) (slice_index flow.order place) c 0 (apart place low over)) (later.few place above low)
+    | inr under ↦
+        let same : p ≡ place = omega arith in
+        subst (λ (k : ℕ). slice_index (slice_set table (slice_index flow.order p) c) (slice_index flow.order k) + 32 * k ≤ 32 * length flow.order) same
+        (rw (get_or-set_same table (slice_index flow.order p) c 0 inside) few)
+  ];
 }
   where
-    nothing : (code : Code) (p s : ℕ) → insn_at code p ≡ None → Begins code s → s ≡ p → ⊥
-    nothing code p s none b same =
-        let i : insn_at code s ≡ Some b.0 = b.1 in
-        let j : insn_at code s ≡ insn_at code p = ap (insn_at code) same in cc
+    inside : slice_index flow.order p < length table
+    inside = let within : slice_index flow.order p < length flow.code = at_within flow p f lt in omega (arith, later.slots)
+    apart : (place : ℕ) → place < length flow.order → p < place → slice_index flow.order place ≢ slice_index flow.order p
+    apart place low over = λ same. let one : place ≡ p = f.order.once place p low lt same in omega arith
 
--- the cost of one more slot
-pub costs_set : (code : Code) (table : List ℕ) (p q c : ℕ) → AreCostsFrom code table q → q ≡ p + 1 → p < length code →
-    IsCost code p c → c + 32 * p ≤ 32 * length code → AreCostsFrom code (slice_set table p c) p
-costs_set code table p q c later e lt cost few =
-    let slots : length table ≡ length code = later.slots in
-    let below : p < length table = omega arith in
-    record {
-      slots = simp length-set slots;
-      each = λ s h b. elim (cases_lt p s) [
-        | inl over ↦
-            let ne : s ≢ p = omega arith in
-            let above : q ≤ s = omega arith in
-            rw (get_or-set_other table p s c 0 ne) (later.each s above b)
-        | inr under ↦
-            let same : p ≡ s = omega arith in
-            subst (λ (t : ℕ). IsCost code t (slice_index (slice_set table p c) t)) same
-            (rw (get_or-set_same table p c 0 below) cost)
-      ];
-      few = λ s h b. elim (cases_lt p s) [
-        | inl over ↦
-            let ne : s ≢ p = omega arith in
-            let above : q ≤ s = omega arith in
-            rw (get_or-set_other table p s c 0 ne) (later.few s above b)
-        | inr under ↦
-            let same : p ≡ s = omega arith in
-            subst (λ (t : ℕ). slice_index (slice_set table p c) t + 32 * t ≤ 32 * length code) same
-            (rw (get_or-set_same table p c 0 below) few)
-      ];
-    }
-
--- once the table is filled down to slot 0, it has the costs of all slots
-pub costs_all : (code : Code) (table : List ℕ) (from : ℕ) → AreCostsFrom code table from → from ≡ 0 → AreCosts code table
-costs_all code table from later e = record {
+-- once the table is filled down to the first place, it has the costs of all slots
+pub costs_all : (flow : Flow) (table : List ℕ) (from : ℕ) → IsFlow flow → AreCostsFrom flow table from → from ≡ 0 → AreCosts flow.code table
+costs_all flow table from f later e = record {
   slots = later.slots;
-  each = λ s b. let above : from ≤ s = omega arith in later.each s above b;
+  each = λ s b.
+      let i = f.order.each s b in
+      let above : from ≤ i.0 = omega arith in
+      subst (λ (t : ℕ). IsCost flow.code t (slice_index table t)) i.2 (later.each i.0 above i.1);
 }
+
+-- what is behind a reference that is there
+pub is_there : (r : Option (Bor Insn)) (o : Option Insn) (i : Insn) → option_copied r ≡ o → o ≡ Some i → IsSome r
+is_there None o i e f = absurd (cc)
+is_there (Some x) o i e f = search rules

@@ -1,10 +1,13 @@
--- A table of costs that is filled from the last slot down.
-use Rattle.std.specs.Prelude.{◌≡◌, ℕ, ◌+◌, ◌*◌, ◌≤◌, List, length, slice_index}
-use Rattle.machine_model.specs.Edges.{Code, Begins}
+-- A table of costs that is filled along an order, from its last place down.
+use Rattle.std.specs.Prelude.{◌≡◌, ℕ, ◌+◌, ◌*◌, ◌≤◌, ◌<◌, List, length, slice_index}
+use Rattle.machine_model.specs.Edges.{Code}
 use Rattle.machine_model.specs.Paths.{IsCost}
+use Rattle.flow_graph.specs.Flow.{Flow}
 
--- the table has the cost of each slot from this one on where an instruction begins, none over 32 for each slot behind
-pub record AreCostsFrom (code : Code) (table : List ℕ) (from : ℕ) : Type 0 where
-  pub slots : length table ≡ length code
-  pub each : (slot : ℕ) → from ≤ slot → Begins code slot → IsCost code slot (slice_index table slot)
-  pub few : (slot : ℕ) → from ≤ slot → Begins code slot → slice_index table slot + 32 * slot ≤ 32 * length code
+-- the table has the cost of the slot at each place from this one on, none over 32 for each place behind
+pub record AreCostsFrom (flow : Flow) (table : List ℕ) (from : ℕ) : Type 0 where
+  pub slots : length table ≡ length flow.code
+  pub each : (place : ℕ) → from ≤ place → place < length flow.order →
+      IsCost flow.code (slice_index flow.order place) (slice_index table (slice_index flow.order place))
+  pub few : (place : ℕ) → from ≤ place → place < length flow.order →
+      slice_index table (slice_index flow.order place) + 32 * place ≤ 32 * length flow.order

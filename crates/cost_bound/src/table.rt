@@ -34,7 +34,7 @@ impl Costs {
         self.table[slot as usize]
     }
 
-    /// The costs as a list, 0 where no instruction begins.
+    /// The costs as a list, by slot.
     pub fn into_table(self) -> Vec<u32>
         ensures { result.items ≡ self }
     {

@@ -1,5 +1,8 @@
 -- The code that a list of placed instructions makes: after each instruction another begins, or the program ends.
-use Rattle.std.proofs.Common.{◌≡◌, ℕ, zero, suc, ◌+◌, ◌<◌, List, [], ◌∷◌, ◌++◌, length, Some, None, Option, ap, sym, ◌∙◌, arith, refl, subst}
+use Rattle.std.proofs.Common.{◌≡◌, ℕ, zero, suc, ◌+◌, ◌<◌, List, [], ◌∷◌, ◌++◌, length, Some, None, Option, ap, sym, ◌∙◌, arith, refl, subst, inl, inr, ◌≤◌, slice_get, Bool, true, false, IsTrue, ◌↔◌}
+use Rattle.std.specs.Prelude.{option_and_then}
+use Rattle.std.proofs.lemmas.Bool.{cases_lt}
+use Rattle.std.proofs.lemmas.Option.{slice_get_past}
 use Rattle.insn_codec.specs.declared.insn.Insn.{Insn}
 use Rattle.insn_codec.specs.declared.insn.Placed.{Placed}
 use Rattle.machine_model.specs.Edges.{Code, Begins, insn_at}
@@ -8,7 +11,7 @@ use Rattle.flow_graph.specs.declared.onward.Onward.TheVariants.{Steps, StepsWide
 use Rattle.flow_graph.specs.Onward.{onward_of}
 use Rattle.flow_graph.specs.Program.{second_slot, code_of, IsDecoded}
 use Rattle.flow_graph.proofs.Onwards.{width_of, other_slot, second_is}
-use Rattle.flow_graph.proofs.Forward.{IsLaid}
+use Rattle.flow_graph.proofs.Joining.{IsLaid}
 
 record Follows (code : Code) : Type 0 where
   opens : 0 < length code → Begins code 0
@@ -83,3 +86,25 @@ laid_of placed d =
       few = d.few;
       follows = (follows placed).next;
     }
+
+pub begins_below : (code : Code) (s : ℕ) → Begins code s → s < length code
+begins_below code s b = elim (cases_lt s (length code)) [
+  | inl h ↦ h
+  | inr h ↦ absurd (past code s h b)
+]
+  where
+    past : (code : Code) (s : ℕ) → length code ≤ s → Begins code s → ⊥
+    past code s h b =
+        let e : slice_get code s ≡ None = slice_get_past code s h in
+        let n : insn_at code s ≡ None = ap (λ (o : Option (Option Insn)). option_and_then (λ i. i) o) e in
+        let i : insn_at code s ≡ Some b.0 = b.1 in
+        cc
+
+pub so : (b : Bool) {P : Type 0} → IsTrue b ↔ P → b ≡ true → P
+so b h e = h.0 (subst IsTrue (sym e) refl)
+
+pub not_so : (b : Bool) {P : Type 0} → IsTrue b ↔ P → b ≡ false → P → ⊥
+not_so b h e p = clash b (h.1 p) e
+  where
+    clash : (b : Bool) → IsTrue b → b ≡ false → ⊥
+    clash b t f = cc

@@ -6,7 +6,7 @@ use Rattle.std.proofs.lemmas.Option.{slice_get_past}
 use Rattle.insn_codec.specs.declared.insn.Insn.{Insn}
 use Rattle.machine_model.specs.Edges.{Code, insn_at, target}
 use Rattle.flow_graph.specs.declared.fault.FlowFault.{FlowFault}
-use Rattle.flow_graph.specs.declared.fault.FlowFault.TheVariants.{JumpOut, IntoWide, BackEdge, FallsOff, Unreachable, NoMemory}
+use Rattle.flow_graph.specs.declared.fault.FlowFault.TheVariants.{JumpOut, IntoWide, Cycle, FallsOff, Unreachable, NoMemory}
 use Rattle.flow_graph.specs.declared.onward.Onward.{Onward}
 use Rattle.flow_graph.specs.declared.onward.Onward.TheVariants.{Steps, StepsWide, Jumps, Branches, Ends}
 use Rattle.flow_graph.specs.Onward.{onward_of}
@@ -16,7 +16,7 @@ use Rattle.flow_graph.specs.Refusals.{Refuses}
 abbrev IsAt : ℕ → FlowFault → Type 0
 IsAt slot (JumpOut s) = s ≡ slot
 IsAt slot (IntoWide s) = s ≡ slot
-IsAt slot (BackEdge s) = s ≡ slot
+IsAt slot (Cycle s) = ⊥
 IsAt slot (FallsOff s) = s ≡ slot
 IsAt slot (Unreachable s) = ⊥
 IsAt slot NoMemory = ⊥
@@ -31,7 +31,7 @@ tested false slot told fault a e = subst (IsAt slot) (same_fault told fault e) a
 landing_at : (slot to : ℕ) (x : Option (Option Insn)) (fault : FlowFault) → landing_fault slot to x ≡ Some fault → IsAt slot fault
 landing_at slot to None fault e = subst (IsAt slot) (same_fault (JumpOut slot) fault e) refl
 landing_at slot to (Some None) fault e = subst (IsAt slot) (same_fault (IntoWide slot) fault e) refl
-landing_at slot to (Some (Some i)) fault e = tested (nat_lt slot to) slot (BackEdge slot) fault refl e
+landing_at slot to (Some (Some i)) fault e = absurd (cc)
 
 jump_at : (code : Code) (slot : ℕ) (o : Option ℕ) (fault : FlowFault) → jump_fault code slot o ≡ Some fault → IsAt slot fault
 jump_at code slot None fault e = subst (IsAt slot) (same_fault (JumpOut slot) fault e) refl
@@ -69,7 +69,7 @@ refuses_of code slot fault e least = told fault (of_at code slot (insn_at code s
     told : (fault : FlowFault) → IsAt slot fault → IsFirstFault code slot fault → Refuses code fault
     told (JumpOut s) a f = moved code s slot (JumpOut s) a f
     told (IntoWide s) a f = moved code s slot (IntoWide s) a f
-    told (BackEdge s) a f = moved code s slot (BackEdge s) a f
+    told (Cycle s) a f = absurd a
     told (FallsOff s) a f = moved code s slot (FallsOff s) a f
     told (Unreachable s) a f = absurd a
     told NoMemory a f = absurd a

@@ -1,12 +1,12 @@
 -- The numbers of the refusals.
 use Rattle.std.specs.Prelude.{ℕ}
 use Rattle.flow_graph.specs.declared.fault.FlowFault.{FlowFault}
-use Rattle.flow_graph.specs.declared.fault.FlowFault.TheVariants.{JumpOut, IntoWide, BackEdge, FallsOff, Unreachable, NoMemory}
+use Rattle.flow_graph.specs.declared.fault.FlowFault.TheVariants.{JumpOut, IntoWide, Cycle, FallsOff, Unreachable, NoMemory}
 
 abbrev pub code_of_fault : FlowFault → ℕ
 code_of_fault (JumpOut slot) = 21
 code_of_fault (IntoWide slot) = 22
-code_of_fault (BackEdge slot) = 23
+code_of_fault (Cycle slot) = 23
 code_of_fault (FallsOff slot) = 24
 code_of_fault (Unreachable slot) = 25
 code_of_fault NoMemory = 99

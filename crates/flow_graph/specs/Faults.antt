@@ -3,7 +3,7 @@ use Rattle.std.specs.Prelude.{◌≡◌, ℕ, ◌+◌, ◌<◌, length, slice_ge
 use Rattle.insn_codec.specs.declared.insn.Insn.{Insn}
 use Rattle.machine_model.specs.Edges.{Code, insn_at, target}
 use Rattle.flow_graph.specs.declared.fault.FlowFault.{FlowFault}
-use Rattle.flow_graph.specs.declared.fault.FlowFault.TheVariants.{JumpOut, IntoWide, BackEdge, FallsOff}
+use Rattle.flow_graph.specs.declared.fault.FlowFault.TheVariants.{JumpOut, IntoWide, FallsOff}
 use Rattle.flow_graph.specs.declared.onward.Onward.{Onward}
 use Rattle.flow_graph.specs.declared.onward.Onward.TheVariants.{Steps, StepsWide, Jumps, Branches, Ends}
 use Rattle.flow_graph.specs.Onward.{onward_of}
@@ -12,7 +12,7 @@ use Rattle.flow_graph.specs.Onward.{onward_of}
 abbrev pub landing_fault : ℕ → ℕ → Option (Option Insn) → Option FlowFault
 landing_fault slot to None = Some (JumpOut slot)
 landing_fault slot to (Some None) = Some (IntoWide slot)
-landing_fault slot to (Some (Some i)) = if nat_lt slot to then None else Some (BackEdge slot)
+landing_fault slot to (Some (Some i)) = None
 
 -- what is wrong with a jump to this target, which may lie below 0
 abbrev pub jump_fault : Code → ℕ → Option ℕ → Option FlowFault

@@ -4,4 +4,7 @@ pub mod Program
 pub mod Faults
 pub mod Flow
 pub mod Reached
+pub mod Cycles
 pub mod Refusals
+pub mod Walks
+pub mod Places

@@ -20,13 +20,7 @@ fn jump_fault(code: &[Option<Insn>], slot: u32, offset: i32) -> Option<FlowFault
     match code.get(to as usize) {
         None => Some(FlowFault::JumpOut(slot)),
         Some(None) => Some(FlowFault::IntoWide(slot)),
-        Some(Some(_)) => {
-            if slot < to {
-                None
-            } else {
-                Some(FlowFault::BackEdge(slot))
-            }
-        }
+        Some(Some(_)) => None,
     }
 }
 

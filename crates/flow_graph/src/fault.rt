@@ -15,9 +15,9 @@ pub enum FlowFault {
     /// A jump leads to the second slot of a wide instruction.
     #[error("jump into a wide instruction at slot {0}")]
     IntoWide(u32),
-    /// A jump doesn't lead forward.
-    #[error("jump backward at slot {0}")]
-    BackEdge(u32),
+    /// A path of one edge or more leads from the slot back to it. No lower slot has one.
+    #[error("cycle through slot {0}")]
+    Cycle(u32),
     /// The program may run past its end.
     #[error("nothing follows the instruction at slot {0}")]
     FallsOff(u32),
@@ -37,7 +37,7 @@ impl FlowFault {
         match self {
             FlowFault::JumpOut(_) => 21,
             FlowFault::IntoWide(_) => 22,
-            FlowFault::BackEdge(_) => 23,
+            FlowFault::Cycle(_) => 23,
             FlowFault::FallsOff(_) => 24,
             FlowFault::Unreachable(_) => 25,
             FlowFault::NoMemory => 99,

@@ -16,38 +16,39 @@ pub enum Next {
     Two(u32, u32),
 }
 
-/// A program whose edges lead forward to instructions, and which reaches each of its instructions.
+/// A program whose edges lead to instructions and close no cycle, and which reaches each of its instructions.
 #[derive(Drop)]
 pub struct Graph {
     code: Vec<Option<Insn>>,
+    order: Vec<u32>,
 }
 
 impl Model for Graph {
-    ghost use Rattle.machine_model.specs.Edges.{Code};
-    ghost use Rattle.flow_graph.specs.Flow.{IsFlow};
+    ghost use Rattle.flow_graph.specs.Flow.{Flow, IsFlow};
 
-    ghost Value = { Code };
+    ghost Value = { Flow };
 
-    ghost view = { λ g. g.code.items };
+    ghost view = { λ g. record { code = g.code.items; order = g.order.items } };
 
-    ghost invariant = { λ g. IsFlow g.code.items };
+    ghost invariant = { λ g. IsFlow (record { code = g.code.items; order = g.order.items }) };
 }
 
 impl Graph {
     ghost use Rattle.machine_model.specs.Edges.{Begins};
     ghost use Rattle.flow_graph.specs.Flow.{AreNext, IsFlow};
 
-    /// The graph of a code whose edges lead forward.
-    pub(crate) fn of(code: Vec<Option<Insn>>) -> Graph
-        requires { IsFlow code.items }
-        ensures { result ≡ code.items }
+    /// The graph of a code whose edges lead onward in an order.
+    pub(crate) fn of(code: Vec<Option<Insn>>, order: Vec<u32>) -> Graph
+        requires { IsFlow (record { code = code.items; order = order.items }) }
+        ensures code { result.code ≡ code.items }
+        ensures order { result.order ≡ order.items }
     {
-        Graph { code }
+        Graph { code, order }
     }
 
     /// How many slots the program has.
     pub fn slots(&self) -> u32
-        ensures slots { result ≡ length self.now }
+        ensures slots { result ≡ length self.now.code }
         ensures flow { IsFlow self.now }
     {
         self.code.len() as u32
@@ -55,33 +56,58 @@ impl Graph {
 
     /// The instruction that begins at the slot.
     pub fn insn(&self, slot: u32) -> Option<&Insn>
-        ensures { option_copied result ≡ insn_at self.now slot }
+        ensures { option_copied result ≡ insn_at self.now.code slot }
     {
-        match self.code.get(slot as usize) {
-            Some(Some(insn)) => Some(insn),
-            _ => None,
-        }
+        insn_at(&self.code, slot)
     }
 
     /// The slots that the instruction at the slot leads to.
     pub fn successors(&self, slot: u32) -> Next
-        requires { Begins self.now slot }
-        ensures { AreNext self.now slot result }
+        requires { Begins self.now.code slot }
+        ensures { AreNext self.now.code slot result }
     {
         next_of(&self.code, slot)
     }
 
+    /// The slots where instructions begin, each once, in an order in which all edges lead onward.
+    pub fn order(&self) -> &[u32]
+        ensures { result.now ≡ self.now.order }
+    {
+        &self.order
+    }
+
     /// The instruction that begins at each slot.
     pub fn into_code(self) -> Vec<Option<Insn>>
-        ensures { result.items ≡ self }
+        ensures { result.items ≡ self.code }
     {
-        let Graph { code } = self;
+        let Graph { code, .. } = self;
         code
     }
 }
 
+ghost use Rattle.std.specs.Prelude.{◌↔◌, IsTrue};
 ghost use Rattle.machine_model.specs.Edges.{Begins};
-ghost use Rattle.flow_graph.specs.Flow.{AreNext, IsForward, IsNext, HasTarget};
+ghost use Rattle.flow_graph.specs.Flow.{AreNext, IsJoined, IsNext, HasTarget};
+
+/// The instruction that begins at the slot.
+fn insn_at(code: &[Option<Insn>], slot: u32) -> Option<&Insn>
+    ensures { option_copied result ≡ insn_at code.now slot }
+{
+    match code.get(slot as usize) {
+        Some(Some(insn)) => Some(insn),
+        _ => None,
+    }
+}
+
+/// Whether an instruction begins at the slot.
+pub(crate) fn begins_at(code: &[Option<Insn>], slot: u32) -> bool
+    ensures { IsTrue result ↔ Begins code.now slot }
+{
+    match insn_at(code, slot) {
+        Some(_) => true,
+        None => false,
+    }
+}
 
 /// The slots that an instruction leads to which goes on in this way.
 fn next_after(onward: Onward, slot: u32) -> Next
@@ -100,7 +126,7 @@ fn next_after(onward: Onward, slot: u32) -> Next
 
 /// The slots that the instruction at the slot leads to.
 pub(crate) fn next_of(code: &[Option<Insn>], slot: u32) -> Next
-    requires forward { IsForward code.now }
+    requires joined { IsJoined code.now }
     requires begins { Begins code.now slot }
     ensures { AreNext code.now slot result }
 {

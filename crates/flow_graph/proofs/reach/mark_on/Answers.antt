@@ -1,12 +1,6 @@
-use Rattle.std.proofs.Common.{add-one}
-use Rattle.flow_graph.proofs.Marks.{mark_zero, mark_one, mark_two}
+use Rattle.flow_graph.proofs.Marks.{marked_on, marked_already}
 use Rattle.flow_graph.proofs.reach.mark_on.Goals as goal
 
-pub returns-in-Zero : goal.returns-in-Zero
-returns-in-Zero c = rw add-one (mark_zero _ _ _ c.requires.forward c.requires.marks c.requires.marked c.in-Zero.ensures)
-
-pub returns-in-One : goal.returns-in-One
-returns-in-One c = rw add-one (mark_one _ _ _ _ c.requires.forward c.requires.marks c.requires.marked c.in-One.ensures)
-
-pub returns-in-Two : goal.returns-in-Two
-returns-in-Two c = rw add-one (mark_two _ _ _ _ _ c.requires.forward c.requires.marks c.requires.marked c.in-Two.ensures)
+pub returns-in_ok-push : goal.returns-in_ok-push
+returns-in_ok-push c = rw c.in_ok-push.ensures.items
+    (marked_on c.args.marks.now.items c.args.pending.now.items c.args.slot _ c.requires c.index.ensures c.if-not-index.true)
