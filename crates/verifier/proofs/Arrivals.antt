@@ -1,12 +1,13 @@
 -- What arrives at each slot of a program that has an order.
-use Rattle.std.proofs.Common.{◌≡◌, ℕ, zero, suc, ◌+◌, ◌≤◌, ◌<◌, ◌≢◌, ◌==◌, List, length, slice_index, Some, None, Option, ap, sym, ◌∙◌, arith, refl, subst, inl, inr, if◌then◌else◌}
+use Rattle.std.proofs.Common.{◌≡◌, ℕ, zero, suc, ◌+◌, ◌≤◌, ◌<◌, ◌≢◌, ◌==◌, List, [], ◌∷◌, length, slice_index, Some, None, Option, ap, sym, ◌∙◌, arith, refl, subst, inl, inr, if◌then◌else◌}
 use Rattle.std.proofs.lemmas.Bool.{cases_eq}
 use Rattle.std.proofs.lemmas.Bool.Decides.{nat_tests}
 use Rattle.insn_codec.specs.declared.insn.Insn.{Insn}
 use Rattle.std.specs.Prelude.{option_and_then}
 use Rattle.machine_model.specs.Edges.{Code, Fact, Always, NotTaken, Taken, IsEdge, Begins, insn_at, leads, leads_at}
 use Rattle.machine_model.proofs.Codes.{begins_within}
-use Rattle.flow_graph.specs.Flow.{IsJoined, IsOrder}
+use Rattle.machine_model.specs.Paths.{IsPathTo}
+use Rattle.flow_graph.specs.Flow.{IsJoined, IsOrder, IsFlow}
 use Rattle.verifier.specs.States.{entry_state}
 use Rattle.verifier.specs.Arrive.{Subject, Arrival, Nothing, Undefined, Comes, met, sent, landed, over, joined_over, arriving, IsArrive, arrive_within, arrive}
 
@@ -174,3 +175,30 @@ arrive_is p order j f short s within = by_slot (insn_at p.code s) refl
       where
         second : Begins p.code s → ⊥
         second b = let e = b.1 in let n = none in cc
+
+-- ---- nothing leads back to the first slot
+
+-- what a path from the first slot leads to stands after it
+after_first : (code : Code) (order : List ℕ) (first : ℕ) → IsOrder code order → first < length order → slice_index order first ≡ 0 →
+    (path : List ℕ) (place : ℕ) → place < length order → IsPathTo code path (slice_index order place) → first ≤ place
+after_first code order first f lt is [] place within here =
+    let same : first ≡ place = f.once first place lt within (is ∙ sym here) in
+    omega (arith, same)
+after_first code order first f lt is (p ∷ path) place within ((fact, edge), before) =
+    let at = f.each p (edge_begins code p fact (slice_index order place) edge) in
+    let on = subst (λ (k : ℕ). IsEdge code k fact (slice_index order place)) (sym at.2) edge in
+    let later : at.0 < place = f.onward at.0 place fact at.1 within on in
+    let back = after_first code order first f lt is path at.0 at.1 (subst (λ (k : ℕ). IsPathTo code path k) (sym at.2) before) in
+    omega (arith, later, back)
+
+pub no_edge_back : (code : Code) (order : List ℕ) (p : ℕ) (fact : Fact) → IsFlow (record { code = code; order = order }) → IsEdge code p fact 0 → ⊥
+no_edge_back code order p fact f edge =
+    let begins = edge_begins code p fact 0 edge in
+    let first = f.order.each 0 (f.joined.lands p fact 0 edge).1 in
+    let at = f.order.each p begins in
+    let reached = f.reached p begins in
+    let from = subst (λ (k : ℕ). IsEdge code k fact 0) (sym at.2) edge in
+    let on = subst (λ (k : ℕ). IsEdge code (slice_index order at.0) fact k) (sym first.2) from in
+    let later : at.0 < first.0 = f.order.onward at.0 first.0 fact at.1 first.1 on in
+    let back = after_first code order first.0 f.order first.1 first.2 reached.0 at.0 at.1 (subst (λ (k : ℕ). IsPathTo code reached.0 k) (sym at.2) reached.1) in
+    omega (arith, later, back)

@@ -6,7 +6,7 @@ use Rattle.insn_codec.specs.declared.insn.Insn.{Insn}
 use Rattle.machine_model.specs.Edges.{Fact, Always, NotTaken, Taken, IsEdge, insn_at, leads_at}
 use Rattle.machine_model.specs.Value.{Value}
 use Rattle.machine_model.proofs.Codes.{begins_within}
-use Rattle.flow_graph.specs.Flow.{IsForward}
+use Rattle.flow_graph.specs.Flow.{Flow, IsFlow}
 use Rattle.value_ranges.specs.declared.abs.Abs.{Abs}
 use Rattle.value_ranges.specs.declared.abs.Abs.TheVariants.{Unset}
 use Rattle.value_ranges.specs.Covers.{Covers}
@@ -17,8 +17,8 @@ use Rattle.verifier.specs.Covers.{abs_at, IsWithin}
 use Rattle.verifier.specs.States.{entry_state, passed, fault, of_registers, joined_state}
 use Rattle.verifier.specs.Arrive.{Subject, Arrival, Nothing, Undefined, Comes, met, landed, over, joined_over, arrive}
 use Rattle.verifier.specs.Verdict.{IsTable, arrival_of}
-use Rattle.verifier.proofs.Arrivals.{arrive_is}
-use Rattle.verifier.proofs.Comings.{over_is}
+use Rattle.verifier.proofs.Arrivals.{arrive_is, no_edge_back}
+use Rattle.verifier.proofs.Pulling.{over_is, landed_at}
 
 abbrev pub state_in : List (Option State) → ℕ → Option State
 state_in states slot = slice_index_or states slot None
@@ -126,29 +126,23 @@ over_below subject a s p (suc n) fact lt = elim (cases_lt p n) [
       (over subject a s n) refl refl refl)
 ]
 
-landed_at : (o : Option ℕ) (s : ℕ) (x : Arrival) → o ≡ Some s → landed o s x ≡ x
-landed_at o s x e = ap (λ (p : Option ℕ). landed p s x) e ∙ at_same s x
-  where
-    at_same : (s : ℕ) (x : Arrival) → (if s == s then x else Nothing) ≡ x
-    at_same s x = grind (arith, nat_tests)
-
 -- a state that is below an arrival of the table
 found : (inner : State) (o : Option State) → Below (Comes inner) (arrival_of o) → (outer : State) × (o ≡ Some outer) × IsWithin inner outer
 found inner None h = absurd h
 found inner (Some outer) h = (outer, refl, h)
 
-pub edge_covered : (subject : Subject) (states : List (Option State)) (p s : ℕ) (i : Insn) (state : State) (fact : Fact) →
-    IsForward subject.code → IsTable subject states → p < length subject.code → insn_at subject.code p ≡ Some i → arrive subject p ≡ Comes state → fault subject.need subject.helpers i state ≡ None →
+pub edge_covered : (subject : Subject) (order : List ℕ) (states : List (Option State)) (p s : ℕ) (i : Insn) (state : State) (fact : Fact) →
+    IsFlow (record { code = subject.code; order = order }) → IsTable subject states → p < length subject.code → insn_at subject.code p ≡ Some i →
+    arrive subject p ≡ Comes state → fault subject.need subject.helpers i state ≡ None →
     IsEdge subject.code p fact s → (outer : State) × (state_in states s ≡ Some outer) × IsWithin (passed i fact state) outer
-edge_covered subject states p zero i state fact f t lt x y z edge =
-    let low : p < 0 = f.onward p fact 0 edge in absurd (omega arith)
-edge_covered subject states p (suc s) i state fact f t lt x y z edge =
-    let l = f.lands p fact (suc s) edge in
+edge_covered subject order states p zero i state fact f t lt x y z edge = absurd (no_edge_back subject.code order p fact f edge)
+edge_covered subject order states p (suc s) i state fact f t lt x y z edge =
+    let l = f.joined.lands p fact (suc s) edge in
     let inside : suc s < length subject.code = l.0 in
     let a : over subject (arrive subject) (suc s) p fact ≡ Comes (passed i fact state) =
     sym (over_is subject (arrive subject) (suc s) p i fact state x y z) ∙ landed_at (leads_at subject.code p fact) (suc s) (Comes (passed i fact state)) edge in
     let b : joined_over subject (arrive subject) (suc s) (length subject.code) ≡ arrival_of (state_in states (suc s)) =
-    sym (t.each (suc s) inside ∙ arrive_is subject f (suc s) inside) in
+    sym (t.each (suc s) inside ∙ arrive_is subject order f.joined f.order f.short (suc s) inside) in
     found (passed i fact state) (state_in states (suc s))
     (subst (λ (u : Arrival). Below u (arrival_of (state_in states (suc s)))) a
     (subst (λ (u : Arrival). Below (over subject (arrive subject) (suc s) p fact) u) b
@@ -163,12 +157,14 @@ pub record IsSoundTable (subject : Subject) (states : List (Option State)) : Typ
       (fact : Fact) (next : ℕ) → IsEdge subject.code slot fact next →
       (outer : State) × (state_in states next ≡ Some outer) × IsWithin (passed i fact state) outer
 
-pub sound_of : (subject : Subject) (states : List (Option State)) → IsForward subject.code → IsTable subject states → IsSoundTable subject states
-sound_of subject states f t = record {
-  entry = (entry_state subject.need, first_of_all (state_in states 0) (t.each 0 f.starts ∙ arrive_is subject f 0 f.starts), λ r v h. h);
+pub sound_of : (subject : Subject) (order : List ℕ) (states : List (Option State)) → IsFlow (record { code = subject.code; order = order }) →
+    IsTable subject states → IsSoundTable subject states
+sound_of subject order states f t = record {
+  entry = (entry_state subject.need,
+      first_of_all (state_in states 0) (t.each 0 f.joined.starts ∙ arrive_is subject order f.joined f.order f.short 0 f.joined.starts), λ r v h. h);
   allowed = λ p i state x y. t.allowed p i state x (arrives p i state x y);
   covered = λ p i state x y fact s edge.
-      edge_covered subject states p s i state fact f t (inside p i x) x (arrives p i state x y)
+      edge_covered subject order states p s i state fact f t (inside p i x) x (arrives p i state x y)
       (t.allowed p i state x (arrives p i state x y)) edge;
 }
   where

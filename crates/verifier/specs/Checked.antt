@@ -27,13 +27,12 @@ state_at p slot = slice_index_or p.states slot None
 abbrev pub cost_at : Checked → ℕ → ℕ
 cost_at p slot = slice_index p.costs slot
 
--- The instruction is allowed where the registers are so, and what it leaves is covered at the end of each edge, which leads forward.
+-- The instruction is allowed where the registers are so, and what it leaves is covered at the end of each edge, which leads to an instruction.
 pub record IsSoundAt (p : Checked) (slot : ℕ) (i : Insn) (state : State) : Type 0 where
   pub allowed : fault p.need p.helpers i state ≡ None
   pub covered : (fact : Fact) (next : ℕ) → IsEdge p.code slot fact next →
       (outer : State) × (state_at p next ≡ Some outer) × IsWithin (passed i fact state) outer
   pub lands : (fact : Fact) (next : ℕ) → IsEdge p.code slot fact next → Begins p.code next
-  pub onward : (fact : Fact) (next : ℕ) → IsEdge p.code slot fact next → slot < next
   pub faultless : fault_at p.code slot ≡ None
 
 -- The states cover the entry and every edge, and the costs are those of the code.

@@ -6,6 +6,7 @@ use Rattle.insn_codec.specs.declared.fault.CodecFault.TheVariants as codec
 use Rattle.insn_codec.specs.Spelling.{IsProgram, IsRefusal}
 use Rattle.flow_graph.specs.declared.fault.FlowFault.{FlowFault}
 use Rattle.flow_graph.specs.declared.fault.FlowFault.TheVariants as flow
+use Rattle.flow_graph.specs.Cycles.{IsOnCycle}
 use Rattle.flow_graph.specs.Faults.{fault_at}
 use Rattle.flow_graph.specs.Program.{code_of}
 use Rattle.flow_graph.specs.Refusals.{Refuses as RefusesFlow}
@@ -18,9 +19,10 @@ use Rattle.verifier.specs.Arrive.{Subject}
 use Rattle.verifier.specs.Checked.{Checked}
 use Rattle.verifier.specs.Verdict.{IsTable, RefusesStates}
 
--- each edge of the code leads forward to an instruction, and each instruction is reached
+-- each edge of the code leads to an instruction, no path leads back to its slot, and each instruction is reached
 pub record HasFlow (code : Code) : Type 0 where
   pub faultless : (slot : ℕ) → fault_at code slot ≡ None
+  pub acyclic : (slot : ℕ) → IsOnCycle code slot → ⊥
   pub reached : (slot : ℕ) → Begins code slot → IsReached code slot
 
 -- the decoder has a refusal

@@ -30,12 +30,12 @@ returns-in_err-states c =
 pub of-requires-clause-verified : goal.of-requires-clause-verified
 of-requires-clause-verified c =
     rw (c.in_ok-helpers.ensures.same, c.into_code-code.ensures, c.into_table.ensures)
-    (verified_of (record { need = c.args.need; helpers = c.args.helpers.now; code = c.in_ok-graph.graph; states = c.in_ok-states.states.items; costs = c.in_ok-costs.costs })
-    (omega arith) (rw c.graph.view_is at c.graph.invariant).forward c.in_ok-helpers.ensures.known c.in_ok-states.ensures c.in_ok-costs.ensures)
+    (verified_of (record { need = c.args.need; helpers = c.args.helpers.now; code = c.in_ok-graph.graph.code; states = c.in_ok-states.states.items; costs = c.in_ok-costs.costs }) c.in_ok-graph.graph.order
+    (omega arith) (rw c.graph.view_is at c.graph.invariant) c.in_ok-helpers.ensures.known c.in_ok-states.ensures c.in_ok-costs.ensures)
 
 pub returns : goal.returns
 returns c =
     rw (c.of.ensures, c.in_ok-helpers.ensures.same, c.into_code-code.ensures, c.into_table.ensures)
-    (accepted_of c.args.need c.args.code.now c.args.helpers.now c.in_ok-placed.placed.items
-    (record { need = c.args.need; helpers = c.args.helpers.now; code = c.in_ok-graph.graph; states = c.in_ok-states.states.items; costs = c.in_ok-costs.costs })
-    (omega arith) c.in_ok-placed.ensures.found (rw c.deref.ensures.value at c.in_ok-graph.ensures) refl refl c.in_ok-states.ensures c.in_ok-costs.ensures)
+    (accepted_of c.args.need c.args.code.now c.args.helpers.now c.in_ok-placed.placed.items c.in_ok-graph.graph
+    (record { need = c.args.need; helpers = c.args.helpers.now; code = c.in_ok-graph.graph.code; states = c.in_ok-states.states.items; costs = c.in_ok-costs.costs })
+    (omega arith) c.in_ok-placed.ensures.found (rw c.deref.ensures.value at c.in_ok-graph.ensures) refl refl refl c.in_ok-states.ensures c.in_ok-costs.ensures)
