@@ -188,7 +188,14 @@ fn sums_backward(rt: HostRuntime) -> Result<(), Fail> {
     let onward = all_costs(
         &rt,
         alloc,
-        &[jump(2), mov(0), Insn::Exit, jump_if(-3), call(4), Insn::Exit],
+        &[
+            jump(2),
+            mov(0),
+            Insn::Exit,
+            jump_if(-3),
+            call(4),
+            Insn::Exit,
+        ],
     )?;
     assert_eq!(rt; onward.as_slice(), [35, 2, 1, 34, 33, 1].as_slice());
     // calls on the way back
@@ -212,8 +219,8 @@ fn sums_long_programs_backward(rt: HostRuntime) -> Result<(), Fail> {
     }
     let costs = all_costs(&rt, alloc, &back)?;
     assert_eq!(rt; costs.first(), Some(&4096));
-    assert_eq!(rt; costs[1], 1);
-    assert_eq!(rt; costs[2], 2);
-    assert_eq!(rt; costs[4095], 4095);
+    assert_eq!(rt; costs.get(1), Some(&1));
+    assert_eq!(rt; costs.get(2), Some(&2));
+    assert_eq!(rt; costs.get(4095), Some(&4095));
     Ok(())
 }

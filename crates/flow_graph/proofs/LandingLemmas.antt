@@ -196,18 +196,20 @@ falls_not_into : (slot : ℕ) → FallsOff slot ≢ IntoWide slot
 falls_not_into slot = λ e. cc
 
 pub jumps_out : (code : Code) (slot : ℕ) (i : Insn) → insn_at code slot ≡ Some i → (fault_at code slot ≡ Some (JumpOut slot)) ↔ JumpsOut code slot i
-jumps_out code slot i is =
-    (λ e. of_jump (IsOut code) code slot i (JumpOut slot) (onward_of i) (how_of i) (falls_not_out slot) (out_of code slot)
-        (sym (fault_on code slot i (onward_of i) is refl) ∙ e),
-    λ h. fault_on code slot i (onward_of i) is refl
-        ∙ to_jump (IsOut code) code slot i (JumpOut slot) (onward_of i) (how_of i) (of_out code slot) h.0 h.1 h.2)
+jumps_out code slot i is = (
+  λ e. of_jump (IsOut code) code slot i (JumpOut slot) (onward_of i) (how_of i) (falls_not_out slot) (out_of code slot)
+      (sym (fault_on code slot i (onward_of i) is refl) ∙ e),
+  λ h. fault_on code slot i (onward_of i) is refl
+      ∙ to_jump (IsOut code) code slot i (JumpOut slot) (onward_of i) (how_of i) (of_out code slot) h.0 h.1 h.2,
+)
 
 pub jumps_into : (code : Code) (slot : ℕ) (i : Insn) → insn_at code slot ≡ Some i → (fault_at code slot ≡ Some (IntoWide slot)) ↔ JumpsInto code slot i
-jumps_into code slot i is =
-    (λ e. of_jump (IsInto code) code slot i (IntoWide slot) (onward_of i) (how_of i) (falls_not_into slot) (into_of code slot)
-        (sym (fault_on code slot i (onward_of i) is refl) ∙ e),
-    λ h. fault_on code slot i (onward_of i) is refl
-        ∙ to_jump (IsInto code) code slot i (IntoWide slot) (onward_of i) (how_of i) (of_into code slot) h.0 h.1 h.2)
+jumps_into code slot i is = (
+  λ e. of_jump (IsInto code) code slot i (IntoWide slot) (onward_of i) (how_of i) (falls_not_into slot) (into_of code slot)
+      (sym (fault_on code slot i (onward_of i) is refl) ∙ e),
+  λ h. fault_on code slot i (onward_of i) is refl
+      ∙ to_jump (IsInto code) code slot i (IntoWide slot) (onward_of i) (how_of i) (of_into code slot) h.0 h.1 h.2,
+)
 
 last_of : (code : Code) (slot : ℕ) (i : Insn) (o : Onward) → onward_of i ≡ o → HowOn i o → onward_fault code slot o ≡ Some (FallsOff slot) → IsLast code slot i
 last_of code slot i Steps e how f =
@@ -244,11 +246,14 @@ of_last code slot i Ends e how h out into = absurd (how.0 h.0)
 
 pub falls_off : (code : Code) (slot : ℕ) (i : Insn) → insn_at code slot ≡ Some i →
     (fault_at code slot ≡ Some (FallsOff slot)) ↔ (IsLast code slot i × (JumpsOut code slot i → ⊥) × (JumpsInto code slot i → ⊥))
-falls_off code slot i is =
-    (λ e. (last_of code slot i (onward_of i) refl (how_of i) (sym (fault_on code slot i (onward_of i) is refl) ∙ e),
-        λ h. apart (fault_at code slot) (FallsOff slot) (JumpOut slot) e ((jumps_out code slot i is).1 h) (falls_not_out slot),
-        λ h. apart (fault_at code slot) (FallsOff slot) (IntoWide slot) e ((jumps_into code slot i is).1 h) (falls_not_into slot)),
-    λ h. fault_on code slot i (onward_of i) is refl ∙ of_last code slot i (onward_of i) refl (how_of i) h.0 h.1 h.2)
+falls_off code slot i is = (
+  λ e. (
+    last_of code slot i (onward_of i) refl (how_of i) (sym (fault_on code slot i (onward_of i) is refl) ∙ e),
+    λ h. apart (fault_at code slot) (FallsOff slot) (JumpOut slot) e ((jumps_out code slot i is).1 h) (falls_not_out slot),
+    λ h. apart (fault_at code slot) (FallsOff slot) (IntoWide slot) e ((jumps_into code slot i is).1 h) (falls_not_into slot),
+  ),
+  λ h. fault_on code slot i (onward_of i) is refl ∙ of_last code slot i (onward_of i) refl (how_of i) h.0 h.1 h.2,
+)
 
 -- ---- no fault
 
@@ -279,10 +284,11 @@ no_fault code slot i Ends how s leads = refl
 
 pub settled : (placed : List Placed) (slot : ℕ) (i : Insn) → IsDecoded placed → insn_at (code_of placed) slot ≡ Some i →
     (fault_at (code_of placed) slot ≡ None) ↔ IsSettled (code_of placed) slot i
-settled placed slot i d is =
-    (λ e. record {
-        targets = has_target (code_of placed) slot i (onward_of i) (how_of i) (sym (fault_on (code_of placed) slot i (onward_of i) is refl) ∙ e);
-        lands = λ fact s edge. (lands_at (code_of placed) (laid_of placed d) slot fact s (insn_at (code_of placed) slot) e refl edge).1;
-    },
-    λ s. fault_on (code_of placed) slot i (onward_of i) is refl
-        ∙ no_fault (code_of placed) slot i (onward_of i) (how_of i) s (λ fact. leads_of (code_of placed) slot i fact is))
+settled placed slot i d is = (
+  λ e. record {
+    targets = has_target (code_of placed) slot i (onward_of i) (how_of i) (sym (fault_on (code_of placed) slot i (onward_of i) is refl) ∙ e);
+    lands = λ fact s edge. (lands_at (code_of placed) (laid_of placed d) slot fact s (insn_at (code_of placed) slot) e refl edge).1;
+  },
+  λ s. fault_on (code_of placed) slot i (onward_of i) is refl
+      ∙ no_fault (code_of placed) slot i (onward_of i) (how_of i) s (λ fact. leads_of (code_of placed) slot i fact is),
+)

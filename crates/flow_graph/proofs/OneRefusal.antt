@@ -45,7 +45,7 @@ kind_of code NoMemory r ne = absurd (ne refl)
 edges_same : (code : Code) (f g : FlowFault) → IsAtEdge code f → IsAtEdge code g → f ≡ g
 edges_same code f g a b =
     let same : a.0 ≡ b.0 = one_least a.0 b.0 (λ less. told (fault_at code a.0) f a.1.applies (b.1.least a.0 less))
-        (λ less. told (fault_at code b.0) g b.1.applies (a.1.least b.0 less)) in
+    (λ less. told (fault_at code b.0) g b.1.applies (a.1.least b.0 less)) in
     same_told (fault_at code a.0) f g a.1.applies (ap (fault_at code) same ∙ b.1.applies)
 
 cycles_same : (code : Code) (f g : FlowFault) → IsAtCycle code f → IsAtCycle code g → f ≡ g
@@ -56,7 +56,7 @@ cycles_same code f g a b =
 unreached_same : (code : Code) (f g : FlowFault) → IsUnreached code f → IsUnreached code g → f ≡ g
 unreached_same code f g a b =
     let same : a.0 ≡ b.0 = one_least a.0 b.0 (λ less. a.4.unreached (b.4.least a.0 less a.4.begins))
-        (λ less. b.4.unreached (a.4.least b.0 less b.4.begins)) in
+    (λ less. b.4.unreached (a.4.least b.0 less b.4.begins)) in
     a.1 ∙ ap Unreachable same ∙ sym b.1
 
 pub one_refusal : (code : Code) (f g : FlowFault) → Refuses code f → Refuses code g → f ≢ NoMemory → g ≢ NoMemory → f ≡ g

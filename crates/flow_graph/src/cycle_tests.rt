@@ -34,47 +34,60 @@ fn checked(rt: &impl Abort, alloc: Global, insns: &[Insn], order: &[u32]) -> Res
 #[test]
 fn refuses_cycles(rt: HostRuntime) -> Result<(), Fail> {
     let alloc = rt.alloc();
-    let exit = Insn::Exit;
     // of one slot
     cycle(&rt, alloc, &[jump(-1)], 0)?;
     cycle(&rt, alloc, &[Insn::Jump32 { offset: -1 }], 0)?;
-    cycle(&rt, alloc, &[mov(0), jump_if(-1), exit], 1)?;
+    cycle(&rt, alloc, &[mov(0), jump_if(-1), Insn::Exit], 1)?;
     // of two
     cycle(&rt, alloc, &[mov(0), jump(-2)], 0)?;
-    cycle(&rt, alloc, &[jump_if(1), jump(-2), mov(0), exit], 0)?;
-    cycle(&rt, alloc, &[mov(0), mov(0), jump(-2), exit], 1)?;
+    cycle(&rt, alloc, &[jump_if(1), jump(-2), mov(0), Insn::Exit], 0)?;
+    cycle(&rt, alloc, &[mov(0), mov(0), jump(-2), Insn::Exit], 1)?;
     // of many, also by edges that are taken alone
     cycle(
         &rt,
         alloc,
-        &[mov(0), mov(1), mov(2), mov(3), jump_if(-4), exit],
+        &[mov(0), mov(1), mov(2), mov(3), jump_if(-4), Insn::Exit],
         1,
     )?;
-    cycle(&rt, alloc, &[jump(3), mov(0), jump(1), exit, jump(-4)], 1)?;
+    cycle(
+        &rt,
+        alloc,
+        &[jump(3), mov(0), jump(1), Insn::Exit, jump(-4)],
+        1,
+    )?;
     // with wide instructions between
-    cycle(&rt, alloc, &[mov(0), wide(), jump_if(-3), exit], 1)?;
-    cycle(&rt, alloc, &[jump(3), wide(), exit, wide(), jump(-3)], 4)
+    cycle(&rt, alloc, &[mov(0), wide(), jump_if(-3), Insn::Exit], 1)?;
+    cycle(
+        &rt,
+        alloc,
+        &[jump(3), wide(), Insn::Exit, wide(), jump(-3)],
+        4,
+    )
 }
 
 #[test]
 fn refuses_cycles_that_nothing_reaches(rt: HostRuntime) -> Result<(), Fail> {
     let alloc = rt.alloc();
-    let exit = Insn::Exit;
-    cycle(&rt, alloc, &[mov(0), exit, jump(-1)], 2)?;
-    cycle(&rt, alloc, &[exit, mov(0), jump(-2)], 1)?;
-    cycle(&rt, alloc, &[exit, exit, wide(), jump(-3)], 2)?;
+    cycle(&rt, alloc, &[mov(0), Insn::Exit, jump(-1)], 2)?;
+    cycle(&rt, alloc, &[Insn::Exit, mov(0), jump(-2)], 1)?;
+    cycle(&rt, alloc, &[Insn::Exit, Insn::Exit, wide(), jump(-3)], 2)?;
     // of two cycles the lower is told, also where the walk meets the other first
-    cycle(&rt, alloc, &[jump(2), jump(-1), exit, jump(-1)], 1)?;
+    cycle(&rt, alloc, &[jump(2), jump(-1), Insn::Exit, jump(-1)], 1)?;
     cycle(
         &rt,
         alloc,
-        &[jump_if(2), mov(0), jump(-2), mov(0), jump(-2), exit],
+        &[jump_if(2), mov(0), jump(-2), mov(0), jump(-2), Insn::Exit],
         1,
     )?;
     // what leads to a cycle is not on it
-    cycle(&rt, alloc, &[jump(2), jump(1), exit, jump_if(-1), exit], 3)?;
+    cycle(
+        &rt,
+        alloc,
+        &[jump(2), jump(1), Insn::Exit, jump_if(-1), Insn::Exit],
+        3,
+    )?;
     // what a walk was done with before it met the cycle is on none
-    cycle(&rt, alloc, &[jump_if(1), exit, jump(-1)], 2)
+    cycle(&rt, alloc, &[jump_if(1), Insn::Exit, jump(-1)], 2)
 }
 
 #[test]
@@ -108,40 +121,39 @@ fn faults_of_edges_go_before_cycles(rt: HostRuntime) -> Result<(), Fail> {
 #[test]
 fn orders_jumps_back(rt: HostRuntime) -> Result<(), Fail> {
     let alloc = rt.alloc();
-    let exit = Insn::Exit;
     order(
         &rt,
         alloc,
-        &[jump(2), mov(7), exit, jump(-3)],
+        &[jump(2), mov(7), Insn::Exit, jump(-3)],
         &[0, 3, 1, 2],
     )?;
-    order(&rt, alloc, &[jump(1), exit, jump(-2)], &[0, 2, 1])?;
+    order(&rt, alloc, &[jump(1), Insn::Exit, jump(-2)], &[0, 2, 1])?;
     order(
         &rt,
         alloc,
-        &[jump(3), wide(), exit, jump(-4)],
+        &[jump(3), wide(), Insn::Exit, jump(-4)],
         &[0, 4, 1, 3],
     )?;
     // the following slot is walked first
     order(
         &rt,
         alloc,
-        &[jump_if(2), mov(0), exit, jump(-3)],
+        &[jump_if(2), mov(0), Insn::Exit, jump(-3)],
         &[0, 3, 1, 2],
     )?;
     order(
         &rt,
         alloc,
-        &[jump(2), mov(0), exit, jump_if(-3), exit],
+        &[jump(2), mov(0), Insn::Exit, jump_if(-3), Insn::Exit],
         &[0, 3, 1, 2, 4],
     )?;
     order(
         &rt,
         alloc,
-        &[jump(3), exit, jump(-2), jump(-2), jump(-2)],
+        &[jump(3), Insn::Exit, jump(-2), jump(-2), jump(-2)],
         &[0, 4, 3, 2, 1],
     )?;
-    let back = graph(&rt, alloc, &[jump(2), mov(7), exit, jump(-3)])?;
+    let back = graph(&rt, alloc, &[jump(2), mov(7), Insn::Exit, jump(-3)])?;
     edges(
         &rt,
         &back,
@@ -191,20 +203,23 @@ fn checks_orders(rt: HostRuntime) -> Result<(), Fail> {
     Ok(())
 }
 
+/// A jump to the last slot, an instruction, and jumps back from each other slot to the one before it.
+fn ladder(alloc: Global, second: Insn) -> Result<Vec<Insn>, Fail> {
+    let mut insns = Vec::new(alloc);
+    insns.push(jump(4094))?;
+    insns.push(second)?;
+    for _ in 2..4096 {
+        insns.push(jump(-2))?;
+    }
+    Ok(insns)
+}
+
 #[test]
 fn takes_long_programs_backward(rt: HostRuntime) -> Result<(), Fail> {
     let alloc = rt.alloc();
-    let mut back = Vec::new(alloc);
-    back.push(jump(4094))?;
-    back.push(Insn::Exit)?;
-    for _ in 2..4096 {
-        back.push(jump(-2))?;
-    }
-    let long = graph(&rt, alloc, &back)?;
+    let long = graph(&rt, alloc, &ladder(alloc, Insn::Exit)?)?;
     assert_eq!(rt; long.order().len(), 4096);
-    assert_eq!(rt; long.order()[1], 4095);
-    assert_eq!(rt; long.order()[4095], 1);
-    // the last of them closes a cycle
-    back[1] = jump(4094 - 1);
-    cycle(&rt, alloc, &back, 1)
+    assert_eq!(rt; long.order().get(1), Some(&4095));
+    assert_eq!(rt; long.order().get(4095), Some(&1));
+    cycle(&rt, alloc, &ladder(alloc, jump(4093))?, 1)
 }

@@ -44,7 +44,7 @@ pub fn jumps_into()
 pub fn falls_off()
     ensures { (code : Code) (slot : ℕ) (i : Insn) → insn_at code slot ≡ Some i
         → (fault_at code slot ≡ Some (FallsOff slot))
-            ↔ (IsLast code slot i × (JumpsOut code slot i → ⊥) × (JumpsInto code slot i → ⊥)) }
+        ↔ (IsLast code slot i × (JumpsOut code slot i → ⊥) × (JumpsInto code slot i → ⊥)) }
 {}
 
 /// Nothing is told of an instruction of a decoded program whose target isn't below slot 0, where it has one, and whose

@@ -16,7 +16,8 @@ pub use building::build;
 pub use fault::FlowFault;
 pub use graph::{Graph, Next};
 pub use laws::{
-    edges_are_settled, falls_off, jumps_into, jumps_out, nothing_refused, one_refusal, orders_have_no_cycle,
+    edges_are_settled, falls_off, jumps_into, jumps_out, nothing_refused, one_refusal,
+    orders_have_no_cycle,
 };
 pub use ordering::check_order;
 

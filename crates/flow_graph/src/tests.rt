@@ -72,7 +72,11 @@ pub(crate) fn graph(rt: &impl Abort, alloc: Global, insns: &[Insn]) -> Result<Gr
 }
 
 /// Why the program is refused, by number, and the slot.
-pub(crate) fn refusal(rt: &impl Abort, alloc: Global, insns: &[Insn]) -> Result<Option<FlowFault>, Fail> {
+pub(crate) fn refusal(
+    rt: &impl Abort,
+    alloc: Global,
+    insns: &[Insn],
+) -> Result<Option<FlowFault>, Fail> {
     let placed = placed(rt, alloc, insns)?;
     match build(alloc, &placed) {
         Ok(_) => Ok(None),
@@ -101,10 +105,7 @@ fn builds_what_is_decoded(rt: HostRuntime) -> Result<(), Fail> {
     let out = [5, 0, 1, 0, 0, 0, 0, 0, 0x95, 0, 0, 0, 0, 0, 0, 0];
     assert_eq!(rt; refusal_of_bytes(alloc, &out)?, Some(FlowFault::JumpOut(0)));
     let back = [5, 0, 0xff, 0xff, 0, 0, 0, 0];
-    assert_eq!(rt;
-        refusal_of_bytes(alloc, &back)?,
-        Some(FlowFault::Cycle(0))
-    );
+    assert_eq!(rt; refusal_of_bytes(alloc, &back)?, Some(FlowFault::Cycle(0)));
     let end = [0xb7, 0, 0, 0, 0, 0, 0, 0];
     assert_eq!(rt;
         refusal_of_bytes(alloc, &end)?,
