@@ -125,7 +125,7 @@ later_place : (flow : Flow) (place p s : ℕ) (fact : Fact) → IsFlow flow → 
 later_place flow place p s fact f lt is edge =
     let i = f.order.each s (f.joined.lands p fact s edge).1 in
     let up : place < i.0 = f.order.onward place i.0 fact lt i.1
-        (subst (λ (r : ℕ). IsEdge flow.code r fact (slice_index flow.order i.0)) (sym is) (subst (IsEdge flow.code p fact) (sym i.2) edge)) in
+    (subst (λ (r : ℕ). IsEdge flow.code r fact (slice_index flow.order i.0)) (sym is) (subst (IsEdge flow.code p fact) (sym i.2) edge)) in
     (i.0, up, i.1, i.2)
 
 -- the cost of a slot that an edge leads to stands in the table
@@ -146,7 +146,7 @@ few_over flow table place p s fact f later lt is edge =
     let up : place < q.0 = q.1 in
     let above : place + 1 ≤ q.0 = omega arith in
     let few : slice_index table s + 32 * q.0 ≤ 32 * length flow.order =
-        subst (λ (t : ℕ). slice_index table t + 32 * q.0 ≤ 32 * length flow.order) q.3 (later.few q.0 above q.2) in
+    subst (λ (t : ℕ). slice_index table t + 32 * q.0 ≤ 32 * length flow.order) q.3 (later.few q.0 above q.2) in
     omega arith
 
 pub at_begins : (flow : Flow) (place : ℕ) → IsFlow flow → place < length flow.order → Begins flow.code (slice_index flow.order place)
@@ -191,6 +191,7 @@ costs_set flow table p q c f later e lt cost few = record {
   where
     inside : slice_index flow.order p < length table
     inside = let within : slice_index flow.order p < length flow.code = at_within flow p f lt in omega (arith, later.slots)
+
     apart : (place : ℕ) → place < length flow.order → p < place → slice_index flow.order place ≢ slice_index flow.order p
     apart place low over = λ same. let one : place ≡ p = f.order.once place p low lt same in omega arith
 

@@ -71,7 +71,7 @@ fn placed(rt: &impl Abort, alloc: Global, insns: &[Insn]) -> Result<Vec<Placed>,
     Ok(placed)
 }
 
-/// The cost of each slot, 0 where no instruction begins.
+/// The cost of each slot where an instruction begins, 0 at the others.
 fn all_costs(rt: &impl Abort, alloc: Global, insns: &[Insn]) -> Result<Vec<u32>, Fail> {
     let placed = placed(rt, alloc, insns)?;
     let graph = build(alloc, &placed)?;
@@ -81,7 +81,14 @@ fn all_costs(rt: &impl Abort, alloc: Global, insns: &[Insn]) -> Result<Vec<u32>,
             assert!(rt; price(insn) <= table.at(slot));
         }
     }
-    Ok(table.into_table())
+    let mut listed = table.into_table();
+    assert_eq!(rt; listed.len(), graph.slots() as usize);
+    for slot in 0..graph.slots() {
+        if graph.insn(slot).is_none() {
+            listed[slot as usize] = 0;
+        }
+    }
+    Ok(listed)
 }
 
 #[test]
@@ -162,5 +169,58 @@ fn sums_long_programs(rt: HostRuntime) -> Result<(), Fail> {
     assert_eq!(rt; all_costs(&rt, alloc, &straight)?.first(), Some(&4096));
     assert_eq!(rt; all_costs(&rt, alloc, &ladder)?.first(), Some(&4096));
     assert_eq!(rt; all_costs(&rt, alloc, &calls)?.first(), Some(&131041));
+    Ok(())
+}
+
+#[test]
+fn sums_backward(rt: HostRuntime) -> Result<(), Fail> {
+    let alloc = rt.alloc();
+    let back = all_costs(&rt, alloc, &[jump(2), mov(7), Insn::Exit, jump(-3)])?;
+    assert_eq!(rt; back.as_slice(), [4, 2, 1, 3].as_slice());
+    // the dearer way leads back, over a wide instruction
+    let dear = all_costs(
+        &rt,
+        alloc,
+        &[jump(3), wide(), Insn::Exit, jump_if(-4), Insn::Exit],
+    )?;
+    assert_eq!(rt; dear.as_slice(), [4, 2, 0, 1, 3, 1].as_slice());
+    // the dearer way leads on
+    let onward = all_costs(
+        &rt,
+        alloc,
+        &[
+            jump(2),
+            mov(0),
+            Insn::Exit,
+            jump_if(-3),
+            call(4),
+            Insn::Exit,
+        ],
+    )?;
+    assert_eq!(rt; onward.as_slice(), [35, 2, 1, 34, 33, 1].as_slice());
+    // calls on the way back
+    let calls = all_costs(
+        &rt,
+        alloc,
+        &[jump(3), call(4), call(1), Insn::Exit, call(5), jump(-5)],
+    )?;
+    assert_eq!(rt; calls.as_slice(), [83, 49, 17, 1, 82, 50].as_slice());
+    Ok(())
+}
+
+#[test]
+fn sums_long_programs_backward(rt: HostRuntime) -> Result<(), Fail> {
+    let alloc = rt.alloc();
+    let mut back = Vec::new(alloc);
+    back.push(jump(4094))?;
+    back.push(Insn::Exit)?;
+    for _ in 2..4096 {
+        back.push(jump(-2))?;
+    }
+    let costs = all_costs(&rt, alloc, &back)?;
+    assert_eq!(rt; costs.first(), Some(&4096));
+    assert_eq!(rt; costs.get(1), Some(&1));
+    assert_eq!(rt; costs.get(2), Some(&2));
+    assert_eq!(rt; costs.get(4095), Some(&4095));
     Ok(())
 }

@@ -40,7 +40,7 @@ jump_at code slot (Some to) fault e = landing_at slot to (slice_get code to) fau
 fall_at : (code : Code) (slot to : ℕ) (fault : FlowFault) → fall_fault code slot to ≡ Some fault → IsAt slot fault
 fall_at code slot to fault e = tested (nat_lt to (length code)) slot (FallsOff slot) fault refl e
 
-either : (a b : Option FlowFault) (fault : FlowFault) → first a b ≡ Some fault → (a ≡ Some fault) ⊎ (b ≡ Some fault)
+pub either : (a b : Option FlowFault) (fault : FlowFault) → first a b ≡ Some fault → (a ≡ Some fault) ⊎ (b ≡ Some fault)
 either None b fault e = inr e
 either (Some told) b fault e = inl e
 

@@ -23,7 +23,7 @@ pub record IsLaid (code : Code) : Type 0 where
   pub follows : (s : ℕ) (i : Insn) → insn_at code s ≡ Some i → s + width_of (onward_of i) < length code →
       Begins code (s + width_of (onward_of i))
 
-abbrev Lands : Code → ℕ → Type 0
+abbrev pub Lands : Code → ℕ → Type 0
 Lands code s = (s < length code) × Begins code s
 
 below : (a b : ℕ) (fault : FlowFault) → (if nat_lt a b then None else Some fault) ≡ None → a < b
@@ -77,12 +77,12 @@ lands_on code p s Ends Always b e l = absurd (cc)
 lands_on code p s Ends NotTaken b e l = absurd (cc)
 lands_on code p s Ends Taken b e l = absurd (cc)
 
-lands_at : (code : Code) → IsLaid code → ((slot : ℕ) → fault_at code slot ≡ None) → (p : ℕ) (fact : Fact) (s : ℕ) →
-    (o : Option Insn) → insn_at code p ≡ o → IsEdge code p fact s → Lands code s
-lands_at code d none p fact s None x edge =
+pub lands_at : (code : Code) → IsLaid code → (p : ℕ) (fact : Fact) (s : ℕ) → (o : Option Insn) → fault_at code p ≡ None →
+    insn_at code p ≡ o → IsEdge code p fact s → Lands code s
+lands_at code d p fact s None none x edge =
     let l : leads_at code p fact ≡ None = ap (λ (q : Option Insn). option_and_then (λ i. leads i p fact) q) x in absurd (cc)
-lands_at code d none p fact s (Some i) x edge =
-    lands_on code p s (onward_of i) fact (d.follows p i x) (sym (ap (fault_of code p) x) ∙ none p) (sym (leads_of code p i fact x) ∙ edge)
+lands_at code d p fact s (Some i) none x edge =
+    lands_on code p s (onward_of i) fact (d.follows p i x) (sym (ap (fault_of code p) x) ∙ none) (sym (leads_of code p i fact x) ∙ edge)
 
 pub joined_of : (code : Code) → IsLaid code → ((slot : ℕ) → fault_at code slot ≡ None) → IsJoined code
 joined_of code d none = record {
@@ -90,5 +90,5 @@ joined_of code d none = record {
   opens = d.opens;
   few = d.few;
   faultless = none;
-  lands = λ p fact s edge. lands_at code d none p fact s (insn_at code p) refl edge;
+  lands = λ p fact s edge. lands_at code d p fact s (insn_at code p) (none p) refl edge;
 }

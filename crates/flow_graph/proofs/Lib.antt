@@ -10,3 +10,5 @@ pub mod MarkLemmas
 pub mod WalkLemmas
 pub mod PlaceLemmas
 pub mod OrderLemmas
+pub mod OneRefusal
+pub mod LandingLemmas

@@ -72,8 +72,10 @@ listed_less marks m x list t lt l becomes = record {
   where
     longer : (k : ℕ) → k < length list → k < length (list ++ t ∷ [])
     longer k h = omega (arith, one_longer list t)
+
     still : (k : ℕ) → k < length list → mark_at marks (slice_index list k) ≡ m
     still k h = ap (mark_at marks) (sym (at_old list t k h)) ∙ l.marked k (longer k h)
+
     apart : (k : ℕ) → k < length list → slice_index list k ≢ t
     apart k h = λ same.
         let end : length list < length (list ++ t ∷ []) = omega (arith, one_longer list t) in

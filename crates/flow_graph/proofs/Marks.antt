@@ -75,19 +75,19 @@ none_marked marks n e s = subst (λ (list : List Bool). slice_index_or list s fa
 pub spread_first : (code : Code) (from : ℕ) (marks : List Bool) (pending : List ℕ) → marks ≡ replicate (length code) false →
     pending ≡ from ∷ [] → AreSpread code from marks pending
 spread_first code from marks pending all is =
-  let none : (s : ℕ) → slice_index_or marks s false ≡ false = none_marked marks (length code) all in
-  record {
-  slots = ap length all ∙ length-replicate (length code) false;
-  ahead = λ s h. absurd (clash (slice_index_or marks s false) h (none s));
-  source = λ s i. elim (in_either [] from s (subst (λ (list : List ℕ). IsIn list s) is i)) [
-    | inl old ↦ in_none [] s refl old
-    | inr e ↦ inl e
-  ];
-  onward = λ p h. elim h [
-    | inl e ↦ inl (subst (λ (list : List ℕ). IsIn list p) (sym is) (in_new [] from p e))
-    | inr m ↦ absurd (clash (slice_index_or marks p false) m (none p))
-  ];
-}
+    let none : (s : ℕ) → slice_index_or marks s false ≡ false = none_marked marks (length code) all in
+    record {
+      slots = ap length all ∙ length-replicate (length code) false;
+      ahead = λ s h. absurd (clash (slice_index_or marks s false) h (none s));
+      source = λ s i. elim (in_either [] from s (subst (λ (list : List ℕ). IsIn list s) is i)) [
+        | inl old ↦ in_none [] s refl old
+        | inr e ↦ inl e
+      ];
+      onward = λ p h. elim h [
+        | inl e ↦ inl (subst (λ (list : List ℕ). IsIn list p) (sym is) (in_new [] from p e))
+        | inr m ↦ absurd (clash (slice_index_or marks p false) m (none p))
+      ];
+    }
 
 pub path_lands : (code : Code) (from : ℕ) → IsJoined code → (path : List ℕ) (s : ℕ) → IsPath code from path s → Begins code s
 path_lands code from f [] s h = (f.lands from h.0 s h.1).1
@@ -219,6 +219,7 @@ spread_all code from marks pending a empty = record {
       | inl i ↦ in_none pending p empty i
       | inr all ↦ all s joint
     ]
+
     each : (code : Code) (from : ℕ) (marks : List Bool) (pending : List ℕ) → AreSpread code from marks pending → length pending ≡ 0 →
         (path : List ℕ) (s : ℕ) → IsPath code from path s → IsMarked marks s
     each code from marks pending a empty [] s h = goes code from marks pending a empty from s (inl refl) h

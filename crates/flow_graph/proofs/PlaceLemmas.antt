@@ -56,7 +56,7 @@ places_more code order places n o a begins is e = record {
   stands = λ slot place h. elim (one_way slot (slice_index order n)) [
     | inl same ↦
         let there : place_at (slice_set places (slice_index order n) (Some n)) slot ≡ Some n =
-            ap (place_at (slice_set places (slice_index order n) (Some n))) same ∙ get_or-set_same places (slice_index order n) (Some n) None inside in
+        ap (place_at (slice_set places (slice_index order n) (Some n))) same ∙ get_or-set_same places (slice_index order n) (Some n) None inside in
         let is : place ≡ n = some_place place n (sym h ∙ there) in
         (omega arith, ap (slice_index order) is ∙ sym same)
     | inr ne ↦
@@ -68,8 +68,10 @@ places_more code order places n o a begins is e = record {
   where
     inside : slice_index order n < length places
     inside = slot_inside code order places n (slice_index order n) a begins
+
     none : place_at places (slice_index order n) ≡ None
     none = read_place places (slice_index order n) o inside is ∙ e
+
     last : (place : ℕ) → place < n + 1 → n ≤ place → n ≡ place
     last place lt high = omega arith
 
@@ -93,13 +95,14 @@ placed_of_order code order places slot f a begins o = record {
       let i = o.each s (f.lands slot joint.0 s joint.1).1 in
       let there : place_at places s ≡ Some i.0 = ap (place_at places) (sym i.2) ∙ a.at i.0 i.1 in
       let less : here.0 < i.0 = o.onward here.0 i.0 joint.0 here.1 i.1
-          (subst (λ (p : ℕ). IsEdge code p joint.0 (slice_index order i.0)) (sym here.2)
-          (subst (IsEdge code slot joint.0) (sym i.2) joint.1)) in
+      (subst (λ (p : ℕ). IsEdge code p joint.0 (slice_index order i.0)) (sym here.2)
+      (subst (IsEdge code slot joint.0) (sym i.2) joint.1)) in
       subst (λ (q : Option ℕ). IsBehind (place_at places slot) q) (sym there)
       (subst (λ (q : Option ℕ). IsBehind q (Some i.0)) (sym at_here) less);
 }
   where
     here : IsIn order slot
     here = o.each slot begins
+
     at_here : place_at places slot ≡ Some here.0
     at_here = ap (place_at places) (sym here.2) ∙ a.at here.0 here.1

@@ -20,14 +20,19 @@ use Rattle.flow_graph.proofs.CodeLemmas.{begins_below}
 
 pub new_open : New ≢ Open
 new_open = λ e. cc
+
 pub new_done : New ≢ Done
 new_done = λ e. cc
+
 pub open_new : Open ≢ New
 open_new = λ e. cc
+
 pub open_done : Open ≢ Done
 open_done = λ e. cc
+
 pub done_new : Done ≢ New
 done_new = λ e. cc
+
 pub done_open : Done ≢ Open
 done_open = λ e. cc
 
@@ -120,9 +125,10 @@ path_along code list k (suc d) m along e lt =
     let same : m ≡ (k + d + 1) + 1 = omega arith in
     let low : (k + d + 1) + 1 < length list = omega arith in
     let under : k + d + 1 < length list = omega arith in
-    let before = path_along code list k d (k + d + 1) along refl under in
-    (slice_index list (k + d + 1) ∷ before.0,
-    (joint_same code _ _ _ _ refl (ap (slice_index list) same) (along (k + d + 1) low), before.1))
+    let before = path_along code list k d (k + d + 1) along refl under in (
+      slice_index list (k + d + 1) ∷ before.0,
+      (joint_same code _ _ _ _ refl (ap (slice_index list) same) (along (k + d + 1) low), before.1),
+    )
 
 -- an edge from the last slot of the path to one of the path closes a cycle
 pub cycle_back : (code : Code) (marks : List Mark) (path done : List ℕ) (slot next : ℕ) → IsWalk code marks (path ++ slot ∷ []) done →
@@ -137,9 +143,14 @@ cycle_back code marks path done slot next w joint is =
           let d : ℕ = length path - i.0 - 1 in
           let far : length path ≡ i.0 + d + 1 = omega arith in
           let last : length path < length (path ++ slot ∷ []) = omega arith in
-          let r = path_along code (path ++ slot ∷ []) i.0 d (length path) w.along far last in
-          (slot ∷ r.0, (joint, subst (λ (s : ℕ). IsPath code next r.0 s) end
-          (subst (λ (p : ℕ). IsPath code p r.0 (slice_index (path ++ slot ∷ []) (length path))) i.2 r.1)))
+          let r = path_along code (path ++ slot ∷ []) i.0 d (length path) w.along far last in (
+            slot ∷ r.0,
+            (
+              joint,
+              subst (λ (s : ℕ). IsPath code next r.0 s) end
+                  (subst (λ (p : ℕ). IsPath code p r.0 (slice_index (path ++ slot ∷ []) (length path))) i.2 r.1),
+            ),
+          )
       | inr high ↦
           let last : i.0 ≡ length path = omega arith in
           ([], joint_same code _ _ _ _ (sym i.2 ∙ at_new path slot i.0 last) refl joint)
@@ -212,6 +223,7 @@ order_of code marks path done w empty met =
   where
     back : (k : ℕ) → k < length done → slice_index (reverse done) k ≡ slice_index done (length done - 1 - k)
     back k h = get_or-reverse done k 0 h
+
     is_done : (s : ℕ) → mark_at marks s ≢ New → mark_at marks s ≡ Done
     is_done s ne = elim (which (mark_at marks s)) [
       | inl fresh ↦ absurd (ne fresh)
@@ -254,7 +266,7 @@ walk_entered code marks new before path later done last slot next f w is way en 
     (walk_in code marks (path ++ slot ∷ []) done next (split code marks before path done slot w is)
     (f.lands slot way.0.0 next way.0.1).0 (f.lands slot way.0.0 next way.0.1).1 way.1
     (λ k e. let last : k ≡ length path = omega (arith, one_longer path slot) in
-        joint_same code _ _ _ _ (at_new path slot k last) refl way.0))))
+    joint_same code _ _ _ _ (at_new path slot k last) refl way.0))))
 
 pub smaller_entered : (code : Code) (marks new : List Mark) (before path later done : List ℕ) (slot next : ℕ) → IsJoined code →
     IsWalk code marks before done → before ≡ path ++ slot ∷ [] → IsWay code marks slot (To next) → new ≡ slice_set marks next Open →

@@ -8,3 +8,4 @@ pub mod Cycles
 pub mod Refusals
 pub mod Walks
 pub mod Places
+pub mod Landings

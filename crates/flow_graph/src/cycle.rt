@@ -14,7 +14,12 @@ use refusal::NoMemory;
 use std::alloc::Global;
 
 /// Whether a path of one edge or more leads from the slot back to it.
-fn is_on_cycle(alloc: Global, code: &[Option<Insn>], marks: &[Mark], slot: u32) -> Result<bool, NoMemory>
+fn is_on_cycle(
+    alloc: Global,
+    code: &[Option<Insn>],
+    marks: &[Mark],
+    slot: u32,
+) -> Result<bool, NoMemory>
     requires joined { IsJoined code.now }
     requires begins { Begins code.now slot }
     requires clear { AreClear code.now marks.now }

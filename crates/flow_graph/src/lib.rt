@@ -6,6 +6,7 @@ mod checks;
 mod cycle;
 mod fault;
 mod graph;
+mod laws;
 mod onward;
 mod ordering;
 mod reach;
@@ -14,7 +15,13 @@ mod walk;
 pub use building::build;
 pub use fault::FlowFault;
 pub use graph::{Graph, Next};
+pub use laws::{
+    edges_are_settled, falls_off, jumps_into, jumps_out, nothing_refused, one_refusal,
+    orders_have_no_cycle,
+};
 pub use ordering::check_order;
 
+#[cfg(test)]
+mod cycle_tests;
 #[cfg(test)]
 mod tests;

@@ -14,7 +14,11 @@ use refusal::NoMemory;
 use std::alloc::Global;
 
 /// The place of each slot in the list, if instructions begin at all of its slots and none stands there twice.
-fn places_of(alloc: Global, code: &[Option<Insn>], order: &[u32]) -> Result<Option<Vec<Option<usize>>>, NoMemory>
+fn places_of(
+    alloc: Global,
+    code: &[Option<Insn>],
+    order: &[u32],
+) -> Result<Option<Vec<Option<usize>>>, NoMemory>
     ensures { IfOk result (λ places. MatchOption places (IsOrder code.now order.now → ⊥)
         (λ places. ArePlaces code.now order.now places.items (length order.now))) }
 {

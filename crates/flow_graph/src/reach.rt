@@ -24,7 +24,11 @@ fn mark_on(marks: &mut Vec<bool>, pending: &mut Vec<u32>, slot: u32) -> Result<(
 }
 
 /// Marks the slots that a path of one edge or more leads to from this one.
-pub(crate) fn slots_ahead(alloc: Global, code: &[Option<Insn>], from: u32) -> Result<Vec<bool>, NoMemory>
+pub(crate) fn slots_ahead(
+    alloc: Global,
+    code: &[Option<Insn>],
+    from: u32,
+) -> Result<Vec<bool>, NoMemory>
     requires joined { IsJoined code.now }
     requires begins { Begins code.now from }
     ensures { IfOk result (λ marks. AreAhead code.now from marks.items) }

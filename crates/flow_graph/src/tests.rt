@@ -9,7 +9,7 @@ use std::alloc::Global;
 use std::process::Abort;
 use std::test::Fail;
 
-fn mov(number: i32) -> Insn {
+pub(crate) fn mov(number: i32) -> Insn {
     Insn::Mov {
         width: Width::W64,
         dst: Register::new(0),
@@ -17,18 +17,18 @@ fn mov(number: i32) -> Insn {
     }
 }
 
-fn wide() -> Insn {
+pub(crate) fn wide() -> Insn {
     Insn::LoadWide {
         dst: Register::new(0),
         value: 1,
     }
 }
 
-fn jump(offset: i16) -> Insn {
+pub(crate) fn jump(offset: i16) -> Insn {
     Insn::Jump { offset }
 }
 
-fn jump_if(offset: i16) -> Insn {
+pub(crate) fn jump_if(offset: i16) -> Insn {
     Insn::JumpIf {
         width: Width::W64,
         condition: Condition::Equal,
@@ -51,7 +51,7 @@ fn width(insn: &Insn) -> u32
 }
 
 /// The instructions, one behind the other.
-fn placed(rt: &impl Abort, alloc: Global, insns: &[Insn]) -> Result<Vec<Placed>, Fail>
+pub(crate) fn placed(rt: &impl Abort, alloc: Global, insns: &[Insn]) -> Result<Vec<Placed>, Fail>
     ensures { IfOk result (λ placed. IsDecoded placed.items) }
 {
     assert!(rt; !insns.is_empty());
@@ -66,13 +66,17 @@ fn placed(rt: &impl Abort, alloc: Global, insns: &[Insn]) -> Result<Vec<Placed>,
     Ok(placed)
 }
 
-fn graph(rt: &impl Abort, alloc: Global, insns: &[Insn]) -> Result<Graph, Fail> {
+pub(crate) fn graph(rt: &impl Abort, alloc: Global, insns: &[Insn]) -> Result<Graph, Fail> {
     let placed = placed(rt, alloc, insns)?;
     Ok(build(alloc, &placed)?)
 }
 
 /// Why the program is refused, by number, and the slot.
-fn refusal(rt: &impl Abort, alloc: Global, insns: &[Insn]) -> Result<Option<FlowFault>, Fail> {
+pub(crate) fn refusal(
+    rt: &impl Abort,
+    alloc: Global,
+    insns: &[Insn],
+) -> Result<Option<FlowFault>, Fail> {
     let placed = placed(rt, alloc, insns)?;
     match build(alloc, &placed) {
         Ok(_) => Ok(None),
@@ -101,10 +105,7 @@ fn builds_what_is_decoded(rt: HostRuntime) -> Result<(), Fail> {
     let out = [5, 0, 1, 0, 0, 0, 0, 0, 0x95, 0, 0, 0, 0, 0, 0, 0];
     assert_eq!(rt; refusal_of_bytes(alloc, &out)?, Some(FlowFault::JumpOut(0)));
     let back = [5, 0, 0xff, 0xff, 0, 0, 0, 0];
-    assert_eq!(rt;
-        refusal_of_bytes(alloc, &back)?,
-        Some(FlowFault::BackEdge(0))
-    );
+    assert_eq!(rt; refusal_of_bytes(alloc, &back)?, Some(FlowFault::Cycle(0)));
     let end = [0xb7, 0, 0, 0, 0, 0, 0, 0];
     assert_eq!(rt;
         refusal_of_bytes(alloc, &end)?,
@@ -119,7 +120,7 @@ fn builds_what_is_decoded(rt: HostRuntime) -> Result<(), Fail> {
 }
 
 /// What a graph tells of each slot.
-fn edges(rt: &impl Abort, graph: &Graph, want: &[Option<Next>]) {
+pub(crate) fn edges(rt: &impl Abort, graph: &Graph, want: &[Option<Next>]) {
     assert_eq!(rt; graph.slots() as usize, want.len());
     for slot in 0..graph.slots() {
         let next = match graph.insn(slot) {
@@ -158,12 +159,8 @@ fn refuses_jumps(rt: HostRuntime) -> Result<(), Fail> {
         Some(FlowFault::IntoWide(2))
     );
     assert_eq!(rt;
-        refusal(&rt, alloc, &[jump(-1)])?,
-        Some(FlowFault::BackEdge(0))
-    );
-    assert_eq!(rt;
-        refusal(&rt, alloc, &[mov(0), mov(0), jump(-2), exit])?,
-        Some(FlowFault::BackEdge(2))
+        refusal(&rt, alloc, &[Insn::Jump32 { offset: -3 }, wide(), exit])?,
+        out
     );
     Ok(())
 }
@@ -186,8 +183,8 @@ fn refuses_ends(rt: HostRuntime) -> Result<(), Fail> {
     );
     // a conditional jump in the last place: its jump is told first, then that nothing follows
     assert_eq!(rt;
-        refusal(&rt, alloc, &[mov(0), jump_if(-1)])?,
-        Some(FlowFault::BackEdge(1))
+        refusal(&rt, alloc, &[mov(0), jump_if(-2)])?,
+        Some(FlowFault::FallsOff(1))
     );
     assert_eq!(rt;
         refusal(&rt, alloc, &[mov(0), jump_if(0)])?,
@@ -195,8 +192,8 @@ fn refuses_ends(rt: HostRuntime) -> Result<(), Fail> {
     );
     // the lowest slot goes before the lowest number
     assert_eq!(rt;
-        refusal(&rt, alloc, &[jump(-1), jump(5)])?,
-        Some(FlowFault::BackEdge(0))
+        refusal(&rt, alloc, &[mov(0), jump_if(5), jump(-5)])?,
+        Some(FlowFault::JumpOut(1))
     );
     Ok(())
 }
@@ -227,7 +224,7 @@ fn refuses_unreachable(rt: HostRuntime) -> Result<(), Fail> {
 }
 
 #[test]
-fn takes_forward_programs(rt: HostRuntime) -> Result<(), Fail> {
+fn takes_programs(rt: HostRuntime) -> Result<(), Fail> {
     let alloc = rt.alloc();
     let merge = graph(
         &rt,
@@ -246,6 +243,7 @@ fn takes_forward_programs(rt: HostRuntime) -> Result<(), Fail> {
             Some(Next::Zero),
         ],
     );
+    assert_eq!(rt; merge.order(), [0, 3, 4, 5, 1, 2].as_slice());
     // a conditional jump to the next slot, and one over a wide instruction
     let over = graph(
         &rt,
@@ -273,6 +271,7 @@ fn takes_forward_programs(rt: HostRuntime) -> Result<(), Fail> {
     assert_eq!(rt; over.insn(2), Some(&wide()));
     assert_eq!(rt; over.insn(3), None);
     assert_eq!(rt; over.insn(6), None);
+    assert_eq!(rt; over.order(), [0, 1, 2, 4, 5].as_slice());
     let code = over.into_code();
     assert_eq!(rt; code.len(), 6);
     assert_eq!(rt; code[5], Some(Insn::Exit));
@@ -309,7 +308,7 @@ fn faults_have_numbers_and_texts(rt: HostRuntime) -> Result<(), Fail> {
             22,
             "jump into a wide instruction at slot 2",
         ),
-        (FlowFault::BackEdge(3), 23, "jump backward at slot 3"),
+        (FlowFault::Cycle(3), 23, "cycle through slot 3"),
         (
             FlowFault::FallsOff(4),
             24,

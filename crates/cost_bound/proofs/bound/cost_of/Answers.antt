@@ -25,9 +25,9 @@ overflow_add-result c =
       | in-Two w ↦
           let next = rw c.order.ensures at w.in-Two.ensures in
           let left : slice_index c.args.table.now w.in-Two.following + 32 * c.args.place + 32 ≤ 32 * length c.args.graph.now.order =
-              (few_over c.args.graph.now c.args.table.now c.args.place (slice_index c.args.graph.now.order c.args.place) w.in-Two.following NotTaken c.slots-slots.ensures.flow c.requires.later c.requires.place refl next.1) in
+          (few_over c.args.graph.now c.args.table.now c.args.place (slice_index c.args.graph.now.order c.args.place) w.in-Two.following NotTaken c.slots-slots.ensures.flow c.requires.later c.requires.place refl next.1) in
           let right : slice_index c.args.table.now w.in-Two.to + 32 * c.args.place + 32 ≤ 32 * length c.args.graph.now.order =
-              (few_over c.args.graph.now c.args.table.now c.args.place (slice_index c.args.graph.now.order c.args.place) w.in-Two.to Taken c.slots-slots.ensures.flow c.requires.later c.requires.place refl next.2) in
+          (few_over c.args.graph.now c.args.table.now c.args.place (slice_index c.args.graph.now.order c.args.place) w.in-Two.to Taken c.slots-slots.ensures.flow c.requires.later c.requires.place refl next.2) in
           rw (w.onward-is, w.max-onward.ensures) (omega (arith, left, right))
     ] in
     omega (arith, few, c.price.ensures.most, c.slots-slots.ensures.flow.short, c.slots-slots.ensures.flow.joined.few)
@@ -42,9 +42,9 @@ returns-clause-few c =
       | in-Two w ↦
           let next = rw c.order.ensures at w.in-Two.ensures in
           let left : slice_index c.args.table.now w.in-Two.following + 32 * c.args.place + 32 ≤ 32 * length c.args.graph.now.order =
-              (few_over c.args.graph.now c.args.table.now c.args.place (slice_index c.args.graph.now.order c.args.place) w.in-Two.following NotTaken c.slots-slots.ensures.flow c.requires.later c.requires.place refl next.1) in
+          (few_over c.args.graph.now c.args.table.now c.args.place (slice_index c.args.graph.now.order c.args.place) w.in-Two.following NotTaken c.slots-slots.ensures.flow c.requires.later c.requires.place refl next.1) in
           let right : slice_index c.args.table.now w.in-Two.to + 32 * c.args.place + 32 ≤ 32 * length c.args.graph.now.order =
-              (few_over c.args.graph.now c.args.table.now c.args.place (slice_index c.args.graph.now.order c.args.place) w.in-Two.to Taken c.slots-slots.ensures.flow c.requires.later c.requires.place refl next.2) in
+          (few_over c.args.graph.now c.args.table.now c.args.place (slice_index c.args.graph.now.order c.args.place) w.in-Two.to Taken c.slots-slots.ensures.flow c.requires.later c.requires.place refl next.2) in
           rw (w.onward-is, w.max-onward.ensures) (omega (arith, left, right))
     ] in
     omega (arith, few, c.price.ensures.most)

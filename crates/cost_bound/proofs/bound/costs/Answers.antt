@@ -6,7 +6,7 @@ pub index_mut-requires : goal.index_mut-requires
 index_mut-requires c = rw c.order-order.ensures
     (let low : c.loop-place.place - 1 < length c.args.graph.now.order = omega arith in
     let lt : slice_index c.args.graph.now.order (c.loop-place.place - 1) < length c.args.graph.now.code =
-        at_within c.args.graph.now (c.loop-place.place - 1) c.slots-slots.ensures.flow low in
+    at_within c.args.graph.now (c.loop-place.place - 1) c.slots-slots.ensures.flow low in
     omega (arith, c.loop-place.invariant.later.slots))
 
 pub loop-place-preserved : goal.loop-place-preserved

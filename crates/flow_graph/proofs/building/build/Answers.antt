@@ -26,10 +26,11 @@ of-requires c = rw (c.in_ok-code.ensures, c.order_of.ensures) (record {
 })
 
 pub returns-in-Some-2 : goal.returns-in-Some-2
-returns-in-Some-2 c =
-    (rw (c.deref.ensures.value, c.in_ok-code.ensures) at c.in_default.ensures,
-    λ s cycle. no_cycle _ _ s (rw (c.in-All.is, c.deref-2.ensures.value, c.in_ok-code.ensures) at c.in_ok-marks.ensures).0 cycle,
-    rw (c.in-Some-2.is, c.deref-in-All.ensures.value, c.in_ok-code.ensures) at c.in_ok-slot-in-All.ensures)
+returns-in-Some-2 c = (
+  rw (c.deref.ensures.value, c.in_ok-code.ensures) at c.in_default.ensures,
+  λ s cycle. no_cycle _ _ s (rw (c.in-All.is, c.deref-2.ensures.value, c.in_ok-code.ensures) at c.in_ok-marks.ensures).0 cycle,
+  rw (c.in-Some-2.is, c.deref-in-All.ensures.value, c.in_ok-code.ensures) at c.in_ok-slot-in-All.ensures,
+)
 
 pub returns-in-None : goal.returns-in-None
 returns-in-None c = record {

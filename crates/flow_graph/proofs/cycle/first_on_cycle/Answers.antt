@@ -14,7 +14,7 @@ loop-slot-preserved c = elim c.if-begins_at.branch [
   | else-begins_at w ↦
       next_all (λ (s : ℕ). IsOnCycle c.args.code.now s → ⊥) c.loop-slot.slot c.loop-slot.invariant
       (λ cycle. not_so _ c.begins_at.ensures w.if-begins_at.false
-          (path_begins c.args.code.now c.loop-slot.slot cycle.0 c.loop-slot.slot cycle.1))
+      (path_begins c.args.code.now c.loop-slot.slot cycle.0 c.loop-slot.slot cycle.1))
 ]
 
 pub returns : goal.returns

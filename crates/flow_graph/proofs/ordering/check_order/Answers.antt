@@ -13,14 +13,15 @@ is_placed-requires-clause-joined c =
     rw (c.deref-then-begins_at.ensures.value, c.in_ok-code.ensures) (joined_of _ (laid_of _ c.requires.decoded) c.requires.faultless)
 
 pub returns-then-not-is_placed : goal.returns-then-not-is_placed
-returns-then-not-is_placed c = rw (← c.in_ok-code.ensures)
-    (λ yes. absurd (cc),
-    λ order. absurd (not_so _ (rw (c.deref-then-begins_at.ensures.value, c.deref-then-begins_at-2.ensures.value) at c.is_placed.ensures)
-    c.if-not-is_placed.true
-    (placed_of_order c.in_ok-code.code.items c.args.order.now c.in-Some.places.items c.loop-slot.slot
-    (rw c.in_ok-code.ensures (joined_of _ (laid_of _ c.requires.decoded) c.requires.faultless))
-    (rw (c.in-Some.is, c.deref.ensures.value) at c.in_ok-places.ensures)
-    (so _ (rw c.deref-in-loop-slot.ensures.value at c.begins_at.ensures) c.if-begins_at.true) order)))
+returns-then-not-is_placed c = rw (← c.in_ok-code.ensures) (
+  λ yes. absurd (cc),
+  λ order. absurd (not_so _ (rw (c.deref-then-begins_at.ensures.value, c.deref-then-begins_at-2.ensures.value) at c.is_placed.ensures)
+      c.if-not-is_placed.true
+      (placed_of_order c.in_ok-code.code.items c.args.order.now c.in-Some.places.items c.loop-slot.slot
+      (rw c.in_ok-code.ensures (joined_of _ (laid_of _ c.requires.decoded) c.requires.faultless))
+      (rw (c.in-Some.is, c.deref.ensures.value) at c.in_ok-places.ensures)
+      (so _ (rw c.deref-in-loop-slot.ensures.value at c.begins_at.ensures) c.if-begins_at.true) order)),
+)
 
 pub loop-slot-preserved : goal.loop-slot-preserved
 loop-slot-preserved c = elim c.if-begins_at.branch [
@@ -35,11 +36,12 @@ loop-slot-preserved c = elim c.if-begins_at.branch [
 ]
 
 pub returns : goal.returns
-returns c = rw (← c.in_ok-code.ensures)
-    (λ yes. order_of_places c.in_ok-code.code.items c.args.order.now c.in-Some.places.items
-    (rw (c.in-Some.is, c.deref.ensures.value) at c.in_ok-places.ensures)
-    (λ s b.
-        let lt : s < length c.in_ok-code.code.items = begins_below c.in_ok-code.code.items s b in
-        let below : s < c.loop-slot.slot = omega arith in
-        c.loop-slot.invariant s below b),
-    λ order. refl)
+returns c = rw (← c.in_ok-code.ensures) (
+  λ yes. order_of_places c.in_ok-code.code.items c.args.order.now c.in-Some.places.items
+      (rw (c.in-Some.is, c.deref.ensures.value) at c.in_ok-places.ensures)
+      (λ s b.
+      let lt : s < length c.in_ok-code.code.items = begins_below c.in_ok-code.code.items s b in
+      let below : s < c.loop-slot.slot = omega arith in
+      c.loop-slot.invariant s below b),
+  λ order. refl,
+)

@@ -12,8 +12,8 @@ returns-in-Some c =
 pub index_mut-requires : goal.index_mut-requires
 index_mut-requires c =
     let lt : slice_index c.args.order.now c.loop-place.place < length c.loop-place.places.items =
-        slot_inside c.args.code.now c.args.order.now c.loop-place.places.items c.loop-place.place
-        (slice_index c.args.order.now c.loop-place.place) c.loop-place.invariant (so _ c.begins_at.ensures c.if-not-begins_at.false) in
+    slot_inside c.args.code.now c.args.order.now c.loop-place.places.items c.loop-place.place
+    (slice_index c.args.order.now c.loop-place.place) c.loop-place.invariant (so _ c.begins_at.ensures c.if-not-begins_at.false) in
     omega arith
 
 pub loop-place-preserved : goal.loop-place-preserved

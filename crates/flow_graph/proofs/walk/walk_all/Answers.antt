@@ -23,8 +23,9 @@ loop-slot-preserved c = elim c.if-begins_at.branch [
 ]
 
 pub returns : goal.returns
-returns c =
-    (order_of c.args.code.now c.loop-slot.walk.marks.items c.loop-slot.walk.path.items c.loop-slot.walk.done.items c.loop-slot.invariant.walk
-    (ap length c.loop-slot.invariant.ended)
-    (λ s b. let lt : s < length c.args.code.now = begins_below c.args.code.now s b in c.loop-slot.invariant.met s (omega arith) b),
-    omega (arith, c.loop-slot.invariant.walk.room))
+returns c = (
+  order_of c.args.code.now c.loop-slot.walk.marks.items c.loop-slot.walk.path.items c.loop-slot.walk.done.items c.loop-slot.invariant.walk
+      (ap length c.loop-slot.invariant.ended)
+      (λ s b. let lt : s < length c.args.code.now = begins_below c.args.code.now s b in c.loop-slot.invariant.met s (omega arith) b),
+  omega (arith, c.loop-slot.invariant.walk.room),
+)
