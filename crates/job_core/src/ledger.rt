@@ -23,6 +23,8 @@ impl Spawner for Ledger {
 
     ghost entries = { λ ledger. slice_get ledger.entries.items };
 
+    ghost asks = { λ ledger child. Unit {0} };
+
     ghost spawns = { λ old child reply new. (new.entries.items ≡ old.entries.items)
         × Adds old.lives.items old.report.tasks.items child reply new.lives.items new.report.tasks.items
         × (new.report.buffer.items ≡ old.report.buffer.items)

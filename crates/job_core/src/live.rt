@@ -7,6 +7,7 @@ ghost use Rattle.machine_model.specs.Value.{Registers};
 ghost use Rattle.verifier.specs.Checked.{program_of};
 ghost use Rattle.interpreter.specs.Behind.{AreBehind, IsCovered, Did, state_of, entry_frame, at_slot, out_of, slot_after};
 ghost use Rattle.interpreter.specs.Stretch as stretch;
+ghost use Rattle.interpreter.specs.Children.{MayHandOver};
 ghost use Rattle.job_core.specs.Living.{Living};
 
 use helpers::{Part, SpawnRecord, Spawner};
@@ -150,6 +151,7 @@ impl Live {
     ) -> Ran
         requires covered { IsCovered code.now (at_slot self.old.frame slot) self.old.part self.old.credit }
         requires some { 0 < limit }
+        requires children { MayHandOver (S.entries spawner.old) self.old.credit.held (S.asks spawner.old) }
         ensures ran { stretch.Ran code.now self.old.credit limit result.count (at_slot self.old.frame slot) self.old.part (λ frame part credit.
             (registers : Registers) → AreBehind code.now frame registers →
             Did code.now (effect (program_of code.now) (S.entries spawner.old) (state_of frame part credit registers))
@@ -161,6 +163,7 @@ impl Live {
         ensures program { self.new.program ≡ self.old.program }
         ensures slot { self.new.frame.slot ≡ self.old.frame.slot }
         ensures most { result.count ≤ limit }
+        ensures entries { S.entries spawner.new ≡ S.entries spawner.old }
     {
         let body = &mut *self.body;
         body.frame.run_at(

@@ -134,6 +134,9 @@ returns-in-Ended-clause-leads c =
           (rw c.part.ensures at c.end.ensures.buffer) (rw c.credit.ensures at (c.end.ensures.tasks noting.entry noting.noted)))),
     )
 
+pub run_at-ran-requires-clause-children : goal.run_at-ran-requires-clause-children
+run_at-ran-requires-clause-children c = record { each = λ child entry there covers leaves. tt }
+
 pub index_mut-requires : goal.index_mut-requires
 index_mut-requires c =
     let within = slice_get_within c.loop-gone.ledger.lives.items (first_of c.args.schedule.now) None c.loop-gone.invariant.way.out in
