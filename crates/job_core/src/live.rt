@@ -10,7 +10,8 @@ ghost use Rattle.interpreter.specs.Stretch as stretch;
 ghost use Rattle.interpreter.specs.Children.{MayHandOver};
 ghost use Rattle.job_core.specs.Living.{Living};
 
-use helpers::{Part, SpawnRecord, Spawner};
+use credit_book::Ticket;
+use helpers::{Part, Spawner};
 use interpreter::{Credit, Frame, Next, Ran};
 use refusal::NoMemory;
 use std::alloc::Global;
@@ -33,8 +34,6 @@ pub struct Vacant {
 }
 
 impl Vacant {
-    ghost use Rattle.helpers.specs.declared.spawner.SpawnRecord.{SpawnRecord};
-
     /// A place in memory of its own.
     pub fn new(alloc: Global) -> Result<Vacant, NoMemory> {
         let body = Body {
@@ -47,29 +46,25 @@ impl Vacant {
         })
     }
 
-    /// Starts a task in it.
-    pub fn enter(self, child: SpawnRecord) -> Live
-        ensures program { result.program ≡ child.program }
-        ensures frame { result.frame ≡ entry_frame (length child.part.bytes) child.arg }
-        ensures part { result.part ≡ child.part }
-        ensures credit { result.credit ≡ record { held = child.share; used = 0 } }
+    /// Starts the task of a ticket in it.
+    pub fn enter(self, ticket: Ticket) -> Live
+        ensures program { result.program ≡ ticket.program }
+        ensures frame { result.frame ≡ entry_frame (length ticket.part.bytes) ticket.arg }
+        ensures part { result.part ≡ ticket.part }
+        ensures credit { result.credit ≡ record { held = ticket.held; used = 0 } }
+        ensures arg { ticket.arg < 2 ^ 64 }
     {
         let Vacant { mut body } = self;
-        let SpawnRecord {
-            program,
-            share,
-            arg,
-            part,
-        } = child;
-        body.program = program;
-        body.frame.enter(part.len() as u32, arg);
-        body.part = part;
+        let credit = Credit {
+            held: ticket.held(),
+            used: 0,
+        };
+        body.program = ticket.program();
+        body.frame.enter(ticket.part().len() as u32, ticket.arg());
+        body.part = ticket.into_part();
         Live {
             slot: 0,
-            credit: Credit {
-                held: share,
-                used: 0,
-            },
+            credit,
             body,
         }
     }
@@ -113,6 +108,15 @@ impl Live {
         ensures { result.now ≡ self.now.part }
     {
         &self.body.part
+    }
+
+    /// Its part, once it has ended.
+    pub fn into_part(self) -> Part
+        ensures { result ≡ self.part }
+    {
+        let Live { body, .. } = self;
+        let Body { part, .. } = Box::into_inner(body);
+        part
     }
 
     /// The credit that it holds, and what it has used of it.
