@@ -212,6 +212,13 @@ impl Book {
         self.writer.opening().job
     }
 
+    /// The credit that was issued for it.
+    pub fn issued(&self) -> u32
+        ensures { result ≡ self.now.board.issued }
+    {
+        self.writer.opening().issued
+    }
+
     /// What the tasks that ended have left in the job's buffer so far.
     pub fn collected(&self) -> &[u8]
         ensures { result.now ≡ buffer_of self.now.size self.now.history }

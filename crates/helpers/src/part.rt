@@ -194,6 +194,7 @@ impl Part {
     #[inline]
     pub fn take_bytes(&mut self, alloc: Global) -> Vec<u8>
         ensures bytes { result.items ≡ self.old.bytes }
+        ensures none { self.new.bytes ≡ [] }
         ensures room { vec_capacity result ≡ self.old.room }
         ensures base { self.new.base ≡ self.old.base }
         ensures small { self.old.base + length self.old.bytes ≤ 65536 }

@@ -3,3 +3,4 @@ pub mod Operands
 pub mod Access
 pub mod Behind
 pub mod Stretch
+pub mod Children

@@ -1,6 +1,7 @@
 //! What a task hands over to a child.
 
 ghost use Rattle.std.specs.Prelude.{◌≡◌, ℕ, ◌+◌, ◌-◌, ◌≤◌, length, IsTrue, IsFalse, take, drop};
+ghost use Rattle.helpers.specs.Piece.{Piece};
 ghost use Rattle.interpreter.specs.Telling.{Took, Refused};
 
 use helpers::{Part, SpawnRecord, Spawner};
@@ -17,7 +18,8 @@ pub fn hand_over<S: Spawner>(
     part: &mut Part,
     spawner: &mut S,
 ) -> bool
-    requires { count ≤ length part.old.bytes }
+    requires few { count ≤ length part.old.bytes }
+    requires asks { (piece : Piece) → S.asks spawner.old (record { program = program; share = share; arg = arg; part = piece }) }
     ensures base { part.new.base ≡ part.old.base }
     ensures taken { IsTrue result → part.new.bytes ≡ take (length part.old.bytes - count) part.old.bytes }
     ensures took { IsTrue result →
@@ -28,6 +30,7 @@ pub fn hand_over<S: Spawner>(
         Refused (record { program = program; share = share; arg = arg; bytes = drop (length part.old.bytes - count) part.old.bytes })
         (part.old.base + (length part.old.bytes - count)) (λ child reply. S.spawns spawner.old child reply spawner.new)
         (spawner.new ≡ spawner.old) }
+    ensures entries { S.entries spawner.new ≡ S.entries spawner.old }
 {
     let Ok(piece) = part.cut(alloc, count) else {
         return false;

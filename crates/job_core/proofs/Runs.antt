@@ -1,7 +1,7 @@
 -- A task that is out of its place goes on along a schedule.
 use Rattle.std.proofs.Common.{◌≡◌, ℕ, zero, suc, ◌<◌, ◌≤◌, arith, ◌+◌, ◌-◌, List, [], ◌∷◌, ◌++◌, get_or, length, set, slice_get, take, take-append-drop, drop, refl, sym, ◌∙◌, ap, subst, Some, None}
 use Rattle.std.proofs.lemmas.Option.{slice_get_within, get_or_from_slice_get}
-use Rattle.std.proofs.lemmas.List.{append-nil, append_assoc, length-drop, set-get_or, set-set, take_more}
+use Rattle.std.proofs.lemmas.List.{append-nil, append_assoc, length-drop, set-set, take_more}
 use Rattle.std.proofs.Math.Seq.{take-length}
 use Rattle.machine_model.specs.Value.{Registers}
 use Rattle.machine_model.specs.Machine.{effect}
@@ -14,15 +14,19 @@ use Rattle.helpers.specs.Piece.{Piece}
 use Rattle.interpreter.specs.declared.frame.Frame.{Frame}
 use Rattle.interpreter.specs.Behind.{AreBehind, IsCovered, Did, at_slot, out_of, slot_after, state_of}
 use Rattle.interpreter.specs.declared.credit.Credit.{Credit}
+use Rattle.interpreter.specs.Children.{MayHandOver}
 use Rattle.interpreter.specs.Stretch.{GoesOn, Ran, spent_on}
+use Rattle.credit_book.specs.Books.{spawn_event}
+use Rattle.credit_book.specs.History.{May, table_of}
 use Rattle.job_core.specs.declared.ledger.Ledger.{Ledger}
 use Rattle.job_core.specs.declared.live.Live.{Live}
 use Rattle.job_core.specs.declared.tasks.Stepped.{Stepped}
 use Rattle.job_core.specs.declared.tasks.Stepped.TheVariants as stepped
 use Rattle.job_core.specs.declared.tasks.Tasks.{Tasks}
 use Rattle.job_core.specs.Behind.{Kept, IsBehind, LeadsOn, Plays, Steps}
-use Rattle.job_core.specs.Keeping.{kept_of}
-use Rattle.job_core.proofs.Ledgers.{Told, Asked, Noting, ledger_went, ledger_ended, still_out}
+use Rattle.job_core.specs.Keeping.{kept_of, AreStandings}
+use Rattle.job_core.proofs.Booking.{standings_alike}
+use Rattle.job_core.proofs.Ledgers.{Told, Asked, Ending, IsTaken, hands_over, ledger_went, ledger_ended, left, same_set}
 use Rattle.job_core.proofs.Plays.{plays_more, plays_none}
 use Rattle.job_core.proofs.Simulates.{live_at}
 
@@ -96,10 +100,6 @@ pub record IsUnderWay (old now : Kept) (numbers : List ℕ) (n : ℕ) (live : Li
   pub behind : (j : Job) × IsBehind (standing now n (living_at live slot)) j
   pub leads : LeadsOn old numbers (standing now n (living_at live slot))
 
--- a list with what stands in a place put there
-same_set : {X : Type 0} (xs : List X) (n : ℕ) (x : X) → slice_get xs n ≡ Some x → set xs n x ≡ xs
-same_set xs n x here = ap (set xs n) (sym (get_or_from_slice_get xs n x x here)) ∙ set-get_or xs n x
-
 -- the task is taken from its place
 pub sets_out : (kept : Kept) (n : ℕ) (live : Live) (code : Checked) → slice_get kept.lives n ≡ Some (Some live) →
     code ≡ get_or kept.programs live.program code → (j : Job) × IsBehind kept j →
@@ -115,6 +115,11 @@ sets_out kept n live code here read behind =
       behind = (behind.0, subst (λ k. IsBehind k behind.0) same behind.1);
       leads = subst (λ k. LeadsOn kept [] k) same (leads_none kept);
     }
+
+-- the task that is out of its place is the one whose turn it is, and the book has its credit
+pub record IsRunning (tasks : Tasks) (n : ℕ) (live : Live) : Type 0 where
+  pub turn : tasks.ledger.turn ≡ n
+  pub booked : AreStandings (set tasks.ledger.lives.items n (Some live)) tasks.ledger.book.history
 
 module _ (old : Kept) (tasks : Tasks) (numbers : List ℕ) (n : ℕ) (live : Live) (slot : ℕ) (code : Checked)
     (way : IsUnderWay old (kept_of tasks) numbers n live slot code) where
@@ -137,7 +142,27 @@ module _ (old : Kept) (tasks : Tasks) (numbers : List ℕ) (n : ℕ) (live : Liv
   pub lives_are : tasks.ledger.lives.items ≡ set place.lives n None
   lives_are = sym (set-set tasks.ledger.lives.items n (Some (living_at live slot)) None ∙ same_set tasks.ledger.lives.items n None way.out)
 
-  module _ (next : Next) (after : Live) (ledger : Ledger) (base : after.part.base ≡ live.part.base) (same_number : after.program ≡ live.program)
+  pub taken : IsRunning tasks n live → IsTaken place n tasks.ledger
+  taken running = record {
+    entries = refl;
+    lives = lives_are;
+    turn = running.turn;
+    ends = refl;
+    collected = refl;
+    spent = refl;
+    returned = refl;
+    issued = refl;
+    booked = standings_alike tasks.ledger.lives.items tasks.ledger.book.history n live (living_at live slot) refl running.booked;
+  }
+
+  -- whatever it may hand over is what the book takes
+  pub hands : IsRunning tasks n live → MayHandOver (slice_get tasks.ledger.entries.items) live.credit.held
+      (λ child. May (table_of tasks.ledger.book.history) (spawn_event tasks.ledger.turn (length (table_of tasks.ledger.book.history).standings) child))
+  hands running =
+      hands_over tasks.programs.items tasks.ledger.entries.items (set tasks.ledger.lives.items n (Some live)) tasks.ledger.book.history n tasks.ledger.turn
+      live.credit.held live way.behind.1.entries running.booked (set_same tasks.ledger.lives.items n (Some live) within) running.turn refl
+
+  module _ (running : IsRunning tasks n live) (next : Next) (after : Live) (ledger : Ledger) (base : after.part.base ≡ live.part.base) (same_number : after.program ≡ live.program)
       (did : (registers : Registers) → AreBehind code (at_slot live.frame slot) registers →
       Did code (effect (program_of code) (slice_get tasks.ledger.entries.items) (state_of (at_slot live.frame slot) live.part live.credit registers))
       (out_of next) (at_slot after.frame (slot_after slot next)) after.part after.credit
@@ -150,35 +175,49 @@ module _ (old : Kept) (tasks : Tasks) (numbers : List ℕ) (n : ℕ) (live : Liv
 
     -- it goes on
     pub way_on : (to : ℕ) → next ≡ At to → IsCovered code (at_slot after.frame to) after.part after.credit →
-        IsUnderWay old then_kept (numbers ++ n ∷ []) n after to code
+        IsUnderWay old then_kept (numbers ++ n ∷ []) n after to code × IsRunning (record tasks { ledger = ledger }) n after
     way_on to is covered =
         let reached : slot_after slot next ≡ to = ap (slot_after slot) is in
         let steps : (j : Job) → IsBehind place j → Steps place j n stepped.Went (standing then_kept n then_at) = λ j behind.
         ledger_went place n (living_at live slot) code (out_of next) then_at tasks.ledger ledger here way.read base same_number
-        refl lives_are refl refl refl refl did j behind (ap out_of is)
+        (taken running) did j behind (ap out_of is)
         (subst (λ s. IsCovered code (at_slot after.frame s) after.part after.credit) (sym reached) covered) in
         let first = steps way.behind.0 way.behind.1 in
-        subst (λ s. IsUnderWay old then_kept (numbers ++ n ∷ []) n after s code) reached (record {
-          out = still_out place n (living_at live slot) code (out_of next) then_at tasks.ledger ledger here way.read base same_number
-              refl lives_are refl refl refl refl did way.behind.0 way.behind.1;
-          read = way.read ∙ ap (λ number. get_or tasks.programs.items number code) (sym same_number);
-          behind = (first.1, first.3);
-          leads = leads_more old place (standing then_kept n then_at) numbers n stepped.Went way.leads refl steps;
-        })
+        let is_left = left place n (living_at live slot) code (out_of next) then_at tasks.ledger ledger here way.read base same_number
+        (taken running) did way.behind.0 way.behind.1 in (
+          subst (λ s. IsUnderWay old then_kept (numbers ++ n ∷ []) n after s code) reached (record {
+            out = is_left.out;
+            read = way.read ∙ ap (λ number. get_or tasks.programs.items number code) (sym same_number);
+            behind = (first.1, first.3);
+            leads = leads_more old place (standing then_kept n then_at) numbers n stepped.Went way.leads refl steps;
+          }),
+          record {
+            turn = is_left.turn;
+            booked = standings_alike ledger.lives.items ledger.book.history n then_at after refl is_left.booked;
+          },
+        )
 
     -- it ends
     pub way_ends : (j : Job) → IsBehind place j → (word : ℕ) → next ≡ Ended word →
-        Noting place n (living_at live slot) code (out_of next) then_at tasks.ledger ledger here way.read base same_number
-        refl lives_are refl refl refl refl did j word
+        Ending place n (living_at live slot) code (out_of next) then_at tasks.ledger ledger here way.read base same_number
+        (taken running) did j word
     way_ends j behind word is =
         ledger_ended place n (living_at live slot) code (out_of next) then_at tasks.ledger ledger here way.read base same_number
-        refl lives_are refl refl refl refl did j behind word (ap out_of is)
+        (taken running) did j behind word (ap out_of is)
 
 -- ---- a stretch of a task out of its place
 
 -- the task behind a stretch
 abbrev pub living_on : Live → ℕ → Frame → Piece → Live
 living_on live n frame part = record live { frame = frame; part = part; credit = spent_on live.credit n }
+
+-- it runs as the one ahead of it did
+pub running_on : (tasks : Tasks) (n : ℕ) (live : Live) (k : ℕ) (frame : Frame) (part : Piece) → IsRunning tasks n live →
+    IsRunning tasks n (living_on live k frame part)
+running_on tasks n live k frame part running = record {
+  turn = running.turn;
+  booked = standings_alike tasks.ledger.lives.items tasks.ledger.book.history n live (living_on live k frame part) refl running.booked;
+}
 
 -- no instruction, and so the same task
 no_stretch : (old now : Kept) (numbers ns : List ℕ) (n : ℕ) (live : Live) (slot : ℕ) (code : Checked) → IsUnderWay old now numbers n live slot code →
@@ -195,7 +234,7 @@ no_stretch old now numbers ns n live slot code way same =
     }
 
 module _ (old : Kept) (tasks : Tasks) (schedule : List ℕ) (gone n : ℕ) (live : Live) (slot : ℕ) (code : Checked)
-    (way : IsUnderWay old (kept_of tasks) (take gone schedule) n live slot code) where
+    (way : IsUnderWay old (kept_of tasks) (take gone schedule) n live slot code) (running : IsRunning tasks n live) where
   -- it goes on by so many instructions, where as many entries name it
   pub way_stretch : (k : ℕ) (mid : Frame) (mid_part : Piece) → GoesOn code live.credit k (at_slot live.frame slot) live.part mid mid_part →
       gone + k ≤ length schedule → ((i : ℕ) → i < gone + k → get_or schedule i 0 ≡ n) →
@@ -211,7 +250,7 @@ module _ (old : Kept) (tasks : Tasks) (schedule : List ℕ) (gone n : ℕ) (live
       let last = goes.3 in
       let lt : gone + k < length schedule = omega (arith, fits) in
       let before = way_stretch k from from_part goes.2 (omega (arith, fits)) (λ i less. named i (omega (arith, less))) in
-      let on = way_on old tasks (take (gone + k) schedule) n (living_on live k from from_part) from.slot code before.0
+      let on = way_on old tasks (take (gone + k) schedule) n (living_on live k from from_part) from.slot code before.0 (running_on tasks n live k from from_part running)
       (At mid.slot) (living_on live (suc k) mid mid_part) tasks.ledger last.base refl
       (λ registers behind.
       let goes_to = last.goes (slice_get tasks.ledger.entries.items) registers behind in
@@ -219,7 +258,7 @@ module _ (old : Kept) (tasks : Tasks) (schedule : List ℕ) (gone n : ℕ) (live
       mid.slot refl last.covered in
       let one_more : gone + k + 1 ≡ gone + suc k = omega arith in (
         subst (λ ns. IsUnderWay old (kept_of tasks) ns n (living_on live (suc k) mid mid_part) mid.slot code)
-            (sym (take_named schedule (gone + k) n lt (named (gone + k) (omega arith))) ∙ ap (λ m. take m schedule) one_more) on,
+            (sym (take_named schedule (gone + k) n lt (named (gone + k) (omega arith))) ∙ ap (λ m. take m schedule) one_more) on.0,
         last.base ∙ before.1,
       )
 

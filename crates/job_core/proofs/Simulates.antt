@@ -27,9 +27,10 @@ use Rattle.interpreter.specs.declared.frame.StepOut.TheVariants.{Went, Ended}
 use Rattle.interpreter.specs.Telling.{IsRecordOf}
 use Rattle.interpreter.specs.Behind.{AreBehind, IsCovered, state_of, Stands, Did, entry_frame}
 use Rattle.job_core.specs.declared.live.Live.{Live}
-use Rattle.job_core.specs.declared.report.TaskEnd.{TaskEnd}
+use Rattle.credit_book.specs.declared.event.TaskEnd.{TaskEnd}
 use Rattle.job_core.specs.declared.tasks.Stepped.TheVariants as stepped
-use Rattle.job_core.specs.Seats.{live_of, entered, Adds}
+use Rattle.job_core.specs.Seats.{live_of}
+use Rattle.job_core.proofs.Adding.{entered, Adds}
 use Rattle.job_core.specs.Behind.{Kept, end_of, IsTaskOf, IsLive, IsMemberOf, AreKept, AreEntries, IsBehind, Steps}
 use Rattle.interpreter.proofs.Enters.{covered_entry, behind_entry}
 use Rattle.job_core.proofs.OwnPrograms.{nobody}
@@ -376,7 +377,7 @@ program_some : (o : Option Checked) (entry : Entry) → option_map entry_of (opt
 program_some None entry e = cc
 program_some (Some q) entry e = (q, refl, cc)
 
-entry_program : (programs : List Checked) (number : ℕ) (entry : Entry) → entries_of (map program_of programs) number ≡ Some entry →
+pub entry_program : (programs : List Checked) (number : ℕ) (entry : Entry) → entries_of (map program_of programs) number ≡ Some entry →
     (q : Checked) × (slice_get programs number ≡ Some q) × (entry ≡ entry_of (program_of q))
 entry_program programs number entry e =
     program_some (slice_get programs number) entry (ap (option_map entry_of) (sym (slice_get-map program_of programs number)) ∙ e)
@@ -385,7 +386,7 @@ map_twice : (o : Option Checked) → option_map (λ (p : Checked). entry_of (pro
 map_twice None = refl
 map_twice (Some p) = refl
 
-entries_same : (programs : List Checked) (entries : List Entry) → AreEntries programs entries → (n : ℕ) →
+pub entries_same : (programs : List Checked) (entries : List Entry) → AreEntries programs entries → (n : ℕ) →
     slice_get entries n ≡ entries_of (map program_of programs) n
 entries_same programs entries are n =
     ap (λ es. slice_get es n) are.are ∙ slice_get-map (λ (p : Checked). entry_of (program_of p)) programs n
@@ -396,23 +397,6 @@ kept_same : (kept : Kept) (lives lives' : List (Option Live)) (ends ends' : List
     AreKept (going kept lives ends) k → AreKept (going kept lives' ends') k
 kept_same kept lives lives' ends ends' k e f are =
     subst (λ ls. AreKept (going kept ls ends') k) (sym e) (subst (λ es. AreKept (going kept lives es) k) (sym f) are)
-
--- a step told a spawner or didn't
-pub did_either : (E : Type 0) (p : Checked) (e : Effect) (out : StepOut) (frame : Frame) (part : Piece) (credit : Credit) (silent : Type 0)
-    (told : SpawnRecord → Result (Unit {0}) SpawnRecord → Type 0) → (silent → E) →
-    ((child : SpawnRecord) (reply : Result (Unit {0}) SpawnRecord) → told child reply → E) → Did p e out frame part credit silent told nobody → E
-did_either E p (Goes s) Went frame part credit silent told first second d = first d.1
-did_either E p (Ends r0 s) (Ended word) frame part credit silent told first second d = first d.2
-did_either E p (Spawns birth taken refused) Went frame part credit silent told first second d = elim d [
-  | inl t ↦ second t.1.0 (Ok tt) t.1.2
-  | inr r ↦ elim r.1 [ inl back ↦ second back.0 (Err back.0) back.2 | inr quiet ↦ first quiet ]
-]
-did_either E p (Goes s) (Ended word) frame part credit silent told first second d = absurd d
-did_either E p (Ends r0 s) Went frame part credit silent told first second d = absurd d
-did_either E p (Spawns birth taken refused) (Ended word) frame part credit silent told first second d = absurd d
-did_either E p (Calls helper arguments s) Went frame part credit silent told first second d = absurd d.2
-did_either E p (Calls helper arguments s) (Ended word) frame part credit silent told first second d = absurd d
-did_either E p (Traps trap) out frame part credit silent told first second d = absurd d
 
 module _ (kept : Kept) (j : Job) (n : ℕ) (live : Live) (behind : IsBehind kept j) (at : IsLiveAt kept j n live)
     (frame : Frame) (part : Piece) (credit : Credit) (base : part.base ≡ live.part.base)

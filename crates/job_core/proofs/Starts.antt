@@ -1,11 +1,11 @@
 -- The job at its start stands behind what is kept of it.
 use Rattle.std.proofs.Common.{◌≡◌, ℕ, zero, suc, ◌<◌, ◌≤◌, ◌+◌, inl, inr, List, [], ◌∷◌, ◌++◌, map, get_or, length, take, replicate, slice_get, refl, sym, ◌∙◌, arith, ap, subst, Option, Some, None, false}
-use Rattle.std.proofs.lemmas.List.{take_more, length-map}
+use Rattle.std.proofs.lemmas.List.{take_more, length-map, length-replicate}
 use Rattle.std.proofs.Math.Seq.{take-length}
 use Rattle.machine_model.specs.declared.program.Entry.{Entry}
 use Rattle.machine_model.specs.Machine.{State}
 use Rattle.interpreter.specs.declared.frame.Frame.{Frame}
-use Rattle.job_core.specs.declared.report.TaskEnd.{TaskEnd}
+use Rattle.credit_book.specs.declared.event.TaskEnd.{TaskEnd}
 use Rattle.machine_model.specs.Job as job
 use Rattle.machine_model.specs.Job.{Job, Task, Member, start, AreTiles, Owner, IsApart, base_of, size_of, entry_registers, state_in, entry_of}
 use Rattle.machine_model.proofs.Places.{pushed}
@@ -15,6 +15,12 @@ use Rattle.interpreter.specs.Behind.{entry_frame, AreBehind}
 use Rattle.job_core.specs.declared.live.Live.{Live}
 use Rattle.job_core.specs.Living.{Living}
 use Rattle.interpreter.specs.declared.credit.Credit.{Credit}
+use Rattle.credit_book.specs.declared.event.Event.TheVariants.{Open}
+use Rattle.credit_book.specs.declared.task.Ticket.{Ticket}
+use Rattle.credit_book.specs.Books.{Account, root_ticket}
+use Rattle.credit_book.specs.Buffers.{buffer_of}
+use Rattle.credit_book.specs.History.{table_of, spent_in, returned_in}
+use Rattle.job_core.specs.Keeping.{AreStandings}
 use Rattle.job_core.specs.Behind.{Kept, end_of, IsTaskOf, IsLive, IsMemberOf, AreEntries, IsBehind}
 use Rattle.helpers.specs.Table.{job_table}
 use Rattle.job_core.specs.Admitted.{Order, IsAdmitted}
@@ -171,20 +177,39 @@ pub living_is : (l : Living) (program : ℕ) (frame : Frame) (part : Piece) (cre
     l.part ≡ part → l.credit ≡ credit → let m : Living = record { program = program; frame = frame; part = part; credit = credit } in l ≡ m
 living_is l program frame part credit e1 e2 e3 e4 = rw (← e1, ← e2, ← e3, ← e4) refl
 
--- what a world keeps once it is opened
-pub opened : (order : Order) (entries : List Entry) (frame : Frame) (part : Piece) (size : ℕ) (none lives : List (Option Live)) (none' ends : List TaskEnd)
-    (zeros : List ℕ) → IsAdmitted order → AreEntries order.programs entries → part.bytes ≡ order.buffer → part.base ≡ 0 → frame ≡ entry_frame size 0 →
-    size ≡ length order.buffer → none ≡ [] →
-    lives ≡ none ++ Some (record { program = 0; frame = frame; part = part; credit = record { held = order.credit; used = 0 } }) ∷ [] →
-    none' ≡ [] → ends ≡ none' ++ root_end order.credit ∷ [] → length zeros ≡ size →
-    IsBehind (record { programs = order.programs; entries = entries; lives = lives; ends = ends; collected = zeros; spent = 0; returned = 0; issued = order.credit })
-    (start order.credit order.buffer)
-opened order entries frame part size none lives none' ends zeros is are bytes base entered long e f e' f' count =
-    let first = start_behind order entries part is are bytes base zeros (count ∙ long) in
-    let frame_is : entry_frame (length part.bytes) 0 ≡ frame = ap (λ n. entry_frame n 0) (ap length bytes ∙ sym long) ∙ sym entered in
-    let lives_are : Some (root_live order.credit part) ∷ [] ≡ lives =
-    ap (λ (g : Frame). let root : Live = record { program = 0; frame = g; part = part; credit = record { held = order.credit; used = 0 } } in Some root ∷ []) frame_is
-    ∙ ap (λ ls. ls ++ Some (record { program = 0; frame = frame; part = part; credit = record { held = order.credit; used = 0 } }) ∷ []) (sym e) ∙ sym f in
-    let ends_are : root_end order.credit ∷ [] ≡ ends = ap (λ es. es ++ root_end order.credit ∷ []) (sym e') ∙ sym f' in
-    subst (λ es. IsBehind (record { programs = order.programs; entries = entries; lives = lives; ends = es; collected = zeros; spent = 0; returned = 0; issued = order.credit }) (start order.credit order.buffer)) ends_are
-    (subst (λ ls. IsBehind (record { programs = order.programs; entries = entries; lives = ls; ends = root_end order.credit ∷ []; collected = zeros; spent = 0; returned = 0; issued = order.credit }) (start order.credit order.buffer)) lives_are first)
+-- the root's task starts with its ticket
+root_entered : (l : Living) (ticket : Ticket) (job issued : ℕ) (part : Piece) → ticket ≡ root_ticket job issued part → l.program ≡ ticket.program →
+    l.frame ≡ entry_frame (length ticket.part.bytes) ticket.arg → l.part ≡ ticket.part → l.credit ≡ record { held = ticket.held; used = 0 } →
+    l ≡ root_live issued part
+root_entered l ticket job issued part is e1 e2 e3 e4 =
+    living_is l 0 (entry_frame (length part.bytes) 0) part (record { held = issued; used = 0 })
+    (e1 ∙ ap (λ (t : Ticket). t.program) is) (e2 ∙ ap (λ (t : Ticket). entry_frame (length t.part.bytes) t.arg) is)
+    (e3 ∙ ap (λ (t : Ticket). t.part) is) (e4 ∙ ap (λ (t : Ticket). let c : Credit = record { held = t.held; used = 0 } in c) is)
+
+-- what a world keeps once it is opened, and what its book has of the root
+pub opened : (order : Order) (programs : List Checked) (entries : List Entry) (lives : List (Option Live)) (book : Account) (part : Piece) (ticket : Ticket) (root : Living) (none : List (Option Live)) (number job issued : ℕ) →
+    IsAdmitted order → AreEntries order.programs entries → programs ≡ order.programs →
+    part.bytes ≡ order.buffer → part.base ≡ 0 → issued ≡ order.credit → book.board.issued ≡ order.credit →
+    book.history ≡ Open number order.credit ∷ [] → book.size ≡ length part.bytes →
+    ticket ≡ root_ticket job issued part → root.program ≡ ticket.program → root.frame ≡ entry_frame (length ticket.part.bytes) ticket.arg →
+    root.part ≡ ticket.part → root.credit ≡ record { held = ticket.held; used = 0 } →
+    none ≡ [] → lives ≡ none ++ Some root ∷ [] →
+    IsBehind (record {
+      programs = programs;
+      entries = entries;
+      lives = lives;
+      ends = (table_of book.history).tasks;
+      collected = buffer_of book.size book.history;
+      spent = spent_in (table_of book.history);
+      returned = returned_in (table_of book.history);
+      issued = book.board.issued;
+    }) (start order.credit order.buffer)
+    × AreStandings lives book.history
+opened order programs entries lives book part ticket root none number job issued is are same bytes base credit board history size is_ticket e1 e2 e3 e4 e f =
+    let zeros : List ℕ = replicate (length part.bytes) 0 in
+    let long : length zeros ≡ length order.buffer = length-replicate (length part.bytes) 0 ∙ ap length bytes in
+    let root_is : root ≡ root_live order.credit part =
+    root_entered root ticket job issued part is_ticket e1 e2 e3 e4 ∙ ap (λ n. root_live n part) credit in
+    let lives_are : lives ≡ Some (root_live order.credit part) ∷ [] =
+    f ∙ ap (λ ls. ls ++ Some root ∷ []) e ∙ ap (λ (l : Living). Some l ∷ []) root_is in
+    rw (same, lives_are, history, size, board) (start_behind order entries part is are bytes base zeros long, refl)

@@ -1,7 +1,7 @@
 -- What a world answers of the job behind it.
 use Rattle.std.specs.Prelude.{◌≡◌, ℕ, length, slice_get, sum_by, Some}
 use Rattle.machine_model.specs.Job.{Job, Member, held_by, returned_by, spent_by, used_by}
-use Rattle.job_core.specs.declared.report.Report.{Report}
+use Rattle.credit_book.specs.declared.book.Report.{Report}
 use Rattle.job_core.specs.declared.totals.Totals.{Totals}
 use Rattle.job_core.specs.Behind.{end_of}
 

@@ -8,7 +8,7 @@ use Rattle.verifier.specs.Checked.{Checked, program_of, IsVerified}
 use Rattle.interpreter.specs.Behind.{AreBehind, IsCovered, state_of}
 use Rattle.job_core.specs.Admitted.{AreOwn}
 use Rattle.job_core.specs.declared.live.Live.{Live}
-use Rattle.job_core.specs.declared.report.TaskEnd.{TaskEnd}
+use Rattle.credit_book.specs.declared.event.TaskEnd.{TaskEnd}
 use Rattle.job_core.specs.declared.tasks.Stepped.{Stepped}
 use Rattle.job_core.specs.declared.tasks.Stepped.TheVariants.{Skipped, Went, Ended}
 

@@ -1,32 +1,68 @@
 //! The tasks by number, and the spawner that adds to them.
 
-ghost use Rattle.std.specs.Prelude.{◌≡◌, ◌≤◌, vec_len};
+ghost use Rattle.std.specs.Prelude.{◌≡◌, ◌≤◌, [], ◌∷◌, ◌++◌, true, vec_len};
+ghost use Rattle.credit_book.specs.declared.event.Event.TheVariants.{End};
+ghost use Rattle.credit_book.specs.declared.event.Stage.TheVariants.{Fresh};
+ghost use Rattle.credit_book.specs.History.{table_of, standing_at};
 
 use crate::live::{Live, Vacant};
-use crate::report::{Report, TaskEnd};
+use credit_book::{Book, BookFault, Outcome, Refused};
 use helpers::{Entry, SpawnRecord, Spawner};
 use std::alloc::Global;
 
-/// The live tasks by number, the report of all of them, and what a spawn has to know of each program.
+/// The live tasks by number, the book of all of them, and what a spawn has to know of each program. `turn` is the number of the task
+/// that runs, and `parents` has the number of each task's parent, from the first child on.
 #[derive(Drop)]
 pub struct Ledger {
     pub alloc: Global,
     pub entries: Vec<Entry>,
     pub lives: Vec<Option<Live>>,
-    pub report: Report,
+    pub book: Book,
+    pub turn: u32,
+    pub parents: Vec<u32>,
     ghost few: { vec_len entries ≤ 65536 },
 }
 
+impl Ledger {
+    /// Ends the task of a number: what it used of its credit is spent, the rest comes back, and the bytes of its part are collected.
+    pub fn end(&mut self, number: u32, live: Live, r0: u64)
+        requires standing { standing_at (table_of self.old.book.history) number ≡ record { held = live.credit.held; stage = Fresh } }
+        requires used { live.credit.used ≤ live.credit.held }
+        ensures history { self.new.book.history
+            ≡ self.old.book.history ++ End number live.credit.used r0 true live.part.base live.part.bytes ∷ [] }
+        ensures book { (self.new.book.board ≡ self.old.book.board) × (self.new.book.size ≡ self.old.book.size) }
+        ensures same { (self.new.entries.items ≡ self.old.entries.items) × (self.new.lives.items ≡ self.old.lives.items)
+            × (self.new.turn ≡ self.old.turn) × (self.new.parents.items ≡ self.old.parents.items) }
+    {
+        let outcome = Outcome {
+            job: self.book.job(),
+            number,
+            used: live.credit().used,
+            r0,
+            ran: true,
+            part: live.into_part(),
+        };
+        match self.book.end(outcome) {
+            Ok(_) => {}
+            Err(_) => unreachable!(),
+        }
+    }
+}
+
 impl Spawner for Ledger {
-    ghost use Rattle.std.specs.Prelude.{◌≡◌, slice_get};
-    ghost use Rattle.job_core.specs.Seats.{Adds};
+    ghost use Rattle.std.specs.Prelude.{◌≡◌, length, slice_get};
+    ghost use Rattle.credit_book.specs.History.{May, table_of};
+    ghost use Rattle.credit_book.specs.Books.{spawn_event};
+    ghost use Rattle.job_core.specs.Seats.{Enters};
 
     ghost entries = { λ ledger. slice_get ledger.entries.items };
 
-    ghost spawns = { λ old child reply new. (new.entries.items ≡ old.entries.items)
-        × Adds old.lives.items old.report.tasks.items child reply new.lives.items new.report.tasks.items
-        × (new.report.buffer.items ≡ old.report.buffer.items)
-        × (new.report.spent ≡ old.report.spent) × (new.report.returned ≡ old.report.returned) };
+    ghost asks = { λ ledger child.
+        May (table_of ledger.book.history) (spawn_event ledger.turn (length (table_of ledger.book.history).standings) child) };
+
+    ghost spawns = { λ old child reply new. (new.entries.items ≡ old.entries.items) × (new.turn ≡ old.turn)
+        × (new.book.board ≡ old.book.board) × (new.book.size ≡ old.book.size)
+        × Enters old.turn old.lives.items old.parents.items old.book.history child reply new.lives.items new.parents.items new.book.history };
 
     ghost calls = { λ old helper arguments answer new. (answer ≡ 0) × (new ≡ old) };
 
@@ -36,29 +72,26 @@ impl Spawner for Ledger {
     }
 
     fn spawn(&mut self, child: SpawnRecord) -> Result<(), SpawnRecord> {
-        // A number is given as long as it fits. A job has fewer tasks than credit, so it always does.
-        let Ok(number) = u32::try_from(self.lives.len()) else {
-            return Err(child);
-        };
-        if self.lives.reserve(1).is_err() || self.report.tasks.reserve(1).is_err() {
+        // Room is found first: a spawn in the book can't be undone.
+        if self.lives.reserve(1).is_err() || self.parents.reserve(1).is_err() {
             return Err(child);
         }
         let Ok(place) = Vacant::new(self.alloc) else {
             return Err(child);
         };
-        let entered = TaskEnd {
-            number,
-            program: child.program,
-            arg: child.arg,
-            given: child.share,
-            spent: 0,
-            rest: 0,
-            r0: 0,
-            ran: false,
-        };
-        let _ = self.lives.push(Some(place.enter(child)));
-        let _ = self.report.tasks.push(entered);
-        Ok(())
+        match self.book.spawn(self.turn, child) {
+            Ok(ticket) => {
+                let _ = self.lives.push(Some(place.enter(ticket)));
+                let _ = self.parents.push(self.turn);
+                Ok(())
+            }
+            Err(Refused { fault, value }) => match fault {
+                BookFault::NoMemory => Err(value),
+                BookFault::Stranger => unreachable!(),
+                BookFault::OverSpent => unreachable!(),
+                BookFault::CreditLow => unreachable!(),
+            },
+        }
     }
 
     /// A job's programs call no helper of a caller's, so that nobody asks.

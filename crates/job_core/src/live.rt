@@ -7,9 +7,11 @@ ghost use Rattle.machine_model.specs.Value.{Registers};
 ghost use Rattle.verifier.specs.Checked.{program_of};
 ghost use Rattle.interpreter.specs.Behind.{AreBehind, IsCovered, Did, state_of, entry_frame, at_slot, out_of, slot_after};
 ghost use Rattle.interpreter.specs.Stretch as stretch;
+ghost use Rattle.interpreter.specs.Children.{MayHandOver};
 ghost use Rattle.job_core.specs.Living.{Living};
 
-use helpers::{Part, SpawnRecord, Spawner};
+use credit_book::Ticket;
+use helpers::{Part, Spawner};
 use interpreter::{Credit, Frame, Next, Ran};
 use refusal::NoMemory;
 use std::alloc::Global;
@@ -32,8 +34,6 @@ pub struct Vacant {
 }
 
 impl Vacant {
-    ghost use Rattle.helpers.specs.declared.spawner.SpawnRecord.{SpawnRecord};
-
     /// A place in memory of its own.
     pub fn new(alloc: Global) -> Result<Vacant, NoMemory> {
         let body = Body {
@@ -46,29 +46,25 @@ impl Vacant {
         })
     }
 
-    /// Starts a task in it.
-    pub fn enter(self, child: SpawnRecord) -> Live
-        ensures program { result.program ≡ child.program }
-        ensures frame { result.frame ≡ entry_frame (length child.part.bytes) child.arg }
-        ensures part { result.part ≡ child.part }
-        ensures credit { result.credit ≡ record { held = child.share; used = 0 } }
+    /// Starts the task of a ticket in it.
+    pub fn enter(self, ticket: Ticket) -> Live
+        ensures program { result.program ≡ ticket.program }
+        ensures frame { result.frame ≡ entry_frame (length ticket.part.bytes) ticket.arg }
+        ensures part { result.part ≡ ticket.part }
+        ensures credit { result.credit ≡ record { held = ticket.held; used = 0 } }
+        ensures arg { ticket.arg < 2 ^ 64 }
     {
         let Vacant { mut body } = self;
-        let SpawnRecord {
-            program,
-            share,
-            arg,
-            part,
-        } = child;
-        body.program = program;
-        body.frame.enter(part.len() as u32, arg);
-        body.part = part;
+        let credit = Credit {
+            held: ticket.held(),
+            used: 0,
+        };
+        body.program = ticket.program();
+        body.frame.enter(ticket.part().len() as u32, ticket.arg());
+        body.part = ticket.into_part();
         Live {
             slot: 0,
-            credit: Credit {
-                held: share,
-                used: 0,
-            },
+            credit,
             body,
         }
     }
@@ -114,6 +110,15 @@ impl Live {
         &self.body.part
     }
 
+    /// Its part, once it has ended.
+    pub fn into_part(self) -> Part
+        ensures { result ≡ self.part }
+    {
+        let Live { body, .. } = self;
+        let Body { part, .. } = Box::into_inner(body);
+        part
+    }
+
     /// The credit that it holds, and what it has used of it.
     pub fn credit(&self) -> Credit
         ensures { result ≡ self.now.credit }
@@ -150,6 +155,7 @@ impl Live {
     ) -> Ran
         requires covered { IsCovered code.now (at_slot self.old.frame slot) self.old.part self.old.credit }
         requires some { 0 < limit }
+        requires children { MayHandOver (S.entries spawner.old) self.old.credit.held (S.asks spawner.old) }
         ensures ran { stretch.Ran code.now self.old.credit limit result.count (at_slot self.old.frame slot) self.old.part (λ frame part credit.
             (registers : Registers) → AreBehind code.now frame registers →
             Did code.now (effect (program_of code.now) (S.entries spawner.old) (state_of frame part credit registers))
@@ -161,6 +167,7 @@ impl Live {
         ensures program { self.new.program ≡ self.old.program }
         ensures slot { self.new.frame.slot ≡ self.old.frame.slot }
         ensures most { result.count ≤ limit }
+        ensures entries { S.entries spawner.new ≡ S.entries spawner.old }
     {
         let body = &mut *self.body;
         body.frame.run_at(

@@ -19,6 +19,8 @@ impl Spawner for Refusing {
 
     ghost entries = { λ _ n. if n == 0 then Some (record { cost = 2; need = 0 }) else None };
 
+    ghost asks = { λ old child. Unit {0} };
+
     ghost spawns = { λ old child reply new. reply ≡ Err child };
 
     ghost calls = { λ old helper arguments answer new. answer ≡ 0 };

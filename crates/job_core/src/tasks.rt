@@ -8,12 +8,11 @@ use interpreter::Next;
 use std::alloc::Global;
 use verifier::Verified;
 
-/// The programs and tasks of a job, and the credit that was issued.
+/// The programs and tasks of a job.
 #[derive(Drop)]
 pub struct Tasks {
     pub programs: Vec<Verified>,
     pub ledger: Ledger,
-    pub issued: u32,
 }
 
 /// What a step of a world has come to: no task of that number is alive, or the task went on, or it ended with R0.
@@ -27,13 +26,15 @@ pub enum Stepped {
 impl Tasks {
     ghost use Rattle.machine_model.specs.Job.{Job};
     ghost use Rattle.job_core.specs.Behind.{IsBehind, Steps, LeadsOn};
-    ghost use Rattle.job_core.specs.Keeping.{kept_of};
+    ghost use Rattle.job_core.specs.Keeping.{kept_of, IsBooked};
 
     /// One instruction of a task, if it is alive.
     pub fn step(&mut self, alloc: Global, number: u32) -> Stepped
-        requires { (j : Job) × IsBehind (kept_of self.old) j }
+        requires behind { (j : Job) × IsBehind (kept_of self.old) j }
+        requires booked { IsBooked self.old }
         ensures steps { (j : Job) → IsBehind (kept_of self.old) j → Steps (kept_of self.old) j number result (kept_of self.new) }
         ensures programs { self.new.programs.items ≡ self.old.programs.items }
+        ensures booked { IsBooked self.new }
     {
         let Some(place) = self.ledger.lives.get_mut(number as usize) else {
             return Stepped::Skipped;
@@ -42,6 +43,7 @@ impl Tasks {
             return Stepped::Skipped;
         };
         let code = &self.programs[live.program() as usize];
+        self.ledger.turn = number;
         let ran = live.run_at(alloc, code, live.slot(), 1, &mut self.ledger);
         match ran.next {
             Next::At(next) => {
@@ -50,9 +52,7 @@ impl Tasks {
                 Stepped::Went
             }
             Next::Ended(r0) => {
-                self.ledger
-                    .report
-                    .end(number, live.credit(), r0, live.part());
+                self.ledger.end(number, live, r0);
                 Stepped::Ended(r0)
             }
         }
@@ -64,17 +64,15 @@ impl Tasks {
     /// The task is taken from its place, and its program looked up, but once. Where it isn't alive, all these entries are passed over.
     pub fn run<'a>(&mut self, alloc: Global, schedule: &'a [u32]) -> &'a [u32]
         requires behind { (j : Job) × IsBehind (kept_of self.old) j }
+        requires booked { IsBooked self.old }
         requires some { 0 < length schedule.now }
         ensures leads { (numbers : List ℕ) × (schedule.now ≡ numbers ++ result.now) × LeadsOn (kept_of self.old) numbers (kept_of self.new) }
+        ensures booked { IsBooked self.new }
         ensures shorter { length result.now < length schedule.now }
     {
         let number = schedule[0];
         let named = named_alike(schedule);
-        let Tasks {
-            programs,
-            ledger,
-            ..
-        } = self;
+        let Tasks { programs, ledger } = self;
         let Some(place) = ledger.lives.get_mut(number as usize) else {
             return &schedule[named..];
         };
@@ -82,6 +80,7 @@ impl Tasks {
             return &schedule[named..];
         };
         let code = &programs[live.program() as usize];
+        ledger.turn = number;
         let mut slot = live.slot();
         let mut gone = 0;
         while gone < named {
@@ -90,7 +89,7 @@ impl Tasks {
             match ran.next {
                 Next::At(next) => slot = next,
                 Next::Ended(r0) => {
-                    ledger.report.end(number, live.credit(), r0, live.part());
+                    ledger.end(number, live, r0);
                     return &schedule[gone..];
                 }
             }

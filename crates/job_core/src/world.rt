@@ -6,11 +6,11 @@ use crate::filling::fill;
 use crate::job::Job;
 use crate::ledger::Ledger;
 use crate::live::Vacant;
-use crate::report::{Report, TaskEnd};
 use crate::room::room_of;
 use crate::tasks::{Stepped, Tasks};
 use crate::totals::{Totals, used_by_live};
-use helpers::{Entry, Part, SpawnRecord};
+use credit_book::{Board, Book, Report};
+use helpers::{Entry, Part};
 use refusal::NoMemory;
 use std::alloc::Global;
 use std::marker::Model;
@@ -24,13 +24,13 @@ pub struct World {
 impl Model for World {
     ghost use Rattle.machine_model.specs.Job.{Job};
     ghost use Rattle.job_core.specs.Behind.{Kept, IsBehind};
-    ghost use Rattle.job_core.specs.Keeping.{kept_of};
+    ghost use Rattle.job_core.specs.Keeping.{kept_of, IsBooked};
 
     ghost Value = { Kept };
 
     ghost view = { λ w. kept_of w.tasks };
 
-    ghost invariant = { λ w. (j : Job) × IsBehind (kept_of w.tasks) j };
+    ghost invariant = { λ w. (j : Job) × IsBehind (kept_of w.tasks) j × IsBooked w.tasks };
 }
 
 impl World {
@@ -59,33 +59,10 @@ impl World {
                 need,
             })?;
         }
-        let size = buffer.len();
-        let root = Vacant::new(alloc)?.enter(SpawnRecord {
-            program: 0,
-            share: credit,
-            arg: 0,
-            part: Part::whole(buffer),
-        });
+        let (_, post, _) = Board::open(alloc, 0, credit)?;
+        let (book, ticket) = Book::open(alloc, post, Part::whole(buffer))?;
         let mut lives = Vec::new(alloc);
-        lives.push(Some(root))?;
-        let mut tasks = Vec::new(alloc);
-        tasks.push(TaskEnd {
-            number: 0,
-            program: 0,
-            arg: 0,
-            given: credit,
-            spent: 0,
-            rest: 0,
-            r0: 0,
-            ran: false,
-        })?;
-        let collected = vec![in alloc; 0; size]?;
-        let report = Report {
-            spent: 0,
-            returned: 0,
-            buffer: collected,
-            tasks,
-        };
+        lives.push(Some(Vacant::new(alloc)?.enter(ticket)))?;
         Ok(World {
             tasks: Tasks {
                 programs,
@@ -93,9 +70,10 @@ impl World {
                     alloc,
                     entries,
                     lives,
-                    report,
+                    book,
+                    turn: 0,
+                    parents: Vec::new(alloc),
                 },
-                issued: credit,
             },
         })
     }
@@ -137,25 +115,25 @@ impl World {
         }
     }
 
-    /// Whether no task is alive: each live one holds some of the credit, so that what was issued is spent or returned.
+    /// Whether no task is alive.
     fn complete(&self) -> bool
         ensures { (j : model.Job) → IsBehind self.now j → (IsTrue result ↔ IsComplete j) }
     {
-        let report = &self.tasks.ledger.report;
-        report.spent + report.returned == self.tasks.issued
+        self.tasks.ledger.book.progress().complete
     }
 
     /// The credit that live tasks hold, and that ended tasks returned and spent, and what all of them have used.
     pub fn totals(&self) -> Totals
         ensures { (j : model.Job) → IsBehind self.now j → AreTotals result j }
     {
-        let report = &self.tasks.ledger.report;
+        let book = &self.tasks.ledger.book;
+        let progress = book.progress();
         let used = used_by_live(&self.tasks.ledger.lives);
         Totals {
-            held: self.tasks.issued - report.spent - report.returned,
-            returned: report.returned,
-            spent: report.spent,
-            used: report.spent + used,
+            held: book.issued() - progress.spent - progress.returned,
+            returned: progress.returned,
+            spent: progress.spent,
+            used: progress.spent + used,
         }
     }
 
@@ -164,7 +142,7 @@ impl World {
         ensures { IfOk result (λ buffer. (j : model.Job) → IsBehind self.now j → buffer.items ≡ j.buffer) }
     {
         let mut buffer = Vec::new(alloc);
-        buffer.extend_from_slice(&self.tasks.ledger.report.buffer)?;
+        buffer.extend_from_slice(self.tasks.ledger.book.collected())?;
         fill(&mut buffer, &self.tasks.ledger.lives);
         Ok(buffer)
     }
@@ -174,11 +152,7 @@ impl World {
         ensures some { (j : model.Job) → IsBehind self.now j → (IsSome result ↔ IsComplete j) }
         ensures value { (j : model.Job) → IsBehind self.now j → IfSome result (λ report. IsReportOf report.now j) }
     {
-        if self.complete() {
-            Some(&self.tasks.ledger.report)
-        } else {
-            None
-        }
+        self.tasks.ledger.book.report()
     }
 
     /// Gives the report up where no task is alive, and else the world back as it was.
@@ -190,18 +164,12 @@ impl World {
             return Err(self);
         }
         let World { tasks } = self;
-        let Tasks {
-            programs: _,
-            ledger,
-            issued: _,
-        } = tasks;
-        let Ledger {
-            alloc: _,
-            entries: _,
-            lives: _,
-            report,
-        } = ledger;
-        Ok(report)
+        let Tasks { ledger, .. } = tasks;
+        let Ledger { book, .. } = ledger;
+        match book.close() {
+            Ok(report) => Ok(report),
+            Err(_) => unreachable!(),
+        }
     }
 }
 

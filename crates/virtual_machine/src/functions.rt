@@ -73,6 +73,8 @@ impl Spawner for Functions {
 
     ghost entries = { λ s. no_entries };
 
+    ghost asks = { λ s child. Unit {0} };
+
     ghost spawns = { λ s child reply s'. (s' ≡ s) × (reply ≡ Err child) };
 
     ghost calls = { λ s id arguments answer s'. (s' ≡ s) × may_answer (function_of s.places.items id) arguments answer };

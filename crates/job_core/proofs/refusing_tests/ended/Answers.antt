@@ -16,5 +16,8 @@ loop-init c =
     rw (c.enter.ensures)
     (subst (λ size. IsCovered c.args.program.now (entry_frame size 0) c.whole-part.result (record { held = c.args.held; used = 0 })) none covered)
 
-pub step-requires : goal.step-requires
-step-requires c = c.loop.invariant
+pub step-requires-clause-covered : goal.step-requires-clause-covered
+step-requires-clause-covered c = c.loop.invariant
+
+pub step-requires-clause-children : goal.step-requires-clause-children
+step-requires-clause-children c = record { each = λ child entry there covers leaves. tt }

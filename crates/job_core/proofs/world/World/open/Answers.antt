@@ -1,9 +1,10 @@
-use Rattle.std.proofs.Common.{◌≡◌, ◌≤◌, ◌∙◌, ◌∷◌, ◌++◌, [], Some, ap, sym, refl, arith, rules, length, slice_get}
+use Rattle.std.proofs.Common.{◌≤◌, ◌∙◌, ap, sym, refl, arith, rules, length, slice_get}
 use Rattle.std.proofs.lemmas.Option.{slice_get_read}
-use Rattle.interpreter.specs.Behind.{entry_frame}
-use Rattle.job_core.specs.Living.{Living}
+use Rattle.credit_book.specs.Boards.{Sign}
 use Rattle.machine_model.specs.Job.{start}
-use Rattle.job_core.proofs.Starts.{entries_none, entries_more, entries_past, entries_long, entry_is, living_is, opened}
+use Rattle.job_core.specs.Admitted.{Order}
+use Rattle.job_core.proofs.Ledgers.{cost_some}
+use Rattle.job_core.proofs.Starts.{entries_none, entries_more, entries_past, entries_long, entry_is, opened}
 use Rattle.job_core.proofs.world.World.open.Goals as goal
 
 pub loop-program-init : goal.loop-program-init
@@ -28,35 +29,40 @@ invariant_of-result c =
     let few : length c.loop-program.entries.items ≤ 65536 = omega (arith, long, c.job.invariant.few) in
     record { few = search (rules, few) }
 
+pub open-requires : goal.open-requires
+open-requires c =
+    let past : length c.deref-program-items.result.now ≤ c.loop-program.program-index = omega (arith, c.loop-program-test.false) in
+    let are = entries_past c.deref-program-items.result.now c.job.inside.programs.items c.loop-program.program-index c.loop-program.entries.items
+    c.deref-program-items.ensures.value past c.loop-program.invariant in
+    let some = cost_some c.job.invariant.root (are.verified 0 c.job.invariant.root c.job.invariant.is_root) in
+    (omega (arith, some, c.job.invariant.cost), c.job.invariant.limit)
+
 pub invariant_of-result-2 : goal.invariant_of-result-2
 invariant_of-result-2 c =
     let past : length c.deref-program-items.result.now ≤ c.loop-program.program-index = omega (arith, c.loop-program-test.false) in
     let are = entries_past c.deref-program-items.result.now c.job.inside.programs.items c.loop-program.program-index c.loop-program.entries.items
     c.deref-program-items.ensures.value past c.loop-program.invariant in
-    let size : c.len-size.result ≡ length c.job.inside.buffer.items = search rules in
-    let entered = c.enter-root.ensures.frame ∙ ap (λ n. entry_frame n 0) (ap length c.whole.ensures.bytes ∙ sym size) in
-    let root = living_is c.enter-root.result 0 c.enter-root.result.frame c.whole.result (record { held = c.job.inside.credit; used = 0 })
-    c.enter-root.ensures.program refl c.enter-root.ensures.part c.enter-root.ensures.credit in
-    let zeros : length c.in_ok-collected.collected.items ≡ c.len-size.result = search rules in (
-      start c.job.inside.credit c.job.inside.buffer.items,
-      opened (record { programs = c.job.inside.programs.items; credit = c.job.inside.credit; buffer = c.job.inside.buffer.items })
-          c.loop-program.entries.items c.enter-root.result.frame c.whole.result c.len-size.result _ c.push-2.new.self.items _ c.push-3.new.self.items _
-          c.job.invariant are c.whole.ensures.bytes c.whole.ensures.base entered size
-          c.new-lives.ensures.items (c.in_ok-push-2.ensures.items ∙ ap (λ (l : Living). c.new-lives.result.items ++ Some l ∷ []) root) c.new-tasks.ensures.items c.in_ok-push-3.ensures.items zeros,
-    )
+    let order : Order = record { programs = c.job.inside.programs.items; credit = c.job.inside.credit; buffer = c.job.inside.buffer.items } in
+    let post = c.in_ok-post.ensures.post in
+    let book = c.in_ok-book.ensures.book in
+    let issued = ap (λ (b : Sign). b.issued) post.0 ∙ c.in_ok-post.ensures.board.1 in
+    let enter = c.enter.ensures in
+    let both = opened order c.job.inside.programs.items c.loop-program.entries.items c.push-2.new.self.items c.in_ok-book.book c.whole.result c.in_ok-book.ticket c.enter.result c.new-lives.result.items _ _ _ c.job.invariant are refl c.whole.ensures.bytes c.whole.ensures.base
+    issued (ap (λ (b : Sign). b.issued) book.0 ∙ issued) (book.1 ∙ post.1) book.2 c.in_ok-book.ensures.ticket
+    enter.program enter.frame enter.part enter.credit c.new-lives.ensures.items c.in_ok-push-2.ensures.items in
+    (start c.job.inside.credit c.job.inside.buffer.items, both.0, both.1)
 
 pub returns-clause-start : goal.returns-clause-start
 returns-clause-start c =
     let past : length c.deref-program-items.result.now ≤ c.loop-program.program-index = omega (arith, c.loop-program-test.false) in
     let are = entries_past c.deref-program-items.result.now c.job.inside.programs.items c.loop-program.program-index c.loop-program.entries.items
     c.deref-program-items.ensures.value past c.loop-program.invariant in
-    let size : c.len-size.result ≡ length c.job.inside.buffer.items = search rules in
-    let entered = c.enter-root.ensures.frame ∙ ap (λ n. entry_frame n 0) (ap length c.whole.ensures.bytes ∙ sym size) in
-    let root = living_is c.enter-root.result 0 c.enter-root.result.frame c.whole.result (record { held = c.job.inside.credit; used = 0 })
-    c.enter-root.ensures.program refl c.enter-root.ensures.part c.enter-root.ensures.credit in
-    let zeros : length c.in_ok-collected.collected.items ≡ c.len-size.result = search rules in
-    rw (← c.job.view_is)
-    (opened (record { programs = c.job.inside.programs.items; credit = c.job.inside.credit; buffer = c.job.inside.buffer.items })
-    c.loop-program.entries.items c.enter-root.result.frame c.whole.result c.len-size.result _ c.push-2.new.self.items _ c.push-3.new.self.items _
-    c.job.invariant are c.whole.ensures.bytes c.whole.ensures.base entered size
-    c.new-lives.ensures.items (c.in_ok-push-2.ensures.items ∙ ap (λ (l : Living). c.new-lives.result.items ++ Some l ∷ []) root) c.new-tasks.ensures.items c.in_ok-push-3.ensures.items zeros)
+    let order : Order = record { programs = c.job.inside.programs.items; credit = c.job.inside.credit; buffer = c.job.inside.buffer.items } in
+    let post = c.in_ok-post.ensures.post in
+    let book = c.in_ok-book.ensures.book in
+    let issued = ap (λ (b : Sign). b.issued) post.0 ∙ c.in_ok-post.ensures.board.1 in
+    let enter = c.enter.ensures in
+    let both = opened order c.job.inside.programs.items c.loop-program.entries.items c.push-2.new.self.items c.in_ok-book.book c.whole.result c.in_ok-book.ticket c.enter.result c.new-lives.result.items _ _ _ c.job.invariant are refl c.whole.ensures.bytes c.whole.ensures.base
+    issued (ap (λ (b : Sign). b.issued) book.0 ∙ issued) (book.1 ∙ post.1) book.2 c.in_ok-book.ensures.ticket
+    enter.program enter.frame enter.part enter.credit c.new-lives.ensures.items c.in_ok-push-2.ensures.items in
+    rw (← c.job.view_is) both.0
