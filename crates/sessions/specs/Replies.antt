@@ -1,10 +1,10 @@
 -- The JSON of a reply.
-use Rattle.std.specs.Prelude.{ℕ, List, [], ◌∷◌, ◌++◌, map, length, Bool, true, false, codes, nat_le, if◌then◌else◌, Option, Some, None}
+use Rattle.std.specs.Prelude.{ℕ, List, [], ◌∷◌, map, length, Bool, true, false, codes, nat_le, if◌then◌else◌, Option, Some, None}
 use Rattle.hex.specs.Hex.{encode_lower}
-use Rattle.std.specs.Int.{w32, to_be_bytes}
 use Rattle.serde_json.specs.Data.{Data, boolean, number, unsigned, string, array, object, Items, no_items, item, Members, no_members, member}
 use Rattle.serde_json.specs.Written.{compact_text}
 use Rattle.credit_book.specs.declared.event.TaskEnd.{TaskEnd}
+use Rattle.sessions.specs.Frames.{framed}
 use Rattle.sessions.specs.declared.reply.Reply.{Reply}
 use Rattle.sessions.specs.declared.reply.Reply.TheVariants as reply
 
@@ -70,10 +70,6 @@ reply_data (reply.Play buffer complete held returned spent used) = play_data buf
 -- the bytes of a reply
 abbrev pub text_of : Reply → List ℕ
 text_of reply = compact_text (reply_data reply)
-
--- a text behind its length of four bytes, the highest first
-abbrev pub framed : List ℕ → List ℕ
-framed text = to_be_bytes w32 (length text) ++ text
 
 -- a reply whose length no four bytes write is answered by refusal 65
 unfoldable pub frame_of : Reply → List ℕ

@@ -3,9 +3,11 @@
 
 // a stream in pieces
 mod fault;
+mod law;
 mod session;
 
 pub use fault::SessionFault;
+pub use law::frames_of_all_pieces;
 pub use session::Session;
 
 // what its frames ask

@@ -2,7 +2,8 @@
 
 ghost use Rattle.std.specs.Prelude.{◌≡◌, ◌≤◌, IfOk, length, map};
 ghost use Rattle.serde_json.specs.View.{view};
-ghost use Rattle.sessions.specs.Replies.{refusal_data, account_data, submit_data, status_data, play_data, task_data, result_data, reply_data, text_of, framed, frame_of};
+ghost use Rattle.sessions.specs.Frames.{framed};
+ghost use Rattle.sessions.specs.Replies.{refusal_data, account_data, submit_data, status_data, play_data, task_data, result_data, reply_data, text_of, frame_of};
 
 use credit_book::TaskEnd;
 use refusal::NoMemory;

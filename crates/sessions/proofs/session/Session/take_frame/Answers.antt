@@ -12,7 +12,7 @@ unreachable-requires c =
     let clash = sym partial ∙ c.requires.2 in
     cc
 
-pub returns-in-Ok-Some-clause-frame : goal.returns-in-Ok-Some-clause-ok
+pub returns-in-Ok-Some-clause-frame : goal.returns-in-Ok-Some-clause-frame
 returns-in-Ok-Some-clause-frame c =
     let P : Option Filled → Type 0 = λ o. Decodes gives_frames c.codec.result c.args.self.now.buffer.items (Ok o) c.decode.new.self c.decode.new.src.items in
     frame_is_whole c.codec.result c.args.self.now.buffer.items c.in-Ok-Some.frame c.decode.new.self c.decode.new.src.items c.codec.ensures.layout c.codec.ensures.head (subst P c.in-Ok-Some.field-0-is c.in-Ok-Some.ensures.next)
