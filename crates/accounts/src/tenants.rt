@@ -64,7 +64,12 @@ pub fn change(tenants: &mut BTreeMap<String, Sums>, name: &str, sums: Sums)
 }
 
 /// Adds a tenant.
-pub fn add(alloc: Global, tenants: &mut BTreeMap<String, Sums>, name: &str, sums: Sums) -> Result<(), NoMemory>
+pub fn add(
+    alloc: Global,
+    tenants: &mut BTreeMap<String, Sums>,
+    name: &str,
+    sums: Sums,
+) -> Result<(), NoMemory>
     ensures ok { OnOk result ((q : List ℕ) → tree.get_by_text tenants.new q ≡ update bytes_eq (tree.get_by_text tenants.old) name.now (Some sums) q) }
     ensures err { OnErr result (tenants.new.entries ≡ tenants.old.entries) }
 {

@@ -19,13 +19,10 @@ const STREAMS: [(&str, &str); 9] = [
     ("00000000", "00000016|{\"code\":72,\"ok\":false}"),
     ("00100001", "00000016|{\"code\":71,\"ok\":false}"),
     // nothing is answered after it
-    (
-        "00100001|x|00000000",
-        "00000016|{\"code\":71,\"ok\":false}",
-    ),
+    ("00100001|x|00000000", "00000016|{\"code\":71,\"ok\":false}"),
     // 72 and 73 use up their frames
     (
-        "00000001|x|00000002|{}|00000000|0000001d|{\"op\":\"account\",\"tenant\":\"t\"}",
+        "00000001|x|00000002|{}|000000000000001d|{\"op\":\"account\",\"tenant\":\"t\"}",
         "00000016|{\"code\":72,\"ok\":false}|00000016|{\"code\":73,\"ok\":false}|00000016|{\"code\":72,\"ok\":false}|00000016|{\"code\":74,\"ok\":false}",
     ),
     // a frame that is cut short is answered by nothing
@@ -63,7 +60,10 @@ fn answers_in_pieces_of_any_size(rt: HostRuntime) -> Result<(), Fail> {
         let expected = bytes_of(alloc, replies)?;
         for size in [1, 2, 3, 4, 5, 7, 32, 33, 1000] {
             let replies = served(alloc, &bytes, size)?;
-            assert!(rt; replies.as_slice() == expected.as_slice(), "{stream} by {size}");
+            assert!(rt;
+                replies.as_slice() == expected.as_slice(),
+                "{stream} by {size}"
+            );
         }
     }
     Ok(())
@@ -92,7 +92,12 @@ fn answers_71_for_ever(rt: HostRuntime) -> Result<(), Fail> {
     assert!(rt; matches!(session.next_request(alloc), Ok(None)));
     session.feed(&[0x01, 0x00])?;
     for _ in 0..3 {
-        assert!(rt; matches!(session.next_request(alloc), Err(SessionFault::FrameTooLarge)));
+        assert!(rt;
+            matches!(
+                session.next_request(alloc),
+                Err(SessionFault::FrameTooLarge)
+            )
+        );
         assert_eq!(rt; session.feed(&[]), Err(SessionFault::FrameTooLarge));
     }
     Ok(())

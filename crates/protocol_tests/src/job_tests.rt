@@ -9,7 +9,8 @@ use std::alloc::Global;
 use std::test::Fail;
 
 /// Asks for a child with a share of 10 and its last 4 bytes, and stores the answer in its first byte. It needs 4 bytes, and costs 24.
-const ROOT: &str = "bf16000000000000b701000001000000b70200000a000000b703000004000000b70400000900000085000000010000007306000000000000b7000000000000009500000000000000";
+const ROOT: &str =
+    "bf16000000000000b701000001000000b70200000a000000b703000004000000b70400000900000085000000010000007306000000000000b7000000000000009500000000000000";
 
 /// Stores its argument in its first byte. It needs 4 bytes, and costs 3.
 const CHILD: &str = "7331000000000000b7000000000000009500000000000000";
@@ -68,7 +69,10 @@ fn takes_plays_and_accounts_for_a_job(rt: HostRuntime) -> Result<(), Fail> {
         tenant: String::from_str(alloc, "t")?,
     };
     let steps = [
-        (grant, "{\"balance\":100,\"granted\":100,\"ok\":true,\"open\":0,\"spent\":0}"),
+        (
+            grant,
+            "{\"balance\":100,\"granted\":100,\"ok\":true,\"open\":0,\"spent\":0}",
+        ),
         (submit(alloc, 34)?, "{\"job\":1,\"ok\":true}"),
         (
             Request::Result { job: 1 },
@@ -76,12 +80,21 @@ fn takes_plays_and_accounts_for_a_job(rt: HostRuntime) -> Result<(), Fail> {
 {\"number\":0,\"program\":0,\"r0\":0,\"ran\":true,\"rest\":0,\"spent\":24},\
 {\"number\":1,\"program\":1,\"r0\":0,\"ran\":true,\"rest\":7,\"spent\":3}]}",
         ),
-        (account, "{\"balance\":73,\"granted\":100,\"ok\":true,\"open\":0,\"spent\":27}"),
+        (
+            account,
+            "{\"balance\":73,\"granted\":100,\"ok\":true,\"open\":0,\"spent\":27}",
+        ),
         (submit(alloc, 74)?, "{\"code\":75,\"ok\":false}"),
-        (submit_unset(alloc)?, "{\"code\":31,\"ok\":false,\"program\":0,\"slot\":0}"),
+        (
+            submit_unset(alloc)?,
+            "{\"code\":31,\"ok\":false,\"program\":0,\"slot\":0}",
+        ),
         // neither refusal used up a number
         (submit(alloc, 34)?, "{\"job\":2,\"ok\":true}"),
-        (Request::Status { job: 2 }, "{\"complete\":true,\"ok\":true,\"returned\":7,\"spent\":27}"),
+        (
+            Request::Status { job: 2 },
+            "{\"complete\":true,\"ok\":true,\"returned\":7,\"spent\":27}",
+        ),
         (Request::Status { job: 3 }, "{\"code\":76,\"ok\":false}"),
     ];
     for (request, expected) in &steps {
@@ -147,7 +160,12 @@ fn gives_back_what_a_failed_job_held(rt: HostRuntime) -> Result<(), Fail> {
     let alloc = rt.alloc();
     let mut desk = Desk::new(alloc);
     desk.grant(alloc, "t", 100)?;
-    for outcome in [Err(81), Ok(report(alloc, 30, 3)), Ok(report(alloc, 30, 5)), Ok(report(alloc, u32::MAX, 35))] {
+    for outcome in [
+        Err(81),
+        Ok(report(alloc, 30, 3)),
+        Ok(report(alloc, 30, 5)),
+        Ok(report(alloc, u32::MAX, 35)),
+    ] {
         let code = match outcome {
             Err(code) => code,
             Ok(_) => 82,
@@ -175,11 +193,19 @@ fn refuses_by_number(rt: HostRuntime) -> Result<(), Fail> {
     for _ in 0..465 {
         desk.grant(alloc, "t", 2_147_483_647)?;
     }
-    assert_eq!(rt; desk.grant(alloc, "t", 1_420_104_146), Err(DeskFault::TooLarge));
-    assert_eq!(rt; desk.grant(alloc, "t", 1_420_104_145)?.granted, 1_000_000_000_000);
+    assert_eq!(rt;
+        desk.grant(alloc, "t", 1_420_104_146),
+        Err(DeskFault::TooLarge)
+    );
+    assert_eq!(rt;
+        desk.grant(alloc, "t", 1_420_104_145)?.granted,
+        1_000_000_000_000
+    );
     assert_eq!(rt; desk.grant(alloc, "t", 1), Err(DeskFault::TooLarge));
     let fault = SubmitFault::Admit(AdmitFault::NoPrograms);
-    assert!(rt; matches!(desk.submit(alloc, "t", &[], 1, Vec::new(alloc)), Err(told) if told == fault));
+    assert!(rt;
+        matches!(desk.submit(alloc, "t", &[], 1, Vec::new(alloc)), Err(told) if told == fault)
+    );
     assert_eq!(rt; fault.code(), 61);
     Ok(())
 }

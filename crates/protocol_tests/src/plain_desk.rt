@@ -186,9 +186,7 @@ impl PlainJob {
         let standing = match standing {
             PlainStanding::Reported(spent, returned)
                 if u64::from(spent).saturating_add(u64::from(returned)) != u64::from(self.credit) =>
-            {
-                PlainStanding::Failed(82)
-            }
+                { PlainStanding::Failed(82) }
             other => other,
         };
         PlainJob {

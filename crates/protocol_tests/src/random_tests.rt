@@ -11,13 +11,17 @@ use std::test::Fail;
 const TENANTS: [&str; 5] = ["rich", "a", "b", "a-", "0"];
 
 /// Numbers that look like chance, and are the same each time.
+#[derive(Drop)]
 struct Chance {
     state: u64,
 }
 
 impl Chance {
     fn below(&mut self, end: u64) -> u64 {
-        self.state = self.state.wrapping_mul(6364136223846793005).wrapping_add(1442695040888963407);
+        self.state = self
+            .state
+            .wrapping_mul(6364136223846793005)
+            .wrapping_add(1442695040888963407);
         (self.state >> 33) % end.max(1)
     }
 
@@ -32,8 +36,8 @@ impl Chance {
     }
 }
 
-fn code_of<T>(result: &Result<T, DeskFault>) -> u8 {
-    match result {
+fn code_of<T>(answer: &Result<T, DeskFault>) -> u8 {
+    match answer {
         Ok(_) => 0,
         Err(fault) => fault.code(),
     }
@@ -68,7 +72,11 @@ fn submit(
     credit: u32,
     is_bad: bool,
 ) -> Result<Result<u64, u8>, Fail> {
-    let code = if is_bad { "9500000000000000" } else { "b7000000000000009500000000000000" };
+    let code = if is_bad {
+        "9500000000000000"
+    } else {
+        "b7000000000000009500000000000000"
+    };
     let programs = [ProgramBytes {
         need: 0,
         code: hex::decode(alloc, code)?,
@@ -112,11 +120,16 @@ fn told(desk: &Desk, number: u64) -> Result<PlainStanding, u8> {
         complete: false,
     };
     match (desk.status(number, seen), desk.result(number)) {
-        (Ok(progress), Ok(report)) if progress.complete && progress.spent == report.spent && progress.returned == report.returned => {
+        (Ok(progress), Ok(report))
+            if progress.complete
+                && progress.spent == report.spent
+                && progress.returned == report.returned => {
             Ok(PlainStanding::Reported(report.spent, report.returned))
         }
         (Ok(progress), Err(DeskFault::NotComplete)) if progress == seen => Ok(PlainStanding::Open),
-        (Err(DeskFault::Failed(code)), Err(DeskFault::Failed(same))) if code == same => Ok(PlainStanding::Failed(code)),
+        (Err(DeskFault::Failed(code)), Err(DeskFault::Failed(same))) if code == same => Ok(
+            PlainStanding::Failed(code),
+        ),
         (Err(DeskFault::NoJob), Err(DeskFault::NoJob)) => Err(76),
         _ => Err(0),
     }
@@ -173,7 +186,10 @@ fn answers_as_a_plain_list_does(rt: HostRuntime) -> Result<(), Fail> {
         assert!(rt; granted.is_ok());
     }
     for turn in 0..1000 {
-        assert!(rt; call(alloc, &mut chance, &mut desk, &mut list)?, "call {turn}");
+        assert!(rt;
+            call(alloc, &mut chance, &mut desk, &mut list)?,
+            "call {turn}"
+        );
         assert!(rt; agree(&desk, &list), "sums after call {turn}");
     }
     assert!(rt; list.standing(200).is_ok());

@@ -108,22 +108,57 @@ fn writes_each_form(rt: HostRuntime) -> Result<(), Fail> {
         assert!(rt; payload == expected.as_bytes(), "{expected}");
         assert_eq!(rt; head, &(expected.len() as u32 & 0xffff).to_be_bytes()[..]);
     }
-    assert_eq!(rt; reply_frame(alloc, &refused(74))?.as_slice(), &b"\x00\x00\x00\x16{\"code\":74,\"ok\":false}"[..]);
+    assert_eq!(rt;
+        reply_frame(alloc, &refused(74))?.as_slice(),
+        &b"\x00\x00\x00\x16{\"code\":74,\"ok\":false}"[..]
+    );
     Ok(())
 }
 
 /// A job object, whether a schedule is wanted, and the number of its refusal or 0.
 const OBJECTS: [(&str, bool, u8); 12] = [
     ("{\"credit\":1,\"buffer\":\"\",\"programs\":[]}", false, 0),
-    ("{\"credit\":1,\"buffer\":\"\",\"programs\":[],\"schedule\":7}", false, 0),
-    ("{\"credit\":1,\"buffer\":\"\",\"programs\":[],\"schedule\":[]}", true, 0),
-    ("{\"credit\":1,\"buffer\":\"\",\"programs\":[],\"schedule\":[0,4294967295]}", true, 0),
+    (
+        "{\"credit\":1,\"buffer\":\"\",\"programs\":[],\"schedule\":7}",
+        false,
+        0,
+    ),
+    (
+        "{\"credit\":1,\"buffer\":\"\",\"programs\":[],\"schedule\":[]}",
+        true,
+        0,
+    ),
+    (
+        "{\"credit\":1,\"buffer\":\"\",\"programs\":[],\"schedule\":[0,4294967295]}",
+        true,
+        0,
+    ),
     ("{\"credit\":1,\"buffer\":\"\",\"programs\":[]}", true, 73),
-    ("{\"credit\":1,\"buffer\":\"\",\"programs\":[],\"schedule\":7}", true, 73),
-    ("{\"credit\":1,\"buffer\":\"\",\"programs\":[],\"schedule\":[4294967296]}", true, 73),
-    ("{\"credit\":1,\"buffer\":\"\",\"programs\":[],\"schedule\":[0,-1]}", true, 73),
-    ("{\"credit\":1,\"buffer\":\"\",\"programs\":[],\"schedule\":[0.0]}", true, 73),
-    ("{\"credit\":1,\"buffer\":\"f\",\"programs\":[],\"schedule\":[]}", true, 73),
+    (
+        "{\"credit\":1,\"buffer\":\"\",\"programs\":[],\"schedule\":7}",
+        true,
+        73,
+    ),
+    (
+        "{\"credit\":1,\"buffer\":\"\",\"programs\":[],\"schedule\":[4294967296]}",
+        true,
+        73,
+    ),
+    (
+        "{\"credit\":1,\"buffer\":\"\",\"programs\":[],\"schedule\":[0,-1]}",
+        true,
+        73,
+    ),
+    (
+        "{\"credit\":1,\"buffer\":\"\",\"programs\":[],\"schedule\":[0.0]}",
+        true,
+        73,
+    ),
+    (
+        "{\"credit\":1,\"buffer\":\"f\",\"programs\":[],\"schedule\":[]}",
+        true,
+        73,
+    ),
     ("{\"credit\":1,\"buffer\":\"\",\"programs\":[]", false, 72),
     ("", true, 72),
 ];
@@ -138,7 +173,8 @@ fn reads_job_objects(rt: HostRuntime) -> Result<(), Fail> {
         };
         assert_eq!(rt; code, expected, "{text}");
     }
-    let text = "{\"schedule\":[3,0,4294967295],\"programs\":[{\"code\":\"00Ff\",\"need\":7}],\"buffer\":\"01\",\"credit\":4294967295}";
+    let text =
+        "{\"schedule\":[3,0,4294967295],\"programs\":[{\"code\":\"00Ff\",\"need\":7}],\"buffer\":\"01\",\"credit\":4294967295}";
     let job = job_object(alloc, text.as_bytes(), true)?;
     assert_eq!(rt; job.credit, u32::MAX);
     assert_eq!(rt; job.buffer.as_slice(), &[1][..]);
@@ -148,6 +184,9 @@ fn reads_job_objects(rt: HostRuntime) -> Result<(), Fail> {
         assert_eq!(rt; program.need, 7);
         assert_eq!(rt; program.code.as_slice(), &[0, 255][..]);
     }
-    assert_eq!(rt; format!(in alloc; "{}", SessionFault::BadRequest)?.as_str(), "no such request");
+    assert_eq!(rt;
+        format!(in alloc; "{}", SessionFault::BadRequest)?.as_str(),
+        "no such request"
+    );
     Ok(())
 }

@@ -72,7 +72,11 @@ fn refuses_bytes_and_depths(rt: HostRuntime) -> Result<(), Fail> {
         let bytes = frame(alloc, payload)?;
         for size in [1, 4096] {
             let replies = served(alloc, &bytes, size)?;
-            assert!(rt; replies.as_slice() == expected.as_slice(), "{code} of {} by {size}", bytes.len());
+            assert!(rt;
+                replies.as_slice() == expected.as_slice(),
+                "{code} of {} by {size}",
+                bytes.len()
+            );
         }
     }
     Ok(())

@@ -8,5 +8,4 @@ ghost use Rattle.sessions.specs.Frames.{AreBytes, Heard, IsStreamOf, framed, fro
 pub fn frames_of_all_pieces()
     ensures heard { (fed : List ℕ) (payloads : List (List ℕ)) (left : List ℕ) → AreBytes fed → Heard fed payloads left → IsStreamOf fed payloads left }
     ensures cut { (payload more : List ℕ) → length payload ≤ longest_payload → front (framed payload ++ more) ≡ whole payload more }
-{
-}
+{}

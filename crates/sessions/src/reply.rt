@@ -28,7 +28,9 @@ pub enum Reply<'a> {
         spent: u64,
     },
     /// The number of the job that was taken.
-    Submit { job: u64 },
+    Submit {
+        job: u64,
+    },
     /// How far a job is.
     Status {
         complete: bool,
@@ -66,7 +68,8 @@ fn refusal_value(
         None => json!(in alloc; {"code": code, "ok": false}),
         Some(program) => match slot {
             None => json!(in alloc; {"code": code, "ok": false, "program": program}),
-            Some(slot) => json!(in alloc; {"code": code, "ok": false, "program": program, "slot": slot}),
+            Some(slot) =>
+                json!(in alloc; {"code": code, "ok": false, "program": program, "slot": slot}),
         },
     }
 }

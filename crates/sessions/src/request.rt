@@ -7,7 +7,9 @@ ghost use Rattle.sessions.specs.Answers.{PayloadAnswer, ObjectAnswer};
 ghost use Rattle.sessions.specs.declared.fault.SessionFault.TheVariants.{BadRequest, NoMemory};
 
 use crate::fault::SessionFault;
-use crate::member::{bytes_member, list_member, number_member, number_of, tenant_member, text_member};
+use crate::member::{
+    bytes_member, list_member, number_member, number_of, tenant_member, text_member,
+};
 use job_core::ProgramBytes;
 use serde_json::{Category, Value};
 use std::alloc::Global;
@@ -20,9 +22,14 @@ const U32_MAX: u64 = 4_294_967_295;
 #[derive(Drop)]
 pub enum Request {
     /// Credit for a tenant: 1 to 2,147,483,647.
-    Grant { tenant: String, amount: u32 },
+    Grant {
+        tenant: String,
+        amount: u32,
+    },
     /// What a tenant was granted, has open and has spent.
-    Account { tenant: String },
+    Account {
+        tenant: String,
+    },
     /// A job of a tenant: its programs, of which number 0 is the root's, its credit and its buffer.
     Submit {
         tenant: String,
@@ -31,9 +38,13 @@ pub enum Request {
         buffer: Vec<u8>,
     },
     /// How far a job is.
-    Status { job: u64 },
+    Status {
+        job: u64,
+    },
     /// What a job came to.
-    Result { job: u64 },
+    Result {
+        job: u64,
+    },
 }
 
 // A job as it comes.
@@ -241,7 +252,11 @@ pub(crate) fn read_request(alloc: Global, payload: &[u8]) -> Result<Request, Ses
 }
 
 #[tactic(auto, unfolding(crate::specs::Grammar::object_of))]
-fn read_object(alloc: Global, value: &Value, wants_schedule: bool) -> Result<JobObject, SessionFault>
+fn read_object(
+    alloc: Global,
+    value: &Value,
+    wants_schedule: bool,
+) -> Result<JobObject, SessionFault>
     ensures ok { IfOk result (λ o. object_of wants_schedule (view value.now) ≡ Some (object_asked o)) }
     ensures err { IfErr result (λ e. (e ≢ NoMemory) → (e ≡ BadRequest) × (object_of wants_schedule (view value.now) ≡ None)) }
 {
