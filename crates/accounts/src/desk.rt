@@ -33,7 +33,7 @@ impl Model for Desk {
 }
 
 impl Desk {
-    ghost use Rattle.std.specs.Prelude.{◌≡◌, [], IfOk, IfErr, OnOk, OnErr, Ok, Err, MatchResult, length};
+    ghost use Rattle.std.specs.Prelude.{◌≡◌, ◌+◌, [], IfOk, IfErr, OnOk, OnErr, Ok, Err, MatchResult, length};
     ghost use Rattle.job_core.specs.Admission.{IsAdmittedFrom};
     ghost use Rattle.accounts.specs.declared.fault.DeskFault.TheVariants as fault;
     ghost use Rattle.accounts.specs.Ledgers.{account_at, GrantsMore, RefusesGrant, Takes, RefusesSubmit, Finishes, IsNotOpen, progress_at, report_at};
@@ -51,7 +51,8 @@ impl Desk {
     /// A tenant's account; 74 where it was granted nothing.
     #[tactic(auto, unfolding(crate::specs::Ledgers::account_at))]
     pub fn account(&self, tenant: &str) -> Result<Account, DeskFault>
-        ensures { result ≡ account_at self.now tenant.now }
+        ensures account { result ≡ account_at self.now tenant.now }
+        ensures adds_up { IfOk result (λ a. a.balance + a.opened + a.spent ≡ a.granted) }
     {
         match sums_of(&self.tenants, tenant) {
             Some(sums) => Ok(account_of(sums)),

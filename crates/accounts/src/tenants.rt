@@ -31,7 +31,8 @@ pub struct Account {
 /// The account of these sums.
 pub fn account_of(sums: Sums) -> Account
     requires { sums.opened + sums.spent ≤ sums.granted }
-    ensures { result ≡ account_with sums.granted sums.opened sums.spent }
+    ensures account { result ≡ account_with sums.granted sums.opened sums.spent }
+    ensures adds_up { result.balance + result.opened + result.spent ≡ sums.granted }
 {
     let Sums {
         granted,

@@ -155,32 +155,55 @@ fn keeps_an_open_job_apart(rt: HostRuntime) -> Result<(), Fail> {
     Ok(())
 }
 
+/// The number that a job failed by, and what its report told of spent and returned where that is 82.
+const FAILURES: [(u8, u32, u32); 5] = [
+    (81, 0, 0),
+    (99, 0, 0),
+    (82, 30, 3),
+    (82, 30, 5),
+    (82, u32::MAX, 35),
+];
+
+/// The code that status and result then tell, if it is one.
+fn failed_code(
+    alloc: Global,
+    desk: &mut Desk,
+    code: u8,
+    told: [u32; 2],
+) -> Result<Option<u8>, Fail> {
+    let buffer = vec![in alloc; 0; 8]?;
+    let (number, _job) = desk.submit(alloc, "t", &programs(alloc)?, 34, buffer)?;
+    let outcome = if code == 82 {
+        Ok(report(alloc, told[0], told[1]))
+    } else {
+        Err(code)
+    };
+    desk.finish(number, outcome)?;
+    let seen = Progress {
+        spent: 0,
+        returned: 0,
+        complete: false,
+    };
+    let Err(DeskFault::Failed(first)) = desk.status(number, seen) else {
+        return Ok(None);
+    };
+    let Err(DeskFault::Failed(second)) = desk.result(number) else {
+        return Ok(None);
+    };
+    Ok(if first == second { Some(first) } else { None })
+}
+
 #[test]
 fn gives_back_what_a_failed_job_held(rt: HostRuntime) -> Result<(), Fail> {
     let alloc = rt.alloc();
     let mut desk = Desk::new(alloc);
     desk.grant(alloc, "t", 100)?;
-    for outcome in [
-        Err(81),
-        Ok(report(alloc, 30, 3)),
-        Ok(report(alloc, 30, 5)),
-        Ok(report(alloc, u32::MAX, 35)),
-    ] {
-        let code = match outcome {
-            Err(code) => code,
-            Ok(_) => 82,
-        };
-        let buffer = vec![in alloc; 0; 8]?;
-        let (number, _job) = desk.submit(alloc, "t", &programs(alloc)?, 34, buffer)?;
-        desk.finish(number, outcome)?;
+    for (code, spent, returned) in FAILURES {
+        assert_eq!(rt;
+            failed_code(alloc, &mut desk, code, [spent, returned])?,
+            Some(code)
+        );
         assert_eq!(rt; sums(&desk)?, [100, 100, 0, 0]);
-        let seen = Progress {
-            spent: 0,
-            returned: 0,
-            complete: false,
-        };
-        assert_eq!(rt; desk.status(number, seen), Err(DeskFault::Failed(code)));
-        assert!(rt; matches!(desk.result(number), Err(DeskFault::Failed(told)) if told == code));
     }
     Ok(())
 }

@@ -6,9 +6,31 @@ const BAD_REQUEST: &str = "{\"code\":73,\"ok\":false}";
 
 const GRANTED_100: &str = "{\"balance\":100,\"granted\":100,\"ok\":true,\"open\":0,\"spent\":0}";
 
-/// Each request's text, and the text of its reply.
-pub(crate) const REQUESTS: [(&str, &str); 94] = [
-    // grants and accounts
+/// A request's text, and the text of its reply.
+pub(crate) type Row = (&'static str, &'static str);
+
+/// How many tables there are.
+pub(crate) const TABLES: usize = 11;
+
+/// The rows of a table. All tables are answered by one desk, one after the other.
+pub(crate) fn rows(table: usize) -> &'static [Row] {
+    match table {
+        0 => &ACCOUNTS,
+        1 => &NAMES,
+        2 => &ESCAPED,
+        3 => &AMOUNTS,
+        4 => &NUMBERS,
+        5 => &OPERATIONS,
+        6 => &REPEATED,
+        7 => &TEXTS,
+        8 => &JOB_NUMBERS,
+        9 => &JOBS,
+        _ => &NO_JOBS,
+    }
+}
+
+// Grants and accounts.
+const ACCOUNTS: [Row; 9] = [
     (
         "{\"op\":\"account\",\"tenant\":\"t\"}",
         "{\"code\":74,\"ok\":false}",
@@ -42,7 +64,10 @@ pub(crate) const REQUESTS: [(&str, &str); 94] = [
         "{\"op\":\"grant\",\"tenant\":\"01234567890123456789012345678901\",\"amount\":1}",
         "{\"balance\":1,\"granted\":1,\"ok\":true,\"open\":0,\"spent\":0}",
     ),
-    // names that are none
+];
+
+// Names that are none.
+const NAMES: [Row; 10] = [
     (
         "{\"op\":\"grant\",\"tenant\":\"012345678901234567890123456789012\",\"amount\":1}",
         BAD_REQUEST,
@@ -56,9 +81,13 @@ pub(crate) const REQUESTS: [(&str, &str); 94] = [
     ("{\"op\":\"account\",\"tenant\":null}", BAD_REQUEST),
     ("{\"op\":\"account\",\"tenant\":[\"t\"]}", BAD_REQUEST),
     ("{\"op\":\"account\"}", BAD_REQUEST),
-    // a name with an escape is the name that it stands for
-    ("{\"op\":\"account\",\"tenant\":\"\\u0074\"}", GRANTED_100),
-    // amounts that are none
+];
+
+// A name with an escape is the name that it stands for.
+const ESCAPED: [Row; 1] = [("{\"op\":\"account\",\"tenant\":\"\\u0074\"}", GRANTED_100)];
+
+// Amounts that are none.
+const AMOUNTS: [Row; 16] = [
     (
         "{\"op\":\"grant\",\"tenant\":\"t\",\"amount\":0}",
         BAD_REQUEST,
@@ -117,7 +146,10 @@ pub(crate) const REQUESTS: [(&str, &str); 94] = [
         "{\"op\":\"grant\",\"tenant\":\"t\",\"Amount\":1}",
         BAD_REQUEST,
     ),
-    // what is no number of JSON at all
+];
+
+// What is no number of JSON at all.
+const NUMBERS: [Row; 6] = [
     (
         "{\"op\":\"grant\",\"tenant\":\"t\",\"amount\":01}",
         NOT_JSON,
@@ -142,7 +174,10 @@ pub(crate) const REQUESTS: [(&str, &str); 94] = [
         "{\"op\":\"grant\",\"tenant\":\"t\",\"amount\":NaN}",
         NOT_JSON,
     ),
-    // operations
+];
+
+// Operations that are none, and values that are no request.
+const OPERATIONS: [Row; 11] = [
     (
         "{\"op\":\"Grant\",\"tenant\":\"t\",\"amount\":1}",
         BAD_REQUEST,
@@ -157,7 +192,10 @@ pub(crate) const REQUESTS: [(&str, &str); 94] = [
     ("\"account\"", BAD_REQUEST),
     ("null", BAD_REQUEST),
     ("0", BAD_REQUEST),
-    // a key that is there twice counts as its last value
+];
+
+// A key that is there twice counts as its last value.
+const REPEATED: [Row; 3] = [
     (
         "{\"op\":\"account\",\"tenant\":\"u\",\"tenant\":\"t\"}",
         GRANTED_100,
@@ -170,7 +208,10 @@ pub(crate) const REQUESTS: [(&str, &str); 94] = [
         "{\"op\":\"grant\",\"op\":\"account\",\"tenant\":\"t\",\"amount\":1}",
         GRANTED_100,
     ),
-    // no JSON
+];
+
+// What is no JSON.
+const TEXTS: [Row; 10] = [
     ("", NOT_JSON),
     (" ", NOT_JSON),
     ("{", NOT_JSON),
@@ -181,7 +222,10 @@ pub(crate) const REQUESTS: [(&str, &str); 94] = [
     ("{\"op\":\"account\",\"tenant\":\"\\ud800\"}", NOT_JSON),
     ("{\"op\":\"account\",\"tenant\":\"a\nb\"}", NOT_JSON),
     ("\u{feff}{\"op\":\"account\",\"tenant\":\"t\"}", NOT_JSON),
-    // numbers of jobs
+];
+
+// Numbers of jobs.
+const JOB_NUMBERS: [Row; 7] = [
     (
         "{\"op\":\"status\",\"job\":1}",
         "{\"code\":76,\"ok\":false}",
@@ -201,7 +245,10 @@ pub(crate) const REQUESTS: [(&str, &str); 94] = [
     ("{\"op\":\"status\",\"job\":1.0}", BAD_REQUEST),
     ("{\"op\":\"status\",\"job\":\"1\"}", BAD_REQUEST),
     ("{\"op\":\"result\"}", BAD_REQUEST),
-    // jobs
+];
+
+// Jobs, of which one is taken.
+const JOBS: [Row; 12] = [
     (
         "{\"op\":\"submit\",\"tenant\":\"u\",\"credit\":2,\"buffer\":\"\",\"programs\":[]}",
         "{\"code\":74,\"ok\":false}",
@@ -250,6 +297,10 @@ pub(crate) const REQUESTS: [(&str, &str); 94] = [
         "{\"op\":\"status\",\"job\":1}",
         "{\"complete\":true,\"ok\":true,\"returned\":0,\"spent\":2}",
     ),
+];
+
+// Submits that are none.
+const NO_JOBS: [Row; 9] = [
     (
         "{\"op\":\"submit\",\"tenant\":\"t\",\"credit\":2,\"buffer\":\"0\",\"programs\":[]}",
         BAD_REQUEST,

@@ -1,6 +1,6 @@
 //! The table of requests: each as a frame, a byte at a time, and all of them as one piece.
 
-use crate::request_rows::REQUESTS;
+use crate::request_rows::{TABLES, rows};
 use crate::server::{frame, serve_piece, served};
 use accounts::Desk;
 use sessions::Session;
@@ -10,11 +10,28 @@ use std::test::Fail;
 /// The frames of all requests, or of all replies.
 fn joined(alloc: Global, is_reply: bool) -> Result<Vec<u8>, Fail> {
     let mut bytes = Vec::new(alloc);
-    for (request, reply) in REQUESTS {
-        let text = if is_reply { reply } else { request };
-        bytes.extend_from_slice(&frame(alloc, text.as_bytes())?)?;
+    for table in 0..TABLES {
+        for (request, reply) in rows(table) {
+            let text = if is_reply { reply } else { request };
+            bytes.extend_from_slice(&frame(alloc, text.as_bytes())?)?;
+        }
     }
     Ok(bytes)
+}
+
+/// Whether a row's request gets its reply.
+fn is_answered(
+    alloc: Global,
+    session: &mut Session,
+    desk: &mut Desk,
+    request: &str,
+    reply: &str,
+) -> Result<bool, Fail> {
+    let bytes = frame(alloc, request.as_bytes())?;
+    let mut replies = Vec::new(alloc);
+    let goes_on = serve_piece(alloc, session, desk, &bytes, &mut replies)?;
+    let expected = frame(alloc, reply.as_bytes())?;
+    Ok(goes_on && replies.as_slice() == expected.as_slice())
 }
 
 #[test]
@@ -22,12 +39,13 @@ fn answers_each_request(rt: HostRuntime) -> Result<(), Fail> {
     let alloc = rt.alloc();
     let mut session = Session::new(alloc);
     let mut desk = Desk::new(alloc);
-    for (request, reply) in REQUESTS {
-        let bytes = frame(alloc, request.as_bytes())?;
-        let mut replies = Vec::new(alloc);
-        assert!(rt; serve_piece(alloc, &mut session, &mut desk, &bytes, &mut replies)?);
-        let expected = frame(alloc, reply.as_bytes())?;
-        assert!(rt; replies.as_slice() == expected.as_slice(), "{request}");
+    for table in 0..TABLES {
+        for (request, reply) in rows(table) {
+            assert!(rt;
+                is_answered(alloc, &mut session, &mut desk, request, reply)?,
+                "{request}"
+            );
+        }
     }
     Ok(())
 }

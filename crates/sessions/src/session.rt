@@ -133,7 +133,7 @@ impl Session {
     // The payload of the next frame, once it is whole.
     fn next_frame(&mut self) -> Result<Option<BytesMut>, SessionFault>
         ensures answer { ended_by self.old ≡ None → FrameAnswer result (unread self.old) (unread self.new) }
-        ensures ended { IfSome (ended_by self.old) (λ fault. (result ≡ Err fault) × (ended_by self.new ≡ Some fault)) }
+        ensures ended { IfSome (ended_by self.old) (λ fault. (result ≡ Err fault) × (ended_by self.new ≡ Some fault) × (unread self.new ≡ unread self.old)) }
         ensures lasts { ended_by self.old ≡ None → MatchResult result (λ _. ended_by self.new ≡ None) (λ e. ended_by self.new ≡ lasting_of e) }
     {
         if let Some(fault) = self.ended_by {
@@ -161,7 +161,7 @@ impl Session {
     /// call. After 99 every later call answers 99.
     pub fn next_request(&mut self, alloc: Global) -> Result<Option<Request>, SessionFault>
         ensures answer { ended_by self.old ≡ None → RequestAnswer result (unread self.old) (unread self.new) }
-        ensures ended { IfSome (ended_by self.old) (λ fault. (result ≡ Err fault) × (ended_by self.new ≡ Some fault)) }
+        ensures ended { IfSome (ended_by self.old) (λ fault. (result ≡ Err fault) × (ended_by self.new ≡ Some fault) × (unread self.new ≡ unread self.old)) }
         ensures lasts { ended_by self.old ≡ None → MatchResult result (λ _. ended_by self.new ≡ None) (λ e. ended_by self.new ≡ lasting_of e) }
     {
         let frame = match self.next_frame() {
