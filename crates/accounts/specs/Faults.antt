@@ -1,0 +1,43 @@
+-- The numbers of the refusals, and what else they tell.
+use Rattle.std.specs.Prelude.{ℕ, Option, Some, None}
+use Rattle.job_core.specs.Admission.{number_of, slot_of}
+use Rattle.job_core.specs.declared.admission.AdmitFault.{AdmitFault}
+use Rattle.job_core.specs.declared.admission.AdmitFault.TheVariants as admit
+use Rattle.accounts.specs.declared.fault.DeskFault.{DeskFault}
+use Rattle.accounts.specs.declared.fault.DeskFault.TheVariants as desk
+use Rattle.accounts.specs.declared.fault.SubmitFault.{SubmitFault}
+use Rattle.accounts.specs.declared.fault.SubmitFault.TheVariants as submit
+
+abbrev pub desk_code : DeskFault → ℕ
+desk_code desk.NoTenant = 74
+desk_code desk.NoJob = 76
+desk_code desk.NotComplete = 77
+desk_code desk.TooLarge = 65
+desk_code (desk.Failed code) = code
+desk_code desk.NoMemory = 99
+
+abbrev pub submit_code : SubmitFault → ℕ
+submit_code submit.NoTenant = 74
+submit_code submit.BalanceLow = 75
+submit_code (submit.Admit fault) = number_of fault
+
+-- the place of the program that a job isn't admitted for
+abbrev pub program_of : AdmitFault → Option ℕ
+program_of admit.NoPrograms = None
+program_of admit.TooManyPrograms = None
+program_of admit.TooLarge = None
+program_of (admit.Program index refusal) = Some index
+program_of admit.CreditLow = None
+program_of admit.BufferShort = None
+program_of admit.NoMemory = None
+
+abbrev pub submit_program : SubmitFault → Option ℕ
+submit_program submit.NoTenant = None
+submit_program submit.BalanceLow = None
+submit_program (submit.Admit fault) = program_of fault
+
+-- the slot that it tells, if it tells one
+abbrev pub submit_slot : SubmitFault → Option ℕ
+submit_slot submit.NoTenant = None
+submit_slot submit.BalanceLow = None
+submit_slot (submit.Admit fault) = slot_of fault

@@ -1,0 +1,135 @@
+-- The desk's plain state.
+use Rattle.std.specs.Prelude.{◌≡◌, ◌⊎◌, ℕ, ◌+◌, ◌-◌, ◌≤◌, ◌<◌, List, ◌++◌, [], ◌∷◌, map, sum_by, slice_get, slice_set, length, Option, Some, None, Result, Ok, Err, option_map, unwrap_or, String, string_bytes}
+use Rattle.std.specs.BTreeMap.{BTreeMap}
+use Rattle.std.specs.BTreeMap as tree
+use Rattle.std.specs.Map.{lookup, update}
+use Rattle.std.specs.Str.{bytes_eq}
+use Rattle.job_core.specs.declared.admission.ProgramBytes.{ProgramBytes}
+use Rattle.job_core.specs.declared.admission.AdmitFault.{AdmitFault}
+use Rattle.job_core.specs.Admission.{RefusesJob}
+use Rattle.accounts.specs.declared.fault.DeskFault.{DeskFault}
+use Rattle.accounts.specs.declared.fault.DeskFault.TheVariants as fault
+use Rattle.accounts.specs.declared.fault.SubmitFault.{SubmitFault}
+use Rattle.accounts.specs.declared.fault.SubmitFault.TheVariants as submit
+use Rattle.accounts.specs.declared.tenants.Sums.{Sums}
+use Rattle.accounts.specs.declared.tenants.Account.{Account}
+use Rattle.accounts.specs.declared.jobs.JobEntry.{JobEntry}
+use Rattle.credit_book.specs.declared.board.Progress.{Progress}
+use Rattle.accounts.specs.declared.jobs.Standing.{Standing}
+use Rattle.accounts.specs.declared.jobs.Standing.TheVariants.{Open, Reported, Failed}
+use Rattle.credit_book.specs.declared.book.Report.{Report}
+use Rattle.accounts.specs.Accounts.{account_with}
+use Rattle.accounts.specs.Jobs.{job_at, settled, progress_of, report_of, opened_for, spent_for}
+
+-- each tenant's name and the sum of its grants, and each job; the first job is number 1
+pub record Ledger : Type 0 where
+  pub grants : List (List ℕ × ℕ)
+  pub jobs : List JobEntry
+
+-- all grants of a tenant
+abbrev pub most_granted : ℕ
+most_granted = 1000000000000
+
+abbrev pub granted_to : Ledger → List ℕ → Option ℕ
+granted_to ledger name = lookup (bytes_eq name) ledger.grants
+
+-- the credit of a tenant's open jobs, and what its jobs spent
+abbrev pub opened_by : List JobEntry → List ℕ → ℕ
+opened_by jobs name = sum_by (opened_for name) jobs
+
+abbrev pub spent_by : List JobEntry → List ℕ → ℕ
+spent_by jobs name = sum_by (spent_for name) jobs
+
+-- a tenant's account, if it was granted something
+abbrev pub account_in : List JobEntry → List ℕ → Option ℕ → Result Account DeskFault
+account_in jobs name (Some granted) = Ok (account_with granted (opened_by jobs name) (spent_by jobs name))
+account_in jobs name None = Err fault.NoTenant
+
+unfoldable pub account_at : Ledger → List ℕ → Result Account DeskFault
+account_at ledger name = account_in ledger.jobs name (granted_to ledger name)
+
+-- what was granted changes for one tenant alone
+pub record GrantsMore (old : Ledger) (name : List ℕ) (amount : ℕ) (new : Ledger) : Type 0 where
+  pub grants : (q : List ℕ) → granted_to new q ≡ update bytes_eq (granted_to old) name (Some (unwrap_or (granted_to old name) 0 + amount)) q
+  pub jobs : new.jobs ≡ old.jobs
+
+-- the jobs change, and what was granted doesn't
+pub record HasJobs (old : Ledger) (entries : List JobEntry) (new : Ledger) : Type 0 where
+  pub grants : (q : List ℕ) → granted_to new q ≡ granted_to old q
+  pub jobs : new.jobs ≡ entries
+
+-- why a grant is refused
+abbrev pub RefusesGrant : Ledger → List ℕ → ℕ → DeskFault → Type 0
+RefusesGrant old name amount fault.TooLarge = most_granted < unwrap_or (granted_to old name) 0 + amount
+RefusesGrant old name amount fault.NoMemory = granted_to old name ≡ None
+RefusesGrant old name amount other = ⊥
+
+-- a tenant's balance is this
+pub record HasBalance (ledger : Ledger) (name : List ℕ) (balance : ℕ) : Type 0 where
+  pub account : Account
+  pub is : account_at ledger name ≡ Ok account
+  pub same : account.balance ≡ balance
+
+-- a job is taken: it is the last one, and open
+pub record Takes (old : Ledger) (name : List ℕ) (credit : ℕ) (new : Ledger) : Type 0 where
+  pub entry : JobEntry
+  pub tenant : string_bytes entry.tenant ≡ name
+  pub credited : entry.credit ≡ credit
+  pub opened : entry.standing ≡ Open
+  pub balance : ℕ
+  pub had : HasBalance old name balance
+  pub enough : credit ≤ balance
+  pub jobs : HasJobs old (old.jobs ++ entry ∷ []) new
+
+-- why a job isn't taken, in this order
+abbrev pub RefusesSubmit : Ledger → List ℕ → List ProgramBytes → ℕ → List ℕ → SubmitFault → Type 0
+RefusesSubmit old name programs credit buffer submit.NoTenant = granted_to old name ≡ None
+RefusesSubmit old name programs credit buffer submit.BalanceLow = (balance : ℕ) × HasBalance old name balance × (balance < credit)
+RefusesSubmit old name programs credit buffer (submit.Admit why) =
+    (balance : ℕ) × HasBalance old name balance × (credit ≤ balance) × RefusesJob programs credit buffer why
+
+-- an open job is over
+pub record Finishes (old : Ledger) (number : ℕ) (outcome : Result Report ℕ) (new : Ledger) : Type 0 where
+  pub entry : JobEntry
+  pub was : job_at old.jobs number ≡ Some entry
+  pub opened : entry.standing ≡ Open
+  pub jobs : HasJobs old (slice_set old.jobs (number - 1) (record entry { standing = settled entry.credit outcome })) new
+
+-- no open job has the number
+abbrev pub IsNotOpen : Ledger → ℕ → Type 0
+IsNotOpen ledger number = (entry : JobEntry) → job_at ledger.jobs number ≡ Some entry → entry.standing ≡ Open → ⊥
+
+abbrev pub progress_in : Option JobEntry → Progress → Result Progress DeskFault
+progress_in (Some entry) seen = progress_of entry.standing seen
+progress_in None seen = Err fault.NoJob
+
+unfoldable pub progress_at : Ledger → ℕ → Progress → Result Progress DeskFault
+progress_at ledger number seen = progress_in (job_at ledger.jobs number) seen
+
+abbrev pub report_in : Option JobEntry → Result Report DeskFault
+report_in (Some entry) = report_of entry.standing
+report_in None = Err fault.NoJob
+
+unfoldable pub report_at : Ledger → ℕ → Result Report DeskFault
+report_at ledger number = report_in (job_at ledger.jobs number)
+
+-- ---- what the desk keeps
+
+-- the sums are those of the tenant's jobs, and within the grants
+pub record IsSummed (jobs : List JobEntry) (name : List ℕ) (sums : Sums) : Type 0 where
+  pub opened : sums.opened ≡ opened_by jobs name
+  pub spent : sums.spent ≡ spent_by jobs name
+  pub within : sums.opened + sums.spent ≤ sums.granted
+  pub limit : sums.granted ≤ most_granted
+
+-- each tenant's sums are right, and each job is a tenant's
+pub record IsKept (sums : List ℕ → Option Sums) (jobs : List JobEntry) : Type 0 where
+  pub each : (name : List ℕ) (s : Sums) → sums name ≡ Some s → IsSummed jobs name s
+  pub owned : (n : ℕ) (entry : JobEntry) → slice_get jobs n ≡ Some entry → (s : Sums) × (sums (string_bytes entry.tenant) ≡ Some s)
+
+-- what the tenants' map says of the grants
+abbrev pub granted_by : {Y : Type 0} → String Y × Sums → List ℕ × ℕ
+granted_by entry = (string_bytes entry.0, entry.1.granted)
+
+abbrev pub ledger_of : {Y : Type 0} → BTreeMap (String Y) Sums → List JobEntry → Ledger
+ledger_of tenants jobs = record { grants = map granted_by tenants.entries; jobs = jobs }

@@ -1,0 +1,196 @@
+//! The desk, where tenants are granted credit and give jobs.
+
+use crate::fault::{DeskFault, SubmitFault};
+use crate::jobs::{JobEntry, Standing, entry_at, note, settle};
+use crate::tenants::{Account, Sums, account_of, add, change, sums_of};
+use credit_book::{Progress, Report};
+use job_core::{Job, ProgramBytes, admit};
+use std::alloc::Global;
+use std::collections::BTreeMap;
+use std::marker::Model;
+
+const MOST_GRANTED: u64 = 1_000_000_000_000;
+
+/// Tenants and their jobs.
+///
+/// A tenant's sums are kept beside its name, so that no call goes over the jobs: tenants are found by a search in a tree, and jobs,
+/// whose numbers run from 1, by their place.
+#[derive(Drop)]
+pub struct Desk {
+    tenants: BTreeMap<String, Sums>,
+    jobs: Vec<JobEntry>,
+}
+
+impl Model for Desk {
+    ghost use Rattle.std.specs.BTreeMap as tree;
+    ghost use Rattle.accounts.specs.Ledgers.{Ledger, IsKept, ledger_of};
+
+    ghost Value = { Ledger };
+
+    ghost view = { λ d. ledger_of d.tenants d.jobs.items };
+
+    ghost invariant = { λ d. IsKept (tree.get_by_text d.tenants) d.jobs.items };
+}
+
+impl Desk {
+    ghost use Rattle.std.specs.Prelude.{◌≡◌, ◌+◌, [], IfOk, IfErr, OnOk, OnErr, Ok, Err, MatchResult, length};
+    ghost use Rattle.job_core.specs.Admission.{IsAdmittedFrom};
+    ghost use Rattle.accounts.specs.declared.fault.DeskFault.TheVariants as fault;
+    ghost use Rattle.accounts.specs.Ledgers.{account_at, GrantsMore, RefusesGrant, Takes, RefusesSubmit, Finishes, IsNotOpen, progress_at, report_at};
+
+    /// A desk with no tenant.
+    pub fn new(alloc: Global) -> Desk
+        ensures { result ≡ record { grants = []; jobs = [] } }
+    {
+        Desk {
+            tenants: BTreeMap::new(alloc),
+            jobs: Vec::new(alloc),
+        }
+    }
+
+    /// A tenant's account; 74 where it was granted nothing.
+    #[tactic(auto, unfolding(crate::specs::Ledgers::account_at))]
+    pub fn account(&self, tenant: &str) -> Result<Account, DeskFault>
+        ensures account { result ≡ account_at self.now tenant.now }
+        ensures adds_up { IfOk result (λ a. a.balance + a.opened + a.spent ≡ a.granted) }
+    {
+        match sums_of(&self.tenants, tenant) {
+            Some(sums) => Ok(account_of(sums)),
+            None => Err(DeskFault::NoTenant),
+        }
+    }
+
+    /// Grants credit to a tenant, which is made if it is new, and answers its account.
+    ///
+    /// 65 where its grants would pass 1,000,000,000,000 in all, and 99 where a growth was refused, which only a new tenant asks for.
+    #[tactic(auto, unfolding(crate::specs::Ledgers::account_at))]
+    pub fn grant(&mut self, alloc: Global, tenant: &str, amount: u32) -> Result<Account, DeskFault>
+        ensures granted { OnOk result (GrantsMore self.old tenant.now amount self.new) }
+        ensures account { IfOk result (λ _. result ≡ account_at self.new tenant.now) }
+        ensures refused { IfErr result (λ e. RefusesGrant self.old tenant.now amount e) }
+        ensures unchanged { OnErr result (self.new ≡ self.old) }
+    {
+        match sums_of(&self.tenants, tenant) {
+            Some(sums) => {
+                let granted = sums.granted + u64::from(amount);
+                if granted > MOST_GRANTED {
+                    return Err(DeskFault::TooLarge);
+                }
+                let more = Sums { granted, ..sums };
+                change(&mut self.tenants, tenant, more);
+                Ok(account_of(more))
+            }
+            None => {
+                let first = Sums {
+                    granted: u64::from(amount),
+                    opened: 0,
+                    spent: 0,
+                };
+                add(alloc, &mut self.tenants, tenant, first)?;
+                Ok(account_of(first))
+            }
+        }
+    }
+
+    /// Takes a job, and answers its number, counted from 1: its credit goes from the tenant's balance to what it has open.
+    ///
+    /// 74 where the tenant was granted nothing, then 75 where the credit is over its balance, then what [`admit`] refuses, then 99. A
+    /// refusal uses up no number.
+    pub fn submit(
+        &mut self,
+        alloc: Global,
+        tenant: &str,
+        programs: &[ProgramBytes],
+        credit: u32,
+        buffer: Vec<u8>,
+    ) -> Result<(u64, Job), SubmitFault>
+        ensures taken { OnOk result (Takes self.old tenant.now credit self.new) }
+        ensures number { IfOk result (λ taken. taken.0 ≡ length self.new.jobs) }
+        ensures admitted { IfOk result (λ taken. IsAdmittedFrom programs.now credit buffer.items taken.1) }
+        ensures refused { IfErr result (λ e. RefusesSubmit self.old tenant.now programs.now credit buffer.items e) }
+        ensures unchanged { OnErr result (self.new ≡ self.old) }
+    {
+        let Some(sums) = sums_of(&self.tenants, tenant) else {
+            return Err(SubmitFault::NoTenant);
+        };
+        if u64::from(credit) > account_of(sums).balance {
+            return Err(SubmitFault::BalanceLow);
+        }
+        let job = admit(alloc, programs, credit, buffer)?;
+        let entry = JobEntry {
+            tenant: String::from_str(alloc, tenant)?,
+            credit,
+            standing: Standing::Open,
+        };
+        self.jobs.reserve(1)?;
+        self.jobs.push_reserved(entry);
+        let opened = sums.opened + u64::from(credit);
+        change(&mut self.tenants, tenant, Sums { opened, ..sums });
+        Ok((self.jobs.len() as u64, job))
+    }
+
+    /// Ends an open job with its report, or with the number of what it failed by; 76 where no open job has the number.
+    ///
+    /// What the report has spent is spent, and the rest of the job's credit is back in the balance. A report whose spent and returned
+    /// don't add up to the credit counts as 82; with a number the whole credit goes back.
+    pub fn finish(&mut self, job: u64, outcome: Result<Report, u8>) -> Result<(), DeskFault>
+        ensures finished { OnOk result (Finishes self.old job outcome self.new) }
+        ensures refused { IfErr result (λ e. (e ≡ fault.NoJob) × IsNotOpen self.old job) }
+        ensures unchanged { OnErr result (self.new ≡ self.old) }
+    {
+        let Some(entry) = entry_at(&self.jobs, job) else {
+            return Err(DeskFault::NoJob);
+        };
+        if !entry.standing.is_open() {
+            return Err(DeskFault::NoJob);
+        }
+        let settled = settle(entry.credit, outcome);
+        let Some(sums) = sums_of(&self.tenants, &entry.tenant) else {
+            unreachable!()
+        };
+        let after = Sums {
+            opened: sums.opened - u64::from(entry.credit),
+            spent: sums.spent + u64::from(settled.spent()),
+            ..sums
+        };
+        change(&mut self.tenants, &entry.tenant, after);
+        note(&mut self.jobs, job, settled);
+        Ok(())
+    }
+
+    /// What a job has come to: its report's totals, or what was seen of it while it is open.
+    ///
+    /// 76 where there is no such job, or the number that it failed by.
+    #[tactic(auto, unfolding(crate::specs::Ledgers::progress_at))]
+    pub fn status(&self, job: u64, seen: Progress) -> Result<Progress, DeskFault>
+        ensures { result ≡ progress_at self.now job seen }
+    {
+        let Some(entry) = entry_at(&self.jobs, job) else {
+            return Err(DeskFault::NoJob);
+        };
+        match &entry.standing {
+            Standing::Open => Ok(seen),
+            Standing::Reported(report) => Ok(Progress {
+                spent: report.spent,
+                returned: report.returned,
+                complete: true,
+            }),
+            Standing::Failed(code) => Err(DeskFault::Failed(*code)),
+        }
+    }
+
+    /// The report of a job; 76 where there is no such job, 77 while it is open, or the number that it failed by.
+    #[tactic(auto, unfolding(crate::specs::Ledgers::report_at))]
+    pub fn result(&self, job: u64) -> Result<&Report, DeskFault>
+        ensures { MatchResult result (λ report. report_at self.now job ≡ Ok report.now) (λ e. report_at self.now job ≡ Err e) }
+    {
+        let Some(entry) = entry_at(&self.jobs, job) else {
+            return Err(DeskFault::NoJob);
+        };
+        match &entry.standing {
+            Standing::Open => Err(DeskFault::NotComplete),
+            Standing::Reported(report) => Ok(report),
+            Standing::Failed(code) => Err(DeskFault::Failed(*code)),
+        }
+    }
+}

@@ -1,0 +1,16 @@
+//! Tenants' accounts: the credit that they were granted, and the jobs that they gave it to.
+#![tactic(auto)]
+
+// what is kept
+mod jobs;
+mod tenants;
+
+pub use jobs::{JobEntry, Standing};
+pub use tenants::{Account, Sums};
+
+// what is asked of it
+mod desk;
+mod fault;
+
+pub use desk::Desk;
+pub use fault::{DeskFault, SubmitFault};

@@ -1,0 +1,78 @@
+-- The JSON of a reply.
+use Rattle.std.specs.Prelude.{ℕ, List, [], ◌∷◌, map, length, Bool, true, false, codes, nat_le, if◌then◌else◌, Option, Some, None}
+use Rattle.hex.specs.Hex.{encode_lower}
+use Rattle.serde_json.specs.Data.{Data, boolean, number, unsigned, string, array, object, Items, no_items, item, Members, no_members, member}
+use Rattle.serde_json.specs.Written.{compact_text}
+use Rattle.credit_book.specs.declared.event.TaskEnd.{TaskEnd}
+use Rattle.sessions.specs.Frames.{framed}
+use Rattle.sessions.specs.declared.reply.Reply.{Reply}
+use Rattle.sessions.specs.declared.reply.Reply.TheVariants as reply
+
+-- a whole number
+abbrev pub whole : ℕ → Data
+whole n = number (unsigned n)
+
+-- the program and the slot of a refusal, where it has them
+abbrev pub place_members : Option ℕ → Option ℕ → Members
+place_members None slot = no_members
+place_members (Some program) None = member (codes "program") (whole program) no_members
+place_members (Some program) (Some slot) =
+    member (codes "program") (whole program) (member (codes "slot") (whole slot) no_members)
+
+unfoldable pub refusal_data : ℕ → Option ℕ → Option ℕ → Data
+refusal_data code program slot =
+    object (member (codes "code") (whole code) (member (codes "ok") (boolean false) (place_members program slot)))
+
+unfoldable pub account_data : ℕ → ℕ → ℕ → ℕ → Data
+account_data balance granted opened spent =
+    object (member (codes "balance") (whole balance) (member (codes "granted") (whole granted)
+    (member (codes "ok") (boolean true) (member (codes "open") (whole opened) (member (codes "spent") (whole spent) no_members)))))
+
+unfoldable pub submit_data : ℕ → Data
+submit_data job = object (member (codes "job") (whole job) (member (codes "ok") (boolean true) no_members))
+
+unfoldable pub status_data : Bool → ℕ → ℕ → Data
+status_data complete returned spent =
+    object (member (codes "complete") (boolean complete) (member (codes "ok") (boolean true)
+    (member (codes "returned") (whole returned) (member (codes "spent") (whole spent) no_members))))
+
+unfoldable pub task_data : TaskEnd → Data
+task_data t =
+    object (member (codes "number") (whole t.number) (member (codes "program") (whole t.program)
+    (member (codes "r0") (whole t.r0) (member (codes "ran") (boolean t.ran) (member (codes "rest") (whole t.rest)
+    (member (codes "spent") (whole t.spent) no_members))))))
+
+-- a list of values as an array's items
+abbrev pub items : List Data → Items
+items [] = no_items
+items (d ∷ ds) = item d (items ds)
+
+unfoldable pub result_data : List ℕ → ℕ → ℕ → List TaskEnd → Data
+result_data buffer returned spent tasks =
+    object (member (codes "buffer") (string (encode_lower buffer)) (member (codes "ok") (boolean true)
+    (member (codes "returned") (whole returned) (member (codes "spent") (whole spent)
+    (member (codes "tasks") (array (items (map task_data tasks))) no_members)))))
+
+unfoldable pub play_data : List ℕ → Bool → ℕ → ℕ → ℕ → ℕ → Data
+play_data buffer complete held returned spent used =
+    object (member (codes "buffer") (string (encode_lower buffer)) (member (codes "complete") (boolean complete)
+    (member (codes "held") (whole held) (member (codes "ok") (boolean true) (member (codes "returned") (whole returned)
+    (member (codes "spent") (whole spent) (member (codes "used") (whole used) no_members)))))))
+
+abbrev pub reply_data : Reply → Data
+reply_data (reply.Refused code program slot) = refusal_data code program slot
+reply_data (reply.Account balance granted opened spent) = account_data balance granted opened spent
+reply_data (reply.Submit job) = submit_data job
+reply_data (reply.Status complete returned spent) = status_data complete returned spent
+reply_data (reply.Result buffer returned spent tasks) = result_data buffer.now returned spent tasks.now
+reply_data (reply.Play buffer complete held returned spent used) = play_data buffer.now complete held returned spent used
+
+-- the bytes of a reply
+abbrev pub text_of : Reply → List ℕ
+text_of reply = compact_text (reply_data reply)
+
+-- a reply whose length no four bytes write is answered by refusal 65
+unfoldable pub frame_of : Reply → List ℕ
+frame_of reply =
+    if nat_le (length (text_of reply)) 4294967295 then framed (text_of reply)
+    else framed (compact_text (refusal_data 65 None None))

@@ -1,0 +1,22 @@
+//! What a server hears and says: frames cut from a stream, the requests in them, and the replies.
+#![tactic(auto)]
+
+// a stream in pieces
+mod fault;
+mod law;
+mod session;
+
+pub use fault::SessionFault;
+pub use law::frames_of_all_pieces;
+pub use session::Session;
+
+// what its frames ask
+mod member;
+mod request;
+
+pub use request::{JobObject, Request, job_object};
+
+// what is answered
+mod reply;
+
+pub use reply::{Reply, reply_frame, reply_text};
