@@ -124,11 +124,11 @@ unique_at p a b order (suc n) s j f x y behind within =
     x s within
     ∙ (arriving_same p a b s (length p.code)
     (λ k fact edge.
-        let h = behind k fact edge in
-        let below : h.0 < suc n = h.1 in
-        let low : h.0 ≤ n = omega (arith, below) in
-        unique_at p a b order n k j f x y (subst (λ (u : ℕ). AreBehind p order u n) h.3 (behind_below p order h.0 n f low h.2))
-        (begins_within p.code k (edge_begins p.code k fact s edge)))
+    let h = behind k fact edge in
+    let below : h.0 < suc n = h.1 in
+    let low : h.0 ≤ n = omega (arith, below) in
+    unique_at p a b order n k j f x y (subst (λ (u : ℕ). AreBehind p order u n) h.3 (behind_below p order h.0 n f low h.2))
+    (begins_within p.code k (edge_begins p.code k fact s edge)))
     ∙ sym (y s within))
 
 pub arrive_unique : (p : Subject) (a b : ℕ → Arrival) (order : List ℕ) (s : ℕ) → IsJoined p.code → IsOrder p.code order → IsArrive p a →
@@ -143,11 +143,11 @@ within_same p order n (suc m) zero s f behind x y = absurd (omega arith)
 within_same p order n (suc m) (suc l) s f behind x y =
     arriving_same p (arrive_within p m) (arrive_within p l) s (length p.code)
     (λ k fact edge.
-        let h = behind k fact edge in
-        let below : h.0 < n = h.1 in
-        let left : h.0 < m = omega (arith, below, x) in
-        let right : h.0 < l = omega (arith, below, y) in
-        within_same p order h.0 m l k f (subst (λ (u : ℕ). AreBehind p order u h.0) h.3 (behind_place p order h.0 f h.2)) left right)
+    let h = behind k fact edge in
+    let below : h.0 < n = h.1 in
+    let left : h.0 < m = omega (arith, below, x) in
+    let right : h.0 < l = omega (arith, below, y) in
+    within_same p order h.0 m l k f (subst (λ (u : ℕ). AreBehind p order u h.0) h.3 (behind_place p order h.0 f h.2)) left right)
 
 -- at the slot of a place
 pub arrive_at_place : (p : Subject) (order : List ℕ) (place : ℕ) → IsOrder p.code order → length order ≤ length p.code → place < length order →

@@ -180,22 +180,25 @@ told_more : (p : Subject) (order : List ℕ) (states new : List (Option State)) 
     IsExamined p new findings (slice_index order n) finding → IsFirst p order findings n first →
     IsFirst p order (slice_set findings (slice_index order n) finding) (suc n) first
 told_more p order states new findings None n finding f lt room h examined told = λ s m. elim (cases_eq s (slice_index order n)) [
-  | inl e ↦
-      ((λ refused.
-          let here : finding ≡ Some Refused = sym (get_or-set_same findings (slice_index order n) finding None room)
-              ∙ subst (λ (k : ℕ). slice_index_or (slice_set findings (slice_index order n) finding) k None ≡ Some Refused) e refused in
-          let from = examined.from here in
-          (told from.0 (joint_among p order n from.0 f lt from.1)).0 from.2),
-      subst (λ (k : ℕ). IsAllowedAt p k) (sym e) examined.allowed)
+  | inl e ↦ (
+    (λ refused.
+        let here : finding ≡ Some Refused = sym (get_or-set_same findings (slice_index order n) finding None room)
+        ∙ subst (λ (k : ℕ). slice_index_or (slice_set findings (slice_index order n) finding) k None ≡ Some Refused) e refused in
+        let from = examined.from here in
+        (told from.0 (joint_among p order n from.0 f lt from.1)).0 from.2),
+    subst (λ (k : ℕ). IsAllowedAt p k) (sym e) examined.allowed,
+  )
   | inr ne ↦
       let before = told s (among_before order n s m ne) in
       ((λ refused. before.0 (sym (get_or-set_other findings (slice_index order n) s finding None ne) ∙ refused)), before.1)
 ]
-told_more p order states new findings (Some before) n finding f lt room h examined told =
-    (told.0, λ s m below. elim (cases_eq s (slice_index order n)) [
-      | inl e ↦ subst (λ (k : ℕ). IsAllowedAt p k) (sym e) examined.allowed
-      | inr ne ↦ told.1 s (among_before order n s m ne) below
-    ])
+told_more p order states new findings (Some before) n finding f lt room h examined told = (
+  told.0,
+  λ s m below. elim (cases_eq s (slice_index order n)) [
+    | inl e ↦ subst (λ (k : ℕ). IsAllowedAt p k) (sym e) examined.allowed
+    | inr ne ↦ told.1 s (among_before order n s m ne) below
+  ],
+)
 
 -- an instruction has been examined that has no fault of its own
 pub come_examined : (p : Subject) (order : List ℕ) (states new : List (Option State)) (findings : List (Option Finding)) (first : Option Fault) (n : ℕ)
@@ -238,17 +241,20 @@ earlier_below g f = grind (arith, nat_tests)
 
 told_fault : (p : Subject) (order : List ℕ) (findings : List (Option Finding)) (first : Option Fault) (n : ℕ) (f : Fault) → f.slot ≡ slice_index order n →
     IsFaulty p f.slot f.number → IsFirst p order findings n first → (later : List (Option Finding)) → IsFirst p order later (suc n) (Some (earlier first f))
-told_fault p order findings None n f at h told later =
-    (h, λ s m below.
-        let ne : s ≢ slice_index order n = omega (arith, below, at) in (told s (among_before order n s m ne)).1)
-told_fault p order findings (Some g) n f at h told later =
-    (earlier_faulty p (Some g) f h (λ k e. subst (λ (j : Fault). IsFaulty p j.slot j.number) (same_fault g k e) told.0),
-    λ s m below.
-        let low = earlier_low (Some g) f in
-        let under = earlier_below g f in
-        let ne : s ≢ slice_index order n = omega (arith, below, at, low) in
-        let before : s < g.slot = omega (arith, below, under) in
-        told.1 s (among_before order n s m ne) before)
+told_fault p order findings None n f at h told later = (
+  h,
+  λ s m below.
+      let ne : s ≢ slice_index order n = omega (arith, below, at) in (told s (among_before order n s m ne)).1,
+)
+told_fault p order findings (Some g) n f at h told later = (
+  earlier_faulty p (Some g) f h (λ k e. subst (λ (j : Fault). IsFaulty p j.slot j.number) (same_fault g k e) told.0),
+  λ s m below.
+      let low = earlier_low (Some g) f in
+      let under = earlier_below g f in
+      let ne : s ≢ slice_index order n = omega (arith, below, at, low) in
+      let before : s < g.slot = omega (arith, below, under) in
+      told.1 s (among_before order n s m ne) before,
+)
   where
     same_fault : (g k : Fault) → Some g ≡ Some k → g ≡ k
     same_fault g k e = cc

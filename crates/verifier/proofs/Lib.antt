@@ -1,7 +1,6 @@
 pub mod StateLemmas
 pub mod ArgumentLemmas
 pub mod Arrivals
-
 pub mod FaultLemmas
 pub mod TableErrors
 pub mod Predecodings
@@ -10,3 +9,4 @@ pub mod Pulling
 pub mod Comings
 pub mod Soundness
 pub mod Verdicts
+pub mod OneVerdict

@@ -61,11 +61,14 @@ next_before code s n None none h = λ p from joint. elim (cases_lt n p) [
   | inr ge ↦ let same : p ≡ n = omega (arith, from, ge) in none (subst (λ (q : ℕ). IsJoint code q s) same joint)
 ]
 next_before code s n (Some q) none h =
-    let le : n ≤ q = omega (arith, h.0) in
-    (le, h.1, λ p from below joint. elim (cases_lt n p) [
-      | inl lt ↦ h.2 p lt below joint
-      | inr ge ↦ let same : p ≡ n = omega (arith, from, ge) in none (subst (λ (q : ℕ). IsJoint code q s) same joint)
-    ])
+    let le : n ≤ q = omega (arith, h.0) in (
+      le,
+      h.1,
+      λ p from below joint. elim (cases_lt n p) [
+        | inl lt ↦ h.2 p lt below joint
+        | inr ge ↦ let same : p ≡ n = omega (arith, from, ge) in none (subst (λ (q : ℕ). IsJoint code q s) same joint)
+      ],
+    )
 
 -- what the links of one slot are for another: it leads there and is linked first, or it doesn't and nothing has changed
 abbrev IsStep : Code → Links → Links → ℕ → Next → ℕ → Type 0
@@ -175,9 +178,11 @@ linked_one code old new n to next h is inside within joint only link first follo
         let room : to < length old.first = omega (arith, within, h.firsts) in
         let space : n < length old.following = omega (arith, inside, h.followings) in
         subst (λ (t : ℕ). IsStep code old new n next t) (sym e)
-        (inl (joint,
-        ap (λ (xs : List (Option ℕ)). slice_index_or xs to None) first ∙ get_or-set_same old.first to (Some n) None room,
-        link new ∙ (ap (λ (xs : List (Option ℕ)). slice_index_or xs n None) following ∙ get_or-set_same old.following n (slice_index_or old.first to None) None space)))
+        (inl (
+          joint,
+          ap (λ (xs : List (Option ℕ)). slice_index_or xs to None) first ∙ get_or-set_same old.first to (Some n) None room,
+          link new ∙ (ap (λ (xs : List (Option ℕ)). slice_index_or xs n None) following ∙ get_or-set_same old.following n (slice_index_or old.first to None) None space),
+        ))
     by_end s (inr ne) =
         inr (λ j. ne (only s j), ap (λ (xs : List (Option ℕ)). slice_index_or xs s None) first ∙ get_or-set_other old.first to s (Some n) None ne)
 
@@ -221,24 +226,30 @@ linked_two code old middle new n following to h is inside low high apart a b c x
         let room : to < length middle.first = omega (arith, high, h.firsts, long) in
         let space : n < length middle.taken = omega (arith, inside, h.takens, ap length c) in
         subst (λ (t : ℕ). IsStep code old new n (Two following to) t) (sym e)
-        (inl ((Taken, is.2),
-        ap (λ (xs : List (Option ℕ)). slice_index_or xs to None) x ∙ get_or-set_same middle.first to (Some n) None room,
-        link_to ∙ (ap (λ (xs : List (Option ℕ)). slice_index_or xs n None) z
-        ∙ (get_or-set_same middle.taken n (slice_index_or middle.first to None) None space ∙ first_to))))
+        (inl (
+          (Taken, is.2),
+          ap (λ (xs : List (Option ℕ)). slice_index_or xs to None) x ∙ get_or-set_same middle.first to (Some n) None room,
+          link_to ∙ (ap (λ (xs : List (Option ℕ)). slice_index_or xs n None) z
+              ∙ (get_or-set_same middle.taken n (slice_index_or middle.first to None) None space ∙ first_to)),
+        ))
     by_end s (inr ne) (inl e) =
         let room : following < length old.first = omega (arith, low, h.firsts) in
         let space : n < length old.following = omega (arith, inside, h.followings) in
         let other : following ≢ to = omega (arith, apart) in
         subst (λ (t : ℕ). IsStep code old new n (Two following to) t) (sym e)
-        (inl ((NotTaken, is.1),
-        ap (λ (xs : List (Option ℕ)). slice_index_or xs following None) x ∙ (get_or-set_other middle.first to following (Some n) None other
-        ∙ (ap (λ (xs : List (Option ℕ)). slice_index_or xs following None) a ∙ get_or-set_same old.first following (Some n) None room)),
-        link_following ∙ (ap (λ (xs : List (Option ℕ)). slice_index_or xs n None) (y ∙ b)
-        ∙ get_or-set_same old.following n (slice_index_or old.first following None) None space)))
+        (inl (
+          (NotTaken, is.1),
+          ap (λ (xs : List (Option ℕ)). slice_index_or xs following None) x ∙ (get_or-set_other middle.first to following (Some n) None other
+              ∙ (ap (λ (xs : List (Option ℕ)). slice_index_or xs following None) a ∙ get_or-set_same old.first following (Some n) None room)),
+          link_following ∙ (ap (λ (xs : List (Option ℕ)). slice_index_or xs n None) (y ∙ b)
+              ∙ get_or-set_same old.following n (slice_index_or old.first following None) None space),
+        ))
     by_end s (inr ne) (inr other) =
-        inr ((λ j. neither s ne other (joint_two code n following to s is j)),
-        ap (λ (xs : List (Option ℕ)). slice_index_or xs s None) x ∙ (get_or-set_other middle.first to s (Some n) None ne
-        ∙ (ap (λ (xs : List (Option ℕ)). slice_index_or xs s None) a ∙ get_or-set_other old.first following s (Some n) None other)))
+        inr (
+          (λ j. neither s ne other (joint_two code n following to s is j)),
+          ap (λ (xs : List (Option ℕ)). slice_index_or xs s None) x ∙ (get_or-set_other middle.first to s (Some n) None ne
+              ∙ (ap (λ (xs : List (Option ℕ)). slice_index_or xs s None) a ∙ get_or-set_other old.first following s (Some n) None other)),
+        )
       where
         neither : (s : ℕ) → s ≢ to → s ≢ following → (s ≡ following) ⊎ (s ≡ to) → ⊥
         neither s ne other (inl e) = other e

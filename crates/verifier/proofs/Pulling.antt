@@ -109,9 +109,11 @@ pub pulled_on : (p : Subject) (s n : ℕ) (state : Option State) (o : Option ℕ
 pulled_on p s n state None none le e =
     e ∙ sym (joined_over_stops p (arrive p) s n (length p.code - n) (length p.code) (omega arith)
     (λ k from below fact edge. none k from (fact, edge)))
-pulled_on p s n state (Some q) next le e =
-    (next.1, e ∙ sym (joined_over_stops p (arrive p) s n (q - n) q (omega (arith, next.0))
-    (λ k from below fact edge. next.2 k from below (fact, edge))))
+pulled_on p s n state (Some q) next le e = (
+  next.1,
+  e ∙ sym (joined_over_stops p (arrive p) s n (q - n) q (omega (arith, next.0))
+      (λ k from below fact edge. next.2 k from below (fact, edge))),
+)
 
 through : (v : Arrival) {x y z p q r : Arrival} → x ≡ p → y ≡ q → z ≡ r → met (met (met v x) y) z ≡ met (met (met v p) q) r
 through v f g h = cc

@@ -160,8 +160,11 @@ pub record IsSoundTable (subject : Subject) (states : List (Option State)) : Typ
 pub sound_of : (subject : Subject) (order : List ℕ) (states : List (Option State)) → IsFlow (record { code = subject.code; order = order }) →
     IsTable subject states → IsSoundTable subject states
 sound_of subject order states f t = record {
-  entry = (entry_state subject.need,
-      first_of_all (state_in states 0) (t.each 0 f.joined.starts ∙ arrive_is subject order f.joined f.order f.short 0 f.joined.starts), λ r v h. h);
+  entry = (
+    entry_state subject.need,
+    first_of_all (state_in states 0) (t.each 0 f.joined.starts ∙ arrive_is subject order f.joined f.order f.short 0 f.joined.starts),
+    λ r v h. h,
+  );
   allowed = λ p i state x y. t.allowed p i state x (arrives p i state x y);
   covered = λ p i state x y fact s edge.
       edge_covered subject order states p s i state fact f t (inside p i x) x (arrives p i state x y)

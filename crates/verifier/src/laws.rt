@@ -1,7 +1,12 @@
 //! The laws of the definitions.
 
-ghost use Rattle.std.specs.Prelude.{◌≡◌, ℕ, ◌<◌, List, length};
+ghost use Rattle.std.specs.Prelude.{◌≡◌, ◌≢◌, ℕ, ◌<◌, List, length};
 ghost use Rattle.flow_graph.specs.Flow.{IsFlow};
+ghost use Rattle.helpers.specs.Table.{Table};
+ghost use Rattle.verifier.specs.declared.refusals.Refusal.{Refusal};
+ghost use Rattle.verifier.specs.declared.refusals.Refusal.TheVariants.{NoMemory};
+ghost use Rattle.verifier.specs.Checked.{Checked};
+ghost use Rattle.verifier.specs.Refusals.{Refuses, IsAccepted};
 ghost use Rattle.verifier.specs.Arrive.{Subject, Arrival, IsArrive, arrive};
 
 /// Of a program that has a graph, `arrive` solves its equation: the entry state arrives at the first slot, and elsewhere the
@@ -14,4 +19,16 @@ pub fn arrivals_are_joined()
 pub fn arrivals_are_unique()
     ensures { (p : Subject) (order : List ℕ) (other : ℕ → Arrival) → IsFlow (record { code = p.code; order = order }) → IsArrive p other →
         (s : ℕ) → s < length p.code → other s ≡ arrive p s }
+{}
+
+/// A program has one refusal at most, but for want of memory.
+pub fn one_refusal()
+    ensures { (need : ℕ) (bytes : List ℕ) (helpers : Table) (f g : Refusal) → Refuses need bytes helpers f → Refuses need bytes helpers g
+        → f ≢ NoMemory → g ≢ NoMemory → f ≡ g }
+{}
+
+/// A program that is accepted is refused for want of memory alone.
+pub fn nothing_refused()
+    ensures { (need : ℕ) (bytes : List ℕ) (helpers : Table) (v : Checked) (f : Refusal) → IsAccepted need bytes helpers v
+        → Refuses need bytes helpers f → f ≡ NoMemory }
 {}

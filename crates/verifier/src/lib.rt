@@ -7,13 +7,13 @@ mod laws;
 mod passing;
 mod refusals;
 mod regions;
-mod state;
 mod sources;
+mod state;
 mod states;
 mod verification;
 mod verified;
 
-pub use laws::{arrivals_are_joined, arrivals_are_unique};
+pub use laws::{arrivals_are_joined, arrivals_are_unique, nothing_refused, one_refusal};
 pub use refusals::Refusal;
 pub use state::State;
 pub use verification::verify;

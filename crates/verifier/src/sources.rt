@@ -38,7 +38,11 @@ impl Sources {
         let first = vec![in alloc; None; slots as usize]?;
         let following = vec![in alloc; None; slots as usize]?;
         let taken = vec![in alloc; None; slots as usize]?;
-        Ok(Sources { first, following, taken })
+        Ok(Sources {
+            first,
+            following,
+            taken,
+        })
     }
 
     /// The slot leads to another by its edge to the following slot, or by its only one.

@@ -67,7 +67,14 @@ fn pull_edge(states: &mut [Option<State>], from: u32, to: u32, insn: &Insn, take
 }
 
 /// What the instruction at a slot passes on comes to another slot along each edge that leads there. Tells where its edges lead.
-fn pull_from(states: &mut [Option<State>], graph: &Graph, from: u32, to: u32, insn: &Insn, left: &Abs) -> Next
+fn pull_from(
+    states: &mut [Option<State>],
+    graph: &Graph,
+    from: u32,
+    to: u32,
+    insn: &Insn,
+    left: &Abs,
+) -> Next
     requires insn { insn_at graph.now.code from ≡ Some insn.now }
     requires length { length states.old ≡ length graph.now.code }
     requires other { from ≢ to }
@@ -116,7 +123,12 @@ pub(crate) struct Survey<'a> {
 
 /// What arrives at a slot other than the first comes there, from each slot that leads to it. False where something undefined
 /// does.
-fn pull(states: &mut [Option<State>], findings: &[Option<Finding>], survey: &Survey<'_>, to: u32) -> bool
+fn pull(
+    states: &mut [Option<State>],
+    findings: &[Option<Finding>],
+    survey: &Survey<'_>,
+    to: u32,
+) -> bool
     requires linked { AreLinked survey.now.graph.now.code survey.now.sources.now 0 }
     requires long { length states.old ≡ length survey.now.graph.now.code }
     requires findings { length findings.now ≡ length survey.now.graph.now.code }
@@ -151,7 +163,12 @@ fn pull(states: &mut [Option<State>], findings: &[Option<Finding>], survey: &Sur
 }
 
 /// What arrives at a slot comes there. False where that is undefined.
-fn arrive(states: &mut [Option<State>], findings: &[Option<Finding>], survey: &Survey<'_>, slot: u32) -> bool
+fn arrive(
+    states: &mut [Option<State>],
+    findings: &[Option<Finding>],
+    survey: &Survey<'_>,
+    slot: u32,
+) -> bool
     requires need { survey.now.need ≤ 65536 }
     requires linked { AreLinked survey.now.graph.now.code survey.now.sources.now 0 }
     requires long { length states.old ≡ length survey.now.graph.now.code }

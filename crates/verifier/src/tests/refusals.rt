@@ -4,7 +4,7 @@ use super::programs::Line::{
     Alu, Alu32, AluBy, Call, Copy, Copy32, End, Exit, Extend, If, IfBy, Ja, Ja32, Load, Neg, Set,
     Store, StoreFrom, Wide,
 };
-use super::programs::Name::{R0, R1, R2, R3, R4, R5, R6, R7, R10};
+use super::programs::Name::{R0, R1, R2, R3, R4, R5, R6, R7, R8, R10};
 use super::programs::{Row, agree};
 use crate::Refusal::{
     BadKind, Flow, FramePointer, NoHelper, OutOfPart, OutOfStack, PointerRange, UnsetRead,
@@ -19,7 +19,7 @@ use insn_codec::SignExtension::From32To64;
 use insn_codec::Size::{Byte, Double, Word};
 use std::test::Fail;
 
-const EDGES: [Row; 12] = [
+const EDGES: [Row; 18] = [
     (0, &[Set(R0, 0), Ja(5), Exit], Err(Flow(JumpOut(1)))),
     (0, &[Set(R0, 0), Ja(-3), Exit], Err(Flow(JumpOut(1)))),
     (
@@ -37,7 +37,7 @@ const EDGES: [Row; 12] = [
         &[Set(R0, 0), If(Equal, R3, 0, 1), Wide(R0, 1), Exit],
         Err(Flow(IntoWide(1))),
     ),
-    (0, &[Set(R0, 0), Set(R0, 1), Ja(-2)], Err(Flow(Cycle(2)))),
+    (0, &[Set(R0, 0), Set(R0, 1), Ja(-2)], Err(Flow(Cycle(1)))),
     (
         0,
         &[Set(R0, 0), If(Equal, R3, 0, -1), Exit],
@@ -49,6 +49,31 @@ const EDGES: [Row; 12] = [
         0,
         &[Set(R0, 0), Ja(1), Set(R0, 1), Exit],
         Err(Flow(Unreachable(2))),
+    ),
+    // a jump may lead backward
+    (0, &[Ja(2), Set(R0, 7), Exit, Ja(-3)], Ok(4)),
+    (
+        0,
+        &[If(Equal, R3, 0, 1), Ja(-2), Set(R0, 0), Exit],
+        Err(Flow(Cycle(0))),
+    ),
+    (0, &[Set(R0, 0), Exit, Ja(-1)], Err(Flow(Cycle(2)))),
+    // of two that aren't allowed the lower slot is told, whichever is looked at first
+    (
+        0,
+        &[If(Equal, R3, 0, 2), Copy(R0, R7), Exit, Copy(R0, R8), Exit],
+        Err(UnsetRead(1)),
+    ),
+    (
+        0,
+        &[If(Equal, R3, 0, 2), Set(R0, 0), Exit, Copy(R0, R8), Exit],
+        Err(UnsetRead(3)),
+    ),
+    // what one that isn't allowed passes on is judged no further, though it leads to a lower slot
+    (
+        0,
+        &[Ja(2), Copy(R0, R7), Exit, Copy(R1, R8), Ja(-4)],
+        Err(UnsetRead(3)),
     ),
     // edges go ahead of what isn't allowed, also at a higher slot
     (0, &[Copy(R0, R6), Ja(5), Exit], Err(Flow(JumpOut(1)))),

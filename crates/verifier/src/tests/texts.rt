@@ -21,7 +21,7 @@ const ROWS: [Row; 12] = [
         Refusal::Flow(FlowFault::Cycle(3)),
         23,
         Some(3),
-        "jump backward at slot 3",
+        "cycle through slot 3",
     ),
     (
         Refusal::UnsetRead(4),

@@ -41,9 +41,11 @@ pub returns-in-Refused-clause-blocked : goal.returns-in-Refused-clause-blocked
 returns-in-Refused-clause-blocked c = λ no.
     let from = pulled_from (subject_of c.args.survey.now) c.args.to _ c.loop-source.source c.in-Some.from c.in-Some.is c.loop-source.invariant.pulled in
     let within = joint_within (subject_of c.args.survey.now) c.args.to c.in-Some.from from.0 in
-    let below : c.in-Some.from < length c.args.findings.now = omega (arith, within, c.requires.findings) in
-    (c.in-Some.from, from.0,
-    finding_read c.args.findings.now c.in-Some.from c.index-findings-from.result below c.index-findings-from.is ∙ (c.in-Some-found.is ∙ ap Some c.in-Refused.is))
+    let below : c.in-Some.from < length c.args.findings.now = omega (arith, within, c.requires.findings) in (
+      c.in-Some.from,
+      from.0,
+      finding_read c.args.findings.now c.in-Some.from c.index-findings-from.result below c.index-findings-from.is ∙ (c.in-Some-found.is ∙ ap Some c.in-Refused.is),
+    )
 
 pub pull_from-requires-clause-left : goal.pull_from-requires-clause-left
 pull_from-requires-clause-left c = λ state there.
@@ -93,15 +95,15 @@ loop-source-preserved c =
     let next = c.requires.linked.after c.in-Some.from c.args.to c.match-found.next (omega arith) (are_next c) from.0 in
     elim c.match-found.branch [
       | in-None w ↦ record {
-          length = ap length w.states-is ∙ c.loop-source.invariant.length;
-          others = λ s ne. ap (λ (xs : List (Option State)). slice_index_or xs s None) w.states-is ∙ c.loop-source.invariant.others s ne;
-          pulled = rw (c.after-source.ensures, w.states-is) (pulled_on (subject_of c.args.survey.now) c.args.to (suc c.in-Some.from) _ _ next more
-              (pulled_nothing (subject_of c.args.survey.now) c.args.to c.in-Some.from _
-              (found_none (subject_of c.args.survey.now) _ c.in-Some.from _ (read ∙ w.in-None.is) source.1).1 from.1));
-        }
+        length = ap length w.states-is ∙ c.loop-source.invariant.length;
+        others = λ s ne. ap (λ (xs : List (Option State)). slice_index_or xs s None) w.states-is ∙ c.loop-source.invariant.others s ne;
+        pulled = rw (c.after-source.ensures, w.states-is) (pulled_on (subject_of c.args.survey.now) c.args.to (suc c.in-Some.from) _ _ next more
+            (pulled_nothing (subject_of c.args.survey.now) c.args.to c.in-Some.from _
+            (found_none (subject_of c.args.survey.now) _ c.in-Some.from _ (read ∙ w.in-None.is) source.1).1 from.1));
+      }
       | in-Some-found+in-Allowed+in-Some-insn w ↦
           let left = found_allowed (subject_of c.args.survey.now) _ c.in-Some.from _ w.in-Some-found.finding w.in-Allowed.left w.in-Some-insn.insn.now
-              (read ∙ w.in-Some-found.is) w.in-Allowed.is (sym w.in-Some-insn.ensures) source.1 in
+          (read ∙ w.in-Some-found.is) w.in-Allowed.is (sym w.in-Some-insn.ensures) source.1 in
           let there = sym (c.loop-source.invariant.others c.in-Some.from source.0 ∙ left.kept) in
           record {
             length = ap length w.states-is ∙ (w.pull_from.ensures.length ∙ c.loop-source.invariant.length);

@@ -27,7 +27,7 @@ index_mut-requires c =
     let within : c.loop-place.place < length c.args.graph.now.order = rw c.order-order.ensures at c.loop-place-test.true in
     let below = begins_within c.args.graph.now.code _ (c.slots-slots.ensures.flow.order.begins c.loop-place.place within) in
     let room : slice_index c.args.graph.now.order c.loop-place.place < length c.loop-place.findings.items =
-        omega (arith, below, c.loop-place.invariant.findings_long) in
+    omega (arith, below, c.loop-place.invariant.findings_long) in
     rw (c.order-order.ensures, c.loop-place.findings.ok.0) room
 
 pub loop-place-preserved : goal.loop-place-preserved
