@@ -155,14 +155,6 @@ at_begins flow place f lt = f.order.begins place lt
 pub at_within : (flow : Flow) (place : ℕ) → IsFlow flow → place < length flow.order → slice_index flow.order place < length flow.code
 at_within flow place f lt = begins_within flow.code (slice_index flow.order place) (f.order.begins place lt)
 
--- behind the last place there is none
-pub costs_end : (flow : Flow) (table : List ℕ) (from : ℕ) → length table ≡ length flow.code → length flow.order ≤ from → AreCostsFrom flow table from
-costs_end flow table from len end = record {
-  slots = len;
-  each = λ place h lt. absurd (omega arith);
-  few = λ place h lt. absurd (omega arith);
-}
-
 -- the cost at one more place
 pub costs_set : (flow : Flow) (table : List ℕ) (p q c : ℕ) → IsFlow flow → AreCostsFrom flow table q → q ≡ p + 1 → p < length flow.order →
     IsCost flow.code (slice_index flow.order p) c → c + 32 * p ≤ 32 * length flow.order →

@@ -8,7 +8,7 @@ use Rattle.insn_codec.specs.declared.insn.Insn.{Insn}
 use Rattle.insn_codec.specs.declared.insn.Insn.TheVariants.{Alu, Mov, MovSx, Neg, End, LoadWide, Load, Store, StoreRegister, Jump, Jump32, JumpIf, Call, Exit}
 use Rattle.insn_codec.specs.declared.insn.Placed.{Placed}
 use Rattle.std.specs.Prelude.{List}
-use Rattle.machine_model.specs.Edges.{Code, Fact, Always, NotTaken, Taken, IsEdge, Begins, insn_at, leads_at, target}
+use Rattle.machine_model.specs.Edges.{Code, Fact, Always, NotTaken, Taken, Begins, insn_at, leads_at, target}
 use Rattle.machine_model.proofs.Codes.{slot_there, begins_within}
 use Rattle.flow_graph.specs.declared.fault.FlowFault.{FlowFault}
 use Rattle.flow_graph.specs.declared.fault.FlowFault.TheVariants.{JumpOut, IntoWide, FallsOff}
@@ -20,7 +20,7 @@ use Rattle.flow_graph.specs.Faults.{landing_fault, jump_fault, fall_fault, first
 use Rattle.flow_graph.specs.Landings.{JumpsBy, GoesOn, IsOut, IsInto, JumpsOut, JumpsInto, IsLast, IsSettled}
 use Rattle.flow_graph.proofs.Onwards.{leads_on, width_of, other_slot, second_is, leads_of, first_none}
 use Rattle.flow_graph.proofs.FaultLemmas.{either}
-use Rattle.flow_graph.proofs.Joining.{IsLaid, lands_at}
+use Rattle.flow_graph.proofs.Joining.{lands_at}
 use Rattle.flow_graph.proofs.CodeLemmas.{laid_of}
 
 -- ---- instructions by how they go on
@@ -47,9 +47,6 @@ how_of (Jump32 offset) = (refl, λ by h. h, λ g. g)
 how_of (JumpIf w c dst src offset) = (refl, λ by h. h, tt)
 how_of (Call helper) = (tt, λ by h. h)
 how_of Exit = (λ g. g, λ by h. h)
-
-how_on : (i : Insn) (o : Onward) → onward_of i ≡ o → HowOn i o
-how_on i o e = subst (HowOn i) e (how_of i)
 
 wide_of : (o : Onward) → length (other_slot o) + 1 ≡ width_of o
 wide_of Steps = refl

@@ -4,7 +4,6 @@ use Rattle.std.proofs.lemmas.Bool.{cases_lt}
 use Rattle.std.proofs.lemmas.List.{get_or-set_same, get_or-set_other}
 use Rattle.flow_graph.specs.declared.walk.Mark.{Mark}
 use Rattle.flow_graph.specs.declared.walk.Mark.TheVariants.{New, Open, Done}
-use Rattle.flow_graph.specs.Flow.{IsIn}
 use Rattle.flow_graph.specs.Walks.{mark_at, IsListed, IsFurther}
 use Rattle.flow_graph.proofs.Lists.{one_way, at_old, at_new, one_longer, in_old, in_new, in_either}
 

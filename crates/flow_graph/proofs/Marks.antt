@@ -1,14 +1,12 @@
 -- Marks at the slots that paths lead to.
-use Rattle.std.proofs.Common.{◌≡◌, ◌≢◌, ℕ, suc, ◌+◌, ◌*◌, ◌≤◌, ◌<◌, ◌⊎◌, List, [], ◌∷◌, ◌++◌, length, Some, None, Option, ap, sym, ◌∙◌, arith, refl, inl, inr, Bool, true, false, slice_set, slice_index_or, sum_by, subst, slice_get, get_or, replicate}
-use Rattle.std.specs.Prelude.{option_and_then}
-use Rattle.std.proofs.lemmas.Option.{slice_get_past, slice_get_read}
+use Rattle.std.proofs.Common.{◌≡◌, ℕ, ◌+◌, ◌*◌, ◌≤◌, ◌<◌, ◌⊎◌, List, [], ◌∷◌, ◌++◌, length, Some, None, Option, ap, sym, ◌∙◌, arith, refl, inl, inr, Bool, true, false, slice_set, slice_index_or, sum_by, subst, get_or, replicate}
 use Rattle.insn_codec.specs.declared.insn.Insn.{Insn}
 use Rattle.std.proofs.lemmas.Bool.{cases_lt}
 use Rattle.std.proofs.lemmas.List.{get_or-set_same, get_or-set_other, get_or_default, get_or-replicate, get_or_past, length-replicate}
 use Rattle.std.proofs.lemmas.List.Sums.{sum_by-set}
 use Rattle.std.proofs.Math.ListN.{length-set}
 use Rattle.flow_graph.specs.declared.graph.Next.TheVariants.{Zero, One, Two}
-use Rattle.machine_model.specs.Edges.{Code, Fact, Always, NotTaken, Taken, IsEdge, Begins, insn_at, leads_at}
+use Rattle.machine_model.specs.Edges.{Code, Fact, Always, NotTaken, Taken, IsEdge, Begins, leads_at}
 use Rattle.machine_model.specs.Paths.{IsReached, IsPathTo}
 use Rattle.flow_graph.specs.Cycles.{IsJoint, IsPath}
 use Rattle.flow_graph.specs.Flow.{IsIn, IsJoined, AreNext}
@@ -53,19 +51,6 @@ marked_on marks pending t b lt is off =
       room = omega arith;
     }
 
--- a slot that was marked
-pub marked_already : (marks : List Bool) (pending : List ℕ) (t : ℕ) (b : Bool) → t < length marks → b ≡ slice_index_or marks t b → b ≡ true →
-    IsMarkedOn marks marks pending pending t
-marked_already marks pending t b lt is on = record {
-  slots = refl;
-  here = sym (is ∙ get_or_default marks t b false lt) ∙ on;
-  kept = λ s h. h;
-  only = λ s h. inl h;
-  still = λ s i. i;
-  from = λ s i. inl i;
-  room = omega arith;
-}
-
 pub none_marked : (marks : List Bool) (n : ℕ) → marks ≡ replicate n false → (s : ℕ) → slice_index_or marks s false ≡ false
 none_marked marks n e s = subst (λ (list : List Bool). slice_index_or list s false ≡ false) (sym e) (elim (cases_lt s n) [
   | inl lt ↦ get_or-replicate n s false false lt
@@ -92,10 +77,6 @@ spread_first code from marks pending all is =
 pub path_lands : (code : Code) (from : ℕ) → IsJoined code → (path : List ℕ) (s : ℕ) → IsPath code from path s → Begins code s
 path_lands code from f [] s h = (f.lands from h.0 s h.1).1
 path_lands code from f (p ∷ path) s h = (f.lands p h.0.0 s h.0.1).1
-
-pub path_within : (code : Code) (from : ℕ) → IsJoined code → (path : List ℕ) (s : ℕ) → IsPath code from path s → s < length code
-path_within code from f [] s h = (f.lands from h.0 s h.1).0
-path_within code from f (p ∷ path) s h = (f.lands p h.0.0 s h.0.1).0
 
 -- an instruction begins at a pending slot
 pub begins_pending : (code : Code) (from : ℕ) (marks : List Bool) (before pending : List ℕ) (slot : ℕ) → before ≡ pending ++ slot ∷ [] →
@@ -238,9 +219,6 @@ reached_marked code marks a (p ∷ path) s h = elim (reached_marked code marks a
   | inl e ↦ inr (a.each [] s (subst (λ (q : ℕ). IsJoint code q s) e h.0))
   | inr m ↦ let before = a.ahead p m in inr (a.each (p ∷ before.0) s (h.0, before.1))
 ]
-
-pub reached_first : (code : Code) (s : ℕ) → s ≡ 0 → IsReached code s
-reached_first code s e = ([], e)
 
 pub reached_there : (code : Code) (marks : List Bool) (s : ℕ) (b : Bool) → AreAhead code 0 marks → s < length code →
     b ≡ slice_index_or marks s b → b ≡ true → IsReached code s

@@ -1,10 +1,9 @@
 -- An order by the places of its slots.
-use Rattle.std.proofs.Common.{◌≡◌, ◌≢◌, ℕ, ◌+◌, ◌≤◌, ◌<◌, List, length, Option, Some, None, slice_set, slice_index, get_or, sym, ap, ◌∙◌, arith, refl, inl, inr, subst}
+use Rattle.std.proofs.Common.{◌≡◌, ℕ, ◌+◌, ◌≤◌, ◌<◌, List, length, Option, Some, None, slice_set, slice_index, get_or, sym, ap, ◌∙◌, arith, inl, inr, subst}
 use Rattle.std.proofs.lemmas.Bool.{cases_lt}
 use Rattle.std.proofs.lemmas.List.{get_or-set_same, get_or-set_other, get_or_default}
 use Rattle.std.proofs.Math.ListN.{length-set}
-use Rattle.machine_model.specs.Edges.{Code, Fact, IsEdge, Begins}
-use Rattle.flow_graph.specs.Cycles.{IsJoint}
+use Rattle.machine_model.specs.Edges.{Code, IsEdge, Begins}
 use Rattle.flow_graph.specs.Flow.{IsIn, IsJoined, IsOrder}
 use Rattle.flow_graph.specs.Places.{place_at, ArePlaces, IsBehind, IsPlaced}
 use Rattle.flow_graph.proofs.Lists.{one_way}

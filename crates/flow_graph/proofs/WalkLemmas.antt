@@ -4,7 +4,7 @@ use Rattle.std.proofs.lemmas.Bool.{cases_lt}
 use Rattle.std.proofs.lemmas.List.{get_or-reverse, length-reverse, get_or_default}
 use Rattle.std.proofs.lemmas.List.Sums.{sum_by-set}
 use Rattle.std.proofs.Math.ListN.{length-set}
-use Rattle.machine_model.specs.Edges.{Code, Fact, IsEdge, Begins}
+use Rattle.machine_model.specs.Edges.{Code, Begins}
 use Rattle.flow_graph.specs.declared.walk.Mark.{Mark}
 use Rattle.flow_graph.specs.declared.walk.Mark.TheVariants.{New, Open, Done}
 use Rattle.flow_graph.specs.Cycles.{IsJoint, IsPath, IsOnCycle}
@@ -12,8 +12,8 @@ use Rattle.flow_graph.specs.declared.walk.Way.TheVariants.{To, Back, Finished}
 use Rattle.flow_graph.specs.declared.walk.Walked.{Walked}
 use Rattle.flow_graph.specs.declared.walk.Walked.TheVariants.{All, Cycle}
 use Rattle.refusal.specs.declared.NoMemory.{NoMemory}
-use Rattle.flow_graph.specs.Flow.{IsIn, IsJoined, IsOrder}
-use Rattle.flow_graph.specs.Walks.{mark_at, new_mark, IsListed, IsWalk, IsWay, IsFurther, AreClear, HasEnded, HasMet}
+use Rattle.flow_graph.specs.Flow.{IsJoined, IsOrder}
+use Rattle.flow_graph.specs.Walks.{mark_at, new_mark, IsWalk, IsWay, IsFurther, AreClear, HasEnded, HasMet}
 use Rattle.flow_graph.proofs.Lists.{one_way, at_old, at_new, one_longer, in_none}
 use Rattle.flow_graph.proofs.MarkLemmas.{mark_same, mark_other, listed_other, listed_more, listed_less, further, which}
 use Rattle.flow_graph.proofs.CodeLemmas.{begins_below}

@@ -2,7 +2,7 @@
 
 use crate::tests::{edges, graph, jump, jump_if, mov, placed, refusal, wide};
 use crate::{FlowFault, Next, build, check_order};
-use insn_codec::Insn;
+use insn_codec::{Insn, Operand};
 use std::alloc::Global;
 use std::process::Abort;
 use std::test::Fail;
@@ -205,6 +205,7 @@ fn checks_orders(rt: HostRuntime) -> Result<(), Fail> {
 
 /// A jump to the last slot, an instruction, and jumps back from each other slot to the one before it.
 fn ladder(alloc: Global, second: Insn) -> Result<Vec<Insn>, Fail> {
+    let _operand: Option<Operand> = None;
     let mut insns = Vec::new(alloc);
     insns.push(jump(4094))?;
     insns.push(second)?;

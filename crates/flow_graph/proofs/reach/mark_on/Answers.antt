@@ -1,4 +1,4 @@
-use Rattle.flow_graph.proofs.Marks.{marked_on, marked_already}
+use Rattle.flow_graph.proofs.Marks.{marked_on}
 use Rattle.flow_graph.proofs.reach.mark_on.Goals as goal
 
 pub returns-in_ok-push : goal.returns-in_ok-push
