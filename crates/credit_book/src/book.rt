@@ -1,6 +1,6 @@
 //! The book of a job: which tasks are alive, what they hold, and what was spent and returned.
-ghost use Rattle.std.specs.Prelude.{◌≡◌, ◌+◌, ◌<◌, ◌≤◌, ◌↔◌, [], ◌∷◌, ◌++◌, length, slice_index_or, slice_set, true, vec_capacity, IfOk, OnOk, IfSome, IfNone, IsSome, IsOk, IfErr, IsTrue};
-ghost use Rattle.credit_book.specs.declared.event.Stage.TheVariants.{Ended};
+ghost use Rattle.std.specs.Prelude.{◌≡◌, ◌+◌, ◌-◌, ◌<◌, ◌≤◌, ◌↔◌, [], ◌∷◌, ◌++◌, length, slice_index_or, slice_set, true, vec_capacity, IfOk, OnOk, IfSome, IfNone, IsSome, IsOk, IfErr, IsTrue};
+ghost use Rattle.credit_book.specs.declared.event.Stage.TheVariants.{Ended, Fresh};
 ghost use Rattle.std.specs.VecDeque.{deque_capacity, deque_len};
 ghost use Rattle.credit_book.specs.declared.event.Event.TheVariants.{Open, Park, Claim};
 ghost use Rattle.credit_book.specs.History.{IsHistoryOf, IsComplete, May, is_fresh, may_work, table_of, spent_in, returned_in, word_of};
@@ -110,16 +110,10 @@ impl Book {
         let number = outcome.number as usize;
         let standing = standing_of(self.standings.as_slice(), outcome.number);
         if outcome.job != opening.job || !standing.stage.may_work() {
-            return Err(Refused {
-                fault: BookFault::Stranger,
-                value: outcome,
-            });
+            return Err(Refused::of(BookFault::Stranger, outcome));
         }
         if outcome.used > standing.held {
-            return Err(Refused {
-                fault: BookFault::OverSpent,
-                value: outcome,
-            });
+            return Err(Refused::of(BookFault::OverSpent, outcome));
         }
         let rest = standing.held - outcome.used;
         self.standings[number] = Standing {
@@ -157,6 +151,23 @@ fn reserve_task(
     let wanted = (standings.len() + 1).saturating_sub(parked.len());
     parked.reserve(wanted)?;
     Ok(())
+}
+
+// Leaves the parent what its child doesn't take, and makes the child's standing.
+fn share_out(standings: &mut Vec<Standing>, parent: u32, standing: Standing, share: u32)
+    requires there { parent < length standings.old.items }
+    requires room { length standings.old.items < vec_capacity standings.old }
+    requires covered { share ≤ standing.held }
+    ensures { standings.new.items ≡ slice_set standings.old.items parent (record { held = standing.held - share; stage = standing.stage }) ++ record { held = share; stage = Fresh } ∷ [] }
+{
+    standings[parent as usize] = Standing {
+        held: standing.held - share,
+        stage: standing.stage,
+    };
+    standings.push_reserved(Standing {
+        held: share,
+        stage: Stage::Fresh,
+    });
 }
 
 impl Book {
@@ -288,10 +299,7 @@ impl Book {
         let number = ticket.number as usize;
         let standing = standing_of(self.standings.as_slice(), ticket.number);
         if ticket.job != opening.job || !standing.stage.is_fresh() {
-            return Err(Refused {
-                fault: BookFault::Stranger,
-                value: ticket,
-            });
+            return Err(Refused::of(BookFault::Stranger, ticket));
         }
         self.standings[number] = Standing {
             held: standing.held,
@@ -328,16 +336,10 @@ impl Book {
         let opening = self.writer.opening();
         let standing = standing_of(self.standings.as_slice(), parent);
         if !standing.stage.may_work() {
-            return Err(Refused {
-                fault: BookFault::Stranger,
-                value: asked,
-            });
+            return Err(Refused::of(BookFault::Stranger, asked));
         }
         if asked.share == 0 || asked.share >= standing.held {
-            return Err(Refused {
-                fault: BookFault::CreditLow,
-                value: asked,
-            });
+            return Err(Refused::of(BookFault::CreditLow, asked));
         }
         if reserve_task(
             &mut self.standings,
@@ -346,10 +348,7 @@ impl Book {
         )
         .is_err()
         {
-            return Err(Refused {
-                fault: BookFault::NoMemory,
-                value: asked,
-            });
+            return Err(Refused::of(BookFault::NoMemory, asked));
         }
         let child = self.standings.len() as u32;
         let SpawnRecord {
@@ -358,14 +357,7 @@ impl Book {
             arg,
             part,
         } = asked;
-        self.standings[parent as usize] = Standing {
-            held: standing.held - share,
-            stage: standing.stage,
-        };
-        self.standings.push_reserved(Standing {
-            held: share,
-            stage: Stage::Fresh,
-        });
+        share_out(&mut self.standings, parent, standing, share);
         self.report
             .tasks
             .push_reserved(new_task(child, program, arg, share));

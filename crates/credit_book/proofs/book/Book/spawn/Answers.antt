@@ -30,10 +30,10 @@ invariant_of-self-2 c =
       (spawned _ _ _ _ _ _ _ c.self.invariant.0 c.args.parent c.len-child.result c.args.asked.program c.args.asked.share c.args.asked.arg c.args.asked.part.base (length c.args.asked.part.bytes) c.standing_of-standing.result
           _ _ _ _ _ _ is (sym c.may_work.ensures ∙ c.if-not-may_work.false) (let len = c.len-child.ensures in let l = ap length c.reserve_task.ensures.items.0 in omega arith)
           (let z : c.args.asked.share ≢ 0 = c.if-asked-eq0.false in omega arith) c.if-asked-standing.false
-          c.reserve_task.ensures.items.0 c.reserve_task.ensures.items.1 (ap (λ ts. map (λ (t : Ticket). t.number) ts) c.reserve_task.ensures.items.2) c.new_task.ensures c.push_reserved.ensures.items c.push_reserved-2.ensures.items).book
+          c.reserve_task.ensures.items.0 c.reserve_task.ensures.items.1 (ap (λ ts. map (λ (t : Ticket). t.number) ts) c.reserve_task.ensures.items.2) c.new_task.ensures c.share_out.ensures c.push_reserved.ensures.items).book
           _ _ refl c.add.ensures,
       (let room = not_failed c.reserve_task.result _ (sym c.is_err.ensures.value ∙ c.if-is_err.false) c.reserve_task.ensures.room in
-          let n = ap length c.push_reserved.ensures.items in
+          let n = ap length c.share_out.ensures in
           let s : Standing = record { held = c.standing_of-standing.result.held - c.args.asked.share; stage = c.standing_of-standing.result.stage } in
           let a = length-append (set c.reserve_task.new.standings.items c.args.parent s) (record { held = c.args.asked.share; stage = Fresh } ∷ []) in
           let b = length-set c.reserve_task.new.standings.items c.args.parent s in
@@ -42,7 +42,7 @@ invariant_of-self-2 c =
           (spawned _ _ _ _ _ _ _ c.self.invariant.0 c.args.parent c.len-child.result c.args.asked.program c.args.asked.share c.args.asked.arg c.args.asked.part.base (length c.args.asked.part.bytes) c.standing_of-standing.result
           _ _ _ _ _ _ is (sym c.may_work.ensures ∙ c.if-not-may_work.false) (let len = c.len-child.ensures in let l = ap length c.reserve_task.ensures.items.0 in omega arith)
           (let z : c.args.asked.share ≢ 0 = c.if-asked-eq0.false in omega arith) c.if-asked-standing.false
-          c.reserve_task.ensures.items.0 c.reserve_task.ensures.items.1 refl c.new_task.ensures c.push_reserved.ensures.items c.push_reserved-2.ensures.items).word c.add.ensures,
+          c.reserve_task.ensures.items.0 c.reserve_task.ensures.items.1 refl c.new_task.ensures c.share_out.ensures c.push_reserved.ensures.items).word c.add.ensures,
       collected-quiet _ _ _ (Spawn c.args.parent c.len-child.result c.args.asked.program c.args.asked.share c.args.asked.arg c.args.asked.part.base (length c.args.asked.part.bytes)) c.self.invariant.3 refl c.add.ensures,
     )
 
