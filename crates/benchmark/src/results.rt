@@ -8,11 +8,12 @@ use std::io::Write;
 use virtual_machine::Vm;
 
 /// The scenarios, in the order in which they are printed.
-pub const SCENARIOS: [Scenario; 4] = [
+pub const SCENARIOS: [Scenario; 5] = [
     Scenario::Arithmetic,
     Scenario::Memory,
     Scenario::Ladder,
     Scenario::Comb,
+    Scenario::Shuffled,
 ];
 
 /// So many steps of task 0.

@@ -17,6 +17,8 @@ pub enum Scenario {
     Ladder,
     /// Conditional jumps to the last slots, none of them taken: each path joins there.
     Comb,
+    /// Pieces of two slots, each with a jump to the next one, which stands elsewhere: half of the jumps lead backward.
+    Shuffled,
 }
 
 impl Scenario {
@@ -27,6 +29,7 @@ impl Scenario {
             Scenario::Memory => "memory",
             Scenario::Ladder => "ladder",
             Scenario::Comb => "comb",
+            Scenario::Shuffled => "shuffled",
         }
     }
 }
@@ -131,12 +134,33 @@ fn comb(place: u32, body: u32) -> Insn {
     }
 }
 
+/// How many pieces on the next one stands. It has no factor in common with how many pieces there are.
+const STRIDE: u32 = 1009;
+
+/// A jump at each odd place: to the piece that comes next, and from the last one behind all pieces.
+fn shuffled(place: u32, body: u32) -> Insn {
+    if place % 2 == 0 {
+        return alu(Width::W64, AluOp::Add, 0, Operand::Imm(1));
+    }
+    let pieces = body / 2;
+    let piece = (place / 2).saturating_add(STRIDE).checked_rem(pieces);
+    let next = match piece {
+        None | Some(0) => pieces,
+        Some(piece) => piece,
+    };
+    let offset = 2 * i64::from(next) - i64::from(place) - 1;
+    Insn::Jump {
+        offset: i16::try_from(offset).unwrap_or(0),
+    }
+}
+
 fn insn(scenario: Scenario, place: u32, body: u32) -> Insn {
     match scenario {
         Scenario::Arithmetic => arithmetic(place),
         Scenario::Memory => memory(place),
         Scenario::Ladder => ladder(place),
         Scenario::Comb => comb(place, body),
+        Scenario::Shuffled => shuffled(place, body),
     }
 }
 

@@ -11,6 +11,8 @@ mod access_tests;
 #[cfg(test)]
 mod arithmetic_tests;
 #[cfg(test)]
+mod backward_tests;
+#[cfg(test)]
 mod bit_tests;
 #[cfg(test)]
 mod caller_tests;
