@@ -1,5 +1,5 @@
 -- The jobs of a desk, by their numbers.
-use Rattle.std.specs.Prelude.{ℕ, ◌+◌, ◌-◌, List, slice_get, nat_eq, if◌then◌else◌, Bool, true, false, Option, Some, None, Result, Ok, Err, string_bytes}
+use Rattle.std.specs.Prelude.{ℕ, ◌+◌, ◌-◌, List, slice_get, nat_eq, if◌then◌else◌, Bool, true, false, Option, None, Result, Ok, Err, string_bytes}
 use Rattle.std.specs.Str.{bytes_eq}
 use Rattle.credit_book.specs.declared.book.Report.{Report}
 use Rattle.accounts.specs.declared.fault.DeskFault.{DeskFault}

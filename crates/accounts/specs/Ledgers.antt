@@ -1,11 +1,9 @@
 -- The desk's plain state.
-use Rattle.std.specs.Prelude.{◌≡◌, ◌⊎◌, ℕ, ◌+◌, ◌-◌, ◌≤◌, ◌<◌, List, ◌++◌, [], ◌∷◌, map, sum_by, slice_get, slice_set, length, Option, Some, None, Result, Ok, Err, option_map, unwrap_or, String, string_bytes}
+use Rattle.std.specs.Prelude.{◌≡◌, ℕ, ◌+◌, ◌-◌, ◌≤◌, ◌<◌, List, ◌++◌, [], ◌∷◌, map, sum_by, slice_get, slice_set, Option, Some, None, Result, Ok, Err, unwrap_or, String, string_bytes}
 use Rattle.std.specs.BTreeMap.{BTreeMap}
-use Rattle.std.specs.BTreeMap as tree
 use Rattle.std.specs.Map.{lookup, update}
 use Rattle.std.specs.Str.{bytes_eq}
 use Rattle.job_core.specs.declared.admission.ProgramBytes.{ProgramBytes}
-use Rattle.job_core.specs.declared.admission.AdmitFault.{AdmitFault}
 use Rattle.job_core.specs.Admission.{RefusesJob}
 use Rattle.accounts.specs.declared.fault.DeskFault.{DeskFault}
 use Rattle.accounts.specs.declared.fault.DeskFault.TheVariants as fault
@@ -15,8 +13,7 @@ use Rattle.accounts.specs.declared.tenants.Sums.{Sums}
 use Rattle.accounts.specs.declared.tenants.Account.{Account}
 use Rattle.accounts.specs.declared.jobs.JobEntry.{JobEntry}
 use Rattle.credit_book.specs.declared.board.Progress.{Progress}
-use Rattle.accounts.specs.declared.jobs.Standing.{Standing}
-use Rattle.accounts.specs.declared.jobs.Standing.TheVariants.{Open, Reported, Failed}
+use Rattle.accounts.specs.declared.jobs.Standing.TheVariants.{Open}
 use Rattle.credit_book.specs.declared.book.Report.{Report}
 use Rattle.accounts.specs.Accounts.{account_with}
 use Rattle.accounts.specs.Jobs.{job_at, settled, progress_of, report_of, opened_for, spent_for}

@@ -1,15 +1,15 @@
 -- A stream is its frames, one after the other.
-use Rattle.std.proofs.Common.{◌≡◌, ℕ, zero, suc, ◌<◌, ◌≤◌, ◌+◌, ◌-◌, ◌^◌, List, [], ◌∷◌, ◌++◌, length, take, drop, get_or, refl, sym, ap, ◌∙◌, subst, arith, append_assoc, append-nil, length-append}
+use Rattle.std.proofs.Common.{◌≡◌, ℕ, zero, suc, ◌<◌, ◌≤◌, ◌+◌, List, [], ◌∷◌, ◌++◌, length, take, drop, get_or, refl, sym, ap, ◌∙◌, subst, arith, append_assoc, append-nil, length-append}
 use Rattle.std.proofs.lemmas.List.{length-take, length-drop, take-append-drop}
 use Rattle.std.proofs.lemmas.List.Concat.{flat_map-append}
 use Rattle.std.proofs.lemmas.Nat.{be_bytes_4, from_be_bytes-to_be_bytes_4}
 use Rattle.std.proofs.Math.Seq.{take-append_seam, drop-append_seam}
 use Rattle.std.specs.Int.{w32, to_be_bytes, from_be_bytes}
 use Rattle.std.specs.Int.Digits.{number_from_digits}
-use Rattle.std.specs.List.{flat_map, AllByRecursion}
-use Rattle.sessions.specs.Frames.{Front, whole, longest_payload, stated_length, front, framed, Heard, nothing_yet, one_piece, one_frame, AreBytes, IsStreamOf}
+use Rattle.std.specs.List.{flat_map}
+use Rattle.sessions.specs.Frames.{whole, longest_payload, stated_length, front, framed, Heard, nothing_yet, one_piece, one_frame, AreBytes, IsStreamOf}
 use Rattle.sessions.proofs.Cuts.{front_whole}
-use Rattle.sessions.proofs.Fronts.{IsThere, is_there}
+use Rattle.sessions.proofs.Fronts.{is_there}
 
 -- ---- bytes
 

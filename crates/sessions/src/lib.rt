@@ -11,6 +11,7 @@ pub use law::frames_of_all_pieces;
 pub use session::Session;
 
 // what its frames ask
+mod hexadecimal;
 mod member;
 mod request;
 

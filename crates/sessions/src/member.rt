@@ -7,7 +7,7 @@ ghost use Rattle.sessions.specs.Grammar.{text_at, number_in, number_at, bytes_at
 ghost use Rattle.sessions.specs.declared.fault.SessionFault.TheVariants.{BadRequest, NoMemory};
 
 use crate::fault::SessionFault;
-use hex::FromHexError;
+use crate::hexadecimal::decoded;
 use serde_json::Value;
 use std::alloc::Global;
 
@@ -48,11 +48,7 @@ pub(crate) fn bytes_member(alloc: Global, value: &Value, key: &str) -> Result<Ve
     let Some(text) = text_member(value, key) else {
         return Err(SessionFault::BadRequest);
     };
-    match hex::decode(alloc, text.as_bytes()) {
-        Ok(bytes) => Ok(bytes),
-        Err(FromHexError::OutOfMemory) => Err(SessionFault::NoMemory),
-        Err(_) => Err(SessionFault::BadRequest),
-    }
+    decoded(alloc, text.as_bytes())
 }
 
 /// The values of the array at a key.

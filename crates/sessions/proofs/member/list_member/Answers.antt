@@ -1,4 +1,4 @@
-use Rattle.std.proofs.Common.{◌≡◌, Option, option_map, option_and_then, ap, ◌∙◌}
+use Rattle.std.proofs.Common.{Option, option_map, option_and_then, ap, ◌∙◌}
 use Rattle.serde_json.specs.Data.{Data}
 use Rattle.serde_json.specs.Find.{as_array}
 use Rattle.serde_json.specs.View.{view}

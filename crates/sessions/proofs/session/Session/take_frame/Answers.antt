@@ -1,4 +1,4 @@
-use Rattle.std.proofs.Common.{◌≡◌, ◌∙◌, sym, Option, Some, None, Ok, subst}
+use Rattle.std.proofs.Common.{◌∙◌, sym, Option, Ok, subst}
 use Rattle.bytes.specs.Filled.{Filled}
 use Rattle.tokio_util.specs.Codec.Next.{Decodes}
 use Rattle.tokio_util.specs.Codec.LengthDelimited.{gives_frames}
