@@ -33,10 +33,10 @@ impl Model for Desk {
 }
 
 impl Desk {
-    ghost use Rattle.std.specs.Prelude.{◌≡◌, ◌+◌, [], IfOk, IfErr, OnOk, OnErr, Ok, Err, MatchResult, length};
+    ghost use Rattle.std.specs.Prelude.{◌≡◌, ◌≤◌, ◌+◌, [], IfOk, IfErr, OnOk, OnErr, Ok, Err, MatchResult, length, unwrap_or};
     ghost use Rattle.job_core.specs.Admission.{IsAdmittedFrom};
     ghost use Rattle.accounts.specs.declared.fault.DeskFault.TheVariants as fault;
-    ghost use Rattle.accounts.specs.Ledgers.{account_at, GrantsMore, RefusesGrant, Takes, RefusesSubmit, Finishes, IsNotOpen, progress_at, report_at};
+    ghost use Rattle.accounts.specs.Ledgers.{account_at, granted_to, most_granted, GrantsMore, RefusesGrant, Takes, RefusesSubmit, Finishes, IsNotOpen, progress_at, report_at};
 
     /// A desk with no tenant.
     pub fn new(alloc: Global) -> Desk
@@ -66,6 +66,7 @@ impl Desk {
     #[tactic(auto, unfolding(crate::specs::Ledgers::account_at))]
     pub fn grant(&mut self, alloc: Global, tenant: &str, amount: u32) -> Result<Account, DeskFault>
         ensures granted { OnOk result (GrantsMore self.old tenant.now amount self.new) }
+        ensures within { OnOk result (unwrap_or (granted_to self.old tenant.now) 0 + amount ≤ most_granted) }
         ensures account { IfOk result (λ _. result ≡ account_at self.new tenant.now) }
         ensures refused { IfErr result (λ e. RefusesGrant self.old tenant.now amount e) }
         ensures unchanged { OnErr result (self.new ≡ self.old) }

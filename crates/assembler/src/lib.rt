@@ -17,6 +17,3 @@ mod word;
 pub use assembling::assemble;
 pub use fault::TextFault;
 pub use law::{nothing_refused, one_program, one_refusal, read_back};
-
-#[cfg(test)]
-mod tests;

@@ -2,6 +2,8 @@
 //! in nanoseconds, how many slots `verify` judges in a second, and how quick `execute_program` is.
 #![tactic(auto)]
 
+mod book_timing;
+mod protocol_timing;
 mod results;
 mod scenario;
 mod single;

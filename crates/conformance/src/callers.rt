@@ -2,26 +2,27 @@
 //! 127 answers the greatest number.
 
 use std::alloc::Global;
-use std::test::Fail;
-use virtual_machine::Vm;
 
-fn added(a: u64, b: u64, _c: u64, _d: u64, _e: u64) -> u64 {
+/// A helper of a caller's own.
+pub fn added(a: u64, b: u64, _c: u64, _d: u64, _e: u64) -> u64 {
     a.wrapping_add(b)
 }
 
-fn weighed(a: u64, b: u64, c: u64, d: u64, e: u64) -> u64 {
+/// A helper of a caller's own.
+pub fn weighed(a: u64, b: u64, c: u64, d: u64, e: u64) -> u64 {
     a.wrapping_add(b.wrapping_mul(2))
         .wrapping_add(c.wrapping_mul(4))
         .wrapping_add(d.wrapping_mul(8))
         .wrapping_add(e.wrapping_mul(16))
 }
 
-fn greatest(_a: u64, _b: u64, _c: u64, _d: u64, _e: u64) -> u64 {
+/// A helper of a caller's own.
+pub fn greatest(_a: u64, _b: u64, _c: u64, _d: u64, _e: u64) -> u64 {
     u64::MAX
 }
 
 /// What the helper of this id answers.
-pub(crate) fn answered(id: u32, arguments: [u64; 5]) -> u64 {
+pub fn answered(id: u32, arguments: [u64; 5]) -> u64 {
     let [a, b, c, d, e] = arguments;
     match id {
         64 => added(a, b, c, d, e),
@@ -30,18 +31,8 @@ pub(crate) fn answered(id: u32, arguments: [u64; 5]) -> u64 {
     }
 }
 
-/// A machine with these helpers, which take so many arguments, five at most.
-pub(crate) fn machine_with(alloc: Global, arities: [u32; 3]) -> Result<Vm, Fail> {
-    let [first, second, last] = arities;
-    let mut vm = Vm::new(alloc, None)?;
-    vm.register_helper(alloc, 64, first.min(5), added)?;
-    vm.register_helper(alloc, 65, second.min(5), weighed)?;
-    vm.register_helper(alloc, 127, last.min(5), greatest)?;
-    Ok(vm)
-}
-
-/// The same helpers as the reference takes them, by their ids.
-pub(crate) fn registered(alloc: Global, arities: [u32; 3]) -> Result<Vec<Option<u32>>, Fail> {
+/// The helpers as the reference takes them, by their ids.
+pub fn registered(alloc: Global, arities: [u32; 3]) -> anyhow::Result<Vec<Option<u32>>> {
     let [first, second, last] = arities;
     let mut places = Vec::new(alloc);
     for id in 0..128u32 {

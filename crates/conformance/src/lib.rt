@@ -1,4 +1,4 @@
-//! The worked rows that cross crates, as tests over tables. Nothing stands on it.
+//! The ways to run a program, and tests that cross crates. The rows of `conformance_rows` stand on the ways.
 #![tactic(auto)]
 
 #[cfg(test)]
@@ -6,38 +6,24 @@ mod scale_tests;
 pub mod spawning;
 
 // one program, run in three ways
-#[cfg(test)]
-mod access_tests;
-#[cfg(test)]
-mod arithmetic_tests;
-#[cfg(test)]
-mod backward_tests;
-#[cfg(test)]
-mod bit_tests;
-#[cfg(test)]
-mod caller_tests;
-#[cfg(test)]
-mod callers;
+pub mod callers;
 #[cfg(test)]
 mod embedding_tests;
-#[cfg(test)]
-mod helper_tests;
-#[cfg(test)]
-mod jump_tests;
-#[cfg(test)]
-mod move_tests;
-#[cfg(test)]
-mod rows;
-#[cfg(test)]
-mod ways;
+pub mod ways;
 
 // programs, memories and shares at their limits
 #[cfg(test)]
 mod limit_tests;
 
-// programs that are refused, in three ways
+// states that a verified program keeps
 #[cfg(test)]
-mod refusal_tests;
+mod merge_tests;
+
+// what is told of refusals, and programs in turn
+#[cfg(test)]
+mod text_tests;
+#[cfg(test)]
+mod turn_tests;
 
 // jobs of several tasks
 #[cfg(test)]

@@ -1,9 +1,12 @@
 //! Programs, memories and shares at their limits: nothing there is refused that needn't be.
 
 use crate::ways::{Start, assembled, by_job, by_reference, by_vm, copied, reference_program};
+use assembler::assemble;
+use helpers::HelperTable;
 use job_core::{ProgramBytes, admit, play};
 use std::alloc::Global;
 use std::test::Fail;
+use verifier::verify;
 use virtual_machine::Vm;
 
 /// 4,095 moves and an end.
@@ -25,8 +28,7 @@ fn the_longest_program_runs(rt: HostRuntime) -> Result<(), Fail> {
         credit: 4096,
         memory: &[],
     };
-    let mut vm = Vm::new(alloc, None)?;
-    assert_eq!(rt; by_vm(alloc, &mut vm, &start)?.0, 7);
+    assert_eq!(rt; by_vm(alloc, &start)?.0, 7);
     let (r0, used, _) = by_job(alloc, &start)?;
     assert_eq!(rt; (r0, used), (7, 4096));
     let (r0, used, _) = by_reference(alloc, &start, Vec::new(alloc))?;
@@ -109,6 +111,45 @@ fn a_share_of_a_million_is_handed_over(rt: HostRuntime) -> Result<(), Fail> {
     assert_eq!(rt;
         (child.given, child.r0, child.spent, child.rest),
         (1_000_000, 999_998, 3, 999_997)
+    );
+    Ok(())
+}
+
+/// The cost of the program, or the number of its refusal and its slot.
+fn verdict(alloc: Global, need: u32, source: &str) -> Result<Result<u32, (u8, Option<u32>)>, Fail> {
+    let code = assemble(alloc, source)?;
+    match verify(alloc, need, &code, &HelperTable::job()) {
+        Ok(verified) => Ok(Ok(verified.cost())),
+        Err(refusal) => Ok(Err((refusal.code(), refusal.slot()))),
+    }
+}
+
+/// Each jump leads to the last slot.
+#[test]
+fn a_fan_costs_its_slots(rt: HostRuntime) -> Result<(), Fail> {
+    let alloc = rt.alloc();
+    let mut source = String::from_str(alloc, "mov64 r0, 0\n")?;
+    for left in (0..4094u32).rev() {
+        source.push_str(format!(in alloc; "jeq r3, 0, +{left}\n")?.as_str())?;
+    }
+    source.push_str("exit\n")?;
+    assert_eq!(rt; verdict(alloc, 0, source.as_str())?, Ok(4096));
+    Ok(())
+}
+
+/// Each jump leads over a move, and the two ways meet behind it: R0 is at last 0 to 2,046.
+#[test]
+fn a_comb_of_merges_needs_what_they_come_to(rt: HostRuntime) -> Result<(), Fail> {
+    let alloc = rt.alloc();
+    let mut source = String::from_str(alloc, "mov64 r0, 0\n")?;
+    for tooth in 1..2047u32 {
+        source.push_str(format!(in alloc; "jeq r3, {tooth}, +1\nmov64 r0, {tooth}\n")?.as_str())?;
+    }
+    source.push_str("add64 r1, r0\nldxb r0, [r1+0]\nexit\n")?;
+    assert_eq!(rt; verdict(alloc, 2047, source.as_str())?, Ok(4096));
+    assert_eq!(rt;
+        verdict(alloc, 2046, source.as_str())?,
+        Err((33, Some(4094)))
     );
     Ok(())
 }

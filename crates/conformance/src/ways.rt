@@ -1,6 +1,7 @@
 //! The ways to run a program.
 
 use crate::callers::answered;
+use anyhow::bail;
 use assembler::assemble;
 use cost_bound::costs;
 use flow_graph::build;
@@ -8,11 +9,10 @@ use insn_codec::decode;
 use job_core::{ProgramBytes, admit, play};
 use reference::{ReferenceProgram, run_alone};
 use std::alloc::Global;
-use std::test::Fail;
 use virtual_machine::Vm;
 
 /// The bytes of a program, of which each line is an instruction.
-pub(crate) fn assembled(alloc: Global, lines: &[&str]) -> Result<Vec<u8>, Fail> {
+pub fn assembled(alloc: Global, lines: &[&str]) -> anyhow::Result<Vec<u8>> {
     let mut source = String::new(alloc);
     for line in lines {
         source.push_str(line)?;
@@ -21,19 +21,19 @@ pub(crate) fn assembled(alloc: Global, lines: &[&str]) -> Result<Vec<u8>, Fail> 
     Ok(assemble(alloc, source.as_str())?)
 }
 
-pub(crate) fn copied(alloc: Global, bytes: &[u8]) -> Result<Vec<u8>, Fail> {
+pub fn copied(alloc: Global, bytes: &[u8]) -> anyhow::Result<Vec<u8>> {
     let mut copy = Vec::new(alloc);
     copy.extend_from_slice(bytes)?;
     Ok(copy)
 }
 
 /// A program as the reference takes it.
-pub(crate) fn reference_program(
+pub fn reference_program(
     alloc: Global,
     need: u32,
     code: &[u8],
     registered: Vec<Option<u32>>,
-) -> Result<ReferenceProgram, Fail> {
+) -> anyhow::Result<ReferenceProgram> {
     let placed = decode(alloc, code)?;
     let graph = build(alloc, &placed)?;
     let table = costs(alloc, &graph)?;
@@ -47,15 +47,16 @@ pub(crate) fn reference_program(
 
 /// A program, the bytes that it needs, and the credit and the memory that it starts with.
 #[derive(Drop)]
-pub(crate) struct Start {
-    pub(crate) code: Vec<u8>,
-    pub(crate) need: u32,
-    pub(crate) credit: u32,
-    pub(crate) memory: &'static [u8],
+pub struct Start<'a> {
+    pub code: Vec<u8>,
+    pub need: u32,
+    pub credit: u32,
+    pub memory: &'a [u8],
 }
 
 /// R0 and the memory after a run by a machine for single programs.
-pub(crate) fn by_vm(alloc: Global, vm: &mut Vm, start: &Start) -> Result<(u64, Vec<u8>), Fail> {
+pub fn by_vm(alloc: Global, start: &Start) -> anyhow::Result<(u64, Vec<u8>)> {
+    let mut vm = Vm::new(alloc, None)?;
     vm.set_program(alloc, start.need, &start.code)?;
     let mut memory = copied(alloc, start.memory)?;
     memory.truncate(65536);
@@ -64,7 +65,7 @@ pub(crate) fn by_vm(alloc: Global, vm: &mut Vm, start: &Start) -> Result<(u64, V
 }
 
 /// R0, the credit used and the memory after the job of this program alone, whose buffer is the memory.
-pub(crate) fn by_job(alloc: Global, start: &Start) -> Result<(u64, u32, Vec<u8>), Fail> {
+pub fn by_job(alloc: Global, start: &Start) -> anyhow::Result<(u64, u32, Vec<u8>)> {
     let programs = [ProgramBytes {
         need: start.need,
         code: copied(alloc, &start.code)?,
@@ -74,26 +75,26 @@ pub(crate) fn by_job(alloc: Global, start: &Start) -> Result<(u64, u32, Vec<u8>)
     let schedule = vec![in alloc; 0u32; start.code.len()]?;
     let world = play(alloc, job, &schedule)?;
     let Some(report) = world.report() else {
-        return Err(Fail::new("the job isn't complete"));
+        bail!("the job isn't complete");
     };
     let [root] = report.tasks.as_slice() else {
-        return Err(Fail::new("there are more tasks than one"));
+        bail!("there are more tasks than one");
     };
     Ok((root.r0, world.totals().used, world.buffer(alloc)?))
 }
 
 /// R0, the credit used and the memory after a run by the reference.
-pub(crate) fn by_reference(
+pub fn by_reference(
     alloc: Global,
     start: &Start,
     registered: Vec<Option<u32>>,
-) -> Result<(u64, u32, Vec<u8>), Fail> {
+) -> anyhow::Result<(u64, u32, Vec<u8>)> {
     let program = reference_program(alloc, start.need, &start.code, registered)?;
     let memory = copied(alloc, start.memory)?;
     let steps = u32::try_from(start.code.len())?;
     let helper = |id: u32, arguments: [u64; 5]| answered(id, arguments);
     match run_alone(alloc, &program, start.credit, memory, steps, &helper) {
         Ok(Some((r0, last))) => Ok((r0, last.used, last.part)),
-        _ => Err(Fail::new("the run has no end")),
+        _ => bail!("the run has no end"),
     }
 }

@@ -7,6 +7,3 @@ mod table;
 pub use bound::costs;
 pub use machine_model::price;
 pub use table::Costs;
-
-#[cfg(test)]
-mod tests;

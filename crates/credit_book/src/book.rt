@@ -230,6 +230,13 @@ impl Book {
         self.writer.opening().issued
     }
 
+    /// How many tasks there are, those that have ended among them. Their numbers run from 0.
+    pub fn count(&self) -> u32
+        ensures { result ≡ length (table_of self.now.history).standings }
+    {
+        self.standings.len() as u32
+    }
+
     /// What the tasks that ended have left in the job's buffer so far.
     pub fn collected(&self) -> &[u8]
         ensures { result.now ≡ buffer_of self.now.size self.now.history }

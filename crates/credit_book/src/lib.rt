@@ -22,6 +22,3 @@ mod book;
 mod past;
 
 pub use book::{Book, Report};
-
-#[cfg(test)]
-mod tests;

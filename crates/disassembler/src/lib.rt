@@ -8,6 +8,3 @@ mod word;
 pub use law::one_line;
 pub use printing::{disassemble, line};
 pub use word::Word;
-
-#[cfg(test)]
-mod tests;

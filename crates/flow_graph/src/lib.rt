@@ -20,8 +20,3 @@ pub use laws::{
     orders_have_no_cycle,
 };
 pub use ordering::check_order;
-
-#[cfg(test)]
-mod cycle_tests;
-#[cfg(test)]
-mod tests;

@@ -11,6 +11,3 @@ pub use machine_model::Entry;
 pub use part::Part;
 pub use spawner::{SpawnRecord, Spawner};
 pub use table::HelperTable;
-
-#[cfg(test)]
-mod tests;

@@ -19,6 +19,3 @@ pub use insn::{
 };
 pub use laws::{nothing_refused, one_refusal, one_spelling};
 pub use register::Register;
-
-#[cfg(test)]
-mod tests;

@@ -1,13 +1,14 @@
 -- A task that is out of its place goes on along a schedule.
-use Rattle.std.proofs.Common.{◌≡◌, ℕ, zero, suc, ◌<◌, ◌≤◌, arith, ◌+◌, ◌-◌, List, [], ◌∷◌, ◌++◌, get_or, length, set, slice_get, take, take-append-drop, drop, refl, sym, ◌∙◌, ap, subst, Some, None}
+use Rattle.std.proofs.Common.{◌≡◌, ℕ, zero, suc, ◌<◌, ◌≤◌, arith, ◌+◌, ◌-◌, List, [], ◌∷◌, ◌++◌, get_or, length, replicate, set, slice_get, take, take-append-drop, drop, refl, sym, ◌∙◌, ap, subst, Some, None}
 use Rattle.std.proofs.lemmas.Option.{slice_get_within, get_or_from_slice_get}
-use Rattle.std.proofs.lemmas.List.{append-nil, append_assoc, length-drop, set-set, take_more}
+use Rattle.std.proofs.lemmas.List.{append-nil, append_assoc, length-drop, replicate_more, set-set, take_more}
 use Rattle.std.proofs.Math.Seq.{take-length}
 use Rattle.machine_model.specs.Value.{Registers}
-use Rattle.machine_model.specs.Machine.{effect}
-use Rattle.machine_model.specs.Job.{Job}
+use Rattle.machine_model.specs.Machine.{State, effect}
+use Rattle.machine_model.specs.Job as job
+use Rattle.machine_model.specs.Job.{Job, Task}
 use Rattle.machine_model.proofs.Places.{set_same}
-use Rattle.verifier.specs.Checked.{Checked, program_of}
+use Rattle.verifier.specs.Checked.{Checked, program_of, cost_at}
 use Rattle.interpreter.specs.declared.frame.Next.{Next}
 use Rattle.interpreter.specs.declared.frame.Next.TheVariants.{At, Ended}
 use Rattle.helpers.specs.Piece.{Piece}
@@ -29,6 +30,7 @@ use Rattle.job_core.proofs.Booking.{standings_alike}
 use Rattle.job_core.proofs.Ledgers.{Told, Asked, Ending, IsTaken, hands_over, ledger_went, ledger_ended, left, same_set}
 use Rattle.job_core.proofs.Plays.{plays_more, plays_none}
 use Rattle.job_core.proofs.Simulates.{live_at}
+use Rattle.job_core.proofs.Onward.{less_ahead, some_ahead}
 
 -- ---- runs that lead on
 
@@ -76,6 +78,16 @@ leads_skips kept schedule n steps (suc k) fits named =
     let one_more : k + 1 ≡ suc k = omega arith in
     subst (λ ns. LeadsOn kept ns kept) (sym (take_named schedule k n lt (named k (omega arith))) ∙ ap (λ m. take m schedule) one_more)
     (leads_more kept kept kept (take k schedule) n stepped.Skipped on refl steps)
+
+-- entries that all name the number
+pub take_alike : (schedule : List ℕ) (n k : ℕ) → k ≤ length schedule → ((i : ℕ) → i < k → get_or schedule i 0 ≡ n) →
+    take k schedule ≡ replicate k n
+take_alike schedule n zero fits named = refl
+take_alike schedule n (suc k) fits named =
+    let one_more : k + 1 ≡ suc k = omega arith in
+    ap (λ m. take m schedule) (sym one_more) ∙ take_named schedule k n (omega (arith, fits)) (named k (omega arith))
+    ∙ ap (λ ns. ns ++ n ∷ []) (take_alike schedule n k (omega (arith, fits)) (λ i less. named i (omega (arith, less))))
+    ∙ replicate_more k n ∙ ap (λ m. replicate m n) one_more
 
 -- what is gone along, and what is left as a slice
 pub parts : (schedule : List ℕ) (gone : ℕ) → schedule ≡ take gone schedule ++ take (length schedule - gone) (drop gone schedule)
@@ -139,6 +151,21 @@ module _ (old : Kept) (tasks : Tasks) (numbers : List ℕ) (n : ℕ) (live : Liv
       let same : code ≡ at.checked = way.read ∙ get_or_from_slice_get place.programs live.program at.checked code at.program in
       subst (λ (p : Checked). IsCovered p (at_slot live.frame slot) live.part live.credit) (sym same) at.is.covered
 
+  -- the task behind it
+  own : (j : Job) → IsBehind place j →
+      (t : Task) × (slice_get j.tasks n ≡ Some (job.Live t)) × (slice_get place.programs t.program ≡ Some code) × (t.slot ≡ slot)
+  own j behind =
+      let at = live_at place j n (living_at live slot) behind here in
+      let same : code ≡ at.checked = way.read ∙ get_or_from_slice_get place.programs live.program at.checked code at.program in
+      let there : slice_get place.programs at.task.program ≡ Some code = ap (slice_get place.programs) at.is.program ∙ at.program ∙ ap Some (sym same) in
+      (at.task, at.there, there, ap (λ (x : State). x.slot) at.is.state)
+
+  -- it has something ahead of it
+  pub some_left : 0 < cost_at code slot
+  some_left =
+      let o = own way.behind.0 way.behind.1 in
+      subst (λ s. 0 < cost_at code s) o.3 (some_ahead place way.behind.0 n o.0 code way.behind.1 o.1 o.2)
+
   pub lives_are : tasks.ledger.lives.items ≡ set place.lives n None
   lives_are = sym (set-set tasks.ledger.lives.items n (Some (living_at live slot)) None ∙ same_set tasks.ledger.lives.items n None way.out)
 
@@ -176,6 +203,7 @@ module _ (old : Kept) (tasks : Tasks) (numbers : List ℕ) (n : ℕ) (live : Liv
     -- it goes on
     pub way_on : (to : ℕ) → next ≡ At to → IsCovered code (at_slot after.frame to) after.part after.credit →
         IsUnderWay old then_kept (numbers ++ n ∷ []) n after to code × IsRunning (record tasks { ledger = ledger }) n after
+        × (cost_at code to < cost_at code slot)
     way_on to is covered =
         let reached : slot_after slot next ≡ to = ap (slot_after slot) is in
         let steps : (j : Job) → IsBehind place j → Steps place j n stepped.Went (standing then_kept n then_at) = λ j behind.
@@ -184,7 +212,17 @@ module _ (old : Kept) (tasks : Tasks) (numbers : List ℕ) (n : ℕ) (live : Liv
         (subst (λ s. IsCovered code (at_slot after.frame s) after.part after.credit) (sym reached) covered) in
         let first = steps way.behind.0 way.behind.1 in
         let is_left = left place n (living_at live slot) code (out_of next) then_at tasks.ledger ledger here way.read base same_number
-        (taken running) did way.behind.0 way.behind.1 in (
+        (taken running) did way.behind.0 way.behind.1 in
+        let o = own way.behind.0 way.behind.1 in
+        let u = first.4.1 in
+        let falls = (less_ahead place way.behind.0 first.1 n first.0 o.0 u.0 code way.behind.1 first.2 o.1 u.1 o.2).1 in
+        let at = first.3.kept_are.each n (job.Live u.0) u.1 in
+        let found : Some (Some at.live) ≡ Some (Some then_at) =
+        sym at.there ∙ set_same ledger.lives.items n (Some then_at) (slice_get_within ledger.lives.items n None is_left.out) in
+        let same : at.live ≡ then_at = cc in
+        let slot_is : u.0.slot ≡ to = ap (λ (x : State). x.slot) at.is.state ∙ ap (λ (l : Live). l.frame.slot) same ∙ reached in
+        let less : cost_at code to < cost_at code slot =
+        subst (λ s. cost_at code s < cost_at code slot) slot_is (subst (λ s. cost_at code u.0.slot < cost_at code s) o.3 falls) in (
           subst (λ s. IsUnderWay old then_kept (numbers ++ n ∷ []) n after s code) reached (record {
             out = is_left.out;
             read = way.read ∙ ap (λ number. get_or tasks.programs.items number code) (sym same_number);
@@ -195,6 +233,7 @@ module _ (old : Kept) (tasks : Tasks) (numbers : List ℕ) (n : ℕ) (live : Liv
             turn = is_left.turn;
             booked = standings_alike ledger.lives.items ledger.book.history n then_at after refl is_left.booked;
           },
+          less,
         )
 
     -- it ends
@@ -239,11 +278,11 @@ module _ (old : Kept) (tasks : Tasks) (schedule : List ℕ) (gone n : ℕ) (live
   pub way_stretch : (k : ℕ) (mid : Frame) (mid_part : Piece) → GoesOn code live.credit k (at_slot live.frame slot) live.part mid mid_part →
       gone + k ≤ length schedule → ((i : ℕ) → i < gone + k → get_or schedule i 0 ≡ n) →
       IsUnderWay old (kept_of tasks) (take (gone + k) schedule) n (living_on live k mid mid_part) mid.slot code
-      × (mid_part.base ≡ live.part.base)
+      × (mid_part.base ≡ live.part.base) × (k + cost_at code mid.slot ≤ cost_at code slot)
   way_stretch zero mid mid_part goes fits named =
       let all : gone ≡ gone + 0 = omega arith in
       rw (goes.0, goes.1)
-      (no_stretch old (kept_of tasks) (take gone schedule) (take (gone + 0) schedule) n live slot code way (ap (λ m. take m schedule) all), refl)
+      (no_stretch old (kept_of tasks) (take gone schedule) (take (gone + 0) schedule) n live slot code way (ap (λ m. take m schedule) all), refl, omega arith)
   way_stretch (suc k) mid mid_part goes fits named =
       let from : Frame = goes.0 in
       let from_part : Piece = goes.1 in
@@ -260,6 +299,7 @@ module _ (old : Kept) (tasks : Tasks) (schedule : List ℕ) (gone n : ℕ) (live
         subst (λ ns. IsUnderWay old (kept_of tasks) ns n (living_on live (suc k) mid mid_part) mid.slot code)
             (sym (take_named schedule (gone + k) n lt (named (gone + k) (omega arith))) ∙ ap (λ m. take m schedule) one_more) on.0,
         last.base ∙ before.1,
+        omega (arith, before.2, on.2),
       )
 
   -- it goes on by these instructions but the last one, which then takes it to what is told of that
@@ -268,6 +308,7 @@ module _ (old : Kept) (tasks : Tasks) (schedule : List ℕ) (gone n : ℕ) (live
       IsUnderWay old (kept_of tasks) (take (gone + ran.before) schedule) n (living_on live ran.before ran.mid ran.mid_part) ran.mid.slot code
       × (ran.mid_part.base ≡ live.part.base)
       × (take (gone + count) schedule ≡ take (gone + ran.before) schedule ++ n ∷ [])
+      × (ran.before + cost_at code ran.mid.slot ≤ cost_at code slot)
   way_ran limit count told ran fits named =
       let is = ran.count in
       let both = way_stretch ran.before ran.mid ran.mid_part ran.goes (omega (arith, fits, is)) (λ i less. named i (omega (arith, less, is))) in
@@ -275,4 +316,5 @@ module _ (old : Kept) (tasks : Tasks) (schedule : List ℕ) (gone n : ℕ) (live
         both.0,
         both.1,
         ap (λ m. take m schedule) last ∙ take_named schedule (gone + ran.before) n (omega (arith, fits, is)) (named (gone + ran.before) (omega (arith, is))),
+        both.2,
       )

@@ -1,6 +1,6 @@
 //! The tasks of a job and the step of one of them.
 
-ghost use Rattle.std.specs.Prelude.{◌≡◌, ℕ, ◌<◌, ◌≤◌, ◌^◌, length, slice_get, List, ◌++◌};
+ghost use Rattle.std.specs.Prelude.{◌≡◌, ℕ, ◌<◌, ◌≤◌, ◌^◌, length, replicate, slice_get, List, ◌++◌};
 
 use crate::ledger::Ledger;
 use crate::schedule::named_alike;
@@ -26,6 +26,7 @@ pub enum Stepped {
 impl Tasks {
     ghost use Rattle.machine_model.specs.Job.{Job};
     ghost use Rattle.job_core.specs.Behind.{IsBehind, Steps, LeadsOn};
+    ghost use Rattle.job_core.specs.OneTask.{IsIdle, RunsTask};
     ghost use Rattle.job_core.specs.Keeping.{kept_of, IsBooked};
 
     /// One instruction of a task, if it is alive.
@@ -58,10 +59,51 @@ impl Tasks {
         }
     }
 
-    /// Goes along a schedule as long as it names the task that it begins with, one instruction for each entry, or until the task
-    /// ends. What is left of it.
+    /// Runs a task on from its next instruction, `limit` of them at most, or until it ends. How many ran, and what that came to: it isn't
+    /// alive, it goes on, or it ended.
     ///
-    /// The task is taken from its place, and its program looked up, but once. Where it isn't alive, all these entries are passed over.
+    /// The task is taken from its place, and its program looked up, but once.
+    #[inline(always)]
+    pub fn run_task(&mut self, alloc: Global, number: u32, limit: usize) -> (usize, Stepped)
+        requires behind { (j : Job) × IsBehind (kept_of self.old) j }
+        requires booked { IsBooked self.old }
+        ensures leads { LeadsOn (kept_of self.old) (replicate result.0 number) (kept_of self.new) }
+        ensures runs { (j : Job) → IsBehind (kept_of self.old) j → RunsTask (kept_of self.old) j number result.0 result.1 (kept_of self.new) }
+        ensures idle { result.0 ≡ 0 → 0 < limit → IsIdle (kept_of self.old) number (kept_of self.new) }
+        ensures whole { result.1 ≡ Stepped.Went → result.0 ≡ limit }
+        ensures most { result.0 ≤ limit }
+        ensures few { result.0 ≤ 2147483647 }
+        ensures booked { IsBooked self.new }
+    {
+        let Tasks { programs, ledger } = self;
+        let Some(place) = ledger.lives.get_mut(number as usize) else {
+            return (0, Stepped::Skipped);
+        };
+        let Some(mut live) = place.take() else {
+            return (0, Stepped::Skipped);
+        };
+        let code = &programs[live.program() as usize];
+        ledger.turn = number;
+        let mut slot = live.slot();
+        let mut gone = 0;
+        while gone < limit {
+            let ran = live.run_at(alloc, code, slot, limit - gone, ledger);
+            gone += ran.count;
+            match ran.next {
+                Next::At(next) => slot = next,
+                Next::Ended(r0) => {
+                    ledger.end(number, live, r0);
+                    return (gone, Stepped::Ended(r0));
+                }
+            }
+        }
+        live.note_slot(slot);
+        ledger.lives[number as usize] = Some(live);
+        (gone, Stepped::Went)
+    }
+
+    /// Goes along a schedule as long as it names the task that it begins with, one instruction for each entry, or until the task
+    /// ends. What is left of it. Where the task isn't alive, all these entries are passed over.
     pub fn run<'a>(&mut self, alloc: Global, schedule: &'a [u32]) -> &'a [u32]
         requires behind { (j : Job) × IsBehind (kept_of self.old) j }
         requires booked { IsBooked self.old }
@@ -70,32 +112,11 @@ impl Tasks {
         ensures booked { IsBooked self.new }
         ensures shorter { length result.now < length schedule.now }
     {
-        let number = schedule[0];
         let named = named_alike(schedule);
-        let Tasks { programs, ledger } = self;
-        let Some(place) = ledger.lives.get_mut(number as usize) else {
+        let (count, _) = self.run_task(alloc, schedule[0], named);
+        if count == 0 {
             return &schedule[named..];
-        };
-        let Some(mut live) = place.take() else {
-            return &schedule[named..];
-        };
-        let code = &programs[live.program() as usize];
-        ledger.turn = number;
-        let mut slot = live.slot();
-        let mut gone = 0;
-        while gone < named {
-            let ran = live.run_at(alloc, code, slot, named - gone, ledger);
-            gone += ran.count;
-            match ran.next {
-                Next::At(next) => slot = next,
-                Next::Ended(r0) => {
-                    ledger.end(number, live, r0);
-                    return &schedule[gone..];
-                }
-            }
         }
-        live.note_slot(slot);
-        ledger.lives[number as usize] = Some(live);
-        &schedule[gone..]
+        &schedule[count..]
     }
 }

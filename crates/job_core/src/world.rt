@@ -34,11 +34,12 @@ impl Model for World {
 }
 
 impl World {
-    ghost use Rattle.std.specs.Prelude.{◌≡◌, ℕ, ◌<◌, ◌↔◌, List, ◌++◌, length, IfOk, IfErr, IfSome, IsSome, IsTrue};
+    ghost use Rattle.std.specs.Prelude.{◌≡◌, ℕ, ◌<◌, ◌≤◌, ◌↔◌, List, ◌++◌, length, IfOk, IfErr, IfSome, IsSome, IsTrue};
     ghost use Rattle.machine_model.specs.Job as model;
     ghost use Rattle.machine_model.specs.Job.{start, IsAlive, IsComplete};
     ghost use Rattle.job_core.specs.Behind.{IsBehind, Steps, LeadsOn};
     ghost use Rattle.job_core.specs.Answers.{AreTotals, IsReportOf};
+    ghost use Rattle.job_core.specs.OneTask.{RunsTask};
     ghost use Rattle.job_core.specs.Rooms.{room_at};
 
     /// The job at its start: the root alone, with all the credit and the whole buffer.
@@ -86,8 +87,23 @@ impl World {
         self.tasks.step(alloc, number)
     }
 
+    /// Runs a task on from its next instruction, `limit` of them at most, or until it ends. How many ran, and what that came to: it isn't
+    /// alive, and none ran; it goes on, and `limit` of them ran; or it ended.
+    ///
+    /// Each of them costs some of the job's credit, so that a run without a limit, 4,294,967,295, comes to an end of the task.
+    pub fn run(&mut self, alloc: Global, number: u32, limit: u32) -> (u32, Stepped)
+        ensures runs { (j : model.Job) → IsBehind self.old j → RunsTask self.old j number result.0 result.1 self.new }
+        ensures whole { result.1 ≡ Stepped.Went → result.0 ≡ limit }
+        ensures most { result.0 ≤ limit }
+        ensures few { result.0 ≤ 2147483647 }
+        ensures programs { self.new.programs ≡ self.old.programs }
+    {
+        let (count, came_to) = self.tasks.run_task(alloc, number, limit as usize);
+        (count as u32, came_to)
+    }
+
     /// Goes along a schedule as long as it names the task that it begins with, one instruction for each entry. What is left of it.
-    fn run<'a>(&mut self, alloc: Global, schedule: &'a [u32]) -> &'a [u32]
+    fn follow<'a>(&mut self, alloc: Global, schedule: &'a [u32]) -> &'a [u32]
         requires { 0 < length schedule.now }
         ensures leads { (numbers : List ℕ) × (schedule.now ≡ numbers ++ result.now) × LeadsOn self.old numbers self.new }
         ensures shorter { length result.now < length schedule.now }
@@ -103,6 +119,13 @@ impl World {
             Some(live) => live.is_some(),
             None => false,
         }
+    }
+
+    /// How many tasks there are, those that have ended among them. Their numbers run from 0.
+    pub fn count(&self) -> u32
+        ensures { (j : model.Job) → IsBehind self.now j → result ≡ length j.tasks }
+    {
+        self.tasks.ledger.book.count()
     }
 
     /// For how many bytes the task's part has room, which is the memory that it takes. None where the task isn't alive.
@@ -183,7 +206,7 @@ pub fn play(alloc: Global, job: Job, schedule: &[u32]) -> Result<World, NoMemory
     let mut world = World::open(alloc, job)?;
     let mut rest = schedule;
     while !rest.is_empty() {
-        rest = world.run(alloc, rest);
+        rest = world.follow(alloc, rest);
     }
     Ok(world)
 }

@@ -10,8 +10,6 @@ pub use prices::{helper_price, price};
 pub use program::Entry;
 
 // the exact operators
-#[cfg(test)]
-mod operator_tests;
 mod operators;
 mod unary;
 
@@ -20,5 +18,3 @@ pub use unary::{extension_width, low_end, negate, reorder_bytes, sign_extend};
 
 // loads and stores
 pub mod memory;
-#[cfg(test)]
-mod memory_tests;

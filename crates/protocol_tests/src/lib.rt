@@ -1,6 +1,9 @@
 //! Frames, requests, replies and accounts together, as tests over tables. Nothing stands on it.
 #![tactic(auto)]
 
+// frames as a client writes them
+pub mod framing;
+
 // a server in one thread
 #[cfg(test)]
 mod server;

@@ -1,5 +1,6 @@
 //! A server in one thread: a desk answers the requests, and each job is played as soon as it is taken, first its task 0, then its task 1.
 
+use crate::framing::behind_length;
 use accounts::{Account, Desk, DeskFault};
 use credit_book::{Progress, Report, TaskEnd};
 use job_core::{Job, ProgramBytes, play};
@@ -169,9 +170,6 @@ pub(crate) fn served(alloc: Global, bytes: &[u8], size: usize) -> Result<Vec<u8>
 
 /// A text behind its length.
 pub(crate) fn frame(alloc: Global, text: &[u8]) -> Result<Vec<u8>, Fail> {
-    let mut bytes = Vec::new(alloc);
-    let length = u32::try_from(text.len())?;
-    bytes.extend_from_slice(&length.to_be_bytes())?;
-    bytes.extend_from_slice(text)?;
-    Ok(bytes)
+    let count = u32::try_from(text.len())?;
+    Ok(behind_length(alloc, count, text)?)
 }

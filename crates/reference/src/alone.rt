@@ -15,7 +15,7 @@ use crate::runs::entry_registers;
 use std::alloc::Global;
 
 /// The task at its start, with all the credit, these bytes as its part, and argument 0.
-pub(crate) fn alone(credit: u32, part: Vec<u8>) -> Running
+pub fn start_alone(credit: u32, part: Vec<u8>) -> Running
     ensures { state_of result ≡ alone credit part.items }
 {
     let registers = entry_registers(part.as_slice().len(), 0);
@@ -69,7 +69,7 @@ pub fn run_alone<F: Fn(u32, [u64; 5]) -> u64>(
     ensures far { result ≡ Err unanswered.TooLarge →
         FarWithin (program_of program.now) (λ id arguments answer. F.post helper.now id arguments answer) steps (alone credit part.items) }
 {
-    let mut state = alone(credit, part);
+    let mut state = start_alone(credit, part);
     for _ in 0..steps {
         match effect(alloc, program, &[], state)? {
             Outcome::Goes(next) => state = next,

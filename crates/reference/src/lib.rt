@@ -25,12 +25,5 @@ pub use effects::effect;
 mod alone;
 mod runs;
 
-pub use alone::run_alone;
+pub use alone::{run_alone, start_alone};
 pub use runs::{run, start, step};
-
-#[cfg(test)]
-mod helper_tests;
-#[cfg(test)]
-mod programs;
-#[cfg(test)]
-mod tests;

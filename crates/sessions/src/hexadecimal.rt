@@ -1,26 +1,39 @@
 //! Bytes from hexadecimal text, in either case.
 //!
-//! It reads what `hex` reads, in a third of its time, since it doesn't tell where a text isn't hexadecimal.
+//! It reads what `hex` reads, in a fraction of its time: by a table, and without telling where a text isn't hexadecimal.
 
 ghost use Rattle.std.specs.Prelude.{◌≡◌, ◌≢◌, ◌≤◌, ℕ, None, Ok, IfOk, IfErr, IfSome};
 ghost use Rattle.std.specs.Result.{result_ok};
-ghost use Rattle.hex.specs.Hex.{decode_of, hex_digit_value, pair_value};
+ghost use Rattle.hex.specs.Hex.{decode_of, pair_value};
+ghost use Rattle.sessions.specs.Hexadecimal.{coded_digit};
 ghost use Rattle.sessions.specs.declared.fault.SessionFault.TheVariants.{BadRequest, NoMemory};
 
 use crate::fault::SessionFault;
 use std::alloc::Global;
 
+/// The value of each byte as a digit, and 255 for those that are none.
+const DIGITS: [u8; 256] = [
+    255, 255, 255, 255, 255, 255, 255, 255, 255, 255, 255, 255, 255, 255, 255, 255, 255, 255, 255,
+    255, 255, 255, 255, 255, 255, 255, 255, 255, 255, 255, 255, 255, 255, 255, 255, 255, 255, 255,
+    255, 255, 255, 255, 255, 255, 255, 255, 255, 255, 0, 1, 2, 3, 4, 5, 6, 7, 8, 9, 255, 255, 255,
+    255, 255, 255, 255, 10, 11, 12, 13, 14, 15, 255, 255, 255, 255, 255, 255, 255, 255, 255, 255,
+    255, 255, 255, 255, 255, 255, 255, 255, 255, 255, 255, 255, 255, 255, 255, 255, 10, 11, 12, 13,
+    14, 15, 255, 255, 255, 255, 255, 255, 255, 255, 255, 255, 255, 255, 255, 255, 255, 255, 255,
+    255, 255, 255, 255, 255, 255, 255, 255, 255, 255, 255, 255, 255, 255, 255, 255, 255, 255, 255,
+    255, 255, 255, 255, 255, 255, 255, 255, 255, 255, 255, 255, 255, 255, 255, 255, 255, 255, 255,
+    255, 255, 255, 255, 255, 255, 255, 255, 255, 255, 255, 255, 255, 255, 255, 255, 255, 255, 255,
+    255, 255, 255, 255, 255, 255, 255, 255, 255, 255, 255, 255, 255, 255, 255, 255, 255, 255, 255,
+    255, 255, 255, 255, 255, 255, 255, 255, 255, 255, 255, 255, 255, 255, 255, 255, 255, 255, 255,
+    255, 255, 255, 255, 255, 255, 255, 255, 255, 255, 255, 255, 255, 255, 255, 255, 255, 255, 255,
+    255, 255, 255, 255, 255, 255, 255, 255, 255, 255, 255, 255, 255, 255, 255, 255, 255, 255, 255,
+    255, 255, 255,
+];
+
 #[inline(always)]
-fn digit_value(byte: u8) -> Option<u8>
-    ensures is { result ≡ hex_digit_value byte }
-    ensures within { IfSome result (λ value. value ≤ 15) }
+fn digit_value(byte: u8) -> u8
+    ensures { result ≡ coded_digit byte }
 {
-    match byte {
-        b'0'..=b'9' => Some(byte - b'0'),
-        b'A'..=b'F' => Some(byte - b'A' + 10),
-        b'a'..=b'f' => Some(byte - b'a' + 10),
-        _ => None,
-    }
+    DIGITS[byte as usize]
 }
 
 // The byte of two digits.
@@ -28,13 +41,11 @@ fn digit_value(byte: u8) -> Option<u8>
 fn pair_value(high: u8, low: u8) -> Option<u8>
     ensures { (i : ℕ) → result ≡ result_ok (pair_value high low i) }
 {
-    match digit_value(high) {
-        None => None,
-        Some(high) => match digit_value(low) {
-            None => None,
-            Some(low) => Some(high * 16 + low),
-        },
+    let (high, low) = (digit_value(high), digit_value(low));
+    if high > 15 || low > 15 {
+        return None;
     }
+    Some(high * 16 + low)
 }
 
 /// The bytes that a text writes.

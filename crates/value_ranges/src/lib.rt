@@ -12,10 +12,6 @@ mod range;
 mod refinements;
 mod rows;
 mod signed_rows;
-#[cfg(test)]
-mod signed_tests;
-#[cfg(test)]
-mod tests;
 mod unary_rows;
 mod words;
 
@@ -23,6 +19,6 @@ pub use abs::{Abs, Reach};
 pub use arithmetic::alu;
 pub use joins::join;
 pub use numbers::Numbers;
-pub use range::Range;
+pub use range::{Range, SignedRange};
 pub use refinements::refine;
 pub use words::{entry, immediate, loaded};

@@ -28,7 +28,7 @@ impl Model for Numbers {
 
 impl Numbers {
     /// The numbers of both ranges.
-    pub(crate) fn new(unsigned: Range, signed: SignedRange) -> Self
+    pub fn new(unsigned: Range, signed: SignedRange) -> Self
         ensures { result ≡ ranges unsigned signed }
     {
         Numbers { unsigned, signed }
@@ -46,14 +46,14 @@ impl Numbers {
     }
 
     /// The range of the numbers as they are.
-    pub(crate) fn unsigned(self) -> Range
+    pub fn unsigned(self) -> Range
         ensures { result ≡ self.unsigned }
     {
         self.unsigned
     }
 
     /// The range of their signed readings.
-    pub(crate) fn signed(self) -> SignedRange
+    pub fn signed(self) -> SignedRange
         ensures { result ≡ self.signed }
     {
         self.signed

@@ -3,12 +3,12 @@ use Rattle.std.proofs.Common.{◌≡◌, ℕ, zero, suc, ◌+◌, ◌≤◌, ◌
 use Rattle.std.proofs.lemmas.Bool.{cases_eq}
 use Rattle.std.proofs.lemmas.Bool.Decides.{nat_tests}
 use Rattle.insn_codec.specs.declared.insn.Insn.{Insn}
-use Rattle.std.specs.Prelude.{option_and_then}
-use Rattle.machine_model.specs.Edges.{Code, Fact, Always, NotTaken, Taken, IsEdge, Begins, insn_at, leads, leads_at}
+use Rattle.machine_model.specs.Edges.{Code, Fact, Always, NotTaken, Taken, IsEdge, Begins, insn_at, leads_at}
 use Rattle.machine_model.proofs.Codes.{begins_within}
 use Rattle.machine_model.specs.Paths.{IsPathTo}
 use Rattle.flow_graph.specs.Flow.{IsJoined, IsOrder, IsFlow}
-use Rattle.verifier.specs.States.{entry_state}
+use Rattle.flow_graph.proofs.OrderLemmas.{joint_begins, no_cycle}
+use Rattle.flow_graph.specs.Cycles.{IsJoint}
 use Rattle.verifier.specs.Arrive.{Subject, Arrival, Nothing, Undefined, Comes, met, sent, landed, over, joined_over, arriving, IsArrive, arrive_within, arrive}
 
 pub met_nothing : (a : Arrival) → met a Nothing ≡ a
@@ -41,14 +41,6 @@ over_same p a b s k fact same = by_end (leads_at p.code k fact) same
       | inl e ↦ ap (λ (x : Arrival). landed (Some t) s (sent p (insn_at p.code k) fact x)) (h (ap Some e))
       | inr ne ↦ landed_not t s (sent p (insn_at p.code k) fact (a k)) ne ∙ sym (landed_not t s (sent p (insn_at p.code k) fact (b k)) ne)
     ]
-
--- an edge leaves an instruction
-pub edge_begins : (code : Code) (k : ℕ) (fact : Fact) (s : ℕ) → IsEdge code k fact s → Begins code k
-edge_begins code k fact s edge = by_insn (insn_at code k) refl edge
-  where
-    by_insn : (o : Option Insn) → insn_at code k ≡ o → option_and_then (λ i. leads i k fact) o ≡ Some s → Begins code k
-    by_insn None e x = absurd (cc)
-    by_insn (Some i) e x = (i, e)
 
 three : (x a b c : Arrival) → a ≡ Nothing → b ≡ Nothing → c ≡ Nothing → met (met (met x a) b) c ≡ x
 three x a b c p q r = simp (p, q, r, met_nothing)
@@ -94,7 +86,7 @@ AreBehind p order s n = (k : ℕ) (fact : Fact) → IsEdge p.code k fact s → (
 pub behind_place : (p : Subject) (order : List ℕ) (place : ℕ) → IsOrder p.code order → place < length order →
     AreBehind p order (slice_index order place) place
 behind_place p order place f lt k fact edge =
-    let from = f.each k (edge_begins p.code k fact (slice_index order place) edge) in
+    let from = f.each k (joint_begins p.code k (slice_index order place) (fact, edge)) in
     let on = subst (λ (x : ℕ). IsEdge p.code x fact (slice_index order place)) (sym from.2) edge in
     (from.0, f.onward from.0 place fact from.1 lt on, from.1, from.2)
 
@@ -108,7 +100,7 @@ behind_below p order place n f le lt k fact edge =
 -- and those that lead to any slot have a place
 pub behind_all : (p : Subject) (order : List ℕ) (s : ℕ) → IsOrder p.code order → AreBehind p order s (length order)
 behind_all p order s f k fact edge =
-    let from = f.each k (edge_begins p.code k fact s edge) in (from.0, from.1, from.1, from.2)
+    let from = f.each k (joint_begins p.code k s (fact, edge)) in (from.0, from.1, from.1, from.2)
 
 -- there is only one solution
 unique_at : (p : Subject) (a b : ℕ → Arrival) (order : List ℕ) (n s : ℕ) → IsJoined p.code → IsOrder p.code order → IsArrive p a → IsArrive p b →
@@ -128,7 +120,7 @@ unique_at p a b order (suc n) s j f x y behind within =
     let below : h.0 < suc n = h.1 in
     let low : h.0 ≤ n = omega (arith, below) in
     unique_at p a b order n k j f x y (subst (λ (u : ℕ). AreBehind p order u n) h.3 (behind_below p order h.0 n f low h.2))
-    (begins_within p.code k (edge_begins p.code k fact s edge)))
+    (begins_within p.code k (joint_begins p.code k s (fact, edge))))
     ∙ sym (y s within))
 
 pub arrive_unique : (p : Subject) (a b : ℕ → Arrival) (order : List ℕ) (s : ℕ) → IsJoined p.code → IsOrder p.code order → IsArrive p a →
@@ -185,7 +177,7 @@ after_first code order first f lt is [] place within here =
     let same : first ≡ place = f.once first place lt within (is ∙ sym here) in
     omega (arith, same)
 after_first code order first f lt is (p ∷ path) place within ((fact, edge), before) =
-    let at = f.each p (edge_begins code p fact (slice_index order place) edge) in
+    let at = f.each p (joint_begins code p (slice_index order place) (fact, edge)) in
     let on = subst (λ (k : ℕ). IsEdge code k fact (slice_index order place)) (sym at.2) edge in
     let later : at.0 < place = f.onward at.0 place fact at.1 within on in
     let back = after_first code order first f lt is path at.0 at.1 (subst (λ (k : ℕ). IsPathTo code path k) (sym at.2) before) in
@@ -193,7 +185,7 @@ after_first code order first f lt is (p ∷ path) place within ((fact, edge), be
 
 pub no_edge_back : (code : Code) (order : List ℕ) (p : ℕ) (fact : Fact) → IsFlow (record { code = code; order = order }) → IsEdge code p fact 0 → ⊥
 no_edge_back code order p fact f edge =
-    let begins = edge_begins code p fact 0 edge in
+    let begins = joint_begins code p 0 (fact, edge) in
     let first = f.order.each 0 (f.joined.lands p fact 0 edge).1 in
     let at = f.order.each p begins in
     let reached = f.reached p begins in
@@ -202,3 +194,12 @@ no_edge_back code order p fact f edge =
     let later : at.0 < first.0 = f.order.onward at.0 first.0 fact at.1 first.1 on in
     let back = after_first code order first.0 f.order first.1 first.2 reached.0 at.0 at.1 (subst (λ (k : ℕ). IsPathTo code reached.0 k) (sym at.2) reached.1) in
     omega (arith, later, back)
+
+-- so an edge leads past it
+pub joint_past : (code : Code) (order : List ℕ) (p s : ℕ) → IsFlow (record { code = code; order = order }) → IsJoint code p s → 0 < s
+joint_past code order p zero f (fact, edge) = absurd (no_edge_back code order p fact f edge)
+joint_past code order p (suc s) f joint = omega arith
+
+-- and to another slot
+pub joint_apart : (code : Code) (order : List ℕ) (p s : ℕ) → IsOrder code order → IsJoint code p s → p ≢ s
+joint_apart code order p s o joint same = no_cycle code order p o ([], subst (λ (k : ℕ). IsJoint code p k) (sym same) joint)

@@ -1,124 +1,246 @@
--- What is found out of one instruction more, and of all of them.
-use Rattle.std.proofs.Common.{◌≡◌, ◌⊎◌, Bool, ℕ, zero, suc, ◌-◌, ◌≤◌, ◌<◌, ◌≢◌, ◌==◌, List, length, Some, None, Option, ap, sym, ◌∙◌, arith, refl, inl, inr, true, false, nat_lt, if◌then◌else◌, slice_set, slice_get, slice_index, slice_index_or, subst}
-use Rattle.std.specs.Prelude.{option_and_then}
+-- What has come along the edges, one step more.
+use Rattle.std.proofs.Common.{◌≡◌, Bool, ℕ, suc, ◌≤◌, ◌<◌, ◌≢◌, List, length, Some, None, Option, ap, sym, ◌∙◌, arith, refl, inl, inr, true, false, slice_set, slice_index, slice_index_or, subst, if◌then◌else◌}
 use Rattle.std.proofs.lemmas.Bool.{cases_lt, cases_eq}
-use Rattle.std.proofs.lemmas.Bool.Decides.{nat_tests}
 use Rattle.std.proofs.lemmas.List.{get_or-set_same, get_or-set_other}
 use Rattle.std.proofs.Math.ListN.{length-set}
 use Rattle.insn_codec.specs.declared.insn.Insn.{Insn}
-use Rattle.machine_model.specs.Edges.{Code, Fact, Begins, insn_at}
-use Rattle.machine_model.proofs.Codes.{begins_within}
+use Rattle.machine_model.specs.Edges.{Code, Always, NotTaken, Taken, IsEdge, insn_at, leads_at}
 use Rattle.flow_graph.specs.Cycles.{IsJoint}
-use Rattle.flow_graph.specs.Flow.{IsJoined, IsOrder}
-use Rattle.value_ranges.specs.declared.abs.Abs.{Abs}
+use Rattle.flow_graph.specs.Flow.{AreNext, IsOrder}
+use Rattle.flow_graph.specs.declared.graph.Next.{Next}
+use Rattle.flow_graph.specs.declared.graph.Next.TheVariants.{Zero, One, Two}
 use Rattle.verifier.specs.declared.state.State.{State}
-use Rattle.verifier.specs.declared.states.Finding.{Finding}
-use Rattle.verifier.specs.declared.states.Finding.TheVariants.{Refused, Allowed}
-use Rattle.verifier.specs.declared.states.Fault.{Fault}
-use Rattle.verifier.specs.States.{entry_state, fault, passed}
-use Rattle.verifier.specs.Judged.{left_by}
-use Rattle.verifier.specs.Arrive.{Subject, Arrival, Nothing, Undefined, Comes, sent, unless, joined_over, arriving, IsArrive, arrive}
-use Rattle.verifier.specs.Verdict.{IsAllowedAt, IsFaulty, IsFirstFaulty, IsTable, arrival_of}
-use Rattle.verifier.specs.Coming.{IsBlocked, IsFound, IsAllowedWith, IsExamined, AreExamined, IsAmong, IsFirst, HasCome, earlier}
-use Rattle.verifier.proofs.Arrivals.{behind_place, joined_over_stops}
-use Rattle.verifier.proofs.FaultLemmas.{refused_number}
+use Rattle.verifier.specs.States.{passed, fault}
+use Rattle.verifier.specs.Arrive.{Subject, Arrival, Undefined, Comes, met, landed, sent, joined_over, IsArrive, arrive}
+use Rattle.verifier.specs.Verdict.{arrival_of}
+use Rattle.verifier.specs.Merges.{is_kept}
+use Rattle.verifier.specs.Sources.{Links, IsLinked, IsNextSource, link_of}
+use Rattle.verifier.specs.Coming.{IsPassed, IsBlocked, IsPulled, IsPast, IsTaken, IsSent, IsAmong, HasCome}
+use Rattle.verifier.proofs.Options.{one_some, none_some}
+use Rattle.verifier.proofs.Arrivals.{behind_place}
+use Rattle.verifier.proofs.Pulling.{sent_is, pulled_on, pulled_allowed, joint_within}
 
--- past the first slot, the join over all edges arrives
-pub arrives_joined : (p : Subject) (s : ℕ) → IsArrive p (arrive p) → 0 < s → s < length p.code →
-    arrive p s ≡ joined_over p (arrive p) s (length p.code)
-arrives_joined p zero h more lt = absurd (omega arith)
-arrives_joined p (suc s) h more lt = h (suc s) lt
+-- ---- what is there of a slot
 
-sent_undefined : (p : Subject) (o : Option Insn) (fact : Fact) → sent p o fact Undefined ≡ Undefined
-sent_undefined p None fact = refl
-sent_undefined p (Some i) fact = refl
+one_arrived : (a : Arrival) (s t : State) → a ≡ Comes s → a ≡ Comes t → s ≡ t
+one_arrived a s t x y = cc
 
-pub blocked_by : (p : Subject) (s : ℕ) → arrive p s ≡ Undefined → IsBlocked p s
-blocked_by p s e fact = ap (λ (a : Arrival). sent p (insn_at p.code s) fact a) e ∙ sent_undefined p (insn_at p.code s) fact
+not_undefined : (a : Arrival) (s : State) → a ≡ Comes s → a ≡ Undefined → ⊥
+not_undefined a s x y = cc
 
--- what arrives isn't two things
-never : (a : Arrival) (state : State) → a ≡ Undefined → a ≡ Comes state → ⊥
-never a state p q = cc
+-- what is passed isn't blocked
+pub passed_not_blocked : (p : Subject) (s : ℕ) (state : State) → IsPassed p s state → IsBlocked p s → ⊥
+passed_not_blocked p s state h blocked =
+    not_undefined (sent p (insn_at p.code s) Always (arrive p s)) (passed h.insn Always state)
+    (sent_is p (insn_at p.code s) (arrive p s) h.insn Always state h.there h.arrives h.allowed) (blocked Always)
 
-never_here : (a : Arrival) (state : State) → a ≡ Nothing → a ≡ Comes state → ⊥
-never_here a state p q = cc
+-- one state is passed
+pub one_passed : (p : Subject) (s : ℕ) (a b : State) → IsPassed p s a → IsPassed p s b → a ≡ b
+one_passed p s a b x y = one_arrived (arrive p s) a b x.arrives y.arrives
 
-one_insn : (o : Option Insn) (i j : Insn) → o ≡ Some i → o ≡ Some j → i ≡ j
-one_insn o i j a b = cc
+-- where a state is there, it is the one that is passed
+pub sent_there : (p : Subject) (firsts : List (Option ℕ)) (s : ℕ) (o : Option State) (state : State) → o ≡ Some state → IsSent p firsts s o → IsPassed p s state
+sent_there p firsts s o state e (inl (blocked, none)) = absurd (none_some o state none e)
+sent_there p firsts s o state e (inr (arrived, h, inl there)) =
+    subst (λ (t : State). IsPassed p s t) (one_some o arrived state there e) h
+sent_there p firsts s o state e (inr (arrived, h, inr (none, kept, taken))) = absurd (none_some o state none e)
 
-one_arrived : (o : Arrival) (i j : State) → o ≡ Comes i → o ≡ Comes j → i ≡ j
-one_arrived o i j a b = cc
+sent_on : (p : Subject) (firsts later : List (Option ℕ)) (s : ℕ) (x y : Option State) → y ≡ x → (IsTaken p firsts s → IsTaken p later s) →
+    IsSent p firsts s x → IsSent p later s y
+sent_on p firsts later s x y same on (inl (blocked, none)) = inl (blocked, same ∙ none)
+sent_on p firsts later s x y same on (inr (arrived, h, inl there)) = inr (arrived, h, inl (same ∙ there))
+sent_on p firsts later s x y same on (inr (arrived, h, inr (none, kept, taken))) = inr (arrived, h, inr (same ∙ none, kept, on taken))
 
-allowed_one : (p : Subject) (k : ℕ) (i : Insn) (state : State) → insn_at p.code k ≡ Some i → arrive p k ≡ Comes state →
-    fault p.need p.helpers i state ≡ None → IsAllowedAt p k
-allowed_one p k i state x y z j other u v =
-    let same : i ≡ j = one_insn (insn_at p.code k) i j x u in
-    let as_well : state ≡ other = one_arrived (arrive p k) state other y v in
-    subst (λ (w : Insn). fault p.need p.helpers w other ≡ None) same (subst (λ (w : State). fault p.need p.helpers i w ≡ None) as_well z)
+-- a state that isn't needed further may go
+sent_away : (p : Subject) (firsts : List (Option ℕ)) (s : ℕ) (x y : Option State) → y ≡ None → is_kept p.code s ≡ false → IsTaken p firsts s →
+    IsSent p firsts s x → IsSent p firsts s y
+sent_away p firsts s x y gone kept taken (inl (blocked, none)) = inl (blocked, gone)
+sent_away p firsts s x y gone kept taken (inr (arrived, h, stored)) = inr (arrived, h, inr (gone, kept, taken))
 
--- ---- one instruction
+pulled_same : (p : Subject) (s : ℕ) (x y : Option State) (f g : Option ℕ) → y ≡ x → g ≡ f → IsPulled p s x f → IsPulled p s y g
+pulled_same p s x y f g a b h = subst (λ (u : Option State). IsPulled p s u g) (sym a) (subst (λ (v : Option ℕ). IsPulled p s x v) (sym b) h)
 
--- one that leads to the slot is refused
-pub examined_refused : (p : Subject) (states : List (Option State)) (findings : List (Option Finding)) (s : ℕ) → arrive p s ≡ Undefined →
-    (k : ℕ) × IsJoint p.code k s × (slice_index_or findings k None ≡ Some Refused) → IsExamined p states findings s (Some Refused)
-examined_refused p states findings s undefined from = record {
-  found = blocked_by p s undefined;
-  allowed = λ i state there arrives. absurd (never (arrive p s) state undefined arrives);
-  from = λ e. from;
+taken_on : (p : Subject) (firsts later : List (Option ℕ)) (s m : ℕ) →
+    ((k : ℕ) → k ≢ m → slice_index_or later k None ≡ slice_index_or firsts k None) →
+    ((k : ℕ) → IsPast (slice_index_or firsts m None) k → IsPast (slice_index_or later m None) k) → IsTaken p firsts s → IsTaken p later s
+taken_on p firsts later s m others on taken to joint = elim (cases_eq to m) [
+  | inl e ↦
+      subst (λ (k : ℕ). IsPast (slice_index_or later k None) s) (sym e)
+      (on s (subst (λ (k : ℕ). IsPast (slice_index_or firsts k None) s) e (taken to joint)))
+  | inr ne ↦ subst (λ (o : Option ℕ). IsPast o s) (sym (others to ne)) (taken to joint)
+]
+
+-- ---- steps that leave the place
+
+-- more has come to a slot
+come_on : (p : Subject) (order : List ℕ) (n m : ℕ) (old new : Links) (states later : List (Option State)) → HasCome p order n old states →
+    IsLinked p.code new → length later ≡ length states → (IsAmong order n m → ⊥) →
+    ((s : ℕ) → s ≢ m → slice_index_or later s None ≡ slice_index_or states s None) →
+    ((s : ℕ) → s ≢ m → slice_index_or new.first s None ≡ slice_index_or old.first s None) →
+    IsPulled p m (slice_index_or later m None) (slice_index_or new.first m None) →
+    ((k : ℕ) → IsPast (slice_index_or old.first m None) k → IsPast (slice_index_or new.first m None) k) → HasCome p order n new later
+come_on p order n m old new states later h linked long none others firsts pulled on = record {
+  linked = linked;
+  slots = long ∙ h.slots;
+  pulled = λ s within not_yet. elim (cases_eq s m) [
+    | inl e ↦ subst (λ (k : ℕ). IsPulled p k (slice_index_or later k None) (slice_index_or new.first k None)) (sym e) pulled
+    | inr ne ↦ pulled_same p s (slice_index_or states s None) (slice_index_or later s None) (slice_index_or old.first s None) (slice_index_or new.first s None)
+        (others s ne) (firsts s ne) (h.pulled s within not_yet)
+  ];
+  sent = λ s among.
+      let ne : s ≢ m = λ e. none (subst (λ (k : ℕ). IsAmong order n k) e among) in
+      sent_on p old.first new.first s (slice_index_or states s None) (slice_index_or later s None) (others s ne)
+      (taken_on p old.first new.first s m firsts on) (h.sent s among);
 }
 
-pub examined_unreached : (p : Subject) (states : List (Option State)) (findings : List (Option Finding)) (s : ℕ) →
-    slice_index_or states s None ≡ None → arrival_of (slice_index_or states s None) ≡ arrive p s → IsExamined p states findings s None
-examined_unreached p states findings s empty is =
-    let nothing : arrive p s ≡ Nothing = sym is ∙ ap arrival_of empty in
-    record {
-      found = (empty, nothing);
-      allowed = λ i state there arrives. absurd (never_here (arrive p s) state nothing arrives);
-      from = λ e. absurd (cc);
-    }
+-- a state has gone that isn't needed further
+pub come_away : (p : Subject) (order : List ℕ) (n s : ℕ) (links : Links) (states later : List (Option State)) →
+    HasCome p order n links states → IsAmong order n s → length later ≡ length states →
+    ((k : ℕ) → k ≢ s → slice_index_or later k None ≡ slice_index_or states k None) → slice_index_or later s None ≡ None →
+    is_kept p.code s ≡ false → IsTaken p links.first s → HasCome p order n links later
+come_away p order n s links states later h among long others gone kept taken = record {
+  linked = h.linked;
+  slots = long ∙ h.slots;
+  pulled = λ k within not_yet.
+      let ne : k ≢ s = λ e. not_yet (subst (λ (x : ℕ). IsAmong order n x) (sym e) among) in
+      pulled_same p k (slice_index_or states k None) (slice_index_or later k None) (slice_index_or links.first k None) (slice_index_or links.first k None)
+      (others k ne) refl (h.pulled k within not_yet);
+  sent = λ k at. elim (cases_eq k s) [
+    | inl e ↦ subst (λ (x : ℕ). IsSent p links.first x (slice_index_or later x None)) (sym e)
+        (sent_away p links.first s (slice_index_or states s None) (slice_index_or later s None) gone kept taken (h.sent s among))
+    | inr ne ↦ sent_on p links.first links.first k (slice_index_or states k None) (slice_index_or later k None) (others k ne) (λ t. t) (h.sent k at)
+  ];
+}
 
-pub examined_allowed : (p : Subject) (states : List (Option State)) (findings : List (Option Finding)) (s : ℕ) (i : Insn) (state : State) (left : Abs) →
-    insn_at p.code s ≡ Some i → slice_index_or states s None ≡ Some state → arrival_of (slice_index_or states s None) ≡ arrive p s →
-    fault p.need p.helpers i state ≡ None → left ≡ left_by i state → IsExamined p states findings s (Some (Allowed left))
-examined_allowed p states findings s i state left there kept is allowed leaves =
-    let arrives : arrive p s ≡ Comes state = sym is ∙ ap arrival_of kept in
-    record {
-      found = record { insn = i; arrived = state; there = there; kept = kept; arrives = arrives; allowed = allowed; leaves = leaves };
-      allowed = allowed_one p s i state there arrives allowed;
-      from = λ e. absurd (other e);
-    }
+-- the links are as they were, but for what comes next
+link_same : (old new : Links) (next : Next) (k s : ℕ) → new.following ≡ old.following → new.taken ≡ old.taken → link_of new next k s ≡ link_of old next k s
+link_same old new Zero k s x y = refl
+link_same old new (One to) k s x y = ap (λ (l : List (Option ℕ)). slice_index_or l k None) x
+link_same old new (Two following to) k s x y = rw (x, y) refl
+
+pub linked_noted : (code : Code) (old new : Links) (to : ℕ) (o : Option ℕ) → IsLinked code old → new.first ≡ slice_set old.first to o →
+    new.following ≡ old.following → new.taken ≡ old.taken → new.edges ≡ old.edges → IsLinked code new
+linked_noted code old new to o h first following taken edges = record {
+  firsts = ap length first ∙ (length-set old.first to o ∙ h.firsts);
+  followings = ap length following ∙ h.followings;
+  takens = ap length taken ∙ h.takens;
+  counts = ap length edges ∙ h.counts;
+  after = λ k s next are joint.
+      subst (λ (l : Option ℕ). IsNextSource code s (suc k) l) (sym (link_same old new next k s following taken)) (h.after k s next are joint);
+  counted = λ s within. ap (λ (l : List ℕ). slice_index_or l s 0) edges ∙ h.counted s within;
+}
+
+past_next : (code : Code) (from to k : ℕ) (o f : Option ℕ) → o ≡ Some from → IsNextSource code to (suc from) f → IsPast o k → IsPast f k
+past_next code from to k o None e next past = tt
+past_next code from to k o (Some q) e next past =
+    let before : k < from = subst (λ (x : Option ℕ). IsPast x k) e past in
+    let after : suc from ≤ q = next.0 in
+    let lt : k < q = omega (arith, before, after) in lt
+
+past_here : (code : Code) (from to : ℕ) (f : Option ℕ) → IsNextSource code to (suc from) f → IsPast f from
+past_here code from to None next = tt
+past_here code from to (Some q) next = let after : suc from ≤ q = next.0 in let lt : from < q = after in lt
+
+pub pulled_from : (p : Subject) (s : ℕ) (state : Option State) (o : Option ℕ) (q : ℕ) → o ≡ Some q → IsPulled p s state o →
+    IsJoint p.code q s × (arrival_of state ≡ joined_over p (arrive p) s q)
+pulled_from p s state o q e h = subst (λ (r : Option ℕ). IsPulled p s state r) e h
+
+-- What a slot passes on has come to another, and its state has gone, unless it is kept or another slot is still to take it.
+pub come_delivered : (p : Subject) (order : List ℕ) (n from to : ℕ) (old new : Links) (states later : List (Option State)) (next : Next) (i : Insn)
+    (state : State) (keep : Bool) → IsArrive p (arrive p) → 0 < to → to < length p.code → from ≢ to →
+    HasCome p order n old states → IsAmong order n from → (IsAmong order n to → ⊥) → insn_at p.code from ≡ Some i →
+    slice_index_or states from None ≡ Some state → IsJoint p.code from to → AreNext p.code from next → slice_index_or old.first to None ≡ Some from →
+    length later ≡ length states →
+    ((s : ℕ) → s ≢ to → s ≢ from → slice_index_or later s None ≡ slice_index_or states s None) →
+    slice_index_or later from None ≡ (if keep then slice_index_or states from None else None) →
+    arrival_of (slice_index_or later to None) ≡ met (met (met (arrival_of (slice_index_or states to None))
+    (landed (leads_at p.code from Always) to (Comes (passed i Always state))))
+    (landed (leads_at p.code from NotTaken) to (Comes (passed i NotTaken state))))
+    (landed (leads_at p.code from Taken) to (Comes (passed i Taken state))) →
+    new.first ≡ slice_set old.first to (link_of old next from to) → new.following ≡ old.following → new.taken ≡ old.taken → new.edges ≡ old.edges →
+    (keep ≡ false → (is_kept p.code from ≡ false) × ((s : ℕ) → IsJoint p.code from s → s ≢ to → IsPast (slice_index_or old.first s None) from)) →
+    HasCome p order n new later
+come_delivered p order n from to old new states later next i state keep solves more within apart h among none insn there joint are first long others gone
+    met_is note following taken edges free = by_keep keep gone free
   where
-    other : Some (Allowed left) ≡ Some Refused → ⊥
-    other e = cc
+    linked : IsLinked p.code new
+    linked = linked_noted p.code old new to (link_of old next from to) h.linked note following taken edges
 
-pub at_fault : (p : Subject) (states : List (Option State)) (s : ℕ) (i : Insn) (state : State) (number : ℕ) →
-    insn_at p.code s ≡ Some i → slice_index_or states s None ≡ Some state → arrival_of (slice_index_or states s None) ≡ arrive p s →
-    fault p.need p.helpers i state ≡ Some number → IsFaulty p s number
-at_fault p states s i state number there kept is applies =
-    record { insn = i; state = state; there = there; arrives = sym is ∙ ap arrival_of kept; applies = applies }
+    room : to < length old.first
+    room = omega (arith, within, h.linked.firsts)
 
-pub arrives_entry : (p : Subject) (states : List (Option State)) (s : ℕ) (state : State) → IsArrive p (arrive p) → s ≡ 0 → s < length p.code →
-    s < length states → state ≡ entry_state p.need → arrival_of (slice_index_or (slice_set states 0 (Some state)) s None) ≡ arrive p s
-arrives_entry p states zero state h e lt room is = rw (get_or-set_same states 0 (Some state) None room) (ap Comes is ∙ sym (h 0 lt))
-arrives_entry p states (suc s) state h e lt room is = absurd (omega arith)
+    first_new : slice_index_or new.first to None ≡ link_of old next from to
+    first_new = ap (λ (l : List (Option ℕ)). slice_index_or l to None) note ∙ get_or-set_same old.first to (link_of old next from to) None room
 
--- ---- one place of the order
+    next_new : IsNextSource p.code to (suc from) (slice_index_or new.first to None)
+    next_new = subst (λ (o : Option ℕ). IsNextSource p.code to (suc from) o) (sym first_new) (h.linked.after from to next are joint)
 
-none_yet : (order : List ℕ) (s : ℕ) → IsAmong order 0 s → ⊥
-none_yet order s m = let lt : m.place < 0 = m.below in omega (arith, lt)
+    firsts : (s : ℕ) → s ≢ to → slice_index_or new.first s None ≡ slice_index_or old.first s None
+    firsts s ne = ap (λ (l : List (Option ℕ)). slice_index_or l s None) note ∙ get_or-set_other old.first to s (link_of old next from to) None ne
 
-pub come_start : (p : Subject) (order : List ℕ) (states : List (Option State)) (findings : List (Option Finding)) →
-    length states ≡ length p.code → length findings ≡ length p.code →
-    ((s : ℕ) → slice_index_or states s None ≡ None) → HasCome p order states findings None 0
-come_start p order states findings x y none = record {
-  states_long = x;
-  findings_long = y;
-  found = λ s m. absurd (none_yet order s m);
-  empty = λ s m. none s;
-  told = λ s m. absurd (none_yet order s m);
-}
+    arrived : IsPassed p from state
+    arrived = sent_there p old.first from (slice_index_or states from None) state there (h.sent from among)
 
--- the slot at a place isn't at one ahead of it
+    before : IsJoint p.code from to × (arrival_of (slice_index_or states to None) ≡ joined_over p (arrive p) to from)
+    before = pulled_from p to (slice_index_or states to None) (slice_index_or old.first to None) from first (h.pulled to within none)
+
+    pulled : IsPulled p to (slice_index_or later to None) (slice_index_or new.first to None)
+    pulled =
+        let le : suc from ≤ length p.code = joint_within p to from joint in
+        pulled_on p to (suc from) (slice_index_or later to None) (slice_index_or new.first to None) solves more within next_new le
+        (pulled_allowed p to from i state (slice_index_or states to None) (slice_index_or later to None) insn arrived.arrives
+        (subst (λ (j : Insn). fault_of j ≡ None) (one_some (insn_at p.code from) arrived.insn i arrived.there insn) arrived.allowed) before.1 met_is)
+      where
+        fault_of : Insn → Option ℕ
+        fault_of j = fault p.need p.helpers j state
+
+    on : (k : ℕ) → IsPast (slice_index_or old.first to None) k → IsPast (slice_index_or new.first to None) k
+    on k past = past_next p.code from to k (slice_index_or old.first to None) (slice_index_or new.first to None) first next_new past
+
+    -- with the state that goes still there
+    middle : List (Option State)
+    middle = slice_set states to (slice_index_or later to None)
+
+    middle_to : slice_index_or middle to None ≡ slice_index_or later to None
+    middle_to =
+        let lt : to < length states = omega (arith, within, h.slots) in get_or-set_same states to (slice_index_or later to None) None lt
+
+    middle_other : (s : ℕ) → s ≢ to → slice_index_or middle s None ≡ slice_index_or states s None
+    middle_other s ne = get_or-set_other states to s (slice_index_or later to None) None ne
+
+    come_middle : HasCome p order n new middle
+    come_middle =
+        come_on p order n to old new states middle h linked (length-set states to (slice_index_or later to None)) none middle_other firsts
+        (subst (λ (u : Option State). IsPulled p to u (slice_index_or new.first to None)) (sym middle_to) pulled) on
+
+    all_taken : ((s : ℕ) → IsJoint p.code from s → s ≢ to → IsPast (slice_index_or old.first s None) from) → IsTaken p new.first from
+    all_taken past s j = elim (cases_eq s to) [
+      | inl e ↦ subst (λ (k : ℕ). IsPast (slice_index_or new.first k None) from) (sym e) (past_here p.code from to (slice_index_or new.first to None) next_new)
+      | inr ne ↦ subst (λ (o : Option ℕ). IsPast o from) (sym (firsts s ne)) (past s j ne)
+    ]
+
+    later_other : (s : ℕ) → s ≢ from → slice_index_or later s None ≡ slice_index_or middle s None
+    later_other s ne = elim (cases_eq s to) [
+      | inl e ↦ subst (λ (k : ℕ). slice_index_or later k None ≡ slice_index_or middle k None) (sym e) (sym middle_to)
+      | inr other ↦ others s other ne ∙ sym (middle_other s other)
+    ]
+
+    by_keep : (b : Bool) → slice_index_or later from None ≡ (if b then slice_index_or states from None else None) →
+        (b ≡ false → (is_kept p.code from ≡ false) × ((s : ℕ) → IsJoint p.code from s → s ≢ to → IsPast (slice_index_or old.first s None) from)) →
+        HasCome p order n new later
+    by_keep true stays f =
+        come_on p order n to old new states later h linked long none
+        (λ s ne. elim (cases_eq s from) [
+          | inl e ↦ subst (λ (k : ℕ). slice_index_or later k None ≡ slice_index_or states k None) (sym e) stays
+          | inr other ↦ others s ne other
+        ]) firsts pulled on
+    by_keep false away f =
+        let free = f refl in
+        come_away p order n from new middle later come_middle among
+        (long ∙ sym (length-set states to (slice_index_or later to None))) later_other away free.0 (all_taken free.1)
+
+-- ---- one place more
+
 pub not_among : (code : Code) (order : List ℕ) (n : ℕ) → IsOrder code order → n < length order → IsAmong order n (slice_index order n) → ⊥
 not_among code order n f lt m =
     let same : m.place ≡ n = f.once m.place n m.within lt m.there in
@@ -130,23 +252,34 @@ joint_among p order n k f lt (fact, edge) =
     let at = behind_place p order n f lt k fact edge in
     record { place = at.0; below = at.1; within = at.2; there = at.3 }
 
-pub examined_before : (p : Subject) (order : List ℕ) (states : List (Option State)) (findings : List (Option Finding)) (first : Option Fault) (n : ℕ) →
-    IsOrder p.code order → n < length order → HasCome p order states findings first n → AreExamined p states findings (slice_index order n)
-examined_before p order states findings first n f lt h k joint =
-    let among = joint_among p order n k f lt joint in
-    ((λ e. not_among p.code order n f lt (subst (λ (s : ℕ). IsAmong order n s) e among)), h.found k among)
+-- and those that it leads to are at later ones
+pub joint_later : (code : Code) (order : List ℕ) (n s : ℕ) → IsOrder code order → n < length order → IsJoint code (slice_index order n) s →
+    IsAmong order (suc n) s → ⊥
+joint_later code order n s f lt (fact, edge) m =
+    let on = subst (λ (k : ℕ). IsEdge code (slice_index order n) fact k) (sym m.there) edge in
+    let later : n < m.place = f.onward n m.place fact lt m.within on in
+    let below : m.place < suc n = m.below in
+    omega (arith, later, below)
 
-among_more : (order : List ℕ) (n s : ℕ) → IsAmong order n s → IsAmong order (suc n) s
+pub among_more : (order : List ℕ) (n s : ℕ) → IsAmong order n s → IsAmong order (suc n) s
 among_more order n s m =
     let below : m.place < n = m.below in
     let lt : m.place < suc n = omega (arith, below) in
     record { place = m.place; below = lt; within = m.within; there = m.there }
 
-among_here : (order : List ℕ) (n : ℕ) → n < length order → IsAmong order (suc n) (slice_index order n)
+pub among_here : (order : List ℕ) (n : ℕ) → n < length order → IsAmong order (suc n) (slice_index order n)
 among_here order n lt = let more : n < suc n = omega arith in record { place = n; below = more; within = lt; there = refl }
 
+-- the slot at the place, and what it leads to
+pub among_at : (order : List ℕ) (n s : ℕ) → n < length order → slice_index order n ≡ s → IsAmong order (suc n) s
+among_at order n s lt at = subst (λ (k : ℕ). IsAmong order (suc n) k) at (among_here order n lt)
+
+pub later_at : (code : Code) (order : List ℕ) (n s to : ℕ) → IsOrder code order → n < length order → slice_index order n ≡ s → IsJoint code s to →
+    IsAmong order (suc n) to → ⊥
+later_at code order n s to f lt at joint = joint_later code order n to f lt (subst (λ (k : ℕ). IsJoint code k to) (sym at) joint)
+
 -- one at the first places is at the last of them, or ahead
-among_before : (order : List ℕ) (n s : ℕ) → IsAmong order (suc n) s → s ≢ slice_index order n → IsAmong order n s
+pub among_before : (order : List ℕ) (n s : ℕ) → IsAmong order (suc n) s → s ≢ slice_index order n → IsAmong order n s
 among_before order n s m ne = elim (cases_lt m.place n) [
   | inl lt ↦ record { place = m.place; below = lt; within = m.within; there = m.there }
   | inr ge ↦
@@ -155,201 +288,35 @@ among_before order n s m ne = elim (cases_lt m.place n) [
       absurd (ne (sym m.there ∙ ap (λ (k : ℕ). slice_index order k) same))
 ]
 
--- what was found of the slots ahead of the one at this place still holds, and it is found of this one
-found_more : (p : Subject) (order : List ℕ) (states new : List (Option State)) (findings : List (Option Finding)) (first : Option Fault) (n : ℕ)
-    (finding : Option Finding) → n < length order → slice_index order n < length findings → HasCome p order states findings first n →
-    ((s : ℕ) → s ≢ slice_index order n → slice_index_or new s None ≡ slice_index_or states s None) →
-    IsFound p (slice_index_or new (slice_index order n) None) (slice_index order n) finding →
-    (s : ℕ) → IsAmong order (suc n) s → IsFound p (slice_index_or new s None) s (slice_index_or (slice_set findings (slice_index order n) finding) s None)
-found_more p order states new findings first n finding lt room h others found s m = elim (cases_eq s (slice_index order n)) [
-  | inl e ↦ subst (λ (k : ℕ). IsFound p (slice_index_or new k None) k (slice_index_or (slice_set findings (slice_index order n) finding) k None)) (sym e)
-      (rw (get_or-set_same findings (slice_index order n) finding None room) found)
-  | inr ne ↦ rw (others s ne, get_or-set_other findings (slice_index order n) s finding None ne) (h.found s (among_before order n s m ne))
-]
-
-empty_more : (p : Subject) (order : List ℕ) (states new : List (Option State)) (findings : List (Option Finding)) (first : Option Fault) (n : ℕ) →
-    n < length order → HasCome p order states findings first n →
-    ((s : ℕ) → s ≢ slice_index order n → slice_index_or new s None ≡ slice_index_or states s None) →
-    (s : ℕ) → (IsAmong order (suc n) s → ⊥) → slice_index_or new s None ≡ None
-empty_more p order states new findings first n lt h others s none =
-    others s (λ e. none (subst (λ (k : ℕ). IsAmong order (suc n) k) (sym e) (among_here order n lt)))
-    ∙ h.empty s (λ m. none (among_more order n s m))
-
-told_more : (p : Subject) (order : List ℕ) (states new : List (Option State)) (findings : List (Option Finding)) (first : Option Fault) (n : ℕ)
-    (finding : Option Finding) → IsOrder p.code order → n < length order → slice_index order n < length findings → HasCome p order states findings first n →
-    IsExamined p new findings (slice_index order n) finding → IsFirst p order findings n first →
-    IsFirst p order (slice_set findings (slice_index order n) finding) (suc n) first
-told_more p order states new findings None n finding f lt room h examined told = λ s m. elim (cases_eq s (slice_index order n)) [
-  | inl e ↦ (
-    (λ refused.
-        let here : finding ≡ Some Refused = sym (get_or-set_same findings (slice_index order n) finding None room)
-        ∙ subst (λ (k : ℕ). slice_index_or (slice_set findings (slice_index order n) finding) k None ≡ Some Refused) e refused in
-        let from = examined.from here in
-        (told from.0 (joint_among p order n from.0 f lt from.1)).0 from.2),
-    subst (λ (k : ℕ). IsAllowedAt p k) (sym e) examined.allowed,
-  )
-  | inr ne ↦
-      let before = told s (among_before order n s m ne) in
-      ((λ refused. before.0 (sym (get_or-set_other findings (slice_index order n) s finding None ne) ∙ refused)), before.1)
-]
-told_more p order states new findings (Some before) n finding f lt room h examined told = (
-  told.0,
-  λ s m below. elim (cases_eq s (slice_index order n)) [
-    | inl e ↦ subst (λ (k : ℕ). IsAllowedAt p k) (sym e) examined.allowed
-    | inr ne ↦ told.1 s (among_before order n s m ne) below
-  ],
-)
-
--- an instruction has been examined that has no fault of its own
-pub come_examined : (p : Subject) (order : List ℕ) (states new : List (Option State)) (findings : List (Option Finding)) (first : Option Fault) (n : ℕ)
-    (finding : Option Finding) → IsOrder p.code order → n < length order → HasCome p order states findings first n → length new ≡ length states →
-    ((s : ℕ) → s ≢ slice_index order n → slice_index_or new s None ≡ slice_index_or states s None) →
-    IsExamined p new findings (slice_index order n) finding →
-    HasCome p order new (slice_set findings (slice_index order n) finding) first (suc n)
-come_examined p order states new findings first n finding f lt h long others examined =
-    let within = begins_within p.code (slice_index order n) (f.begins n lt) in
-    let room : slice_index order n < length findings = omega (arith, within, h.findings_long) in
-    record {
-      states_long = long ∙ h.states_long;
-      findings_long = length-set findings (slice_index order n) finding ∙ h.findings_long;
-      found = found_more p order states new findings first n finding lt room h others examined.found;
-      empty = empty_more p order states new findings first n lt h others;
-      told = told_more p order states new findings first n finding f lt room h examined h.told;
-    }
-
-blocked_at_fault : (p : Subject) (s number : ℕ) → IsFaulty p s number → IsBlocked p s
-blocked_at_fault p s number h fact =
-    ap (λ (o : Option Insn). sent p o fact (arrive p s)) h.there
-    ∙ (ap (λ (a : Arrival). sent p (Some h.insn) fact a) h.arrives
-    ∙ ap (λ (o : Option ℕ). unless o (passed h.insn fact h.state)) h.applies)
-
-earlier_faulty : (p : Subject) (first : Option Fault) (f : Fault) → IsFaulty p f.slot f.number →
-    ((g : Fault) → first ≡ Some g → IsFaulty p g.slot g.number) → IsFaulty p (earlier first f).slot (earlier first f).number
-earlier_faulty p None f h before = h
-earlier_faulty p (Some g) f h before = by_test (nat_lt g.slot f.slot)
-  where
-    by_test : (b : Bool) → IsFaulty p (if b then g else f).slot (if b then g else f).number
-    by_test true = before g refl
-    by_test false = h
-
-earlier_low : (first : Option Fault) (f : Fault) → (earlier first f).slot ≤ f.slot
-earlier_low None f = let le : f.slot ≤ f.slot = omega arith in le
-earlier_low (Some g) f = grind (arith, nat_tests)
-
-earlier_below : (g f : Fault) → (earlier (Some g) f).slot ≤ g.slot
-earlier_below g f = grind (arith, nat_tests)
-
-told_fault : (p : Subject) (order : List ℕ) (findings : List (Option Finding)) (first : Option Fault) (n : ℕ) (f : Fault) → f.slot ≡ slice_index order n →
-    IsFaulty p f.slot f.number → IsFirst p order findings n first → (later : List (Option Finding)) → IsFirst p order later (suc n) (Some (earlier first f))
-told_fault p order findings None n f at h told later = (
-  h,
-  λ s m below.
-      let ne : s ≢ slice_index order n = omega (arith, below, at) in (told s (among_before order n s m ne)).1,
-)
-told_fault p order findings (Some g) n f at h told later = (
-  earlier_faulty p (Some g) f h (λ k e. subst (λ (j : Fault). IsFaulty p j.slot j.number) (same_fault g k e) told.0),
-  λ s m below.
-      let low = earlier_low (Some g) f in
-      let under = earlier_below g f in
-      let ne : s ≢ slice_index order n = omega (arith, below, at, low) in
-      let before : s < g.slot = omega (arith, below, under) in
-      told.1 s (among_before order n s m ne) before,
-)
-  where
-    same_fault : (g k : Fault) → Some g ≡ Some k → g ≡ k
-    same_fault g k e = cc
-
--- an instruction has been examined that has a fault
-pub come_fault : (p : Subject) (order : List ℕ) (states new : List (Option State)) (findings : List (Option Finding)) (first : Option Fault) (n : ℕ)
-    (f : Fault) → IsOrder p.code order → n < length order → HasCome p order states findings first n → length new ≡ length states →
-    ((s : ℕ) → s ≢ slice_index order n → slice_index_or new s None ≡ slice_index_or states s None) →
-    f.slot ≡ slice_index order n → IsFaulty p (slice_index order n) f.number →
-    HasCome p order new (slice_set findings (slice_index order n) (Some Refused)) (Some (earlier first f)) (suc n)
-come_fault p order states new findings first n f order_is lt h long others at faulty =
-    let within = begins_within p.code (slice_index order n) (order_is.begins n lt) in
-    let room : slice_index order n < length findings = omega (arith, within, h.findings_long) in
-    record {
-      states_long = long ∙ h.states_long;
-      findings_long = length-set findings (slice_index order n) (Some Refused) ∙ h.findings_long;
-      found = found_more p order states new findings first n (Some Refused) lt room h others (blocked_at_fault p (slice_index order n) f.number faulty);
-      empty = empty_more p order states new findings first n lt h others;
-      told = told_fault p order findings first n f at (subst (λ (s : ℕ). IsFaulty p s f.number) (sym at) faulty) h.told
-          (slice_set findings (slice_index order n) (Some Refused));
-    }
-
--- ---- all places
-
-all_among : (p : Subject) (order : List ℕ) (n s : ℕ) → IsOrder p.code order → n ≡ length order → Begins p.code s → IsAmong order n s
-all_among p order n s f all begins =
-    let at = f.each s begins in
-    let below : at.0 < n = omega (arith, at.1, all) in
-    record { place = at.0; below = below; within = at.1; there = at.2 }
-
-begun_or_not : (code : Code) (s : ℕ) → Begins code s ⊎ (insn_at code s ≡ None)
-begun_or_not code s = by_insn (insn_at code s) refl
-  where
-    by_insn : (o : Option Insn) → insn_at code s ≡ o → Begins code s ⊎ (insn_at code s ≡ None)
-    by_insn None e = inr e
-    by_insn (Some i) e = inl (i, e)
-
-second_allowed : (p : Subject) (s : ℕ) → insn_at p.code s ≡ None → IsAllowedAt p s
-second_allowed p s none i state there arrives = absurd (no_insn (insn_at p.code s) i none there)
-  where
-    no_insn : (o : Option Insn) (i : Insn) → o ≡ None → o ≡ Some i → ⊥
-    no_insn o i x y = cc
-
--- nothing leads to the second slot of a wide instruction
-second_arrives : (p : Subject) (s : ℕ) → IsJoined p.code → IsArrive p (arrive p) → s < length p.code → insn_at p.code s ≡ None → arrive p s ≡ Nothing
-second_arrives p zero j h lt none = absurd (no_insn (insn_at p.code 0) j.opens.0 none j.opens.1)
-  where
-    no_insn : (o : Option Insn) (i : Insn) → o ≡ None → o ≡ Some i → ⊥
-    no_insn o i x y = cc
-second_arrives p (suc s) j h lt none =
-    h (suc s) lt ∙ joined_over_stops p (arrive p) (suc s) 0 (length p.code) (length p.code) (omega arith)
-    (λ k from below fact edge. no_insn (insn_at p.code (suc s)) (j.lands k fact (suc s) edge).1.0 none (j.lands k fact (suc s) edge).1.1)
-  where
-    no_insn : (o : Option Insn) (i : Insn) → o ≡ None → o ≡ Some i → ⊥
-    no_insn o i x y = cc
-
-arrival_found : (p : Subject) (state : Option State) (s : ℕ) (finding : Option Finding) → IsFound p state s finding → (finding ≡ Some Refused → ⊥) →
-    arrival_of state ≡ arrive p s
-arrival_found p state s None found not_refused = ap arrival_of found.0 ∙ sym found.1
-arrival_found p state s (Some Refused) found not_refused = absurd (not_refused refl)
-arrival_found p state s (Some (Allowed left)) found not_refused = ap arrival_of found.kept ∙ sym found.arrives
-
--- no instruction has a fault
-pub come_done : (p : Subject) (order : List ℕ) (states : List (Option State)) (findings : List (Option Finding)) (n : ℕ) → IsJoined p.code →
-    IsOrder p.code order → IsArrive p (arrive p) → n ≡ length order → HasCome p order states findings None n → IsTable p states
-come_done p order states findings n j f h all come = record {
-  slots = come.states_long;
-  each = λ s lt. elim (begun_or_not p.code s) [
-    | inl begins ↦ let among = all_among p order n s f all begins in arrival_found p (slice_index_or states s None) s (slice_index_or findings s None)
-        (come.found s among) (come.told s among).0
-    | inr none ↦ ap arrival_of (come.empty s (λ m. second_not_among s none m)) ∙ sym (second_arrives p s j h lt none)
-  ];
-  allowed = λ s. elim (begun_or_not p.code s) [
-    | inl begins ↦ (come.told s (all_among p order n s f all begins)).1
-    | inr none ↦ second_allowed p s none
-  ];
-}
-  where
-    no_insn : (o : Option Insn) (i : Insn) → o ≡ None → o ≡ Some i → ⊥
-    no_insn o i x y = cc
-
-    second_not_among : (s : ℕ) → insn_at p.code s ≡ None → IsAmong order n s → ⊥
-    second_not_among s none m =
-        let begins = subst (λ (k : ℕ). Begins p.code k) m.there (f.begins m.place m.within) in no_insn (insn_at p.code s) begins.0 none begins.1
-
--- the first fault is at the lowest slot
-pub come_refused : (p : Subject) (order : List ℕ) (states : List (Option State)) (findings : List (Option Finding)) (first : Fault) (n : ℕ) →
-    IsOrder p.code order → n ≡ length order → HasCome p order states findings (Some first) n → IsFirstFaulty p first.slot first.number
-come_refused p order states findings first n f all come = record {
-  faulty = come.told.0;
-  least = λ s below. elim (begun_or_not p.code s) [
-    | inl begins ↦ come.told.1 s (all_among p order n s f all begins) below
-    | inr none ↦ second_allowed p s none
+-- an instruction has been examined
+come_examined : (p : Subject) (order : List ℕ) (n : ℕ) (links : Links) (states later : List (Option State)) → n < length order →
+    HasCome p order n links states → length later ≡ length states →
+    ((s : ℕ) → s ≢ slice_index order n → slice_index_or later s None ≡ slice_index_or states s None) →
+    IsSent p links.first (slice_index order n) (slice_index_or later (slice_index order n) None) → HasCome p order (suc n) links later
+come_examined p order n links states later lt h long others sent = record {
+  linked = h.linked;
+  slots = long ∙ h.slots;
+  pulled = λ s within not_yet.
+      let ne : s ≢ slice_index order n = λ e. not_yet (subst (λ (k : ℕ). IsAmong order (suc n) k) (sym e) (among_here order n lt)) in
+      pulled_same p s (slice_index_or states s None) (slice_index_or later s None) (slice_index_or links.first s None) (slice_index_or links.first s None)
+      (others s ne) refl (h.pulled s within (λ m. not_yet (among_more order n s m)));
+  sent = λ s among. elim (cases_eq s (slice_index order n)) [
+    | inl e ↦ subst (λ (k : ℕ). IsSent p links.first k (slice_index_or later k None)) (sym e) sent
+    | inr ne ↦ sent_on p links.first links.first s (slice_index_or states s None) (slice_index_or later s None) (others s ne) (λ t. t)
+        (h.sent s (among_before order n s among ne))
   ];
 }
 
-pub faulty_number : (p : Subject) (slot number : ℕ) → IsFaulty p slot number → (31 ≤ number) × (number ≤ 37)
-faulty_number p slot number h = refused_number p.need p.helpers h.insn h.state number h.applies
+-- it is passed
+pub come_passed : (p : Subject) (order : List ℕ) (n : ℕ) (links : Links) (states : List (Option State)) (state : State) → n < length order →
+    HasCome p order n links states → IsPassed p (slice_index order n) state → slice_index_or states (slice_index order n) None ≡ Some state →
+    HasCome p order (suc n) links states
+come_passed p order n links states state lt h passed there =
+    come_examined p order n links states states lt h refl (λ s ne. refl) (inr (state, passed, inl there))
+
+-- what it passes on is undefined
+pub come_blocked : (p : Subject) (order : List ℕ) (n : ℕ) (links : Links) (states later : List (Option State)) → n < length order →
+    HasCome p order n links states → length later ≡ length states →
+    ((s : ℕ) → s ≢ slice_index order n → slice_index_or later s None ≡ slice_index_or states s None) →
+    slice_index_or later (slice_index order n) None ≡ None → IsBlocked p (slice_index order n) → HasCome p order (suc n) links later
+come_blocked p order n links states later lt h long others gone blocked = come_examined p order n links states later lt h long others (inl (blocked, gone))

@@ -1,12 +1,16 @@
 pub mod StateLemmas
 pub mod ArgumentLemmas
+pub mod Options
 pub mod Arrivals
 pub mod FaultLemmas
 pub mod TableErrors
-pub mod Predecodings
+pub mod Counting
 pub mod Linking
 pub mod Pulling
 pub mod Comings
 pub mod Soundness
+pub mod Examining
+pub mod Keeping
+pub mod Predecodings
 pub mod Verdicts
 pub mod OneVerdict

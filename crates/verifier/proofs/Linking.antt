@@ -1,17 +1,19 @@
 -- The slots that lead to each slot, linked one slot more.
-use Rattle.std.proofs.Common.{◌≡◌, ◌⊎◌, ℕ, suc, ◌+◌, ◌≤◌, ◌<◌, ◌≢◌, ◌==◌, List, length, Some, None, Option, ap, sym, ◌∙◌, arith, refl, subst, inl, inr, add-one, slice_set, slice_index_or, if◌then◌else◌}
+use Rattle.std.proofs.Common.{◌≡◌, ◌⊎◌, ℕ, suc, ◌+◌, ◌≤◌, ◌<◌, ◌≢◌, ◌==◌, List, length, Some, None, Option, ap, sym, ◌∙◌, arith, refl, subst, inl, inr, slice_set, slice_index_or, if◌then◌else◌}
 use Rattle.std.proofs.lemmas.Bool.{cases_eq, cases_lt}
 use Rattle.std.proofs.lemmas.Bool.Decides.{nat_tests}
 use Rattle.std.proofs.lemmas.List.{get_or-set_same, get_or-set_other}
 use Rattle.std.proofs.Math.ListN.{length-set}
-use Rattle.machine_model.specs.Edges.{Code, Fact, Always, NotTaken, Taken, IsEdge, insn_at, leads, leads_at}
+use Rattle.machine_model.specs.Edges.{Code, Fact, Always, NotTaken, Taken, insn_at, leads, leads_at}
 use Rattle.std.specs.Prelude.{option_and_then}
 use Rattle.insn_codec.specs.declared.insn.Insn.{Insn}
 use Rattle.flow_graph.specs.Cycles.{IsJoint}
 use Rattle.flow_graph.specs.Flow.{AreNext}
 use Rattle.flow_graph.specs.declared.graph.Next.{Next}
 use Rattle.flow_graph.specs.declared.graph.Next.TheVariants.{Zero, One, Two}
-use Rattle.verifier.specs.Sources.{Links, IsNextSource, link_of, AreLinked}
+use Rattle.verifier.specs.Merges.{one_to, edges_from, edges_below, edges_into}
+use Rattle.verifier.specs.Sources.{Links, IsNextSource, link_of, AreLinked, IsLinked}
+use Rattle.verifier.proofs.Counting.{edges_zero, counted_more, count_more, counted_few, one_at_most}
 
 -- ---- where the edges of a slot lead
 
@@ -44,6 +46,10 @@ one_end_two code p following to same next s joint = by_end (joint_two code p fol
 
 pub link_to_first : (p following to : ℕ) (links : Links) → link_of links (Two following to) p following ≡ slice_index_or links.following p None
 link_to_first p following to links = grind (arith, nat_tests)
+
+-- the same, where both edges lead there
+pub link_to_one : (p following to : ℕ) (links : Links) → following ≡ to → link_of links (Two following to) p to ≡ slice_index_or links.following p None
+link_to_one p following to links same = grind (arith, nat_tests)
 
 pub second_leads : (code : Code) (slot : ℕ) → insn_at code slot ≡ None → (fact : Fact) → leads_at code slot fact ≡ None
 second_leads code slot none fact = ap (λ (o : Option Insn). option_and_then (λ i. leads i slot fact) o) none
@@ -88,16 +94,68 @@ one_next code p (Two following to) (Two other more) x y links s joint =
     let same : following ≡ other = one_end (leads_at code p NotTaken) following other x.1 y.1 in
     ap (λ (f : ℕ). if f == s then slice_index_or links.following p None else slice_index_or links.taken p None) same
 
+-- the edges from slot n on are counted
+abbrev pub AreCounted : Code → Links → ℕ → Type 0
+AreCounted code links n =
+    (length links.edges ≡ length code) × ((s : ℕ) → s < length code → slice_index_or links.edges s 0 + edges_below code s n ≡ edges_into code s)
+
+-- one edge more
+pub counted_one : (code : Code) (old new : Links) (n to : ℕ) → AreLinked code old (suc n) → to < length code →
+    new.edges ≡ slice_set old.edges to (slice_index_or old.edges to 0 + 1) → ((s : ℕ) → edges_from code n s ≡ one_to (Some to) s) → AreCounted code new n
+counted_one code old new n to h within is from =
+    let room : to < length old.edges = omega (arith, within, h.counts) in (
+      ap length is ∙ (length-set old.edges to (slice_index_or old.edges to 0 + 1) ∙ h.counts),
+      λ s lt. counted_more code (slice_index_or old.edges s 0) (slice_index_or new.edges s 0) s n (one_to (Some to) s)
+          (ap (λ (xs : List ℕ). slice_index_or xs s 0) is ∙ count_more old.edges to s room) (from s) (h.counted s lt),
+    )
+
+-- two edges more
+pub counted_two : (code : Code) (old middle new : Links) (n a b : ℕ) → AreLinked code old (suc n) → a < length code → b < length code →
+    middle.edges ≡ slice_set old.edges a (slice_index_or old.edges a 0 + 1) →
+    new.edges ≡ slice_set middle.edges b (slice_index_or middle.edges b 0 + 1) →
+    ((s : ℕ) → edges_from code n s ≡ one_to (Some a) s + one_to (Some b) s) → AreCounted code new n
+counted_two code old middle new n a b h low high first second from =
+    let room : a < length old.edges = omega (arith, low, h.counts) in
+    let long : length middle.edges ≡ length old.edges = ap length first ∙ length-set old.edges a (slice_index_or old.edges a 0 + 1) in
+    let space : b < length middle.edges = omega (arith, high, h.counts, long) in (
+      ap length second ∙ (length-set middle.edges b (slice_index_or middle.edges b 0 + 1) ∙ (long ∙ h.counts)),
+      λ s lt. counted_more code (slice_index_or old.edges s 0) (slice_index_or new.edges s 0) s n (one_to (Some a) s + one_to (Some b) s)
+          (let x : slice_index_or new.edges s 0 ≡ slice_index_or middle.edges s 0 + one_to (Some b) s =
+          ap (λ (xs : List ℕ). slice_index_or xs s 0) second ∙ count_more middle.edges b s space in
+          let y : slice_index_or middle.edges s 0 ≡ slice_index_or old.edges s 0 + one_to (Some a) s =
+          ap (λ (xs : List ℕ). slice_index_or xs s 0) first ∙ count_more old.edges a s room in
+          omega (arith, x, y)) (from s) (h.counted s lt),
+    )
+
+-- there is room to count one edge more, or two
+pub room_for_one : (code : Code) (old : Links) (edges : List ℕ) (n to : ℕ) → AreLinked code old (suc n) → length code ≤ 4096 → to < length code →
+    edges ≡ old.edges → slice_index_or edges to 0 < 4294967295
+room_for_one code old edges n to h few within same =
+    let low = counted_few code (slice_index_or old.edges to 0) to (suc n) few (h.counted to within) in
+    let e : slice_index_or edges to 0 ≡ slice_index_or old.edges to 0 = ap (λ (xs : List ℕ). slice_index_or xs to 0) same in
+    omega (arith, low, e)
+
+pub room_for_two : (code : Code) (old : Links) (edges : List ℕ) (n a b : ℕ) → AreLinked code old (suc n) → length code ≤ 4096 → a < length code →
+    b < length code → edges ≡ slice_set old.edges a (slice_index_or old.edges a 0 + 1) → slice_index_or edges b 0 < 4294967295
+room_for_two code old edges n a b h few low high same =
+    let room : a < length old.edges = omega (arith, low, h.counts) in
+    let little = counted_few code (slice_index_or old.edges b 0) b (suc n) few (h.counted b high) in
+    let e : slice_index_or edges b 0 ≡ slice_index_or old.edges b 0 + one_to (Some a) b =
+    ap (λ (xs : List ℕ). slice_index_or xs b 0) same ∙ count_more old.edges a b room in
+    omega (arith, little, e, one_at_most (Some a) b)
+
 linked_by : (code : Code) (old new : Links) (n : ℕ) (next : Next) → AreLinked code old (suc n) → AreNext code n next →
     length new.first ≡ length old.first → length new.following ≡ length old.following → length new.taken ≡ length old.taken →
     ((p : ℕ) → p ≢ n → slice_index_or new.following p None ≡ slice_index_or old.following p None) →
     ((p : ℕ) → p ≢ n → slice_index_or new.taken p None ≡ slice_index_or old.taken p None) →
     ((s : ℕ) → s < length code → IsStep code old new n next s) →
-    ((s : ℕ) → IsJoint code n s → s < length code) → AreLinked code new n
-linked_by code old new n next h is x y z followings takens step lands = record {
+    ((s : ℕ) → IsJoint code n s → s < length code) → AreCounted code new n → AreLinked code new n
+linked_by code old new n next h is x y z followings takens step lands counted = record {
   firsts = x ∙ h.firsts;
   followings = y ∙ h.followings;
   takens = z ∙ h.takens;
+  counts = counted.0;
+  counted = counted.1;
   first = λ s within. first_of s (step s within) (h.first s within);
   after = λ p s other from are joint. elim (cases_eq p n) [
     | inl e ↦ after_here p s other e are joint
@@ -134,11 +192,18 @@ linked_by code old new n next h is x y z followings takens step lands = record {
     after_there p s other from ne are joint =
         subst (λ (o : Option ℕ). IsNextSource code s (suc p) o) (link_same p s other ne) (h.after p s other from are joint)
 
+counted_none : (code : Code) (links : Links) (n : ℕ) → AreLinked code links (suc n) → ((fact : Fact) → leads_at code n fact ≡ None) → AreCounted code links n
+counted_none code links n h none = (
+  h.counts,
+  λ s within. counted_more code (slice_index_or links.edges s 0) (slice_index_or links.edges s 0) s n 0 (omega arith) (edges_zero code n s none) (h.counted s within),
+)
+
 -- a slot that leads nowhere
 pub linked_zero : (code : Code) (links : Links) (n : ℕ) → AreLinked code links (suc n) → AreNext code n Zero → AreLinked code links n
 linked_zero code links n h next =
     linked_by code links links n Zero h next refl refl refl (λ p ne. refl) (λ p ne. refl)
     (λ s within. inr (joint_zero code n s next, refl)) (λ s joint. absurd (joint_zero code n s next joint))
+    (counted_none code links n h next.1)
 
 -- a slot where no instruction begins
 pub linked_second : (code : Code) (links : Links) (n : ℕ) → AreLinked code links (suc n) → ((fact : Fact) → leads_at code n fact ≡ None) → AreLinked code links n
@@ -146,6 +211,8 @@ linked_second code links n h none = record {
   firsts = h.firsts;
   followings = h.followings;
   takens = h.takens;
+  counts = h.counts;
+  counted = (counted_none code links n h none).1;
   first = λ s within. next_before code s n (slice_index_or links.first s None) (no_joint s) (h.first s within);
   after = λ p s other from are joint. elim (cases_eq p n) [
     | inl e ↦ absurd (no_joint s (subst (λ (q : ℕ). IsJoint code q s) e joint))
@@ -164,14 +231,14 @@ pub linked_one : (code : Code) (old new : Links) (n to : ℕ) (next : Next) → 
     n < length code → to < length code → IsJoint code n to → ((s : ℕ) → IsJoint code n s → s ≡ to) →
     ((links : Links) → link_of links next n to ≡ slice_index_or links.following n None) →
     new.first ≡ slice_set old.first to (Some n) → new.following ≡ slice_set old.following n (slice_index_or old.first to None) →
-    new.taken ≡ old.taken → AreLinked code new n
-linked_one code old new n to next h is inside within joint only link first following taken =
+    new.taken ≡ old.taken → AreCounted code new n → AreLinked code new n
+linked_one code old new n to next h is inside within joint only link first following taken counted =
     linked_by code old new n next h is (ap length first ∙ length-set old.first to (Some n))
     (ap length following ∙ length-set old.following n (slice_index_or old.first to None)) (ap length taken)
     (λ p ne. ap (λ (xs : List (Option ℕ)). slice_index_or xs p None) following ∙ get_or-set_other old.following n p (slice_index_or old.first to None) None ne)
     (λ p ne. ap (λ (xs : List (Option ℕ)). slice_index_or xs p None) taken)
     (λ s lt. by_end s (cases_eq s to))
-    (λ s j. subst (λ (t : ℕ). t < length code) (sym (only s j)) within)
+    (λ s j. subst (λ (t : ℕ). t < length code) (sym (only s j)) within) counted
   where
     by_end : (s : ℕ) → (s ≡ to) ⊎ (s ≢ to) → IsStep code old new n next s
     by_end s (inl e) =
@@ -192,8 +259,8 @@ pub linked_two : (code : Code) (old middle new : Links) (n following to : ℕ) �
     middle.first ≡ slice_set old.first following (Some n) → middle.following ≡ slice_set old.following n (slice_index_or old.first following None) →
     middle.taken ≡ old.taken →
     new.first ≡ slice_set middle.first to (Some n) → new.following ≡ middle.following →
-    new.taken ≡ slice_set middle.taken n (slice_index_or middle.first to None) → AreLinked code new n
-linked_two code old middle new n following to h is inside low high apart a b c x y z =
+    new.taken ≡ slice_set middle.taken n (slice_index_or middle.first to None) → AreCounted code new n → AreLinked code new n
+linked_two code old middle new n following to h is inside low high apart a b c x y z counted =
     linked_by code old new n (Two following to) h is
     (ap length x ∙ (length-set middle.first to (Some n) ∙ long)) (ap length y ∙ (ap length b ∙ length-set old.following n (slice_index_or old.first following None)))
     (ap length z ∙ (length-set middle.taken n (slice_index_or middle.first to None) ∙ ap length c))
@@ -203,7 +270,7 @@ linked_two code old middle new n following to h is inside low high apart a b c x
     ∙ (get_or-set_other middle.taken n p (slice_index_or middle.first to None) None ne
     ∙ ap (λ (xs : List (Option ℕ)). slice_index_or xs p None) c))
     (λ s lt. by_end s (cases_eq s to) (cases_eq s following))
-    (λ s j. inside_of s (joint_two code n following to s is j))
+    (λ s j. inside_of s (joint_two code n following to s is j)) counted
   where
     inside_of : (s : ℕ) → (s ≡ following) ⊎ (s ≡ to) → s < length code
     inside_of s (inl e) = omega (arith, e, low)
@@ -254,3 +321,14 @@ linked_two code old middle new n following to h is inside low high apart a b c x
         neither : (s : ℕ) → s ≢ to → s ≢ following → (s ≡ following) ⊎ (s ≡ to) → ⊥
         neither s ne other (inl e) = other e
         neither s ne other (inr e) = ne e
+
+-- all slots are linked
+pub linked_all : (code : Code) (links : Links) → AreLinked code links 0 → IsLinked code links
+linked_all code links h = record {
+  firsts = h.firsts;
+  followings = h.followings;
+  takens = h.takens;
+  counts = h.counts;
+  after = λ p s next are joint. let from : 0 ≤ p = omega arith in h.after p s next from are joint;
+  counted = λ s within. let e : slice_index_or links.edges s 0 + 0 ≡ edges_into code s = h.counted s within in omega (arith, e);
+}

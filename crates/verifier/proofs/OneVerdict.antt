@@ -1,5 +1,5 @@
 -- A program has one verdict, but for want of memory.
-use Rattle.std.proofs.Common.{◌≡◌, ◌≢◌, ◌⊎◌, ℕ, zero, suc, ◌+◌, ◌*◌, ◌≤◌, ◌<◌, ◌==◌, List, [], ◌∷◌, ◌++◌, length, map, Some, None, Option, ap, sym, ◌∙◌, arith, refl, inl, inr, subst, if◌then◌else◌}
+use Rattle.std.proofs.Common.{◌≡◌, ◌≢◌, ◌⊎◌, ℕ, suc, ◌+◌, ◌≤◌, ◌<◌, ◌==◌, List, [], ◌∷◌, ◌++◌, length, Some, None, Option, ap, sym, ◌∙◌, arith, refl, inl, inr, subst, if◌then◌else◌}
 use Rattle.std.specs.List.{AllByRecursion}
 use Rattle.std.proofs.lemmas.Bool.{cases_lt}
 use Rattle.std.proofs.lemmas.List.{length-append}
@@ -28,6 +28,7 @@ use Rattle.verifier.specs.Arrive.{Subject, Arrival, Comes, arrive}
 use Rattle.verifier.specs.Verdict.{IsFirstFaulty, IsFaulty, IsTable, IsAllowedAt}
 use Rattle.verifier.specs.Checked.{Checked}
 use Rattle.verifier.specs.Refusals.{HasFlow, RefusesBytes, RefusesCode, Refuses, IsAccepted}
+use Rattle.verifier.proofs.Options.{one_some}
 
 -- ---- bytes spell one program
 
@@ -91,9 +92,6 @@ not_flow code flow.NoMemory h r = r
 
 -- ---- the first fault of the states
 
-one_insn : (o : Option Insn) (i j : Insn) → o ≡ Some i → o ≡ Some j → i ≡ j
-one_insn o i j x y = cc
-
 one_arrival : (a : Arrival) (s t : State) → a ≡ Comes s → a ≡ Comes t → s ≡ t
 one_arrival a s t x y = cc
 
@@ -108,7 +106,7 @@ not_allowed p slot number f allowed = some_none (fault p.need p.helpers f.insn f
 
 same_number : (p : Subject) (slot m n : ℕ) → IsFaulty p slot m → IsFaulty p slot n → m ≡ n
 same_number p slot m n x y =
-    let insn : x.insn ≡ y.insn = one_insn (insn_at p.code slot) x.insn y.insn x.there y.there in
+    let insn : x.insn ≡ y.insn = one_some (insn_at p.code slot) x.insn y.insn x.there y.there in
     let state : x.state ≡ y.state = one_arrival (arrive p slot) x.state y.state x.arrives y.arrives in
     one_number (fault p.need p.helpers y.insn y.state) m n
     (subst (λ (s : State). fault p.need p.helpers y.insn s ≡ Some m) state (subst (λ (i : Insn). fault p.need p.helpers i x.state ≡ Some m) insn x.applies)) y.applies

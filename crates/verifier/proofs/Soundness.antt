@@ -1,12 +1,11 @@
 -- What arrives at a slot covers what passes each edge to it.
-use Rattle.std.proofs.Common.{◌≡◌, ℕ, zero, suc, ◌<◌, ◌==◌, ◌⊎◌, List, length, Some, None, Option, ap, sym, ◌∙◌, arith, refl, inl, inr, if◌then◌else◌, slice_index_or, subst}
+use Rattle.std.proofs.Common.{◌≡◌, ℕ, zero, suc, ◌<◌, ◌⊎◌, List, length, Some, None, Option, ap, sym, ◌∙◌, arith, refl, inl, inr, slice_index_or, subst}
 use Rattle.std.proofs.lemmas.Bool.{cases_lt}
-use Rattle.std.proofs.lemmas.Bool.Decides.{nat_tests}
 use Rattle.insn_codec.specs.declared.insn.Insn.{Insn}
 use Rattle.machine_model.specs.Edges.{Fact, Always, NotTaken, Taken, IsEdge, insn_at, leads_at}
 use Rattle.machine_model.specs.Value.{Value}
 use Rattle.machine_model.proofs.Codes.{begins_within}
-use Rattle.flow_graph.specs.Flow.{Flow, IsFlow}
+use Rattle.flow_graph.specs.Flow.{IsFlow}
 use Rattle.value_ranges.specs.declared.abs.Abs.{Abs}
 use Rattle.value_ranges.specs.declared.abs.Abs.TheVariants.{Unset}
 use Rattle.value_ranges.specs.Covers.{Covers}
@@ -15,7 +14,7 @@ use Rattle.value_ranges.proofs.MergeLemmas.{joined_covers}
 use Rattle.verifier.specs.declared.state.State.{State}
 use Rattle.verifier.specs.Covers.{abs_at, IsWithin}
 use Rattle.verifier.specs.States.{entry_state, passed, fault, of_registers, joined_state}
-use Rattle.verifier.specs.Arrive.{Subject, Arrival, Nothing, Undefined, Comes, met, landed, over, joined_over, arrive}
+use Rattle.verifier.specs.Arrive.{Subject, Arrival, Nothing, Undefined, Comes, met, over, joined_over, arrive}
 use Rattle.verifier.specs.Verdict.{IsTable, arrival_of}
 use Rattle.verifier.proofs.Arrivals.{arrive_is, no_edge_back}
 use Rattle.verifier.proofs.Pulling.{over_is, landed_at}
@@ -55,7 +54,7 @@ within_right s t r v h =
     (joined_covers (abs_at s r) (abs_at t r) (joined (abs_at s r) (abs_at t r)) refl v (inr h))
 
 -- what comes in the one way is covered by what comes in the other
-abbrev Below : Arrival → Arrival → Type 0
+abbrev pub Below : Arrival → Arrival → Type 0
 Below Nothing b = Unit {0}
 Below a Undefined = Unit {0}
 Below (Comes s) (Comes t) = IsWithin s t

@@ -1,5 +1,5 @@
 -- What a verified program is.
-use Rattle.std.specs.Prelude.{◌≡◌, ℕ, ◌≤◌, ◌<◌, List, length, slice_index, slice_index_or, Option, Some, None}
+use Rattle.std.specs.Prelude.{◌≡◌, ℕ, ◌≤◌, List, length, slice_index, slice_index_or, Option, Some, None}
 use Rattle.insn_codec.specs.declared.insn.Insn.{Insn}
 use Rattle.machine_model.specs.Edges.{Code, Fact, IsEdge, Begins, insn_at}
 use Rattle.machine_model.specs.Paths.{AreCosts}

@@ -6,6 +6,8 @@ pub mod Arrive
 pub mod Verdict
 pub mod Survey
 pub mod Coming
+pub mod Merges
+pub mod Kept
 pub mod Sources
 pub mod RefusalCodes
 pub mod Refusals

@@ -279,6 +279,7 @@ fn called(need: u32, helpers: &HelperTable, state: &State, helper: u32) -> Resul
 }
 
 /// What the instruction leaves in its destination, or the lowest number that applies to it where the registers are so.
+#[inline(always)]
 pub(crate) fn judge(need: u32, helpers: &HelperTable, insn: &Insn, state: &State) -> Result<Abs, u8>
     ensures { result ≡ judged (fault need helpers.now insn.now state.now) (left_by insn.now state.now) }
 {

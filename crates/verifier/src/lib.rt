@@ -3,6 +3,8 @@
 
 mod allowed;
 mod calls;
+mod held;
+mod kept;
 mod laws;
 mod passing;
 mod refusals;
@@ -18,6 +20,3 @@ pub use refusals::Refusal;
 pub use state::State;
 pub use verification::verify;
 pub use verified::Verified;
-
-#[cfg(test)]
-mod tests;

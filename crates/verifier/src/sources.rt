@@ -1,23 +1,30 @@
-//! The slots that lead to each slot, one after the other.
+//! The slots that lead to each slot, one after the other, and how many edges lead there.
 
-ghost use Rattle.std.specs.Prelude.{◌≡◌, ◌+◌, ℕ, ◌<◌, length, Some, None, slice_index_or, slice_set, IfOk};
+ghost use Rattle.std.specs.Prelude.{◌≡◌, ◌+◌, ℕ, ◌<◌, ◌≤◌, length, Some, None, slice_index_or, slice_set, IfOk, IsTrue, ◌≢◌};
 ghost use Rattle.machine_model.specs.Edges.{Begins};
-ghost use Rattle.verifier.specs.Sources.{AreLinked, link_of};
+ghost use Rattle.flow_graph.specs.Cycles.{IsJoint};
+ghost use Rattle.flow_graph.specs.Flow.{AreNext};
+ghost use Rattle.verifier.specs.Coming.{IsPast};
+ghost use Rattle.verifier.specs.Merges.{is_kept};
+ghost use Rattle.verifier.specs.Sources.{AreLinked, IsLinked, link_of};
 
 use flow_graph::{Graph, Next};
 use refusal::NoMemory;
 use std::alloc::Global;
 use std::marker::Model;
 
-/// The slots that lead to each slot, lowest first: a list for each slot, linked through the edges.
+/// The slots that lead to each slot, lowest first: a list for each slot, linked through the edges. What has come from a slot is
+/// taken from the list.
 #[derive(Drop)]
 pub(crate) struct Sources {
-    /// The lowest slot that leads to a slot.
+    /// The lowest slot that leads to a slot, of those from which nothing has come.
     first: Vec<Option<u32>>,
     /// The next slot that leads where a slot's edge to the following slot, or its only one, does.
     following: Vec<Option<u32>>,
     /// The next slot that leads where a slot's jump does.
     taken: Vec<Option<u32>>,
+    /// How many edges lead to a slot.
+    edges: Vec<u32>,
 }
 
 impl Model for Sources {
@@ -25,7 +32,7 @@ impl Model for Sources {
 
     ghost Value = { Links };
 
-    ghost view = { λ t. record { first = t.first.items; following = t.following.items; taken = t.taken.items } };
+    ghost view = { λ t. record { first = t.first.items; following = t.following.items; taken = t.taken.items; edges = t.edges.items } };
 }
 
 impl Sources {
@@ -34,15 +41,30 @@ impl Sources {
         ensures first { IfOk result (λ t. (length t.first ≡ slots) × ((s : ℕ) → s < slots → slice_index_or t.first s None ≡ None)) }
         ensures following { IfOk result (λ t. length t.following ≡ slots) }
         ensures taken { IfOk result (λ t. length t.taken ≡ slots) }
+        ensures edges { IfOk result (λ t. (length t.edges ≡ slots) × ((s : ℕ) → s < slots → slice_index_or t.edges s 0 ≡ 0)) }
     {
         let first = vec![in alloc; None; slots as usize]?;
         let following = vec![in alloc; None; slots as usize]?;
         let taken = vec![in alloc; None; slots as usize]?;
+        let edges = vec![in alloc; 0; slots as usize]?;
         Ok(Sources {
             first,
             following,
             taken,
+            edges,
         })
+    }
+
+    /// One edge more leads to the slot.
+    fn count(&mut self, to: u32)
+        requires to { to < length self.old.edges }
+        requires room { slice_index_or self.old.edges to 0 < 4294967295 }
+        ensures edges { self.new.edges ≡ slice_set self.old.edges to (slice_index_or self.old.edges to 0 + 1) }
+        ensures first { self.new.first ≡ self.old.first }
+        ensures following { self.new.following ≡ self.old.following }
+        ensures taken { self.new.taken ≡ self.old.taken }
+    {
+        self.edges[to as usize] += 1;
     }
 
     /// The slot leads to another by its edge to the following slot, or by its only one.
@@ -52,6 +74,7 @@ impl Sources {
         ensures first { self.new.first ≡ slice_set self.old.first to (Some from) }
         ensures following { self.new.following ≡ slice_set self.old.following from (slice_index_or self.old.first to None) }
         ensures taken { self.new.taken ≡ self.old.taken }
+        ensures edges { self.new.edges ≡ self.old.edges }
     {
         self.following[from as usize] = self.first[to as usize];
         self.first[to as usize] = Some(from);
@@ -64,6 +87,7 @@ impl Sources {
         ensures first { self.new.first ≡ slice_set self.old.first to (Some from) }
         ensures following { self.new.following ≡ self.old.following }
         ensures taken { self.new.taken ≡ slice_set self.old.taken from (slice_index_or self.old.first to None) }
+        ensures edges { self.new.edges ≡ self.old.edges }
     {
         self.taken[from as usize] = self.first[to as usize];
         self.first[to as usize] = Some(from);
@@ -79,11 +103,20 @@ impl Sources {
         prove!(from < slots);
         match graph.successors(from) {
             Next::Zero => {}
-            Next::One(to) => self.link_following(from, to),
+            Next::One(to) => {
+                self.link_following(from, to);
+                self.count(to);
+            }
             Next::Two(following, to) => {
-                self.link_following(from, following);
-                if to != following {
+                if to == following {
+                    self.link_following(from, to);
+                    self.count(to);
+                    self.count(to);
+                } else {
+                    self.link_following(from, following);
                     self.link_taken(from, to);
+                    self.count(following);
+                    self.count(to);
                 }
             }
         }
@@ -105,7 +138,17 @@ impl Sources {
         Ok(sources)
     }
 
-    /// The lowest slot that leads to the slot.
+    /// Whether the slot's state is kept: it is slot 0, or at least two edges lead there.
+    pub(crate) fn is_kept(&self, slot: u32, graph: &Graph) -> bool
+        requires linked { IsLinked graph.now.code self.now }
+        requires slot { slot < length graph.now.code }
+        ensures { result ≡ is_kept graph.now.code slot }
+    {
+        let _slots = graph.slots();
+        slot == 0 || self.edges[slot as usize] > 1
+    }
+
+    /// The lowest slot that leads to the slot, of those from which nothing has come.
     pub(crate) fn first(&self, to: u32) -> Option<u32>
         requires { to < length self.now.first }
         ensures { result ≡ slice_index_or self.now.first to None }
@@ -114,7 +157,7 @@ impl Sources {
     }
 
     /// The next slot that leads to a slot, after one that leads there by one of these edges.
-    pub(crate) fn after(&self, next: Next, from: u32, to: u32) -> Option<u32>
+    fn after(&self, next: Next, from: u32, to: u32) -> Option<u32>
         requires following { from < length self.now.following }
         requires taken { from < length self.now.taken }
         ensures { result ≡ link_of self.now next from to }
@@ -127,6 +170,51 @@ impl Sources {
                     self.following[from as usize]
                 } else {
                     self.taken[from as usize]
+                }
+            }
+        }
+    }
+
+    /// What a slot passes on has come to another, where it leads by one of these edges.
+    pub(crate) fn note(&mut self, next: Next, from: u32, to: u32)
+        requires following { from < length self.old.following }
+        requires taken { from < length self.old.taken }
+        requires to { to < length self.old.first }
+        ensures first { self.new.first ≡ slice_set self.old.first to (link_of self.old next from to) }
+        ensures following { self.new.following ≡ self.old.following }
+        ensures taken { self.new.taken ≡ self.old.taken }
+        ensures edges { self.new.edges ≡ self.old.edges }
+    {
+        self.first[to as usize] = self.after(next, from, to);
+    }
+
+    /// Whether the slot takes nothing more from another.
+    fn is_past(&self, to: u32, from: u32) -> bool
+        requires { to < length self.now.first }
+        ensures { IsTrue result → IsPast (slice_index_or self.now.first to None) from }
+    {
+        match self.first[to as usize] {
+            None => true,
+            Some(first) => from < first,
+        }
+    }
+
+    /// Whether what a slot passes on has come to each slot where it leads by one of these edges, but for one.
+    pub(crate) fn is_taken_beside(&self, graph: &Graph, next: Next, from: u32, to: u32) -> bool
+        requires next { AreNext graph.now.code from next }
+        requires joint { IsJoint graph.now.code from to }
+        requires linked { IsLinked graph.now.code self.now }
+        ensures { IsTrue result → (s : ℕ) → IsJoint graph.now.code from s → s ≢ to → IsPast (slice_index_or self.now.first s None) from }
+    {
+        let _slots = graph.slots();
+        match next {
+            Next::Zero => true,
+            Next::One(_) => true,
+            Next::Two(following, target) => {
+                if following == to {
+                    target == to || self.is_past(target, from)
+                } else {
+                    self.is_past(following, from)
                 }
             }
         }

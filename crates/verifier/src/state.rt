@@ -111,46 +111,4 @@ impl State {
             self.join_at(other, Register::new(number));
         }
     }
-
-    /// Another way leads here, on which one register has changed.
-    pub(crate) fn join_set(&mut self, other: &State, register: Register, abs: Abs)
-        ensures { self.new ≡ joined_state self.old (with_abs other.now register abs) }
-    {
-        prove!(other.is_whole());
-        let joined = join(self.at(register), abs);
-        self.join(other);
-        self.set(register, joined);
-    }
-
-    /// Another way leads here, on which the operands of a conditional jump have changed.
-    pub(crate) fn join_operands(
-        &mut self,
-        other: &State,
-        dst: Register,
-        src: &Operand,
-        left: Abs,
-        right: Abs,
-    )
-        ensures { self.new ≡ joined_state self.old (refined_state other.now dst src.now (left, right)) }
-    {
-        match *src {
-            Operand::Imm(_) => self.join_set(other, dst, left),
-            Operand::Reg(register) => {
-                prove!(other.is_whole());
-                let joined = join(self.at(register), right);
-                self.join_set(other, dst, left);
-                self.set(register, joined);
-            }
-        }
-    }
-
-    /// Another way leads here, on which a call has left its answer.
-    pub(crate) fn join_answer(&mut self, other: &State, answer: Abs)
-        ensures { self.new ≡ joined_state self.old (called_state other.now answer) }
-    {
-        prove!(other.is_whole());
-        let joined = join(self.at(Register::new(0)), answer);
-        self.join(other);
-        self.set_answer(joined);
-    }
 }

@@ -1,37 +1,36 @@
-//! The state that arrives at each slot.
+//! What arrives at each slot, along a program's order.
 
-ghost use Rattle.std.specs.Prelude.{◌≡◌, ◌≢◌, ℕ, ◌+◌, ◌<◌, ◌≤◌, ◌==◌, length, slice_index, slice_index_or, Option, Some, None, IsTrue, IsFalse, MatchResult, if◌then◌else◌};
+ghost use Rattle.std.specs.Prelude.{◌≡◌, ◌≢◌, ℕ, ◌+◌, ◌<◌, ◌≤◌, length, slice_index, slice_index_or, suc, Option, Some, None, true, IfOk, OnOk, MatchResult, if◌then◌else◌};
 ghost use Rattle.machine_model.specs.Edges.{Begins, insn_at, leads_at, Always, NotTaken, Taken};
-ghost use Rattle.flow_graph.specs.Flow.{IsFlow, AreNext};
-ghost use Rattle.verifier.specs.States.{passed};
-ghost use Rattle.verifier.specs.Judged.{left_by};
-ghost use Rattle.verifier.specs.Arrive.{Subject, met, landed, joined_over, arrive, Nothing, Undefined, Comes};
-ghost use Rattle.verifier.specs.Verdict.{IsFaulty, IsTable, RefusesStates, arrival_of};
+ghost use Rattle.predecoding.specs.declared.region.Region.TheVariants.{Stack};
 ghost use Rattle.flow_graph.specs.Cycles.{IsJoint};
-ghost use Rattle.verifier.specs.declared.states.Finding.TheVariants.{Refused};
-ghost use Rattle.verifier.specs.Coming.{AreExamined, IsExamined, earlier};
-ghost use Rattle.verifier.specs.Survey.{subject_of};
-ghost use Rattle.verifier.specs.Sources.{AreLinked};
+ghost use Rattle.flow_graph.specs.Flow.{AreNext};
+ghost use Rattle.verifier.specs.declared.state.State.{State};
+ghost use Rattle.verifier.specs.States.{entry_state, passed};
+ghost use Rattle.verifier.specs.Judged.{left_by};
+ghost use Rattle.verifier.specs.Arrive.{arrive, met, landed, Comes};
+ghost use Rattle.verifier.specs.Verdict.{RefusesStates, arrival_of};
+ghost use Rattle.verifier.specs.Coming.{HasCome, IsAmong, IsFound, IsPassed, earlier};
+ghost use Rattle.helpers.specs.Table.{Table};
+ghost use Rattle.verifier.specs.Kept.{AreKept};
+ghost use Rattle.verifier.specs.Merges.{is_kept};
+ghost use Rattle.verifier.specs.Sources.{IsLinked, IsNextSource};
+ghost use Rattle.verifier.specs.Survey.{subject_of, IsRegionThere, IsSurveyed};
 
 use crate::allowed::judge;
-use crate::passing::pass;
+use crate::held::Held;
+use crate::kept::Kept;
 use crate::refusals::Refusal;
+use crate::regions::region_there;
 use crate::sources::Sources;
 use crate::state::State;
 use flow_graph::{Graph, Next};
 use helpers::HelperTable;
 use insn_codec::Insn;
+use predecoding::Region;
+use refusal::NoMemory;
 use std::alloc::Global;
 use value_ranges::Abs;
-
-/// What was found out of an instruction that something arrives at.
-#[derive(Clone, Copy)]
-pub(crate) enum Finding {
-    /// It isn't allowed, or one that leads to it isn't.
-    Refused,
-    /// It is allowed, and leaves this in its destination.
-    Allowed(Abs),
-}
 
 /// An instruction that isn't allowed, and the lowest number that applies to it.
 #[derive(Clone, Copy)]
@@ -40,190 +39,340 @@ pub(crate) struct Fault {
     number: u8,
 }
 
-/// What the instruction at a slot passes on along one edge comes to another slot, besides what came before.
-#[inline(always)]
-fn pull_edge(states: &mut [Option<State>], from: u32, to: u32, insn: &Insn, taken: bool, left: &Abs)
-    requires other { from ≢ to }
-    requires from { from < length states.old }
-    requires to { to < length states.old }
-    requires left { (state : State) → Some state ≡ slice_index_or states.old from None → left.now ≡ left_by insn.now state }
-    ensures length { length states.new ≡ length states.old }
-    ensures others { (s : ℕ) → s ≢ to → slice_index_or states.new s None ≡ slice_index_or states.old s None }
-    ensures met { (state : State) → Some state ≡ slice_index_or states.old from None →
-        arrival_of (slice_index_or states.new to None) ≡ met (arrival_of (slice_index_or states.old to None))
-        (Comes (passed insn.now (if taken then Taken else NotTaken) state)) }
-{
-    if from < to {
-        let (below, above) = states.split_at_mut(to as usize);
-        if let Some(state) = &below[from as usize] {
-            pass(&mut above[0], insn, taken, left, state);
-        }
-    } else {
-        let (below, above) = states.split_at_mut(from as usize);
-        if let Some(state) = &above[0] {
-            pass(&mut below[to as usize], insn, taken, left, state);
-        }
-    }
-}
-
-/// What the instruction at a slot passes on comes to another slot along each edge that leads there. Tells where its edges lead.
-fn pull_from(
-    states: &mut [Option<State>],
-    graph: &Graph,
-    from: u32,
-    to: u32,
-    insn: &Insn,
-    left: &Abs,
-) -> Next
-    requires insn { insn_at graph.now.code from ≡ Some insn.now }
-    requires length { length states.old ≡ length graph.now.code }
-    requires other { from ≢ to }
-    requires to { to < length states.old }
-    requires left { (state : State) → Some state ≡ slice_index_or states.old from None → left.now ≡ left_by insn.now state }
-    ensures next { AreNext graph.now.code from result }
-    ensures length { length states.new ≡ length states.old }
-    ensures others { (s : ℕ) → s ≢ to → slice_index_or states.new s None ≡ slice_index_or states.old s None }
-    ensures met { (state : State) → Some state ≡ slice_index_or states.old from None →
-        arrival_of (slice_index_or states.new to None)
-        ≡ met (met (met (arrival_of (slice_index_or states.old to None))
-        (landed (leads_at graph.now.code from Always) to (Comes (passed insn.now Always state))))
-        (landed (leads_at graph.now.code from NotTaken) to (Comes (passed insn.now NotTaken state))))
-        (landed (leads_at graph.now.code from Taken) to (Comes (passed insn.now Taken state))) }
-{
-    let slots = graph.slots();
-    prove!(from < slots);
-    let next = graph.successors(from);
-    match next {
-        Next::Zero => {}
-        Next::One(target) => {
-            if target == to {
-                pull_edge(states, from, to, insn, false, left);
-            }
-        }
-        Next::Two(following, target) => {
-            if following == to {
-                pull_edge(states, from, to, insn, false, left);
-            }
-            if target == to {
-                pull_edge(states, from, to, insn, true, left);
-            }
-        }
-    }
-    next
-}
-
-/// What is surveyed: a program, the bytes that its tasks need, the helpers that it may call, and the slots that lead to each slot.
+/// What is surveyed: a program, the bytes that its tasks need, and the helpers that it may call.
 #[derive(Clone, Copy)]
 pub(crate) struct Survey<'a> {
     need: u32,
     helpers: &'a HelperTable,
     graph: &'a Graph,
-    sources: &'a Sources,
 }
 
-/// What arrives at a slot other than the first comes there, from each slot that leads to it. False where something undefined
-/// does.
-fn pull(
-    states: &mut [Option<State>],
-    findings: &[Option<Finding>],
-    survey: &Survey<'_>,
-    to: u32,
-) -> bool
-    requires linked { AreLinked survey.now.graph.now.code survey.now.sources.now 0 }
-    requires long { length states.old ≡ length survey.now.graph.now.code }
-    requires findings { length findings.now ≡ length survey.now.graph.now.code }
-    requires first { 0 < to }
-    requires to { to < length states.old }
-    requires empty { slice_index_or states.old to None ≡ None }
-    requires sources { AreExamined (subject_of survey.now) states.old findings.now to }
-    ensures length { length states.new ≡ length states.old }
-    ensures others { (s : ℕ) → s ≢ to → slice_index_or states.new s None ≡ slice_index_or states.old s None }
-    ensures defined { IsTrue result → arrival_of (slice_index_or states.new to None)
-        ≡ joined_over (subject_of survey.now) (arrive (subject_of survey.now)) to (length survey.now.graph.now.code) }
-    ensures undefined { IsFalse result →
-        joined_over (subject_of survey.now) (arrive (subject_of survey.now)) to (length survey.now.graph.now.code) ≡ Undefined }
-    ensures blocked { IsFalse result → (s : ℕ) × IsJoint survey.now.graph.now.code s to × (slice_index_or findings.now s None ≡ Some Refused) }
-{
-    let mut source = survey.sources.first(to);
-    while let Some(from) = source {
-        let found = &findings[from as usize];
-        let next = match found {
-            None => survey.graph.successors(from),
-            Some(finding) => match finding {
-                Finding::Refused => return false,
-                Finding::Allowed(left) => match survey.graph.insn(from) {
-                    Some(insn) => pull_from(states, survey.graph, from, to, insn, left),
-                    None => unreachable!(),
-                },
-            },
-        };
-        source = survey.sources.after(next, from, to);
-    }
-    true
+/// An instruction that is passed: its slot, where it leads, and what it leaves in its destination.
+#[derive(Clone, Copy)]
+pub(crate) struct Passage<'a> {
+    from: u32,
+    next: Next,
+    insn: &'a Insn,
+    left: Abs,
 }
 
-/// What arrives at a slot comes there. False where that is undefined.
-fn arrive(
-    states: &mut [Option<State>],
-    findings: &[Option<Finding>],
-    survey: &Survey<'_>,
-    slot: u32,
-) -> bool
-    requires need { survey.now.need ≤ 65536 }
-    requires linked { AreLinked survey.now.graph.now.code survey.now.sources.now 0 }
-    requires long { length states.old ≡ length survey.now.graph.now.code }
-    requires findings { length findings.now ≡ length survey.now.graph.now.code }
-    requires begins { Begins survey.now.graph.now.code slot }
-    requires empty { slice_index_or states.old slot None ≡ None }
-    requires sources { AreExamined (subject_of survey.now) states.old findings.now slot }
-    ensures length { length states.new ≡ length states.old }
-    ensures others { (s : ℕ) → s ≢ slot → slice_index_or states.new s None ≡ slice_index_or states.old s None }
-    ensures defined { IsTrue result → arrival_of (slice_index_or states.new slot None) ≡ arrive (subject_of survey.now) slot }
-    ensures undefined { IsFalse result → arrive (subject_of survey.now) slot ≡ Undefined }
-    ensures blocked { IsFalse result → (s : ℕ) × IsJoint survey.now.graph.now.code s slot × (slice_index_or findings.now s None ≡ Some Refused) }
+/// The state at a place, which stays there if it is needed further.
+#[inline(always)]
+fn hand_over(alloc: Global, place: &mut Option<Held>, keep: bool) -> Result<Option<Held>, NoMemory>
+    ensures held { IfOk result (λ held. held ≡ place.old) }
+    ensures place { OnOk result (place.new ≡ if keep then place.old else None) }
 {
-    let slots = survey.graph.slots();
-    prove!(slot < slots);
-    if slot > 0 {
-        return pull(states, findings, survey, slot);
+    if !keep {
+        return Ok(place.take());
     }
-    states[0] = Some(State::entry(survey.need));
-    true
-}
-
-/// What arrives at a slot comes there, and its instruction is judged: what is found out of it, or the lowest number that applies.
-fn examine(
-    states: &mut [Option<State>],
-    findings: &[Option<Finding>],
-    survey: &Survey<'_>,
-    slot: u32,
-) -> Result<Option<Finding>, u8>
-    requires need { survey.now.need ≤ 65536 }
-    requires linked { AreLinked survey.now.graph.now.code survey.now.sources.now 0 }
-    requires long { length states.old ≡ length survey.now.graph.now.code }
-    requires findings { length findings.now ≡ length survey.now.graph.now.code }
-    requires begins { Begins survey.now.graph.now.code slot }
-    requires empty { slice_index_or states.old slot None ≡ None }
-    requires sources { AreExamined (subject_of survey.now) states.old findings.now slot }
-    ensures length { length states.new ≡ length states.old }
-    ensures others { (s : ℕ) → s ≢ slot → slice_index_or states.new s None ≡ slice_index_or states.old s None }
-    ensures examined { MatchResult result (λ finding. IsExamined (subject_of survey.now) states.new findings.now slot finding)
-        (λ number. IsFaulty (subject_of survey.now) slot number) }
-{
-    let slots = survey.graph.slots();
-    prove!(slot < slots);
-    if !arrive(states, findings, survey, slot) {
-        return Ok(Some(Finding::Refused));
-    }
-    match &states[slot as usize] {
+    match place {
         None => Ok(None),
-        Some(state) => match survey.graph.insn(slot) {
-            None => unreachable!(),
-            Some(insn) => match judge(survey.need, survey.helpers, insn, state) {
-                Ok(left) => Ok(Some(Finding::Allowed(left))),
-                Err(number) => Err(number),
+        Some(state) => Ok(Some(Held::new(alloc, state.get())?)),
+    }
+}
+
+/// What the instruction at a slot passes on along one edge comes to another slot, besides what came before. Its state stays if it
+/// is needed further.
+fn send(
+    alloc: Global,
+    states: &mut [Option<Held>],
+    passage: &Passage<'_>,
+    to: u32,
+    taken: bool,
+    keep: bool,
+) -> Result<(), NoMemory>
+    requires other { passage.now.from ≢ to }
+    requires from { passage.now.from < length states.old }
+    requires to { to < length states.old }
+    requires left { (state : State) → Some state ≡ slice_index_or states.old passage.now.from None
+        → passage.now.left ≡ left_by passage.now.insn.now state }
+    ensures slots { OnOk result (length states.new ≡ length states.old) }
+    ensures others { OnOk result ((s : ℕ) → s ≢ to → s ≢ passage.now.from → slice_index_or states.new s None ≡ slice_index_or states.old s None) }
+    ensures from { OnOk result (slice_index_or states.new passage.now.from None
+        ≡ if keep then slice_index_or states.old passage.now.from None else None) }
+    ensures met { OnOk result ((state : State) → Some state ≡ slice_index_or states.old passage.now.from None →
+        arrival_of (slice_index_or states.new to None) ≡ met (arrival_of (slice_index_or states.old to None))
+        (Comes (passed passage.now.insn.now (if taken then Taken else NotTaken) state))) }
+{
+    let held = hand_over(alloc, &mut states[passage.from as usize], keep)?;
+    if let Some(mut state) = held {
+        state.pass(passage.insn, taken, &passage.left);
+        state.come(&mut states[to as usize]);
+    }
+    Ok(())
+}
+
+/// What the instruction at a slot passes on comes to another slot along each edge that leads there.
+fn carry(
+    alloc: Global,
+    states: &mut [Option<Held>],
+    graph: &Graph,
+    passage: &Passage<'_>,
+    to: u32,
+    keep: bool,
+) -> Result<(), NoMemory>
+    requires next { AreNext graph.now.code passage.now.from passage.now.next }
+    requires joint { IsJoint graph.now.code passage.now.from to }
+    requires other { passage.now.from ≢ to }
+    requires slots { length states.old ≡ length graph.now.code }
+    requires from { passage.now.from < length states.old }
+    requires to { to < length states.old }
+    requires left { (state : State) → Some state ≡ slice_index_or states.old passage.now.from None
+        → passage.now.left ≡ left_by passage.now.insn.now state }
+    ensures slots { OnOk result (length states.new ≡ length states.old) }
+    ensures others { OnOk result ((s : ℕ) → s ≢ to → s ≢ passage.now.from → slice_index_or states.new s None ≡ slice_index_or states.old s None) }
+    ensures from { OnOk result (slice_index_or states.new passage.now.from None
+        ≡ if keep then slice_index_or states.old passage.now.from None else None) }
+    ensures met { OnOk result ((state : State) → Some state ≡ slice_index_or states.old passage.now.from None →
+        arrival_of (slice_index_or states.new to None)
+        ≡ met (met (met (arrival_of (slice_index_or states.old to None))
+        (landed (leads_at graph.now.code passage.now.from Always) to (Comes (passed passage.now.insn.now Always state))))
+        (landed (leads_at graph.now.code passage.now.from NotTaken) to (Comes (passed passage.now.insn.now NotTaken state))))
+        (landed (leads_at graph.now.code passage.now.from Taken) to (Comes (passed passage.now.insn.now Taken state)))) }
+{
+    match passage.next {
+        Next::Zero => unreachable!(),
+        Next::One(_) => send(alloc, states, passage, to, false, keep),
+        Next::Two(following, target) => {
+            if following != to {
+                return send(alloc, states, passage, to, true, keep);
+            }
+            if target != to {
+                return send(alloc, states, passage, to, false, keep);
+            }
+            send(alloc, states, passage, to, false, true)?;
+            send(alloc, states, passage, to, true, keep)
+        }
+    }
+}
+
+/// What the instruction at a slot passes on comes to another slot, which takes it next. The state at the first stays as long as it
+/// is needed.
+fn deliver(
+    alloc: Global,
+    states: &mut [Option<Held>],
+    sources: &mut Sources,
+    graph: &Graph,
+    passage: &Passage<'_>,
+    to: u32,
+) -> Result<(), NoMemory>
+    requires next { AreNext graph.now.code passage.now.from passage.now.next }
+    requires joint { IsJoint graph.now.code passage.now.from to }
+    requires linked { IsLinked graph.now.code sources.old }
+    requires slots { length states.old ≡ length graph.now.code }
+    requires first { slice_index_or sources.old.first to None ≡ Some passage.now.from }
+    requires left { (state : State) → Some state ≡ slice_index_or states.old passage.now.from None
+        → passage.now.left ≡ left_by passage.now.insn.now state }
+    ensures linked { OnOk result (IsLinked graph.now.code sources.new) }
+    ensures slots { OnOk result (length states.new ≡ length states.old) }
+    ensures from { OnOk result ((state : State) → Some state ≡ slice_index_or states.new passage.now.from None
+        → Some state ≡ slice_index_or states.old passage.now.from None) }
+    ensures firsts { OnOk result ((s : ℕ) → s ≢ to → slice_index_or sources.new.first s None ≡ slice_index_or sources.old.first s None) }
+    ensures first { OnOk result (IsNextSource graph.now.code to (suc passage.now.from) (slice_index_or sources.new.first to None)) }
+    ensures come { OnOk result ((need : ℕ) (helpers : Table) (n : ℕ) (state : State) →
+        HasCome (record { need = need; helpers = helpers; code = graph.now.code }) graph.now.order n sources.old states.old →
+        IsAmong graph.now.order n passage.now.from → (IsAmong graph.now.order n to → ⊥) →
+        insn_at graph.now.code passage.now.from ≡ Some passage.now.insn.now →
+        slice_index_or states.old passage.now.from None ≡ Some state →
+        HasCome (record { need = need; helpers = helpers; code = graph.now.code }) graph.now.order n sources.new states.new) }
+{
+    let slots = graph.slots();
+    prove!(passage.from < slots);
+    prove!(to < slots);
+    let keep = sources.is_kept(passage.from, graph)
+        || !sources.is_taken_beside(graph, passage.next, passage.from, to);
+    carry(alloc, states, graph, passage, to, keep)?;
+    sources.note(passage.next, passage.from, to);
+    Ok(())
+}
+
+/// The slot at a place of the order.
+fn slot_at(graph: &Graph, place: usize) -> u32
+    requires { place < length graph.now.order }
+    ensures slot { result ≡ slice_index graph.now.order place }
+    ensures begins { Begins graph.now.code result }
+    ensures within { result < length graph.now.code }
+{
+    let _slots = graph.slots();
+    graph.order()[place]
+}
+
+/// An instruction that is passed with this state.
+fn passage_again<'a>(survey: &Survey<'a>, from: u32, state: &State) -> Passage<'a>
+    requires { IsPassed (subject_of survey.now) from state.now }
+    ensures from { result.from ≡ from }
+    ensures insn { insn_at survey.now.graph.now.code from ≡ Some result.insn.now }
+    ensures next { AreNext survey.now.graph.now.code from result.next }
+    ensures left { result.left ≡ left_by result.insn.now state.now }
+{
+    let next = survey.graph.successors(from);
+    match survey.graph.insn(from) {
+        None => unreachable!(),
+        Some(insn) => match judge(survey.need, survey.helpers, insn, state) {
+            Err(_) => unreachable!(),
+            Ok(left) => Passage {
+                from,
+                next,
+                insn,
+                left,
             },
         },
+    }
+}
+
+/// What came to the slot at a place out of turn comes there in turn, as far as it is there.
+#[inline(always)]
+fn catch_up(
+    alloc: Global,
+    states: &mut [Option<Held>],
+    sources: &mut Sources,
+    survey: &Survey<'_>,
+    place: usize,
+) -> Result<(), NoMemory>
+    requires place { place < length survey.now.graph.now.order }
+    requires come { HasCome (subject_of survey.now) survey.now.graph.now.order place sources.old states.old }
+    ensures come { OnOk result (HasCome (subject_of survey.now) survey.now.graph.now.order place sources.new states.new) }
+    ensures rest { OnOk result ((q : ℕ) → slice_index_or sources.new.first (slice_index survey.now.graph.now.order place) None ≡ Some q →
+        slice_index_or states.new q None ≡ None) }
+{
+    let slot = slot_at(survey.graph, place);
+    let slots = survey.graph.slots();
+    prove!(slot < slots);
+    while let Some(from) = sources.first(slot) {
+        let passage = match &states[from as usize] {
+            None => return Ok(()),
+            Some(state) => passage_again(survey, from, state.get()),
+        };
+        deliver(alloc, states, sources, survey.graph, &passage, slot)?;
+    }
+    Ok(())
+}
+
+/// What the instruction at a slot passes on comes to a slot that it leads to, if it is its turn.
+fn reach(
+    alloc: Global,
+    states: &mut [Option<Held>],
+    sources: &mut Sources,
+    graph: &Graph,
+    passage: &Passage<'_>,
+    to: u32,
+) -> Result<(), NoMemory>
+    requires next { AreNext graph.now.code passage.now.from passage.now.next }
+    requires joint { IsJoint graph.now.code passage.now.from to }
+    requires linked { IsLinked graph.now.code sources.old }
+    requires slots { length states.old ≡ length graph.now.code }
+    requires left { (state : State) → Some state ≡ slice_index_or states.old passage.now.from None
+        → passage.now.left ≡ left_by passage.now.insn.now state }
+    ensures linked { OnOk result (IsLinked graph.now.code sources.new) }
+    ensures slots { OnOk result (length states.new ≡ length states.old) }
+    ensures from { OnOk result ((state : State) → Some state ≡ slice_index_or states.new passage.now.from None
+        → Some state ≡ slice_index_or states.old passage.now.from None) }
+    ensures come { OnOk result ((need : ℕ) (helpers : Table) (n : ℕ) →
+        HasCome (record { need = need; helpers = helpers; code = graph.now.code }) graph.now.order n sources.old states.old →
+        IsAmong graph.now.order n passage.now.from → (IsAmong graph.now.order n to → ⊥) →
+        insn_at graph.now.code passage.now.from ≡ Some passage.now.insn.now →
+        HasCome (record { need = need; helpers = helpers; code = graph.now.code }) graph.now.order n sources.new states.new) }
+{
+    let slots = graph.slots();
+    prove!(passage.from < slots);
+    prove!(to < slots);
+    match sources.first(to) {
+        Some(first) if first == passage.from => match &states[first as usize] {
+            Some(_) => deliver(alloc, states, sources, graph, passage, to),
+            None => Ok(()),
+        },
+        _ => Ok(()),
+    }
+}
+
+/// What the instruction at a slot passes on comes to the slots that it leads to, where it is its turn.
+fn push_on(
+    alloc: Global,
+    states: &mut [Option<Held>],
+    sources: &mut Sources,
+    graph: &Graph,
+    passage: &Passage<'_>,
+) -> Result<(), NoMemory>
+    requires next { AreNext graph.now.code passage.now.from passage.now.next }
+    requires insn { insn_at graph.now.code passage.now.from ≡ Some passage.now.insn.now }
+    requires linked { IsLinked graph.now.code sources.old }
+    requires slots { length states.old ≡ length graph.now.code }
+    requires left { (state : State) → Some state ≡ slice_index_or states.old passage.now.from None
+        → passage.now.left ≡ left_by passage.now.insn.now state }
+    ensures come { OnOk result ((need : ℕ) (helpers : Table) (n : ℕ) →
+        HasCome (record { need = need; helpers = helpers; code = graph.now.code }) graph.now.order (suc n) sources.old states.old →
+        n < length graph.now.order → slice_index graph.now.order n ≡ passage.now.from →
+        HasCome (record { need = need; helpers = helpers; code = graph.now.code }) graph.now.order (suc n) sources.new states.new) }
+{
+    let slots = graph.slots();
+    prove!(passage.from < slots);
+    match passage.next {
+        Next::Zero => {
+            if !sources.is_kept(passage.from, graph) {
+                states[passage.from as usize] = None;
+            }
+            Ok(())
+        }
+        Next::One(to) => reach(alloc, states, sources, graph, passage, to),
+        Next::Two(following, to) => {
+            reach(alloc, states, sources, graph, passage, following)?;
+            reach(alloc, states, sources, graph, passage, to)
+        }
+    }
+}
+
+/// What arrives at the slot at a place comes there, and its instruction is judged and passes it on. Tells its fault, if it has one of
+/// its own, and notes the region of its access.
+fn examine(
+    alloc: Global,
+    states: &mut [Option<Held>],
+    sources: &mut Sources,
+    regions: &mut [Region],
+    survey: &Survey<'_>,
+    place: usize,
+) -> Result<Option<Fault>, NoMemory>
+    requires place { place < length survey.now.graph.now.order }
+    requires come { HasCome (subject_of survey.now) survey.now.graph.now.order place sources.old states.old }
+    requires regions { length regions.old ≡ length survey.now.graph.now.code }
+    ensures come { OnOk result (HasCome (subject_of survey.now) survey.now.graph.now.order (suc place) sources.new states.new) }
+    ensures found { IfOk result (λ fault. IsFound (subject_of survey.now) survey.now.graph.now.order place (slice_index survey.now.graph.now.order place) fault) }
+    ensures regions { OnOk result (length regions.new ≡ length regions.old) }
+    ensures others { OnOk result ((s : ℕ) → s ≢ slice_index survey.now.graph.now.order place → slice_index_or regions.new s Stack ≡ slice_index_or regions.old s Stack) }
+    ensures region { OnOk result (IsRegionThere (subject_of survey.now) (slice_index survey.now.graph.now.order place)
+        (slice_index_or regions.new (slice_index survey.now.graph.now.order place) Stack)) }
+{
+    catch_up(alloc, states, sources, survey, place)?;
+    let slot = slot_at(survey.graph, place);
+    let slots = survey.graph.slots();
+    prove!(slot < slots);
+    if let Some(_) = sources.first(slot) {
+        states[slot as usize] = None;
+        return Ok(None);
+    }
+    let next = survey.graph.successors(slot);
+    let insn = survey.graph.insn(slot).unwrap();
+    let judged = match &states[slot as usize] {
+        None => unreachable!(),
+        Some(state) => {
+            regions[slot as usize] = region_there(insn, state.get());
+            judge(survey.need, survey.helpers, insn, state.get())
+        }
+    };
+    match judged {
+        Err(number) => {
+            states[slot as usize] = None;
+            Ok(Some(Fault { slot, number }))
+        }
+        Ok(left) => {
+            let passage = Passage {
+                from: slot,
+                next,
+                insn,
+                left,
+            };
+            push_on(alloc, states, sources, survey.graph, &passage)?;
+            Ok(None)
+        }
     }
 }
 
@@ -237,42 +386,96 @@ fn earlier(first: Option<Fault>, fault: Fault) -> Fault
     }
 }
 
-/// The state that arrives at each slot, or the first instruction that isn't allowed.
+/// A place for the state at each slot, with the entry state at the first.
+fn places(alloc: Global, need: u32, slots: u32) -> Result<Vec<Option<Held>>, NoMemory>
+    requires need { need ≤ 65536 }
+    requires slots { 0 < slots }
+    ensures slots { IfOk result (λ states. length states.items ≡ slots) }
+    ensures first { IfOk result (λ states. slice_index_or states.items 0 None ≡ Some (entry_state need)) }
+    ensures others { IfOk result (λ states. (s : ℕ) → 0 < s → s < slots → slice_index_or states.items s None ≡ None) }
+{
+    let mut states = Vec::new(alloc);
+    states.push(Some(Held::new(alloc, &State::entry(need))?))?;
+    for slot in 1..slots {
+        prove!(slot > 0);
+        states.push(None)?;
+    }
+    Ok(states)
+}
+
+/// What was found out of a program whose instructions are allowed: the states that are kept, and the regions of its accesses.
+#[derive(Drop)]
+pub(crate) struct Found {
+    pub(crate) kept: Vec<Kept>,
+    pub(crate) regions: Vec<Region>,
+}
+
+/// The states of the slots that are kept.
+fn kept(
+    alloc: Global,
+    states: &mut [Option<Held>],
+    sources: &Sources,
+    survey: &Survey<'_>,
+) -> Result<Vec<Kept>, NoMemory>
+    requires linked { IsLinked survey.now.graph.now.code sources.now }
+    requires slots { length states.old ≡ length survey.now.graph.now.code }
+    requires there { (s : ℕ) → s < length survey.now.graph.now.code → is_kept survey.now.graph.now.code s ≡ true →
+        (state : State) × (slice_index_or states.old s None ≡ Some state) × (arrive (subject_of survey.now) s ≡ Comes state) }
+    ensures { IfOk result (λ kept. AreKept (subject_of survey.now) kept.items (length survey.now.graph.now.code)) }
+{
+    let slots = survey.graph.slots();
+    let mut kept = Vec::new(alloc);
+    for slot in 0..slots {
+        if sources.is_kept(slot, survey.graph) {
+            match states[slot as usize].take() {
+                None => unreachable!(),
+                Some(state) => kept.push(Kept { slot, state })?,
+            }
+        }
+    }
+    Ok(kept)
+}
+
+/// The states that are kept and the regions of the accesses, or the first instruction that isn't allowed.
 pub(crate) fn states(
     alloc: Global,
     need: u32,
     helpers: &HelperTable,
     graph: &Graph,
-) -> Result<Vec<Option<State>>, Refusal>
+) -> Result<Found, Refusal>
     requires need { need ≤ 65536 }
-    ensures { MatchResult result (λ states. IsTable (record { need = need; helpers = helpers.now; code = graph.now.code }) states.items)
+    ensures { MatchResult result (λ found. IsSurveyed (record { need = need; helpers = helpers.now; code = graph.now.code }) found)
         (λ refusal. RefusesStates (record { need = need; helpers = helpers.now; code = graph.now.code }) refusal) }
 {
     let slots = graph.slots();
-    let sources = Sources::of(alloc, graph)?;
     let survey = Survey {
         need,
         helpers,
         graph,
-        sources: &sources,
     };
-    let mut states = vec![in alloc; None; slots as usize]?;
-    let mut findings = vec![in alloc; None; slots as usize]?;
+    let mut sources = Sources::of(alloc, graph)?;
+    let mut states = places(alloc, need, slots)?;
+    let mut regions = vec![in alloc; Region::Stack; slots as usize]?;
     let mut first = None;
-    let order = graph.order();
-    for place in 0..order.len() {
-        let slot = order[place];
-        let finding = match examine(&mut states, &findings, &survey, slot) {
-            Ok(finding) => finding,
-            Err(number) => {
-                first = Some(earlier(first, Fault { slot, number }));
-                Some(Finding::Refused)
-            }
-        };
-        findings[slot as usize] = finding;
+    for place in 0..graph.order().len() {
+        let fault = examine(
+            alloc,
+            &mut states,
+            &mut sources,
+            &mut regions,
+            &survey,
+            place,
+        )?;
+        match fault {
+            None => {}
+            Some(fault) => first = Some(earlier(first, fault)),
+        }
     }
     match first {
-        None => Ok(states),
+        None => Ok(Found {
+            kept: kept(alloc, &mut states, &sources, &survey)?,
+            regions,
+        }),
         Some(fault) => Err(Refusal::at(fault.slot, fault.number)),
     }
 }

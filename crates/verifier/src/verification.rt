@@ -5,7 +5,7 @@ ghost use Rattle.verifier.specs.Refusals.{Refuses, IsAccepted};
 
 use crate::refusals::Refusal;
 use crate::regions::predecoded;
-use crate::states::states;
+use crate::states::{Found, states};
 use crate::verified::Verified;
 use cost_bound::costs;
 use flow_graph::build;
@@ -40,10 +40,11 @@ pub fn verify(
     }
     let placed = decode(alloc, code)?;
     let graph = build(alloc, &placed)?;
-    let states = states(alloc, need, helpers, &graph)?;
+    let found = states(alloc, need, helpers, &graph)?;
     let costs = costs(alloc, &graph)?;
     let code = graph.into_code();
-    let predecoded = predecoded(alloc, &code, &states)?;
+    let predecoded = predecoded(alloc, &code, &found.regions)?;
     let helpers = helpers.copied(alloc)?;
-    Ok(Verified::of(need, helpers, code, predecoded, states, costs.into_table()))
+    let Found { kept, .. } = found;
+    Ok(Verified::of(need, helpers, code, predecoded, kept, costs.into_table()))
 }

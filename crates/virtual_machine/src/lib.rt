@@ -10,6 +10,3 @@ mod vm_fault;
 pub use registered::Function;
 pub use vm::Vm;
 pub use vm_fault::VmFault;
-
-#[cfg(test)]
-mod vm_tests;

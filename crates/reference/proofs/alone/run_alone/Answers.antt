@@ -10,7 +10,7 @@ use Rattle.reference.proofs.alone.run_alone.Goals as goal
 use Rattle.reference.proofs.alone.run_alone.Goals.{in-Goes, in-Calls+in_ok-state-in-Calls}
 
 pub loop-init : goal.loop-init
-loop-init g c = leads_same _ _ _ _ _ _ (omega arith) c.alone-state.ensures
+loop-init g c = leads_same _ _ _ _ _ _ (omega arith) c.start_alone-state.ensures
 
 pub returns-in-Ends-clause-ends : goal.returns-in-Ends-clause-ends
 returns-in-Ends-clause-ends g c = λ r0 last e.

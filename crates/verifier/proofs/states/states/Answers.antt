@@ -1,83 +1,104 @@
-use Rattle.std.proofs.Common.{◌≡◌, ◌<◌, ◌∙◌, ℕ, length, refl, sym, ap, arith, add-one, Some, None, Option, slice_index, subst}
-use Rattle.std.proofs.lemmas.List.{get_or_default, with_items_is}
-use Rattle.machine_model.proofs.Codes.{begins_within}
-use Rattle.verifier.specs.Arrive.{Subject}
+use Rattle.std.proofs.Common.{◌≡◌, ◌<◌, ◌∙◌, length, sym, arith, add-one, Option, subst}
+use Rattle.std.proofs.lemmas.List.{with_items_is}
 use Rattle.verifier.specs.declared.states.Fault.{Fault}
 use Rattle.verifier.specs.Verdict.{IsFirstFaulty}
-use Rattle.verifier.specs.Coming.{HasCome}
+use Rattle.verifier.specs.Coming.{IsFirst}
 use Rattle.verifier.proofs.Arrivals.{arrive_is}
-use Rattle.verifier.proofs.Comings.{examined_before, come_examined, come_fault, come_done, come_refused, faulty_number}
+use Rattle.verifier.proofs.Examining.{come_start, first_same, first_fault, all_passed, all_among, come_refused, faulty_number}
+use Rattle.verifier.proofs.Keeping.{none_among, kept_there, regions_more}
 use Rattle.verifier.proofs.states.states.Goals as goal
-use Rattle.verifier.proofs.states.states.Goals.{in-Ok, in-Err}
+use Rattle.verifier.proofs.states.states.Goals.{in-None, in-Some}
 
-pub examine-requires-clause-begins : goal.examine-requires-clause-begins
-examine-requires-clause-begins c =
-    let within : c.loop-place.place < length c.args.graph.now.order = rw c.order-order.ensures at c.loop-place-test.true in
-    rw c.order-order.ensures (c.slots-slots.ensures.flow.order.begins c.loop-place.place within)
-
-pub examine-requires-clause-sources : goal.examine-requires-clause-sources
-examine-requires-clause-sources c =
-    let within : c.loop-place.place < length c.args.graph.now.order = rw c.order-order.ensures at c.loop-place-test.true in
-    rw (c.order-order.ensures, c.deref_mut.ensures.value, c.deref.ensures.value)
-    (examined_before (record { need = c.args.need; helpers = c.args.helpers.now; code = c.args.graph.now.code }) c.args.graph.now.order
-    c.loop-place.states.items c.loop-place.findings.items c.loop-place.first c.loop-place.place c.slots-slots.ensures.flow.order within c.loop-place.invariant)
-
-pub index_mut-requires : goal.index_mut-requires
-index_mut-requires c =
-    let within : c.loop-place.place < length c.args.graph.now.order = rw c.order-order.ensures at c.loop-place-test.true in
-    let below = begins_within c.args.graph.now.code _ (c.slots-slots.ensures.flow.order.begins c.loop-place.place within) in
-    let room : slice_index c.args.graph.now.order c.loop-place.place < length c.loop-place.findings.items =
-    omega (arith, below, c.loop-place.invariant.findings_long) in
-    rw (c.order-order.ensures, c.loop-place.findings.ok.0) room
+pub loop-place-init : goal.loop-place-init
+loop-place-init c =
+    let flow = c.slots-slots.ensures.flow in
+    record {
+      come = come_start (record { need = c.args.need; helpers = c.args.helpers.now; code = c.args.graph.now.code }) c.args.graph.now.order c.in_ok-sources.sources
+          c.in_ok-states.states.items flow
+          (arrive_is (record { need = c.args.need; helpers = c.args.helpers.now; code = c.args.graph.now.code }) c.args.graph.now.order flow.joined flow.order flow.short)
+          c.in_ok-sources.ensures (c.in_ok-states.ensures.slots ∙ c.slots-slots.ensures.slots) c.in_ok-states.ensures.first
+          (λ s more within. let lt : s < c.slots-slots.result = omega (arith, within, c.slots-slots.ensures.slots) in c.in_ok-states.ensures.others s more lt);
+      told = λ s m. absurd (none_among c.args.graph.now.order s m);
+      long =
+          let e : length c.in_ok-regions.regions.items ≡ length c.args.graph.now.code =
+          omega (arith, c.in_ok-regions.ensures.len, c.slots-slots.ensures.slots, c.in_ok-regions.regions.ok.0) in e;
+      regions = λ s m. absurd (none_among c.args.graph.now.order s m);
+    }
 
 pub loop-place-preserved : goal.loop-place-preserved
 loop-place-preserved c =
-    let within : c.loop-place.place < length c.args.graph.now.order = rw c.order-order.ensures at c.loop-place-test.true in
-    elim c.match-examine.branch [
-      | in-Ok w ↦
-          let long : length c.examine.new.states ≡ length c.loop-place.states.items = rw c.deref_mut.ensures.value at w.in-Ok.ensures.length in
-          let others = rw (c.deref_mut.ensures.value, c.order-order.ensures) at w.in-Ok.ensures.others in
-          let examined = rw (c.deref.ensures.value, c.order-order.ensures) at w.in-Ok.ensures.examined in
-          rw (add-one, c.order-order.ensures, w.first-is, w.finding-is, with_items_is c.loop-place.states c.examine.new.states (long ∙ sym c.loop-place.states.ok.0))
-          (come_examined (record { need = c.args.need; helpers = c.args.helpers.now; code = c.args.graph.now.code }) c.args.graph.now.order
-          c.loop-place.states.items c.examine.new.states c.loop-place.findings.items c.loop-place.first c.loop-place.place w.in-Ok.finding
-          c.slots-slots.ensures.flow.order within c.loop-place.invariant long others examined)
-      | in-Err w ↦
-          let long : length c.examine.new.states ≡ length c.loop-place.states.items = rw c.deref_mut.ensures.value at w.in-Err.ensures.length in
-          let others = rw (c.deref_mut.ensures.value, c.order-order.ensures) at w.in-Err.ensures.others in
-          let faulty = rw c.order-order.ensures at w.in-Err.ensures.examined in
-          rw (add-one, w.first-is, w.finding-is, w.earlier.ensures, c.order-order.ensures, with_items_is c.loop-place.states c.examine.new.states (long ∙ sym c.loop-place.states.ok.0))
-          (come_fault (record { need = c.args.need; helpers = c.args.helpers.now; code = c.args.graph.now.code }) c.args.graph.now.order
-          c.loop-place.states.items c.examine.new.states c.loop-place.findings.items c.loop-place.first c.loop-place.place
-          (record { slot = slice_index c.args.graph.now.order c.loop-place.place; number = w.in-Err.number })
-          c.slots-slots.ensures.flow.order within c.loop-place.invariant long others refl faulty)
-    ]
+    let within : c.loop-place.place < length c.args.graph.now.order = rw c.order-place-end.ensures at c.loop-place-test.true in
+    let long : length c.examine.new.states ≡ length c.loop-place.states.items = c.in_ok-fault.ensures.come.slots ∙ sym c.loop-place.invariant.come.slots in
+    let regions_long : length c.examine.new.regions ≡ length c.loop-place.regions.items =
+    rw c.deref_mut-in-loop-place.ensures.value at c.in_ok-fault.ensures.regions in
+    rw (
+      add-one,
+      with_items_is c.loop-place.states c.examine.new.states (long ∙ sym c.loop-place.states.ok.0),
+      with_items_is c.loop-place.regions c.examine.new.regions (regions_long ∙ sym c.loop-place.regions.ok.0),
+    )
+    (record {
+      come = c.in_ok-fault.ensures.come;
+      told = elim c.match-fault.branch [
+        | in-None w ↦
+            rw w.first-is (first_same (record { need = c.args.need; helpers = c.args.helpers.now; code = c.args.graph.now.code }) c.args.graph.now.order c.loop-place.place
+            c.loop-place.first c.loop-place.invariant.told (rw w.in-None.is at c.in_ok-fault.ensures.found))
+        | in-Some w ↦
+            rw (w.first-is, w.earlier.ensures) (first_fault (record { need = c.args.need; helpers = c.args.helpers.now; code = c.args.graph.now.code }) c.args.graph.now.order
+            c.loop-place.place c.loop-place.first w.in-Some.fault c.loop-place.invariant.told (rw w.in-Some.is at c.in_ok-fault.ensures.found))
+      ];
+      long = regions_long ∙ c.loop-place.invariant.long;
+      regions = regions_more (record { need = c.args.need; helpers = c.args.helpers.now; code = c.args.graph.now.code }) c.args.graph.now.order c.loop-place.place
+          c.loop-place.regions.items c.examine.new.regions (rw c.deref_mut-in-loop-place.ensures.value at c.in_ok-fault.ensures.others) c.loop-place.invariant.regions
+          c.in_ok-fault.ensures.region;
+    })
 
-pub returns-in-None : goal.returns-in-None
-returns-in-None c =
+pub kept-requires-clause-there : goal.kept-requires-clause-there
+kept-requires-clause-there c =
     let flow = c.slots-slots.ensures.flow in
-    let all : c.loop-place.place ≡ length c.args.graph.now.order = rw c.order-order.ensures at (let e : c.loop-place.place ≡ length c.order-order.result.now = omega (arith, c.loop-place-test.false, c.loop-place.auto.place-end) in e) in
-    come_done (record { need = c.args.need; helpers = c.args.helpers.now; code = c.args.graph.now.code }) c.args.graph.now.order c.loop-place.states.items c.loop-place.findings.items c.loop-place.place
-    flow.joined flow.order (arrive_is (record { need = c.args.need; helpers = c.args.helpers.now; code = c.args.graph.now.code }) c.args.graph.now.order flow.joined flow.order flow.short) all
-    (subst (λ (o : Option Fault). HasCome (record { need = c.args.need; helpers = c.args.helpers.now; code = c.args.graph.now.code }) c.args.graph.now.order c.loop-place.states.items c.loop-place.findings.items o c.loop-place.place) c.in-None.is
-    c.loop-place.invariant)
+    let all : c.loop-place.place ≡ length c.args.graph.now.order =
+    rw c.order-place-end.ensures at (let e : c.loop-place.place ≡ length c.order-place-end.result.now = omega (arith, c.loop-place-test.false, c.loop-place.auto.place-end) in e) in
+    rw c.deref_mut-in-None-first.ensures.value
+    (kept_there (record { need = c.args.need; helpers = c.args.helpers.now; code = c.args.graph.now.code }) c.args.graph.now.order c.loop-place.place c.loop-place.sources
+    c.loop-place.states.items flow.joined flow.order all c.loop-place.invariant.come
+    (subst (λ (o : Option Fault). IsFirst (record { need = c.args.need; helpers = c.args.helpers.now; code = c.args.graph.now.code }) c.args.graph.now.order c.loop-place.place o)
+    c.in-None-first.is c.loop-place.invariant.told))
 
-first_faulty : (c : goal.In-Some) → IsFirstFaulty (record { need = c.args.need; helpers = c.args.helpers.now; code = c.args.graph.now.code }) c.in-Some.fault.slot c.in-Some.fault.number
+pub returns-in-None-first : goal.returns-in-None-first
+returns-in-None-first c =
+    let flow = c.slots-slots.ensures.flow in
+    let all : c.loop-place.place ≡ length c.args.graph.now.order =
+    rw c.order-place-end.ensures at (let e : c.loop-place.place ≡ length c.order-place-end.result.now = omega (arith, c.loop-place-test.false, c.loop-place.auto.place-end) in e) in
+    record {
+      table = all_passed (record { need = c.args.need; helpers = c.args.helpers.now; code = c.args.graph.now.code }) c.args.graph.now.order c.loop-place.place flow.joined flow.order
+          (arrive_is (record { need = c.args.need; helpers = c.args.helpers.now; code = c.args.graph.now.code }) c.args.graph.now.order flow.joined flow.order flow.short) all
+          (subst (λ (o : Option Fault). IsFirst (record { need = c.args.need; helpers = c.args.helpers.now; code = c.args.graph.now.code }) c.args.graph.now.order c.loop-place.place o)
+          c.in-None-first.is c.loop-place.invariant.told);
+      kept = c.in_ok-kept-in-None-first.ensures;
+      slots = c.loop-place.invariant.long;
+      regions = λ s begins. c.loop-place.invariant.regions s
+          (all_among (record { need = c.args.need; helpers = c.args.helpers.now; code = c.args.graph.now.code }) c.args.graph.now.order c.loop-place.place s flow.order all begins);
+    }
+
+first_faulty : (c : goal.In-Some-first) → IsFirstFaulty (record { need = c.args.need; helpers = c.args.helpers.now; code = c.args.graph.now.code }) c.in-Some-first.fault.slot c.in-Some-first.fault.number
 first_faulty c =
     let flow = c.slots-slots.ensures.flow in
-    let all : c.loop-place.place ≡ length c.args.graph.now.order = rw c.order-order.ensures at (let e : c.loop-place.place ≡ length c.order-order.result.now = omega (arith, c.loop-place-test.false, c.loop-place.auto.place-end) in e) in
-    come_refused (record { need = c.args.need; helpers = c.args.helpers.now; code = c.args.graph.now.code }) c.args.graph.now.order c.loop-place.states.items c.loop-place.findings.items c.in-Some.fault c.loop-place.place
+    let all : c.loop-place.place ≡ length c.args.graph.now.order =
+    rw c.order-place-end.ensures at (let e : c.loop-place.place ≡ length c.order-place-end.result.now = omega (arith, c.loop-place-test.false, c.loop-place.auto.place-end) in e) in
+    come_refused (record { need = c.args.need; helpers = c.args.helpers.now; code = c.args.graph.now.code }) c.args.graph.now.order c.in-Some-first.fault c.loop-place.place
     flow.order all
-    (subst (λ (o : Option Fault). HasCome (record { need = c.args.need; helpers = c.args.helpers.now; code = c.args.graph.now.code }) c.args.graph.now.order c.loop-place.states.items c.loop-place.findings.items o c.loop-place.place) c.in-Some.is
-    c.loop-place.invariant)
+    (subst (λ (o : Option Fault). IsFirst (record { need = c.args.need; helpers = c.args.helpers.now; code = c.args.graph.now.code }) c.args.graph.now.order c.loop-place.place o)
+    c.in-Some-first.is c.loop-place.invariant.told)
 
 pub at-requires : goal.at-requires
-at-requires c = faulty_number (record { need = c.args.need; helpers = c.args.helpers.now; code = c.args.graph.now.code }) c.in-Some.fault.slot c.in-Some.fault.number (first_faulty c).faulty
+at-requires c = faulty_number (record { need = c.args.need; helpers = c.args.helpers.now; code = c.args.graph.now.code }) c.in-Some-first.fault.slot c.in-Some-first.fault.number (first_faulty c).faulty
 
 pub returns : goal.returns
-returns c = c.at.ensures.first (record { need = c.args.need; helpers = c.args.helpers.now; code = c.args.graph.now.code }) (let flow = c.slots-slots.ensures.flow in
-    let all : c.loop-place.place ≡ length c.args.graph.now.order = rw c.order-order.ensures at (let e : c.loop-place.place ≡ length c.order-order.result.now = omega (arith, c.loop-place-test.false, c.loop-place.auto.place-end) in e) in
-    come_refused (record { need = c.args.need; helpers = c.args.helpers.now; code = c.args.graph.now.code }) c.args.graph.now.order c.loop-place.states.items c.loop-place.findings.items c.in-Some.fault c.loop-place.place
+returns c =
+    c.at.ensures.first (record { need = c.args.need; helpers = c.args.helpers.now; code = c.args.graph.now.code })
+    (let flow = c.slots-slots.ensures.flow in
+    let all : c.loop-place.place ≡ length c.args.graph.now.order =
+    rw c.order-place-end.ensures at (let e : c.loop-place.place ≡ length c.order-place-end.result.now = omega (arith, c.loop-place-test.false, c.loop-place.auto.place-end) in e) in
+    come_refused (record { need = c.args.need; helpers = c.args.helpers.now; code = c.args.graph.now.code }) c.args.graph.now.order c.in-Some-first.fault c.loop-place.place
     flow.order all
-    (subst (λ (o : Option Fault). HasCome (record { need = c.args.need; helpers = c.args.helpers.now; code = c.args.graph.now.code }) c.args.graph.now.order c.loop-place.states.items c.loop-place.findings.items o c.loop-place.place) c.in-Some.is
-    c.loop-place.invariant))
+    (subst (λ (o : Option Fault). IsFirst (record { need = c.args.need; helpers = c.args.helpers.now; code = c.args.graph.now.code }) c.args.graph.now.order c.loop-place.place o)
+    c.in-Some-first.is c.loop-place.invariant.told))

@@ -1,6 +1,8 @@
 use Rattle.std.proofs.Common.{refl, arith}
 use Rattle.std.proofs.lemmas.Result.{err_from_is_err_and}
 use Rattle.flow_graph.proofs.Decoded.{decoded_of}
+use Rattle.verifier.specs.Kept.{checked, subject}
+use Rattle.verifier.proofs.Predecodings.{regions_of}
 use Rattle.verifier.proofs.Verdicts.{codec_refused, flow_refused, states_refused, verified_of, accepted_of}
 use Rattle.verifier.proofs.verification.verify.Goals as goal
 
@@ -20,22 +22,33 @@ returns-in_err-graph c =
     (flow_refused c.args.need c.args.code.now c.args.helpers.now c.in_ok-placed.placed.items c.in_err-graph.field-0.0 (omega arith)
     c.in_ok-placed.ensures.found (rw c.deref.ensures.value at c.in_err-graph.ensures))
 
-pub returns-in_err-states : goal.returns-in_err-states
-returns-in_err-states c =
-    let p = err_from_is_err_and c.from_residual-in_err-states.result c.from_residual-in_err-states.ensures.1 in
+pub returns-in_err-found : goal.returns-in_err-found
+returns-in_err-found c =
+    let p = err_from_is_err_and c.from_residual-in_err-found.result c.from_residual-in_err-found.ensures.1 in
     rw (p.1, p.2)
-    (states_refused c.args.need c.args.code.now c.args.helpers.now c.in_ok-placed.placed.items c.in_ok-graph.graph c.in_err-states.field-0.0
-    (omega arith) c.in_ok-placed.ensures.found (rw c.deref.ensures.value at c.in_ok-graph.ensures) c.in_err-states.ensures)
+    (states_refused c.args.need c.args.code.now c.args.helpers.now c.in_ok-placed.placed.items c.in_ok-graph.graph c.in_err-found.field-0.0
+    (omega arith) c.in_ok-placed.ensures.found (rw c.deref.ensures.value at c.in_ok-graph.ensures) c.in_err-found.ensures)
 
 pub of-requires-clause-verified : goal.of-requires-clause-verified
 of-requires-clause-verified c =
     rw (c.in_ok-helpers.ensures.same, c.into_code-code.ensures, c.into_table.ensures)
-    (verified_of (record { need = c.args.need; helpers = c.args.helpers.now; code = c.in_ok-graph.graph.code; states = c.in_ok-states.states.items; costs = c.in_ok-costs.costs }) c.in_ok-graph.graph.order
-    (omega arith) (rw c.graph.view_is at c.graph.invariant) c.in_ok-helpers.ensures.known c.in_ok-states.ensures c.in_ok-costs.ensures)
+    (verified_of (checked c.args.need c.args.helpers.now c.in_ok-graph.graph.code c.in_ok-costs.costs) c.in_ok-graph.graph.order
+    (omega arith) (rw c.graph.view_is at c.graph.invariant) c.in_ok-helpers.ensures.known c.in_ok-found.ensures.table c.in_ok-costs.ensures)
+
+pub of-requires-clause-regions : goal.of-requires-clause-regions
+of-requires-clause-regions c =
+    rw (c.in_ok-helpers.ensures.same, c.into_code-code.ensures)
+    (regions_of (subject c.args.need c.args.helpers.now c.in_ok-graph.graph.code) c.in_ok-predecoded.predecoded.items c.in_ok-found.found.regions.items
+    (rw (c.deref-2.ensures.value, c.into_code-code.ensures) at c.in_ok-predecoded.ensures.code)
+    (rw c.deref-3.ensures.value at c.in_ok-predecoded.ensures.regions) c.in_ok-found.ensures.regions)
+
+pub of-requires-clause-kept : goal.of-requires-clause-kept
+of-requires-clause-kept c =
+    rw (c.in_ok-helpers.ensures.same, c.into_code-code.ensures) c.in_ok-found.ensures.kept
 
 pub returns : goal.returns
 returns c =
     rw (c.of.ensures, c.in_ok-helpers.ensures.same, c.into_code-code.ensures, c.into_table.ensures)
     (accepted_of c.args.need c.args.code.now c.args.helpers.now c.in_ok-placed.placed.items c.in_ok-graph.graph
-    (record { need = c.args.need; helpers = c.args.helpers.now; code = c.in_ok-graph.graph.code; states = c.in_ok-states.states.items; costs = c.in_ok-costs.costs })
-    (omega arith) c.in_ok-placed.ensures.found (rw c.deref.ensures.value at c.in_ok-graph.ensures) refl refl refl c.in_ok-states.ensures c.in_ok-costs.ensures)
+    (checked c.args.need c.args.helpers.now c.in_ok-graph.graph.code c.in_ok-costs.costs)
+    (omega arith) c.in_ok-placed.ensures.found (rw c.deref.ensures.value at c.in_ok-graph.ensures) refl refl refl c.in_ok-found.ensures.table c.in_ok-costs.ensures)

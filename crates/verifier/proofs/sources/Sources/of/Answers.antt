@@ -1,4 +1,4 @@
-use Rattle.std.proofs.Common.{◌≡◌, ◌+◌, ℕ, sym, arith, subst, suc, ◌-◌}
+use Rattle.std.proofs.Common.{◌≡◌, ℕ, sym, arith, subst, suc, ◌-◌}
 use Rattle.verifier.specs.Sources.{AreLinked}
 use Rattle.verifier.proofs.Linking.{linked_second, second_leads}
 use Rattle.verifier.proofs.sources.Sources.of.Goals as goal

@@ -1,4 +1,3 @@
-use Rattle.std.proofs.Common.{ℕ}
 use Rattle.verifier.specs.Sources.{AreLinked}
 use Rattle.verifier.proofs.sources.Sources.of.Given as goal
 

@@ -1,0 +1,13 @@
+//! Parts, books and jobs, as tests. Nothing stands on it.
+#![tactic(auto)]
+
+#[cfg(test)]
+mod books;
+#[cfg(test)]
+mod parts;
+#[cfg(test)]
+mod playing;
+#[cfg(test)]
+mod refusing;
+#[cfg(test)]
+mod single;

@@ -1,0 +1,194 @@
+//! A deque of ready tickets: its owner pushes and takes, and thieves steal, first in first out.
+ghost use Rattle.std.specs.Prelude.{◌≡◌};
+ghost use Rattle.crossbeam_deque.specs.Handles.{worker_port, worker_flavor, stealer_flavor};
+
+use crate::moves::Moves;
+use credit_book::Ticket;
+use crossbeam_deque::protocol::{Outcome, Protocol};
+use crossbeam_deque::{Steal, Stealer, Worker};
+use refusal::NoMemory;
+use std::alloc::Global;
+use std::snapshot::Snapshot;
+
+/// Every ticket that is pushed leaves once, in the order of pushing.
+pub struct InOrder;
+
+impl Protocol<Ticket, Moves> for InOrder {
+    ghost use Rattle.lanes.specs.Interleaving.{Interleaved, newcomer};
+
+    ghost holds = { Interleaved };
+
+    ghost first = { newcomer };
+
+    ghost guest = { newcomer };
+}
+
+struct Pushed;
+
+impl Outcome<Ticket, Moves> for Pushed {
+    ghost use Rattle.lanes.specs.Interleaving.{with_pushed};
+
+    ghost then = { λ v xs w. w ≡ with_pushed v xs };
+}
+
+struct Taken;
+
+impl Outcome<Ticket, Moves> for Taken {
+    ghost use Rattle.lanes.specs.Interleaving.{with_taken};
+
+    ghost then = { λ v xs w. w ≡ with_taken v xs };
+}
+
+type Ready = Worker<Ticket, Global, Moves, InOrder>;
+
+type Reach = Stealer<Ticket, Global, Moves, InOrder>;
+
+/// The slots that a lane begins with.
+const FIRST_ROOM: usize = 16;
+
+/// The owner's end.
+#[derive(Drop)]
+pub struct Lane {
+    ready: Ready,
+    ghost owner: { worker_port ready ≡ 0 },
+    ghost fifo: { worker_flavor ready ≡ 0 },
+}
+
+/// A thief's end.
+#[derive(Drop)]
+pub struct Thief {
+    reach: Reach,
+    ghost fifo: { stealer_flavor reach ≡ 0 },
+}
+
+/// What a caller has moved. The owner's shows its worker, and a thief's its seat.
+#[derive(Drop)]
+pub struct Pass {
+    owns: bool,
+    seen: Snapshot<Ready>,
+    seat: crossbeam_deque::Pass<Ticket, Moves>,
+}
+
+/// What a thief was given.
+#[must_use]
+#[derive(Drop)]
+pub enum Stolen {
+    Got(Ticket),
+    Empty,
+    /// Another caller came first. Try again.
+    Retry,
+}
+
+impl Lane {
+    ghost use Rattle.std.specs.Prelude.{MatchResult, MatchOption, [], ◌∷◌, IfOk};
+    ghost use Rattle.crossbeam_deque.specs.Handles.{worker_view};
+    ghost use Rattle.lanes.specs.Interleaving.{with_pushed, with_taken, newcomer};
+    ghost use Rattle.lanes.specs.Passes.{moves, IsOwner, IsNewThief};
+
+    /// A lane with no ticket.
+    pub(crate) fn empty(alloc: Global) -> Result<Lane, NoMemory>
+        ensures { IfOk result (λ lane. worker_view lane.ready ≡ newcomer) }
+    {
+        Ok(Lane {
+            ready: Ready::fifo_as(alloc, FIRST_ROOM)?,
+        })
+    }
+
+    /// The pass of the owner of a new lane. Its seat stays unused.
+    pub(crate) fn owner(&self) -> Result<Pass, NoMemory>
+        ensures { IfOk result (λ p. IsOwner self.now p × (moves p ≡ worker_view self.now.ready)) }
+    {
+        let seat = self.ready.stealer()?.pass();
+        let seen = Snapshot::of(&self.ready);
+        Ok(Pass {
+            owns: true,
+            seen,
+            seat,
+        })
+    }
+
+    /// A thief of this lane, and its pass.
+    pub(crate) fn thief(&self) -> Result<(Thief, Pass), NoMemory>
+        ensures { IfOk result (λ g. IsNewThief self.now g.0 g.1) }
+    {
+        let reach = self.ready.stealer()?;
+        let seat = reach.pass();
+        let pass = Pass {
+            owns: false,
+            seen: Snapshot::of(&self.ready),
+            seat,
+        };
+        Ok((Thief { reach }, pass))
+    }
+
+    /// Puts a ticket at the back, or gives it back where there is no room for it.
+    fn put(&mut self, ticket: Ticket) -> Result<(), Ticket>
+        ensures { MatchResult result (λ _. worker_view self.new.ready ≡ with_pushed (worker_view self.old.ready) (ticket ∷ []))
+            (λ back. (back ≡ ticket) × (worker_view self.new.ready ≡ worker_view self.old.ready)) }
+    {
+        self.ready.push_as::<Pushed>(ticket)
+    }
+
+    /// The ticket at the front.
+    fn next(&mut self) -> Option<Ticket>
+        ensures { MatchOption result (worker_view self.new.ready ≡ worker_view self.old.ready)
+            (λ ticket. worker_view self.new.ready ≡ with_taken (worker_view self.old.ready) (ticket ∷ [])) }
+    {
+        self.ready.pop_as::<Taken>()
+    }
+
+    /// Puts a ticket at the back. It comes back where there is no room for it.
+    pub fn push(&mut self, pass: &mut Pass, ticket: Ticket) -> Result<(), Ticket>
+        requires { IsOwner self.old pass.old }
+        ensures pass { IsOwner self.new pass.new }
+        ensures moved { MatchResult result (λ _. moves pass.new ≡ with_pushed (moves pass.old) (ticket ∷ []))
+            (λ back. (back ≡ ticket) × (moves pass.new ≡ moves pass.old)) }
+    {
+        let pushed = self.put(ticket);
+        pass.seen = Snapshot::of(&self.ready);
+        pushed
+    }
+
+    /// Takes the ticket at the front.
+    pub fn take(&mut self, pass: &mut Pass) -> Option<Ticket>
+        requires { IsOwner self.old pass.old }
+        ensures pass { IsOwner self.new pass.new }
+        ensures moved { MatchOption result (moves pass.new ≡ moves pass.old)
+            (λ ticket. moves pass.new ≡ with_taken (moves pass.old) (ticket ∷ [])) }
+    {
+        let taken = self.next();
+        pass.seen = Snapshot::of(&self.ready);
+        taken
+    }
+}
+
+impl Thief {
+    ghost use Rattle.std.specs.Prelude.{[], ◌∷◌};
+    ghost use Rattle.crossbeam_deque.specs.Handles.{view, stealer_deque, IsPassOf};
+    ghost use Rattle.lanes.specs.Interleaving.{with_taken};
+    ghost use Rattle.lanes.specs.Passes.{moves, IsGuest, MatchStolen};
+
+    /// Takes the ticket at the front of another worker's lane.
+    pub fn steal(&mut self, pass: &mut Pass) -> Stolen
+        requires { IsGuest self.old pass.old }
+        ensures pass { IsGuest self.new pass.new }
+        ensures moved { MatchStolen result (moves pass.new ≡ moves pass.old)
+            (λ ticket. moves pass.new ≡ with_taken (moves pass.old) (ticket ∷ [])) }
+    {
+        self.steal_on(&mut pass.seat)
+    }
+
+    /// The ticket at the front, for a bare seat.
+    fn steal_on(&mut self, seat: &mut crossbeam_deque::Pass<Ticket, Moves>) -> Stolen
+        requires { IsPassOf (stealer_deque self.old.reach) seat.old }
+        ensures pass { IsPassOf (stealer_deque self.new.reach) seat.new }
+        ensures moved { MatchStolen result (view seat.new ≡ view seat.old)
+            (λ ticket. view seat.new ≡ with_taken (view seat.old) (ticket ∷ [])) }
+    {
+        match self.reach.steal_as::<Taken>(seat) {
+            Steal::Success(ticket) => Stolen::Got(ticket),
+            Steal::Empty => Stolen::Empty,
+            Steal::Retry => Stolen::Retry,
+        }
+    }
+}

@@ -1,0 +1,12 @@
+//! Deques of ready tickets: the owner of a lane pushes and takes, and thieves steal, first in first out.
+#![tactic(auto)]
+
+mod ends;
+mod laws;
+mod moves;
+mod opening;
+
+pub use ends::{Lane, Pass, Stolen, Thief};
+pub use laws::each_once_in_order;
+pub use moves::{Moves, Task};
+pub use opening::lane;

@@ -1,0 +1,8 @@
+//! What runs the jobs of a desk.
+#![tactic(auto)]
+
+mod inline_runner;
+mod lowest;
+
+pub use inline_runner::InlineRunner;
+pub use lowest::play_lowest;

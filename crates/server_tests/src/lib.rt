@@ -1,0 +1,16 @@
+//! Streams of requests and their replies, as tests over tables. Nothing stands on it.
+#![tactic(auto)]
+
+// ends in memory, that fail at some call
+#[cfg(test)]
+mod ends;
+
+// streams and their replies, as texts
+#[cfg(test)]
+mod failing_tests;
+#[cfg(test)]
+mod runner_tests;
+#[cfg(test)]
+mod stream_tests;
+#[cfg(test)]
+mod texts;

@@ -1,0 +1,3 @@
+pub mod SoloParts
+pub mod OwnTable
+pub mod SoloRunning

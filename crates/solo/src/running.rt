@@ -1,0 +1,45 @@
+//! One task, from its entry to its end.
+
+ghost use Rattle.std.specs.Prelude.{◌≡◌, ℕ, ◌≤◌};
+ghost use Rattle.machine_model.specs.Value.{Registers};
+ghost use Rattle.helpers.specs.Table.{job_table};
+ghost use Rattle.helpers.specs.declared.spawner.SpawnRecord.{SpawnRecord};
+ghost use Rattle.verifier.specs.Checked.{program_of};
+ghost use Rattle.interpreter.specs.Behind.{AreBehind, IsCovered, at_slot, state_of};
+ghost use Rattle.solo.specs.Through.{GoesThrough, RunsAlone};
+
+use helpers::{Part, Spawner};
+use interpreter::{Credit, Frame, Next};
+use std::alloc::Global;
+use verifier::Verified;
+
+/// Runs a task from slot 0 to its end, whatever the frame's own slot is, and gives R0. Whatever task stands behind the frame, what
+/// happens is the run of that task by itself, whose spawns the spawner answered one after the other.
+///
+/// It asks for a program that may call a job's helpers alone, and for a spawner that takes any record.
+pub fn run_to_end<S: Spawner>(
+    alloc: Global,
+    frame: &mut Frame,
+    code: &Verified,
+    part: &mut Part,
+    credit: &mut Credit,
+    spawner: &mut S,
+) -> u64
+    requires own { code.now.helpers ≡ job_table }
+    requires covered { IsCovered code.now (at_slot frame.old 0) part.old credit.old }
+    requires takes_any { (s : S) (child : SpawnRecord) → S.asks s child }
+    ensures alone { (registers : Registers) → AreBehind code.now (at_slot frame.old 0) registers →
+        RunsAlone (program_of code.now) (S.entries spawner.old) (state_of (at_slot frame.old 0) part.old credit.old registers)
+        (λ asked. GoesThrough S.spawns part.old.base spawner.old asked spawner.new) result credit.new.used part.new.bytes }
+    ensures base { part.new.base ≡ part.old.base }
+    ensures entries { S.entries spawner.new ≡ S.entries spawner.old }
+{
+    let mut slot = 0;
+    loop {
+        let ran = frame.run_at(alloc, code, slot, usize::MAX, part, credit, spawner);
+        match ran.next {
+            Next::At(next) => slot = next,
+            Next::Ended(r0) => return r0,
+        }
+    }
+}

@@ -1,0 +1,69 @@
+-- What was done, and its frame.
+use Rattle.std.proofs.Common.{◌≡◌, ◌⊎◌, ◌≤◌, ◌+◌, ◌-◌, ℕ, List, [], ◌∷◌, ◌++◌, length, length-append, slice_get, refl, sym, ◌∙◌, ap, subst, arith, nat_eq, if◌then◌else◌, false, Option, Some, None, Result, Ok, Err, OnOk, OnErr, IfOk, IfErr, inl, inr, unwrap_or, Vec}
+use Rattle.std.proofs.lemmas.Bool.Decides.{nat_tests}
+use Rattle.std.specs.declared.alloc.Global.{Global}
+use Rattle.refusal.specs.declared.NoMemory.{NoMemory}
+use Rattle.serde_json.specs.Data.{Data}
+use Rattle.credit_book.specs.declared.book.Report.{Report}
+use Rattle.credit_book.specs.declared.board.Progress.{Progress}
+use Rattle.job_core.specs.Admitted as core
+use Rattle.accounts.specs.declared.fault.DeskFault.{DeskFault}
+use Rattle.accounts.specs.declared.fault.DeskFault.TheVariants as fault
+use Rattle.accounts.specs.declared.tenants.Account.{Account}
+use Rattle.accounts.specs.declared.jobs.JobEntry.{JobEntry}
+use Rattle.accounts.specs.Jobs.{job_at}
+use Rattle.accounts.specs.Ledgers.{Ledger, granted_to, most_granted, GrantsMore, RefusesGrant, Takes, Finishes, IsNotOpen, account_at}
+use Rattle.sessions.specs.Grammar.{Asked}
+use Rattle.sessions.specs.Replies.{reply_data, frame_of}
+use Rattle.streams.specs.Passing.{Passes}
+use Rattle.streams.specs.Answering.{Answers, Framed, Grants, GrantsNone, IsOpenJob, Replies, account_told}
+
+-- a grant is made, or it isn't
+pub granted : (r : Result Account DeskFault) (desk after : Ledger) (name : List ℕ) (amount : ℕ) (told : Data) → told ≡ account_told r →
+    OnOk r (GrantsMore desk name amount after) → IfOk r (λ _. r ≡ account_at after name) → IfErr r (λ e. RefusesGrant desk name amount e) →
+    OnErr r (after ≡ desk) → OnOk r (unwrap_or (granted_to desk name) 0 + amount ≤ most_granted) → Grants desk name amount told after ⊎ GrantsNone desk name amount told after
+granted (Ok a) desk after name amount told tells more is why same within = inl (record { within = within; more = more; account = a; is = sym is; tells = tells })
+granted (Err e) desk after name amount told tells more is why same within = inr (record { fault = e; why = why; same = same; tells = tells })
+
+last_of : (js : List JobEntry) (e : JobEntry) → slice_get (js ++ e ∷ []) (length js) ≡ Some e
+last_of [] e = refl
+last_of (j ∷ js) e = last_of js e
+
+job_last : (js : List JobEntry) (e : JobEntry) (n : ℕ) → n ≡ length (js ++ e ∷ []) → job_at (js ++ e ∷ []) n ≡ Some e
+job_last js e n is =
+    let more : n ≡ length js + 1 = omega (arith, is, length-append js (e ∷ [])) in
+    let some : nat_eq n 0 ≡ false = grind (arith, nat_tests) in
+    let place : n - 1 ≡ length js = omega (arith, more) in
+    ap (λ b. if b then None else slice_get (js ++ e ∷ []) (n - 1)) some ∙ ap (slice_get (js ++ e ∷ [])) place ∙ last_of js e
+
+-- the job that is taken is open
+pub opened : (old new : Ledger) (name : List ℕ) (credit n : ℕ) → Takes old name credit new → n ≡ length new.jobs → IsOpenJob new n
+opened old new name credit n takes is =
+    let jobs = takes.jobs.jobs in
+    let here = job_last old.jobs takes.entry n (is ∙ ap length jobs) in
+    (takes.entry, subst (λ (js : List JobEntry). job_at js n ≡ Some takes.entry) (sym jobs) here, takes.opened)
+
+-- so it is there to be ended
+pub finished : {T : Type 0} (r : Result T DeskFault) (old new : Ledger) (number : ℕ) (outcome : Result Report ℕ) → IsOpenJob old number →
+    OnOk r (Finishes old number outcome new) → IfErr r (λ e. (e ≡ fault.NoJob) × IsNotOpen old number) → Finishes old number outcome new
+finished (Ok x) old new number outcome there done refused = done
+finished (Err e) old new number outcome there done refused = absurd (refused.1 there.0 there.1 there.2)
+
+-- what was done is told by the same frame, in other words
+pub framed_as : (r : Result (Vec ℕ Global) NoMemory) (P Q : Data → Type 0) → ((d : Data) → P d → Q d) → Framed r P → Framed r Q
+framed_as r P Q leads framed = record { told = framed.told; was = leads (reply_data framed.told) framed.was; frame = framed.frame }
+
+module _ {R : Type 0} (starts : R → ℕ → core.Order → Result (Unit {0}) ℕ → R → Type 0) (looks : R → ℕ → Progress → R → Type 0)
+    (takes : R → Option (ℕ × Result Report ℕ) → R → Type 0) (desk : Ledger) (runner : R) (query : Result Asked ℕ) (mid : Ledger) (rest : R)
+    (after : Ledger) (left : R) (passed : Passes takes desk runner mid rest) where
+  pub answered_ok : (r : Result (Vec ℕ Global) NoMemory) → Framed r (λ told. Replies starts looks mid rest query told after left) →
+      IfOk r (λ f. Answers starts looks takes desk runner query f.items after left)
+  answered_ok (Ok f) framed =
+      record { mid = mid; rest = rest; passed = passed; told = framed.told; replies = framed.was; frame = framed.frame }
+  answered_ok (Err e) framed = tt
+
+  pub answered_err : (r : Result (Vec ℕ Global) NoMemory) → Framed r (λ told. Replies starts looks mid rest query told after left) →
+      OnErr r ((reply : List ℕ) × Answers starts looks takes desk runner query reply after left)
+  answered_err (Ok f) framed = tt
+  answered_err (Err e) framed =
+      (frame_of framed.told, record { mid = mid; rest = rest; passed = passed; told = framed.told; replies = framed.was; frame = refl })

@@ -1,0 +1,4 @@
+pub mod Serving
+pub mod Passed
+pub mod Answered
+pub mod EachForm

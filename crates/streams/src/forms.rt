@@ -1,0 +1,149 @@
+//! One answer for each form of request.
+
+ghost use Rattle.std.specs.Prelude.{◌≡◌, ◌⊎◌, ℕ, None, Result};
+ghost use Rattle.credit_book.specs.declared.board.Progress.{Progress};
+ghost use Rattle.accounts.specs.Ledgers.{account_at, progress_at, report_at};
+ghost use Rattle.sessions.specs.Replies.{reply_data};
+ghost use Rattle.sessions.specs.declared.reply.Reply.TheVariants.{Refused};
+ghost use Rattle.streams.specs.Answering.{Framed, Grants, GrantsNone, IsOpenJob, Settles, Submits, account_told, progress_told, report_told};
+
+use crate::runner::Runner;
+use accounts::{Account, Desk, DeskFault};
+use job_core::{Job, ProgramBytes};
+use refusal::NoMemory;
+use sessions::{Reply, reply_frame};
+use std::alloc::Global;
+
+/// A refusal that has a number alone.
+pub fn refused<'a>(code: u8) -> Reply<'a>
+    ensures { result ≡ Refused code None None }
+{
+    Reply::Refused {
+        code,
+        program: None,
+        slot: None,
+    }
+}
+
+// What is told of an account.
+fn account_reply<'a>(account: Result<Account, DeskFault>) -> Reply<'a>
+    ensures { reply_data result ≡ account_told account }
+{
+    match account {
+        Ok(account) => Reply::Account {
+            balance: account.balance,
+            granted: account.granted,
+            opened: account.opened,
+            spent: account.spent,
+        },
+        Err(fault) => refused(fault.code()),
+    }
+}
+
+/// Grants, and tells the account as it is then.
+pub fn answer_grant(
+    alloc: Global,
+    desk: &mut Desk,
+    tenant: &str,
+    amount: u32,
+) -> Result<Vec<u8>, NoMemory>
+    ensures { Framed result (λ told. Grants desk.old tenant.now amount told desk.new ⊎ GrantsNone desk.old tenant.now amount told desk.new) }
+{
+    let account = desk.grant(alloc, tenant, amount);
+    reply_frame(alloc, &account_reply(account))
+}
+
+/// Tells an account.
+pub fn answer_account(alloc: Global, desk: &Desk, tenant: &str) -> Result<Vec<u8>, NoMemory>
+    ensures { Framed result (λ told. told ≡ account_told (account_at desk.now tenant.now)) }
+{
+    reply_frame(alloc, &account_reply(desk.account(tenant)))
+}
+
+// Starts a job that was taken. A start that is refused ends the job with its number.
+fn start_job<N: Runner>(alloc: Global, desk: &mut Desk, runner: &mut N, number: u64, job: Job)
+    requires ready { N.ready runner.old }
+    requires open { IsOpenJob desk.old number }
+    ensures ready { N.ready runner.new }
+    ensures started { (outcome : Result (Unit {0}) ℕ) × N.starts runner.old number job outcome runner.new × Settles desk.old number outcome desk.new }
+{
+    match runner.start(alloc, number, job) {
+        Ok(()) => {}
+        Err(code) => {
+            let _ = desk.finish(number, Err(code));
+        }
+    }
+}
+
+/// Takes a job and starts it, and tells its number. A start that is refused ends the job at once with its number.
+pub fn answer_submit<N: Runner>(
+    alloc: Global,
+    desk: &mut Desk,
+    runner: &mut N,
+    tenant: &str,
+    programs: &[ProgramBytes],
+    credit: u32,
+    buffer: Vec<u8>,
+) -> Result<Vec<u8>, NoMemory>
+    requires { N.ready runner.old }
+    ensures ready { N.ready runner.new }
+    ensures done { Framed result (λ told. Submits N.starts desk.old runner.old tenant.now programs.now credit buffer.items told desk.new runner.new) }
+{
+    match desk.submit(alloc, tenant, programs, credit, buffer) {
+        Ok((number, job)) => {
+            start_job(alloc, desk, runner, number, job);
+            reply_frame(alloc, &Reply::Submit { job: number })
+        }
+        Err(fault) => {
+            let refusal = Reply::Refused {
+                code: fault.code(),
+                program: fault.program(),
+                slot: fault.slot(),
+            };
+            reply_frame(alloc, &refusal)
+        }
+    }
+}
+
+/// Tells how far a job is; while it is open, what the runner's look tells.
+pub fn answer_status<N: Runner>(
+    alloc: Global,
+    desk: &Desk,
+    runner: &mut N,
+    job: u64,
+) -> Result<Vec<u8>, NoMemory>
+    requires { N.ready runner.old }
+    ensures ready { N.ready runner.new }
+    ensures done { Framed result (λ told. (seen : Progress) × N.looks runner.old job seen runner.new × (told ≡ progress_told (progress_at desk.now job seen))) }
+{
+    let seen = runner.look(job);
+    match desk.status(job, seen) {
+        Ok(progress) => {
+            let status = Reply::Status {
+                complete: progress.complete,
+                returned: progress.returned,
+                spent: progress.spent,
+            };
+            reply_frame(alloc, &status)
+        }
+        Err(fault) => reply_frame(alloc, &refused(fault.code())),
+    }
+}
+
+/// Tells what a job came to.
+pub fn answer_result(alloc: Global, desk: &Desk, job: u64) -> Result<Vec<u8>, NoMemory>
+    ensures { Framed result (λ told. told ≡ report_told (report_at desk.now job)) }
+{
+    match desk.result(job) {
+        Ok(report) => {
+            let result = Reply::Result {
+                buffer: &report.buffer,
+                returned: report.returned,
+                spent: report.spent,
+                tasks: &report.tasks,
+            };
+            reply_frame(alloc, &result)
+        }
+        Err(fault) => reply_frame(alloc, &refused(fault.code())),
+    }
+}

@@ -1,0 +1,32 @@
+//! What answers the requests of a stream.
+
+ghost use Rattle.std.specs.Prelude.{ℕ, List, Result, IfOk, OnErr};
+ghost use Rattle.sessions.specs.Grammar.{Asked};
+ghost use Rattle.streams.specs.Hearing.{query_of};
+
+use refusal::NoMemory;
+use sessions::Request;
+use std::alloc::Global;
+
+/// What answers a request, on a desk.
+pub trait Handler<D> {
+    // It may be called.
+    ghost ready: { Self → Type 0 };
+
+    // From a desk and a handler, for what a frame asks or the number of its refusal, the reply and the
+    // desk and the handler after it.
+    ghost answers: { D × Self → Result Asked ℕ → List ℕ → D × Self → Type 0 };
+
+    /// Answers what a frame asks, or the number of its refusal. Where the reply finds no memory, the
+    /// request was still carried out.
+    fn answer(
+        &mut self,
+        alloc: Global,
+        desk: &mut D,
+        request: Result<Request, u8>,
+    ) -> Result<Vec<u8>, NoMemory>
+        requires { ready self.old }
+        ensures ready { ready self.new }
+        ensures ok { IfOk result (λ reply. answers (desk.old, self.old) (query_of request) reply.items (desk.new, self.new)) }
+        ensures err { OnErr result ((reply : List ℕ) × answers (desk.old, self.old) (query_of request) reply (desk.new, self.new)) };
+}

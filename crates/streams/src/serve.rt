@@ -1,0 +1,210 @@
+//! Answers each frame of a source by one reply to a sink.
+
+ghost use Rattle.std.specs.Prelude.{◌≡◌, ◌≢◌, ◌<◌, ◌++◌, ◌+◌, ◌-◌, ◌^◌, ℕ, List, true, false, take, min, if◌then◌else◌, IsTrue, OnOk, OnErr, IfOk, IfErr, None, Err, Result};
+ghost use Rattle.sessions.specs.Frames.{front, partial, too_large};
+ghost use Rattle.sessions.specs.Session.{unread, ended_by};
+ghost use Rattle.streams.specs.Serves.{Serves};
+ghost use Rattle.streams.specs.Stops.{IsServed, IsStopped, too_large_reply};
+ghost use Rattle.streams.specs.Hearing.{HearsFront, query_of};
+
+use crate::ends::{Sink, Source, write_all};
+use crate::fault::StreamFault;
+use crate::handler::Handler;
+use refusal::NoMemory;
+use sessions::{Reply, Request, Session, SessionFault, reply_frame};
+use std::alloc::Global;
+
+// The most bytes that a read asks for.
+const PIECE_LEN: usize = 4096;
+
+// What is heard at the front of a stream.
+#[derive(Drop)]
+enum Heard {
+    Waiting,
+    TooLarge,
+    Question(Result<Request, u8>),
+}
+
+fn hear(alloc: Global, session: &mut Session) -> Result<Heard, NoMemory>
+    requires { ended_by session.old ≡ None }
+    ensures heard { IfOk result (λ heard. HearsFront heard (unread session.old) (unread session.new)) }
+    ensures well { IfOk result (λ heard. heard ≢ Heard.TooLarge → ended_by session.new ≡ None) }
+{
+    match session.next_request(alloc) {
+        Ok(None) => Ok(Heard::Waiting),
+        Ok(Some(request)) => Ok(Heard::Question(Ok(request))),
+        Err(SessionFault::FrameTooLarge) => Ok(Heard::TooLarge),
+        Err(SessionFault::NoMemory) => Err(NoMemory),
+        Err(SessionFault::NotJson) => Ok(Heard::Question(Err(SessionFault::NotJson.code()))),
+        Err(SessionFault::BadRequest) => Ok(Heard::Question(Err(SessionFault::BadRequest.code()))),
+    }
+}
+
+// Answers one frame.
+fn answer_one<W: Sink, D, H: Handler<D>>(
+    alloc: Global,
+    writer: &mut W,
+    desk: &mut D,
+    handler: &mut H,
+    request: Result<Request, u8>,
+) -> Result<(), StreamFault>
+    requires sink { W.has_failed writer.old ≡ false }
+    requires ready { H.ready handler.old }
+    ensures ready { H.ready handler.new }
+    ensures ok { OnOk result ((reply : List ℕ) × H.answers (desk.old, handler.old) (query_of request) reply (desk.new, handler.new)
+        × (W.told writer.new ≡ W.told writer.old ++ reply)) }
+    ensures err { OnErr result ((reply : List ℕ) × (n : ℕ) × H.answers (desk.old, handler.old) (query_of request) reply (desk.new, handler.new)
+        × (W.told writer.new ≡ W.told writer.old ++ take n reply)) }
+    ensures well { OnOk result (W.has_failed writer.new ≡ false) }
+    ensures write_failed { result ≡ Err StreamFault.WriteFailed → W.has_failed writer.new ≡ true }
+    ensures no_other { result ≢ Err StreamFault.ReadFailed }
+{
+    let reply = handler.answer(alloc, desk, request)?;
+    match write_all(writer, &reply) {
+        Ok(()) => Ok(()),
+        Err(_) => Err(StreamFault::WriteFailed),
+    }
+}
+
+// Answers each whole frame. `false`: a length is over the limit.
+fn answer_frames<W: Sink, D, H: Handler<D>>(
+    alloc: Global,
+    session: &mut Session,
+    writer: &mut W,
+    desk: &mut D,
+    handler: &mut H,
+    number: &mut u64,
+) -> Result<bool, StreamFault>
+    requires counts { number.old < 2 ^ 64 }
+    requires well { ended_by session.old ≡ None }
+    requires sink { W.has_failed writer.old ≡ false }
+    requires ready { H.ready handler.old }
+    ensures ready { H.ready handler.new }
+    ensures served { IfOk result (λ _. (count : ℕ) × Serves H.answers (desk.old, handler.old) (unread session.old) (W.told writer.old) count (desk.new, handler.new) (unread session.new) (W.told writer.new)
+        × (number.new ≡ min (number.old + count) (2 ^ 64 - 1))) }
+    ensures left { IfOk result (λ goes_on. front (unread session.new) ≡ (if goes_on then partial else too_large)) }
+    ensures stopped { OnErr result (IsStopped H.answers (desk.old, handler.old) (unread session.old) (W.told writer.old) (desk.new, handler.new) (W.told writer.new)) }
+    ensures well { OnOk result (W.has_failed writer.new ≡ false) }
+    ensures goes_on { IfOk result (λ goes_on. IsTrue goes_on → ended_by session.new ≡ None) }
+    ensures write_failed { result ≡ Err StreamFault.WriteFailed → W.has_failed writer.new ≡ true }
+    ensures no_other { result ≢ Err StreamFault.ReadFailed }
+{
+    'frames: loop {
+        let request = match hear(alloc, session)? {
+            Heard::Waiting => return Ok(true),
+            Heard::TooLarge => return Ok(false),
+            Heard::Question(request) => request,
+        };
+        answer_one(alloc, writer, desk, handler, request)?;
+        *number = number.saturating_add(1);
+    }
+}
+
+// Takes a piece that came, and answers each frame that is whole now. `false`: a length is over the limit.
+fn take_piece<W: Sink, D, H: Handler<D>>(
+    alloc: Global,
+    session: &mut Session,
+    piece: &[u8],
+    writer: &mut W,
+    desk: &mut D,
+    handler: &mut H,
+    number: &mut u64,
+) -> Result<bool, StreamFault>
+    requires counts { number.old < 2 ^ 64 }
+    requires well { ended_by session.old ≡ None }
+    requires sink { W.has_failed writer.old ≡ false }
+    requires ready { H.ready handler.old }
+    ensures ready { H.ready handler.new }
+    ensures served { IfOk result (λ _. (count : ℕ) × Serves H.answers (desk.old, handler.old) (unread session.old ++ piece.now) (W.told writer.old) count (desk.new, handler.new) (unread session.new) (W.told writer.new)
+        × (number.new ≡ min (number.old + count) (2 ^ 64 - 1))) }
+    ensures left { IfOk result (λ goes_on. front (unread session.new) ≡ (if goes_on then partial else too_large)) }
+    ensures stopped { OnErr result (IsStopped H.answers (desk.old, handler.old) (unread session.old ++ piece.now) (W.told writer.old) (desk.new, handler.new) (W.told writer.new)) }
+    ensures well { OnOk result (W.has_failed writer.new ≡ false) }
+    ensures goes_on { IfOk result (λ goes_on. IsTrue goes_on → ended_by session.new ≡ None) }
+    ensures write_failed { result ≡ Err StreamFault.WriteFailed → W.has_failed writer.new ≡ true }
+    ensures no_other { result ≢ Err StreamFault.ReadFailed }
+{
+    match session.feed(piece) {
+        Ok(()) => answer_frames(alloc, session, writer, desk, handler, number),
+        Err(_) => Err(StreamFault::NoMemory),
+    }
+}
+
+// Answers a length over the limit.
+fn refuse_length<W: Sink>(alloc: Global, writer: &mut W) -> Result<(), StreamFault>
+    requires { W.has_failed writer.old ≡ false }
+    ensures ok { OnOk result (W.told writer.new ≡ W.told writer.old ++ too_large_reply) }
+    ensures err { OnErr result ((n : ℕ) × (W.told writer.new ≡ W.told writer.old ++ take n too_large_reply)) }
+    ensures well { OnOk result (W.has_failed writer.new ≡ false) }
+    ensures write_failed { result ≡ Err StreamFault.WriteFailed → W.has_failed writer.new ≡ true }
+    ensures no_other { result ≢ Err StreamFault.ReadFailed }
+{
+    let refusal = Reply::Refused {
+        code: 71,
+        program: None,
+        slot: None,
+    };
+    let reply = match reply_frame(alloc, &refusal) {
+        Ok(reply) => reply,
+        Err(NoMemory) => return Err(StreamFault::NoMemory),
+    };
+    match write_all(writer, &reply) {
+        Ok(()) => Ok(()),
+        Err(_) => Err(StreamFault::WriteFailed),
+    }
+}
+
+/// Answers the frames of all that the reader gives, in order, each by one reply, and tells how many. Those that are answered 72 or 73
+/// count; the number stays at `2^64 - 1`.
+///
+/// It reads pieces of at most 4,096 bytes up to the end of input, at most `2^64 - 1` of them. A last frame that is cut short is answered
+/// by nothing. A length over the limit is answered 71, once, which isn't counted, and nothing more is read.
+///
+/// 83 where the reader failed, 84 where the writer failed, and 99 where a piece, a frame or a reply found no memory. What was written is
+/// then a beginning of the replies, and the desk is that after the requests that were read so far.
+pub fn serve_stream<R: Source, W: Sink, D, H: Handler<D>>(
+    alloc: Global,
+    reader: &mut R,
+    writer: &mut W,
+    desk: &mut D,
+    handler: &mut H,
+) -> Result<u64, StreamFault>
+    requires source { R.has_failed reader.old ≡ false }
+    requires sink { W.has_failed writer.old ≡ false }
+    requires ready { H.ready handler.old }
+    ensures ready { H.ready handler.new }
+    ensures served { IfOk result (λ number. (all : List ℕ) × (R.told reader.new ≡ R.told reader.old ++ all)
+        × IsServed H.answers (desk.old, handler.old) all (W.told writer.old) (R.is_over reader.new ≡ true) (desk.new, handler.new) number (W.told writer.new)) }
+    ensures stopped { OnErr result ((all : List ℕ) × (R.told reader.new ≡ R.told reader.old ++ all)
+        × IsStopped H.answers (desk.old, handler.old) all (W.told writer.old) (desk.new, handler.new) (W.told writer.new)) }
+    ensures read_failed { result ≡ Err StreamFault.ReadFailed → R.has_failed reader.new ≡ true }
+    ensures write_failed { result ≡ Err StreamFault.WriteFailed → W.has_failed writer.new ≡ true }
+    ensures well { OnOk result ((R.has_failed reader.new ≡ false) × (W.has_failed writer.new ≡ false)) }
+{
+    let mut session = Session::new(alloc);
+    let mut piece = [0u8; PIECE_LEN];
+    let mut number = 0;
+    'reads: for _ in 0..u64::MAX {
+        let count = match reader.read(&mut piece) {
+            Ok(count) => count,
+            Err(_) => return Err(StreamFault::ReadFailed),
+        };
+        if count == 0 {
+            return Ok(number);
+        }
+        let goes_on = take_piece(
+            alloc,
+            &mut session,
+            &piece[..count],
+            writer,
+            desk,
+            handler,
+            &mut number,
+        )?;
+        if !goes_on {
+            refuse_length(alloc, writer)?;
+            return Ok(number);
+        }
+    }
+    Ok(number)
+}

@@ -1,0 +1,87 @@
+//! A source or a sink of a std reader or writer.
+
+use crate::{Failed, Sink, Source};
+use std::io::{Read, Write};
+use traces::Told;
+
+/// A reader or a writer, with what went through it.
+///
+/// Its read fails where that of the reader gives an error, its write where that of the writer gives an error or takes no byte of a piece
+/// that isn't empty. Neither is tried again.
+#[derive(Drop)]
+pub struct Tap<T> {
+    inner: T,
+    told: Told,
+    has_failed: bool,
+    is_over: bool,
+}
+
+impl<T: Drop> Tap<T> {
+    ghost use Rattle.std.specs.Prelude.{◌≡◌, [], false};
+
+    /// An end that nothing went through.
+    pub fn new(inner: T) -> Tap<T>
+        ensures inner { result.inner ≡ inner }
+        ensures told { result.told.bytes ≡ [] }
+        ensures well { result.has_failed ≡ false }
+    {
+        Tap {
+            inner,
+            told: Told::new(),
+            has_failed: false,
+            is_over: false,
+        }
+    }
+
+    /// The reader or the writer itself.
+    pub fn into_inner(self) -> T
+        ensures { result ≡ self.inner }
+    {
+        let Tap { inner, .. } = self;
+        inner
+    }
+}
+
+impl<T: Read> Source for Tap<T> {
+    ghost told = { λ t. t.told.bytes };
+
+    ghost has_failed = { λ t. t.has_failed };
+
+    ghost is_over = { λ t. t.is_over };
+
+    fn read(&mut self, piece: &mut [u8]) -> Result<usize, Failed> {
+        match self.inner.read(piece) {
+            Ok(count) => {
+                self.told = self.told.then(&piece[..count]);
+                self.is_over = count == 0;
+                Ok(count)
+            }
+            Err(_) => {
+                self.has_failed = true;
+                Err(Failed)
+            }
+        }
+    }
+}
+
+impl<T: Write> Sink for Tap<T> {
+    ghost told = { λ t. t.told.bytes };
+
+    ghost has_failed = { λ t. t.has_failed };
+
+    fn write(&mut self, piece: &[u8]) -> Result<usize, Failed> {
+        let count = match self.inner.write(piece) {
+            Ok(count) => count,
+            Err(_) => {
+                self.has_failed = true;
+                return Err(Failed);
+            }
+        };
+        if count == 0 && !piece.is_empty() {
+            self.has_failed = true;
+            return Err(Failed);
+        }
+        self.told = self.told.then(&piece[..count]);
+        Ok(count)
+    }
+}

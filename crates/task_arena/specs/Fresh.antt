@@ -1,0 +1,21 @@
+-- What a call on a fresh frame is.
+use Rattle.std.specs.Prelude.{◌≡◌, replicate}
+use denote.Param.Members.{Once}
+use denote.Ref.{MutBor}
+use Rattle.interpreter.specs.declared.frame.Frame.{Frame}
+
+-- a frame of zeros
+abbrev pub zeroed : Frame
+zeroed = record { words = replicate 11 0; stack = replicate 512 0; slot = 0 }
+
+module _ {F T R : Type 0} (g : Once F (MutBor Frame × (T × Unit {0})) (R × (MutBor Frame × Unit {0}))) (f : F) (task : T) where
+  -- f may be called on any frame of zeros and the task
+  abbrev pub TakesFresh : Type 0
+  TakesFresh = (frame : MutBor Frame) → frame.now ≡ zeroed → g.pre f (frame, (task, tt))
+
+  -- r is what f may answer on a frame of zeros and the task
+  pub record AnswersFresh (r : R) : Type 0 where
+    pub frame : MutBor Frame
+    pub is_zeroed : frame.now ≡ zeroed
+    pub left : MutBor Frame
+    pub answered : g.post f (frame, (task, tt)) (r, (left, tt))

@@ -1,0 +1,13 @@
+use Rattle.std.proofs.Common.{◌≡◌, ◌+◌, ◌-◌, ◌++◌, ◌∷◌, [], ◌∙◌, ℕ, List, Option, ap, arith, replicate, Some, None}
+use Rattle.std.proofs.lemmas.List.{replicate_more}
+use Rattle.verifier.specs.declared.state.State.{State}
+use Rattle.verifier.specs.States.{entry_state}
+use Rattle.verifier.proofs.states.places.Goals as goal
+
+pub loop-slot-preserved : goal.loop-slot-preserved
+loop-slot-preserved c =
+    let same : c.loop-slot.slot - 1 + 1 ≡ c.loop-slot.slot + 1 - 1 = omega (arith, c.if-prove.false) in
+    c.in_ok-push-2.ensures.items
+    ∙ (ap (λ (xs : List (Option State)). xs ++ None ∷ []) c.loop-slot.invariant
+    ∙ ap (λ (xs : List (Option State)). Some (entry_state c.args.need) ∷ xs)
+    (replicate_more {X = Option State} (c.loop-slot.slot - 1) None ∙ ap (λ (k : ℕ). replicate {A = Option State} k None) same))

@@ -1,0 +1,6 @@
+use Rattle.std.proofs.Common.{◌≡◌, ◌-◌, ◌∷◌, replicate, Some, None}
+use Rattle.verifier.specs.States.{entry_state}
+use Rattle.verifier.proofs.states.places.Given as goal
+
+abbrev pub invariant-loop-slot : goal.invariant-loop-slot
+invariant-loop-slot l = l.states.items ≡ Some (entry_state l.need) ∷ replicate (l.slot - 1) None

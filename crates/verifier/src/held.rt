@@ -1,0 +1,65 @@
+//! A state that is needed further.
+
+ghost use Rattle.std.specs.Prelude.{◌≡◌, IfOk, if◌then◌else◌};
+ghost use Rattle.machine_model.specs.Edges.{NotTaken, Taken};
+ghost use Rattle.verifier.specs.Joining.{come_to};
+ghost use Rattle.verifier.specs.Judged.{left_by};
+ghost use Rattle.verifier.specs.States.{joined_state, passed};
+
+use crate::passing::pass;
+use crate::state::State;
+use insn_codec::Insn;
+use refusal::NoMemory;
+use std::alloc::Global;
+use std::marker::Model;
+use value_ranges::Abs;
+
+/// A state that is handed on from slot to slot, in a box.
+#[derive(Drop)]
+pub(crate) struct Held {
+    state: Box<State>,
+}
+
+impl Model for Held {
+    ghost use Rattle.verifier.specs.declared.state.State.{State};
+
+    ghost Value = { State };
+
+    ghost view = { λ h. h.state.value };
+}
+
+impl Held {
+    /// The state, in memory of its own.
+    pub(crate) fn new(alloc: Global, state: &State) -> Result<Held, NoMemory>
+        ensures { IfOk result (λ held. held ≡ state.now) }
+    {
+        Ok(Held {
+            state: Box::new(alloc, *state)?,
+        })
+    }
+
+    /// The state.
+    pub(crate) fn get(&self) -> &State
+        ensures { result.now ≡ self.now }
+    {
+        &self.state
+    }
+
+    /// It becomes what is known behind an instruction.
+    pub(crate) fn pass(&mut self, insn: &Insn, taken: bool, left: &Abs)
+        requires { left.now ≡ left_by insn.now self.old }
+        ensures { self.new ≡ passed insn.now (if taken then Taken else NotTaken) self.old }
+    {
+        pass(&mut self.state, insn, taken, left);
+    }
+
+    /// It comes to a place, besides what came before.
+    pub(crate) fn come(self, place: &mut Option<Held>)
+        ensures { place.new ≡ come_to place.old self }
+    {
+        match place {
+            Some(before) => before.state.join(&self.state),
+            None => *place = Some(self),
+        }
+    }
+}

@@ -1,0 +1,7 @@
+use Rattle.std.proofs.Common.{◌≡◌, ◌+◌, ◌≤◌, All, vec_len, vec_capacity}
+use Rattle.std.specs.Vec.Iter.{into_iter_len}
+use Rattle.workers.proofs.pool.run_all.Given as goal
+
+abbrev pub invariant-loop-watch : goal.invariant-loop-watch
+invariant-loop-watch g l =
+    All (λ h. h.promise.0.now ≡ l.shared) l.threads.items × (vec_len l.threads + into_iter_len l.watch-iterator ≤ vec_capacity l.threads)

@@ -1,0 +1,4 @@
+pub mod Outcomes
+pub mod PoolFaultCodes
+pub mod Final
+pub mod Noted

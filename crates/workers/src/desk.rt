@@ -1,0 +1,99 @@
+//! What lies under the lock of a job: its book, and whether this has refused an end.
+
+ghost use Rattle.std.specs.Prelude.{◌≡◌, ◌++◌, ◌∷◌, [], IfOk, IfErr, IfSome, IfNone, length, true, false, MatchResult, MatchBool};
+ghost use Rattle.credit_book.specs.History.{IsComplete, table_of};
+ghost use Rattle.workers.specs.Final.{IsFinal};
+ghost use Rattle.workers.specs.declared.fault.PoolFault.TheVariants.{BookRefused};
+
+use crate::fault::PoolFault;
+use credit_book::{Book, Outcome, Refused, Report, Ticket};
+use helpers::SpawnRecord;
+
+/// The book of a job, and whether it has refused an end.
+#[derive(Drop)]
+pub(crate) struct Desk {
+    book: Book,
+    has_refused: bool,
+}
+
+/// What a worker finds.
+#[derive(Drop)]
+pub(crate) enum Found {
+    /// A task that is ready.
+    Ready(Ticket),
+    /// None is ready now.
+    Nothing,
+    /// The book has refused an end, and workers leave.
+    Refusal,
+}
+
+impl Desk {
+    /// The desk of a book that was just opened, whose root's ticket is parked.
+    pub fn open(book: Book, root: Ticket) -> Desk {
+        let mut desk = Desk {
+            book,
+            has_refused: false,
+        };
+        desk.park(root);
+        desk
+    }
+
+    /// Parks a ticket.
+    fn park(&mut self, ticket: Ticket) {
+        if self.book.park(ticket).is_err() {
+            self.has_refused = true;
+        }
+    }
+
+    /// Spawns a child of the parent, and parks its ticket; or gives the record back as it was.
+    pub fn spawn(&mut self, parent: u32, child: SpawnRecord) -> Result<(), SpawnRecord>
+        ensures { IfErr result (λ back. (back ≡ child) × (self.new ≡ self.old)) }
+    {
+        match self.book.spawn(parent, child) {
+            Ok(ticket) => {
+                self.park(ticket);
+                Ok(())
+            }
+            Err(Refused { fault: _, value }) => Err(value),
+        }
+    }
+
+    /// The ticket that was parked first, if the book has refused no end.
+    pub fn claim(&mut self) -> Found {
+        if self.has_refused {
+            return Found::Refusal;
+        }
+        match self.book.claim() {
+            Some(ticket) => Found::Ready(ticket),
+            None => Found::Nothing,
+        }
+    }
+
+    /// Ends a task.
+    pub fn end(&mut self, outcome: Outcome) {
+        if self.book.end(outcome).is_err() {
+            self.has_refused = true;
+        }
+    }
+
+    /// The report of a job with this number, this credit and this many bytes, once no task is alive: 82 where the book has refused an
+    /// end, a task is alive, or the job is another.
+    pub fn close(self, job: u64, issued: u32, size: usize) -> Result<Report, PoolFault>
+        ensures report { IfOk result (λ report. IsFinal job issued size report) }
+        ensures refused { IfErr result (λ fault. (fault ≡ BookRefused) × (self.has_refused ≡ false → self.book.board.job ≡ job →
+            self.book.board.issued ≡ issued → self.book.size ≡ size → IsComplete (table_of self.book.history) → ⊥)) }
+    {
+        let Desk { book, has_refused } = self;
+        if has_refused || book.job() != job || book.issued() != issued {
+            return Err(PoolFault::BookRefused);
+        }
+        let Ok(report) = book.close() else {
+            return Err(PoolFault::BookRefused);
+        };
+        let bytes: &[u8] = &report.buffer;
+        if bytes.len() != size {
+            return Err(PoolFault::BookRefused);
+        }
+        Ok(report)
+    }
+}

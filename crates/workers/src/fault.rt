@@ -1,0 +1,47 @@
+//! Why a job gave no report.
+
+ghost use Rattle.std.specs.Prelude.{◌≡◌};
+ghost use Rattle.workers.specs.PoolFaultCodes.{number_of};
+
+use refusal::NoMemory;
+use std::alloc::AllocError;
+use thiserror::Error;
+
+/// Why a job gave no report.
+#[derive(Clone, Copy, Debug, PartialEq, Eq, Error)]
+pub enum PoolFault {
+    /// No thread could be started: 81.
+    #[error("no worker could be started")]
+    NoWorker,
+    /// The book refused an end, or what was closed isn't the job's: 82.
+    #[error("the book refused an end, or is another job's")]
+    BookRefused,
+    /// A growth was refused: 99.
+    #[error("out of memory")]
+    NoMemory,
+}
+
+impl PoolFault {
+    /// The number of the refusal.
+    pub fn code(&self) -> u8
+        ensures { result ≡ number_of self.now }
+    {
+        match self {
+            PoolFault::NoWorker => 81,
+            PoolFault::BookRefused => 82,
+            PoolFault::NoMemory => 99,
+        }
+    }
+}
+
+impl From<NoMemory> for PoolFault {
+    fn from(_error: NoMemory) -> PoolFault {
+        PoolFault::NoMemory
+    }
+}
+
+impl From<AllocError> for PoolFault {
+    fn from(_error: AllocError) -> PoolFault {
+        PoolFault::NoMemory
+    }
+}

@@ -1,0 +1,24 @@
+//! A pool of workers that run the tasks of one job.
+#![tactic(auto)]
+
+// one task, without a thread
+mod gate;
+mod outcome;
+mod work;
+
+pub use gate::{Gate, OpenGate};
+pub use outcome::unrun;
+pub use work::{entry_in, work_one};
+
+// what lies under the job's lock
+mod desk;
+mod fault;
+mod noting;
+
+pub use fault::PoolFault;
+
+// the threads
+mod pool;
+mod watch;
+
+pub use pool::run_job;

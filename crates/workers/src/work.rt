@@ -1,0 +1,123 @@
+//! One task, from its ticket to its outcome.
+
+ghost use Rattle.std.specs.Prelude.{◌≡◌, ◌≤◌, ◌^◌, ◌<◌, ◌↔◌, IsTrue, IsSome, length, map};
+ghost use Rattle.machine_model.specs.Job.{entries_of};
+ghost use Rattle.helpers.specs.Table.{job_table};
+ghost use Rattle.helpers.specs.declared.spawner.SpawnRecord.{SpawnRecord};
+ghost use Rattle.verifier.specs.Checked.{program_of, IsVerified};
+ghost use Rattle.job_core.specs.Admitted.{AreOwn};
+ghost use Rattle.task_arena.specs.Fresh.{zeroed};
+ghost use Rattle.solo.specs.Through.{GoesThrough};
+ghost use Rattle.workers.specs.Outcomes.{IsOutcome, IsRunBy, Suffices};
+
+use crate::gate::Gate;
+use crate::outcome::unrun;
+use credit_book::{Outcome, Ticket};
+use helpers::{Entry, Spawner};
+use interpreter::{Credit, Frame};
+use solo::run_to_end;
+use std::alloc::Global;
+use task_arena::Frames;
+use verifier::Verified;
+
+/// What a spawn has to know of the program of this number, if the list has it. It asks for at most 65,536 programs.
+pub fn entry_in(programs: &[Verified], program: u64) -> Option<Entry>
+    requires { length programs.now ≤ 65536 }
+    ensures entry { result ≡ entries_of (map program_of programs.now) program }
+    ensures few { IsSome result → program < 2 ^ 16 }
+{
+    let code = programs.get(program as usize)?;
+    let need = code.need();
+    Some(Entry {
+        cost: code.cost(),
+        need,
+    })
+}
+
+/// Whether the credit and the part of the ticket's task suffice for its program.
+fn suffices(code: &Verified, ticket: &Ticket) -> bool
+    ensures value { IsTrue result ↔ Suffices code.now ticket.now }
+    ensures verified { IsVerified code.now }
+{
+    let need = code.need() as usize;
+    code.cost() <= ticket.held() && ticket.held() <= 2_147_483_647 && need <= ticket.part().len()
+}
+
+/// Runs the ticket's task on a frame of zeros, and hands the spawner back.
+fn run_ticket<'c, 's, 'g, S: Spawner, G: Gate>(
+    frame: &mut Frame,
+    task: (Ticket, &'c Verified, &'s mut S, &'g G, Global),
+) -> (Outcome, &'s mut S)
+    requires zeroed { frame.old ≡ zeroed }
+    requires verified { IsVerified task.1.now }
+    requires own { task.1.now.helpers ≡ job_table }
+    requires suffices { Suffices task.1.now task.0 }
+    requires takes_any { (s : S) (child : SpawnRecord) → S.asks s child }
+    ensures alone { IsRunBy task.entry.1.now (S.entries task.entry.2.now) task.entry.0
+        (λ asked. GoesThrough S.spawns task.entry.0.part.base task.entry.2.now asked result.1.now) result.0 }
+    ensures entries { S.entries result.1.now ≡ S.entries task.entry.2.now }
+    ensures same { result.1.ghost_name ≡ task.entry.2.ghost_name }
+{
+    let (ticket, code, spawner, gate, alloc) = task;
+    let (job, number) = (ticket.job(), ticket.number());
+    gate.before(number);
+    frame.enter(ticket.part().len() as u32, ticket.arg());
+    let mut credit = Credit {
+        held: ticket.held(),
+        used: 0,
+    };
+    let mut part = ticket.into_part();
+    let r0 = run_to_end(alloc, frame, code, &mut part, &mut credit, spawner);
+    gate.after(number);
+    let outcome = Outcome {
+        job,
+        number,
+        used: credit.used,
+        r0,
+        ran: true,
+        part,
+    };
+    (outcome, spawner)
+}
+
+/// Runs the ticket's task to its end, by itself, on a frame of zeros, or not at all.
+///
+/// It isn't run where no frame can be had, or where the list has no program of its number, its credit is under the program's cost or
+/// over 2,147,483,647, or its part is shorter than the program's need. It asks for programs that may call a job's helpers alone, and for a
+/// spawner that takes any record and knows the programs of the list.
+pub fn work_one<S: Spawner, G: Gate>(
+    alloc: Global,
+    ticket: Ticket,
+    programs: &[Verified],
+    spawner: &mut S,
+    frames: &mut Frames,
+    gate: &G,
+) -> Outcome
+    requires own { AreOwn programs.now }
+    requires knows { S.entries spawner.old ≡ entries_of (map program_of programs.now) }
+    requires takes_any { (s : S) (child : SpawnRecord) → S.asks s child }
+    ensures outcome { IsOutcome programs.now ticket (λ asked. GoesThrough S.spawns ticket.part.base spawner.old asked spawner.new)
+        (spawner.new ≡ spawner.old) result }
+    ensures entries { S.entries spawner.new ≡ S.entries spawner.old }
+{
+    let Some(code) = programs.get(ticket.program() as usize) else {
+        return unrun(ticket);
+    };
+    if !suffices(code, &ticket) {
+        return unrun(ticket);
+    }
+    match frames.with_frame(
+        ticket.job(),
+        (ticket, code, spawner, gate, alloc),
+        run_ticket,
+    ) {
+        Ok((outcome, back)) => {
+            let _ = back;
+            outcome
+        }
+        Err((ticket, _, back, _, _)) => {
+            let _ = back;
+            unrun(ticket)
+        }
+    }
+}
