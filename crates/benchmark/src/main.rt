@@ -3,12 +3,14 @@
 #![tactic(auto)]
 
 mod book_timing;
+mod pool_timing;
 mod protocol_timing;
 mod results;
 mod scenario;
 mod single;
 mod timing;
 
+use pool_timing::print_pool_times;
 use results::print_results;
 use std::env;
 use std::process::ExitCode;
@@ -23,7 +25,10 @@ fn main(rt: HostRuntime) -> anyhow::Result<ExitCode> {
     let mut output = rt.stdout();
     match words.as_slice() {
         [] => print_results(alloc, &mut output)?,
-        [word] if word.as_str() == "time" => print_times(&rt, alloc, &mut output)?,
+        [word] if word.as_str() == "time" => {
+            print_times(&rt, alloc, &mut output)?;
+            print_pool_times(&rt, alloc, &mut output)?;
+        }
         _ => return Ok(ExitCode::from(2)),
     }
     Ok(ExitCode::SUCCESS)

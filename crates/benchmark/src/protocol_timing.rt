@@ -11,12 +11,13 @@ use std::time::{Duration, Instant};
 /// How often each load is read.
 const ROUNDS: u32 = 50;
 
-/// A request's text, and how often it comes.
+/// A request's text, how often it comes, and whether it is answered too.
 #[derive(Drop)]
 struct Load {
     name: &'static str,
     text: Vec<u8>,
     times: u32,
+    is_answered: bool,
 }
 
 /// The load as one stream of frames.
@@ -45,15 +46,16 @@ fn answer(alloc: Global, desk: &mut Desk, request: &Request) -> anyhow::Result<(
     Ok(())
 }
 
-/// Reads and answers a stream that comes in pieces of 4,096 bytes.
-fn serve(alloc: Global, stream: &[u8]) -> anyhow::Result<()> {
+/// Reads a stream that comes in pieces of 4,096 bytes, and answers it if that is wanted.
+fn serve(alloc: Global, stream: &[u8], is_answered: bool) -> anyhow::Result<()> {
     let mut session = Session::new(alloc);
     let mut desk = Desk::new(alloc);
     for piece in stream.chunks(4096) {
         session.feed(piece)?;
         for _ in 0..piece.len() {
             match session.next_request(alloc)? {
-                Some(request) => answer(alloc, &mut desk, &request)?,
+                Some(request) if is_answered => answer(alloc, &mut desk, &request)?,
+                Some(_) => {}
                 None => break,
             }
         }
@@ -67,7 +69,7 @@ fn served<C: Clock>(clock: &C, alloc: Global, load: &Load) -> anyhow::Result<Dur
     let mut quickest = Duration::MAX;
     for _ in 0..ROUNDS {
         let start = Instant::now(clock)?;
-        serve(alloc, &stream)?;
+        serve(alloc, &stream, load.is_answered)?;
         quickest = quickest.min(start.elapsed(clock)?);
     }
     Ok(quickest)
@@ -137,22 +139,31 @@ pub fn print_protocol_times<C: Clock, W: Write>(
     alloc: Global,
     output: &mut W,
 ) -> anyhow::Result<()> {
-    let grant = text_of(alloc, "{\"op\":\"grant\",\"tenant\":\"t\",\"amount\":100}")?;
+    let grant = "{\"op\":\"grant\",\"tenant\":\"t\",\"amount\":100}";
     for load in [
         Load {
             name: "grant",
-            text: grant,
+            text: text_of(alloc, grant)?,
             times: 1000,
+            is_answered: false,
+        },
+        Load {
+            name: "grant, answered",
+            text: text_of(alloc, grant)?,
+            times: 1000,
+            is_answered: true,
         },
         Load {
             name: "submit of 8 bytes",
             text: submit(alloc, 8)?,
             times: 1000,
+            is_answered: false,
         },
         Load {
             name: "submit of 65536 bytes",
             text: submit(alloc, 65536)?,
             times: 10,
+            is_answered: false,
         },
     ] {
         print_load(clock, alloc, output, &load)?;

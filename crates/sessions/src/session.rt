@@ -76,7 +76,8 @@ fn lasting(fault: SessionFault) -> Option<SessionFault>
 
 /// Takes a stream in pieces of any size, and gives its requests in order.
 ///
-/// Each byte is copied when it comes, and again where the buffer grows to twice its size.
+/// Each byte is copied when it comes, and once more at most, where room is made for the rest of its frame, if [`Session::next_request`] is called
+/// after each piece.
 #[derive(Drop)]
 pub struct Session {
     buffer: BytesMut,
@@ -130,6 +131,22 @@ impl Session {
         }
     }
 
+    // Room for the rest of the frame that stands first, so that the buffer doesn't grow piece by piece. It grows so where there is no memory for it.
+    fn make_room(&mut self)
+        ensures unread { unread self.new ≡ unread self.old }
+        ensures same { ended_by self.new ≡ ended_by self.old }
+    {
+        let bytes = self.buffer.as_slice();
+        let have = bytes.len();
+        if have < 4 {
+            return;
+        }
+        let length = stated_length(bytes);
+        if length <= LONGEST_PAYLOAD && have < length + 4 {
+            let _ = self.buffer.reserve(length + 4 - have);
+        }
+    }
+
     // The payload of the next frame, once it is whole.
     fn next_frame(&mut self) -> Result<Option<BytesMut>, SessionFault>
         ensures answer { ended_by self.old ≡ None → FrameAnswer result (unread self.old) (unread self.new) }
@@ -140,7 +157,10 @@ impl Session {
             return Err(fault);
         }
         match head_of(self.buffer.as_slice()) {
-            Head::Partial => Ok(None),
+            Head::Partial => {
+                self.make_room();
+                Ok(None)
+            }
             Head::TooLarge => {
                 self.ended_by = Some(SessionFault::FrameTooLarge);
                 Err(SessionFault::FrameTooLarge)
