@@ -66,6 +66,7 @@ impl World {
         let (book, ticket) = Book::open(alloc, post, Part::whole(buffer))?;
         let mut lives = Vec::new(alloc);
         lives.push(Some(Vacant::new(alloc)?.enter(ticket)))?;
+        let parents = Vec::new(alloc);
         Ok(World {
             tasks: Tasks {
                 programs,
@@ -75,7 +76,7 @@ impl World {
                     lives,
                     book,
                     turn: 0,
-                    parents: Vec::new(alloc),
+                    parents,
                 },
             },
         })
@@ -213,7 +214,7 @@ impl World {
 }
 
 ghost use Rattle.std.specs.Prelude.{map};
-ghost use Rattle.machine_model.specs.Job as machine;
+ghost use Rattle.machine_model.specs.Job as model;
 ghost use Rattle.machine_model.specs.Job.{start};
 ghost use Rattle.verifier.specs.Checked.{program_of};
 ghost use Rattle.job_core.specs.Behind.{IsBehind, Plays};
@@ -224,7 +225,7 @@ ghost use Rattle.task_trees.specs.Answer.{PlaysToAnswer};
 /// Where no spawn was refused and no task is alive, the buffer, the R0s by place and the credit spent are those that the root comes to with
 /// all that it spawns, whatever the schedule.
 pub fn play(alloc: Global, job: Job, schedule: &[u32]) -> Result<World, NoMemory>
-    ensures answer { IfOk result (λ world. (last : machine.Job) × IsBehind world last
+    ensures answer { IfOk result (λ world. (last : model.Job) × IsBehind world last
         × PlaysToAnswer (map program_of job.programs) job.credit job.buffer schedule.now last) }
     ensures run { IfOk result (λ world. Plays job.programs (start job.credit job.buffer) schedule.now world) }
 {
@@ -240,5 +241,5 @@ ghost use Rattle.job_core.specs.Behind.{Kept};
 
 /// What a world keeps leaves one buffer to every job behind it.
 pub fn keeps_one_buffer()
-    ensures { (kept : Kept) (j k : machine.Job) → IsBehind kept j → IsBehind kept k → j.buffer ≡ k.buffer }
+    ensures { (kept : Kept) (j k : model.Job) → IsBehind kept j → IsBehind kept k → j.buffer ≡ k.buffer }
 {}
