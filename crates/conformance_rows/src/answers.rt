@@ -9,12 +9,16 @@
 //! | `order` | the graph's order, or its refusal; of a long list the first 16 numbers and the last |
 //! | `lists SLOT ..` | whether these are an order of the program's instructions |
 //! | `edges` | each instruction's slot, and behind it the slots that may follow |
+//! | `tree CREDIT MEMORY NUMBER*TIMES ..` | the credit spent, the buffer and the R0s by place of a job over this schedule, once where the root comes to the same by the reference; the programs stand with `;` between them, each after the bytes that it needs and a colon |
+//! | `trees SEED JOBS SCHEDULES` | how many runs of so many pseudo-random jobs, each over so many schedules, come to what the root comes to by the reference, and the most tasks of a job |
 //! | `costs` | the cost of each slot, 0 where no instruction begins |
 
 ghost use Rattle.flow_graph.specs.Program.{IsDecoded};
 
+use crate::random_trees::played;
 use crate::refusing::is_told;
-use crate::row::{Row, bytes_of, memory_of, text_of};
+use crate::row::{Row, bytes_of, memory_of, programs_of, schedule_of, text_of};
+use crate::trees::{Tree, over};
 use conformance::callers::{added, greatest, registered, weighed};
 use conformance::ways::{Start, by_job, by_reference, by_vm};
 use cost_bound::costs;
@@ -246,8 +250,38 @@ fn is_order(alloc: Global, slots: &[&str], code: &[u8]) -> anyhow::Result<String
     checked(alloc, &placed, &order)
 }
 
+/// Plays a job of several programs over a schedule.
+fn tree_over(
+    alloc: Global,
+    row: &Row,
+    credit: &str,
+    memory: &str,
+    turns: &[&str],
+) -> anyhow::Result<String> {
+    let tree = Tree {
+        programs: programs_of(alloc, row.program)?,
+        credit: credit.parse::<u32>()?,
+        buffer: memory_of(alloc, memory)?,
+    };
+    over(alloc, &tree, &schedule_of(alloc, turns)?)
+}
+
 /// What is answered to the row.
 pub fn answer(alloc: Global, row: &Row) -> anyhow::Result<String> {
+    match row.question.as_slice() {
+        ["tree", credit, memory, turns @ ..] => {
+            return tree_over(alloc, row, credit, memory, turns);
+        }
+        ["trees", seed, jobs, schedules] => {
+            return played(
+                alloc,
+                seed.parse::<u64>()?,
+                jobs.parse::<u32>()?,
+                schedules.parse::<u32>()?,
+            );
+        }
+        _ => {}
+    }
     let code = bytes_of(alloc, row.program)?;
     match row.question.as_slice() {
         ["verify", need, added @ ..] => verdict(alloc, need, added, &code),

@@ -3,8 +3,10 @@
 #![tactic(auto)]
 
 mod answers;
+mod random_trees;
 mod refusing;
 mod row;
+mod trees;
 
 use answers::answer;
 use row::rows_of;

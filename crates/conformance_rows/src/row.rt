@@ -1,6 +1,7 @@
 //! Rows: what is asked, a program and the answer, with bars between them. A line that begins with `#` is a comment.
 
 use assembler::assemble;
+use job_core::ProgramBytes;
 use std::alloc::Global;
 
 /// What is asked of which program, and the answer that is wanted.
@@ -75,6 +76,32 @@ pub fn bytes_of(alloc: Global, program: &str) -> anyhow::Result<Vec<u8>> {
         return Ok(hex::decode(alloc, source.as_str())?);
     }
     Ok(assemble(alloc, source.as_str())?)
+}
+
+/// Programs with `;` between them, each after the bytes that it needs and a colon.
+pub fn programs_of(alloc: Global, text: &str) -> anyhow::Result<Vec<ProgramBytes>> {
+    let mut programs = Vec::new(alloc);
+    for part in text.split(';') {
+        let (need, program) = part.split_once(':').unwrap_or(("0", part));
+        programs.push(ProgramBytes {
+            need: need.trim().parse::<u32>()?,
+            code: bytes_of(alloc, program)?,
+        })?;
+    }
+    Ok(programs)
+}
+
+/// Numbers of tasks, each as often as it is told: `0*5` is task 0 five times.
+pub fn schedule_of(alloc: Global, turns: &[&str]) -> anyhow::Result<Vec<u32>> {
+    let mut numbers = Vec::new(alloc);
+    for turn in turns {
+        let (number, times) = turn.split_once('*').unwrap_or((turn, "1"));
+        let number = number.parse::<u32>()?;
+        for _ in 0..times.parse::<u32>()? {
+            numbers.push(number)?;
+        }
+    }
+    Ok(numbers)
 }
 
 /// Bytes as hexadecimal, and none as `-`.

@@ -18,8 +18,10 @@ entered number child = record {
   ran = false;
 }
 
--- the child has the next number, or nothing changes
-abbrev pub Adds : List (Option Live) → List TaskEnd → SpawnRecord → Result (Unit {0}) SpawnRecord → List (Option Live) → List TaskEnd → Type 0
-Adds lives ends child (Ok done) lives' ends' =
+-- the child of a parent has the next number, or nothing changes
+abbrev pub Adds : ℕ → List (Option Live) → List TaskEnd → List ℕ → SpawnRecord → Result (Unit {0}) SpawnRecord →
+    List (Option Live) → List TaskEnd → List ℕ → Type 0
+Adds parent lives ends parents child (Ok done) lives' ends' parents' =
     (child.arg < 2 ^ 64) × (lives' ≡ lives ++ Some (live_of child) ∷ []) × (ends' ≡ ends ++ entered (length lives) child ∷ [])
-Adds lives ends child (Err back) lives' ends' = (lives' ≡ lives) × (ends' ≡ ends)
+    × (parents' ≡ parents ++ parent ∷ [])
+Adds parent lives ends parents child (Err back) lives' ends' parents' = (lives' ≡ lives) × (ends' ≡ ends) × (parents' ≡ parents)

@@ -121,6 +121,7 @@ pub record IsTaken (kept : Kept) (n : ℕ) (ledger : Ledger) : Type 0 where
   pub spent : spent_in (table_of ledger.book.history) ≡ kept.spent
   pub returned : returned_in (table_of ledger.book.history) ≡ kept.returned
   pub issued : ledger.book.board.issued ≡ kept.issued
+  pub parents : ledger.parents.items ≡ kept.parents
   pub booked : AreStandings kept.lives ledger.book.history
 
 -- a step has left the ledger with at most one place more
@@ -139,12 +140,12 @@ pub same_set : {X : Type 0} (xs : List X) (n : ℕ) (x : X) → slice_get xs n �
 same_set xs n x here = ap (set xs n) (sym (get_or_from_slice_get xs n x x here)) ∙ set-get_or xs n x
 
 -- what is kept, by its parts
-kept_is : (k : Kept) (entries : List Entry) (lives lives' : List (Option Live)) (ends ends' : List TaskEnd) (collected collected' : List ℕ)
+kept_is : (k : Kept) (entries : List Entry) (lives lives' : List (Option Live)) (ends ends' : List TaskEnd) (parents : List ℕ) (collected collected' : List ℕ)
     (spent spent' returned returned' issued : ℕ) →
     lives ≡ lives' → ends ≡ ends' → collected ≡ collected' → spent ≡ spent' → returned ≡ returned' → k.issued ≡ issued →
-    let a : Kept = record k { entries = entries; lives = lives; ends = ends; collected = collected; spent = spent; returned = returned } in
-    let b : Kept = record k { entries = entries; lives = lives'; ends = ends'; collected = collected'; spent = spent'; returned = returned'; issued = issued } in a ≡ b
-kept_is k entries lives lives' ends ends' collected collected' spent spent' returned returned' issued e1 e2 e3 e4 e5 e6 = rw (e1, e2, e3, e4, e5, ← e6) refl
+    let a : Kept = record k { entries = entries; lives = lives; ends = ends; parents = parents; collected = collected; spent = spent; returned = returned } in
+    let b : Kept = record k { entries = entries; lives = lives'; ends = ends'; parents = parents; collected = collected'; spent = spent'; returned = returned'; issued = issued } in a ≡ b
+kept_is k entries lives lives' ends ends' parents collected collected' spent spent' returned returned' issued e1 e2 e3 e4 e5 e6 = rw (e1, e2, e3, e4, e5, ← e6) refl
 
 module _ (kept : Kept) (n : ℕ) (live : Live) (p : Checked) (out : StepOut) (after : Live) (old new : Ledger)
     (here : slice_get kept.lives n ≡ Some (Some live)) (read : p ≡ get_or kept.programs live.program p) (base : after.part.base ≡ live.part.base)
@@ -239,11 +240,12 @@ module _ (kept : Kept) (n : ℕ) (live : Live) (p : Checked) (out : StepOut) (af
   pub grows : (j : Job) → IsBehind kept j → n < length new.lives.items
   grows j behind = slice_get_within new.lives.items n None (left j behind).out
 
-  quiet : new ≡ old → (new.lives.items ≡ set kept.lives n None) × (ends_of new ≡ kept.ends)
-  quiet e = (ap (λ (l : Ledger). l.lives.items) e ∙ taken.lives, ap ends_of e ∙ taken.ends)
+  quiet : new ≡ old → (new.lives.items ≡ set kept.lives n None) × (ends_of new ≡ kept.ends) × (new.parents.items ≡ kept.parents)
+  quiet e =
+      (ap (λ (l : Ledger). l.lives.items) e ∙ taken.lives, ap ends_of e ∙ taken.ends, ap (λ (l : Ledger). l.parents.items) e ∙ taken.parents)
 
   heard : (child : SpawnRecord) (reply : Result (Unit {0}) SpawnRecord) → Told old new child reply →
-      Adds (set kept.lives n None) kept.ends child reply new.lives.items (ends_of new)
+      Adds n (set kept.lives n None) kept.ends kept.parents child reply new.lives.items (ends_of new) new.parents.items
   heard child (Ok done) told =
       let k = length (table_of old.book.history).standings in
       let adds = told.4 in (
@@ -252,8 +254,10 @@ module _ (kept : Kept) (n : ℕ) (live : Live) (p : Checked) (out : StepOut) (af
         spawned_tasks old.book.history new.book.history old.turn k child adds.3
             ∙ ap (λ (ts : List TaskEnd). ts ++ entered k child ∷ []) taken.ends
             ∙ ap (λ (m : ℕ). kept.ends ++ entered m child ∷ []) (number ∙ ap length taken.lives),
+        adds.2 ∙ ap (λ (ps : List ℕ). ps ++ old.turn ∷ []) taken.parents ∙ ap (λ (m : ℕ). kept.parents ++ m ∷ []) taken.turn,
       )
-  heard child (Err back) told = (told.4.0 ∙ taken.lives, ap (λ (h : List Event). (table_of h).tasks) told.4.2 ∙ taken.ends)
+  heard child (Err back) told =
+      (told.4.0 ∙ taken.lives, ap (λ (h : List Event). (table_of h).tasks) told.4.2 ∙ taken.ends, told.4.1 ∙ taken.parents)
 
   abbrev settled : Live
   settled = record { program = live.program; frame = after.frame; part = after.part; credit = after.credit }
@@ -263,6 +267,7 @@ module _ (kept : Kept) (n : ℕ) (live : Live) (p : Checked) (out : StepOut) (af
         entries = new.entries.items;
         lives = set new.lives.items n (Some after);
         ends = ends_of new;
+        parents = new.parents.items;
         collected = collected_of new;
         spent = spent_in (table_of new.book.history);
         returned = returned_in (table_of new.book.history);
@@ -271,11 +276,11 @@ module _ (kept : Kept) (n : ℕ) (live : Live) (p : Checked) (out : StepOut) (af
   ledger_went j behind is covered =
       let at = live_at kept j n live behind here in
       let same = left j behind in
-      let s = steps_went kept j n live behind at after.frame after.part after.credit base new.lives.items (ends_of new) (new ≡ old) (Told old new) quiet heard
+      let s = steps_went kept j n live behind at after.frame after.part after.credit base new.lives.items (ends_of new) new.parents.items (new ≡ old) (Told old new) quiet heard
       p (slice_get old.entries.items) new.entries.items (same_program j at) (λ i. ap (λ es. slice_get es i) taken.entries) same.entries covered
       (λ registers stands. subst (λ (o : StepOut). Did p (effect (program_of p) (slice_get old.entries.items) (state_of live.frame live.part live.credit registers)) o after.frame after.part after.credit (new ≡ old) (Told old new) nobody) is (own j at registers stands)) in
       subst (λ (k : Kept). Steps kept j n stepped.Went k)
-      (kept_is kept new.entries.items (set new.lives.items n (Some settled)) (set new.lives.items n (Some after)) (ends_of new) (ends_of new)
+      (kept_is kept new.entries.items (set new.lives.items n (Some settled)) (set new.lives.items n (Some after)) (ends_of new) (ends_of new) new.parents.items
       kept.collected (collected_of new) kept.spent (spent_in (table_of new.book.history)) kept.returned (returned_in (table_of new.book.history)) new.book.board.issued
       (ap (λ (l : Live). set new.lives.items n (Some l)) (ap (λ (n : ℕ). let l : Live = record after { program = n } in l) (sym same_number))) refl
       (sym same.collected) (sym same.spent) (sym same.returned) (sym same.issued)) s
@@ -291,6 +296,7 @@ module _ (kept : Kept) (n : ℕ) (live : Live) (p : Checked) (out : StepOut) (af
           entries = new.entries.items;
           lives = new.lives.items;
           ends = (table_of book.history).tasks;
+          parents = new.parents.items;
           collected = buffer_of book.size book.history;
           spent = spent_in (table_of book.history);
           returned = returned_in (table_of book.history);
@@ -301,7 +307,7 @@ module _ (kept : Kept) (n : ℕ) (live : Live) (p : Checked) (out : StepOut) (af
   ledger_ended j behind word is =
       let at = live_at kept j n live behind here in
       let same = left j behind in
-      let s = steps_ended kept j n live behind at after.frame after.part after.credit base new.lives.items (ends_of new) (new ≡ old) (Told old new) quiet heard
+      let s = steps_ended kept j n live behind at after.frame after.part after.credit base new.lives.items (ends_of new) new.parents.items (new ≡ old) (Told old new) quiet heard
       p (slice_get old.entries.items) new.entries.items word (same_program j at) (λ i. ap (λ es. slice_get es i) taken.entries) same.entries
       (λ registers stands. subst (λ (o : StepOut). Did p (effect (program_of p) (slice_get old.entries.items) (state_of live.frame live.part live.credit registers)) o after.frame after.part after.credit (new ≡ old) (Told old new) nobody) is (own j at registers stands)) in
       let grown = grows j behind in
@@ -325,7 +331,7 @@ module _ (kept : Kept) (n : ℕ) (live : Live) (p : Checked) (out : StepOut) (af
             (standings_ended h h' n after.credit.used word after.part.base after.part.bytes e (set new.lives.items n (Some after)) same.booked);
         steps = λ book board size e.
             subst (λ (k : Kept). Steps kept j n (stepped.Ended word) k)
-            (kept_is kept new.entries.items new.lives.items new.lives.items (set (ends_of new) n (ended_end n at.task after.credit word)) (table_of book.history).tasks
+            (kept_is kept new.entries.items new.lives.items new.lives.items (set (ends_of new) n (ended_end n at.task after.credit word)) (table_of book.history).tasks new.parents.items
             (written kept.collected after.part.base after.part.bytes) (buffer_of book.size book.history)
             (kept.spent + after.credit.used) (spent_in (table_of book.history))
             (kept.returned + (after.credit.held - after.credit.used)) (returned_in (table_of book.history)) book.board.issued refl

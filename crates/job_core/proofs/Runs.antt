@@ -179,6 +179,7 @@ module _ (old : Kept) (tasks : Tasks) (numbers : List ℕ) (n : ℕ) (live : Liv
     spent = refl;
     returned = refl;
     issued = refl;
+    parents = refl;
     booked = standings_alike tasks.ledger.lives.items tasks.ledger.book.history n live (living_at live slot) refl running.booked;
   }
 

@@ -29,6 +29,8 @@ use Rattle.interpreter.specs.Behind.{AreBehind, IsCovered, state_of, Stands, Did
 use Rattle.job_core.specs.declared.live.Live.{Live}
 use Rattle.credit_book.specs.declared.event.TaskEnd.{TaskEnd}
 use Rattle.job_core.specs.declared.tasks.Stepped.TheVariants as stepped
+use Rattle.task_trees.specs.Families.{AreParents}
+use Rattle.task_trees.proofs.FamilyLemmas.{grown_step}
 use Rattle.job_core.specs.Seats.{live_of}
 use Rattle.job_core.proofs.Adding.{entered, Adds}
 use Rattle.job_core.specs.Behind.{Kept, end_of, IsTaskOf, IsLive, IsMemberOf, AreKept, AreEntries, IsBehind, Steps}
@@ -42,6 +44,7 @@ keeping kept lives ends collected spent returned = record {
   entries = kept.entries;
   lives = lives;
   ends = ends;
+  parents = kept.parents;
   collected = collected;
   spent = spent;
   returned = returned;
@@ -398,12 +401,33 @@ kept_same : (kept : Kept) (lives lives' : List (Option Live)) (ends ends' : List
 kept_same kept lives lives' ends ends' k e f are =
     subst (λ ls. AreKept (going kept ls ends') k) (sym e) (subst (λ es. AreKept (going kept lives es) k) (sym f) are)
 
+-- the parents say nothing of how the tasks are kept
+member_with : (kept : Kept) (parents : List ℕ) (buffer : List ℕ) (n : ℕ) (m : Member) → IsMemberOf kept buffer n m →
+    IsMemberOf (record kept { parents = parents }) buffer n m
+member_with kept parents buffer n (job.Live t) is = record { live = is.live; there = is.there; checked = is.checked; program = is.program; is = is.is }
+member_with kept parents buffer n (job.Ended e) is = record { gone = is.gone; bytes = is.bytes }
+
+with_parents : (kept : Kept) (parents : List ℕ) (k : Job) → AreKept kept k → AreKept (record kept { parents = parents }) k
+with_parents kept parents k are = record {
+  lives = are.lives;
+  ends = are.ends;
+  each = λ n m e. member_with kept parents k.buffer n m (are.each n m e);
+  each_end = are.each_end;
+  spent = are.spent;
+  returned = are.returned;
+}
+
+-- a step of task n leaves the parents, or adds n to them with a place more
+abbrev Grown : ℕ → List (Option Live) → List ℕ → List (Option Live) → List ℕ → Type 0
+Grown n lives parents lives' parents' =
+    ((parents' ≡ parents) × (length lives' ≡ length lives)) ⊎ ((parents' ≡ parents ++ n ∷ []) × (length lives' ≡ suc (length lives)))
+
 module _ (kept : Kept) (j : Job) (n : ℕ) (live : Live) (behind : IsBehind kept j) (at : IsLiveAt kept j n live)
     (frame : Frame) (part : Piece) (credit : Credit) (base : part.base ≡ live.part.base)
-    (lives : List (Option Live)) (ends : List TaskEnd) (silent : Type 0) (told : SpawnRecord → Result (Unit {0}) SpawnRecord → Type 0)
-    (quiet : silent → (lives ≡ set kept.lives n None) × (ends ≡ kept.ends))
+    (lives : List (Option Live)) (ends : List TaskEnd) (parents : List ℕ) (silent : Type 0) (told : SpawnRecord → Result (Unit {0}) SpawnRecord → Type 0)
+    (quiet : silent → (lives ≡ set kept.lives n None) × (ends ≡ kept.ends) × (parents ≡ kept.parents))
     (heard : (child : SpawnRecord) (reply : Result (Unit {0}) SpawnRecord) → told child reply →
-    Adds (set kept.lives n None) kept.ends child reply lives ends) where
+    Adds n (set kept.lives n None) kept.ends kept.parents child reply lives ends parents) where
   -- the part lies in the buffer, where it is as long as the range
   pub part_fits : length part.bytes ≤ at.task.size → part.base + length part.bytes ≤ length kept.collected
   part_fits le =
@@ -420,7 +444,7 @@ module _ (kept : Kept) (j : Job) (n : ℕ) (live : Live) (behind : IsBehind kept
 
   -- the task goes on with all of its range
   goes : (s : State) → length s.part ≡ at.task.size → Stands at.checked frame part credit s → IsCovered at.checked frame part credit →
-      (lives ≡ set kept.lives n None) × (ends ≡ kept.ends) →
+      (lives ≡ set kept.lives n None) × (ends ≡ kept.ends) × (parents ≡ kept.parents) →
       AreKept (going kept (set lives n (Some after)) ends) (goes_on j n at.task s)
   goes s size stands covered same =
       kept_same kept (set kept.lives n (Some after)) (set lives n (Some after)) kept.ends ends (goes_on j n at.task s)
@@ -437,7 +461,7 @@ module _ (kept : Kept) (j : Job) (n : ℕ) (live : Live) (behind : IsBehind kept
       Stands at.checked frame part credit taken → IsCovered at.checked frame part credit →
       IsRecordOf child birth (part.base + length taken.part) →
       (child.arg < 2 ^ 64) × (lives ≡ set kept.lives n None ++ Some (live_of child) ∷ [])
-      × (ends ≡ kept.ends ++ entered (length (set kept.lives n None)) child ∷ []) →
+      × (ends ≡ kept.ends ++ entered (length (set kept.lives n None)) child ∷ []) × (parents ≡ kept.parents ++ n ∷ []) →
       AreKept (going kept (set lives n (Some after)) ends)
       (record {
         buffer = j.buffer;
@@ -483,17 +507,32 @@ module _ (kept : Kept) (j : Job) (n : ℕ) (live : Live) (behind : IsBehind kept
       (spawns_kept kept j n t parent (child_of t taken birth) after (live_of child) at.checked q.0 entry behind.kept_are at.there refl entry_is
       at.program parent_is program child_is)
 
+  same_length : lives ≡ set kept.lives n None → length lives ≡ length kept.lives
+  same_length same = ap length same ∙ length-set kept.lives n None
+
+  -- nothing was added to the parents
+  grown_none : (lives ≡ set kept.lives n None) × (ends ≡ kept.ends) × (parents ≡ kept.parents) → Grown n kept.lives kept.parents lives parents
+  grown_none same = inl (same.2, same_length same.0)
+
+  grown_heard : (child : SpawnRecord) (reply : Result (Unit {0}) SpawnRecord) →
+      Adds n (set kept.lives n None) kept.ends kept.parents child reply lives ends parents → Grown n kept.lives kept.parents lives parents
+  grown_heard child (Ok done) adds =
+      inr (adds.3, ap length adds.1 ∙ length-append (set kept.lives n None) (Some (live_of child) ∷ []) ∙ omega (arith, length-set kept.lives n None))
+  grown_heard child (Err back) adds = grown_none adds
+
   -- the job after the effect stands behind what is kept
   pub went : (e : Effect) → Splits (take at.task.size (drop at.task.base j.buffer)) e →
       Births (entries_of (map program_of kept.programs)) at.task.held e → IsCovered at.checked frame part credit →
       Did at.checked e Went frame part credit silent told nobody →
       (refuses : Bool) × (k : Job) × (applied j n at.task refuses e ≡ Some k) × AreKept (going kept (set lives n (Some after)) ends) k × IsAlive k n
+      × Grown n kept.lives kept.parents lives parents
   went (Goes s) splits births covered d = (
     false,
     goes_on j n at.task s,
     refl,
     goes s (splits ∙ part_long j.buffer at.task (behind.tiles.inside n (job.Live at.task) at.there)) d.0 covered (quiet d.1),
     (with_state at.task s, set_same j.tasks n (job.Live (with_state at.task s)) tasks_within),
+    grown_none (quiet d.1),
   )
   went (Ends r0 s) splits births covered d = absurd d
   went (Spawns birth taken refused) splits births covered d =
@@ -511,6 +550,7 @@ module _ (kept : Kept) (j : Job) (n : ℕ) (live : Live) (behind : IsBehind kept
             push_old (set j.tasks n (job.Live parent)) n (job.Live (child_of at.task taken birth)) (job.Live parent)
                 (set_same j.tasks n (job.Live parent) tasks_within),
           ),
+          grown_heard t.1.0 (Ok tt) (heard t.1.0 (Ok tt) t.1.2),
         )
         | inr r ↦ (
           true,
@@ -519,6 +559,7 @@ module _ (kept : Kept) (j : Job) (n : ℕ) (live : Live) (behind : IsBehind kept
           goes refused size r.0 covered
               (elim r.1 [ inl back ↦ heard back.0 (Err back.0) back.2 | inr silence ↦ quiet silence ]),
           (with_state at.task refused, set_same j.tasks n (job.Live (with_state at.task refused)) tasks_within),
+          elim r.1 [ inl back ↦ grown_none (heard back.0 (Err back.0) back.2) | inr silence ↦ grown_none (quiet silence) ],
         )
       ]
   went (Calls helper arguments s) splits births covered d = absurd d.2
@@ -534,7 +575,7 @@ module _ (kept : Kept) (j : Job) (n : ℕ) (live : Live) (behind : IsBehind kept
       Did at.checked e (Ended word) frame part credit silent told nobody →
       (k : Job) × (applied j n at.task false e ≡ Some k) × AreKept (ended_kept word) k
       × (credit.used ≤ credit.held) × ((x : job.Ending) × (slice_get k.tasks n ≡ Some (job.Ended x)) × (x.r0 ≡ word))
-      × (length part.bytes ≤ at.task.size) × (ends ≡ kept.ends)
+      × (length part.bytes ≤ at.task.size) × (ends ≡ kept.ends) × Grown n kept.lives kept.parents lives parents
   ended (Goes s) word splits keeps d = absurd d
   ended (Spawns birth taken refused) word splits keeps d = absurd d
   ended (Calls helper arguments s) word splits keeps d = absurd d
@@ -563,6 +604,7 @@ module _ (kept : Kept) (j : Job) (n : ℕ) (live : Live) (behind : IsBehind kept
         (x, set_same j.tasks n (job.Ended x) tasks_within, sym d.0),
         omega (arith, size),
         same.1,
+        grown_none same,
       )
 
   -- the effect on the task makes the job's step
@@ -576,16 +618,33 @@ module _ (kept : Kept) (j : Job) (n : ℕ) (live : Live) (behind : IsBehind kept
       ∙ ap (λ number. option_map program_of (slice_get kept.programs number)) at.is.program ∙ ap (option_map program_of) at.program)
       ∙ is
 
+  -- the parents tell the places of the tasks after the step
+  parents_after : (refuses : Bool) (k : Job) (new : Kept) → step (map program_of kept.programs) j n refuses ≡ Some k →
+      length lives ≡ length k.tasks → Grown n kept.lives kept.parents lives new.parents → AreParents new.parents k.tasks
+  parents_after refuses k new is long grown =
+      let told = grown_step (map program_of kept.programs) j k n refuses kept.parents is behind.parents in
+      elim told.1 [
+        | inl same ↦ elim grown [
+          | inl kept_same ↦ subst (λ ps. AreParents ps k.tasks) (same.1 ∙ sym kept_same.0) told.2
+          | inr more ↦ absurd (omega (arith, same.0, more.1, long, behind.kept_are.lives))
+        ]
+        | inr more ↦ elim grown [
+          | inl kept_same ↦ absurd (omega (arith, more.0, kept_same.1, long, behind.kept_are.lives))
+          | inr also ↦ subst (λ ps. AreParents ps k.tasks) (more.1 ∙ sym also.0) told.2
+        ]
+      ]
+
   kept_behind : (refuses : Bool) (k : Job) (new : Kept) → step (map program_of kept.programs) j n refuses ≡ Some k →
       new.programs ≡ kept.programs → new.entries ≡ kept.entries → length new.collected ≡ length kept.collected → new.issued ≡ kept.issued →
-      AreKept new k → IsBehind new k
-  kept_behind refuses k new is programs entries size issued are =
+      length new.lives ≡ length lives → Grown n kept.lives kept.parents lives new.parents → AreKept new k → IsBehind new k
+  kept_behind refuses k new is programs entries size issued long grown are =
       let tiles = tiles_step (map program_of kept.programs) j k n refuses is behind.tiles in
       let credit = keeps_member (map program_of kept.programs) j n refuses (slice_get j.tasks n) k refl is in
       record {
         entries = subst (λ ps. AreEntries ps new.entries) (sym programs) (subst (λ es. AreEntries kept.programs es) (sym entries) behind.entries);
         kept_are = are;
         tiles = subst (λ (count : ℕ). AreTiles k.tasks count) (sym tiles.1) tiles.0;
+        parents = parents_after refuses k new is (sym long ∙ are.lives) grown;
         size = size ∙ behind.size ∙ sym tiles.1;
         credit = credit ∙ behind.credit ∙ sym issued;
         limit = omega (arith, behind.limit, issued);
@@ -610,12 +669,16 @@ module _ (kept : Kept) (j : Job) (n : ℕ) (live : Live) (behind : IsBehind kept
   abbrev with_entries : Kept → List Entry → Kept
   with_entries new entries = record new { entries = entries }
 
+  -- and with the parents that it left
+  abbrev with_both : Kept → List Entry → Kept
+  with_both new entries = record new { entries = entries; parents = parents }
+
   -- what the frame's step did is a step of the job
   pub steps_went : (p : Checked) (known : ℕ → Option Entry) (new : List Entry) → p ≡ at.checked → ((i : ℕ) → known i ≡ slice_get kept.entries i) →
       new ≡ kept.entries → IsCovered p frame part credit →
       ((registers : Registers) → AreBehind p live.frame registers →
       Did p (effect (program_of p) known (state_of live.frame live.part live.credit registers)) Went frame part credit silent told nobody) →
-      Steps kept j n stepped.Went (with_entries (going kept (set lives n (Some after)) ends) new)
+      Steps kept j n stepped.Went (with_both (going kept (set lives n (Some after)) ends) new)
   steps_went p known new same entries still covered did =
       let e : Effect = effect (program_of at.checked) (entries_of (map program_of kept.programs)) (state_in j.buffer at.task) in
       let w = went e (splits_effect (program_of at.checked) (entries_of (map program_of kept.programs)) (state_in j.buffer at.task))
@@ -626,7 +689,8 @@ module _ (kept : Kept) (j : Job) (n : ℕ) (live : Live) (behind : IsBehind kept
         w.0,
         w.1,
         is,
-        kept_behind w.0 w.1 _ is refl still refl refl (subst (λ es. AreKept (with_entries next es) w.1) (sym still) w.3),
+        kept_behind w.0 w.1 (with_both next new) is refl still refl refl (length-set lives n (Some after)) w.5
+            (with_parents (with_entries next new) parents w.1 (subst (λ es. AreKept (with_entries next es) w.1) (sym still) w.3)),
         ((at.task, at.there), w.4),
       )
 
@@ -634,7 +698,7 @@ module _ (kept : Kept) (j : Job) (n : ℕ) (live : Live) (behind : IsBehind kept
       new ≡ kept.entries →
       ((registers : Registers) → AreBehind p live.frame registers →
       Did p (effect (program_of p) known (state_of live.frame live.part live.credit registers)) (Ended word) frame part credit silent told nobody) →
-      (credit.used ≤ credit.held) × Steps kept j n (stepped.Ended word) (with_entries (ended_kept word) new)
+      (credit.used ≤ credit.held) × Steps kept j n (stepped.Ended word) (with_both (ended_kept word) new)
       × (part.base + length part.bytes ≤ length kept.collected) × (ends ≡ kept.ends)
   steps_ended p known new word same entries still did =
       let e : Effect = effect (program_of at.checked) (entries_of (map program_of kept.programs)) (state_in j.buffer at.task) in
@@ -648,8 +712,9 @@ module _ (kept : Kept) (j : Job) (n : ℕ) (live : Live) (behind : IsBehind kept
           false,
           w.0,
           is,
-          kept_behind false w.0 _ is refl still (length-written kept.collected part.base part.bytes fits) refl
-              (subst (λ es. AreKept (with_entries (ended_kept word) es) w.0) (sym still) w.2),
+          kept_behind false w.0 (with_both (ended_kept word) new) is refl still (length-written kept.collected part.base part.bytes fits) refl refl w.7
+              (with_parents (with_entries (ended_kept word) new) parents w.0
+              (subst (λ es. AreKept (with_entries (ended_kept word) es) w.0) (sym still) w.2)),
           ((at.task, at.there), w.4),
         ),
         fits,

@@ -23,6 +23,7 @@ use Rattle.credit_book.specs.History.{table_of, spent_in, returned_in}
 use Rattle.job_core.specs.Keeping.{AreStandings}
 use Rattle.job_core.specs.Behind.{Kept, end_of, IsTaskOf, IsLive, IsMemberOf, AreEntries, IsBehind}
 use Rattle.helpers.specs.Table.{job_table}
+use Rattle.task_trees.proofs.FamilyLemmas.{starts}
 use Rattle.job_core.specs.Admitted.{Order, IsAdmitted}
 use Rattle.interpreter.proofs.Enters.{behind_entry, covered_entry}
 
@@ -55,6 +56,7 @@ start_kept order entries part zeros = record {
   entries = entries;
   lives = Some (root_live order.credit part) ∷ [];
   ends = root_end order.credit ∷ [];
+  parents = [];
   collected = zeros;
   spent = 0;
   returned = 0;
@@ -111,6 +113,7 @@ module _ (order : Order) (entries : List Entry) (part : Piece) (is : IsAdmitted 
     entries = are;
     kept_are = record { lives = refl; ends = refl; each = start_each; each_end = start_end; spent = refl; returned = refl };
     tiles = start_tiles (job.Live (root_task order.credit order.buffer)) (length order.buffer) refl refl;
+    parents = starts order.credit order.buffer;
     size = long;
     credit = omega arith;
     limit = is.limit;
@@ -187,29 +190,30 @@ root_entered l ticket job issued part is e1 e2 e3 e4 =
     (e3 ∙ ap (λ (t : Ticket). t.part) is) (e4 ∙ ap (λ (t : Ticket). let c : Credit = record { held = t.held; used = 0 } in c) is)
 
 -- what a world keeps once it is opened, and what its book has of the root
-pub opened : (order : Order) (programs : List Checked) (entries : List Entry) (lives : List (Option Live)) (book : Account) (part : Piece) (ticket : Ticket) (root : Living) (none : List (Option Live)) (number job issued : ℕ) →
+pub opened : (order : Order) (programs : List Checked) (entries : List Entry) (lives : List (Option Live)) (book : Account) (part : Piece) (ticket : Ticket) (root : Living) (none : List (Option Live)) (parents : List ℕ) (number job issued : ℕ) →
     IsAdmitted order → AreEntries order.programs entries → programs ≡ order.programs →
     part.bytes ≡ order.buffer → part.base ≡ 0 → issued ≡ order.credit → book.board.issued ≡ order.credit →
     book.history ≡ Open number order.credit ∷ [] → book.size ≡ length part.bytes →
     ticket ≡ root_ticket job issued part → root.program ≡ ticket.program → root.frame ≡ entry_frame (length ticket.part.bytes) ticket.arg →
     root.part ≡ ticket.part → root.credit ≡ record { held = ticket.held; used = 0 } →
-    none ≡ [] → lives ≡ none ++ Some root ∷ [] →
+    none ≡ [] → lives ≡ none ++ Some root ∷ [] → parents ≡ [] →
     IsBehind (record {
       programs = programs;
       entries = entries;
       lives = lives;
       ends = (table_of book.history).tasks;
+      parents = parents;
       collected = buffer_of book.size book.history;
       spent = spent_in (table_of book.history);
       returned = returned_in (table_of book.history);
       issued = book.board.issued;
     }) (start order.credit order.buffer)
     × AreStandings lives book.history
-opened order programs entries lives book part ticket root none number job issued is are same bytes base credit board history size is_ticket e1 e2 e3 e4 e f =
+opened order programs entries lives book part ticket root none parents number job issued is are same bytes base credit board history size is_ticket e1 e2 e3 e4 e f no_parents =
     let zeros : List ℕ = replicate (length part.bytes) 0 in
     let long : length zeros ≡ length order.buffer = length-replicate (length part.bytes) 0 ∙ ap length bytes in
     let root_is : root ≡ root_live order.credit part =
     root_entered root ticket job issued part is_ticket e1 e2 e3 e4 ∙ ap (λ n. root_live n part) credit in
     let lives_are : lives ≡ Some (root_live order.credit part) ∷ [] =
     f ∙ ap (λ ls. ls ++ Some root ∷ []) e ∙ ap (λ (l : Living). Some l ∷ []) root_is in
-    rw (same, lives_are, history, size, board) (start_behind order entries part is are bytes base zeros long, refl)
+    rw (same, lives_are, history, size, board, no_parents) (start_behind order entries part is are bytes base zeros long, refl)

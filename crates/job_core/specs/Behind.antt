@@ -6,6 +6,7 @@ use Rattle.machine_model.specs.Job.{Job, Task, Member, state_in, AreTiles, Move,
 use Rattle.machine_model.specs.Machine.{Program}
 use Rattle.verifier.specs.Checked.{Checked, program_of, IsVerified}
 use Rattle.interpreter.specs.Behind.{AreBehind, IsCovered, state_of}
+use Rattle.task_trees.specs.Families.{AreParents}
 use Rattle.job_core.specs.Admitted.{AreOwn}
 use Rattle.job_core.specs.declared.live.Live.{Live}
 use Rattle.credit_book.specs.declared.event.TaskEnd.{TaskEnd}
@@ -13,12 +14,14 @@ use Rattle.job_core.specs.declared.tasks.Stepped.{Stepped}
 use Rattle.job_core.specs.declared.tasks.Stepped.TheVariants.{Skipped, Went, Ended}
 
 -- What a world keeps: the programs, what a spawn has to know of each, the live tasks by number, what the report says of each task,
--- the bytes of ended parts where they lie in the buffer, the credit that ended tasks spent and returned, and what was issued.
+-- the parent of each task after the root, the bytes of ended parts where they lie in the buffer, the credit that ended tasks spent and
+-- returned, and what was issued.
 pub record Kept : Type 0 where
   pub programs : List Checked
   pub entries : List Entry
   pub lives : List (Option Live)
   pub ends : List TaskEnd
+  pub parents : List ℕ
   pub collected : List ℕ
   pub spent : ℕ
   pub returned : ℕ
@@ -93,6 +96,7 @@ pub record IsBehind (kept : Kept) (j : Job) : Type 0 where
   pub entries : AreEntries kept.programs kept.entries
   pub kept_are : AreKept kept j
   pub tiles : AreTiles j.tasks (length j.buffer)
+  pub parents : AreParents kept.parents j.tasks
   pub size : length kept.collected ≡ length j.buffer
   pub credit : credit_of j ≡ kept.issued
   pub limit : kept.issued ≤ 2147483647

@@ -6,6 +6,7 @@ use crate::filling::fill;
 use crate::job::Job;
 use crate::ledger::Ledger;
 use crate::live::Vacant;
+use crate::place::place_in;
 use crate::room::room_of;
 use crate::tasks::{Stepped, Tasks};
 use crate::totals::{Totals, used_by_live};
@@ -34,9 +35,10 @@ impl Model for World {
 }
 
 impl World {
-    ghost use Rattle.std.specs.Prelude.{◌≡◌, ℕ, ◌<◌, ◌≤◌, ◌↔◌, List, ◌++◌, length, IfOk, IfErr, IfSome, IsSome, IsTrue};
+    ghost use Rattle.std.specs.Prelude.{◌≡◌, ℕ, ◌<◌, ◌≤◌, ◌↔◌, List, ◌++◌, length, slice_get, Some, IfOk, IfErr, IfSome, IsSome, IsTrue};
     ghost use Rattle.machine_model.specs.Job as model;
-    ghost use Rattle.machine_model.specs.Job.{start, IsAlive, IsComplete};
+    ghost use Rattle.machine_model.specs.Job.{start, IsAlive, IsComplete, Member};
+    ghost use Rattle.task_trees.specs.Families.{place_of};
     ghost use Rattle.job_core.specs.Behind.{IsBehind, Steps, LeadsOn};
     ghost use Rattle.job_core.specs.Answers.{AreTotals, IsReportOf};
     ghost use Rattle.job_core.specs.OneTask.{RunsTask};
@@ -64,6 +66,7 @@ impl World {
         let (book, ticket) = Book::open(alloc, post, Part::whole(buffer))?;
         let mut lives = Vec::new(alloc);
         lives.push(Some(Vacant::new(alloc)?.enter(ticket)))?;
+        let parents = Vec::new(alloc);
         Ok(World {
             tasks: Tasks {
                 programs,
@@ -73,7 +76,7 @@ impl World {
                     lives,
                     book,
                     turn: 0,
-                    parents: Vec::new(alloc),
+                    parents,
                 },
             },
         })
@@ -126,6 +129,20 @@ impl World {
         ensures { (j : model.Job) → IsBehind self.now j → result ≡ length j.tasks }
     {
         self.tasks.ledger.book.count()
+    }
+
+    /// Where a task, live or ended, stands in the tree of tasks: the root's place is the empty list, and that of another task is its parent's,
+    /// followed by its number among that one's children, counted from 1. None where no task has this number.
+    pub fn place(&self, number: u32) -> Result<Option<Vec<u32>>, NoMemory>
+        ensures known { IfOk result (λ found. (j : model.Job) → IsBehind self.now j → (IsSome found ↔ number < length j.tasks)) }
+        ensures value { IfOk result (λ found. (j : model.Job) → IsBehind self.now j → IfSome found (λ place.
+            (m : Member) → slice_get j.tasks number ≡ Some m → place.items ≡ place_of m)) }
+    {
+        let ledger = &self.tasks.ledger;
+        if number as usize > ledger.parents.len() {
+            return Ok(None);
+        }
+        Ok(Some(place_in(ledger.alloc, &ledger.parents, number)?))
     }
 
     /// For how many bytes the task's part has room, which is the memory that it takes. None where the task isn't alive.
@@ -196,12 +213,21 @@ impl World {
     }
 }
 
+ghost use Rattle.std.specs.Prelude.{map};
+ghost use Rattle.machine_model.specs.Job as model;
 ghost use Rattle.machine_model.specs.Job.{start};
-ghost use Rattle.job_core.specs.Behind.{Plays};
+ghost use Rattle.verifier.specs.Checked.{program_of};
+ghost use Rattle.job_core.specs.Behind.{IsBehind, Plays};
+ghost use Rattle.task_trees.specs.Answer.{PlaysToAnswer};
 
 /// One instruction of each task of the schedule in turn.
+///
+/// Where no spawn was refused and no task is alive, the buffer, the R0s by place and the credit spent are those that the root comes to with
+/// all that it spawns, whatever the schedule.
 pub fn play(alloc: Global, job: Job, schedule: &[u32]) -> Result<World, NoMemory>
-    ensures { IfOk result (λ world. Plays job.programs (start job.credit job.buffer) schedule.now world) }
+    ensures answer { IfOk result (λ world. (last : model.Job) × IsBehind world last
+        × PlaysToAnswer (map program_of job.programs) job.credit job.buffer schedule.now last) }
+    ensures run { IfOk result (λ world. Plays job.programs (start job.credit job.buffer) schedule.now world) }
 {
     let mut world = World::open(alloc, job)?;
     let mut rest = schedule;
@@ -211,8 +237,7 @@ pub fn play(alloc: Global, job: Job, schedule: &[u32]) -> Result<World, NoMemory
     Ok(world)
 }
 
-ghost use Rattle.machine_model.specs.Job as model;
-ghost use Rattle.job_core.specs.Behind.{Kept, IsBehind};
+ghost use Rattle.job_core.specs.Behind.{Kept};
 
 /// What a world keeps leaves one buffer to every job behind it.
 pub fn keeps_one_buffer()

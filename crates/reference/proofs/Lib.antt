@@ -1,3 +1,4 @@
 pub mod EffectLemmas
 pub mod RunLemmas
 pub mod AloneLemmas
+pub mod Evaluations

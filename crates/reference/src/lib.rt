@@ -21,9 +21,11 @@ mod jumps;
 
 pub use effects::effect;
 
-// a program alone, and a job over a schedule
+// a program alone, a job over a schedule, and a job where each spawn is taken
 mod alone;
+mod evaluating;
 mod runs;
 
 pub use alone::{run_alone, start_alone};
+pub use evaluating::{Evaluation, FinishedTask, evaluate};
 pub use runs::{run, start, step};

@@ -1,8 +1,9 @@
 //! Runs of a job, computed as the definitions say.
 
-ghost use Rattle.std.specs.Prelude.{◌≡◌, ℕ, suc, ◌+◌, ◌^◌, ◌<◌, ◌≤◌, ◌⊎◌, length, take, drop, slice_set, map, option_map, slice_get, Bool, false, Option, Some, Ok, Err, IfOk, OnOk};
+ghost use Rattle.std.specs.Prelude.{◌≡◌, ℕ, suc, ◌+◌, ◌^◌, ◌<◌, ◌≤◌, ◌⊎◌, length, take, drop, slice_set, map, option_map, slice_get, Bool, false, List, Option, Some, Ok, Err, IfOk, OnOk};
 ghost use Rattle.machine_model.specs.Job.{Job, applied, run, start, state_in, step, with_state, child_of, ending_of, entry_registers, goes_on};
 ghost use Rattle.machine_model.specs.Machine.{Ends, Spawns, State};
+ghost use Rattle.task_trees.specs.Eval.{root};
 ghost use Rattle.reference.specs.declared.records.Change.{Change};
 ghost use Rattle.reference.specs.declared.records.Unanswered.{Unanswered};
 ghost use Rattle.reference.specs.declared.records.Unanswered.TheVariants as unanswered;
@@ -116,7 +117,7 @@ pub(crate) fn entry_registers(size: usize, arg: u64) -> [Content; 11]
 }
 
 /// The child of a task that now has this state: of all its children the one with this number, counted from 1.
-fn child_of(
+pub(crate) fn child_of(
     alloc: Global,
     task: &LiveTask,
     state: &Running,
@@ -151,7 +152,7 @@ fn child_of(
 }
 
 /// What is left of a task that ends in this state, with R0.
-fn ending_of(
+pub(crate) fn ending_of(
     alloc: Global,
     task: &LiveTask,
     state: &Running,
@@ -348,13 +349,11 @@ pub fn step(
     }
 }
 
-/// The root alone, with all the credit and the whole buffer.
-pub fn start(alloc: Global, credit: u32, buffer: Vec<u8>) -> Result<ReferenceJob, Unanswered>
-    ensures value { IfOk result (λ j. job_of j ≡ start credit buffer.items) }
-    ensures memory { (error : Unanswered) → result ≡ Err error → error ≡ unanswered.NoMemory }
+/// The root of a job at its start, with all the credit and so many bytes.
+pub(crate) fn root(alloc: Global, credit: u32, size: usize) -> LiveTask
+    ensures { (buffer : List ℕ) → length buffer ≡ size → task_of result ≡ root credit buffer }
 {
-    let size = buffer.as_slice().len();
-    let root = LiveTask {
+    LiveTask {
         program: 0,
         arg: 0,
         given: credit,
@@ -367,9 +366,17 @@ pub fn start(alloc: Global, credit: u32, buffer: Vec<u8>) -> Result<ReferenceJob
         size,
         held: credit,
         used: 0,
-    };
+    }
+}
+
+/// The root alone, with all the credit and the whole buffer.
+pub fn start(alloc: Global, credit: u32, buffer: Vec<u8>) -> Result<ReferenceJob, Unanswered>
+    ensures value { IfOk result (λ j. job_of j ≡ start credit buffer.items) }
+    ensures memory { (error : Unanswered) → result ≡ Err error → error ≡ unanswered.NoMemory }
+{
+    let size = buffer.as_slice().len();
     let mut tasks = Vec::new(alloc);
-    tasks.push(JobMember::Live(root))?;
+    tasks.push(JobMember::Live(root(alloc, credit, size)))?;
     Ok(ReferenceJob { buffer, tasks })
 }
 

@@ -175,7 +175,7 @@ returns-in-Ended-clause-leads c =
     (running_on tasks c.args.number c.loop-gone.live ran.before ran.mid ran.mid_part c.loop-gone.invariant.running)
     c.run_at-ran.result.next c.run_at-ran.new.self c.run_at-ran.new.spawner (c.run_at-ran.ensures.base ∙ sym both.1) c.run_at-ran.ensures.program ran.last_one
     j behind c.in-Ended.r0 c.in-Ended.is in
-    rw (c.end.ensures.same.0, c.end.ensures.same.1) (ending.steps c.end.new.self.book c.end.ensures.book.0 c.end.ensures.book.1 c.end.ensures.history))))
+    rw (c.end.ensures.same.0, c.end.ensures.same.1, c.end.ensures.same.3) (ending.steps c.end.new.self.book c.end.ensures.book.0 c.end.ensures.book.1 c.end.ensures.history))))
 
 pub returns-in-Ended-clause-runs : goal.returns-in-Ended-clause-runs
 returns-in-Ended-clause-runs c j behind =
@@ -202,7 +202,7 @@ returns-in-Ended-clause-runs c j behind =
     (running_on tasks c.args.number c.loop-gone.live ran.before ran.mid ran.mid_part c.loop-gone.invariant.running)
     c.run_at-ran.result.next c.run_at-ran.new.self c.run_at-ran.new.spawner (c.run_at-ran.ensures.base ∙ sym both.1) c.run_at-ran.ensures.program ran.last_one
     k stands c.in-Ended.r0 c.in-Ended.is in
-    rw (c.end.ensures.same.0, c.end.ensures.same.1) (ending.steps c.end.new.self.book c.end.ensures.book.0 c.end.ensures.book.1 c.end.ensures.history)))
+    rw (c.end.ensures.same.0, c.end.ensures.same.1, c.end.ensures.same.3) (ending.steps c.end.new.self.book c.end.ensures.book.0 c.end.ensures.book.1 c.end.ensures.history)))
 
 pub returns-in-Ended-clause-few : goal.returns-in-Ended-clause-few
 returns-in-Ended-clause-few c =

@@ -47,9 +47,9 @@ invariant_of-result-2 c =
     let book = c.in_ok-book.ensures.book in
     let issued = ap (λ (b : Sign). b.issued) post.0 ∙ c.in_ok-post.ensures.board.1 in
     let enter = c.enter.ensures in
-    let both = opened order c.job.inside.programs.items c.loop-program.entries.items c.push-2.new.self.items c.in_ok-book.book c.whole.result c.in_ok-book.ticket c.enter.result c.new-lives.result.items _ _ _ c.job.invariant are refl c.whole.ensures.bytes c.whole.ensures.base
+    let both = opened order c.job.inside.programs.items c.loop-program.entries.items c.push-2.new.self.items c.in_ok-book.book c.whole.result c.in_ok-book.ticket c.enter.result c.new-lives.result.items _ _ _ _ c.job.invariant are refl c.whole.ensures.bytes c.whole.ensures.base
     issued (ap (λ (b : Sign). b.issued) book.0 ∙ issued) (book.1 ∙ post.1) book.2 c.in_ok-book.ensures.ticket
-    enter.program enter.frame enter.part enter.credit c.new-lives.ensures.items c.in_ok-push-2.ensures.items in
+    enter.program enter.frame enter.part enter.credit c.new-lives.ensures.items c.in_ok-push-2.ensures.items c.new-parents.ensures.items in
     (start c.job.inside.credit c.job.inside.buffer.items, both.0, both.1)
 
 pub returns-clause-start : goal.returns-clause-start
@@ -62,7 +62,7 @@ returns-clause-start c =
     let book = c.in_ok-book.ensures.book in
     let issued = ap (λ (b : Sign). b.issued) post.0 ∙ c.in_ok-post.ensures.board.1 in
     let enter = c.enter.ensures in
-    let both = opened order c.job.inside.programs.items c.loop-program.entries.items c.push-2.new.self.items c.in_ok-book.book c.whole.result c.in_ok-book.ticket c.enter.result c.new-lives.result.items _ _ _ c.job.invariant are refl c.whole.ensures.bytes c.whole.ensures.base
+    let both = opened order c.job.inside.programs.items c.loop-program.entries.items c.push-2.new.self.items c.in_ok-book.book c.whole.result c.in_ok-book.ticket c.enter.result c.new-lives.result.items _ _ _ _ c.job.invariant are refl c.whole.ensures.bytes c.whole.ensures.base
     issued (ap (λ (b : Sign). b.issued) book.0 ∙ issued) (book.1 ∙ post.1) book.2 c.in_ok-book.ensures.ticket
-    enter.program enter.frame enter.part enter.credit c.new-lives.ensures.items c.in_ok-push-2.ensures.items in
+    enter.program enter.frame enter.part enter.credit c.new-lives.ensures.items c.in_ok-push-2.ensures.items c.new-parents.ensures.items in
     rw (← c.job.view_is) both.0

@@ -1,0 +1,12 @@
+pub mod PlaceLemmas
+pub mod SoloRuns
+pub mod SoloParts
+pub mod TreeAnswers
+pub mod JoinedBytes
+pub mod EvalLemmas
+pub mod FamilyLemmas
+pub mod SoloLemmas
+pub mod EvalBySolo
+pub mod RefusalLemmas
+pub mod MemberLemmas
+pub mod TreeSteps

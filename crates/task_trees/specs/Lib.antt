@@ -1,0 +1,4 @@
+pub mod Solo
+pub mod Eval
+pub mod Answer
+pub mod Families
