@@ -1,3 +1,2 @@
-pub mod SoloParts
 pub mod OwnTable
 pub mod SoloRunning

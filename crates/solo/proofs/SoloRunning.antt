@@ -12,9 +12,9 @@ use Rattle.interpreter.specs.declared.frame.StepOut.TheVariants.{Went, Ended}
 use Rattle.interpreter.specs.Behind.{AreBehind, Did, state_of}
 use Rattle.interpreter.specs.Stretch.{GoesOn, spent_on}
 use Rattle.interpreter.specs.Telling.{Took, Refused}
-use Rattle.solo.specs.Solo.{Asked, Solo}
+use Rattle.task_trees.specs.Solo.{Asked, Solo}
 use Rattle.solo.specs.Through.{Replied, GoesThrough, RunsAlone}
-use Rattle.solo.proofs.SoloParts.{LeadsFrom, leads_start, leads_goes, leads_taken, leads_refused, leads_end}
+use Rattle.task_trees.proofs.SoloParts.{LeadsFrom, leads_start, leads_goes, leads_taken, leads_refused, leads_end}
 
 -- A task stands behind the frame, which leads from the start to wherever that task leads, while the spawner went through what was asked for.
 pub record IsUnderWay (c : Checked) (entries : Entries) (start : State) (through : List Asked → Type 0)

@@ -1,2 +1,1 @@
-pub mod Solo
 pub mod Through

@@ -3,7 +3,7 @@ use Rattle.std.specs.Prelude.{◌≡◌, ℕ, ◌+◌, List, [], ◌∷◌, Resu
 use Rattle.machine_model.specs.Machine.{State, Program, Entries}
 use Rattle.helpers.specs.declared.spawner.SpawnRecord.{SpawnRecord}
 use Rattle.interpreter.specs.Telling.{Took, Refused}
-use Rattle.solo.specs.Solo.{Asked, Solo}
+use Rattle.task_trees.specs.Solo.{Asked, Solo}
 
 abbrev pub if_refused : Bool → Type 0 → Type 0 → Type 0
 if_refused true took refused = refused

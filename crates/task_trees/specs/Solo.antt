@@ -10,7 +10,8 @@ pub record Asked : Type 0 where
   pub at : ℕ
   pub refused : Bool
 
--- What follows an effect on a task that runs by itself. The list has each spawn that passes its tests, in order, and no more.
+-- What follows an effect on a task that runs by itself. The list has each spawn that passes its tests, in order, and no more. Nothing
+-- follows a trap, and nobody answers a helper of a caller's.
 abbrev pub Proceeds : (List Asked → State → Type 0) → List Asked → ℕ → State → Effect → Type 0
 Proceeds on asked r0 last (Goes next) = on asked next
 Proceeds on asked r0 last (Ends word state) = (asked ≡ []) × (word ≡ r0) × (state ≡ last)

@@ -6,7 +6,7 @@ use Rattle.verifier.specs.Checked.{Checked}
 use Rattle.credit_book.specs.declared.event.TaskEnd.{TaskEnd}
 use Rattle.credit_book.specs.declared.task.Outcome.{Outcome}
 use Rattle.credit_book.specs.declared.task.Ticket.{Ticket}
-use Rattle.solo.specs.Solo.{Asked}
+use Rattle.task_trees.specs.Solo.{Asked}
 use Rattle.workers.specs.declared.noting.Note.{Note}
 use Rattle.workers.specs.Outcomes.{IsOutcome, IsRunOf, IsUnrun, by_ran}
 use Rattle.workers.specs.Noted.{GivesAlone, NotedAlone, IsNoted, IsNoteOf, EndedAs, EndedAlone, as_noted, ended_alone}

@@ -12,7 +12,7 @@ use Rattle.interpreter.specs.Behind.{AreBehind, IsCovered, at_slot, state_of, en
 use Rattle.interpreter.proofs.Enters.{behind_entry, covered_entry}
 use Rattle.credit_book.specs.declared.task.Outcome.{Outcome}
 use Rattle.credit_book.specs.declared.task.Ticket.{Ticket}
-use Rattle.solo.specs.Solo.{Asked, entering}
+use Rattle.task_trees.specs.Solo.{Asked, entering}
 use Rattle.solo.specs.Through.{RunsAlone}
 use Rattle.workers.specs.Outcomes.{IsOutcome, IsRunBy, IsRunOf, IsUnrun, Suffices, by_ran}
 

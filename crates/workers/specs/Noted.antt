@@ -4,7 +4,7 @@ use Rattle.machine_model.specs.Machine.{State}
 use Rattle.machine_model.specs.Job.{entries_of}
 use Rattle.verifier.specs.Checked.{Checked, program_of}
 use Rattle.credit_book.specs.declared.event.TaskEnd.{TaskEnd}
-use Rattle.solo.specs.Solo.{Asked, Solo, entering}
+use Rattle.task_trees.specs.Solo.{Asked, Solo, entering}
 use Rattle.workers.specs.declared.noting.Note.{Note}
 
 -- A task of this program, argument and credit gives this R0 and uses so much by itself, on some part, under some answers.

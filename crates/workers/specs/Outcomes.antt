@@ -5,7 +5,7 @@ use Rattle.machine_model.specs.Job.{entries_of}
 use Rattle.verifier.specs.Checked.{Checked, program_of, cost_at}
 use Rattle.credit_book.specs.declared.task.Ticket.{Ticket}
 use Rattle.credit_book.specs.declared.task.Outcome.{Outcome}
-use Rattle.solo.specs.Solo.{Asked, entering}
+use Rattle.task_trees.specs.Solo.{Asked, entering}
 use Rattle.solo.specs.Through.{RunsAlone}
 
 -- it wasn't run
