@@ -57,6 +57,7 @@ fn answer_one<W: Sink, D, H: Handler<D>>(
         × (W.told writer.new ≡ W.told writer.old ++ take n reply)) }
     ensures well { OnOk result (W.has_failed writer.new ≡ false) }
     ensures write_failed { result ≡ Err StreamFault.WriteFailed → W.has_failed writer.new ≡ true }
+    ensures no_memory { result ≡ Err StreamFault.NoMemory → W.has_failed writer.new ≡ false }
     ensures no_other { result ≢ Err StreamFault.ReadFailed }
 {
     let reply = handler.answer(alloc, desk, request)?;
@@ -87,6 +88,7 @@ fn answer_frames<W: Sink, D, H: Handler<D>>(
     ensures well { OnOk result (W.has_failed writer.new ≡ false) }
     ensures goes_on { IfOk result (λ goes_on. IsTrue goes_on → ended_by session.new ≡ None) }
     ensures write_failed { result ≡ Err StreamFault.WriteFailed → W.has_failed writer.new ≡ true }
+    ensures no_memory { result ≡ Err StreamFault.NoMemory → W.has_failed writer.new ≡ false }
     ensures no_other { result ≢ Err StreamFault.ReadFailed }
 {
     'frames: loop {
@@ -122,6 +124,7 @@ fn take_piece<W: Sink, D, H: Handler<D>>(
     ensures well { OnOk result (W.has_failed writer.new ≡ false) }
     ensures goes_on { IfOk result (λ goes_on. IsTrue goes_on → ended_by session.new ≡ None) }
     ensures write_failed { result ≡ Err StreamFault.WriteFailed → W.has_failed writer.new ≡ true }
+    ensures no_memory { result ≡ Err StreamFault.NoMemory → W.has_failed writer.new ≡ false }
     ensures no_other { result ≢ Err StreamFault.ReadFailed }
 {
     match session.feed(piece) {
@@ -137,6 +140,7 @@ fn refuse_length<W: Sink>(alloc: Global, writer: &mut W) -> Result<(), StreamFau
     ensures err { OnErr result ((n : ℕ) × (W.told writer.new ≡ W.told writer.old ++ take n too_large_reply)) }
     ensures well { OnOk result (W.has_failed writer.new ≡ false) }
     ensures write_failed { result ≡ Err StreamFault.WriteFailed → W.has_failed writer.new ≡ true }
+    ensures no_memory { result ≡ Err StreamFault.NoMemory → W.has_failed writer.new ≡ false }
     ensures no_other { result ≢ Err StreamFault.ReadFailed }
 {
     let refusal = Reply::Refused {
@@ -160,8 +164,8 @@ fn refuse_length<W: Sink>(alloc: Global, writer: &mut W) -> Result<(), StreamFau
 /// It reads pieces of at most 4,096 bytes up to the end of input, at most `2^64 - 1` of them. A last frame that is cut short is answered
 /// by nothing. A length over the limit is answered 71, once, which isn't counted, and nothing more is read.
 ///
-/// 83 where the reader failed, 84 where the writer failed, and 99 where a piece, a frame or a reply found no memory. What was written is
-/// then a beginning of the replies, and the desk is that after the requests that were read so far.
+/// 83 where the reader failed, 84 where the writer failed, and 99 where a piece, a frame or a reply found no memory, and neither has failed. What
+/// was written is then a beginning of the replies, and the desk is that after the requests that were read so far.
 pub fn serve_stream<R: Source, W: Sink, D, H: Handler<D>>(
     alloc: Global,
     reader: &mut R,
@@ -179,6 +183,7 @@ pub fn serve_stream<R: Source, W: Sink, D, H: Handler<D>>(
         × IsStopped H.answers (desk.old, handler.old) all (W.told writer.old) (desk.new, handler.new) (W.told writer.new)) }
     ensures read_failed { result ≡ Err StreamFault.ReadFailed → R.has_failed reader.new ≡ true }
     ensures write_failed { result ≡ Err StreamFault.WriteFailed → W.has_failed writer.new ≡ true }
+    ensures no_memory { result ≡ Err StreamFault.NoMemory → (R.has_failed reader.new ≡ false) × (W.has_failed writer.new ≡ false) }
     ensures well { OnOk result ((R.has_failed reader.new ≡ false) × (W.has_failed writer.new ≡ false)) }
 {
     let mut session = Session::new(alloc);
