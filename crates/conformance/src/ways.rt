@@ -54,14 +54,14 @@ pub struct Start<'a> {
     pub memory: &'a [u8],
 }
 
-/// R0 and the memory after a run by a machine for single programs.
-pub fn by_vm(alloc: Global, start: &Start) -> anyhow::Result<(u64, Vec<u8>)> {
+/// R0, the credit used and the memory after a run by a machine for single programs.
+pub fn by_vm(alloc: Global, start: &Start) -> anyhow::Result<(u64, u32, Vec<u8>)> {
     let mut vm = Vm::new(alloc, None)?;
     vm.set_program(alloc, start.need, &start.code)?;
     let mut memory = copied(alloc, start.memory)?;
     memory.truncate(65536);
-    let r0 = vm.execute_program(&mut memory, start.credit.min(2_147_483_647))?;
-    Ok((r0, memory))
+    let done = vm.execute(&mut memory, 0, start.credit.min(2_147_483_647))?;
+    Ok((done.r0, done.used, memory))
 }
 
 /// R0, the credit used and the memory after the job of this program alone, whose buffer is the memory.

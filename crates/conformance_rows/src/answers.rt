@@ -4,6 +4,7 @@
 //! |---|---|
 //! | `verify NEED [ID/ARITY ..]` | `cost N`, or a refusal as `N` or `N at SLOT`, where the job's helpers and these may be called. Without further helpers a `Vm` and admission refuse it for the same reason |
 //! | `vm NEED CREDIT MEMORY` | R0 and the memory then, or the refusal's number and the memory |
+//! | `execute NEED CREDIT ARGUMENT MEMORY` | R0, the credit used and the memory then, or the refusal's number and the memory |
 //! | `run CREDIT MEMORY` | R0, the credit used and the memory then, by a `Vm`, as a job of one task and by the reference, once where all three agree; the program needs as many bytes as there are |
 //! | `calls A B C CREDIT MEMORY` | the same by a `Vm` and by the reference, with helpers 64, 65 and 127 of the caller's own, which take so many arguments |
 //! | `order` | the graph's order, or its refusal; of a long list the first 16 numbers and the last |
@@ -90,7 +91,28 @@ fn came_to(alloc: Global, (r0, used, memory): &(u64, u32, Vec<u8>)) -> anyhow::R
     Ok(format!(in alloc; "r0 {r0} used {used} memory {memory}")?)
 }
 
-/// Runs the program in all three ways. The machine for single programs doesn't tell what it used: the reference does.
+/// Runs the program by a machine for single programs, with an argument.
+fn execute_on(
+    alloc: Global,
+    [need, credit, argument, memory]: [&str; 4],
+    code: &[u8],
+) -> anyhow::Result<String> {
+    let mut vm = Vm::new(alloc, None)?;
+    if let Err(refusal) = vm.set_program(alloc, need.parse::<u32>()?, code) {
+        return refused(alloc, refusal.code(), refusal.slot());
+    }
+    let mut memory = memory_of(alloc, memory)?;
+    memory.truncate(65536);
+    let credit = credit.parse::<u32>()?.min(u32::MAX / 2);
+    let answer = vm.execute(&mut memory, argument.parse::<u64>()?, credit);
+    let left = text_of(alloc, &memory)?;
+    match answer {
+        Ok(done) => Ok(format!(in alloc; "r0 {} used {} memory {left}", done.r0, done.used)?),
+        Err(fault) => Ok(format!(in alloc; "{} memory {left}", fault.code())?),
+    }
+}
+
+/// Runs the program in all three ways.
 fn ran(alloc: Global, credit: &str, memory: &str, code: Vec<u8>) -> anyhow::Result<String> {
     let memory = memory_of(alloc, memory)?;
     let start = Start {
@@ -99,13 +121,12 @@ fn ran(alloc: Global, credit: &str, memory: &str, code: Vec<u8>) -> anyhow::Resu
         credit: credit.parse::<u32>()?,
         memory: &memory,
     };
-    let (r0, left) = by_vm(alloc, &start)?;
+    let vm = by_vm(alloc, &start)?;
     let job = by_job(alloc, &start)?;
     let reference = by_reference(alloc, &start, Vec::new(alloc))?;
-    let used = reference.1;
     let job = came_to(alloc, &job)?;
     let reference = came_to(alloc, &reference)?;
-    let vm = came_to(alloc, &(r0, used, left))?;
+    let vm = came_to(alloc, &vm)?;
     if vm.as_str() == job.as_str() && vm.as_str() == reference.as_str() {
         return Ok(vm);
     }
@@ -287,6 +308,9 @@ pub fn answer(alloc: Global, row: &Row) -> anyhow::Result<String> {
         ["verify", need, added @ ..] => verdict(alloc, need, added, &code),
         ["vm", need, credit, memory] => {
             execute(alloc, need.parse::<u32>()?, credit, memory, &code)
+        }
+        ["execute", need, credit, argument, memory] => {
+            execute_on(alloc, [need, credit, argument, memory], &code)
         }
         ["run", credit, memory] => ran(alloc, credit, memory, code),
         ["calls", a, b, c, credit, memory] => called(alloc, [a, b, c], credit, memory, code),

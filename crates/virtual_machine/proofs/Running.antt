@@ -4,7 +4,8 @@ use Rattle.machine_model.specs.Value.{Registers}
 use Rattle.machine_model.specs.Machine.{State, Effect, Goes, Ends, Spawns, Calls, Traps, answered, effect}
 use Rattle.virtual_machine.proofs.Asking.{Asks, asks_effect}
 use Rattle.machine_model.proofs.Splits.{Splits, splits_effect, Births, births_effect}
-use Rattle.machine_model.specs.Alone.{Answers, Follows, EndsWithin, EndsAlone, alone, no_entries}
+use Rattle.machine_model.specs.Alone.{Answers, Follows, EndsWithin, EndsAlone, no_entries}
+use Rattle.task_trees.specs.Solo.{entering}
 use Rattle.machine_model.specs.Job.{entry_registers}
 use Rattle.helpers.specs.Piece.{Piece}
 use Rattle.helpers.specs.Table.{arity_in}
@@ -73,16 +74,15 @@ module _ (p : Checked) (may : Answers) (s : State) (frame : Frame) (part : Piece
   went (Traps trap) is splits births asks did = absurd did
 
 -- a task that starts is under way
-pub enters : (p : Checked) (may : Answers) (credit len : ℕ) (part : Piece) (frame : Frame) → IsVerified p → p.need ≤ length part.bytes →
-    len ≡ length part.bytes → length part.bytes ≤ 65536 → cost_at p 0 ≤ credit → credit ≤ 2147483647 → frame ≡ entry_frame len 0 →
-    IsUnderWay p may (alone credit part.bytes) frame part (record { held = credit; used = 0 })
-enters p may credit len part frame v need size small cost limit is =
-    let entered : frame ≡ entry_frame (length part.bytes) 0 = is ∙ ap (λ n. entry_frame n 0) size in
-    let fits : 0 < 2 ^ 64 = omega arith in
-    subst (λ f. IsUnderWay p may (alone credit part.bytes) f part (record { held = credit; used = 0 })) (sym entered) (record {
-      covered = covered_entry p part credit 0 v need small cost limit fits;
-      registers = entry_registers (length part.bytes) 0;
-      behind = behind_entry p (length part.bytes) 0 v need small fits;
+pub enters : (p : Checked) (may : Answers) (arg credit len : ℕ) (part : Piece) (frame : Frame) → arg < 2 ^ 64 → IsVerified p → p.need ≤ length part.bytes →
+    len ≡ length part.bytes → length part.bytes ≤ 65536 → cost_at p 0 ≤ credit → credit ≤ 2147483647 → frame ≡ entry_frame len arg →
+    IsUnderWay p may (entering arg credit part.bytes) frame part (record { held = credit; used = 0 })
+enters p may arg credit len part frame fits v need size small cost limit is =
+    let entered : frame ≡ entry_frame (length part.bytes) arg = is ∙ ap (λ n. entry_frame n arg) size in
+    subst (λ f. IsUnderWay p may (entering arg credit part.bytes) f part (record { held = credit; used = 0 })) (sym entered) (record {
+      covered = covered_entry p part credit arg v need small cost limit fits;
+      registers = entry_registers (length part.bytes) arg;
+      behind = behind_entry p (length part.bytes) arg v need small fits;
       leads = λ r0 last ends. ends;
       size = refl;
     })
@@ -114,10 +114,11 @@ module _ (p : Checked) (may : Answers) (start : State) (f : Frame) (part : Piece
   ended : (word : ℕ) (e : Effect) → effect (program_of p) no_entries before ≡ e → Splits part.bytes e →
       Did p e (Ended word) f' part' credit' quiet told asked →
       (last : State) × EndsAlone (program_of p) may start word last × (part'.bytes ≡ last.part) × (length part'.bytes ≡ length start.part) × quiet
+      × (credit'.used ≡ last.used)
   ended word (Goes next) is splits did = absurd did
   ended word (Ends r0 last) is splits did =
       let left : part'.bytes ≡ last.part = sym (ap (λ (t : State). t.part) did.1) in
-      (last, way.leads word last (1, rw is (did.0, refl)), left, ap length (left ∙ splits) ∙ way.size, did.2)
+      (last, way.leads word last (1, rw is (did.0, refl)), left, ap length (left ∙ splits) ∙ way.size, did.2, sym (ap (λ (t : State). t.used) did.1))
   ended word (Spawns birth taken refused) is splits did = absurd did
   ended word (Calls helper arguments caller) is splits did = absurd did
   ended word (Traps trap) is splits did = absurd did
@@ -125,6 +126,7 @@ module _ (p : Checked) (may : Answers) (start : State) (f : Frame) (part : Piece
   -- a step at which the task ends
   pub ends : (word : ℕ) → Did p (effect (program_of p) no_entries before) (Ended word) f' part' credit' quiet told asked →
       (last : State) × EndsAlone (program_of p) may start word last × (part'.bytes ≡ last.part) × (length part'.bytes ≡ length start.part) × quiet
+      × (credit'.used ≡ last.used)
   ends word did = ended word (effect (program_of p) no_entries before) refl (splits_effect (program_of p) no_entries before) did
 
 -- a stretch of instructions that go on

@@ -2,6 +2,7 @@
 use Rattle.std.specs.Prelude.{◌≡◌, ℕ, ◌<◌, ◌≤◌, List, length, Option, Some, None}
 use Rattle.machine_model.specs.Machine.{State}
 use Rattle.machine_model.specs.Alone.{Answers, EndsAlone, alone}
+use Rattle.task_trees.specs.Solo.{entering}
 use Rattle.helpers.specs.Table.{Table}
 use Rattle.verifier.specs.Checked.{Checked, program_of, cost_at}
 use Rattle.verifier.specs.Refusals.{IsAccepted}
@@ -12,6 +13,13 @@ use Rattle.virtual_machine.specs.declared.vm_fault.VmFault.TheVariants.{NoProgra
 pub record Runs (p : Checked) (may : Answers) (credit : ℕ) (bytes : List ℕ) (r0 : ℕ) (left : List ℕ) : Type 0 where
   pub last : State
   pub ends : EndsAlone (program_of p) may (alone credit bytes) r0 last
+  pub leaves : left ≡ last.part
+
+-- the same with any argument, and with what it used of the credit
+pub record RunsOn (p : Checked) (may : Answers) (arg credit : ℕ) (bytes : List ℕ) (r0 used : ℕ) (left : List ℕ) : Type 0 where
+  pub last : State
+  pub ends : EndsAlone (program_of p) may (entering arg credit bytes) r0 last
+  pub uses : used ≡ last.used
   pub leaves : left ≡ last.part
 
 -- a program is set, which so much credit and so many bytes suffice for
@@ -25,6 +33,12 @@ pub record Executes (program : Option Checked) (may : Answers) (credit : ℕ) (b
   pub p : Checked
   pub runnable : IsRunnable program credit (length bytes) p
   pub runs : Runs p may credit bytes r0 left
+
+-- the same with any argument, and with what it used of the credit
+pub record ExecutesOn (program : Option Checked) (may : Answers) (arg credit : ℕ) (bytes : List ℕ) (r0 used : ℕ) (left : List ℕ) : Type 0 where
+  pub p : Checked
+  pub runnable : IsRunnable program credit (length bytes) p
+  pub runs : RunsOn p may arg credit bytes r0 used left
 
 -- why it doesn't run; a run takes no memory
 abbrev pub IsUnrunnable : Option Checked → ℕ → ℕ → VmFault → Type 0

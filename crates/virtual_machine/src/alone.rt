@@ -3,25 +3,32 @@
 ghost use Rattle.std.specs.Prelude.{◌≡◌, ◌≤◌, length};
 ghost use Rattle.verifier.specs.Checked.{IsVerified, cost_at};
 ghost use Rattle.virtual_machine.specs.Functions.{HaveFunctions, called};
-ghost use Rattle.virtual_machine.specs.Executes.{Runs};
+ghost use Rattle.virtual_machine.specs.Executes.{RunsOn};
 
+use crate::executed::Executed;
 use crate::functions::Functions;
 use interpreter::{Credit, Frame, Next};
 use verifier::Verified;
 
-/// Runs a program alone on these bytes, with argument 0, from its entry to its end, and gives R0.
-pub fn run_alone(code: &Verified, bytes: &mut [u8], credit: u32, functions: &mut Functions) -> u64
+/// Runs a program alone on these bytes, with this argument, from its entry to its end.
+pub fn run_alone(
+    code: &Verified,
+    bytes: &mut [u8],
+    arg: u64,
+    credit: u32,
+    functions: &mut Functions,
+) -> Executed
     requires verified { IsVerified code.now }
     requires functions { HaveFunctions code.now.helpers functions.old.places.items }
     requires need { code.now.need ≤ length bytes.old }
     requires small { length bytes.old ≤ 65536 }
     requires cost { cost_at code.now 0 ≤ credit }
     requires limit { credit ≤ 2147483647 }
-    ensures runs { Runs code.now (called functions.old.places.items) credit bytes.old result bytes.new }
+    ensures runs { RunsOn code.now (called functions.old.places.items) arg credit bytes.old result.r0 result.used bytes.new }
     ensures functions { functions.new ≡ functions.old }
 {
     let mut frame = Frame::zeroed();
-    frame.enter(bytes.len() as u32, 0);
+    frame.enter(bytes.len() as u32, arg);
     let mut credit = Credit {
         held: credit,
         used: 0,
@@ -31,7 +38,12 @@ pub fn run_alone(code: &Verified, bytes: &mut [u8], credit: u32, functions: &mut
         let ran = frame.run_on(code, slot, usize::MAX, bytes, &mut credit, functions);
         match ran.next {
             Next::At(next) => slot = next,
-            Next::Ended(r0) => return r0,
+            Next::Ended(r0) => {
+                return Executed {
+                    r0,
+                    used: credit.used,
+                };
+            }
         }
     }
 }

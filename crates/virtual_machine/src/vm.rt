@@ -1,14 +1,15 @@
 //! A machine for single programs.
 
-ghost use Rattle.std.specs.Prelude.{◌≡◌, ◌≢◌, ◌↔◌, ℕ, ◌==◌, ◌≤◌, ◌<◌, [], length, if◌then◌else◌, IsTrue, IsSome, IfOk, OnOk, OnErr, None, Some, MatchOption, MatchResult};
+ghost use Rattle.std.specs.Prelude.{◌≡◌, ◌≢◌, ◌↔◌, ℕ, ◌==◌, ◌≤◌, ◌<◌, [], length, if◌then◌else◌, IsTrue, IsSome, IfOk, OnOk, OnErr, None, Some, MatchOption, MatchResult, option_map};
 ghost use Rattle.helpers.specs.Table.{arity_in, job_table};
 ghost use Rattle.verifier.specs.Checked.{Checked};
 ghost use Rattle.verifier.specs.Refusals.{Refuses};
 ghost use Rattle.std.proofs.Props.{props};
 ghost use Rattle.virtual_machine.specs.Functions.{HaveFunctions, called, function_of};
-ghost use Rattle.virtual_machine.specs.Executes.{Executes, IsUnrunnable, IsSet};
+ghost use Rattle.virtual_machine.specs.Executes.{Executes, ExecutesOn, IsUnrunnable, IsSet};
 
 use crate::alone::run_alone;
+use crate::executed::Executed;
 use crate::functions::Functions;
 use crate::registered::{Function, Registered};
 use crate::vm_fault::VmFault;
@@ -65,6 +66,22 @@ impl Vm {
         Ok(())
     }
 
+    /// Sets a program that was verified before, which asks that it was with the machine's helpers.
+    pub fn set_verified(&mut self, program: Verified)
+        requires { program.helpers ≡ helpers_in self.old }
+        ensures program { program_in self.new ≡ Some program }
+        ensures helpers { (helpers_in self.new ≡ helpers_in self.old) × (functions_in self.new ≡ functions_in self.old) }
+    {
+        self.program = Some(program);
+    }
+
+    /// The program that is set, if one is: what it needs and costs at most stands in it.
+    pub fn program(&self) -> Option<&Verified>
+        ensures { option_map (λ p. p.now) result ≡ program_in self.now }
+    {
+        self.program.as_ref()
+    }
+
     /// Whether a program is set.
     pub fn has_program(&self) -> bool
         ensures { IsTrue result ↔ IsSome (program_in self.now) }
@@ -103,6 +120,29 @@ impl Vm {
         Ok(())
     }
 
+    /// Runs the program alone from its entry to its end, with the memory as its part, this argument and this credit, and gives R0 and what it
+    /// used of the credit. Otherwise it is [`Vm::execute_program`].
+    pub fn execute(&mut self, mem: &mut [u8], arg: u64, credit: u32) -> Result<Executed, VmFault>
+        requires small { length mem.old ≤ 65536 }
+        requires limit { credit ≤ 2147483647 }
+        ensures runs { MatchResult result
+            (λ done. ExecutesOn (program_in self.old) (called (functions_in self.old)) arg credit mem.old done.r0 done.used mem.new)
+            (λ fault. IsUnrunnable (program_in self.old) credit (length mem.old) fault × (mem.new ≡ mem.old)) }
+        ensures kept { (program_in self.new ≡ program_in self.old) × (helpers_in self.new ≡ helpers_in self.old)
+            × (functions_in self.new ≡ functions_in self.old) }
+    {
+        let Some(program) = &self.program else {
+            return Err(VmFault::NoProgram);
+        };
+        if credit < program.cost() {
+            return Err(VmFault::CreditLow);
+        }
+        if mem.len() < program.need() as usize {
+            return Err(VmFault::MemoryShort);
+        }
+        Ok(run_alone(program, mem, arg, credit, &mut self.functions))
+    }
+
     /// Runs the program alone from its entry to its end, with argument 0, the memory as its part, and this credit, and gives
     /// R0. It works on the memory in place, and leaves it as the run leaves it. Each spawn is answered 1. It asks for at most 65,536
     /// bytes of memory and for a credit of at most 2,147,483,647.
@@ -118,15 +158,9 @@ impl Vm {
         ensures kept { (program_in self.new ≡ program_in self.old) × (helpers_in self.new ≡ helpers_in self.old)
             × (functions_in self.new ≡ functions_in self.old) }
     {
-        let Some(program) = &self.program else {
-            return Err(VmFault::NoProgram);
-        };
-        if credit < program.cost() {
-            return Err(VmFault::CreditLow);
+        match self.execute(mem, 0, credit) {
+            Ok(done) => Ok(done.r0),
+            Err(fault) => Err(fault),
         }
-        if mem.len() < program.need() as usize {
-            return Err(VmFault::MemoryShort);
-        }
-        Ok(run_alone(program, mem, credit, &mut self.functions))
     }
 }

@@ -8,8 +8,8 @@ use Rattle.virtual_machine.proofs.alone.run_alone.Goals as goal
 
 pub loop-next-init : goal.loop-next-init
 loop-next-init g c = record {
-  way = enters c.args.code.now (called c.args.functions.now.places.items) c.args.credit _ (lent c.args.bytes.now) (at_slot c.enter.new.self 0)
-      c.requires.verified c.requires.need refl c.requires.small c.requires.cost c.requires.limit (ap (λ (f : Frame). at_slot f 0) c.enter.ensures);
+  way = enters c.args.code.now (called c.args.functions.now.places.items) c.args.arg c.args.credit _ (lent c.args.bytes.now) (at_slot c.enter.new.self 0)
+      (omega (arith, c.ranges.arg)) c.requires.verified c.requires.need refl c.requires.small c.requires.cost c.requires.limit (ap (λ (f : Frame). at_slot f 0) c.enter.ensures);
   functions = refl;
 }
 
@@ -18,7 +18,7 @@ returns-in-Ended-clause-runs g c =
     let ran = c.run_on-ran.ensures.ran in
     let way = goes_far _ _ _ _ _ _ c.loop-next.invariant.way ran.before ran.mid ran.mid_part ran.goes in
     let end = ends _ _ _ _ _ _ way _ _ _ _ _ _ c.in-Ended.r0 (rw c.in-Ended.is at (ran.last_one way.registers way.behind)) in
-    record { last = end.0; ends = end.1; leaves = end.2 }
+    record { last = end.0; ends = end.1; uses = end.5; leaves = end.2 }
 
 pub returns-in-Ended-clause-functions : goal.returns-in-Ended-clause-functions
 returns-in-Ended-clause-functions g c =

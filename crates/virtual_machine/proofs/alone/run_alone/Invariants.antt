@@ -1,5 +1,5 @@
 use Rattle.std.proofs.Common.{◌≡◌, ◌-◌}
-use Rattle.machine_model.specs.Alone.{alone}
+use Rattle.task_trees.specs.Solo.{entering}
 use Rattle.virtual_machine.specs.Functions.{called}
 use Rattle.interpreter.specs.Behind.{at_slot, lent}
 use Rattle.virtual_machine.proofs.Running.{IsUnderWay}
@@ -7,7 +7,7 @@ use Rattle.virtual_machine.proofs.alone.run_alone.Given as goal
 
 abbrev pub invariant-loop-next : goal.invariant-loop-next
 invariant-loop-next g l = record {
-  way : IsUnderWay l.code (called l.fn.functions.places.items) (alone l.fn.credit l.fn.bytes) (at_slot l.frame l.slot) (lent l.bytes) l.credit;
+  way : IsUnderWay l.code (called l.fn.functions.places.items) (entering l.fn.arg l.fn.credit l.fn.bytes) (at_slot l.frame l.slot) (lent l.bytes) l.credit;
   functions : l.functions ≡ l.fn.functions;
 }
 
