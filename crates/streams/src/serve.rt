@@ -192,7 +192,7 @@ pub fn serve_stream<R: Source, W: Sink, D, H: Handler<D>>(
     'reads: for _ in 0..u64::MAX {
         let count = match reader.read(&mut piece) {
             Ok(count) => count,
-            Err(_) => return Err(StreamFault::NoMemory),
+            Err(_) => return Err(StreamFault::ReadFailed),
         };
         if count == 0 {
             return Ok(number);
