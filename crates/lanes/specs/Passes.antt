@@ -1,6 +1,6 @@
 -- What a pass of a lane or of a thief shows.
 use Rattle.std.specs.Prelude.{◌≡◌, Bool, true, false}
-use Rattle.crossbeam_deque.specs.Handles.{view, worker_view, worker_deque, IsPassOf, stealer_deque}
+use Rattle.crossbeam_deque.specs.Handles.{view, worker_view, worker_deque, IsPassOf, stealer_deque, Pass as Seat}
 use Rattle.lanes.specs.declared.moves.Moves.{Moves}
 use Rattle.credit_book.specs.declared.task.Ticket.{Ticket}
 use Rattle.lanes.specs.Interleaving.{newcomer}
@@ -13,6 +13,10 @@ use Rattle.lanes.specs.declared.ends.Pass.{Pass}
 abbrev pub moves_of : Bool → Pass → Moves
 moves_of true p = worker_view p.seen.value
 moves_of false p = view p.seat
+
+-- what one knows that has a bare seat
+abbrev pub known : {T V A : Type 0} → Seat T V A → V
+known seat = view seat
 
 -- what the caller has moved
 abbrev pub moves : Pass → Moves

@@ -43,6 +43,9 @@ type Ready = Worker<Ticket, Global, Moves, InOrder>;
 
 type Reach = Stealer<Ticket, Global, Moves, InOrder>;
 
+/// What a thief knows, without a look at the lane.
+pub(crate) type Seat = crossbeam_deque::Pass<Ticket, Moves>;
+
 /// The slots that a lane begins with.
 const FIRST_ROOM: usize = 16;
 
@@ -66,7 +69,7 @@ pub struct Thief {
 pub struct Pass {
     owns: bool,
     seen: Snapshot<Ready>,
-    seat: crossbeam_deque::Pass<Ticket, Moves>,
+    seat: Seat,
 }
 
 /// What a thief was given.
@@ -81,9 +84,9 @@ pub enum Stolen {
 
 impl Lane {
     ghost use Rattle.std.specs.Prelude.{MatchResult, MatchOption, [], ◌∷◌, IfOk};
-    ghost use Rattle.crossbeam_deque.specs.Handles.{worker_view};
+    ghost use Rattle.crossbeam_deque.specs.Handles.{worker_view, view, stealer_deque, IsPassOf};
     ghost use Rattle.lanes.specs.Interleaving.{with_pushed, with_taken, newcomer};
-    ghost use Rattle.lanes.specs.Passes.{moves, IsOwner, IsNewThief};
+    ghost use Rattle.lanes.specs.Passes.{moves, IsOwner, IsThiefOf, IsNewThief};
 
     /// A lane with no ticket.
     pub(crate) fn empty(alloc: Global) -> Result<Lane, NoMemory>
@@ -107,22 +110,30 @@ impl Lane {
         })
     }
 
+    /// A thief of this lane, and a bare seat of its own.
+    pub(crate) fn way(&self) -> Result<(Thief, Seat), NoMemory>
+        ensures { IfOk result (λ g. IsThiefOf self.now g.0 × IsPassOf (stealer_deque g.0.reach) g.1 × (view g.1 ≡ newcomer)) }
+    {
+        let reach = self.ready.stealer()?;
+        let seat = reach.pass();
+        Ok((Thief { reach }, seat))
+    }
+
     /// A thief of this lane, and its pass.
     pub(crate) fn thief(&self) -> Result<(Thief, Pass), NoMemory>
         ensures { IfOk result (λ g. IsNewThief self.now g.0 g.1) }
     {
-        let reach = self.ready.stealer()?;
-        let seat = reach.pass();
+        let (thief, seat) = self.way()?;
         let pass = Pass {
             owns: false,
             seen: Snapshot::of(&self.ready),
             seat,
         };
-        Ok((Thief { reach }, pass))
+        Ok((thief, pass))
     }
 
     /// Puts a ticket at the back, or gives it back where there is no room for it.
-    fn put(&mut self, ticket: Ticket) -> Result<(), Ticket>
+    pub(crate) fn put(&mut self, ticket: Ticket) -> Result<(), Ticket>
         ensures { MatchResult result (λ _. worker_view self.new.ready ≡ with_pushed (worker_view self.old.ready) (ticket ∷ []))
             (λ back. (back ≡ ticket) × (worker_view self.new.ready ≡ worker_view self.old.ready)) }
     {
@@ -130,7 +141,7 @@ impl Lane {
     }
 
     /// The ticket at the front.
-    fn next(&mut self) -> Option<Ticket>
+    pub(crate) fn next(&mut self) -> Option<Ticket>
         ensures { MatchOption result (worker_view self.new.ready ≡ worker_view self.old.ready)
             (λ ticket. worker_view self.new.ready ≡ with_taken (worker_view self.old.ready) (ticket ∷ [])) }
     {
@@ -179,7 +190,7 @@ impl Thief {
     }
 
     /// The ticket at the front, for a bare seat.
-    fn steal_on(&mut self, seat: &mut crossbeam_deque::Pass<Ticket, Moves>) -> Stolen
+    pub(crate) fn steal_on(&mut self, seat: &mut Seat) -> Stolen
         requires { IsPassOf (stealer_deque self.old.reach) seat.old }
         ensures pass { IsPassOf (stealer_deque self.new.reach) seat.new }
         ensures moved { MatchStolen result (view seat.new ≡ view seat.old)

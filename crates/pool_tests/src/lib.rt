@@ -7,6 +7,16 @@ mod by_hand;
 #[cfg(test)]
 mod opened;
 
+// lanes, without a pool
+#[cfg(test)]
+mod lane_tests;
+#[cfg(test)]
+mod stealing_tests;
+#[cfg(test)]
+mod tally;
+#[cfg(test)]
+mod tickets;
+
 // who meets whom, and who looks
 #[cfg(test)]
 mod lookers;

@@ -2,3 +2,4 @@ pub mod Outcomes
 pub mod PoolFaultCodes
 pub mod Final
 pub mod Noted
+pub mod Handing

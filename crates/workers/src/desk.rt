@@ -1,6 +1,7 @@
 //! What lies under the lock of a job: its book, and whether this has refused an end.
 
-ghost use Rattle.std.specs.Prelude.{◌≡◌, ◌++◌, ◌∷◌, [], IfOk, IfErr, IfSome, IfNone, length, true, false, MatchResult, MatchBool};
+ghost use Rattle.std.specs.Prelude.{◌≡◌, ◌++◌, ◌∷◌, [], IfOk, IfErr, IsTrue, ◌↔◌, length, false};
+ghost use Rattle.credit_book.specs.Books.{ticket_of};
 ghost use Rattle.credit_book.specs.History.{IsComplete, table_of};
 ghost use Rattle.workers.specs.Final.{IsFinal};
 ghost use Rattle.workers.specs.declared.fault.PoolFault.TheVariants.{BookRefused};
@@ -38,22 +39,20 @@ impl Desk {
         desk
     }
 
-    /// Parks a ticket.
-    fn park(&mut self, ticket: Ticket) {
+    /// Parks a ticket, for any worker to claim.
+    pub fn park(&mut self, ticket: Ticket) {
         if self.book.park(ticket).is_err() {
             self.has_refused = true;
         }
     }
 
-    /// Spawns a child of the parent, and parks its ticket; or gives the record back as it was.
-    pub fn spawn(&mut self, parent: u32, child: SpawnRecord) -> Result<(), SpawnRecord>
-        ensures { IfErr result (λ back. (back ≡ child) × (self.new ≡ self.old)) }
+    /// Spawns a child of the parent: its ticket, or the record as it was.
+    pub fn spawn(&mut self, parent: u32, child: SpawnRecord) -> Result<Ticket, SpawnRecord>
+        ensures ticket { IfOk result (λ ticket. ticket ≡ ticket_of self.old.book.board.job (length (table_of self.old.book.history).standings) child) }
+        ensures back { IfErr result (λ back. (back ≡ child) × (self.new ≡ self.old)) }
     {
         match self.book.spawn(parent, child) {
-            Ok(ticket) => {
-                self.park(ticket);
-                Ok(())
-            }
+            Ok(ticket) => Ok(ticket),
             Err(Refused { fault: _, value }) => Err(value),
         }
     }
@@ -69,11 +68,14 @@ impl Desk {
         }
     }
 
-    /// Ends a task.
-    pub fn end(&mut self, outcome: Outcome) {
+    /// Ends a task. Whether the book has refused no end so far.
+    pub fn end(&mut self, outcome: Outcome) -> bool
+        ensures { IsTrue result ↔ (self.new.has_refused ≡ false) }
+    {
         if self.book.end(outcome).is_err() {
             self.has_refused = true;
         }
+        !self.has_refused
     }
 
     /// The report of a job with this number, this credit and this many bytes, once no task is alive: 82 where the book has refused an

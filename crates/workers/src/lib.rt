@@ -18,6 +18,7 @@ mod noting;
 pub use fault::PoolFault;
 
 // the threads
+mod hands;
 mod pool;
 mod watch;
 

@@ -1,70 +1,31 @@
 //! The threads of a pool, each of which runs tasks of the job until no task is alive.
 
-ghost use Rattle.std.specs.Prelude.{◌≡◌, ◌≤◌, All, IfOk, IfSome, length, vec_len};
-ghost use Rattle.std.proofs.Props.{props};
-ghost use Rattle.job_core.specs.Admitted.{AreOwn};
+ghost use Rattle.std.specs.Prelude.{◌≡◌, ◌≤◌, All, IfOk, IfSome, length};
 ghost use Rattle.workers.specs.Final.{IsFinal};
 ghost use Rattle.workers.specs.Noted.{NotedAlone, EndedAlone};
 
 use crate::desk::{Desk, Found};
 use crate::fault::PoolFault;
 use crate::gate::Gate;
+use crate::hands::{Hands, Shared};
 use crate::noting::{Note, agrees, run_noted};
 use crate::watch::Watch;
-use crate::work::entry_in;
 use credit_book::{Book, Post, Report};
-use helpers::{Entry, Part, SpawnRecord, Spawner};
+use helpers::Part;
 use job_core::Job;
+use lanes::{Lanes, lanes_between};
 use refusal::NoMemory;
 use std::alloc::Global;
 use std::sync::{Mutex, Wait};
 use std::thread;
 use std::thread::{Promise, PromisedHandle, Scope, Threads};
 use task_arena::Frames;
-use verifier::Verified;
 
-/// What the workers of a job share.
+/// A worker ahead of its thread: its view of how far the job is, and its lanes.
 #[derive(Drop)]
-struct Shared {
-    programs: Vec<Verified>,
-    desk: Mutex<Desk>,
-    ghost few: { vec_len programs ≤ 16 },
-    ghost own: { AreOwn programs.items } by { Prim.hlevel props },
-}
-
-/// A worker in its thread: the spawner of the task that it runs, whose number it has.
-#[derive(Drop)]
-struct Hands<'a, R> {
-    rt: &'a R,
-    shared: &'a Shared,
-    turn: u32,
-}
-
-impl<R: Wait> Spawner for Hands<'_, R> {
-    ghost use Rattle.std.specs.Prelude.{◌≡◌, map};
-    ghost use Rattle.machine_model.specs.Job.{entries_of};
-    ghost use Rattle.verifier.specs.Checked.{program_of};
-
-    ghost entries = { λ hands. entries_of (map program_of hands.shared.now.programs.items) };
-
-    ghost asks = { λ hands child. Unit {0} };
-
-    ghost spawns = { λ old child reply new. new ≡ old };
-
-    ghost calls = { λ old helper arguments answer new. (answer ≡ 0) × (new ≡ old) };
-
-    fn entry(&self, program: u64) -> Option<Entry> {
-        entry_in(&self.shared.programs, program)
-    }
-
-    fn spawn(&mut self, child: SpawnRecord) -> Result<(), SpawnRecord> {
-        self.shared.desk.lock(self.rt).spawn(self.turn, child)
-    }
-
-    /// A job's programs call no helper of a caller's, so that nobody asks.
-    fn call(&mut self, _id: u32, _arguments: [u64; 5]) -> u64 {
-        0
-    }
+struct Worker {
+    watch: Watch,
+    lanes: Lanes,
 }
 
 /// What one worker does in its thread, until a look says that the job is complete, or the book has refused an end.
@@ -73,27 +34,19 @@ fn work<R: Wait, G: Gate>(
     rt: &R,
     shared: &Shared,
     gate: &G,
-    watch: Watch,
+    worker: Worker,
     alloc: Global,
 ) -> Vec<Note>
     ensures { All (NotedAlone shared.now.programs.items) result.items }
 {
+    let Worker { watch, lanes } = worker;
     let mut watch = watch;
     let mut notes = Vec::new(alloc);
     let mut frames = Frames::new(alloc);
-    let mut hands = Hands {
-        rt,
-        shared,
-        turn: 0,
-    };
+    let mut hands = Hands::new(rt, shared, lanes);
     for _ in rt.forever() {
-        if watch.is_complete() {
-            break;
-        }
-        let found = shared.desk.lock(rt).claim();
-        match found {
+        match hands.find() {
             Found::Ready(ticket) => {
-                hands.turn = ticket.number();
                 let outcome = run_noted(
                     alloc,
                     ticket,
@@ -103,9 +56,16 @@ fn work<R: Wait, G: Gate>(
                     gate,
                     &mut notes,
                 );
-                shared.desk.lock(rt).end(outcome);
+                if !hands.end(outcome) {
+                    break;
+                }
             }
-            Found::Nothing => thread::yield_now(),
+            Found::Nothing => {
+                if watch.is_complete() {
+                    break;
+                }
+                thread::yield_now();
+            }
             Found::Refusal => break,
         }
     }
@@ -129,7 +89,7 @@ fn start<'s, E: 's, R: Threads + Wait + Sync, G: Gate + Sync>(
     scope: &Scope<'s, E>,
     shared: &'s Shared,
     gate: &'s G,
-    watch: Watch,
+    worker: Worker,
     alloc: Global,
 ) -> Option<Started<'s>>
     ensures { IfSome result (λ thread. thread.promise.0.now ≡ shared.now) }
@@ -137,25 +97,25 @@ fn start<'s, E: 's, R: Threads + Wait + Sync, G: Gate + Sync>(
     scope
         .spawn_with(
             NotesOf(shared),
-            move || work(rt, shared, gate, watch, alloc),
+            move || work(rt, shared, gate, worker, alloc),
         )
         .ok()
 }
 
-/// Starts a thread for each watch, and joins those that could be started. What their workers noted.
+/// Starts a thread for each worker, and joins those that could be started. What their workers noted.
 fn run_all<'s, E: 's, R: Threads + Wait + Sync, G: Gate + Sync>(
     rt: &'s R,
     scope: &Scope<'s, E>,
     shared: &'s Shared,
     gate: &'s G,
-    watches: Vec<Watch>,
+    workers: Vec<Worker>,
     alloc: Global,
 ) -> Result<Vec<Vec<Note>>, PoolFault>
     ensures { IfOk result (λ all. All (λ notes. All (NotedAlone shared.now.programs.items) notes.items) all.items) }
 {
-    let mut threads = Vec::with_capacity(alloc, watches.len())?;
-    for watch in watches {
-        if let Some(thread) = start(rt, scope, shared, gate, watch, alloc) {
+    let mut threads = Vec::with_capacity(alloc, workers.len())?;
+    for worker in workers {
+        if let Some(thread) = start(rt, scope, shared, gate, worker, alloc) {
             threads.push_reserved(thread);
         }
     }
@@ -181,23 +141,25 @@ fn gather(alloc: Global, shared: &Shared, lists: &[Vec<Note>]) -> Result<Vec<Not
     Ok(notes)
 }
 
-/// A watch for each worker.
-fn watch_all(alloc: Global, post: &mut Post, workers: u32) -> Result<Vec<Watch>, NoMemory>
+/// So many workers: each has its own watch over the post's board, and its own lane.
+fn open_workers(alloc: Global, post: &mut Post, count: u32) -> Result<Vec<Worker>, NoMemory>
+    requires { count ≤ 16 }
     ensures { post.new ≡ post.old }
 {
-    let mut watches = Vec::new(alloc);
-    for _ in 0..workers {
-        watches.push(Watch::over(post)?)?;
+    let mut workers = Vec::new(alloc);
+    for lanes in lanes_between(alloc, count)? {
+        let watch = Watch::over(post)?;
+        workers.push(Worker { watch, lanes })?;
     }
-    Ok(watches)
+    Ok(workers)
 }
 
-/// Runs the tasks in a thread for each watch. What the workers noted.
+/// Runs the tasks in a thread for each worker. What the workers noted.
 fn run_in_threads<R: Threads + Wait + Sync, G: Gate + Sync>(
     rt: &R,
     alloc: Global,
     shared: &Shared,
-    watches: Vec<Watch>,
+    workers: Vec<Worker>,
     gate: &G,
 ) -> Result<Vec<Note>, PoolFault>
     ensures { IfOk result (λ notes. All (NotedAlone shared.now.programs.items) notes.items) }
@@ -207,7 +169,7 @@ fn run_in_threads<R: Threads + Wait + Sync, G: Gate + Sync>(
         rt,
         |scope| -> Result<Vec<Vec<Note>>, PoolFault>
             ensures { IfOk result (λ all. All (λ notes. All (NotedAlone shared.entry.now.programs.items) notes.items) all.items) }
-        { run_all(rt, scope, shared, gate, watches, alloc) },
+        { run_all(rt, scope, shared, gate, workers, alloc) },
     )?;
     Ok(gather(alloc, shared, &lists)?)
 }
@@ -235,7 +197,7 @@ pub fn run_job<R: Threads + Wait + Sync, G: Gate + Sync>(
     ensures alone { IfOk result (λ report. All (EndedAlone job.programs) report.tasks.items) }
 {
     let mut post = post;
-    let watches = watch_all(alloc, &mut post, workers)?;
+    let crew = open_workers(alloc, &mut post, workers)?;
     let (programs, credit, buffer) = job.into_parts();
     let size = buffer.len();
     let (book, root) = Book::open(alloc, post, Part::whole(buffer))?;
@@ -244,7 +206,7 @@ pub fn run_job<R: Threads + Wait + Sync, G: Gate + Sync>(
         programs,
         desk: Mutex::new(Desk::open(book, root)),
     };
-    let notes = run_in_threads(rt, alloc, &shared, watches, gate)?;
+    let notes = run_in_threads(rt, alloc, &shared, crew, gate)?;
     let Shared { programs: _, desk } = shared;
     let report = desk.into_inner().close(number, credit, size)?;
     if !agrees(alloc, &report.tasks, &notes)? {

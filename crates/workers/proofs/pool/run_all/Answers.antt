@@ -3,8 +3,8 @@ use Rattle.std.proofs.lemmas.Grind.{common_steps}
 use Rattle.workers.proofs.NotedLemmas.{all_snoc}
 use Rattle.workers.proofs.pool.run_all.Goals as goal
 
-pub loop-watch-preserved-in-Some-start : goal.loop-watch-preserved-in-Some-start
-loop-watch-preserved-in-Some-start g c = (
-  rw c.push_reserved.ensures.items (all_snoc (λ h. h.promise.0.now ≡ c.args.shared.now) _ _ c.loop-watch.invariant.0 c.in-Some-start.ensures),
+pub loop-worker-preserved-in-Some-start : goal.loop-worker-preserved-in-Some-start
+loop-worker-preserved-in-Some-start g c = (
+  rw c.push_reserved.ensures.items (all_snoc (λ h. h.promise.0.now ≡ c.args.shared.now) _ _ c.loop-worker.invariant.0 c.in-Some-start.ensures),
   grind (arith, common_steps),
 )

@@ -2,6 +2,6 @@ use Rattle.std.proofs.Common.{◌≡◌, ◌+◌, ◌≤◌, All, vec_len, vec_c
 use Rattle.std.specs.Vec.Iter.{into_iter_len}
 use Rattle.workers.proofs.pool.run_all.Given as goal
 
-abbrev pub invariant-loop-watch : goal.invariant-loop-watch
-invariant-loop-watch g l =
-    All (λ h. h.promise.0.now ≡ l.shared) l.threads.items × (vec_len l.threads + into_iter_len l.watch-iterator ≤ vec_capacity l.threads)
+abbrev pub invariant-loop-worker : goal.invariant-loop-worker
+invariant-loop-worker g l =
+    All (λ h. h.promise.0.now ≡ l.shared) l.threads.items × (vec_len l.threads + into_iter_len l.worker-iterator ≤ vec_capacity l.threads)

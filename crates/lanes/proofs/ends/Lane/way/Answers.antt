@@ -1,5 +1,5 @@
 use Rattle.lanes.proofs.Moving.{admits}
-use Rattle.lanes.proofs.ends.Lane.thief.Goals as goal
+use Rattle.lanes.proofs.ends.Lane.way.Goals as goal
 
 pub pass-seat-requires : goal.pass-seat-requires
 pass-seat-requires c = admits

@@ -1,0 +1,104 @@
+//! The lanes of workers that steal from one another.
+ghost use Rattle.std.specs.Prelude.{◌≡◌, ◌+◌, ◌<◌, ◌≤◌, [], ◌∷◌, All, IfOk, MatchResult, MatchOption, length, vec_len};
+ghost use Rattle.lanes.specs.Interleaving.{newcomer, with_pushed, with_taken};
+ghost use Rattle.lanes.specs.Sharing.{IsAlone, IsNew, IsTaken};
+
+use crate::ends::Lane;
+use crate::way::{Way, first_stolen};
+use credit_book::Ticket;
+use refusal::NoMemory;
+use std::alloc::Global;
+use std::marker::Model;
+
+/// What one of several workers has of their lanes: the owner's end of its own, and a way into each other one. Contracts see what it has
+/// moved in each.
+#[derive(Drop)]
+pub struct Lanes {
+    own: Lane,
+    ways: Vec<Way>,
+}
+
+impl Model for Lanes {
+    ghost use Rattle.crossbeam_deque.specs.Handles.{worker_view};
+    ghost use Rattle.lanes.specs.Sharing.{Moved};
+
+    ghost Value = { Moved };
+
+    ghost view = { λ l. record { own = worker_view l.own.ready; others = l.ways.items } };
+}
+
+impl Lanes {
+    /// A lane with no ticket and no way into another.
+    fn alone(alloc: Global) -> Result<Lanes, NoMemory>
+        ensures { IfOk result IsAlone }
+    {
+        Ok(Lanes {
+            own: Lane::empty(alloc)?,
+            ways: Vec::new(alloc),
+        })
+    }
+
+    /// A way into its own lane, for another worker.
+    fn way(&self) -> Result<Way, NoMemory>
+        ensures { IfOk result (λ way. way ≡ newcomer) }
+    {
+        let (thief, seat) = self.own.way()?;
+        Ok(Way::new(thief, seat))
+    }
+
+    /// Gives it these ways.
+    fn meet(&mut self, ways: Vec<Way>)
+        ensures { self.new ≡ record { own = self.old.own; others = ways.items } }
+    {
+        self.ways = ways;
+    }
+
+    /// Puts a ticket at the back of its own lane. It comes back where there is no room for it.
+    pub fn push(&mut self, ticket: Ticket) -> Result<(), Ticket>
+        ensures { MatchResult result (λ _. self.new ≡ record { own = with_pushed self.old.own (ticket ∷ []); others = self.old.others })
+            (λ back. (back ≡ ticket) × (self.new ≡ self.old)) }
+    {
+        self.own.put(ticket)
+    }
+
+    /// The ticket at the front of its own lane, or else at the front of the first other one that gives one. Nothing else is moved.
+    pub fn next(&mut self) -> Option<Ticket>
+        ensures { MatchOption result (self.new ≡ self.old) (λ ticket. IsTaken self.old ticket self.new) }
+    {
+        if let Some(ticket) = self.own.next() {
+            return Some(ticket);
+        }
+        first_stolen(&mut self.ways)
+    }
+}
+
+/// The ways of the worker at this place into the others' lanes, the next worker's first.
+fn ways_of(alloc: Global, all: &[Lanes], place: usize) -> Result<Vec<Way>, NoMemory>
+    requires { place < length all.now }
+    ensures count { IfOk result (λ ways. vec_len ways + 1 ≡ length all.now) }
+    ensures new { IfOk result (λ ways. All (λ way. way ≡ newcomer) ways.items) }
+{
+    let mut ways = Vec::with_capacity(alloc, all.len())?;
+    for step in 1..all.len() {
+        let other = &all[(place + step) % all.len()];
+        ways.push_reserved(other.way()?);
+    }
+    Ok(ways)
+}
+
+/// The lanes of so many workers, 16 at most, each of which has a lane of its own and a way into each other one.
+pub fn lanes_between(alloc: Global, workers: u32) -> Result<Vec<Lanes>, NoMemory>
+    requires { workers ≤ 16 }
+    ensures count { IfOk result (λ all. vec_len all ≡ workers) }
+    ensures new { IfOk result (λ all. All (IsNew workers) all.items) }
+{
+    let mut all = Vec::with_capacity(alloc, workers as usize)?;
+    for _ in 0..workers {
+        all.push_reserved(Lanes::alone(alloc)?);
+    }
+    for place in 0..all.len() {
+        let ways = ways_of(alloc, &all, place)?;
+        all[place].meet(ways);
+    }
+    Ok(all)
+}

@@ -1,0 +1,86 @@
+//! An owner that pushes and takes, while three thieves steal from it.
+
+use crate::tally::Tally;
+use crate::tickets::Tickets;
+use lanes::{Lanes, lanes_between};
+use std::alloc::Global;
+use std::sync::Wait;
+use std::test::Fail;
+use std::thread;
+use std::thread::Threads;
+
+/// How many tickets are pushed.
+const TICKETS: u32 = 100_000;
+
+/// Marks what it finds, which comes in the order of pushing, until all was pushed and it finds nothing.
+fn steals<R: Wait>(rt: &R, lanes: Lanes, tally: &Tally) {
+    let mut lanes = lanes;
+    let mut last = 0;
+    for _ in rt.forever() {
+        let was_over = tally.is_over();
+        match lanes.next() {
+            Some(ticket) => {
+                let number = tally.see(&ticket);
+                if number <= last {
+                    tally.fail();
+                }
+                last = number;
+            }
+            None if was_over => break,
+            None => thread::yield_now(),
+        }
+    }
+}
+
+/// Pushes all tickets, of which it takes one for every eight, and then what is left.
+fn pushes(alloc: Global, lanes: Lanes, tally: &Tally) -> Result<(), Fail> {
+    let mut lanes = lanes;
+    let mut tickets = Tickets::open(alloc)?;
+    for turn in 0..TICKETS {
+        let ticket = tickets.next(alloc)?;
+        if lanes.push(ticket).is_err() {
+            return Err(Fail::new("a push is refused"));
+        }
+        if turn % 8 == 0
+            && let Some(ticket) = lanes.next()
+        {
+            tally.see(&ticket);
+        }
+    }
+    tally.end();
+    for _ in 0..TICKETS {
+        let Some(ticket) = lanes.next() else {
+            break;
+        };
+        tally.see(&ticket);
+    }
+    Ok(())
+}
+
+/// Lets three thieves and an owner have the tickets. Whether each was seen once.
+fn shared_out<R: Threads + Wait + Sync>(rt: &R, alloc: Global) -> Result<bool, Fail> {
+    let tally = Tally::new(alloc, 100_001)?;
+    let seen = &tally;
+    let mut all = lanes_between(alloc, 4)?;
+    let Some(own) = all.pop() else {
+        return Err(Fail::new("there are no lanes"));
+    };
+    let pushed = thread::scope(thread::scope_env(), rt, |scope| {
+        for lanes in all {
+            if scope.spawn(move || steals(rt, lanes, seen)).is_err() {
+                seen.fail();
+            }
+        }
+        let pushed = pushes(alloc, own, seen);
+        seen.end();
+        pushed
+    });
+    pushed?;
+    Ok(tally.is_whole())
+}
+
+#[test]
+fn each_ticket_is_seen_once(rt: HostRuntime) -> Result<(), Fail> {
+    assert!(rt; shared_out(&rt, rt.alloc())?);
+    Ok(())
+}
