@@ -45,14 +45,14 @@ fn grants_over_loopback(rt: HostRuntime) -> Result<(), Fail> {
     Ok(())
 }
 
-// Each connection grants. The second of three is cut inside its next frame, and the third leaves while it is answered.
+// Two of three connections grant. The second is cut inside its next frame, and the third leaves while it is answered.
 fn visit_often<R: Net<Stream = TcpStream>>(
     rt: &R,
     alloc: Global,
     address: SocketAddr,
 ) -> io::Result<Vec<u8>> {
     let grant = frames(alloc, &[GRANT])?;
-    let mut burst = frames(alloc, &[GRANT])?;
+    let mut burst = Vec::new(alloc);
     for _ in 0..1000u32 {
         burst.extend_from_slice(&frames(alloc, &[ACCOUNT])?)?;
     }
@@ -83,7 +83,7 @@ fn keeps_accounts_over_a_hundred_connections(rt: HostRuntime) -> Result<(), Fail
     );
     let want = frames(
         alloc,
-        &["{\"balance\":9900,\"granted\":9900,\"ok\":true,\"open\":0,\"spent\":0}"],
+        &["{\"balance\":6600,\"granted\":6600,\"ok\":true,\"open\":0,\"spent\":0}"],
     )?;
     assert!(rt; answer?.as_slice() == want.as_slice());
     Ok(())

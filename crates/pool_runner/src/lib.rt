@@ -10,6 +10,7 @@ pub use ending::Ending;
 pub use errand::{Errand, start_thread};
 
 // all jobs
+mod keys;
 mod places;
 mod pool;
 

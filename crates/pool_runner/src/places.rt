@@ -9,6 +9,7 @@ ghost use Rattle.pool_runner.specs.Holding.{AreKept, IsSeen};
 ghost use Rattle.pool_runner.specs.Endings.{IsEndOf};
 
 use crate::errand::Errand;
+use crate::keys::{forget, key_of, note};
 use crate::running::{Running, begin};
 use credit_book::{Progress, Report};
 use job_core::Job;
@@ -82,13 +83,14 @@ impl Places {
         requires { F.IsAlwaysCallable starter.now }
         ensures { Starts self.old number job.credit result self.new }
     {
-        if self.keys.contains_key(&number) {
+        if key_of(&self.keys, number).is_some() {
             return Err(81);
         }
         if self.jobs.reserve(1).is_err() {
             return Err(99);
         }
-        if self.keys.insert(number, self.jobs.vacant_key()).is_err() {
+        let key = self.jobs.vacant_key();
+        if note(&mut self.keys, number, key).is_err() {
             return Err(99);
         }
         match begin(alloc, starter, number, job) {
@@ -97,7 +99,7 @@ impl Places {
                 Ok(())
             }
             Err(code) => {
-                self.keys.remove(&number);
+                forget(&mut self.keys, number);
                 Err(code)
             }
         }
@@ -112,7 +114,7 @@ impl Places {
             returned: 0,
             complete: false,
         };
-        let Some(key) = self.keys.get(&number).copied() else {
+        let Some(key) = key_of(&self.keys, number) else {
             return nothing;
         };
         match look_at(&mut self.jobs, key) {
@@ -126,7 +128,7 @@ impl Places {
         ensures { Takes self.old result self.new }
     {
         let (number, key, outcome) = finished(&self.jobs, &self.keys, rt)?;
-        let _ = self.keys.remove(&number);
+        forget(&mut self.keys, number);
         if let Some(running) = self.jobs.try_remove(key) {
             running.join(rt);
         }
