@@ -1,10 +1,13 @@
 -- The jobs that are held, from one state to the next, over what their keys and places find.
-use Rattle.std.proofs.Common.{◌≡◌, ◌≢◌, ◌⊎◌, ℕ, Bool, false, Option, Some, None, option_map, refl, sym, ap, ◌∙◌, inl, inr, arith}
+use Rattle.std.proofs.Common.{◌≡◌, ◌≢◌, ◌⊎◌, ℕ, Bool, false, Option, Some, None, option_map, refl, sym, ap, subst, ◌∙◌, inl, inr, arith}
 use Rattle.std.proofs.lemmas.Bool.{cases_eq}
 use Rattle.std.proofs.lemmas.Bool.Decides.{nat_tests}
 use Rattle.std.specs.BTreeMap.{is_at}
 use Rattle.std.specs.Ordering.{nat_cmp}
+use Rattle.credit_book.specs.declared.board.Progress.{Progress}
+use Rattle.pool_runner.specs.declared.places.Places.{Places}
 use Rattle.pool_runner.specs.Holding.{Held, AreKept, job_by}
+use Rattle.pool_runner.specs.Holds.{held_at, Sees, looks_at, Looks}
 
 -- another number isn't at this place of a tree
 pub not_at : (k n : ℕ) → n ≢ k → is_at (nat_cmp k) n ≡ false
@@ -108,3 +111,15 @@ numbered keys jobs number key held kept here there =
 
 pub found_at : (keys : ℕ → Option ℕ) (jobs : ℕ → Option Held) (number key : ℕ) (held : Held) → keys number ≡ Some key → jobs key ≡ Some held → job_by jobs (keys number) ≡ Some held
 found_at keys jobs number key held here there = ap (job_by jobs) here ∙ there
+
+is_job : (found : Option Held) (n : ℕ) → option_map (λ h. h.number) found ≡ Some n → (held : Held) × (found ≡ Some held)
+is_job None n e = let clash : None ≡ Some n = e in absurd (cc)
+is_job (Some held) n e = (held, refl)
+
+pub is_there : (keys : ℕ → Option ℕ) (jobs : ℕ → Option Held) (number key : ℕ) → AreKept keys jobs → keys number ≡ Some key → (held : Held) × (jobs key ≡ Some held)
+is_there keys jobs number key kept here = is_job (jobs key) number (kept number key here)
+
+-- what is told of a job that is held
+pub looks_held : (old : Places) (number : ℕ) (held : Held) (told : Progress) (new : Places) → held_at old number ≡ Some held → Sees old number held told new → Looks old number told new
+unfolding looks_at
+looks_held old number held told new was sees = subst (λ o. looks_at old number o told new) (sym was) sees

@@ -49,7 +49,7 @@ pub record Sees (old : Places) (number : ℕ) (held : Held) (told : Progress) (n
   pub count : count_of new ≡ count_of old
 
 -- what is told of what is held under the number
-abbrev pub looks_at : Places → ℕ → Option Held → Progress → Places → Type 0
+unfoldable pub looks_at : Places → ℕ → Option Held → Progress → Places → Type 0
 looks_at old number (Some held) told new = Sees old number held told new
 looks_at old number None told new = (told ≡ record { spent = 0; returned = 0; complete = false }) × Stays old new
 

@@ -49,6 +49,8 @@ pub fn start_thread<R: Threads + Wait + Copy + Send + Sync + 'static>(
 ) -> Option<JoinHandle<()>>
     requires { (1 ≤ workers) × (workers ≤ 16) }
 {
-    let work = move || errand.run(&rt, workers);
+    let work = move ||
+        requires { (1 ≤ workers) × (workers ≤ 16) }
+    { errand.run(&rt, workers) };
     thread::spawn(&rt, work).ok()
 }

@@ -15,11 +15,7 @@ pub(crate) fn key_of(keys: &BTreeMap<u64, usize>, number: u64) -> Option<usize>
 }
 
 /// Notes the key of a number that has none.
-pub(crate) fn note(
-    keys: &mut BTreeMap<u64, usize>,
-    number: u64,
-    key: usize,
-) -> Result<(), NoMemory>
+pub(crate) fn note(keys: &mut BTreeMap<u64, usize>, number: u64, key: usize) -> Result<(), NoMemory>
     requires { tree.get nat_cmp keys.old number ≡ None }
     ensures here { OnOk result (tree.get nat_cmp keys.new number ≡ Some key) }
     ensures others { OnOk result ((n : ℕ) → n ≢ number → tree.get nat_cmp keys.new n ≡ tree.get nat_cmp keys.old n) }

@@ -1,6 +1,6 @@
 //! The jobs that are held, by number.
 
-ghost use Rattle.std.specs.Prelude.{◌≡◌, ℕ, None, Some, IfSome, IfNone};
+ghost use Rattle.std.specs.Prelude.{◌≡◌, Some, IfSome};
 ghost use Rattle.std.proofs.Props.{props};
 ghost use Rattle.std.specs.BTreeMap as tree;
 ghost use Rattle.std.specs.Ordering.{nat_cmp};
@@ -27,14 +27,16 @@ pub(crate) struct Places {
     ghost kept: { AreKept (tree.get nat_cmp keys) (slots.get jobs) } by { Prim.hlevel props },
 }
 
-/// Looks at the job of this key, if one has it.
-fn look_at(jobs: &mut Slab<Running>, key: usize) -> Option<Progress>
-    ensures seen { IfSome result (λ seen. (old : _) × (new : _) × (slots.get jobs.old key ≡ Some old)
-        × IsSeen old seen new × slots.Updates jobs.old jobs.new key (Some new)) }
-    ensures none { IfNone result (slots.get jobs.old key ≡ None) }
+/// Looks at the job of this key.
+fn look_at(jobs: &mut Slab<Running>, key: usize) -> Progress
+    requires { slots.ContainsKey jobs.old key }
+    ensures { (old : _) × (new : _) × (slots.get jobs.old key ≡ Some old)
+        × IsSeen old result new × slots.Updates jobs.old jobs.new key (Some new) }
 {
-    let running = jobs.get_mut(key)?;
-    Some(running.look())
+    match jobs.get_mut(key) {
+        Some(running) => running.look(),
+        None => unreachable!(),
+    }
 }
 
 /// The finished job of lowest number, with its key, and what it came to, which is given once.
@@ -90,9 +92,9 @@ impl Places {
             return Err(99);
         }
         let key = self.jobs.vacant_key();
-        if note(&mut self.keys, number, key).is_err() {
+        let Ok(()) = note(&mut self.keys, number, key) else {
             return Err(99);
-        }
+        };
         match begin(alloc, starter, number, job) {
             Ok(running) => {
                 self.jobs.insert_reserved(running);
@@ -106,21 +108,18 @@ impl Places {
     }
 
     /// What the board of the job tells now; 0, 0 and not complete where the job isn't held.
+    #[tactic(auto, unfolding(crate::specs::Holds::looks_at))]
     pub fn look(&mut self, number: u64) -> Progress
         ensures { Looks self.old number result self.new }
     {
-        let nothing = Progress {
-            spent: 0,
-            returned: 0,
-            complete: false,
-        };
         let Some(key) = key_of(&self.keys, number) else {
-            return nothing;
+            return Progress {
+                spent: 0,
+                returned: 0,
+                complete: false,
+            };
         };
-        match look_at(&mut self.jobs, key) {
-            Some(seen) => seen,
-            None => nothing,
-        }
+        look_at(&mut self.jobs, key)
     }
 
     /// The finished job of lowest number and what it came to. It isn't held any more, and its thread has ended.

@@ -34,7 +34,10 @@ fn serve_next<L: OpenListener<Stream = TcpStream>, N: Runner>(
 }
 
 /// The first fault of the two.
-fn first_fault(earlier: Result<(), ServeFault>, later: Result<(), ServeFault>) -> Result<(), ServeFault>
+fn first_fault(
+    earlier: Result<(), ServeFault>,
+    later: Result<(), ServeFault>,
+) -> Result<(), ServeFault>
     ensures { result ≡ first_of earlier later }
 {
     match earlier {
