@@ -1,8 +1,7 @@
 //! Connections, one after the other, with one desk and one runner.
 
 ghost use Rattle.std.specs.Prelude.{◌≡◌};
-ghost use Rattle.streams.specs.Answering.{Answers};
-ghost use Rattle.tcp_server.specs.Visits.{Visit, Visits, first_of};
+ghost use Rattle.tcp_server.specs.Visits.{Visit, Visits, answers_by, first_of};
 
 use crate::fault::ServeFault;
 use accounts::Desk;
@@ -19,8 +18,7 @@ fn serve_next<L: OpenListener<Stream = TcpStream>, N: Runner>(
 ) -> Result<(), ServeFault>
     requires { N.ready runner.old }
     ensures ready { N.ready runner.new }
-    ensures visit { Visit (λ s query reply t. Answers N.starts N.looks N.takes s.0 s.1 query reply t.0 t.1)
-        (desk.old, runner.old) result (desk.new, runner.new) }
+    ensures visit { Visit (answers_by N.starts N.looks N.takes) (desk.old, runner.old) result (desk.new, runner.new) }
 {
     let Ok((stream, _)) = listener.accept() else {
         return Err(ServeFault::Socket);
@@ -59,8 +57,7 @@ pub fn serve_connections<L: OpenListener<Stream = TcpStream>, N: Runner>(
 ) -> Result<(), ServeFault>
     requires { N.ready runner.old }
     ensures ready { N.ready runner.new }
-    ensures visits { Visits (λ s query reply t. Answers N.starts N.looks N.takes s.0 s.1 query reply t.0 t.1)
-        (desk.old, runner.old) sessions (desk.new, runner.new) result }
+    ensures visits { Visits (answers_by N.starts N.looks N.takes) (desk.old, runner.old) sessions (desk.new, runner.new) result }
 {
     let mut outcome = Ok(());
     let mut done = 0;

@@ -3,8 +3,8 @@
 
 mod connections;
 mod fault;
-mod serve;
+mod server;
 
 pub use connections::serve_connections;
 pub use fault::ServeFault;
-pub use serve::{serve, serve_on};
+pub use server::{serve, serve_on};

@@ -1,6 +1,5 @@
 use Rattle.std.proofs.Common.{◌≡◌, ℕ, ◌+◌, sym, subst, arith}
-use Rattle.streams.specs.Answering.{Answers}
-use Rattle.tcp_server.specs.Visits.{Visits, none_yet, one_more}
+use Rattle.tcp_server.specs.Visits.{none_yet, one_more}
 use Rattle.tcp_server.proofs.connections.serve_connections.Goals as goal
 
 pub loop-done-init : goal.loop-done-init

@@ -9,7 +9,7 @@ use pool_runner::{Errand, PoolRunner, start_thread};
 use std::alloc::Global;
 use std::net::{Ipv4Addr, Net, OpenListener, SocketAddr, TcpListener, TcpStream};
 use std::sync::Wait;
-use std::thread::Threads;
+use std::thread::{JoinHandle, Threads};
 
 /// Serves so many connections of the listener, one after the other, on a new desk whose jobs a pool of so many workers a job runs, 1 to
 /// 16. Once the last has ended it joins the threads of all jobs, and returns if they do.
@@ -22,7 +22,9 @@ pub fn serve_on<
 >(rt: R, alloc: Global, listener: &L, workers: u32, sessions: u32) -> Result<(), ServeFault>
     requires { (1 ≤ workers) × (workers ≤ 16) }
 {
-    let starter = |errand: Errand| start_thread(rt, errand, workers);
+    let starter = move |errand: Errand| -> Option<JoinHandle<()>>
+        requires { (1 ≤ workers) × (workers ≤ 16) }
+    { start_thread(rt, errand, workers) };
     let mut runner = PoolRunner::new(rt, alloc, starter);
     let mut desk = Desk::new(alloc);
     let served = serve_connections(alloc, listener, &mut desk, &mut runner, sessions);
