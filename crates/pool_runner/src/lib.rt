@@ -1,0 +1,17 @@
+//! What runs the jobs of a desk, each in a thread of its own.
+#![tactic(auto)]
+
+// one job: ahead of its thread, in it, and after it
+mod ending;
+mod errand;
+mod running;
+
+pub use ending::Ending;
+pub use errand::{Errand, start_thread};
+
+// all jobs
+mod keys;
+mod places;
+mod pool;
+
+pub use pool::PoolRunner;

@@ -1,0 +1,70 @@
+//! Connections, one after the other, with one desk and one runner.
+
+ghost use Rattle.std.specs.Prelude.{◌≡◌};
+ghost use Rattle.tcp_server.specs.Visits.{Visit, Visits, answers_by, first_of};
+
+use crate::fault::ServeFault;
+use accounts::Desk;
+use std::alloc::Global;
+use std::net::{OpenListener, TcpStream};
+use streams::{Runner, Tap, serve_stream};
+
+/// Takes the next connection, and serves its stream.
+fn serve_next<L: OpenListener<Stream = TcpStream>, N: Runner>(
+    alloc: Global,
+    listener: &L,
+    desk: &mut Desk,
+    runner: &mut N,
+) -> Result<(), ServeFault>
+    requires { N.ready runner.old }
+    ensures ready { N.ready runner.new }
+    ensures visit { Visit (answers_by N.starts N.looks N.takes) (desk.old, runner.old) result (desk.new, runner.new) }
+{
+    let Ok((stream, _)) = listener.accept() else {
+        return Err(ServeFault::Socket);
+    };
+    let mut reader = Tap::new(&stream);
+    let mut writer = Tap::new(&stream);
+    match serve_stream(alloc, &mut reader, &mut writer, desk, runner) {
+        Ok(_) => Ok(()),
+        Err(fault) => Err(ServeFault::Connection(fault)),
+    }
+}
+
+/// The first fault of the two.
+fn first_fault(
+    earlier: Result<(), ServeFault>,
+    later: Result<(), ServeFault>,
+) -> Result<(), ServeFault>
+    ensures { result ≡ first_of earlier later }
+{
+    match earlier {
+        Ok(()) => later,
+        Err(fault) => Err(fault),
+    }
+}
+
+/// Serves so many connections of the listener, one after the other, each from the desk and the runner that the last one left.
+///
+/// A connection that could not be taken, or that was given up by 83, 84 or 99, counts as served. The first such fault is answered at the
+/// end.
+pub fn serve_connections<L: OpenListener<Stream = TcpStream>, N: Runner>(
+    alloc: Global,
+    listener: &L,
+    desk: &mut Desk,
+    runner: &mut N,
+    sessions: u32,
+) -> Result<(), ServeFault>
+    requires { N.ready runner.old }
+    ensures ready { N.ready runner.new }
+    ensures visits { Visits (answers_by N.starts N.looks N.takes) (desk.old, runner.old) sessions (desk.new, runner.new) result }
+{
+    let mut outcome = Ok(());
+    let mut done = 0;
+    while done < sessions {
+        let served = serve_next(alloc, listener, desk, runner);
+        outcome = first_fault(outcome, served);
+        done += 1;
+    }
+    outcome
+}

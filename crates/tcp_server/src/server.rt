@@ -1,0 +1,51 @@
+//! A server of this machine.
+
+ghost use Rattle.std.specs.Prelude.{◌≤◌};
+
+use crate::connections::serve_connections;
+use crate::fault::ServeFault;
+use accounts::Desk;
+use pool_runner::{Errand, PoolRunner, start_thread};
+use std::alloc::Global;
+use std::net::{Ipv4Addr, Net, OpenListener, SocketAddr, TcpListener, TcpStream};
+use std::sync::Wait;
+use std::thread::{JoinHandle, Threads};
+
+/// Serves so many connections of the listener, one after the other, on a new desk whose jobs a pool of so many workers a job runs, 1 to
+/// 16. Once the last has ended it joins the threads of all jobs, and returns if they do.
+///
+/// A connection that could not be taken, or that was given up by 83, 84 or 99, counts as served, and the next is taken with the same desk.
+/// The first such fault is answered at the end.
+pub fn serve_on<
+    R: Threads + Wait + Copy + Send + Sync + Drop + 'static,
+    L: OpenListener<Stream = TcpStream>,
+>(rt: R, alloc: Global, listener: &L, workers: u32, sessions: u32) -> Result<(), ServeFault>
+    requires { (1 ≤ workers) × (workers ≤ 16) }
+{
+    let starter = move |errand: Errand| -> Option<JoinHandle<()>>
+        requires { (1 ≤ workers) × (workers ≤ 16) }
+    { start_thread(rt, errand, workers) };
+    let mut runner = PoolRunner::new(rt, alloc, starter);
+    let mut desk = Desk::new(alloc);
+    let served = serve_connections(alloc, listener, &mut desk, &mut runner, sessions);
+    runner.join_all();
+    served
+}
+
+/// Listens on this port of 127.0.0.1, and serves so many connections as [`serve_on`] does. It answers [`ServeFault::Socket`] where the port
+/// can't be listened on.
+pub fn serve<R: Net<Stream = TcpStream> + Threads + Wait + Copy + Send + Sync + Drop + 'static>(
+    rt: R,
+    alloc: Global,
+    port: u16,
+    workers: u32,
+    sessions: u32,
+) -> Result<(), ServeFault>
+    requires { (1 ≤ workers) × (workers ≤ 16) }
+{
+    let address = SocketAddr::from((Ipv4Addr::LOCALHOST, port));
+    let Ok(listener) = TcpListener::bind(&rt, address) else {
+        return Err(ServeFault::Socket);
+    };
+    serve_on(rt, alloc, &listener, workers, sessions)
+}
