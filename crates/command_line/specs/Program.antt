@@ -1,6 +1,6 @@
 -- The program's command line, in clap's plain words.
-use Rattle.std.specs.Prelude.{ℕ, List, [], ◌∷◌, codes, pos, Some, true}
-use Rattle.clap.specs.Words.{App, Rule, Shape, Text, new_app, new_rule, with_rule, with_subcommand}
+use Rattle.std.specs.Prelude.{[], ◌∷◌, codes, pos, Some, true}
+use Rattle.clap.specs.Words.{App, Rule, new_app, new_rule, with_rule, with_subcommand}
 use Rattle.clap.specs.declared.builder.value_parser.ValueParser.TheVariants as vp
 
 abbrev pub need_rule : Rule

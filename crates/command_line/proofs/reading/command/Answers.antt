@@ -1,5 +1,5 @@
-use Rattle.std.proofs.Common.{rules, ap, sym, refl, map, string_bytes, codes, true, ◌≡◌, ◌∙◌, subst}
-use Rattle.clap.specs.Words.{App, app_of, found_of, is_simple, rows_of, subcommand_of, subcommand_rows_of, takes}
+use Rattle.std.proofs.Common.{ap, sym, refl, map, string_bytes, true, ◌≡◌, ◌∙◌}
+use Rattle.clap.specs.Words.{found_of, is_simple, rows_of, subcommand_of, subcommand_rows_of, takes}
 use Rattle.clap.proofs.OnLiterals.{clap_on_literals}
 use Rattle.command_line.specs.Program.{bpfjobs_app}
 use Rattle.command_line.proofs.NumberLemmas.{pair_of, named}
