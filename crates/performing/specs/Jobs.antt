@@ -4,7 +4,6 @@ use Rattle.machine_model.specs.Job.{Job, IsComplete, start}
 use Rattle.sessions.specs.Answers.{ObjectAnswer}
 use Rattle.sessions.specs.Faults.{code_of}
 use Rattle.sessions.specs.Replies.{play_data}
-use Rattle.sessions.specs.declared.fault.SessionFault.{SessionFault}
 use Rattle.sessions.specs.declared.request.JobObject.{JobObject}
 use Rattle.job_core.specs.declared.admission.AdmitFault.{AdmitFault}
 use Rattle.job_core.specs.declared.admission.AdmitFault.TheVariants as admit

@@ -1,6 +1,6 @@
 //! Programs: from source text to bytes and back, and the verdict.
 
-ghost use Rattle.std.specs.Prelude.{◌≡◌, ◌++◌, IfOk, IfSome, List};
+ghost use Rattle.std.specs.Prelude.{◌≡◌, ◌∷◌, ◌++◌, [], IfOk};
 ghost use Rattle.hex.specs.Hex.{encode_lower};
 ghost use Rattle.verifier.specs.RefusalCodes.{codec_slot};
 ghost use Rattle.performing.specs.Printed.{Prints, accepted_line, line_of};
@@ -40,6 +40,16 @@ fn slot_of(fault: &CodecFault) -> Option<u64>
         | CodecFault::UnusedField(slot)
         | CodecFault::HalfWide(slot) => Some(slot as u64),
         CodecFault::Empty | CodecFault::Ragged | CodecFault::TooLong | CodecFault::NoMemory => None,
+    }
+}
+
+// A slot as a place.
+fn place_of(slot: Option<u32>) -> Option<u64>
+    ensures { result ≡ slot }
+{
+    match slot {
+        Some(slot) => Some(slot as u64),
+        None => None,
     }
 }
 
@@ -110,12 +120,6 @@ pub fn verified(alloc: Global, need: u32, input: &[u8]) -> Result<Answer, NoMemo
     };
     match verify(alloc, need, &code, &HelperTable::job()) {
         Ok(program) => accepted(alloc, program.cost()),
-        Err(refusal) => {
-            let slot = match refusal.slot() {
-                Some(slot) => Some(slot as u64),
-                None => None,
-            };
-            refused(alloc, refusal.code(), slot)
-        }
+        Err(refusal) => refused(alloc, refusal.code(), place_of(refusal.slot())),
     }
 }

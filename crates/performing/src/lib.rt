@@ -20,6 +20,6 @@ pub use declined::{Declined, ordered};
 pub use job::played;
 
 // from a source to a sink
-mod perform;
+mod ends;
 
-pub use perform::{answer_to, perform, read_all, tell};
+pub use ends::{answer_to, perform, read_all, tell};
