@@ -9,8 +9,9 @@ mod serving;
 use command_line::{Command, Usage, command};
 use pool_performing::perform;
 use serving::serve;
-use std::alloc::{AllocError, Global};
+use std::alloc::Global;
 use std::env::Env;
+use std::net::{Net, TcpStream};
 use std::process::ExitCode;
 use std::sync::Wait;
 use std::thread::Threads;
@@ -57,7 +58,10 @@ fn answer<R: Input + Print + Threads + Wait + Sync>(rt: &R, alloc: Global, comma
 }
 
 // Does what a command says, and gives the status.
-fn act<R: Input + Print + Threads + Wait + Sync>(rt: &R, alloc: Global, command: Command) -> u8
+fn act<R>(rt: R, alloc: Global, command: Command) -> u8
+where
+    R: Input + Print + Net<Stream = TcpStream> + Threads + Wait,
+    R: Copy + Send + Sync + Drop + 'static,
     requires { IsInRange command }
 {
     match command {
@@ -66,11 +70,11 @@ fn act<R: Input + Print + Threads + Wait + Sync>(rt: &R, alloc: Global, command:
             workers,
             sessions,
         } => serve(rt, alloc, port, workers, sessions),
-        Command::Run { workers } => answer(rt, alloc, Command::Run { workers }),
-        Command::Verify { need } => answer(rt, alloc, Command::Verify { need }),
-        Command::Assemble => answer(rt, alloc, Command::Assemble),
-        Command::Disassemble => answer(rt, alloc, Command::Disassemble),
-        Command::Play => answer(rt, alloc, Command::Play),
+        Command::Run { workers } => answer(&rt, alloc, Command::Run { workers }),
+        Command::Verify { need } => answer(&rt, alloc, Command::Verify { need }),
+        Command::Assemble => answer(&rt, alloc, Command::Assemble),
+        Command::Disassemble => answer(&rt, alloc, Command::Disassemble),
+        Command::Play => answer(&rt, alloc, Command::Play),
     }
 }
 
@@ -79,7 +83,7 @@ fn main(rt: HostRuntime) -> ExitCode {
         return ExitCode::from(FAILED);
     };
     let status = match command(rt.alloc(), &words) {
-        Ok(command) => act(&rt, rt.alloc(), command),
+        Ok(command) => act(rt, rt.alloc(), command),
         Err(usage) => explained(&rt, usage),
     };
     ExitCode::from(status)

@@ -1,5 +1,5 @@
 -- What is printed of a job that threads run, and what a command answers.
-use Rattle.std.specs.Prelude.{◌≡◌, ◌≤◌, ℕ, List, All, length, false, None}
+use Rattle.std.specs.Prelude.{◌≤◌, ℕ, List, All, length, false, None}
 use Rattle.credit_book.specs.declared.book.Report.{Report}
 use Rattle.job_core.specs.Admitted.{Order}
 use Rattle.sessions.specs.Replies.{result_data}
