@@ -1,0 +1,90 @@
+//! `bpfjobs`: eBPF programs as text, their verdicts, and the jobs that run them. `bpfjobs --help` tells its commands.
+#![tactic(auto)]
+
+ghost use Rattle.command_line.specs.Commands.{IsInRange};
+ghost use Rattle.pool_performing.specs.Runs.{IsOver};
+
+mod serving;
+
+use command_line::{Command, Usage, command};
+use pool_performing::perform;
+use serving::serve;
+use std::alloc::Global;
+use std::env::Env;
+use std::net::{Net, TcpStream};
+use std::process::ExitCode;
+use std::sync::Wait;
+use std::thread::Threads;
+use std::{env, io};
+use streams::Tap;
+
+// The status where the words are wrong.
+const USAGE: u8 = 2;
+
+// The status where input, output or a socket fails.
+const FAILED: u8 = 3;
+
+// The words of the command line, the program's name first.
+fn words<R: Env + AllocGlobal>(rt: &R) -> io::Result<Vec<String>> {
+    let mut words = Vec::new(rt.alloc());
+    for word in env::args(rt)? {
+        words.push(word)?;
+    }
+    Ok(words)
+}
+
+// Prints why the words are no command, or the help that they ask for, and gives the status.
+fn explained<R: Print + Eprint>(rt: &R, usage: Usage) -> u8 {
+    match usage {
+        Usage::Refused(error) => {
+            let _ = error.print(rt);
+            if error.use_stderr() { USAGE } else { 0 }
+        }
+        Usage::Unread => USAGE,
+        Usage::NoMemory => FAILED,
+    }
+}
+
+// Reads the input, prints the answer of a command that is over then, and gives the status.
+fn answer<R: Input + Print + Threads + Wait + Sync>(rt: &R, alloc: Global, command: Command) -> u8
+    requires { IsOver command }
+{
+    let mut reader = Tap::new(rt.reader());
+    let mut writer = Tap::new(io::writer(rt));
+    match perform(rt, alloc, command, &mut reader, &mut writer) {
+        Ok(status) => status,
+        Err(_) => FAILED,
+    }
+}
+
+// Does what a command says, and gives the status.
+fn act<R>(rt: R, alloc: Global, command: Command) -> u8
+where
+    R: Input + Print + Net<Stream = TcpStream> + Threads + Wait,
+    R: Copy + Send + Sync + Drop + 'static,
+    requires { IsInRange command }
+{
+    match command {
+        Command::Serve {
+            port,
+            workers,
+            sessions,
+        } => serve(rt, alloc, port, workers, sessions),
+        Command::Run { workers } => answer(&rt, alloc, Command::Run { workers }),
+        Command::Verify { need } => answer(&rt, alloc, Command::Verify { need }),
+        Command::Assemble => answer(&rt, alloc, Command::Assemble),
+        Command::Disassemble => answer(&rt, alloc, Command::Disassemble),
+        Command::Play => answer(&rt, alloc, Command::Play),
+    }
+}
+
+fn main(rt: HostRuntime) -> ExitCode {
+    let Ok(words) = words(&rt) else {
+        return ExitCode::from(FAILED);
+    };
+    let status = match command(rt.alloc(), &words) {
+        Ok(command) => act(rt, rt.alloc(), command),
+        Err(usage) => explained(&rt, usage),
+    };
+    ExitCode::from(status)
+}

@@ -1,0 +1,51 @@
+//! What the words of a command line may say.
+
+use clap::Error;
+use std::alloc::AllocError;
+
+/// What is to be done.
+#[derive(Clone, Copy, Debug, PartialEq, Eq)]
+pub enum Command {
+    /// Source text to bytes.
+    Assemble,
+    /// Bytes to source text.
+    Disassemble,
+    /// The verdict on a program that needs so many bytes of its part.
+    Verify {
+        need: u32,
+    },
+    /// A job, by its schedule.
+    Play,
+    /// A job, on 1 to 16 threads.
+    Run {
+        workers: u32,
+    },
+    /// Requests over TCP on a port from 1 to 65535: 1 to 1,000,000 connections, with 1 to 16 threads for each job.
+    Serve {
+        port: u32,
+        workers: u32,
+        sessions: u32,
+    },
+}
+
+/// Why the words are no command.
+#[derive(Drop)]
+pub enum Usage {
+    /// clap refuses them, or was asked for help. Its text says it.
+    Refused(Error),
+    /// clap's matches have no such command, or no number in range. It doesn't come.
+    Unread,
+    /// A growth was refused: 99.
+    NoMemory,
+}
+
+impl From<AllocError> for Usage {
+    ghost use Rattle.std.specs.Prelude.{◌≡◌};
+    ghost use Rattle.command_line.specs.declared.commands.Usage.TheVariants as usage;
+
+    ghost from_gives = { λ _ result. result ≡ usage.NoMemory };
+
+    fn from(_error: AllocError) -> Usage {
+        Usage::NoMemory
+    }
+}

@@ -1,0 +1,85 @@
+//! What `--help` tells of each command.
+
+pub(crate) const BPFJOBS: &str =
+    "Verifies eBPF programs, and runs them as trees of tasks that keep to their memory and credit";
+
+pub(crate) const BPFJOBS_MORE: &str =
+    "Input comes on standard input, and answers go to standard output.
+
+Status: 0 answered; 1 refused, with the number of the refusal printed; 2 wrong words;
+3 where input, output or a socket fails, or there is no memory for input or answer.
+
+`bpfjobs COMMAND --help` tells what a command reads and writes, with an example.";
+
+pub(crate) const ASSEMBLE: &str = "Turns source text into bytes";
+
+pub(crate) const ASSEMBLE_MORE: &str =
+    "Reads source text: an instruction a line, comments from `;` on.
+Writes the program's bytes in hexadecimal, or `refused N` or `refused N at LINE`.
+Status: 0 written, 1 refused (73: no UTF-8), 3 where input or output fails.
+
+Example:
+  $ printf 'mov64 r0, 42\\nexit\\n' | bpfjobs assemble
+  b70000002a0000009500000000000000";
+
+pub(crate) const DISASSEMBLE: &str = "Turns bytes into source text";
+
+pub(crate) const DISASSEMBLE_MORE: &str = "Reads a program's bytes in hexadecimal.
+Writes an instruction a line, or `refused N` or `refused N at SLOT`.
+Status: 0 written, 1 refused (73: no hexadecimal), 3 where input or output fails.
+
+Example:
+  $ echo b70000002a0000009500000000000000 | bpfjobs disassemble
+  mov64 r0, 42
+  exit";
+
+pub(crate) const VERIFY: &str = "Tells whether a program is accepted, and what it costs at most";
+
+pub(crate) const VERIFY_MORE: &str = "Reads a program's bytes in hexadecimal.
+Writes `accepted cost C`, or `refused N` or `refused N at SLOT`.
+Status: 0 accepted, 1 refused (73: no hexadecimal), 3 where input or output fails.
+
+Example:
+  $ echo b70000002a0000009500000000000000 | bpfjobs verify --need 0
+  accepted cost 2";
+
+pub(crate) const NEED: &str = "Bytes of its part that the program may count on, 0 to 65536";
+
+pub(crate) const PLAY: &str = "Runs a job by a schedule, one instruction for each entry";
+
+pub(crate) const PLAY_MORE: &str =
+    "Reads a job as JSON: programs, credit, buffer, and schedule, a list of task numbers.
+Writes the buffer and the credit that is held, returned, spent and used, or a refusal.
+Status: 0 played, 1 refused, 3 where input or output fails.
+
+Example:
+  $ bpfjobs play < examples/answer.json
+  {\"buffer\":\"\",\"complete\":true,\"held\":0,\"ok\":true,\"returned\":0,\"spent\":2,\"used\":2}";
+
+pub(crate) const RUN: &str = "Runs a job to its end on threads";
+
+pub(crate) const RUN_MORE: &str = "Reads a job as JSON: programs, credit and buffer.
+Writes the buffer, the credit that was returned and spent, and each task, or a refusal.
+Status: 0 run, 1 refused, 3 where input or output fails.
+
+Example:
+  $ bpfjobs run --workers 2 < examples/spawn.json
+  {\"buffer\":\"0000000009000000\",\"ok\":true,\"returned\":7,\"spent\":27,\"tasks\":[..]}";
+
+pub(crate) const WORKERS: &str = "Threads that run the tasks of a job, 1 to 16";
+
+pub(crate) const SERVE: &str = "Answers requests over TCP on 127.0.0.1";
+
+pub(crate) const SERVE_MORE: &str =
+    "Takes connections, one after the other, with one desk of accounts and jobs.
+Reads no input and writes no output: clients send requests and get replies as frames.
+Status: 0 once so many connections have ended, 3 where one of them or the socket failed.
+
+Example:
+  $ bpfjobs serve --port 7070 --sessions 1 &
+  $ python3 examples/client.py 7070 grant t 100
+  {\"balance\":100,\"granted\":100,\"ok\":true,\"open\":0,\"spent\":0}";
+
+pub(crate) const PORT: &str = "The port to listen on, 1 to 65535";
+
+pub(crate) const SESSIONS: &str = "Connections to take before it ends, 1 to 1000000";

@@ -1,0 +1,5 @@
+pub mod Printed
+pub mod Hexadecimal
+pub mod Programs
+pub mod Jobs
+pub mod Performing

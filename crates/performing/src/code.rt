@@ -1,0 +1,125 @@
+//! Programs: from source text to bytes and back, and the verdict.
+
+ghost use Rattle.std.specs.Prelude.{◌≡◌, ◌∷◌, ◌++◌, [], IfOk};
+ghost use Rattle.hex.specs.Hex.{encode_lower};
+ghost use Rattle.verifier.specs.RefusalCodes.{codec_slot};
+ghost use Rattle.performing.specs.Printed.{Prints, accepted_line, line_of};
+ghost use Rattle.performing.specs.Programs.{IsAssembled, IsDisassembled, IsVerified};
+
+use crate::answer::{Answer, refused};
+use crate::hexadecimal::{Unread, decoded};
+use assembler::{TextFault, assemble};
+use disassembler::disassemble;
+use helpers::HelperTable;
+use insn_codec::CodecFault;
+use refusal::NoMemory;
+use std::alloc::Global;
+use verifier::verify;
+
+// Input that isn't what it is to be.
+const NOT_INPUT: u8 = 73;
+
+// The line that a refusal tells, if it tells one.
+fn line_of(fault: &TextFault) -> Option<u64>
+    ensures { result ≡ line_of fault.now }
+{
+    match *fault {
+        TextFault::UnknownWord(line) | TextFault::BadOperand(line) | TextFault::NumberRange(line) =>
+            Some(line),
+        TextFault::Empty | TextFault::TooLong | TextFault::NoMemory => None,
+    }
+}
+
+// The slot that a refusal tells, if it tells one.
+fn slot_of(fault: &CodecFault) -> Option<u64>
+    ensures { result ≡ codec_slot fault.now }
+{
+    match *fault {
+        CodecFault::UnknownOp(slot)
+        | CodecFault::BadRegister(slot)
+        | CodecFault::UnusedField(slot)
+        | CodecFault::HalfWide(slot) => Some(slot as u64),
+        CodecFault::Empty | CodecFault::Ragged | CodecFault::TooLong | CodecFault::NoMemory => None,
+    }
+}
+
+// A slot as a place.
+fn place_of(slot: Option<u32>) -> Option<u64>
+    ensures { result ≡ slot }
+{
+    match slot {
+        Some(slot) => Some(slot as u64),
+        None => None,
+    }
+}
+
+// Bytes in hexadecimal, in a line.
+fn in_hexadecimal(alloc: Global, bytes: &[u8]) -> Result<Answer, NoMemory>
+    ensures { IfOk result (λ answer. Prints answer.text.items answer.status (encode_lower bytes.now ++ 10 ∷ []) 0) }
+{
+    let mut text = hex::encode(alloc, bytes)?;
+    text.push('\n')?;
+    Ok(Answer {
+        text: text.into_bytes(),
+        status: 0,
+    })
+}
+
+/// The bytes of the program that a source text says, in hexadecimal; or the refusal and its line. 73 where the input is no UTF-8.
+pub fn assembled(alloc: Global, source: &[u8]) -> Result<Answer, NoMemory>
+    ensures { IfOk result (λ answer. IsAssembled source.now answer.text.items answer.status) }
+{
+    let text = match str::from_utf8(source) {
+        Ok(text) => text,
+        Err(_) => return refused(alloc, NOT_INPUT, None),
+    };
+    match assemble(alloc, text) {
+        Ok(bytes) => in_hexadecimal(alloc, &bytes),
+        Err(fault) => refused(alloc, fault.code(), line_of(&fault)),
+    }
+}
+
+/// The lines of the program that the input writes in hexadecimal; or the refusal and its slot. 73 where it isn't hexadecimal.
+pub fn disassembled(alloc: Global, input: &[u8]) -> Result<Answer, NoMemory>
+    ensures { IfOk result (λ answer. IsDisassembled input.now answer.text.items answer.status) }
+{
+    let bytes = match decoded(alloc, input) {
+        Ok(bytes) => bytes,
+        Err(Unread::NotHexadecimal) => return refused(alloc, NOT_INPUT, None),
+        Err(Unread::NoMemory) => return Err(NoMemory),
+    };
+    match disassemble(alloc, &bytes) {
+        Ok(lines) => Ok(Answer {
+            text: lines.into_bytes(),
+            status: 0,
+        }),
+        Err(fault) => refused(alloc, fault.code(), slot_of(&fault)),
+    }
+}
+
+// The line of a program that is accepted.
+fn accepted(alloc: Global, cost: u32) -> Result<Answer, NoMemory>
+    ensures { IfOk result (λ answer. Prints answer.text.items answer.status (accepted_line cost) 0) }
+{
+    let line = format!(in alloc; "accepted cost {cost}\n")?;
+    Ok(Answer {
+        text: line.into_bytes(),
+        status: 0,
+    })
+}
+
+/// The cost of the program that the input writes in hexadecimal, which calls the helpers of a job and needs so many bytes; or the refusal
+/// and its slot. 73 where the input isn't hexadecimal.
+pub fn verified(alloc: Global, need: u32, input: &[u8]) -> Result<Answer, NoMemory>
+    ensures { IfOk result (λ answer. IsVerified need input.now answer.text.items answer.status) }
+{
+    let code = match decoded(alloc, input) {
+        Ok(code) => code,
+        Err(Unread::NotHexadecimal) => return refused(alloc, NOT_INPUT, None),
+        Err(Unread::NoMemory) => return Err(NoMemory),
+    };
+    match verify(alloc, need, &code, &HelperTable::job()) {
+        Ok(program) => accepted(alloc, program.cost()),
+        Err(refusal) => refused(alloc, refusal.code(), place_of(refusal.slot())),
+    }
+}

@@ -1,0 +1,76 @@
+//! The job that the input says, or why there is none.
+
+ghost use Rattle.std.specs.Prelude.{◌≡◌, IfOk, IfErr, Bool};
+ghost use Rattle.performing.specs.Printed.{Prints};
+ghost use Rattle.performing.specs.Jobs.{IsOrdered, IsDeclined, declined_line, program_of};
+
+use crate::answer::{Answer, replied};
+use job_core::{AdmitFault, Job, admit};
+use refusal::NoMemory;
+use sessions::{JobObject, Reply, SessionFault, job_object};
+use std::alloc::Global;
+
+/// Why there is no job.
+#[derive(Clone, Copy, Debug, PartialEq, Eq)]
+pub enum Declined {
+    /// The input says none.
+    Object(SessionFault),
+    /// It isn't admitted.
+    Job(AdmitFault),
+}
+
+// The place of the program that isn't accepted, if that is why.
+fn program_of(fault: &AdmitFault) -> Option<u32>
+    ensures { result ≡ program_of fault.now }
+{
+    match fault {
+        AdmitFault::Program(index, _) => Some(*index),
+        _ => None,
+    }
+}
+
+impl Declined {
+    /// The refusal as a reply.
+    pub fn answer(&self, alloc: Global) -> Result<Answer, NoMemory>
+        ensures { IfOk result (λ answer. Prints answer.text.items answer.status (declined_line self.now) 1) }
+    {
+        let refusal = match self {
+            Declined::Object(fault) => Reply::Refused {
+                code: fault.code(),
+                program: None,
+                slot: None,
+            },
+            Declined::Job(fault) => Reply::Refused {
+                code: fault.code(),
+                program: program_of(fault),
+                slot: fault.slot(),
+            },
+        };
+        replied(alloc, &refusal, 1)
+    }
+}
+
+/// The job that the input says, as it is admitted, and its schedule where one is wanted.
+pub fn ordered(
+    alloc: Global,
+    input: &[u8],
+    wants_schedule: bool,
+) -> Result<(Job, Vec<u32>), Declined>
+    ensures ok { IfOk result (λ r. IsOrdered wants_schedule input.now r.0 r.1.items) }
+    ensures err { IfErr result (λ why. IsDeclined wants_schedule input.now why) }
+{
+    let object = match job_object(alloc, input, wants_schedule) {
+        Ok(object) => object,
+        Err(fault) => return Err(Declined::Object(fault)),
+    };
+    let JobObject {
+        programs,
+        credit,
+        buffer,
+        schedule,
+    } = object;
+    match admit(alloc, &programs, credit, buffer) {
+        Ok(job) => Ok((job, schedule)),
+        Err(fault) => Err(Declined::Job(fault)),
+    }
+}

@@ -1,0 +1,45 @@
+//! The bytes that the input writes in hexadecimal.
+
+ghost use Rattle.std.specs.Prelude.{◌≡◌, ◌↔◌, IfOk, IfErr, IsTrue};
+ghost use Rattle.performing.specs.Hexadecimal.{IsTrailing, IsTrimmed, IsHexadecimal, IsNoHexadecimal};
+ghost use Rattle.performing.specs.declared.hexadecimal.Unread.TheVariants as unread;
+
+use hex::FromHexError;
+use std::alloc::Global;
+
+/// Why there are no bytes.
+#[derive(Clone, Copy)]
+pub(crate) enum Unread {
+    NotHexadecimal,
+    NoMemory,
+}
+
+// What follows is no part of the hexadecimal.
+fn is_trailing(byte: u8) -> bool
+    ensures { IsTrue result ↔ IsTrailing byte }
+{
+    matches!(byte, b' ' | b'\t' | b'\r' | b'\n')
+}
+
+// The text without what trails it.
+fn trimmed(text: &[u8]) -> &[u8]
+    ensures { IsTrimmed text.now result.now }
+{
+    let mut end = text.len();
+    while end > 0 && is_trailing(text[end - 1]) {
+        end -= 1;
+    }
+    &text[..end]
+}
+
+/// The bytes, by digits in either case. Blanks and line ends behind them are dropped.
+pub(crate) fn decoded(alloc: Global, text: &[u8]) -> Result<Vec<u8>, Unread>
+    ensures ok { IfOk result (λ bytes. IsHexadecimal text.now bytes.items) }
+    ensures err { IfErr result (λ why. why ≡ unread.NotHexadecimal → IsNoHexadecimal text.now) }
+{
+    match hex::decode(alloc, trimmed(text)) {
+        Ok(bytes) => Ok(bytes),
+        Err(FromHexError::OutOfMemory) => Err(Unread::NoMemory),
+        Err(_) => Err(Unread::NotHexadecimal),
+    }
+}

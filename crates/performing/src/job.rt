@@ -1,0 +1,57 @@
+//! Jobs that are played by a schedule.
+
+ghost use Rattle.std.specs.Prelude.{◌≡◌, IfOk, None};
+ghost use Rattle.job_core.specs.Behind.{IsBehind};
+ghost use Rattle.machine_model.specs.Job as model;
+ghost use Rattle.performing.specs.Printed.{Prints, refusal_reply};
+ghost use Rattle.performing.specs.Jobs.{IsPlayed, Tells};
+
+use crate::answer::{Answer, replied};
+use crate::declined::ordered;
+use job_core::{World, play};
+use refusal::NoMemory;
+use sessions::Reply;
+use std::alloc::Global;
+
+// There was no memory for it.
+fn out_of_memory(alloc: Global) -> Result<Answer, NoMemory>
+    ensures { IfOk result (λ answer. Prints answer.text.items answer.status (refusal_reply 99 None None) 1) }
+{
+    let refusal = Reply::Refused {
+        code: 99,
+        program: None,
+        slot: None,
+    };
+    replied(alloc, &refusal, 1)
+}
+
+// How far the job is.
+fn told(alloc: Global, world: &World) -> Result<Answer, NoMemory>
+    ensures { IfOk result (λ answer. (j : model.Job) → IsBehind world.now j → Tells j answer.text.items answer.status) }
+{
+    let buffer = world.buffer(alloc)?;
+    let totals = world.totals();
+    let reply = Reply::Play {
+        buffer: &buffer,
+        complete: world.report().is_some(),
+        held: totals.held,
+        returned: totals.returned,
+        spent: totals.spent,
+        used: totals.used,
+    };
+    replied(alloc, &reply, 0)
+}
+
+/// How far the job that the input says comes by its schedule, as the reply; or the refusal as a reply.
+pub fn played(alloc: Global, input: &[u8]) -> Result<Answer, NoMemory>
+    ensures { IfOk result (λ answer. IsPlayed input.now answer.text.items answer.status) }
+{
+    let (job, schedule) = match ordered(alloc, input, true) {
+        Ok(order) => order,
+        Err(why) => return why.answer(alloc),
+    };
+    match play(alloc, job, &schedule) {
+        Ok(world) => told(alloc, &world),
+        Err(NoMemory) => out_of_memory(alloc),
+    }
+}
