@@ -9,5 +9,3 @@ mod parts;
 mod playing;
 #[cfg(test)]
 mod refusing;
-#[cfg(test)]
-mod single;
