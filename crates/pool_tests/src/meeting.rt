@@ -1,5 +1,6 @@
 //! A gate at which two tasks meet, if they run at once.
 
+use std::hint;
 use std::sync::atomic::{AtomicBool, Ordering};
 use workers::Gate;
 
@@ -20,6 +21,7 @@ fn meet(own: &AtomicBool, other: &AtomicBool, saw: &AtomicBool) {
             saw.store(true, Ordering::SeqCst);
             return;
         }
+        hint::spin_loop();
     }
 }
 
