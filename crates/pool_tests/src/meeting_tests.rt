@@ -48,6 +48,6 @@ fn one_worker_runs_them_in_turn(rt: HostRuntime) -> Result<(), Fail> {
         (report.spent, report.returned, report.tasks.len()),
         (46, 2, 3)
     );
-    assert_eq!(rt; gate.saw().0, false);
+    assert_eq!(rt; gate.saw(), (false, false));
     Ok(())
 }
