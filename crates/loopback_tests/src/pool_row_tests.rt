@@ -1,6 +1,6 @@
 //! A pool of jobs by itself.
 
-use credit_book::{Progress, Report};
+use credit_book::Progress;
 use job_core::{Job, ProgramBytes, admit};
 use pool_runner::{Errand, PoolRunner, start_thread};
 use std::alloc::Global;
@@ -24,19 +24,6 @@ fn job(alloc: Global, credit: u32) -> Result<Job, Fail> {
     Ok(admit(alloc, &programs, credit, vec![in alloc; 0; 8]?)?)
 }
 
-/// The finished job of lowest number, if one comes within ten million turns.
-fn taken<N: Runner>(runner: &mut N) -> Option<(u64, Result<Report, u8>)>
-    requires { N.ready runner.old }
-    ensures { N.ready runner.new }
-{
-    for _ in 0..10_000_000u32 {
-        if let Some(found) = runner.take() {
-            return Some(found);
-        }
-    }
-    None
-}
-
 #[test]
 fn gives_each_job_once(rt: HostRuntime) -> Result<(), Fail> {
     let alloc = rt.alloc();
@@ -51,7 +38,14 @@ fn gives_each_job_once(rt: HostRuntime) -> Result<(), Fail> {
     // the number is held
     assert!(rt; runner.start(alloc, 1, job(alloc, 34)?) == Err(81));
     assert!(rt; runner.look(2) == nothing);
-    match taken(&mut runner) {
+    let mut given = None;
+    for _ in 0..10_000_000u32 {
+        given = runner.take();
+        if given.is_some() {
+            break;
+        }
+    }
+    match given {
         Some((number, Ok(report))) => {
             assert_eq!(rt; number, 1);
             assert_eq!(rt; (report.spent, report.returned), (27, 7));
@@ -85,11 +79,20 @@ fn looks_while_jobs_run(rt: HostRuntime) -> Result<(), Fail> {
         }
     }
     assert_eq!(rt; spent, 27);
-    let mut sum = 0;
-    for _ in 0..3u32 {
-        match taken(&mut runner) {
-            Some((number, Ok(report))) => sum += number * u64::from(report.spent),
-            _ => assert!(rt; false, "a job isn't given"),
+    let mut sum = 0u64;
+    let mut given = 0u32;
+    for _ in 0..10_000_000u32 {
+        if let Some((number, outcome)) = runner.take() {
+            given = given.saturating_add(1);
+            match outcome {
+                Ok(report) => sum = sum.saturating_add(number.saturating_mul(u64::from(
+                    report.spent,
+                ))),
+                Err(_) => assert!(rt; false, "a job failed"),
+            }
+        }
+        if given == 3 {
+            break;
         }
     }
     assert_eq!(rt; sum, 24 * 27);
