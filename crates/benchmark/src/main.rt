@@ -8,12 +8,14 @@ mod protocol_timing;
 mod results;
 mod scenario;
 mod single;
+mod stream_timing;
 mod timing;
 
 use pool_timing::print_pool_times;
 use results::print_results;
 use std::env;
 use std::process::ExitCode;
+use stream_timing::print_stream_times;
 use timing::print_times;
 
 fn main(rt: HostRuntime) -> anyhow::Result<ExitCode> {
@@ -28,6 +30,7 @@ fn main(rt: HostRuntime) -> anyhow::Result<ExitCode> {
         [word] if word.as_str() == "time" => {
             print_times(&rt, alloc, &mut output)?;
             print_pool_times(&rt, alloc, &mut output)?;
+            print_stream_times(&rt, alloc, &mut output)?;
         }
         _ => return Ok(ExitCode::from(2)),
     }
