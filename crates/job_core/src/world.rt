@@ -125,7 +125,7 @@ impl World {
     }
 
     /// How many tasks there are, those that have ended among them. Their numbers run from 0.
-    pub fn count(&self) -> u32
+    pub fn len(&self) -> u32
         ensures { (j : model.Job) → IsBehind self.now j → result ≡ length j.tasks }
     {
         self.tasks.ledger.book.count()
@@ -156,7 +156,7 @@ impl World {
     }
 
     /// Whether no task is alive.
-    fn complete(&self) -> bool
+    pub fn is_complete(&self) -> bool
         ensures { (j : model.Job) → IsBehind self.now j → (IsTrue result ↔ IsComplete j) }
     {
         self.tasks.ledger.book.progress().complete
@@ -200,7 +200,7 @@ impl World {
         ensures report { IfOk result (λ report. (j : model.Job) → IsBehind self j → IsComplete j × IsReportOf report j) }
         ensures world { IfErr result (λ world. (world ≡ self) × ((j : model.Job) → IsBehind self j → IsComplete j → ⊥)) }
     {
-        if !self.complete() {
+        if !self.is_complete() {
             return Err(self);
         }
         let World { tasks } = self;
