@@ -14,3 +14,4 @@ pub mod Keeping
 pub mod Predecodings
 pub mod Verdicts
 pub mod OneVerdict
+pub mod SingleEdges

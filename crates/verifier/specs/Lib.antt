@@ -8,6 +8,7 @@ pub mod Survey
 pub mod Coming
 pub mod Merges
 pub mod Kept
+pub mod Between
 pub mod Sources
 pub mod RefusalCodes
 pub mod Refusals

@@ -2,6 +2,7 @@
 #![tactic(auto)]
 
 mod allowed;
+mod between;
 mod calls;
 mod held;
 mod kept;

@@ -39,11 +39,11 @@ impl State {
     }
 
     /// What is known of the register.
-    pub(crate) fn at(&self, register: Register) -> Abs
+    pub fn at(&self, register: Register) -> Abs
         ensures value { result ≡ abs_at self.now register }
         ensures range { register ≤ 10 }
     {
-        self.registers[register.number() as usize]
+        self.registers[usize::from(register.number())]
     }
 
     /// It has all eleven registers.

@@ -42,18 +42,18 @@ pub(crate) struct Fault {
 /// What is surveyed: a program, the bytes that its tasks need, and the helpers that it may call.
 #[derive(Clone, Copy)]
 pub(crate) struct Survey<'a> {
-    need: u32,
-    helpers: &'a HelperTable,
-    graph: &'a Graph,
+    pub(crate) need: u32,
+    pub(crate) helpers: &'a HelperTable,
+    pub(crate) graph: &'a Graph,
 }
 
 /// An instruction that is passed: its slot, where it leads, and what it leaves in its destination.
 #[derive(Clone, Copy)]
 pub(crate) struct Passage<'a> {
-    from: u32,
-    next: Next,
-    insn: &'a Insn,
-    left: Abs,
+    pub(crate) from: u32,
+    pub(crate) next: Next,
+    pub(crate) insn: &'a Insn,
+    pub(crate) left: Abs,
 }
 
 /// The state at a place, which stays there if it is needed further.
@@ -198,7 +198,7 @@ fn slot_at(graph: &Graph, place: usize) -> u32
 }
 
 /// An instruction that is passed with this state.
-fn passage_again<'a>(survey: &Survey<'a>, from: u32, state: &State) -> Passage<'a>
+pub(crate) fn passage_again<'a>(survey: &Survey<'a>, from: u32, state: &State) -> Passage<'a>
     requires { IsPassed (subject_of survey.now) from state.now }
     ensures from { result.from ≡ from }
     ensures insn { insn_at survey.now.graph.now.code from ≡ Some result.insn.now }

@@ -42,9 +42,8 @@ pub fn verify(
     let graph = build(alloc, &placed)?;
     let found = states(alloc, need, helpers, &graph)?;
     let costs = costs(alloc, &graph)?;
-    let code = graph.into_code();
-    let predecoded = predecoded(alloc, &code, &found.regions)?;
+    let predecoded = predecoded(alloc, &graph, &found.regions)?;
     let helpers = helpers.copied(alloc)?;
     let Found { kept, .. } = found;
-    Ok(Verified::of(need, helpers, code, predecoded, kept, costs.into_table()))
+    Ok(Verified::of(need, helpers, graph, predecoded, kept, costs.into_table()))
 }

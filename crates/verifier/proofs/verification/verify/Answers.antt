@@ -31,24 +31,24 @@ returns-in_err-found c =
 
 pub of-requires-clause-verified : goal.of-requires-clause-verified
 of-requires-clause-verified c =
-    rw (c.in_ok-helpers.ensures.same, c.into_code-code.ensures, c.into_table.ensures)
+    rw (c.in_ok-helpers.ensures.same, c.into_table.ensures)
     (verified_of (checked c.args.need c.args.helpers.now c.in_ok-graph.graph.code c.in_ok-costs.costs) c.in_ok-graph.graph.order
     (omega arith) (rw c.graph.view_is at c.graph.invariant) c.in_ok-helpers.ensures.known c.in_ok-found.ensures.table c.in_ok-costs.ensures)
 
 pub of-requires-clause-regions : goal.of-requires-clause-regions
 of-requires-clause-regions c =
-    rw (c.in_ok-helpers.ensures.same, c.into_code-code.ensures)
+    rw c.in_ok-helpers.ensures.same
     (regions_of (subject c.args.need c.args.helpers.now c.in_ok-graph.graph.code) c.in_ok-predecoded.predecoded.items c.in_ok-found.found.regions.items
-    (rw (c.deref-2.ensures.value, c.into_code-code.ensures) at c.in_ok-predecoded.ensures.code)
-    (rw c.deref-3.ensures.value at c.in_ok-predecoded.ensures.regions) c.in_ok-found.ensures.regions)
+    c.in_ok-predecoded.ensures.code
+    (rw c.deref-2.ensures.value at c.in_ok-predecoded.ensures.regions) c.in_ok-found.ensures.regions)
 
 pub of-requires-clause-kept : goal.of-requires-clause-kept
 of-requires-clause-kept c =
-    rw (c.in_ok-helpers.ensures.same, c.into_code-code.ensures) c.in_ok-found.ensures.kept
+    rw c.in_ok-helpers.ensures.same c.in_ok-found.ensures.kept
 
 pub returns : goal.returns
 returns c =
-    rw (c.of.ensures, c.in_ok-helpers.ensures.same, c.into_code-code.ensures, c.into_table.ensures)
+    rw (c.of.ensures, c.in_ok-helpers.ensures.same, c.into_table.ensures)
     (accepted_of c.args.need c.args.code.now c.args.helpers.now c.in_ok-placed.placed.items c.in_ok-graph.graph
     (checked c.args.need c.args.helpers.now c.in_ok-graph.graph.code c.in_ok-costs.costs)
     (omega arith) c.in_ok-placed.ensures.found (rw c.deref.ensures.value at c.in_ok-graph.ensures) refl refl refl c.in_ok-found.ensures.table c.in_ok-costs.ensures)
