@@ -1,5 +1,5 @@
 -- The run of a single program, step by step.
-use Rattle.std.proofs.Common.{◌≡◌, ℕ, zero, suc, ◌+◌, ◌<◌, ◌≤◌, ◌^◌, arith, length, refl, sym, subst, ap, ◌∙◌, List, Result, Some}
+use Rattle.std.proofs.Common.{◌≡◌, ℕ, zero, suc, ◌<◌, ◌≤◌, ◌^◌, arith, length, refl, sym, subst, ap, ◌∙◌, List, Result, Some}
 use Rattle.machine_model.specs.Value.{Registers}
 use Rattle.machine_model.specs.Machine.{State, Effect, Goes, Ends, Spawns, Calls, Traps, answered, effect}
 use Rattle.virtual_machine.proofs.Asking.{Asks, asks_effect}

@@ -43,8 +43,10 @@ pub record ExecutesOn (program : Option Checked) (may : Answers) (arg credit : �
 -- why it doesn't run; a run takes no memory
 abbrev pub IsUnrunnable : Option Checked → ℕ → ℕ → VmFault → Type 0
 IsUnrunnable program credit len NoProgram = program ≡ None
-IsUnrunnable program credit len CreditLow = (p : Checked) × (program ≡ Some p) × (credit < cost_at p 0)
-IsUnrunnable program credit len MemoryShort = (p : Checked) × (program ≡ Some p) × (cost_at p 0 ≤ credit) × (len < p.need)
+IsUnrunnable program credit len (CreditLow wanted given) =
+    (p : Checked) × (program ≡ Some p) × (credit < cost_at p 0) × (wanted ≡ cost_at p 0) × (given ≡ credit)
+IsUnrunnable program credit len (MemoryShort wanted given) =
+    (p : Checked) × (program ≡ Some p) × (cost_at p 0 ≤ credit) × (len < p.need) × (wanted ≡ p.need) × (given ≡ len)
 IsUnrunnable program credit len NoMemory = ⊥
 
 -- the program is that of the bytes, verified with these helpers

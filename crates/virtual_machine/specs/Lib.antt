@@ -2,3 +2,4 @@ pub mod Functions
 pub mod VmFaultCodes
 pub mod Executes
 pub mod Holding
+pub mod Registering

@@ -5,6 +5,6 @@ use Rattle.virtual_machine.specs.declared.vm_fault.VmFault.TheVariants.{NoProgra
 
 abbrev pub code_of_fault : VmFault → ℕ
 code_of_fault NoProgram = 41
-code_of_fault CreditLow = 42
-code_of_fault MemoryShort = 43
+code_of_fault (CreditLow wanted given) = 42
+code_of_fault (MemoryShort wanted given) = 43
 code_of_fault NoMemory = 99

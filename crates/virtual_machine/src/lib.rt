@@ -4,11 +4,13 @@
 mod alone;
 mod executed;
 mod functions;
+mod register_fault;
 mod registered;
 mod vm;
 mod vm_fault;
 
 pub use executed::Executed;
+pub use register_fault::RegisterFault;
 pub use registered::Function;
 pub use vm::Vm;
 pub use vm_fault::VmFault;

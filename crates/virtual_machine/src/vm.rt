@@ -1,16 +1,18 @@
 //! A machine for single programs.
 
-ghost use Rattle.std.specs.Prelude.{◌≡◌, ◌≢◌, ◌↔◌, ℕ, ◌==◌, ◌≤◌, ◌<◌, [], length, if◌then◌else◌, IsTrue, IsSome, IfOk, OnOk, OnErr, None, Some, MatchOption, MatchResult, option_map};
+ghost use Rattle.std.specs.Prelude.{◌≡◌, ◌≢◌, ◌↔◌, ℕ, ◌==◌, ◌≤◌, ◌<◌, [], length, if◌then◌else◌, IsTrue, IsSome, IfOk, OnOk, OnErr, None, Some, MatchOption, MatchResult, option_map, IfErr};
 ghost use Rattle.helpers.specs.Table.{arity_in, job_table};
 ghost use Rattle.verifier.specs.Checked.{Checked};
 ghost use Rattle.verifier.specs.Refusals.{Refuses};
 ghost use Rattle.std.proofs.Props.{props};
 ghost use Rattle.virtual_machine.specs.Functions.{HaveFunctions, called, function_of};
 ghost use Rattle.virtual_machine.specs.Executes.{Executes, ExecutesOn, IsUnrunnable, IsSet};
+ghost use Rattle.virtual_machine.specs.Registering.{IsRegistrable, IsUnregistrable};
 
 use crate::alone::run_alone;
 use crate::executed::Executed;
 use crate::functions::Functions;
+use crate::register_fault::RegisterFault;
 use crate::registered::{Function, Registered};
 use crate::vm_fault::VmFault;
 use helpers::HelperTable;
@@ -120,6 +122,48 @@ impl Vm {
         Ok(())
     }
 
+    /// Registers the caller's helper of this id, as [`Vm::register_helper`] does, which asks for what is tested here. Of the function alone it
+    /// asks that it may be called on any five numbers.
+    ///
+    /// The refusals, in this order, after which all is as it was: 44 the id isn't one of 64 to 127, 45 there are more than 5 arguments, 46 a
+    /// program is set, and 99.
+    pub fn try_register_helper(
+        &mut self,
+        alloc: Global,
+        id: u32,
+        arity: u32,
+        function: Function,
+    ) -> Result<(), RegisterFault>
+        requires callable { Function.IsAlwaysCallable function }
+        ensures may { OnOk result (IsRegistrable id arity (program_in self.old)) }
+        ensures may_not { IfErr result (λ fault. IsUnregistrable id arity (program_in self.old) fault) }
+        ensures arity { OnOk result ((other : ℕ) →
+            arity_in (helpers_in self.new) other ≡ (if other == id then Some arity else arity_in (helpers_in self.old) other)) }
+        ensures function { OnOk result ((f : _) × (function_of (functions_in self.new) id ≡ Some f) × (f.function ≡ function)) }
+        ensures others { OnOk result ((other : ℕ) → other ≢ id →
+            function_of (functions_in self.new) other ≡ function_of (functions_in self.old) other) }
+        ensures err { OnErr result ((helpers_in self.new ≡ helpers_in self.old)
+            × ((other : ℕ) → function_of (functions_in self.new) other ≡ function_of (functions_in self.old) other)) }
+        ensures program { program_in self.new ≡ program_in self.old }
+    {
+        if id < 64 {
+            return Err(RegisterFault::BadId);
+        }
+        if id > 127 {
+            return Err(RegisterFault::BadId);
+        }
+        if arity > 5 {
+            return Err(RegisterFault::TooManyArguments);
+        }
+        if self.has_program() {
+            return Err(RegisterFault::ProgramSet);
+        }
+        match self.register_helper(alloc, id, arity, function) {
+            Ok(()) => Ok(()),
+            Err(NoMemory) => Err(RegisterFault::NoMemory),
+        }
+    }
+
     /// Runs the program alone from its entry to its end, with the memory as its part, this argument and this credit, and gives R0 and what it
     /// used of the credit. Otherwise it is [`Vm::execute_program`].
     pub fn execute(&mut self, mem: &mut [u8], arg: u64, credit: u32) -> Result<Executed, VmFault>
@@ -135,10 +179,16 @@ impl Vm {
             return Err(VmFault::NoProgram);
         };
         if credit < program.cost() {
-            return Err(VmFault::CreditLow);
+            return Err(VmFault::CreditLow {
+                wanted: program.cost(),
+                given: credit,
+            });
         }
         if mem.len() < program.need() as usize {
-            return Err(VmFault::MemoryShort);
+            return Err(VmFault::MemoryShort {
+                wanted: program.need(),
+                given: mem.len() as u32,
+            });
         }
         Ok(run_alone(program, mem, arg, credit, &mut self.functions))
     }

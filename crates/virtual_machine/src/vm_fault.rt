@@ -11,16 +11,16 @@ use thiserror::Error;
 #[derive(Clone, Copy, Debug, PartialEq, Eq, Error)]
 pub enum VmFault {
     /// No program is set.
-    #[error("no program")]
+    #[error("41: no program is set")]
     NoProgram,
     /// The credit is under the program's cost.
-    #[error("credit under the program's cost")]
-    CreditLow,
-    /// The memory is shorter than the program's need.
-    #[error("memory under the program's need")]
-    MemoryShort,
+    #[error("42: a credit of {given}, under the program's cost of {wanted}")]
+    CreditLow { wanted: u32, given: u32 },
+    /// The memory is shorter than the program's need, both in bytes.
+    #[error("43: a memory of {given} bytes, under the program's need of {wanted}")]
+    MemoryShort { wanted: u32, given: u32 },
     /// A growth was refused.
-    #[error("out of memory")]
+    #[error("99: out of memory")]
     NoMemory,
 }
 
@@ -31,8 +31,8 @@ impl VmFault {
     {
         match self {
             VmFault::NoProgram => 41,
-            VmFault::CreditLow => 42,
-            VmFault::MemoryShort => 43,
+            VmFault::CreditLow { .. } => 42,
+            VmFault::MemoryShort { .. } => 43,
             VmFault::NoMemory => 99,
         }
     }
