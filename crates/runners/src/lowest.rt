@@ -17,7 +17,7 @@ pub fn play_lowest(alloc: Global, job: Job) -> Result<Report, NoMemory>
 {
     let mut world = World::open(alloc, job)?;
     let mut number = 0;
-    while number < world.count() {
+    while number < world.len() {
         world.run(alloc, number, u32::MAX);
         number += 1;
     }

@@ -122,6 +122,7 @@ impl Session {
         requires { IsHeadOf Whole (front (unread self.old)) }
         ensures frame { IfOk result (λ frame. front (unread self.old) ≡ Front.whole frame.items (unread self.new)) }
         ensures refused { IfErr result (λ e. e ≡ NoMemory) }
+        ensures left { OnErr result (FrameAnswer (Err NoMemory) (unread self.old) (unread self.new)) }
         ensures same { ended_by self.new ≡ ended_by self.old }
     {
         match codec().decode(&mut self.buffer) {
@@ -178,7 +179,7 @@ impl Session {
     /// The next request, once its frame is whole; `None` until then.
     ///
     /// 72 and 73 use up their frame, and the session goes on. A frame that is too long is 71 at its turn, and so is every later
-    /// call. After 99 every later call answers 99.
+    /// call. After 99 every later call answers 99; no byte behind the frame that found no memory is lost.
     pub fn next_request(&mut self, alloc: Global) -> Result<Option<Request>, SessionFault>
         ensures answer { ended_by self.old ≡ None → RequestAnswer result (unread self.old) (unread self.new) }
         ensures ended { IfSome (ended_by self.old) (λ fault. (result ≡ Err fault) × (ended_by self.new ≡ Some fault) × (unread self.new ≡ unread self.old)) }
