@@ -1,0 +1,350 @@
+#!/usr/bin/env python3
+"""Keeps `bpfjobs serve` busy with good and bad clients for a while, and looks at what is left of it.
+
+    .ci/soak.py [--seconds N] [--clients N] [--seed N] [--workers N] [--program FILE]
+
+It starts the server on a free port of 127.0.0.1, the only address that it speaks to. The clients grant, give good and bad jobs, ask,
+cut connections at any byte and send rubbish, as the seed says; an auditor asks now and then how many jobs there are. At the end each account
+has to add up, against what was granted and against the reports of its jobs; the server has to have no thread and no socket but those that it
+began with; and its memory is told as bytes a job, by the line that fits best. Status: 0, or 1 where something doesn't hold.
+"""
+
+import argparse
+import json
+import os
+import random
+import socket
+import struct
+import subprocess
+import sys
+import threading
+import time
+
+TOP = os.path.dirname(os.path.dirname(os.path.abspath(__file__)))
+
+# A connection more than these is never taken, so that the server is ended by a signal.
+SESSIONS = 1000000
+
+# Seconds that a client waits for a reply.
+PATIENCE = 60.0
+
+ROOT = (
+    "bf16000000000000b701000001000000b70200000a000000b703000004000000b704000009000000"
+    "85000000010000007306000000000000b7000000000000009500000000000000"
+)
+CHILD = "7331000000000000b7000000000000009500000000000000"
+JOB = {
+    "credit": 34,
+    "buffer": "0000000000000000",
+    "programs": [{"need": 4, "code": ROOT}, {"need": 4, "code": CHILD}],
+}
+
+# What such a job comes to.
+SPENT, RETURNED, BUFFER = 27, 7, "0000000009000000"
+
+# Jobs that no desk takes, each with the number of its refusal where the balance suffices.
+BAD_JOBS = [
+    (61, {**JOB, "programs": []}),
+    (62, {**JOB, "programs": [{"need": 0, "code": CHILD}] * 17}),
+    (31, {**JOB, "programs": [{"need": 0, "code": "9500000000000000"}]}),
+    (2, {**JOB, "programs": [{"need": 0, "code": "95"}]}),
+    (63, {**JOB, "credit": 8}),
+    (64, {**JOB, "buffer": "000000"}),
+    (73, {**JOB, "credit": -1}),
+    (73, {**JOB, "buffer": "0"}),
+]
+
+
+def framed(text):
+    return struct.pack(">I", len(text)) + text
+
+
+def encoded(request):
+    return framed(json.dumps(request).encode())
+
+
+class Gone(Exception):
+    """The connection is over."""
+
+
+class Connection:
+    def __init__(self, port):
+        self.stream = socket.create_connection(("127.0.0.1", port), timeout=PATIENCE)
+
+    def send(self, data):
+        try:
+            self.stream.sendall(data)
+        except OSError as error:
+            raise Gone from error
+
+    def reply(self):
+        (length,) = struct.unpack(">I", self._read(4))
+        return json.loads(self._read(length))
+
+    def ask(self, request):
+        self.send(encoded(request))
+        return self.reply()
+
+    def close(self, reset=False):
+        if reset:
+            self.stream.setsockopt(socket.SOL_SOCKET, socket.SO_LINGER, struct.pack("ii", 1, 0))
+        self.stream.close()
+
+    def _read(self, count):
+        parts = b""
+        while len(parts) < count:
+            try:
+                part = self.stream.recv(count - len(parts))
+            except OSError as error:
+                raise Gone from error
+            if not part:
+                raise Gone
+            parts += part
+        return parts
+
+
+class Client(threading.Thread):
+    """One tenant. What it knows of its account is what it was answered, and at most what it sent."""
+
+    def __init__(self, port, number, seed, until):
+        super().__init__(daemon=True)
+        self.port = port
+        self.tenant = f"tenant-{number}"
+        self.random = random.Random(seed * 1000003 + number)
+        self.until = until
+        self.granted = 0
+        self.unsure = 0
+        self.jobs = []
+        self.counts = dict.fromkeys(("connections", "requests", "jobs", "bad jobs", "cut", "rubbish"), 0)
+        self.wrong = []
+
+    def run(self):
+        while time.monotonic() < self.until:
+            try:
+                self.visit()
+            except Gone:
+                pass
+            except OSError as error:
+                self.wrong.append(f"{self.tenant}: no connection: {error}")
+                return
+
+    def visit(self):
+        connection = Connection(self.port)
+        self.counts["connections"] += 1
+        try:
+            for _ in range(self.random.randint(1, 12)):
+                if not self.random.choice(self.ACTS)(self, connection):
+                    return
+        finally:
+            connection.close(reset=self.random.random() < 0.1)
+
+    def asked(self, connection, request):
+        self.counts["requests"] += 1
+        return connection.ask({**request, "tenant": self.tenant})
+
+    def expect(self, holds, what):
+        if not holds and len(self.wrong) < 5:
+            self.wrong.append(f"{self.tenant}: {what}")
+
+    def grant(self, connection):
+        amount = self.random.randint(1, 2000)
+        self.unsure += amount
+        reply = self.asked(connection, {"op": "grant", "amount": amount})
+        self.unsure -= amount
+        self.expect(reply.get("ok"), f"a grant: {reply}")
+        self.granted += amount
+        return True
+
+    def good_job(self, connection):
+        reply = self.asked(connection, {**JOB, "op": "submit"})
+        self.expect(reply.get("ok") or reply.get("code") in (74, 75), f"a good job: {reply}")
+        if reply.get("ok"):
+            self.jobs.append(reply["job"])
+            self.counts["jobs"] += 1
+        return True
+
+    def bad_job(self, connection):
+        code, job = self.random.choice(BAD_JOBS)
+        reply = self.asked(connection, {**job, "op": "submit"})
+        self.expect(not reply.get("ok") and reply["code"] in (code, 74, 75), f"a bad job ({code}): {reply}")
+        self.counts["bad jobs"] += 1
+        return True
+
+    def look(self, connection):
+        reply = self.asked(connection, {"op": "account"})
+        if reply.get("ok"):
+            sums = reply["open"] + reply["spent"] + reply["balance"]
+            self.expect(sums == reply["granted"], f"an account: {reply}")
+        if self.jobs:
+            reply = self.asked(connection, {"op": "status", "job": self.random.choice(self.jobs)})
+            self.expect(reply.get("ok"), f"a status: {reply}")
+        return True
+
+    def result(self, connection):
+        if self.jobs:
+            reply = self.asked(connection, {"op": "result", "job": self.random.choice(self.jobs)})
+            self.expect(is_right(reply) or reply.get("code") == 77, f"a result: {reply}")
+        return True
+
+    def burst(self, connection):
+        """Many requests at once, whose replies nobody reads."""
+        connection.send(encoded({"op": "account", "tenant": self.tenant}) * self.random.randint(1, 400))
+        return False
+
+    def cut(self, connection):
+        """A grant that is cut at any byte, which has to count for nothing."""
+        whole = encoded({"op": "grant", "tenant": self.tenant, "amount": 1000000})
+        connection.send(whole[: self.random.randrange(len(whole))])
+        self.counts["cut"] += 1
+        return False
+
+    def rubbish(self, connection):
+        self.counts["rubbish"] += 1
+        data = self.random.randbytes(self.random.randint(1, 3000))
+        if self.random.random() < 0.5:
+            connection.send(data)
+            return False
+        connection.send(framed(data))
+        reply = connection.reply()
+        self.expect(reply.get("code") in (72, 73), f"rubbish: {reply}")
+        return True
+
+    ACTS = [grant, good_job, good_job, good_job, good_job, bad_job, look, result, burst, cut, rubbish]
+
+
+def is_right(reply):
+    """Whether it is the result of the good job; its child's spawn may have found no memory."""
+    return reply.get("ok") and (reply["spent"], reply["returned"], reply["buffer"]) == (SPENT, RETURNED, BUFFER)
+
+
+def status_of(process):
+    """Threads, and bytes that are resident."""
+    with open(f"/proc/{process.pid}/status", encoding="utf-8") as file:
+        rows = dict(line.split(":", 1) for line in file)
+    return int(rows["Threads"]), int(rows["VmRSS"].split()[0]) * 1024
+
+
+def sockets_of(process):
+    folder = f"/proc/{process.pid}/fd"
+    return sum(os.readlink(os.path.join(folder, name)).startswith("socket:") for name in os.listdir(folder))
+
+
+def slope(points):
+    """Of the line that fits the points best, how much it rises."""
+    count = len(points)
+    middle = [sum(column) / count for column in zip(*points)]
+    over = sum((x - middle[0]) * (y - middle[1]) for x, y in points)
+    under = sum((x - middle[0]) ** 2 for x, _ in points)
+    return over / under if under else 0.0
+
+
+def audit(port, clients):
+    """Asks for each account and each job, and tells what doesn't add up."""
+    wrong = []
+    connection = Connection(port)
+    for client in clients:
+        for job in client.jobs:
+            until = time.monotonic() + PATIENCE
+            reply = connection.ask({"op": "result", "job": job})
+            while reply.get("code") == 77 and time.monotonic() < until:
+                time.sleep(0.01)
+                reply = connection.ask({"op": "result", "job": job})
+            if not is_right(reply):
+                wrong.append(f"job {job} of {client.tenant}: {reply}")
+        reply = connection.ask({"op": "account", "tenant": client.tenant})
+        if not reply.get("ok"):
+            if client.granted:
+                wrong.append(f"{client.tenant}: {reply}")
+            continue
+        known = client.granted <= reply["granted"] <= client.granted + client.unsure
+        # a job whose reply didn't come isn't known to its client
+        more, odd = divmod(reply["spent"] - SPENT * len(client.jobs), SPENT)
+        adds = reply["balance"] + reply["spent"] == reply["granted"] and reply["open"] == 0
+        if not (known and adds and odd == 0 and more >= 0):
+            wrong.append(f"{client.tenant}: {reply}, of {client.granted} granted and {len(client.jobs)} jobs")
+    connection.close()
+    return wrong
+
+
+def free_port():
+    with socket.socket() as probe:
+        probe.bind(("127.0.0.1", 0))
+        return probe.getsockname()[1]
+
+
+def start(program, port, workers):
+    words = [program, "serve", "--port", str(port), "--workers", str(workers), "--sessions", str(SESSIONS)]
+    process = subprocess.Popen(words, stdin=subprocess.DEVNULL, stdout=subprocess.PIPE, stderr=subprocess.STDOUT)
+    until = time.monotonic() + 10
+    while time.monotonic() < until:
+        try:
+            Connection(port).close()
+            return process
+        except OSError:
+            time.sleep(0.05)
+    process.kill()
+    sys.exit("soak: the server doesn't listen")
+
+
+def keep_busy(process, clients, seconds):
+    """Lets the clients go on to their end, and gives how many jobs there were at which size."""
+    points = []
+    for client in clients:
+        client.start()
+    until = time.monotonic() + seconds
+    while any(client.is_alive() for client in clients):
+        if process.poll() is not None:
+            sys.exit(f"soak: the server ended with status {process.returncode}: {process.stdout.read()[-500:]}")
+        points.append((sum(client.counts["jobs"] for client in clients), status_of(process)[1]))
+        if time.monotonic() > until + 2 * PATIENCE:
+            sys.exit("soak: a client isn't answered")
+        time.sleep(0.5)
+    return points
+
+
+def soak(words, process, port):
+    threads, size = status_of(process)
+    sockets = sockets_of(process)
+    until = time.monotonic() + words.seconds
+    clients = [Client(port, number, words.seed, until) for number in range(words.clients)]
+    points = keep_busy(process, clients, words.seconds)
+    wrong = [text for client in clients for text in client.wrong]
+    wrong += audit(port, clients)
+    time.sleep(1)
+    after_threads, after_size = status_of(process)
+    if after_threads != threads:
+        wrong.append(f"{after_threads} threads, of {threads} at first")
+    if sockets_of(process) > sockets:
+        wrong.append(f"{sockets_of(process)} sockets, of {sockets} at first")
+    counts = {name: sum(client.counts[name] for client in clients) for name in clients[0].counts}
+    print("soak: " + ", ".join(f"{count} {name}" for name, count in counts.items()))
+    later = points[len(points) // 5 :]
+    print(f"soak: {size} bytes at first, {after_size} at the end, {slope(later):.0f} a job by the line that fits best")
+    return wrong
+
+
+def main():
+    reader = argparse.ArgumentParser(description="Keeps a server busy for a while, and looks at what is left of it.")
+    reader.add_argument("--seconds", type=int, default=60)
+    reader.add_argument("--clients", type=int, default=8)
+    reader.add_argument("--seed", type=int, default=1)
+    reader.add_argument("--workers", type=int, default=4)
+    reader.add_argument("--program", default=os.path.join(TOP, "crates/bpfjobs/out/bpfjobs"))
+    words = reader.parse_args()
+    if not (1 <= words.seconds <= 3600 and 1 <= words.clients <= 64):
+        reader.error("--seconds is 1 to 3600, --clients 1 to 64")
+    port = free_port()
+    process = start(words.program, port, words.workers)
+    try:
+        wrong = soak(words, process, port)
+    finally:
+        process.kill()
+        process.wait()
+    for text in wrong[:20]:
+        print(f"soak: {text}")
+    print(f"soak: {len(wrong)} wrong" if wrong else "soak: every account adds up, and nothing is left over")
+    return 1 if wrong else 0
+
+
+if __name__ == "__main__":
+    sys.exit(main())
