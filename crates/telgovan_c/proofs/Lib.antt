@@ -1,0 +1,3 @@
+pub mod Helpless
+pub mod Pieces
+pub mod Turns

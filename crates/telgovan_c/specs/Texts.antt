@@ -1,0 +1,43 @@
+-- What is written of a text or of a program, as C sees it.
+use Rattle.std.specs.Prelude.{◌≡◌, ℕ, ◌<◌, ◌≤◌, List, ◌++◌, length, drop, true, false, Option, Some, None}
+use Rattle.std.specs.Str.{IsUtf8}
+use Rattle.insn_codec.specs.declared.insn.Insn.{Insn}
+use Rattle.insn_codec.specs.declared.fault.CodecFault.{CodecFault}
+use Rattle.insn_codec.specs.Fault.{code_of_fault as codec_number}
+use Rattle.insn_codec.specs.Spelling.{IsRefusal}
+use Rattle.disassembler.specs.Line.{IsListing}
+use Rattle.assembler.specs.declared.fault.TextFault.{TextFault}
+use Rattle.assembler.specs.declared.fault.TextFault.TheVariants.{UnknownWord, BadOperand, NumberRange, Empty, TooLong, NoMemory}
+use Rattle.assembler.specs.Fault.{code_of_fault as text_number}
+use Rattle.assembler.specs.Source.{IsAssembly, IsTextRefusal, source_lines}
+use Rattle.verifier.specs.RefusalCodes.{codec_slot}
+use Rattle.telgovan_c.specs.declared.texts.Written.{Written}
+
+-- the line that a refusal of source text tells
+abbrev pub line_of : TextFault → Option ℕ
+line_of (UnknownWord line) = Some line
+line_of (BadOperand line) = Some line
+line_of (NumberRange line) = Some line
+line_of Empty = None
+line_of TooLong = None
+line_of NoMemory = None
+
+abbrev pub refused_text : ℕ → Option ℕ → Written
+refused_text number None = record { length = 0; place = 0; status = number; has_place = false }
+refused_text number (Some place) = record { length = 0; place = place; status = number; has_place = true }
+
+-- the bytes stand at the beginning of the room, if they fit, and nothing else of it changes
+pub data IsWritten (bytes old new : List ℕ) (told : Written) : Type 0 where
+  fits : length bytes ≤ length old → new ≡ bytes ++ drop (length bytes) old → told ≡ record { length = length bytes; place = 0; status = 0; has_place = false } → IsWritten bytes old new told
+  too_long : length old < length bytes → new ≡ old → told ≡ record { length = length bytes; place = 0; status = 65; has_place = false } → IsWritten bytes old new told
+
+-- of a source text
+pub data IsAssembled (source old new : List ℕ) (told : Written) : Type 0 where
+  assembled : (bytes : List ℕ) (insns : List Insn) → IsUtf8 source → IsAssembly bytes insns (source_lines source) → IsWritten bytes old new told → IsAssembled source old new told
+  refused : (fault : TextFault) → IsUtf8 source → IsTextRefusal fault (source_lines source) → new ≡ old → told ≡ refused_text (text_number fault) (line_of fault) → IsAssembled source old new told
+  no_text : (IsUtf8 source → ⊥) → new ≡ old → told ≡ refused_text 73 None → IsAssembled source old new told
+
+-- of bytes, as lines
+pub data IsDisassembled (code old new : List ℕ) (told : Written) : Type 0 where
+  listed : (listing : List ℕ) (insns : List Insn) → IsListing listing code insns → IsWritten listing old new told → IsDisassembled code old new told
+  refused : (fault : CodecFault) → IsRefusal fault code → new ≡ old → told ≡ refused_text (codec_number fault) (codec_slot fault) → IsDisassembled code old new told

@@ -1,0 +1,136 @@
+//! Source text to bytes, and back.
+
+ghost use Rattle.std.specs.Prelude.{◌≡◌};
+ghost use Rattle.verifier.specs.RefusalCodes.{codec_slot};
+ghost use Rattle.telgovan_c.specs.Texts.{IsAssembled, IsDisassembled, IsWritten, line_of, refused_text};
+
+use assembler::{TextFault, assemble};
+use disassembler::disassemble;
+use insn_codec::CodecFault;
+use std::alloc::Global;
+
+// What isn't UTF-8 is no text.
+const NOT_TEXT: u32 = 73;
+// The room is shorter than what is to be written.
+const OVER_LIMIT: u32 = 65;
+
+/// What was written into the caller's room: `status` is 0 where it was, and `length` how many bytes. Where they don't fit, `status` is 65 and `length`
+/// is the room that they take. Otherwise `status` is the number of the refusal, and `place` the line or the slot where it stands, if
+/// `has_place`. The room stays as it was but for what was written.
+#[repr(C)]
+#[derive(Clone, Copy)]
+pub struct Written {
+    pub length: u64,
+    pub place: u64,
+    pub status: u32,
+    pub has_place: bool,
+}
+
+// Nothing is written, for a refusal of this number.
+fn refused(number: u32, place: Option<u64>) -> Written
+    ensures { result ≡ refused_text number place }
+{
+    Written {
+        length: 0,
+        place: place.unwrap_or(0),
+        status: number,
+        has_place: place.is_some(),
+    }
+}
+
+// Writes the bytes at the beginning of the room, if they fit.
+fn write_into(bytes: &[u8], room: &mut [u8]) -> Written
+    ensures { IsWritten bytes.now room.old room.new result }
+{
+    let length = bytes.len() as u64;
+    let status = if bytes.len() <= room.len() {
+        room[..bytes.len()].copy_from_slice(bytes);
+        0
+    } else {
+        OVER_LIMIT
+    };
+    Written {
+        length,
+        place: 0,
+        status,
+        has_place: false,
+    }
+}
+
+// The line that a refusal tells, if it tells one.
+fn line_of(fault: &TextFault) -> Option<u64>
+    ensures { result ≡ line_of fault.now }
+{
+    match *fault {
+        TextFault::UnknownWord(line) | TextFault::BadOperand(line) | TextFault::NumberRange(line) =>
+            Some(line),
+        TextFault::Empty | TextFault::TooLong | TextFault::NoMemory => None,
+    }
+}
+
+// The slot that a refusal tells, if it tells one.
+fn slot_of(fault: &CodecFault) -> Option<u64>
+    ensures { result ≡ codec_slot fault.now }
+{
+    match *fault {
+        CodecFault::UnknownOp(slot)
+        | CodecFault::BadRegister(slot)
+        | CodecFault::UnusedField(slot)
+        | CodecFault::HalfWide(slot) => Some(slot as u64),
+        CodecFault::Empty | CodecFault::Ragged | CodecFault::TooLong | CodecFault::NoMemory => None,
+    }
+}
+
+// The bytes of the program that a source text says, into the room.
+fn assembled(alloc: Global, source: &[u8], room: &mut [u8]) -> Written
+    ensures { IsAssembled source.now room.old room.new result }
+{
+    let text = match str::from_utf8(source) {
+        Ok(text) => text,
+        Err(_) => return refused(NOT_TEXT, None),
+    };
+    match assemble(alloc, text) {
+        Ok(bytes) => write_into(&bytes, room),
+        Err(fault) => refused(u32::from(fault.code()), line_of(&fault)),
+    }
+}
+
+// The lines of the program that the bytes spell, into the room.
+fn disassembled(alloc: Global, code: &[u8], room: &mut [u8]) -> Written
+    ensures { IsDisassembled code.now room.old room.new result }
+{
+    match disassemble(alloc, code) {
+        Ok(lines) => write_into(lines.as_bytes(), room),
+        Err(fault) => refused(u32::from(fault.code()), slot_of(&fault)),
+    }
+}
+
+/// Writes the bytes of the program that a source text says, and answers the status. 73 where the text is no UTF-8.
+#[unsafe(no_mangle)]
+pub extern "C" fn telgovan_assemble(
+    alloc: Global,
+    source: &[u8],
+    room: &mut [u8],
+    told: &mut Written,
+) -> u32
+    ensures written { IsAssembled source.now room.old room.new told.new }
+    ensures status { result ≡ told.new.status }
+{
+    *told = assembled(alloc, source, room);
+    told.status
+}
+
+/// Writes the lines of the program that the bytes spell, each with a line feed behind it, and answers the status.
+#[unsafe(no_mangle)]
+pub extern "C" fn telgovan_disassemble(
+    alloc: Global,
+    code: &[u8],
+    room: &mut [u8],
+    told: &mut Written,
+) -> u32
+    ensures written { IsDisassembled code.now room.old room.new told.new }
+    ensures status { result ≡ told.new.status }
+{
+    *told = disassembled(alloc, code, room);
+    told.status
+}
