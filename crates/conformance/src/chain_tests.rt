@@ -1,6 +1,6 @@
 //! Chains of tasks that hand their bytes on: what their parts take of memory has nothing to do with the credit.
 
-use crate::ways::assembled;
+use crate::ways::{assembled, evaluated};
 use job_core::{Job, ProgramBytes, Totals, World, admit};
 use std::alloc::Global;
 use std::test::Fail;
@@ -12,8 +12,8 @@ const COST: u32 = 28;
 
 const SIZE: usize = 65_536;
 
-/// Each task spawns one with all the credit that it can spare, and all its bytes but so many, and ends.
-fn chain(alloc: Global, kept: i32) -> Result<Job, Fail> {
+/// The program of all links: it spawns a task with all the credit that it can spare, and all its bytes but so many, and ends.
+fn link(alloc: Global, kept: i32) -> Result<ProgramBytes, Fail> {
     let keep = format!(in alloc; "sub64 r7, {kept}")?;
     let lines = [
         "call 3",
@@ -29,10 +29,14 @@ fn chain(alloc: Global, kept: i32) -> Result<Job, Fail> {
         "mov64 r0, 0",
         "exit",
     ];
-    let programs = [ProgramBytes {
+    Ok(ProgramBytes {
         need: 0,
         code: assembled(alloc, &lines)?,
-    }];
+    })
+}
+
+fn chain(alloc: Global, kept: i32) -> Result<Job, Fail> {
+    let programs = [link(alloc, kept)?];
     let buffer = vec![in alloc; 1; SIZE]?;
     Ok(admit(
         alloc,
@@ -77,6 +81,29 @@ fn rooms(alloc: Global, kept: i32) -> Result<(usize, u32), Fail> {
         return Err(Fail::new("the chain isn't at its end"));
     }
     Ok((room, spent))
+}
+
+/// What all tasks of a chain spend by the reference, and how many leave their bytes as they were.
+fn by_evaluation(alloc: Global, kept: i32) -> Result<(u32, u32), Fail> {
+    let programs = [link(alloc, kept)?];
+    let buffer = vec![in alloc; 1; SIZE]?;
+    let credit = LINKS.wrapping_mul(COST.wrapping_add(1));
+    let (mut spent, mut unchanged) = (0u32, 0u32);
+    for task in &evaluated(alloc, &programs, credit, buffer, LINKS.wrapping_mul(20))? {
+        spent = spent.wrapping_add(task.ending.spent);
+        if task.bytes.iter().all(|byte| *byte == 1) {
+            unchanged = unchanged.wrapping_add(1);
+        }
+    }
+    Ok((spent, unchanged))
+}
+
+#[test]
+fn the_reference_comes_to_the_same(rt: HostRuntime) -> Result<(), Fail> {
+    let expected = (LINKS.wrapping_mul(COST.wrapping_add(1)), LINKS);
+    assert_eq!(rt; by_evaluation(rt.alloc(), 0)?, expected);
+    assert_eq!(rt; by_evaluation(rt.alloc(), 8)?, expected);
+    Ok(())
 }
 
 #[test]

@@ -1,10 +1,14 @@
-//! How many states a verified program keeps: those of slot 0 and of each slot with at least two edges into it.
+//! How many states a verified program keeps: those of slot 0 and of each slot with at least two edges into it. And the others, which
+//! are worked out.
+
+ghost use Rattle.std.specs.Prelude.{◌≤◌};
 
 use crate::ways::assembled;
 use helpers::HelperTable;
 use insn_codec::{AluOp, Condition, Insn, Operand, Register, Width, encode};
 use std::alloc::Global;
 use std::test::Fail;
+use value_ranges::Abs;
 use verifier::verify;
 
 /// A program, what it needs, how many states it keeps, and its greatest cost.
@@ -124,12 +128,12 @@ fn a_ladder_keeps_one_for_each_rung(rt: HostRuntime) -> Result<(), Fail> {
     let alloc = rt.alloc();
     let mut insns = Vec::new(alloc);
     insns.push(set(1))?;
-    for _ in 0..100 {
+    for _ in 0..64 {
         insns.push(jump_if(1))?;
         insns.push(add())?;
     }
     insns.push(Insn::Exit)?;
-    assert_eq!(rt; kept(alloc, &insns)?, 101);
+    assert_eq!(rt; kept(alloc, &insns)?, 65);
     Ok(())
 }
 
@@ -146,5 +150,86 @@ fn a_comb_keeps_two(rt: HostRuntime) -> Result<(), Fail> {
     }
     insns.push(Insn::Exit)?;
     assert_eq!(rt; kept(alloc, &insns)?, 2);
+    Ok(())
+}
+
+/// What is known of a register ahead of each slot, where an instruction begins.
+fn known(
+    alloc: Global,
+    program: &[&str],
+    register: u8,
+    slots: u32,
+) -> Result<Vec<Option<Abs>>, Fail>
+    requires { register ≤ 10 }
+{
+    let code = assembled(alloc, program)?;
+    let verified = verify(alloc, 0, &code, &HelperTable::job())?;
+    let mut known = Vec::new(alloc);
+    for slot in 0..slots {
+        match verified.state(alloc, slot)? {
+            None => known.push(None)?,
+            Some(state) => known.push(Some(state.at(Register::new(register))))?,
+        }
+    }
+    Ok(known)
+}
+
+#[test]
+fn states_are_worked_out_between_merges(rt: HostRuntime) -> Result<(), Fail> {
+    let alloc = rt.alloc();
+    let program = [
+        "lddw r0, 1",
+        "jeq r3, 0, +2",
+        "mov64 r0, 2",
+        "add64 r0, 1",
+        "exit",
+    ];
+    let found = known(alloc, &program, 0, 7)?;
+    assert_eq!(rt; found.len(), 7);
+    assert_eq!(rt; found[0], Some(Abs::Unset));
+    assert_eq!(rt; found[1], None);
+    assert_eq!(rt; found[2], Some(Abs::single(1)));
+    assert_eq!(rt; found[3], Some(Abs::single(1)));
+    assert_eq!(rt; found[4], Some(Abs::single(2)));
+    assert_eq!(rt; found[5], Some(Abs::between(1, 3)));
+    assert_eq!(rt; found[6], None);
+    Ok(())
+}
+
+#[test]
+fn a_jump_tells_of_its_operand_on_its_edge(rt: HostRuntime) -> Result<(), Fail> {
+    let alloc = rt.alloc();
+    let program = [
+        "jlt r3, 8, +2",
+        "mov64 r0, 0",
+        "exit",
+        "mov64 r0, r3",
+        "exit",
+    ];
+    let found = known(alloc, &program, 3, 5)?;
+    assert_eq!(rt; found.len(), 5);
+    assert_eq!(rt; found[0], Some(Abs::any_number()));
+    assert_eq!(rt; found[1], Some(Abs::between(8, 18_446_744_073_709_551_615)));
+    assert_eq!(rt; found[3], Some(Abs::between(0, 7)));
+    assert_eq!(rt; found[4], Some(Abs::between(0, 7)));
+    Ok(())
+}
+
+#[test]
+fn the_last_state_of_a_long_program_is_worked_out(rt: HostRuntime) -> Result<(), Fail> {
+    let alloc = rt.alloc();
+    let mut insns = Vec::new(alloc);
+    insns.push(set(1))?;
+    for _ in 0..4094 {
+        insns.push(add())?;
+    }
+    insns.push(Insn::Exit)?;
+    let code = encode(alloc, &insns)?;
+    let verified = verify(alloc, 0, &code, &HelperTable::job())?;
+    let state = verified.state(alloc, 4095)?;
+    assert_eq!(rt; state.is_some(), true);
+    if let Some(state) = state {
+        assert_eq!(rt; state.at(Register::new(0)), Abs::single(4095));
+    }
     Ok(())
 }

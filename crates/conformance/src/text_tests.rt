@@ -81,10 +81,24 @@ fn refusals_have_numbers_and_texts(rt: HostRuntime) -> Result<(), Fail> {
 }
 
 const FAULTS: [(VmFault, u8, &str); 4] = [
-    (VmFault::NoProgram, 41, "no program"),
-    (VmFault::CreditLow, 42, "credit under the program's cost"),
-    (VmFault::MemoryShort, 43, "memory under the program's need"),
-    (VmFault::NoMemory, 99, "out of memory"),
+    (VmFault::NoProgram, 41, "41: no program is set"),
+    (
+        VmFault::CreditLow {
+            wanted: 9,
+            given: 8,
+        },
+        42,
+        "42: a credit of 8, under the program's cost of 9",
+    ),
+    (
+        VmFault::MemoryShort {
+            wanted: 7,
+            given: 6,
+        },
+        43,
+        "43: a memory of 6 bytes, under the program's need of 7",
+    ),
+    (VmFault::NoMemory, 99, "99: out of memory"),
 ];
 
 #[test]

@@ -34,7 +34,13 @@ fn start_with_a_program(rt: HostRuntime) -> Result<(), Fail> {
     assert!(rt; vm.has_program());
     let mut mem = Vec::new(alloc);
     assert_eq!(rt; run(&mut vm, &mut mem, 2), Ok(42));
-    assert_eq!(rt; run(&mut vm, &mut mem, 1), Err(VmFault::CreditLow));
+    assert_eq!(rt;
+        run(&mut vm, &mut mem, 1),
+        Err(VmFault::CreditLow {
+            wanted: 2,
+            given: 1
+        })
+    );
     let refusal = Vm::new(alloc, Some((65537, &FORTY_TWO))).err();
     assert_eq!(rt; refusal, Some(Refusal::NeedTooLarge));
     Ok(())
@@ -80,7 +86,13 @@ fn run_again(rt: HostRuntime) -> Result<(), Fail> {
     assert_eq!(rt; run(&mut vm, &mut mem, 99), Ok(2));
     assert_eq!(rt; mem.as_slice(), [9, 9].as_slice());
     mem.truncate(1);
-    assert_eq!(rt; run(&mut vm, &mut mem, 99), Err(VmFault::MemoryShort));
+    assert_eq!(rt;
+        run(&mut vm, &mut mem, 99),
+        Err(VmFault::MemoryShort {
+            wanted: 2,
+            given: 1
+        })
+    );
     assert_eq!(rt; mem.as_slice(), [9].as_slice());
     Ok(())
 }

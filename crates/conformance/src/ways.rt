@@ -7,7 +7,7 @@ use cost_bound::costs;
 use flow_graph::build;
 use insn_codec::decode;
 use job_core::{ProgramBytes, admit, play};
-use reference::{ReferenceProgram, run_alone};
+use reference::{Evaluation, FinishedTask, ReferenceProgram, evaluate, run_alone};
 use std::alloc::Global;
 use virtual_machine::Vm;
 
@@ -96,5 +96,24 @@ pub fn by_reference(
     match run_alone(alloc, &program, start.credit, memory, steps, &helper) {
         Ok(Some((r0, last))) => Ok((r0, last.used, last.part)),
         _ => bail!("the run has no end"),
+    }
+}
+
+/// The tasks of a job at their ends, by the reference: what its root comes to with all that it spawns, where each spawn is taken.
+pub fn evaluated(
+    alloc: Global,
+    programs: &[ProgramBytes],
+    credit: u32,
+    buffer: Vec<u8>,
+    steps: u32,
+) -> anyhow::Result<Vec<FinishedTask>> {
+    let mut read = Vec::new(alloc);
+    for program in programs {
+        let none = Vec::new(alloc);
+        read.push(reference_program(alloc, program.need, &program.code, none)?)?;
+    }
+    match evaluate(alloc, &read, credit, buffer, steps) {
+        Ok(Evaluation::Comes(tasks)) => Ok(tasks),
+        _ => bail!("the root comes to nothing"),
     }
 }

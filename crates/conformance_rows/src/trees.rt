@@ -2,9 +2,9 @@
 
 use crate::row::text_of;
 use anyhow::bail;
-use conformance::ways::{copied, reference_program};
+use conformance::ways::{copied, evaluated};
 use job_core::{ProgramBytes, admit, play};
-use reference::{Evaluation, FinishedTask, evaluate};
+use reference::FinishedTask;
 use std::alloc::Global;
 use std::collections::BTreeMap;
 
@@ -85,7 +85,7 @@ pub fn by_play(alloc: Global, tree: &Tree, schedule: &[u32]) -> anyhow::Result<(
         let place = place_text(alloc, &widened(alloc, &place)?)?;
         answer.r0s.insert(place, end.r0)?;
     }
-    Ok((answer.text(alloc)?, world.count()))
+    Ok((answer.text(alloc)?, world.len()))
 }
 
 /// Adds a task that ended to what the job comes to.
@@ -103,16 +103,8 @@ fn add(alloc: Global, answer: &mut Answer, task: &FinishedTask) -> anyhow::Resul
 
 /// What the root comes to with all that it spawns, by the reference.
 pub fn by_evaluation(alloc: Global, tree: &Tree) -> anyhow::Result<String> {
-    let mut programs = Vec::new(alloc);
-    for program in &tree.programs {
-        let none = Vec::new(alloc);
-        programs.push(reference_program(alloc, program.need, &program.code, none)?)?;
-    }
     let buffer = copied(alloc, &tree.buffer)?;
-    let Ok(Evaluation::Comes(tasks)) = evaluate(alloc, &programs, tree.credit, buffer, MOST_STEPS)
-    else {
-        bail!("the root comes to nothing");
-    };
+    let tasks = evaluated(alloc, &tree.programs, tree.credit, buffer, MOST_STEPS)?;
     let mut answer = Answer::new(alloc);
     answer.buffer = vec![in alloc; 0; tree.buffer.len()]?;
     for task in &tasks {
@@ -124,9 +116,9 @@ pub fn by_evaluation(alloc: Global, tree: &Tree) -> anyhow::Result<String> {
 /// What the job comes to over a schedule, where the root comes to the same by the reference.
 pub fn over(alloc: Global, tree: &Tree, schedule: &[u32]) -> anyhow::Result<String> {
     let (played, _) = by_play(alloc, tree, schedule)?;
-    let evaluated = by_evaluation(alloc, tree)?;
-    if played.as_str() == evaluated.as_str() {
+    let expected = by_evaluation(alloc, tree)?;
+    if played.as_str() == expected.as_str() {
         return Ok(played);
     }
-    Ok(format!(in alloc; "{played}; evaluated {evaluated}")?)
+    Ok(format!(in alloc; "{played}; evaluated {expected}")?)
 }

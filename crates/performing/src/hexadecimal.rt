@@ -8,8 +8,8 @@ use hex::FromHexError;
 use std::alloc::Global;
 
 /// Why there are no bytes.
-#[derive(Clone, Copy)]
-pub(crate) enum Unread {
+#[derive(Clone, Copy, Debug, PartialEq, Eq)]
+pub enum Unread {
     NotHexadecimal,
     NoMemory,
 }
@@ -33,7 +33,7 @@ fn trimmed(text: &[u8]) -> &[u8]
 }
 
 /// The bytes, by digits in either case. Blanks and line ends behind them are dropped.
-pub(crate) fn decoded(alloc: Global, text: &[u8]) -> Result<Vec<u8>, Unread>
+pub fn decoded(alloc: Global, text: &[u8]) -> Result<Vec<u8>, Unread>
     ensures ok { IfOk result (λ bytes. IsHexadecimal text.now bytes.items) }
     ensures err { IfErr result (λ why. why ≡ unread.NotHexadecimal → IsNoHexadecimal text.now) }
 {

@@ -11,6 +11,7 @@ mod code;
 mod hexadecimal;
 
 pub use code::{assembled, disassembled, verified};
+pub use hexadecimal::{Unread, decoded};
 
 // jobs, as JSON
 mod declined;
