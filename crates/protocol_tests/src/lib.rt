@@ -10,6 +10,8 @@ mod server;
 
 // what it hears and says
 #[cfg(test)]
+mod cut_tests;
+#[cfg(test)]
 mod frame_tests;
 #[cfg(test)]
 mod job_tests;

@@ -7,6 +7,8 @@ mod ends;
 
 // streams and their replies, as texts
 #[cfg(test)]
+mod cut_tests;
+#[cfg(test)]
 mod failing_tests;
 #[cfg(test)]
 mod runner_tests;
