@@ -1,0 +1,110 @@
+//! `bpfrun FILE`: verifies one eBPF program, runs it by itself and prints what it comes to. `bpfrun --help` tells how.
+#![tactic(auto)]
+
+ghost use Rattle.std.specs.Prelude.{◌≤◌};
+
+use command_line::Usage;
+use performing::{Answer, tell};
+use std::alloc::Global;
+use std::env::Env;
+use std::process::ExitCode;
+use std::rt::Files;
+use std::{env, fs, io};
+use streams::Tap;
+use trial::{Asked, answer, form_of};
+use trial_line::{Request, request};
+
+// The status where the words are wrong.
+const USAGE: u8 = 2;
+
+// The status where input or output fails, or there is no memory.
+const FAILED: u8 = 3;
+
+// The words of the command line, the program's name first.
+fn words<R: Env + AllocGlobal>(rt: &R) -> io::Result<Vec<String>> {
+    let mut words = Vec::new(rt.alloc());
+    for word in env::args(rt)? {
+        words.push(word)?;
+    }
+    Ok(words)
+}
+
+// Prints why the words are no request, or the help that they ask for, and gives the status.
+fn explained<R: Print + Eprint>(rt: &R, usage: Usage) -> u8 {
+    match usage {
+        Usage::Refused(error) => {
+            let _ = error.print(rt);
+            if error.use_stderr() { USAGE } else { 0 }
+        }
+        Usage::Unread => USAGE,
+        Usage::NoMemory => FAILED,
+    }
+}
+
+// The bytes of a file; none, and a line that tells why, where it can't be read.
+fn contents<R: Files + Eprint + AllocGlobal>(rt: &R, path: &str) -> Option<Vec<u8>> {
+    match fs::read(rt, path) {
+        Ok(bytes) => Some(bytes),
+        Err(error) => {
+            let _ = eprintln!(rt; "bpfrun: {path}: {error}");
+            None
+        }
+    }
+}
+
+// Prints an answer, and gives the status.
+fn told<R: Print>(rt: &R, answer: &Answer) -> u8 {
+    let mut writer = Tap::new(io::writer(rt));
+    match tell(&mut writer, answer) {
+        Ok(status) => status,
+        Err(_) => FAILED,
+    }
+}
+
+// Tries the program on its memory, prints what it comes to, and gives the status.
+fn tried<R: Files + Print + Eprint + AllocGlobal>(
+    rt: &R,
+    request: &Request<'_>,
+    memory: Option<Vec<u8>>,
+) -> u8
+    requires { request.now.credit ≤ 2147483647 }
+{
+    let Some(input) = contents(rt, request.file) else {
+        return FAILED;
+    };
+    let asked = Asked {
+        form: form_of(request.file),
+        need: request.need,
+        arg: request.arg,
+        credit: request.credit,
+        explains: request.explains,
+    };
+    match answer(rt.alloc(), &asked, &input, memory) {
+        Ok(answer) => told(rt, &answer),
+        Err(_) => FAILED,
+    }
+}
+
+// Does what the words ask for, and gives the status.
+fn act<R: Files + Print + Eprint + AllocGlobal>(rt: &R, request: &Request<'_>) -> u8
+    requires { request.now.credit ≤ 2147483647 }
+{
+    let Some(path) = request.memory else {
+        return tried(rt, request, None);
+    };
+    match contents(rt, path) {
+        Some(memory) => tried(rt, request, Some(memory)),
+        None => FAILED,
+    }
+}
+
+fn main(rt: HostRuntime) -> ExitCode {
+    let Ok(words) = words(&rt) else {
+        return ExitCode::from(FAILED);
+    };
+    let status = match request(rt.alloc(), &words) {
+        Ok(request) => act(&rt, &request),
+        Err(usage) => explained(&rt, usage),
+    };
+    ExitCode::from(status)
+}

@@ -1,0 +1,31 @@
+-- The lines of a source text that say something.
+use Rattle.std.proofs.Common.{◌≡◌, inl, inr, ℕ, ◌+◌, Bool, true, false, List, [], ◌∷◌, ◌++◌, length, refl, ap, sym, subst, ◌∙◌, append_assoc}
+use Rattle.std.specs.Prelude.{◌==◌, if◌then◌else◌}
+use Rattle.std.specs.List.{slice_split}
+use Rattle.std.proofs.lemmas.List.{append-nil}
+use Rattle.disassembler.specs.Cut.{IsFree, BeginsWith}
+use Rattle.assembler.specs.Source.{is_line_feed, numbered, stripped}
+use Rattle.assembler.proofs.SourceLines.{left_of, split_last, split_more}
+use Rattle.trial.specs.Places.{said}
+
+cut_at : (line tail : List ℕ) → IsFree 10 10 line → BeginsWith 10 10 tail → slice_split is_line_feed (line ++ tail) ≡ line ∷ left_of tail
+cut_at line [] f b = ap (slice_split is_line_feed) (append-nil line) ∙ split_last line f
+cut_at line (c ∷ cs) f (inl b) = ap (λ (x : ℕ). slice_split is_line_feed (line ++ x ∷ cs)) b ∙ split_more line cs f
+cut_at line (c ∷ cs) f (inr b) = ap (λ (x : ℕ). slice_split is_line_feed (line ++ x ∷ cs)) b ∙ split_more line cs f
+
+by_test : (b : Bool) (x : ℕ × List ℕ) (more : List (ℕ × List ℕ)) → if◌then◌else◌ {A = List (ℕ × List ℕ)} b more (x ∷ more) ≡ if◌then◌else◌ {A = List (ℕ × List ℕ)} b [] (x ∷ []) ++ more
+by_test true x more = refl
+by_test false x more = refl
+
+-- one line more
+pub more : (lines done found : List (ℕ × List ℕ)) (n : ℕ) (rest line tail : List ℕ) → rest ≡ line ++ tail → IsFree 10 10 line → BeginsWith 10 10 tail → lines ≡ done ++ numbered n (slice_split is_line_feed rest) → found ≡ done ++ said n (stripped line) → lines ≡ found ++ numbered (n + 1) (left_of tail)
+more lines done found n rest line tail e f b h is =
+    let parts : slice_split is_line_feed rest ≡ line ∷ left_of tail = ap (slice_split is_line_feed) e ∙ cut_at line tail f b in
+    h ∙ (ap (λ (l : List (List ℕ)). done ++ numbered n l) parts
+    ∙ (ap (λ (l : List (ℕ × List ℕ)). done ++ l) (by_test (length (stripped line) == 0) (n, stripped line) (numbered (n + 1) (left_of tail)))
+    ∙ (sym (append_assoc done (said n (stripped line)) (numbered (n + 1) (left_of tail)))
+    ∙ ap (λ (l : List (ℕ × List ℕ)). l ++ numbered (n + 1) (left_of tail)) (sym is))))
+
+-- no line more
+pub finish : (lines found : List (ℕ × List ℕ)) (n : ℕ) (left : List (List ℕ)) → lines ≡ found ++ numbered n left → left ≡ [] → found ≡ lines
+finish lines found n left h none = sym (h ∙ ap (λ (l : List (List ℕ)). found ++ numbered n l) none ∙ append-nil found)

@@ -1,0 +1,26 @@
+//! A trial of one program, for whoever writes it: how its file is read, whether it is accepted, and what its run by itself comes to.
+#![tactic(auto)]
+
+// the program's bytes, and their run
+mod fault;
+mod form;
+mod reading;
+mod running;
+
+pub use fault::Fault;
+pub use form::{Form, form_of};
+pub use reading::bytes_of;
+pub use running::run;
+
+// the line that a refusal is about
+mod lines;
+mod place;
+
+pub use lines::{Line, lines_of};
+pub use place::place_of;
+
+// what is printed
+mod answering;
+mod telling;
+
+pub use answering::{Asked, answer};

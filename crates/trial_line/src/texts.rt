@@ -1,0 +1,33 @@
+//! What `--help` tells.
+
+pub(crate) const BPFRUN: &str =
+    "Verifies an eBPF program, runs it by itself, and prints what it comes to";
+
+pub(crate) const BPFRUN_MORE: &str =
+    "Writes R0, what the run spent of the credit, and, where a memory is given, that memory behind
+the run, in hexadecimal. A program that is refused is told with the number of the refusal and,
+where it is text, with its line.
+Status: 0 ran; 1 refused; 2 wrong words; 3 where input or output fails, or there is no memory.
+
+Example:
+  $ bpfrun examples/byte_at.bpf --need 16 --arg 3
+  r0 0
+  spent 4
+  $ bpfrun examples/byte_at.bpf --need 15
+  refused 33: access out of the part at slot 2
+  line 5: ldxb r0, [r1+0]";
+
+pub(crate) const FILE: &str =
+    "The program: source text (.bpf), hexadecimal (.hex), or its bytes (any other name)";
+
+pub(crate) const NEED: &str =
+    "Bytes of its part that the program may count on, 0 to 65536; if not given, all of its memory, or 0";
+
+pub(crate) const CREDIT: &str = "Credit that the run may spend, 0 to 2147483647";
+
+pub(crate) const ARG: &str = "The argument, which R3 has at the start";
+
+pub(crate) const MEMORY: &str =
+    "Bytes that are its part, at most 65536; if not given, as many zeros as it needs";
+
+pub(crate) const EXPLAIN: &str = "Explains why the verifier refuses the program";
