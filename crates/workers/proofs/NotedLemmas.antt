@@ -46,13 +46,9 @@ noted_as notes None end known is = subst (λ (b : Bool). as_noted b notes end) (
 noted_as notes (Some note) end known is = subst (λ (b : Bool). as_noted b notes end) (sym is.ran) (note, known, is)
 
 -- one more task of the report
-pub one_more : (notes : List Note) (ends : List TaskEnd) (noted : List (Option Note)) (i : ℕ) (d : TaskEnd) (o : Option Note) →
-    All (λ x. IfSome x (Contains notes)) noted → i < length noted → length noted ≡ length ends → o ≡ get_or noted i o →
-    IsNoted o (get_or ends i d) → All (EndedAs notes) (take i ends) → All (EndedAs notes) (take (i + 1) ends)
-one_more notes ends noted i d o known lt long there is so_far =
-    let within : i < length ends = omega (arith, lt, long) in
-    let has : IfSome o (Contains notes) = subst (λ (x : Option Note). IfSome x (Contains notes)) (sym there) (known i o lt) in
-    All-more (EndedAs notes) ends i d within so_far (noted_as notes o (get_or ends i d) has is)
+pub one_more : (notes : List Note) (ends : List TaskEnd) (i : ℕ) (d : TaskEnd) (o : Option Note) →
+    i < length ends → IfSome o (Contains notes) → IsNoted o (get_or ends i d) → All (EndedAs notes) (take i ends) → All (EndedAs notes) (take (i + 1) ends)
+one_more notes ends i d o within has is so_far = All-more (EndedAs notes) ends i d within so_far (noted_as notes o (get_or ends i d) has is)
 
 by_note : (programs : List Checked) (note : Note) (end : TaskEnd) → NotedAlone programs note → IsNoteOf note end →
     GivesAlone programs end.program end.arg end.given end.r0 end.spent

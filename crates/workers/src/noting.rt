@@ -1,6 +1,6 @@
 //! What workers note of the tasks that they ran, and whether a report says the same.
 
-ghost use Rattle.std.specs.Prelude.{◌≡◌, All, IfOk, IsTrue, map};
+ghost use Rattle.std.specs.Prelude.{◌≡◌, All, Contains, IfOk, IfSome, IsTrue, map};
 ghost use Rattle.machine_model.specs.Job.{entries_of};
 ghost use Rattle.helpers.specs.declared.spawner.SpawnRecord.{SpawnRecord};
 ghost use Rattle.verifier.specs.Checked.{program_of};
@@ -58,21 +58,30 @@ fn ended_as(end: TaskEnd, noted: Option<Note>) -> bool
     }
 }
 
+/// The note at a place, counted from 1. There is none at 0.
+fn note_at(notes: &[Note], place: usize) -> Option<Note>
+    ensures { IfSome result (Contains notes.now) }
+{
+    if place == 0 || place > notes.len() {
+        return None;
+    }
+    Some(notes[place - 1])
+}
+
 /// Whether each task of the report ended as a worker noted it, or wasn't run, and nothing else was noted.
 pub(crate) fn agrees(alloc: Global, ends: &[TaskEnd], notes: &[Note]) -> Result<bool, NoMemory>
     ensures { IfOk result (λ same. IsTrue same → All (EndedAs notes.now) ends.now) }
 {
-    let mut noted = vec![in alloc; None; ends.len()]?;
+    let mut places = vec![in alloc; 0usize; ends.len()]?;
     for i in 0..notes.len() {
-        let note = notes[i];
-        let place = note.number as usize;
-        if place >= noted.len() {
+        let number = notes[i].number as usize;
+        if number >= places.len() {
             return Ok(false);
         }
-        noted[place] = Some(note);
+        places[number] = i + 1;
     }
     for i in 0..ends.len() {
-        if !ended_as(ends[i], noted[i]) {
+        if !ended_as(ends[i], note_at(notes, places[i])) {
             return Ok(false);
         }
     }

@@ -9,12 +9,9 @@ pub loop-i-2-preserved : goal.loop-i-2-preserved
 loop-i-2-preserved c =
     let inv = c.loop-i-2.invariant in
     let lt = c.loop-i-2-test.true in
-    let long = inv.long in
     record {
-      noted = inv.noted;
-      long = long;
-      ended = one_more c.args.notes.now c.args.ends.now c.loop-i.noted.items c.loop-i-2.i _ c.index.result.now inv.noted (omega (arith, lt, long)) long
-          c.index.ensures (c.ended_as.ensures (search rules)) inv.ended;
+      long = inv.long;
+      ended = one_more c.args.notes.now c.args.ends.now c.loop-i-2.i _ c.note_at.result lt c.note_at.ensures (c.ended_as.ensures (search rules)) inv.ended;
     }
 
 pub returns : goal.returns
