@@ -9,3 +9,4 @@ pub mod SourceLines
 pub mod NoFault
 pub mod OneRefusal
 pub mod ReadBack
+pub mod QuoteLemmas

@@ -138,12 +138,12 @@ module _ (lines : List (ℕ × List ℕ)) (n : ℕ) (line : List ℕ) (left : Li
   stop fault.Empty r = absurd r.told
   stop fault.TooLong r = absurd r.told
 
--- what the lines behind a line's end are
+-- what the lines after a line's end are
 abbrev pub left_of : List ℕ → List (List ℕ)
 left_of [] = []
 left_of (c ∷ cs) = slice_split is_line_feed cs
 
-cut_at : (line tail : List ℕ) → IsFree 10 10 line → BeginsWith 10 10 tail → slice_split is_line_feed (line ++ tail) ≡ line ∷ left_of tail
+pub cut_at : (line tail : List ℕ) → IsFree 10 10 line → BeginsWith 10 10 tail → slice_split is_line_feed (line ++ tail) ≡ line ∷ left_of tail
 cut_at line [] f b = ap (slice_split is_line_feed) (append-nil line) ∙ split_last line f
 cut_at line (c ∷ cs) f (inl b) = ap (λ (x : ℕ). slice_split is_line_feed (line ++ x ∷ cs)) b ∙ split_more line cs f
 cut_at line (c ∷ cs) f (inr b) = ap (λ (x : ℕ). slice_split is_line_feed (line ++ x ∷ cs)) b ∙ split_more line cs f

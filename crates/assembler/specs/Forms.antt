@@ -17,7 +17,7 @@ use Rattle.assembler.specs.Numbers.{IsNumber}
 abbrev pub IsNumeral : List ℕ → Type 0
 IsNumeral ds = (n : ℕ) × IsNumber ds n
 
--- a numeral behind this byte
+-- this byte, and a numeral after it
 abbrev pub IsMarked : ℕ → List ℕ → Type 0
 IsMarked c ts = (ds : List ℕ) × (ts ≡ c ∷ ds) × IsNumeral ds
 

@@ -38,7 +38,7 @@ ReadsOperand = Reads operand_text IsOperand
 abbrev pub ReadsMemory : List ℕ → Option (ℕ × ℤ) → Type 0
 ReadsMemory = Reads (λ m. memory_text m.0 m.1) (λ m. (m.0 ≤ 10) × FitsSigned w16 m.1)
 
--- the same of a text behind a minus, and behind a plus or nothing
+-- what a reader answers of the digits after a minus, and of those after a plus or nothing
 abbrev pub ReadsNegative : List ℕ → Option ℤ → Type 0
 ReadsNegative ds None = (n : ℕ) → n < 2 ^ 31 → ds ≢ decimal (suc n)
 ReadsNegative ds (Some z) = (ds ≡ decimal (nat_abs z)) × (z ≤ℤ negsuc 0) × (nat_abs z ≤ 2 ^ 31)

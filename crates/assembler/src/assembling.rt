@@ -9,11 +9,12 @@ use crate::source::insns_from;
 use insn_codec::{CodecFault, encode};
 use std::alloc::Global;
 
-/// The bytes of the program that a source text says: its lines, without comments and blanks around them, are the lines
-/// of the instructions that these bytes spell. A refusal of a line tells the lowest that is no instruction's; `Empty` and `TooLong`
-/// come only where each line is one's.
+/// The bytes of the program that a source text says: its lines, without comments and blanks around
+/// them, are the lines of the instructions that these bytes spell. A refusal of a line tells the
+/// lowest that is no instruction's; `Empty` and `TooLong` come only where each line is one's.
 pub fn assemble(alloc: Global, source: &str) -> Result<Vec<u8>, TextFault>
-    ensures found { IfOk result (λ bytes. (insns : List Insn) × IsAssembly bytes.items insns (source_lines source.now)) }
+    ensures found { IfOk result (λ bytes. (insns : List Insn)
+        × IsAssembly bytes.items insns (source_lines source.now)) }
     ensures refused { IfErr result (λ e. IsTextRefusal e (source_lines source.now)) }
 {
     let insns = insns_from(alloc, source.as_bytes())?;

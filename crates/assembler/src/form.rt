@@ -3,7 +3,7 @@
 ghost use Rattle.std.specs.Prelude.{◌≡◌, ◌↔◌, IsTrue};
 ghost use Rattle.assembler.specs.Forms.{IsNumeral, IsMarked, IsNegative, IsNumberForm, IsOffsetForm, IsMemoryForm, IsOfForm, IsPair, IsTailOf};
 
-use crate::cut::{cut, two_from};
+use crate::cut::{split_before, two_from};
 use crate::number::number_from;
 use disassembler::Word;
 
@@ -51,41 +51,29 @@ fn is_numeral(text: &[u8]) -> bool
     number_from(text).is_some()
 }
 
-/// Whether a numeral stands behind this byte.
+/// Whether the text is this byte with a numeral after it.
 fn is_marked(mark: u8, text: &[u8]) -> bool
     ensures { IsTrue result ↔ IsMarked mark text.now }
 {
-    if text.is_empty() || text[0] != mark {
-        return false;
-    }
-    is_numeral(text.split_at(1).1)
+    !text.is_empty() && text[0] == mark && is_numeral(text.split_at(1).1)
 }
 
 fn is_negative(text: &[u8]) -> bool
     ensures { IsTrue result ↔ IsNegative text.now }
 {
-    match text {
-        b"-0" => false,
-        _ => is_marked(b'-', text),
-    }
+    !matches!(text, b"-0") && is_marked(b'-', text)
 }
 
 fn is_number(text: &[u8]) -> bool
     ensures { IsTrue result ↔ IsNumberForm text.now }
 {
-    if is_numeral(text) {
-        return true;
-    }
-    is_negative(text)
+    is_numeral(text) || is_negative(text)
 }
 
 fn is_offset(text: &[u8]) -> bool
     ensures { IsTrue result ↔ IsOffsetForm text.now }
 {
-    if is_marked(b'+', text) {
-        return true;
-    }
-    is_negative(text)
+    is_marked(b'+', text) || is_negative(text)
 }
 
 fn is_memory(text: &[u8]) -> bool
@@ -95,11 +83,8 @@ fn is_memory(text: &[u8]) -> bool
         return false;
     }
     let inner = text.split_at(1).1;
-    let (base, offset) = cut(inner.split_at(inner.len() - 1).0, b'+', b'-');
-    if !is_marked(b'r', base) {
-        return false;
-    }
-    is_offset(offset)
+    let (base, offset) = split_before(inner.split_at(inner.len() - 1).0, b'+', b'-');
+    is_marked(b'r', base) && is_offset(offset)
 }
 
 fn is_of_form(form: Form, text: &[u8]) -> bool
@@ -109,12 +94,7 @@ fn is_of_form(form: Form, text: &[u8]) -> bool
         Form::Register => is_marked(b'r', text),
         Form::Number => is_number(text),
         Form::Offset => is_offset(text),
-        Form::Source => {
-            if is_marked(b'r', text) {
-                return true;
-            }
-            is_number(text)
-        }
+        Form::Source => is_marked(b'r', text) || is_number(text),
         Form::Memory => is_memory(text),
     }
 }
@@ -123,26 +103,17 @@ fn are_two(first: Form, second: Form, text: &[u8]) -> bool
     ensures { IsTrue result ↔ IsPair (IsOfForm first) (IsOfForm second) text.now }
 {
     match two_from(text) {
-        Some((front, back)) => {
-            if !is_of_form(first, front) {
-                return false;
-            }
-            is_of_form(second, back)
-        }
+        Some((front, back)) => is_of_form(first, front) && is_of_form(second, back),
         None => false,
     }
 }
 
 fn are_three(first: Form, second: Form, third: Form, text: &[u8]) -> bool
-    ensures { IsTrue result ↔ IsPair (IsOfForm first) (IsPair (IsOfForm second) (IsOfForm third)) text.now }
+    ensures { IsTrue result
+        ↔ IsPair (IsOfForm first) (IsPair (IsOfForm second) (IsOfForm third)) text.now }
 {
     match two_from(text) {
-        Some((front, back)) => {
-            if !is_of_form(first, front) {
-                return false;
-            }
-            are_two(second, third, back)
-        }
+        Some((front, back)) => is_of_form(first, front) && are_two(second, third, back),
         None => false,
     }
 }

@@ -6,7 +6,7 @@ ghost use Rattle.insn_codec.specs.Spelling.{IsInsn};
 ghost use Rattle.disassembler.specs.Line.{line_text};
 ghost use Rattle.assembler.specs.Source.{TellsLine};
 
-use crate::cut::cut;
+use crate::cut::split_before;
 use crate::fault::TextFault;
 use crate::form::{is_tail_of, operands_of};
 use crate::row::insn_with;
@@ -19,10 +19,8 @@ pub fn insn_from(line: &[u8]) -> Option<Insn>
     ensures found { IfSome result (λ insn. (line.now ≡ line_text insn) × IsInsn insn) }
     ensures none { IfNone result ((insn : Insn) → IsInsn insn → line.now ≢ line_text insn) }
 {
-    let (front, tail) = cut(line, b' ', b' ');
-    let Some(word) = word_from(front) else {
-        return None;
-    };
+    let (front, tail) = split_before(line, b' ', b' ');
+    let word = word_from(front)?;
     if tail.is_empty() {
         match word {
             Word::Exit => Some(Insn::Exit),
@@ -41,7 +39,7 @@ pub fn fault_of(line: &[u8], number: u64) -> TextFault
     requires { (insn : Insn) → IsInsn insn → line.now ≢ line_text insn }
     ensures { TellsLine result number line.now }
 {
-    let (front, tail) = cut(line, b' ', b' ');
+    let (front, tail) = split_before(line, b' ', b' ');
     let Some(word) = word_from(front) else {
         return TextFault::UnknownWord(number);
     };

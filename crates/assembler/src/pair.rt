@@ -14,71 +14,55 @@ use insn_codec::{Operand, Register};
 pub fn register_and_operand(text: &[u8]) -> Option<(Register, Operand)>
     ensures { ReadsPair register_text IsRegister operand_text IsOperand text.now result }
 {
-    match two_from(text) {
-        Some((front, back)) => register_from(front).zip(operand_from(back)),
-        None => None,
-    }
+    let (front, back) = two_from(text)?;
+    register_from(front).zip(operand_from(back))
 }
 
 pub fn two_registers(text: &[u8]) -> Option<(Register, Register)>
     ensures { ReadsPair register_text IsRegister register_text IsRegister text.now result }
 {
-    match two_from(text) {
-        Some((front, back)) => register_from(front).zip(register_from(back)),
-        None => None,
-    }
+    let (front, back) = two_from(text)?;
+    register_from(front).zip(register_from(back))
 }
 
 pub fn register_and_value(text: &[u8]) -> Option<(Register, u64)>
     ensures { ReadsPair register_text IsRegister decimal IsValue text.now result }
 {
-    match two_from(text) {
-        Some((front, back)) => register_from(front).zip(value_from(back)),
-        None => None,
-    }
+    let (front, back) = two_from(text)?;
+    register_from(front).zip(value_from(back))
 }
 
 pub fn register_and_memory(text: &[u8]) -> Option<(Register, (Register, i16))>
     ensures { ReadsPair register_text IsRegister place_text IsPlace text.now result }
 {
-    match two_from(text) {
-        Some((front, back)) => register_from(front).zip(memory_from(back)),
-        None => None,
-    }
+    let (front, back) = two_from(text)?;
+    register_from(front).zip(memory_from(back))
 }
 
 pub fn memory_and_imm(text: &[u8]) -> Option<((Register, i16), i32)>
     ensures { ReadsPair place_text IsPlace signed_decimal IsImm text.now result }
 {
-    match two_from(text) {
-        Some((front, back)) => memory_from(front).zip(imm_from(back)),
-        None => None,
-    }
+    let (front, back) = two_from(text)?;
+    memory_from(front).zip(imm_from(back))
 }
 
 pub fn memory_and_register(text: &[u8]) -> Option<((Register, i16), Register)>
     ensures { ReadsPair place_text IsPlace register_text IsRegister text.now result }
 {
-    match two_from(text) {
-        Some((front, back)) => memory_from(front).zip(register_from(back)),
-        None => None,
-    }
+    let (front, back) = two_from(text)?;
+    memory_from(front).zip(register_from(back))
 }
 
 pub fn operand_and_offset(text: &[u8]) -> Option<(Operand, i16)>
     ensures { ReadsPair operand_text IsOperand signed_text IsOffset text.now result }
 {
-    match two_from(text) {
-        Some((front, back)) => operand_from(front).zip(offset_from(back)),
-        None => None,
-    }
+    let (front, back) = two_from(text)?;
+    operand_from(front).zip(offset_from(back))
 }
 
 pub fn register_and_tested(text: &[u8]) -> Option<(Register, (Operand, i16))>
     ensures { ReadsPair register_text IsRegister tested_text IsTested text.now result }
 {
-    match two_from(text) {
-        Some((front, back)) => register_from(front).zip(operand_and_offset(back)),
-        None => None,
-    }
+    let (front, back) = two_from(text)?;
+    register_from(front).zip(operand_and_offset(back))
 }

@@ -1,8 +1,8 @@
-//! Reading operands.
+//! Reading one operand: a number, a register, an offset or a place in memory.
 
 ghost use Rattle.assembler.specs.Reading.{ReadsValue, ReadsRegister, ReadsImm, ReadsWideOffset, ReadsOffset, ReadsOperand, ReadsMemory, ReadsNegative, ReadsPositive};
 
-use crate::cut::cut;
+use crate::cut::split_before;
 use crate::number::{Number, number_from};
 use insn_codec::{Operand, Register};
 
@@ -10,40 +10,31 @@ use insn_codec::{Operand, Register};
 pub fn value_from(digits: &[u8]) -> Option<u64>
     ensures { ReadsValue digits.now result }
 {
-    match number_from(digits) {
-        Some(Number::Small(value)) => Some(value),
-        Some(Number::Large) => None,
-        None => None,
+    match number_from(digits)? {
+        Number::Small(value) => Some(value),
+        Number::Large => None,
     }
 }
 
 fn negative_from(digits: &[u8]) -> Option<i32>
     ensures { ReadsNegative digits.now result }
 {
-    match value_from(digits) {
-        Some(size) => {
-            if size > 0 && size <= 0x8000_0000 {
-                Some((-(size as i64)) as i32)
-            } else {
-                None
-            }
-        }
-        None => None,
+    let size = value_from(digits)?;
+    if size > 0 && size <= 0x8000_0000 {
+        Some((-(size as i64)) as i32)
+    } else {
+        None
     }
 }
 
 fn positive_from(digits: &[u8]) -> Option<i32>
     ensures { ReadsPositive digits.now result }
 {
-    match value_from(digits) {
-        Some(size) => {
-            if size < 0x8000_0000 {
-                Some(size as i32)
-            } else {
-                None
-            }
-        }
-        None => None,
+    let size = value_from(digits)?;
+    if size < 0x8000_0000 {
+        Some(size as i32)
+    } else {
+        None
     }
 }
 
@@ -51,17 +42,12 @@ fn positive_from(digits: &[u8]) -> Option<i32>
 pub fn register_from(text: &[u8]) -> Option<Register>
     ensures { ReadsRegister text.now result }
 {
-    if text.len() > 0 && text[0] == b'r' {
-        match value_from(text.split_at(1).1) {
-            Some(number) => {
-                if number <= 10 {
-                    Some(Register::new(number as u8))
-                } else {
-                    None
-                }
-            }
-            None => None,
-        }
+    if text.is_empty() || text[0] != b'r' {
+        return None;
+    }
+    let number = value_from(text.split_at(1).1)?;
+    if number <= 10 {
+        Some(Register::new(number as u8))
     } else {
         None
     }
@@ -71,7 +57,7 @@ pub fn register_from(text: &[u8]) -> Option<Register>
 pub fn imm_from(text: &[u8]) -> Option<i32>
     ensures { ReadsImm text.now result }
 {
-    if text.len() > 0 && text[0] == b'-' {
+    if !text.is_empty() && text[0] == b'-' {
         negative_from(text.split_at(1).1)
     } else {
         positive_from(text)
@@ -82,16 +68,13 @@ pub fn imm_from(text: &[u8]) -> Option<i32>
 pub fn wide_offset_from(text: &[u8]) -> Option<i32>
     ensures { ReadsWideOffset text.now result }
 {
-    if text.len() == 0 {
+    if text.is_empty() {
         return None;
     }
-    let (sign, digits) = (text[0], text.split_at(1).1);
-    if sign == b'-' {
-        negative_from(digits)
-    } else if sign == b'+' {
-        positive_from(digits)
-    } else {
-        None
+    match text[0] {
+        b'-' => negative_from(text.split_at(1).1),
+        b'+' => positive_from(text.split_at(1).1),
+        _ => None,
     }
 }
 
@@ -99,12 +82,9 @@ pub fn wide_offset_from(text: &[u8]) -> Option<i32>
 pub fn offset_from(text: &[u8]) -> Option<i16>
     ensures { ReadsOffset text.now result }
 {
-    match wide_offset_from(text) {
-        Some(offset) => match i16::try_from(offset) {
-            Ok(offset) => Some(offset),
-            Err(_) => None,
-        },
-        None => None,
+    match i16::try_from(wide_offset_from(text)?) {
+        Ok(offset) => Some(offset),
+        Err(_) => None,
     }
 }
 
@@ -114,10 +94,7 @@ pub fn operand_from(text: &[u8]) -> Option<Operand>
 {
     match register_from(text) {
         Some(src) => Some(Operand::Reg(src)),
-        None => match imm_from(text) {
-            Some(imm) => Some(Operand::Imm(imm)),
-            None => None,
-        },
+        None => Some(Operand::Imm(imm_from(text)?)),
     }
 }
 
@@ -129,6 +106,6 @@ pub fn memory_from(text: &[u8]) -> Option<(Register, i16)>
         return None;
     }
     let inner = text.split_at(1).1;
-    let (base, offset) = cut(inner.split_at(inner.len() - 1).0, b'+', b'-');
+    let (base, offset) = split_before(inner.split_at(inner.len() - 1).0, b'+', b'-');
     register_from(base).zip(offset_from(offset))
 }

@@ -16,155 +16,127 @@ use insn_codec::{
 fn alu_with(width: Width, op: AluOp, operands: &[u8]) -> Option<Insn>
     ensures { ReadsInsn (word.Alu width op) operands.now result }
 {
-    match register_and_operand(operands) {
-        Some((dst, src)) => Some(Insn::Alu {
-            width,
-            op,
-            dst,
-            src,
-        }),
-        None => None,
-    }
+    let (dst, src) = register_and_operand(operands)?;
+    Some(Insn::Alu {
+        width,
+        op,
+        dst,
+        src,
+    })
 }
 
 fn mov_with(width: Width, operands: &[u8]) -> Option<Insn>
     ensures { ReadsInsn (word.Mov width) operands.now result }
 {
-    match register_and_operand(operands) {
-        Some((dst, src)) => Some(Insn::Mov { width, dst, src }),
-        None => None,
-    }
+    let (dst, src) = register_and_operand(operands)?;
+    Some(Insn::Mov { width, dst, src })
 }
 
 fn mov_sx_with(extension: SignExtension, operands: &[u8]) -> Option<Insn>
     ensures { ReadsInsn (word.MovSx extension) operands.now result }
 {
-    match two_registers(operands) {
-        Some((dst, src)) => Some(Insn::MovSx {
-            extension,
-            dst,
-            src,
-        }),
-        None => None,
-    }
+    let (dst, src) = two_registers(operands)?;
+    Some(Insn::MovSx {
+        extension,
+        dst,
+        src,
+    })
 }
 
 fn neg_with(width: Width, operands: &[u8]) -> Option<Insn>
     ensures { ReadsInsn (word.Neg width) operands.now result }
 {
-    match register_from(operands) {
-        Some(dst) => Some(Insn::Neg { width, dst }),
-        None => None,
-    }
+    let dst = register_from(operands)?;
+    Some(Insn::Neg { width, dst })
 }
 
 fn end_with(order: ByteOrder, size: EndSize, operands: &[u8]) -> Option<Insn>
     ensures { ReadsInsn (word.End order size) operands.now result }
 {
-    match register_from(operands) {
-        Some(dst) => Some(Insn::End { order, size, dst }),
-        None => None,
-    }
+    let dst = register_from(operands)?;
+    Some(Insn::End { order, size, dst })
 }
 
 fn load_wide_with(operands: &[u8]) -> Option<Insn>
     ensures { ReadsInsn word.LoadWide operands.now result }
 {
-    match register_and_value(operands) {
-        Some((dst, value)) => Some(Insn::LoadWide { dst, value }),
-        None => None,
-    }
+    let (dst, value) = register_and_value(operands)?;
+    Some(Insn::LoadWide { dst, value })
 }
 
 fn load_with(kind: LoadKind, operands: &[u8]) -> Option<Insn>
     ensures { ReadsInsn (word.Load kind) operands.now result }
 {
-    match register_and_memory(operands) {
-        Some((dst, (base, offset))) => Some(Insn::Load {
-            kind,
-            dst,
-            base,
-            offset,
-        }),
-        None => None,
-    }
+    let (dst, (base, offset)) = register_and_memory(operands)?;
+    Some(Insn::Load {
+        kind,
+        dst,
+        base,
+        offset,
+    })
 }
 
 fn store_with(size: Size, operands: &[u8]) -> Option<Insn>
     ensures { ReadsInsn (word.Store size) operands.now result }
 {
-    match memory_and_imm(operands) {
-        Some(((base, offset), imm)) => Some(Insn::Store {
-            size,
-            base,
-            offset,
-            imm,
-        }),
-        None => None,
-    }
+    let ((base, offset), imm) = memory_and_imm(operands)?;
+    Some(Insn::Store {
+        size,
+        base,
+        offset,
+        imm,
+    })
 }
 
 fn store_register_with(size: Size, operands: &[u8]) -> Option<Insn>
     ensures { ReadsInsn (word.StoreRegister size) operands.now result }
 {
-    match memory_and_register(operands) {
-        Some(((base, offset), src)) => Some(Insn::StoreRegister {
-            size,
-            base,
-            offset,
-            src,
-        }),
-        None => None,
-    }
+    let ((base, offset), src) = memory_and_register(operands)?;
+    Some(Insn::StoreRegister {
+        size,
+        base,
+        offset,
+        src,
+    })
 }
 
 fn jump_with(operands: &[u8]) -> Option<Insn>
     ensures { ReadsInsn word.Jump operands.now result }
 {
-    match offset_from(operands) {
-        Some(offset) => Some(Insn::Jump { offset }),
-        None => None,
-    }
+    let offset = offset_from(operands)?;
+    Some(Insn::Jump { offset })
 }
 
 fn jump32_with(operands: &[u8]) -> Option<Insn>
     ensures { ReadsInsn word.Jump32 operands.now result }
 {
-    match wide_offset_from(operands) {
-        Some(offset) => Some(Insn::Jump32 { offset }),
-        None => None,
-    }
+    let offset = wide_offset_from(operands)?;
+    Some(Insn::Jump32 { offset })
 }
 
 fn jump_if_with(width: Width, condition: Condition, operands: &[u8]) -> Option<Insn>
     ensures { ReadsInsn (word.JumpIf width condition) operands.now result }
 {
-    match register_and_tested(operands) {
-        Some((dst, (src, offset))) => Some(Insn::JumpIf {
-            width,
-            condition,
-            dst,
-            src,
-            offset,
-        }),
-        None => None,
-    }
+    let (dst, (src, offset)) = register_and_tested(operands)?;
+    Some(Insn::JumpIf {
+        width,
+        condition,
+        dst,
+        src,
+        offset,
+    })
 }
 
 fn call_with(operands: &[u8]) -> Option<Insn>
     ensures { ReadsInsn word.Call operands.now result }
 {
-    match value_from(operands) {
-        Some(helper) => {
-            if helper < 0x1_0000_0000 {
-                Some(Insn::Call {
-                    helper: helper as u32,
-                })
-            } else {
-                None
-            }
-        }
-        None => None,
+    let helper = value_from(operands)?;
+    if helper < 0x1_0000_0000 {
+        Some(Insn::Call {
+            helper: helper as u32,
+        })
+    } else {
+        None
     }
 }
 

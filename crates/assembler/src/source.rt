@@ -4,7 +4,7 @@ ghost use Rattle.std.specs.Prelude.{◌≡◌, ◌++◌, reverse, IfOk, IfErr, I
 ghost use Rattle.insn_codec.specs.declared.insn.Insn.{Insn};
 ghost use Rattle.assembler.specs.Source.{code_part, without_blanks, stripped, source_lines, AreLinesOf, IsTextRefusal, SaysInsn, RefusesLine, listed};
 
-use crate::cut::cut;
+use crate::cut::split_before;
 use crate::fault::TextFault;
 use crate::line::{fault_of, insn_from};
 use insn_codec::{Insn, Operand};
@@ -16,43 +16,37 @@ fn is_blank(byte: u8) -> bool
     matches!(byte, b' ' | b'\t' | b'\r')
 }
 
-fn code_of(line: &[u8]) -> &[u8]
+fn without_comment(line: &[u8]) -> &[u8]
     ensures { result.now ≡ code_part line.now }
 {
-    cut(line, b';', b';').0
+    split_before(line, b';', b';').0
 }
 
-fn without_front(text: &[u8]) -> &[u8]
+fn without_leading_blanks(text: &[u8]) -> &[u8]
     ensures { result.now ≡ without_blanks text.now }
 {
     let mut rest = text;
-    while !rest.is_empty() {
-        if !is_blank(rest[0]) {
-            return rest;
-        }
+    while !rest.is_empty() && is_blank(rest[0]) {
         rest = rest.split_at(1).1;
     }
     rest
 }
 
-fn without_back(text: &[u8]) -> &[u8]
+fn without_trailing_blanks(text: &[u8]) -> &[u8]
     ensures { result.now ≡ reverse (without_blanks (reverse text.now)) }
 {
     let mut rest = text;
-    while !rest.is_empty() {
-        if !is_blank(rest[rest.len() - 1]) {
-            return rest;
-        }
+    while !rest.is_empty() && is_blank(rest[rest.len() - 1]) {
         rest = rest.split_at(rest.len() - 1).0;
     }
     rest
 }
 
-/// What a line says, without its comment and the blanks at both ends.
-fn stripped_line(line: &[u8]) -> &[u8]
+/// What a line of a source text says: the line without its comment and the blanks at both ends.
+pub fn stripped_line(line: &[u8]) -> &[u8]
     ensures { result.now ≡ stripped line.now }
 {
-    without_back(without_front(code_of(line)))
+    without_trailing_blanks(without_leading_blanks(without_comment(line)))
 }
 
 /// The instruction that a line says, if it says one.
@@ -71,7 +65,7 @@ fn insn_of(line: &[u8], number: u64) -> Result<Option<Insn>, TextFault>
 }
 
 /// The items, with one more if there is one.
-fn extended<T: Drop>(mut items: Vec<T>, more: Option<T>) -> Result<Vec<T>, AllocError>
+fn push_option<T: Drop>(mut items: Vec<T>, more: Option<T>) -> Result<Vec<T>, AllocError>
     ensures more { IfOk result (λ new. new.items ≡ items.items ++ listed more) }
     ensures refused { IfErr result (λ _. IsSome more) }
 {
@@ -95,8 +89,8 @@ pub fn insns_from(alloc: Global, source: &[u8]) -> Result<Vec<Insn>, TextFault>
     let mut rest = source;
     let mut number = 1;
     loop {
-        let (line, tail) = cut(rest, b'\n', b'\n');
-        insns = extended(insns, insn_of(line, number)?)?;
+        let (line, tail) = split_before(rest, b'\n', b'\n');
+        insns = push_option(insns, insn_of(line, number)?)?;
         if tail.is_empty() {
             return Ok(insns);
         }

@@ -1,4 +1,4 @@
-//! The words of the lines.
+//! Looking up the word that a line begins with.
 
 ghost use Rattle.std.specs.Prelude.{◌≡◌, ◌≢◌, IfSome, IfNone, map};
 ghost use Rattle.disassembler.specs.declared.word.Word.{Word};

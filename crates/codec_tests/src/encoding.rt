@@ -6,8 +6,9 @@ use insn_codec::{
 };
 use std::test::Fail;
 
-/// Opcode bytes that begin an instruction where all other fields are zero, read off the opcode table: ALU, ALU64,
-/// JMP and JMP32 (with an imm, then with a register), LDX, ST, STX. A byte swap isn't among them: its imm is 16, 32 or 64.
+/// Opcode bytes that begin an instruction where all other fields are zero, read off the opcode
+/// table: ALU, ALU64, JMP and JMP32 (with an imm, then with a register), LDX, ST, STX. A byte swap
+/// isn't among them: its imm is 16, 32 or 64.
 const OPCODES: [u8; 113] = [
     0x04, 0x14, 0x24, 0x34, 0x44, 0x54, 0x64, 0x74, 0x84, 0x94, 0xa4, 0xb4, 0xc4, //
     0x0c, 0x1c, 0x2c, 0x3c, 0x4c, 0x5c, 0x6c, 0x7c, 0x9c, 0xac, 0xbc, 0xcc, //
@@ -179,22 +180,30 @@ fn keeps_the_limits(rt: HostRuntime) -> Result<(), Fail> {
 #[test]
 fn reads_well(rt: HostRuntime) -> Result<(), Fail> {
     let cases = [
-        (CodecFault::Empty, 1, "no instruction"),
-        (CodecFault::Ragged, 2, "the length is no multiple of 8"),
-        (CodecFault::TooLong, 3, "more than 4096 slots"),
-        (CodecFault::UnknownOp(7), 4, "unknown operation at slot 7"),
-        (CodecFault::BadRegister(7), 5, "register over 10 at slot 7"),
+        (CodecFault::Empty, 1, "1: no instruction"),
+        (CodecFault::Ragged, 2, "2: the length is no multiple of 8"),
+        (CodecFault::TooLong, 3, "3: more than 4096 slots"),
+        (
+            CodecFault::UnknownOp(7),
+            4,
+            "4: unknown operation at slot 7",
+        ),
+        (
+            CodecFault::BadRegister(7),
+            5,
+            "5: register over 10 at slot 7",
+        ),
         (
             CodecFault::UnusedField(7),
             6,
-            "unused field that is not zero at slot 7",
+            "6: unused field that is not zero at slot 7",
         ),
         (
             CodecFault::HalfWide(7),
             7,
-            "half of a wide instruction at slot 7",
+            "7: half of a wide instruction at slot 7",
         ),
-        (CodecFault::NoMemory, 99, "out of memory"),
+        (CodecFault::NoMemory, 99, "99: out of memory"),
     ];
     for (fault, code, text) in cases {
         assert_eq!(rt; fault.code(), code);

@@ -1,4 +1,5 @@
-//! Sources that are read, and near misses with the refusal and the line that they get, from the text table.
+//! Sources that are read, and near misses with the refusal and the line that they get, from the
+//! text table.
 
 use assembler::{TextFault, assemble, nothing_refused, one_program, one_refusal, read_back};
 use disassembler::disassemble;
@@ -277,25 +278,47 @@ fn reads_well(rt: HostRuntime) -> Result<(), Fail> {
         (
             TextFault::UnknownWord(3),
             11,
-            "line 3: no instruction has this word",
+            "11: line 3: no instruction has this word",
         ),
         (
             TextFault::BadOperand(3),
             12,
-            "line 3: the operands are not those of the word",
+            "12: line 3: the operands are not those of the word",
         ),
         (
             TextFault::NumberRange(3),
             13,
-            "line 3: a number or a register is out of range",
+            "13: line 3: a number or a register is out of range",
         ),
-        (TextFault::Empty, 1, "no instruction"),
-        (TextFault::TooLong, 3, "more than 4096 slots"),
-        (TextFault::NoMemory, 99, "out of memory"),
+        (TextFault::Empty, 1, "1: no instruction"),
+        (TextFault::TooLong, 3, "3: more than 4096 slots"),
+        (TextFault::NoMemory, 99, "99: out of memory"),
     ];
     for (fault, code, text) in cases {
         assert_eq!(rt; fault.code(), code);
         assert_eq!(rt; format!(in rt.alloc(); "{fault}")?.as_str(), text);
     }
     Ok(())
+}
+
+#[test]
+fn quotes_what_is_wrong(rt: HostRuntime) {
+    let cases = [
+        ("exit\n  movq r0, 1 ; a word", Some("movq")),
+        ("exit\n\tmov64 r0, r1, r2\t; three\r\n", Some("r0, r1, r2")),
+        ("mov64  r11, 1", Some(" r11, 1")),
+        ("mov64", Some("")),
+        ("mov64 r11, 1\nmovq", Some("r11, 1")),
+        ("\u{e9}t\u{e9} r0\nexit", Some("\u{e9}t\u{e9}")),
+        ("; nothing", None),
+    ];
+    for (source, quoted) in cases {
+        assert_eq!(rt;
+            told(&rt, source).and_then(|fault| fault.quoted(source)),
+            quoted,
+            "of {source}"
+        );
+    }
+    assert_eq!(rt; TextFault::UnknownWord(2).quoted("exit"), None);
+    assert_eq!(rt; TextFault::UnknownWord(2).quoted("exit\n; nothing\n"), None);
 }

@@ -60,7 +60,7 @@ tail_text insn = codes " " ++ operands_text insn
 abbrev pub line_text : Insn → List ℕ
 line_text insn = word_text (word_of insn) ++ tail_text insn
 
--- the lines of a program, each with a line feed behind it
+-- the lines of a program, each with a line feed after it
 abbrev pub lines_text : List Insn → List ℕ
 lines_text insns = flat_map (λ insn. line_text insn ++ 10 ∷ []) insns
 

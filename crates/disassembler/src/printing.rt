@@ -153,9 +153,10 @@ pub fn line(alloc: Global, insn: &Insn) -> Result<String, NoMemory>
     Ok(format!(in alloc; "{}{}", Word::of(insn), Tail(*insn))?)
 }
 
-/// The lines of the instructions that the bytes spell, each with a line feed behind it.
+/// The lines of the instructions that the bytes spell, each with a line feed after it.
 pub fn disassemble(alloc: Global, bytes: &[u8]) -> Result<String, CodecFault>
-    ensures found { IfOk result (λ text. (insns : List Insn) × IsListing (string_bytes text) bytes.now insns) }
+    ensures found { IfOk result (λ text. (insns : List Insn)
+        × IsListing (string_bytes text) bytes.now insns) }
     ensures refused { IfErr result (λ e. IsRefusal e bytes.now) }
 {
     let mut text = String::new(alloc);

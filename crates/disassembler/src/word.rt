@@ -8,7 +8,7 @@ use insn_codec::{
 };
 use std::fmt;
 
-/// The word of a line. It says all of an instruction but its operands.
+/// The word of a line. A word says all of an instruction but its operands.
 #[derive(Clone, Copy, Debug, PartialEq, Eq)]
 pub enum Word {
     Alu(Width, AluOp),

@@ -93,11 +93,7 @@ fn text_of(
     source: Option<&str>,
     refusal: &Refusal,
 ) -> Result<String, NoMemory> {
-    let mut text = format!(in alloc;
-        "refused {}: {refusal}\nrule: {}\n",
-        refusal.code(),
-        rule(refusal)
-    )?;
+    let mut text = format!(in alloc; "refused {refusal}\nrule: {}\n", rule(refusal))?;
     let Some(slot) = refusal.slot() else {
         return Ok(text);
     };
@@ -111,8 +107,9 @@ fn text_of(
     Ok(text)
 }
 
-/// Why the program is refused, `None` where it is accepted. The text tells the rule that is broken, and of one instruction that
-/// breaks it the line of the source, if there is one, a way from slot 0 there, and what is known of each register ahead of it.
+/// Why the program is refused, `None` where it is accepted. The text tells the rule that is broken,
+/// and of one instruction that breaks it the line of the source, if there is one, a way from slot 0
+/// there, and what is known of each register ahead of it.
 pub fn explain(
     alloc: Global,
     need: u32,
@@ -120,7 +117,9 @@ pub fn explain(
     helpers: &HelperTable,
     source: Option<&str>,
 ) -> Result<Option<Explanation>, NoMemory>
-    ensures { IfOk result (λ told. MatchOption told (IsAllowed need code.now helpers.now) (λ told. IsTold need code.now helpers.now told.refusal)) }
+    ensures { IfOk result
+        (λ told. MatchOption told (IsAllowed need code.now helpers.now)
+        (λ told. IsTold need code.now helpers.now told.refusal)) }
 {
     match verify(alloc, need, code, helpers) {
         Ok(_) => Ok(None),

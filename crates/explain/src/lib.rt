@@ -1,5 +1,5 @@
-//! Why a program is refused, as text: the instruction, the rule that it breaks, the way that leads there and what is known of each
-//! register there.
+//! Why a program is refused, as text: the instruction, the rule that it breaks, the way that leads
+//! there and what is known of each register there.
 #![tactic(auto)]
 
 // the verdict and its text

@@ -1,5 +1,6 @@
-//! What is known ahead of an instruction that isn't allowed. What leads to it is made a program of its own, which is allowed: its
-//! other edges, and the instruction itself, lead to an end. What arrives at the slot there is what arrives at it in the whole.
+//! What is known ahead of an instruction that isn't allowed. What leads to it is made a program of
+//! its own, which is allowed: its other edges, and the instruction itself, lead to an end. What
+//! arrives at the slot there is what arrives at it in the whole.
 
 use crate::leading::{Marks, next_of};
 use flow_graph::{Graph, Next};

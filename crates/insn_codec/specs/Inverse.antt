@@ -1,4 +1,4 @@
--- The row of a slot, worked out from its fields: the table of `Table` read backwards.
+-- Used by private contracts and proofs alone: the row of a slot, worked out from its fields: the table of `Table` read backwards.
 use Rattle.std.specs.Prelude.{ℕ, ◌/◌, ◌%◌, Option, Some, None, ◌==◌, ◌&&◌, if◌then◌else◌, option_map, option_and_then}
 use Rattle.insn_codec.specs.declared.slot.Slot.{Slot}
 use Rattle.insn_codec.specs.declared.insn.Width.{Width}

@@ -73,7 +73,7 @@ first_slot Exit = slot row.Exit 0 0 0 0
 abbrev pub half : ℕ → Slot
 half imm = record { opcode = 0; dst = 0; src = 0; offset = 0; imm = imm }
 
--- what a wide instruction has behind its first slot
+-- what a wide instruction has after its first slot
 abbrev pub other_slots : Insn → List Slot
 other_slots (LoadWide dst value) = half (value / 2 ^ 32) ∷ []
 other_slots insn = []

@@ -1,4 +1,4 @@
-//! From bytes to instructions.
+//! Decoding: from the bytes of a program to its instructions, or the refusal.
 
 ghost use Rattle.std.specs.Prelude.{◌≡◌, ◌≢◌, ◌≤◌, ◌<◌, ◌%◌, ◌+◌, ◌*◌, ◌⊎◌, length, IfOk, IfErr, MatchResult};
 ghost use Rattle.insn_codec.specs.declared.operation.Operation.TheVariants as row;
@@ -177,7 +177,8 @@ fn clean_operation(slot: &Slot) -> Result<Operation, SlotFault>
 /// What follows the first slot of a wide instruction: the other half of its value.
 fn high_half(after: &[u8]) -> Result<u32, SlotFault>
     requires { (length after.now ≡ 0) ⊎ (8 ≤ length after.now) }
-    ensures { MatchResult result (λ high. (8 ≤ length after.now) × (slot_at after.now ≡ half high)) (λ e. HalfFault e after.now) }
+    ensures { MatchResult result (λ high. (8 ≤ length after.now)
+        × (slot_at after.now ≡ half high)) (λ e. HalfFault e after.now) }
 {
     if after.is_empty() {
         return Err(SlotFault::HalfWide);
@@ -245,7 +246,7 @@ pub fn decode(alloc: Global, bytes: &[u8]) -> Result<Vec<Placed>, CodecFault>
     if bytes.len() > 8 * 4096 {
         return Err(CodecFault::TooLong);
     }
-    let mut placed = Vec::new(alloc);
+    let mut placed = Vec::with_capacity(alloc, bytes.len() / 8)?;
     let mut rest = bytes;
     let mut slot = 0;
     while !rest.is_empty() {

@@ -1,4 +1,4 @@
-//! From instructions to bytes.
+//! Encoding: from instructions to the bytes of a program, or the refusal.
 
 ghost use Rattle.std.specs.Prelude.{◌≡◌, unwrap_or, ◌++◌, ◌≤◌, ◌<◌, ◌↔◌, ◌*◌, length, IfOk, IfErr, OnOk, IsTrue};
 ghost use Rattle.insn_codec.specs.Layout.{FitsSlot, slot_bytes};
@@ -354,7 +354,8 @@ fn is_too_long(insns: &[Insn]) -> bool
     false
 }
 
-/// The bytes of a program: the spellings of its instructions, joined. They are counted before the first is written.
+/// The bytes of a program: the spellings of its instructions, joined. The bytes are counted before
+/// the first is written.
 pub fn encode(alloc: Global, insns: &[Insn]) -> Result<Vec<u8>, CodecFault>
     ensures found { IfOk result (λ v. (v.items ≡ spellings insns.now) × IsWhole v.items) }
     ensures refused { IfErr result (λ e. IsUnspelled e insns.now) }

@@ -1,17 +1,18 @@
-//! The instructions of RFC 9669, groups base32, base64, divmul32 and divmul64. A field's type admits only what has
-//! a spelling.
+//! The instructions of RFC 9669, groups base32, base64, divmul32 and divmul64. A field's type
+//! admits only what has a spelling.
 
 use crate::register::Register;
 
 /// The bits that an arithmetic operation, a move or a comparison works on.
-#[derive(Clone, Copy, Debug, PartialEq, Eq)]
+#[derive(Clone, Copy, Debug, PartialEq, Eq, Hash)]
 pub enum Width {
     W32,
     W64,
 }
 
-/// The arithmetic operations with two operands (RFC 9669, section 4.1), but for moves, which don't read their destination.
-#[derive(Clone, Copy, Debug, PartialEq, Eq)]
+/// The arithmetic operations with two operands (RFC 9669, section 4.1), but for moves, which don't
+/// read their destination.
+#[derive(Clone, Copy, Debug, PartialEq, Eq, Hash)]
 pub enum AluOp {
     Add,
     Sub,
@@ -29,14 +30,14 @@ pub enum AluOp {
 }
 
 /// The second operand: a number in the instruction, or a register.
-#[derive(Clone, Copy, Debug, PartialEq, Eq)]
+#[derive(Clone, Copy, Debug, PartialEq, Eq, Hash)]
 pub enum Operand {
     Imm(i32),
     Reg(Register),
 }
 
 /// The moves that extend a sign: from how many bits, and to how many.
-#[derive(Clone, Copy, Debug, PartialEq, Eq)]
+#[derive(Clone, Copy, Debug, PartialEq, Eq, Hash)]
 pub enum SignExtension {
     From8To32,
     From16To32,
@@ -45,9 +46,9 @@ pub enum SignExtension {
     From32To64,
 }
 
-/// What a byte swap instruction does with the bytes (RFC 9669, section 4.2): to little-endian, to big-endian, or
-/// the other way round.
-#[derive(Clone, Copy, Debug, PartialEq, Eq)]
+/// What a byte swap instruction does with the bytes (RFC 9669, section 4.2): to little-endian, to
+/// big-endian, or the other way round.
+#[derive(Clone, Copy, Debug, PartialEq, Eq, Hash)]
 pub enum ByteOrder {
     Little,
     Big,
@@ -55,7 +56,7 @@ pub enum ByteOrder {
 }
 
 /// How many bits a byte swap instruction keeps.
-#[derive(Clone, Copy, Debug, PartialEq, Eq)]
+#[derive(Clone, Copy, Debug, PartialEq, Eq, Hash)]
 pub enum EndSize {
     Bits16,
     Bits32,
@@ -63,7 +64,7 @@ pub enum EndSize {
 }
 
 /// The size of a store: 1, 2, 4 or 8 bytes.
-#[derive(Clone, Copy, Debug, PartialEq, Eq)]
+#[derive(Clone, Copy, Debug, PartialEq, Eq, Hash)]
 pub enum Size {
     Byte,
     Half,
@@ -72,7 +73,7 @@ pub enum Size {
 }
 
 /// The size of a load, and whether it extends the sign.
-#[derive(Clone, Copy, Debug, PartialEq, Eq)]
+#[derive(Clone, Copy, Debug, PartialEq, Eq, Hash)]
 pub enum LoadKind {
     Byte,
     Half,
@@ -84,7 +85,7 @@ pub enum LoadKind {
 }
 
 /// What a conditional jump tests (RFC 9669, section 4.3). `Set` tests for a shared bit.
-#[derive(Clone, Copy, Debug, PartialEq, Eq)]
+#[derive(Clone, Copy, Debug, PartialEq, Eq, Hash)]
 pub enum Condition {
     Equal,
     NotEqual,
@@ -99,8 +100,9 @@ pub enum Condition {
     SignedLessEqual,
 }
 
-/// An instruction. Offsets of jumps count slots from the slot behind the jump; those of loads and stores count bytes.
-#[derive(Clone, Copy, Debug, PartialEq, Eq)]
+/// An instruction. Offsets of jumps count slots from the slot after the jump; those of loads and
+/// stores count bytes.
+#[derive(Clone, Copy, Debug, PartialEq, Eq, Hash)]
 pub enum Insn {
     /// `dst = dst op src`
     Alu {
@@ -162,7 +164,7 @@ pub enum Insn {
     Jump {
         offset: i16,
     },
-    /// The same, with a wider offset.
+    /// An unconditional jump, with a wider offset.
     Jump32 {
         offset: i32,
     },
@@ -183,7 +185,7 @@ pub enum Insn {
 }
 
 /// An instruction and the slot that it begins at.
-#[derive(Clone, Copy, Debug, PartialEq, Eq)]
+#[derive(Clone, Copy, Debug, PartialEq, Eq, Hash)]
 pub struct Placed {
     pub slot: u32,
     pub insn: Insn,

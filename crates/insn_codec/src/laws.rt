@@ -1,4 +1,4 @@
-//! The laws of the definitions.
+//! What the definitions mean: no program has two spellings, and no bytes two refusals.
 
 ghost use Rattle.std.specs.Prelude.{◌≡◌, ◌≢◌, ℕ, List, ◌++◌};
 ghost use Rattle.insn_codec.specs.Spelling.{IsInsn, IsRefusal, IsWhole, spelling, spellings};

@@ -1,4 +1,4 @@
-//! The rows of the opcode table.
+//! The operation that the fields of a slot choose: a row of the opcode table.
 
 ghost use Rattle.std.specs.Prelude.{◌≡◌, ◌≤◌, ◌<◌, ◌↔◌, ◌/◌, ◌%◌, IsTrue, IfSome, IfNone, is_some};
 ghost use Rattle.insn_codec.specs.Inverse.{operation_at, alu_at, mov_at, jump_at, end_at, alu_op_at, extension_at, condition_at, end_size_at, size_at, load_at, source_at};
@@ -33,7 +33,8 @@ pub enum Operation {
     Exit,
 }
 
-/// The fields that an operation uses, or that choose it. A src that chooses is 0, and counts as unused.
+/// The fields that an operation uses, or that choose it. A src that chooses is 0, and counts as
+/// unused.
 #[derive(Clone, Copy, Debug, PartialEq, Eq)]
 pub struct Uses {
     pub dst: bool,

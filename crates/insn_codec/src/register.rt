@@ -1,11 +1,11 @@
-//! The registers.
+//! A register by its number, 0 to 10.
 
 ghost use Rattle.std.specs.Prelude.{◌≡◌, ◌≤◌};
 
 use std::marker::Model;
 
 /// One of the registers R0 to R10 (RFC 9669, section 2). Contracts see its number.
-#[derive(Clone, Copy, Debug, PartialEq, Eq)]
+#[derive(Clone, Copy, Debug, PartialEq, Eq, Hash)]
 pub struct Register {
     number: u8,
 }
@@ -31,7 +31,7 @@ impl Register {
         Register { number }
     }
 
-    /// Its number, 0 to 10.
+    /// The register's number, 0 to 10.
     pub fn number(self) -> u8
         ensures value { result ≡ self }
         ensures range { result ≤ 10 }

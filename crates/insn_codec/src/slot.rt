@@ -1,4 +1,4 @@
-//! The fields of a slot.
+//! A slot of eight bytes, taken apart into its fields and put together from them.
 
 ghost use Rattle.std.specs.Prelude.{◌≡◌, ◌≤◌, ◌<◌, length};
 ghost use Rattle.insn_codec.specs.Layout.{slot_at, slot_bytes, FitsSlot};

@@ -3,8 +3,8 @@ use Rattle.assembler.specs.Reading.{IsRegister, IsPlace, place_text}
 use Rattle.assembler.proofs.Pairs.{pair_by, no_pair, free_place}
 use Rattle.assembler.proofs.pair.memory_and_register.Goals as goal
 
-pub returns-in-Some : goal.returns-in-Some
-returns-in-Some c = pair_by place_text IsPlace register_text IsRegister free_place _ _ _ c.in-Some.ensures.found _ _ _ c.zip.ensures c.memory_from.ensures c.register_from.ensures
+pub returns : goal.returns
+returns c = pair_by place_text IsPlace register_text IsRegister free_place _ _ _ c.in_ok-front.ensures.found _ _ _ c.zip.ensures c.memory_from.ensures c.register_from.ensures
 
-pub returns-in-None : goal.returns-in-None
-returns-in-None c = no_pair place_text IsPlace register_text IsRegister free_place _ c.in-None.ensures.none
+pub returns-in_err-front : goal.returns-in_err-front
+returns-in_err-front c = rw c.from_residual.ensures (no_pair place_text IsPlace register_text IsRegister free_place _ c.in_err-front.ensures.none)

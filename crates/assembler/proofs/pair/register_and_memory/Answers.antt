@@ -4,8 +4,8 @@ use Rattle.assembler.proofs.Pairs.{pair_by, no_pair}
 use Rattle.disassembler.proofs.Texts.{free_register}
 use Rattle.assembler.proofs.pair.register_and_memory.Goals as goal
 
-pub returns-in-Some : goal.returns-in-Some
-returns-in-Some c = pair_by register_text IsRegister place_text IsPlace free_register _ _ _ c.in-Some.ensures.found _ _ _ c.zip.ensures c.register_from.ensures c.memory_from.ensures
+pub returns : goal.returns
+returns c = pair_by register_text IsRegister place_text IsPlace free_register _ _ _ c.in_ok-front.ensures.found _ _ _ c.zip.ensures c.register_from.ensures c.memory_from.ensures
 
-pub returns-in-None : goal.returns-in-None
-returns-in-None c = no_pair register_text IsRegister place_text IsPlace free_register _ c.in-None.ensures.none
+pub returns-in_err-front : goal.returns-in_err-front
+returns-in_err-front c = rw c.from_residual.ensures (no_pair register_text IsRegister place_text IsPlace free_register _ c.in_err-front.ensures.none)

@@ -7,6 +7,6 @@ use Rattle.assembler.proofs.reading.offset_from.Goals as goal
 
 pub returns-in-Err : goal.returns-in-Err
 returns-in-Err c = λ z f e.
-    let same = one_offset _ c.in-Some.offset z c.in-Some.ensures.1 (widened z f) c.in-Some.ensures.0 e in
-    let again = to_z-of_z w32 c.in-Some.offset c.in-Some.ensures.1 in
+    let same = one_offset _ c.in_ok-wide_offset_from.field-0 z c.in_ok-wide_offset_from.ensures.1 (widened z f) c.in_ok-wide_offset_from.ensures.0 e in
+    let again = to_z-of_z w32 c.in_ok-wide_offset_from.field-0 c.in_ok-wide_offset_from.ensures.1 in
     absurd (c.in-Err.ensures (subst (λ (x : ℤ). FitsSigned w16 x) (sym (again ∙ same)) f))
