@@ -1,5 +1,5 @@
 -- The cost of a slot, from the costs of the slots that it leads to.
-use Rattle.std.proofs.Common.{◌≡◌, ℕ, ◌+◌, ◌≤◌, ◌<◌, List, [], ◌∷◌, length, Some, None, Option, ap, sym, ◌∙◌, arith, refl, max, subst, inl, inr, ◌*◌, slice_index, slice_set, slice_get, ◌≢◌, rules, Bor, IsSome}
+use Rattle.std.proofs.Common.{◌≡◌, ℕ, ◌+◌, ◌≤◌, ◌<◌, List, [], ◌∷◌, length, Some, None, Option, ap, sym, ◌∙◌, arith, refl, max, subst, inl, inr, ◌*◌, slice_index, slice_set, ◌≢◌, rules, Bor, IsSome}
 use Rattle.std.specs.Prelude.{option_and_then}
 use Rattle.std.specs.Option.{option_copied}
 use Rattle.std.proofs.lemmas.Bool.{cases_lt}

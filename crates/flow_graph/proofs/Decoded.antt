@@ -3,9 +3,9 @@ use Rattle.std.proofs.Common.{◌≡◌, ℕ, ◌+◌, ◌*◌, ◌≤◌, ◌<�
 use Rattle.insn_codec.specs.declared.insn.Insn.{Insn}
 use Rattle.insn_codec.specs.declared.insn.Insn.TheVariants.{Alu, Mov, MovSx, Neg, End, LoadWide, Load, Store, StoreRegister, Jump, Jump32, JumpIf, Call, Exit}
 use Rattle.insn_codec.specs.declared.insn.Placed.{Placed}
-use Rattle.insn_codec.specs.Spelling.{other_slots, spelling, spellings, placed_from, IsProgram, slots_of as spelled}
+use Rattle.insn_codec.specs.Spelling.{other_slots, spelling, spellings, IsProgram, slots_of as spelled}
 use Rattle.insn_codec.proofs.Bytes.{length-spelling}
-use Rattle.flow_graph.specs.Program.{slots_of, second_slot, code_of, StandInTurn, IsDecoded}
+use Rattle.flow_graph.specs.Program.{slots_of, second_slot, code_of, IsDecoded}
 
 -- an instruction has as many slots as its spelling
 as_many : (i : Insn) → length (other_slots i) ≡ length (second_slot i)
@@ -23,14 +23,6 @@ as_many (Jump32 offset) = refl
 as_many (JumpIf w c dst src offset) = refl
 as_many (Call helper) = refl
 as_many Exit = refl
-
-in_turn_from : (n : ℕ) (insns : List Insn) → StandInTurn n (placed_from n insns)
-in_turn_from n [] = tt
-in_turn_from n (i ∷ insns) =
-    (refl, subst (λ (m : ℕ). StandInTurn m (placed_from (n + length (spelled i)) insns)) (same n i) (in_turn_from (n + length (spelled i)) insns))
-  where
-    same : (n : ℕ) (i : Insn) → n + length (spelled i) ≡ n + length (slots_of i)
-    same n i = let e = as_many i in omega arith
 
 -- a slot has eight bytes
 eight : (placed : List Placed) → length (spellings (map (λ p. p.insn) placed)) ≡ 8 * length (code_of placed)
@@ -56,6 +48,6 @@ decoded_of placed bytes h =
     let short : length bytes ≤ 32768 = h.whole.short in
     record {
       any = any_of placed (omega arith);
-      in_turn = subst (StandInTurn 0) (sym h.slots) (in_turn_from 0 (map (λ p. p.insn) placed));
+      in_turn = h.slots;
       few = omega arith;
     }

@@ -17,7 +17,7 @@ use Rattle.flow_graph.specs.declared.onward.Onward.TheVariants.{Steps, StepsWide
 use Rattle.flow_graph.specs.Onward.{onward_of}
 use Rattle.flow_graph.specs.Program.{slots_of, code_of, IsDecoded}
 use Rattle.flow_graph.specs.Faults.{landing_fault, jump_fault, fall_fault, first, onward_fault, fault_of, fault_at}
-use Rattle.flow_graph.specs.Landings.{JumpsBy, GoesOn, IsOut, IsInto, JumpsOut, JumpsInto, IsLast, IsSettled}
+use Rattle.flow_graph.specs.Landings.{JumpsBy, FallsThrough, IsOut, IsInto, JumpsOut, JumpsInto, IsLast, IsSettled}
 use Rattle.flow_graph.proofs.Onwards.{leads_on, width_of, other_slot, second_is, leads_of, first_none}
 use Rattle.flow_graph.proofs.FaultLemmas.{either}
 use Rattle.flow_graph.proofs.Joining.{lands_at}
@@ -26,11 +26,11 @@ use Rattle.flow_graph.proofs.CodeLemmas.{laid_of}
 -- ---- instructions by how they go on
 
 abbrev HowOn : Insn → Onward → Type 0
-HowOn i Steps = GoesOn i × ((by : ℤ) → JumpsBy i by → ⊥)
-HowOn i StepsWide = GoesOn i × ((by : ℤ) → JumpsBy i by → ⊥)
-HowOn i (Jumps offset) = JumpsBy i offset × ((by : ℤ) → JumpsBy i by → offset ≡ by) × (GoesOn i → ⊥)
-HowOn i (Branches offset) = JumpsBy i offset × ((by : ℤ) → JumpsBy i by → offset ≡ by) × GoesOn i
-HowOn i Ends = (GoesOn i → ⊥) × ((by : ℤ) → JumpsBy i by → ⊥)
+HowOn i Steps = FallsThrough i × ((by : ℤ) → JumpsBy i by → ⊥)
+HowOn i StepsWide = FallsThrough i × ((by : ℤ) → JumpsBy i by → ⊥)
+HowOn i (Jumps offset) = JumpsBy i offset × ((by : ℤ) → JumpsBy i by → offset ≡ by) × (FallsThrough i → ⊥)
+HowOn i (Branches offset) = JumpsBy i offset × ((by : ℤ) → JumpsBy i by → offset ≡ by) × FallsThrough i
+HowOn i Ends = (FallsThrough i → ⊥) × ((by : ℤ) → JumpsBy i by → ⊥)
 
 how_of : (i : Insn) → HowOn i (onward_of i)
 how_of (Alu w op dst src) = (tt, λ by h. h)

@@ -1,5 +1,5 @@
 -- A program has one refusal at most, but for want of memory.
-use Rattle.std.proofs.Common.{◌≡◌, ◌≢◌, ℕ, ◌≤◌, ◌<◌, ◌⊎◌, Some, None, Option, ap, sym, ◌∙◌, arith, refl, inl, inr}
+use Rattle.std.proofs.Common.{◌≡◌, ◌≢◌, ℕ, ◌<◌, ◌⊎◌, Some, None, Option, ap, sym, ◌∙◌, arith, refl, inl, inr}
 use Rattle.std.proofs.lemmas.Bool.{cases_lt}
 use Rattle.machine_model.specs.Edges.{Code}
 use Rattle.flow_graph.specs.declared.fault.FlowFault.{FlowFault}

@@ -1,5 +1,5 @@
 -- Along a path the place in an order grows, so that none leads back.
-use Rattle.std.proofs.Common.{◌≡◌, ℕ, ◌≤◌, ◌<◌, List, [], ◌∷◌, Option, Some, None, slice_index, sym, ap, arith, refl, subst}
+use Rattle.std.proofs.Common.{◌≡◌, ℕ, ◌<◌, List, [], ◌∷◌, Option, Some, None, slice_index, sym, ap, arith, refl, subst}
 use Rattle.std.specs.Prelude.{option_and_then}
 use Rattle.insn_codec.specs.declared.insn.Insn.{Insn}
 use Rattle.machine_model.specs.Edges.{Code, Fact, IsEdge, Begins, insn_at, leads, leads_at}

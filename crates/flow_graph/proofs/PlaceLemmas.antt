@@ -5,7 +5,7 @@ use Rattle.std.proofs.lemmas.List.{get_or-set_same, get_or-set_other, get_or_def
 use Rattle.std.proofs.Math.ListN.{length-set}
 use Rattle.machine_model.specs.Edges.{Code, IsEdge, Begins}
 use Rattle.flow_graph.specs.Flow.{IsIn, IsJoined, IsOrder}
-use Rattle.flow_graph.specs.Places.{place_at, ArePlaces, IsBehind, IsPlaced}
+use Rattle.flow_graph.specs.Places.{place_at, ArePlaces, IsBefore, IsPlaced}
 use Rattle.flow_graph.proofs.Lists.{one_way}
 use Rattle.flow_graph.proofs.CodeLemmas.{begins_below}
 
@@ -81,8 +81,8 @@ order_of_places code order places a each = record {
   each = λ slot b. let p = (each slot b).place in let s = a.stands slot p.0 p.1 in (p.0, s.0, s.1);
   once = λ p q h k e. some_place p q (sym (a.at p h) ∙ ap (place_at places) e ∙ a.at q k);
   onward = λ p q fact h k edge.
-      subst (λ (o : Option ℕ). IsBehind (Some p) o) (a.at q k)
-      (subst (λ (o : Option ℕ). IsBehind o (place_at places (slice_index order q))) (a.at p h)
+      subst (λ (o : Option ℕ). IsBefore (Some p) o) (a.at q k)
+      (subst (λ (o : Option ℕ). IsBefore o (place_at places (slice_index order q))) (a.at p h)
       ((each (slice_index order p) (a.begins p h)).onward (slice_index order q) (fact, edge)));
 }
 
@@ -96,8 +96,8 @@ placed_of_order code order places slot f a begins o = record {
       let less : here.0 < i.0 = o.onward here.0 i.0 joint.0 here.1 i.1
       (subst (λ (p : ℕ). IsEdge code p joint.0 (slice_index order i.0)) (sym here.2)
       (subst (IsEdge code slot joint.0) (sym i.2) joint.1)) in
-      subst (λ (q : Option ℕ). IsBehind (place_at places slot) q) (sym there)
-      (subst (λ (q : Option ℕ). IsBehind q (Some i.0)) (sym at_here) less);
+      subst (λ (q : Option ℕ). IsBefore (place_at places slot) q) (sym there)
+      (subst (λ (q : Option ℕ). IsBefore q (Some i.0)) (sym at_here) less);
 }
   where
     here : IsIn order slot

@@ -1,5 +1,5 @@
 -- The walk goes on, goes back, and ends.
-use Rattle.std.proofs.Common.{◌≡◌, ◌≢◌, ℕ, zero, suc, ◌+◌, ◌-◌, ◌*◌, ◌≤◌, ◌<◌, ◌⊎◌, List, [], ◌∷◌, ◌++◌, length, sum_by, slice_set, slice_index, get_or, reverse, sym, ap, ◌∙◌, arith, refl, inl, inr, subst, Result, Ok, Err, IfOk}
+use Rattle.std.proofs.Common.{◌≡◌, ◌≢◌, ℕ, zero, suc, ◌+◌, ◌-◌, ◌*◌, ◌<◌, List, [], ◌∷◌, ◌++◌, length, sum_by, slice_set, slice_index, get_or, reverse, sym, ap, ◌∙◌, arith, refl, inl, inr, subst, Result, Ok, Err, IfOk}
 use Rattle.std.proofs.lemmas.Bool.{cases_lt}
 use Rattle.std.proofs.lemmas.List.{get_or-reverse, length-reverse, get_or_default}
 use Rattle.std.proofs.lemmas.List.Sums.{sum_by-set}

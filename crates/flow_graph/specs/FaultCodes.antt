@@ -1,5 +1,5 @@
--- The numbers of the refusals.
-use Rattle.std.specs.Prelude.{ℕ}
+-- The numbers of the refusals, and their slots.
+use Rattle.std.specs.Prelude.{ℕ, Option, Some, None}
 use Rattle.flow_graph.specs.declared.fault.FlowFault.{FlowFault}
 use Rattle.flow_graph.specs.declared.fault.FlowFault.TheVariants.{JumpOut, IntoWide, Cycle, FallsOff, Unreachable, NoMemory}
 
@@ -10,3 +10,12 @@ code_of_fault (Cycle slot) = 23
 code_of_fault (FallsOff slot) = 24
 code_of_fault (Unreachable slot) = 25
 code_of_fault NoMemory = 99
+
+-- the slot that it tells, if it tells one
+abbrev pub slot_of_fault : FlowFault → Option ℕ
+slot_of_fault (JumpOut slot) = Some slot
+slot_of_fault (IntoWide slot) = Some slot
+slot_of_fault (Cycle slot) = Some slot
+slot_of_fault (FallsOff slot) = Some slot
+slot_of_fault (Unreachable slot) = Some slot
+slot_of_fault NoMemory = None

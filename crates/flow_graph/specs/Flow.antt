@@ -41,7 +41,7 @@ pub record IsFlow (flow : Flow) : Type 0 where
   pub short : length flow.order ≤ length flow.code
   pub reached : (slot : ℕ) → Begins flow.code slot → IsReached flow.code slot
 
--- these are the edges from the slot
+-- the edges from the slot are those of `Next`
 abbrev pub AreNext : Code → ℕ → Next → Type 0
 AreNext code slot Zero = (insn_at code slot ≡ Some Exit) × ((fact : Fact) → leads_at code slot fact ≡ None)
 AreNext code slot (One to) =

@@ -12,12 +12,12 @@ JumpsBy (Jump32 offset) by = offset ≡ by
 JumpsBy (JumpIf w c dst src offset) by = offset ≡ by
 JumpsBy i by = ⊥
 
--- it is neither a jump without a condition nor an exit
-abbrev pub GoesOn : Insn → Type 0
-GoesOn (Jump offset) = ⊥
-GoesOn (Jump32 offset) = ⊥
-GoesOn Exit = ⊥
-GoesOn i = Unit {0}
+-- the next instruction may follow: this is neither a jump without a condition nor an exit
+abbrev pub FallsThrough : Insn → Type 0
+FallsThrough (Jump offset) = ⊥
+FallsThrough (Jump32 offset) = ⊥
+FallsThrough Exit = ⊥
+FallsThrough i = Unit {0}
 
 -- a target lies below slot 0, or not under the number of slots
 abbrev pub IsOut : Code → Option ℕ → Type 0
@@ -36,9 +36,9 @@ JumpsOut code slot i = (offset : ℤ) × JumpsBy i offset × IsOut code (target 
 abbrev pub JumpsInto : Code → ℕ → Insn → Type 0
 JumpsInto code slot i = (offset : ℤ) × JumpsBy i offset × IsInto code (target slot offset)
 
--- 24: nothing stands behind an instruction that goes on
+-- 24: nothing stands after an instruction that falls through
 abbrev pub IsLast : Code → ℕ → Insn → Type 0
-IsLast code slot i = GoesOn i × (length code ≤ slot + length (slots_of i))
+IsLast code slot i = FallsThrough i × (length code ≤ slot + length (slots_of i))
 
 -- its target, where it jumps, isn't below slot 0, and each of its edges leads to an instruction
 pub record IsSettled (code : Code) (slot : ℕ) (i : Insn) : Type 0 where

@@ -6,6 +6,7 @@ pub mod Flow
 pub mod Reached
 pub mod Cycles
 pub mod Refusals
+pub mod Forward
 pub mod Walks
 pub mod Places
 pub mod Landings

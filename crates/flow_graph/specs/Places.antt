@@ -1,4 +1,4 @@
--- Where the slots of an order stand in it.
+-- Used by private contracts and proofs alone: where the slots of an order stand in it.
 use Rattle.std.specs.Prelude.{◌≡◌, ℕ, ◌<◌, List, length, slice_index, slice_index_or, Option, Some, None}
 use Rattle.machine_model.specs.Edges.{Code, Begins}
 use Rattle.flow_graph.specs.Cycles.{IsJoint}
@@ -13,12 +13,12 @@ pub record ArePlaces (code : Code) (order : List ℕ) (places : List (Option ℕ
   pub at : (place : ℕ) → place < n → place_at places (slice_index order place) ≡ Some place
   pub stands : (slot place : ℕ) → place_at places slot ≡ Some place → (place < n) × (slice_index order place ≡ slot)
 
-abbrev pub IsBehind : Option ℕ → Option ℕ → Type 0
-IsBehind (Some place) (Some later) = place < later
-IsBehind (Some place) None = ⊥
-IsBehind None later = ⊥
+abbrev pub IsBefore : Option ℕ → Option ℕ → Type 0
+IsBefore (Some place) (Some later) = place < later
+IsBefore (Some place) None = ⊥
+IsBefore None later = ⊥
 
 -- the slot has a place, and each of its edges leads to a later one
 pub record IsPlaced (code : Code) (places : List (Option ℕ)) (slot : ℕ) : Type 0 where
   pub place : (place : ℕ) × (place_at places slot ≡ Some place)
-  pub onward : (s : ℕ) → IsJoint code slot s → IsBehind (place_at places slot) (place_at places s)
+  pub onward : (s : ℕ) → IsJoint code slot s → IsBefore (place_at places slot) (place_at places s)

@@ -1,4 +1,4 @@
--- A walk in depth: what it has met, the path that it is on, and what it is done with.
+-- Used by private contracts and proofs alone: a walk in depth: what it has met, the path that it is on, and what it is done with.
 use Rattle.std.specs.Prelude.{◌≡◌, ◌≢◌, ℕ, ◌+◌, ◌≤◌, ◌<◌, List, [], length, sum_by, slice_index, slice_index_or, reverse}
 use Rattle.machine_model.specs.Edges.{Code, Begins}
 use Rattle.flow_graph.specs.Cycles.{IsJoint, IsOnCycle}
@@ -7,7 +7,6 @@ use Rattle.flow_graph.specs.declared.walk.Mark.{Mark}
 use Rattle.flow_graph.specs.declared.walk.Mark.TheVariants.{New, Open, Done}
 use Rattle.flow_graph.specs.declared.walk.Way.{Way}
 use Rattle.flow_graph.specs.declared.walk.Way.TheVariants.{To, Back, Finished}
-use Rattle.flow_graph.specs.declared.walk.Walk.{Walk}
 use Rattle.flow_graph.specs.declared.walk.Walked.{Walked}
 use Rattle.flow_graph.specs.declared.walk.Walked.TheVariants.{All, Cycle}
 

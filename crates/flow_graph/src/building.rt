@@ -7,6 +7,7 @@ ghost use Rattle.flow_graph.specs.Refusals.{Refuses, IsBuilt};
 use crate::checks::first_fault;
 use crate::cycle::first_on_cycle;
 use crate::fault::FlowFault;
+use crate::forward::slots_in_turn;
 use crate::graph::Graph;
 use crate::reach::first_unreached;
 use crate::walk::{Walked, order_of, walk_all};
@@ -18,7 +19,7 @@ use std::alloc::Global;
 pub(crate) fn code_of(alloc: Global, placed: &[Placed]) -> Result<Vec<Option<Insn>>, NoMemory>
     ensures { IfOk result (λ code. code.items ≡ code_of placed.now) }
 {
-    let mut code = Vec::new(alloc);
+    let mut code = Vec::with_capacity(alloc, placed.len())?;
     for place in placed {
         code.push(Some(place.insn))?;
         if let Insn::LoadWide { .. } = place.insn {
@@ -28,15 +29,19 @@ pub(crate) fn code_of(alloc: Global, placed: &[Placed]) -> Result<Vec<Option<Ins
     Ok(code)
 }
 
-/// The graph of a program as a decoder gives it, or why it has none: the first fault of an edge, else the first slot
-/// on a cycle, else the first instruction that isn't reached.
+/// The graph of a program as a decoder gives it, or why it has none: the first fault of an edge,
+/// else the first slot on a cycle, else the first instruction that isn't reached.
 pub fn build(alloc: Global, placed: &[Placed]) -> Result<Graph, FlowFault>
     requires { IsDecoded placed.now }
-    ensures { MatchResult result (λ graph. IsBuilt (code_of placed.now) graph) (λ fault. Refuses (code_of placed.now) fault) }
+    ensures { MatchResult result (λ graph. IsBuilt (code_of placed.now) graph)
+        (λ fault. Refuses (code_of placed.now) fault) }
 {
     let code = code_of(alloc, placed)?;
     if let Some(fault) = first_fault(&code) {
         return Err(fault);
+    }
+    if let Some(order) = slots_in_turn(alloc, &code)? {
+        return Ok(Graph::of(code, order));
     }
     match walk_all(alloc, &code)? {
         Walked::Cycle(marks, known) => {

@@ -67,7 +67,8 @@ fn fault_at(code: &[Option<Insn>], slot: u32) -> Option<FlowFault>
 /// The first fault: at the lowest slot, of the lowest number.
 pub(crate) fn first_fault(code: &[Option<Insn>]) -> Option<FlowFault>
     requires { length code.now ≤ 4096 }
-    ensures { MatchOption result ((slot : ℕ) → fault_at code.now slot ≡ None) (λ fault. Refuses code.now fault) }
+    ensures { MatchOption result ((slot : ℕ)
+        → fault_at code.now slot ≡ None) (λ fault. Refuses code.now fault) }
 {
     let slots = code.len() as u32;
     for slot in 0..slots {

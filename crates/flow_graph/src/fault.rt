@@ -1,31 +1,31 @@
 //! The refusals.
 
 ghost use Rattle.std.specs.Prelude.{◌≡◌};
-ghost use Rattle.flow_graph.specs.FaultCodes.{code_of_fault};
+ghost use Rattle.flow_graph.specs.FaultCodes.{code_of_fault, slot_of_fault};
 
 use refusal::NoMemory;
 use thiserror::Error;
 
 /// Why a program has no graph. The number is the slot.
-#[derive(Clone, Copy, Debug, PartialEq, Eq, Error)]
+#[derive(Clone, Copy, Debug, PartialEq, Eq, Hash, Error)]
 pub enum FlowFault {
     /// A jump leads out of the program.
-    #[error("jump out of the program at slot {0}")]
+    #[error("21: jump out of the program at slot {0}")]
     JumpOut(u32),
     /// A jump leads to the second slot of a wide instruction.
-    #[error("jump into a wide instruction at slot {0}")]
+    #[error("22: jump into a wide instruction at slot {0}")]
     IntoWide(u32),
     /// A path of one edge or more leads from the slot back to it. No lower slot has one.
-    #[error("cycle through slot {0}")]
+    #[error("23: cycle through slot {0}")]
     Cycle(u32),
     /// The program may run past its end.
-    #[error("nothing follows the instruction at slot {0}")]
+    #[error("24: nothing follows the instruction at slot {0}")]
     FallsOff(u32),
     /// No path leads from slot 0 to the instruction.
-    #[error("unreachable instruction at slot {0}")]
+    #[error("25: unreachable instruction at slot {0}")]
     Unreachable(u32),
     /// A growth was refused.
-    #[error("out of memory")]
+    #[error("99: out of memory")]
     NoMemory,
 }
 
@@ -41,6 +41,20 @@ impl FlowFault {
             FlowFault::FallsOff(_) => 24,
             FlowFault::Unreachable(_) => 25,
             FlowFault::NoMemory => 99,
+        }
+    }
+
+    /// The slot that it tells, if it tells one.
+    pub fn slot(&self) -> Option<u32>
+        ensures { result ≡ slot_of_fault self.now }
+    {
+        match *self {
+            FlowFault::JumpOut(slot)
+            | FlowFault::IntoWide(slot)
+            | FlowFault::Cycle(slot)
+            | FlowFault::FallsOff(slot)
+            | FlowFault::Unreachable(slot) => Some(slot),
+            FlowFault::NoMemory => None,
         }
     }
 }

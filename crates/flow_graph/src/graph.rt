@@ -9,14 +9,15 @@ use insn_codec::Insn;
 use std::marker::Model;
 
 /// The slots that an instruction leads to, the following one first.
-#[derive(Clone, Copy, Debug, PartialEq, Eq)]
+#[derive(Clone, Copy, Debug, PartialEq, Eq, Hash)]
 pub enum Next {
     Zero,
     One(u32),
     Two(u32, u32),
 }
 
-/// A program whose edges lead to instructions and close no cycle, and which reaches each of its instructions.
+/// A program whose edges lead to instructions and close no cycle, and which reaches each of its
+/// instructions.
 #[derive(Drop)]
 pub struct Graph {
     code: Vec<Option<Insn>>,
@@ -110,6 +111,7 @@ pub(crate) fn begins_at(code: &[Option<Insn>], slot: u32) -> bool
 }
 
 /// The slots that an instruction leads to which goes on in this way.
+#[inline(always)]
 fn next_after(onward: Onward, slot: u32) -> Next
     requires slot { slot < 4096 }
     requires target { HasTarget onward slot }
@@ -125,6 +127,7 @@ fn next_after(onward: Onward, slot: u32) -> Next
 }
 
 /// The slots that the instruction at the slot leads to.
+#[inline(always)]
 pub(crate) fn next_of(code: &[Option<Insn>], slot: u32) -> Next
     requires joined { IsJoined code.now }
     requires begins { Begins code.now slot }

@@ -1,4 +1,4 @@
-//! The laws of the definitions.
+//! What the definitions mean: what each refusal says of the program, and that none has two.
 
 ghost use Rattle.std.specs.Prelude.{◌≡◌, ◌≢◌, ◌↔◌, ℕ, List, Some, None};
 ghost use Rattle.insn_codec.specs.declared.insn.Insn.{Insn};
@@ -15,20 +15,24 @@ ghost use Rattle.flow_graph.specs.declared.fault.FlowFault.TheVariants.{JumpOut,
 
 /// Where the instructions have an order, no path of one edge or more leads back to its slot.
 pub fn orders_have_no_cycle()
-    ensures { (code : Code) (order : List ℕ) (slot : ℕ) → IsOrder code order → IsOnCycle code slot → ⊥ }
+    ensures { (code : Code) (order : List ℕ) (slot : ℕ) → IsOrder code order → IsOnCycle code slot
+        → ⊥ }
 {}
 
 /// A program has one refusal at most, but for want of memory.
 pub fn one_refusal()
-    ensures { (code : Code) (f g : FlowFault) → Refuses code f → Refuses code g → f ≢ NoMemory → g ≢ NoMemory → f ≡ g }
+    ensures { (code : Code) (f g : FlowFault) → Refuses code f → Refuses code g → f ≢ NoMemory
+        → g ≢ NoMemory → f ≡ g }
 {}
 
 /// A program that has a graph is refused for want of memory alone.
 pub fn nothing_refused()
-    ensures { (code : Code) (graph : Flow) (f : FlowFault) → IsBuilt code graph → Refuses code f → f ≡ NoMemory }
+    ensures { (code : Code) (graph : Flow) (f : FlowFault) → IsBuilt code graph → Refuses code f
+        → f ≡ NoMemory }
 {}
 
-/// Where an instruction begins, 21 is told of a jump whose target is below slot 0 or not under the number of slots.
+/// Where an instruction begins, 21 is told of a jump whose target is below slot 0 or not under the
+/// number of slots.
 pub fn jumps_out()
     ensures { (code : Code) (slot : ℕ) (i : Insn) → insn_at code slot ≡ Some i
         → (fault_at code slot ≡ Some (JumpOut slot)) ↔ JumpsOut code slot i }
@@ -40,16 +44,18 @@ pub fn jumps_into()
         → (fault_at code slot ≡ Some (IntoWide slot)) ↔ JumpsInto code slot i }
 {}
 
-/// 24 is told of an instruction that goes on where nothing stands behind it, and that has no fault of a jump.
+/// 24 is told of an instruction that goes on where nothing stands after it, and that has no fault
+/// of a jump.
 pub fn falls_off()
     ensures { (code : Code) (slot : ℕ) (i : Insn) → insn_at code slot ≡ Some i
         → (fault_at code slot ≡ Some (FallsOff slot))
         ↔ (IsLast code slot i × (JumpsOut code slot i → ⊥) × (JumpsInto code slot i → ⊥)) }
 {}
 
-/// Nothing is told of an instruction of a decoded program whose target isn't below slot 0, where it has one, and whose
-/// edges all lead to instructions.
+/// Nothing is told of an instruction of a decoded program whose target isn't below slot 0, where it
+/// has one, and whose edges all lead to instructions.
 pub fn edges_are_settled()
-    ensures { (placed : List Placed) (slot : ℕ) (i : Insn) → IsDecoded placed → insn_at (code_of placed) slot ≡ Some i
+    ensures { (placed : List Placed) (slot : ℕ) (i : Insn) → IsDecoded placed
+        → insn_at (code_of placed) slot ≡ Some i
         → (fault_at (code_of placed) slot ≡ None) ↔ IsSettled (code_of placed) slot i }
 {}

@@ -5,6 +5,7 @@ mod building;
 mod checks;
 mod cycle;
 mod fault;
+mod forward;
 mod graph;
 mod laws;
 mod onward;

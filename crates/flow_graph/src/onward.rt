@@ -6,22 +6,23 @@ ghost use Rattle.flow_graph.specs.Onward.{onward_of};
 
 use insn_codec::Insn;
 
-/// How an instruction goes on. Offsets count from the slot behind it.
+/// How an instruction goes on. Offsets count from the slot after it.
 #[derive(Clone, Copy, Debug, PartialEq, Eq)]
 pub(crate) enum Onward {
-    /// To the slot behind it.
+    /// To the slot after it.
     Steps,
-    /// To the slot behind its second one.
+    /// To the slot after its second one.
     StepsWide,
     /// To a target.
     Jumps(i32),
-    /// To the slot behind it, or to a target.
+    /// To the slot after it, or to a target.
     Branches(i32),
     /// Nowhere.
     Ends,
 }
 
 /// How the instruction goes on.
+#[inline(always)]
 pub(crate) fn onward_of(insn: &Insn) -> Onward
     ensures { result ≡ onward_of insn.now }
 {

@@ -4,7 +4,7 @@ ghost use Rattle.std.specs.Prelude.{◌≡◌, ◌↔◌, ℕ, length, IsTrue, I
 ghost use Rattle.machine_model.specs.Edges.{Begins};
 ghost use Rattle.flow_graph.specs.Faults.{fault_at};
 ghost use Rattle.flow_graph.specs.Flow.{IsJoined, IsOrder};
-ghost use Rattle.flow_graph.specs.Places.{ArePlaces, IsBehind, IsPlaced, place_at};
+ghost use Rattle.flow_graph.specs.Places.{ArePlaces, IsBefore, IsPlaced, place_at};
 ghost use Rattle.flow_graph.specs.Program.{code_of, IsDecoded};
 
 use crate::building::code_of;
@@ -13,7 +13,8 @@ use insn_codec::{Insn, Placed};
 use refusal::NoMemory;
 use std::alloc::Global;
 
-/// The place of each slot in the list, if instructions begin at all of its slots and none stands there twice.
+/// The place of each slot in the list, if instructions begin at all of its slots and none stands
+/// there twice.
 fn places_of(
     alloc: Global,
     code: &[Option<Insn>],
@@ -36,9 +37,9 @@ fn places_of(
     Ok(Some(places))
 }
 
-/// Whether the one place is behind the other.
-fn is_behind(place: Option<usize>, later: Option<usize>) -> bool
-    ensures { IsTrue result ↔ IsBehind place later }
+/// Whether there are two places, the first before the second.
+fn is_before(place: Option<usize>, later: Option<usize>) -> bool
+    ensures { IsTrue result ↔ IsBefore place later }
 {
     match (place, later) {
         (Some(place), Some(later)) => place < later,
@@ -56,15 +57,15 @@ fn is_placed(code: &[Option<Insn>], places: &[Option<usize>], slot: u32) -> bool
     let place = places[slot as usize];
     match next_of(code, slot) {
         Next::Zero => place.is_some(),
-        Next::One(to) => is_behind(place, places[to as usize]),
+        Next::One(to) => is_before(place, places[to as usize]),
         Next::Two(following, to) => {
-            is_behind(place, places[following as usize]) && is_behind(place, places[to as usize])
+            is_before(place, places[following as usize]) && is_before(place, places[to as usize])
         }
     }
 }
 
-/// Whether each instruction's slot stands once in the list and each edge leads to a later place. The program's edges
-/// have no fault.
+/// Whether each instruction's slot stands once in the list and each edge leads to a later place.
+/// The program's edges have no fault.
 pub fn check_order(alloc: Global, placed: &[Placed], order: &[u32]) -> Result<bool, NoMemory>
     requires decoded { IsDecoded placed.now }
     requires faultless { (slot : ℕ) → fault_at (code_of placed.now) slot ≡ None }

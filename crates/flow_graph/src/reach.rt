@@ -14,7 +14,9 @@ use std::alloc::Global;
 /// Marks a slot that a path leads to.
 fn mark_on(marks: &mut Vec<bool>, pending: &mut Vec<u32>, slot: u32) -> Result<(), NoMemory>
     requires { slot < length marks.old.items }
-    ensures { IfOk result (λ _. IsMarkedOn marks.old.items marks.new.items pending.old.items pending.new.items slot) }
+    ensures { IfOk result
+        (λ _. IsMarkedOn marks.old.items marks.new.items pending.old.items pending.new.items
+        slot) }
 {
     if !marks[slot as usize] {
         pending.push(slot)?;
@@ -52,7 +54,8 @@ pub(crate) fn slots_ahead(
 /// The lowest instruction that no path from slot 0 leads to.
 pub(crate) fn first_unreached(alloc: Global, code: &[Option<Insn>]) -> Result<Option<u32>, NoMemory>
     requires { IsJoined code.now }
-    ensures { IfOk result (λ slot. MatchOption slot ((s : ℕ) → Begins code.now s → IsReached code.now s)
+    ensures { IfOk result (λ slot. MatchOption slot ((s : ℕ) → Begins code.now s
+        → IsReached code.now s)
         (λ slot. IsFirstUnreached code.now slot)) }
 {
     let marks = slots_ahead(alloc, code, 0)?;

@@ -14,22 +14,22 @@ use std::alloc::Global;
 /// How far the walk has come with an instruction.
 #[derive(Clone, Copy, Debug, PartialEq, Eq)]
 pub(crate) enum Mark {
-    /// It hasn't met it.
+    /// The walk hasn't met the instruction.
     New,
-    /// It is on the path that it walks.
+    /// The instruction is on the path that is walked.
     Open,
-    /// It is done with all that the instruction leads to.
+    /// The walk is done with all that the instruction leads to.
     Done,
 }
 
 /// How a walk goes on from an instruction.
 #[derive(Clone, Copy, Debug, PartialEq, Eq)]
 pub(crate) enum Way {
-    /// To a slot that it hasn't met.
+    /// To a slot that the walk hasn't met.
     To(u32),
     /// Back to a slot of its path.
     Back(u32),
-    /// It is done with all that the instruction leads to.
+    /// The walk is done with all that the instruction leads to.
     Finished,
 }
 
@@ -57,8 +57,10 @@ impl Walk {
     /// Goes on from the slot to the next.
     fn enter(&mut self, slot: u32, next: u32) -> Result<(), NoMemory>
         requires { next < length self.old.marks.items }
-        ensures marks { IfOk result (λ _. self.new.marks.items ≡ slice_set self.old.marks.items next Open) }
-        ensures path { IfOk result (λ _. self.new.path.items ≡ (self.old.path.items ++ slot ∷ []) ++ next ∷ []) }
+        ensures marks { IfOk result (λ _. self.new.marks.items
+            ≡ slice_set self.old.marks.items next Open) }
+        ensures path { IfOk result (λ _. self.new.path.items ≡ (self.old.path.items ++ slot ∷ [])
+            ++ next ∷ []) }
         ensures done { IfOk result (λ _. self.new.done.items ≡ self.old.done.items) }
     {
         self.path.push(slot)?;
@@ -70,7 +72,8 @@ impl Walk {
     /// Is done with the slot.
     fn leave(&mut self, slot: u32) -> Result<(), NoMemory>
         requires { slot < length self.old.marks.items }
-        ensures marks { IfOk result (λ _. self.new.marks.items ≡ slice_set self.old.marks.items slot Done) }
+        ensures marks { IfOk result (λ _. self.new.marks.items
+            ≡ slice_set self.old.marks.items slot Done) }
         ensures path { IfOk result (λ _. self.new.path.items ≡ self.old.path.items) }
         ensures done { IfOk result (λ _. self.new.done.items ≡ self.old.done.items ++ slot ∷ []) }
     {
@@ -152,7 +155,7 @@ pub(crate) fn walk_all(alloc: Global, code: &[Option<Insn>]) -> Result<Walked, N
     let mut walk = Walk {
         marks,
         path: Vec::new(alloc),
-        done: Vec::new(alloc),
+        done: Vec::with_capacity(alloc, slots as usize)?,
     };
     for slot in 0..slots {
         if begins_at(code, slot) {

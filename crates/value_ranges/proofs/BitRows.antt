@@ -7,7 +7,7 @@ use Rattle.std.proofs.lemmas.Nat.{leading_length, leading_le, and_le_l, and_le_r
 use Rattle.std.proofs.lemmas.Nat.Bits.{ones_shr}
 use Rattle.value_ranges.specs.Interval.{Interval, Within}
 use Rattle.machine_model.specs.Operators.{result_of}
-use Rattle.value_ranges.specs.Ranges.{row_of, ones, IsLeastMask}
+use Rattle.value_ranges.specs.Ranges.{row_range, ones, IsLeastMask}
 use Rattle.insn_codec.specs.declared.insn.AluOp.TheVariants.{And, Or, Xor}
 
 below_ones : (x : ℕ) → x < 2 ^ 64 → x < 2 ^ (64 - leading_zeros w64 x)
@@ -16,16 +16,16 @@ below_ones x h =
     let e : 64 - leading_zeros w64 x ≡ l.0 = omega (arith, l.1) in
     rw e l.2
 
-pub Within-and : (n : ℕ) (a b : Interval) (x y : ℕ) → Within a x → Within b y → Within (row_of And n a b) (result_of And n x y)
+pub Within-and : (n : ℕ) (a b : Interval) (x y : ℕ) → Within a x → Within b y → Within (row_range And n a b) (result_of And n x y)
 Within-and n a b x y h k = grind (arith, and_le_l, and_le_r)
 
-pub Within-or : (n : ℕ) (a b : Interval) (x y : ℕ) → a.hi < 2 ^ 64 → b.hi < 2 ^ 64 → Within a x → Within b y → Within (row_of Or n a b) (result_of Or n x y)
+pub Within-or : (n : ℕ) (a b : Interval) (x y : ℕ) → a.hi < 2 ^ 64 → b.hi < 2 ^ 64 → Within a x → Within b y → Within (row_range Or n a b) (result_of Or n x y)
 Within-or n a b x y p q h k =
     let above = below_ones (max a.hi b.hi) (omega arith) in
     let most = or_lt (64 - leading_zeros w64 (max a.hi b.hi)) x y (omega arith) (omega arith) in
     (omega (arith, le_or_l x y, le_or_r x y), omega arith)
 
-pub Within-xor : (n : ℕ) (a b : Interval) (x y : ℕ) → a.hi < 2 ^ 64 → b.hi < 2 ^ 64 → Within a x → Within b y → Within (row_of Xor n a b) (result_of Xor n x y)
+pub Within-xor : (n : ℕ) (a b : Interval) (x y : ℕ) → a.hi < 2 ^ 64 → b.hi < 2 ^ 64 → Within a x → Within b y → Within (row_range Xor n a b) (result_of Xor n x y)
 Within-xor n a b x y p q h k =
     let above = below_ones (max a.hi b.hi) (omega arith) in
     let most = xor_lt (64 - leading_zeros w64 (max a.hi b.hi)) x y (omega arith) (omega arith) in

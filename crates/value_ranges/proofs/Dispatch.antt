@@ -6,7 +6,7 @@ use Rattle.std.proofs.Math.Nat.{mod-eq_of_lt, div-le_self, pow-le-pow_right}
 use Rattle.value_ranges.specs.Interval.{Interval, Within}
 use Rattle.machine_model.specs.Operators.{bits_of, result_of, residue, signed}
 use Rattle.machine_model.specs.Outcomes.{number_result}
-use Rattle.value_ranges.specs.Ranges.{cut, row_of, range_of}
+use Rattle.value_ranges.specs.Ranges.{cut, row_range, range_of}
 use Rattle.value_ranges.specs.Tables.{number_range}
 use Rattle.insn_codec.specs.declared.insn.Width.{Width}
 use Rattle.insn_codec.specs.declared.insn.AluOp.{AluOp}
@@ -23,14 +23,14 @@ residue_shr : (n x s : ℕ) → x < 2 ^ (n - 1) → residue n (int_shr (signed n
 residue_shr n x s h =
     rw (signed-small n x h) (mod-eq_of_lt (omega (arith, div-le_self x (2 ^ s), half_pow n)))
 
-Within-shifted_right_signed : (n : ℕ) (a b : Interval) (x y : ℕ) → Within a x → Within b y → Within (row_of Arsh n a b) (result_of Arsh n x y)
+Within-shifted_right_signed : (n : ℕ) (a b : Interval) (x y : ℕ) → Within a x → Within b y → Within (row_range Arsh n a b) (result_of Arsh n x y)
 Within-shifted_right_signed n a b x y h k =
     let plain = Within-shifted_right n a b x y h k in
     let same : x < 2 ^ (n - 1) → result_of Arsh n x y ≡ x / 2 ^ (y % n) = residue_shr n x (y % n) in
     let most = residue-lt n (int_shr (signed n x) (y % n)) in
     grind (arith, nat_tests)
 
-Within-row : (op : AluOp) (n : ℕ) (a b : Interval) (x y : ℕ) → n ≤ 64 → a.hi < 2 ^ n → b.hi < 2 ^ n → Within a x → Within b y → Within (row_of op n a b) (result_of op n x y)
+Within-row : (op : AluOp) (n : ℕ) (a b : Interval) (x y : ℕ) → n ≤ 64 → a.hi < 2 ^ n → b.hi < 2 ^ n → Within a x → Within b y → Within (row_range op n a b) (result_of op n x y)
 Within-row Add n a b x y w p q h k = Within-sum n a b x y p q h k
 Within-row Sub n a b x y w p q h k = Within-difference n a b x y p q h k
 Within-row Mul n a b x y w p q h k = Within-product n a b x y p h k

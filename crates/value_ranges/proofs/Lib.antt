@@ -8,3 +8,4 @@ pub mod PointerLemmas
 pub mod TableLemmas
 pub mod MergeLemmas
 pub mod WordLemmas
+pub mod StayLemmas

@@ -4,6 +4,8 @@ use Rattle.std.proofs.lemmas.Int.{ints, to_z-of_z}
 use Rattle.value_ranges.specs.Numbers.{Ranges, Among}
 use Rattle.machine_model.specs.Outcomes.{position_after, position_onto}
 use Rattle.value_ranges.specs.Tables.{moved_up, moved_down, positions, positions_after, positions_onto}
+use Rattle.value_ranges.specs.declared.fault.PointerFault.{PointerFault}
+use Rattle.value_ranges.specs.declared.fault.PointerFault.TheVariants.{TooFar}
 use Rattle.value_ranges.specs.Span.{Span, span, Between}
 use Rattle.insn_codec.specs.declared.insn.Width.{Width}
 use Rattle.insn_codec.specs.declared.insn.Width.TheVariants.{W64}
@@ -13,7 +15,7 @@ use Rattle.insn_codec.specs.declared.insn.AluOp.TheVariants.{Add, Sub}
 -- a signed value that is passed on is seen through its bits
 pub ruleset signed_values = (ints, to_z-of_z)
 
-either : (t : Bool) (lo hi m : ℤ) → lo ≤ℤ m → m ≤ℤ hi → IfOk {T = Span} {E = ℕ} (if t then Err 35 else Ok (span lo hi)) (λ p. Between p m)
+either : (t : Bool) (lo hi m : ℤ) → lo ≤ℤ m → m ≤ℤ hi → IfOk {T = Span} {E = PointerFault} (if t then Err TooFar else Ok (span lo hi)) (λ p. Between p m)
 either true lo hi m h k = tt
 either false lo hi m h k = (h, k)
 
@@ -30,7 +32,7 @@ down p s k m h j = Between-positions (p.lo -ℤ s.hi) (p.hi -ℤ s.lo) (k -ℤ m
 abbrev pub HasPosition : Option ℤ → Span → Type 0
 HasPosition o q = (m : ℤ) × (o ≡ Some m) × Between q m
 
-position : (k : ℤ) (r : Result Span ℕ) → IfOk r (λ q. Between q k) → IfOk r (HasPosition (Some k))
+position : (k : ℤ) (r : Result Span PointerFault) → IfOk r (λ q. Between q k) → IfOk r (HasPosition (Some k))
 position k (Ok q) h = (k, refl, h)
 position k (Err e) h = tt
 

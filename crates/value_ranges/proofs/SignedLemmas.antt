@@ -202,6 +202,11 @@ none_second n m p e =
     let first = itself (cut_signed n) m p in
     signed_stays (cut_unsigned (cut_signed n)) (subst (λ (i : Ranges). NoRanges (nonempty (cut_unsigned i))) first e)
 
+-- numbers of which each range tells the other are tidy
+pub spanned_is : (r : Interval) → r.lo ≤ r.hi → r.hi < 2 ^ 64 → Some (spanned r) ≡ some_tidied (spanned r)
+unfolding some_tidied
+spanned_is r h k = grind (arith, nat_tests, ints, clamps)
+
 -- ---- the operators' own rows
 
 signed-sum : (x y : ℕ) → x < 2 ^ 64 → y < 2 ^ 64 → neg_ℤ (pos (2 ^ 63)) ≤ℤ (signed 64 x +ℤ signed 64 y) → (signed 64 x +ℤ signed 64 y) <ℤ pos (2 ^ 63) →

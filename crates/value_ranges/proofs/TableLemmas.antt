@@ -6,11 +6,12 @@ use Rattle.value_ranges.specs.Numbers.{Ranges, Among}
 use Rattle.value_ranges.specs.Ranges.{cut}
 use Rattle.machine_model.specs.Outcomes.{outcome_of, alu_outcome, mov_outcome, number_result, on_number, extended_by, negated, ordered_by, width_to}
 use Rattle.machine_model.specs.Outcomes as outcome
-use Rattle.value_ranges.specs.Tables.{table_of, alu_table, move_table, on_range, IsArithmetic, IsReadSet, IsSet, number_ranges, extension_range, negated_range, ordered_range}
+use Rattle.value_ranges.specs.Tables.{value_table, alu_table, move_table, on_range, IsArithmetic, IsReadSet, IsSet, number_ranges, extension_range, negated_range, ordered_range}
 use Rattle.value_ranges.specs.Tables as table
 use Rattle.value_ranges.specs.Span.{Span}
 use Rattle.machine_model.specs.Value.{Value}
 use Rattle.machine_model.specs.Value as value
+use Rattle.value_ranges.specs.declared.fault.PointerFault.{PointerFault}
 use Rattle.value_ranges.specs.declared.abs.Abs.{Abs}
 use Rattle.value_ranges.specs.declared.abs.Abs.TheVariants.{Unset, Num, Stack, Part}
 use Rattle.insn_codec.specs.declared.insn.Width.{Width}
@@ -30,11 +31,11 @@ use Rattle.value_ranges.proofs.PointerLemmas.{HasPosition, after, onto}
 abbrev HasValue : Option Value → Abs → Type 0
 HasValue o r = (z : Value) × (o ≡ Some z) × Covers r z
 
-on_stack : (r : Result Span ℕ) (o : Option ℤ) → IfOk r (HasPosition o) → IfOk (table.in_stack r) (HasValue (outcome.in_stack o))
+on_stack : (r : Result Span PointerFault) (o : Option ℤ) → IfOk r (HasPosition o) → IfOk (table.in_stack r) (HasValue (outcome.in_stack o))
 on_stack (Ok q) o h = rw h.1 (value.Stack h.0, refl, h.2)
 on_stack (Err e) o h = tt
 
-on_part : (r : Result Span ℕ) (o : Option ℤ) → IfOk r (HasPosition o) → IfOk (table.in_part r) (HasValue (outcome.in_part o))
+on_part : (r : Result Span PointerFault) (o : Option ℤ) → IfOk r (HasPosition o) → IfOk (table.in_part r) (HasValue (outcome.in_part o))
 on_part (Ok q) o h = rw h.1 (value.Part h.0, refl, h.2)
 on_part (Err e) o h = tt
 
@@ -96,7 +97,7 @@ unary f g sound fits (Num r) x s h = let i = is_number r x h in rw i.1 (value.Nu
 unary f g sound fits (Stack p) x s h = tt
 unary f g sound fits (Part p) x s h = tt
 
-each : (i : Insn) (a b : Abs) (x y : Value) → IsArithmetic i → IsReadSet i a b → Covers a x → Covers b y → IfOk (table_of i a b) (HasValue (outcome_of i x y))
+each : (i : Insn) (a b : Abs) (x y : Value) → IsArithmetic i → IsReadSet i a b → Covers a x → Covers b y → IfOk (value_table i a b) (HasValue (outcome_of i x y))
 each (Alu w op d s) a b x y _ t h k = binary w op a b x y t.0 t.1 h k
 each (Mov w d s) a b x y _ t h k = copied w b y t k
 each (MovSx e d s) a b x y _ t h k = unary (extension_range e) (extended_by e) (Within-extension e) (λ z. below_64 _ _ (bits_of-le (width_to e)) (extended_by-lt e z)) b y t k
@@ -104,14 +105,14 @@ each (Neg w d) a b x y _ t h k = unary (negated_range w) (negated w) (Within-neg
 each (End c s d) a b x y _ t h k = unary (ordered_range c s) (ordered_by c s) (Within-ordered c s) (λ z. below_64 _ _ (end_bits-le s) (ordered_by-lt c s z)) a x t h
 each _ a b x y n t h k = absurd n
 
-all : (i : Insn) (a b : Abs) (r : Result Abs ℕ) → ((x y : Value) → Covers a x → Covers b y → IfOk r (HasValue (outcome_of i x y))) → IfOk r (CoversOutcomes i a b)
+all : (i : Insn) (a b : Abs) (r : Result Abs PointerFault) → ((x y : Value) → Covers a x → Covers b y → IfOk r (HasValue (outcome_of i x y))) → IfOk r (CoversOutcomes i a b)
 all i a b (Ok q) h = h
 all i a b (Err e) h = tt
 
-pub table_covers : (i : Insn) (a b : Abs) (r : Result Abs ℕ) → r ≡ table_of i a b → IsArithmetic i → IsReadSet i a b → IfOk r (CoversOutcomes i a b)
+pub table_covers : (i : Insn) (a b : Abs) (r : Result Abs PointerFault) → r ≡ value_table i a b → IsArithmetic i → IsReadSet i a b → IfOk r (CoversOutcomes i a b)
 table_covers i a b r e n t =
-    rw e (all i a b (table_of i a b) (λ x y h k. each i a b x y n t h k))
+    rw e (all i a b (value_table i a b) (λ x y h k. each i a b x y n t h k))
 
 -- what the table gives covers each outcome
-pub table_outcomes : (i : Insn) (a b r : Abs) → table_of i a b ≡ Ok r → IsArithmetic i → IsReadSet i a b → CoversOutcomes i a b r
+pub table_outcomes : (i : Insn) (a b r : Abs) → value_table i a b ≡ Ok r → IsArithmetic i → IsReadSet i a b → CoversOutcomes i a b r
 table_outcomes i a b r e n t = table_covers i a b (Ok r) (sym e) n t

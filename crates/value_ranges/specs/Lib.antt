@@ -5,6 +5,7 @@ pub mod Ranges
 pub mod SignedRows
 pub mod Covers
 pub mod Words
+pub mod PointerFaultCodes
 pub mod Tables
 pub mod Joins
 pub mod Refinements

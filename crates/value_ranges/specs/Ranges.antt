@@ -53,25 +53,25 @@ shifted_right_range n a b =
     if is_single b then interval (a.lo / 2 ^ (b.lo % n)) (a.hi / 2 ^ (b.lo % n)) else interval 0 a.hi
 
 -- where an operand is no single value
-abbrev pub row_of : AluOp → ℕ → Interval → Interval → Interval
-row_of Add n a b = sum_range n a b
-row_of Sub n a b = difference_range n a b
-row_of Mul n a b = product_range n a b
-row_of Div n a b = quotient_range a b
-row_of Mod n a b = remainder_range a b
-row_of And n a b = interval 0 (min a.hi b.hi)
-row_of Or n a b = interval (max a.lo b.lo) (ones (max a.hi b.hi))
-row_of Xor n a b = interval 0 (ones (max a.hi b.hi))
-row_of Lsh n a b = shifted_left_range n a b
-row_of Rsh n a b = shifted_right_range n a b
-row_of Arsh n a b = if nat_lt a.hi (2 ^ (n - 1)) then shifted_right_range n a b else full n
-row_of Sdiv n a b = full n
-row_of Smod n a b = full n
+abbrev pub row_range : AluOp → ℕ → Interval → Interval → Interval
+row_range Add n a b = sum_range n a b
+row_range Sub n a b = difference_range n a b
+row_range Mul n a b = product_range n a b
+row_range Div n a b = quotient_range a b
+row_range Mod n a b = remainder_range a b
+row_range And n a b = interval 0 (min a.hi b.hi)
+row_range Or n a b = interval (max a.lo b.lo) (ones (max a.hi b.hi))
+row_range Xor n a b = interval 0 (ones (max a.hi b.hi))
+row_range Lsh n a b = shifted_left_range n a b
+row_range Rsh n a b = shifted_right_range n a b
+row_range Arsh n a b = if nat_lt a.hi (2 ^ (n - 1)) then shifted_right_range n a b else full n
+row_range Sdiv n a b = full n
+row_range Smod n a b = full n
 
 -- for operands below 2 ^ n
 abbrev pub range_of : AluOp → ℕ → Interval → Interval → Interval
 range_of op n a b =
-    if is_single a && is_single b then single (result_of op n a.lo b.lo) else row_of op n a b
+    if is_single a && is_single b then single (result_of op n a.lo b.lo) else row_range op n a b
 
 abbrev pub extended_range : ℕ → ℕ → Interval → Interval
 extended_range w n b =

@@ -147,11 +147,11 @@ IsConditional (JumpIf w t d s o) = Unit {0}
 IsConditional _ = ⊥
 
 -- whether the jump goes the way of the edge, on two numbers
-abbrev pub Goes : Insn → Bool → Value → Value → Type 0
-Goes (JumpIf w t d s o) taken (value.Num x) (value.Num y) = holds t (bits_of w) (x % 2 ^ bits_of w) (y % 2 ^ bits_of w) ≡ taken
-Goes i taken x y = Unit {0}
+abbrev pub GoesAlong : Insn → Bool → Value → Value → Type 0
+GoesAlong (JumpIf w t d s o) taken (value.Num x) (value.Num y) = holds t (bits_of w) (x % 2 ^ bits_of w) (y % 2 ^ bits_of w) ≡ taken
+GoesAlong i taken x y = Unit {0}
 
 -- the pair still covers what the operands can be on the edge
 abbrev pub CoversEdge : Insn → Bool → Abs → Abs → Abs × Abs → Type 0
 CoversEdge i taken a b r =
-    (x y : Value) → Covers a x → Covers b y → Goes i taken x y → Covers r.0 x × Covers r.1 y
+    (x y : Value) → Covers a x → Covers b y → GoesAlong i taken x y → Covers r.0 x × Covers r.1 y

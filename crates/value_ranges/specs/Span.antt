@@ -1,3 +1,4 @@
+-- Ranges of whole numbers.
 use Rattle.std.specs.Prelude.{ℤ, ◌≤ℤ◌}
 
 -- the whole numbers from lo to hi

@@ -17,36 +17,39 @@ use Rattle.insn_codec.specs.declared.insn.ByteOrder.TheVariants.{Little}
 use Rattle.insn_codec.specs.declared.insn.EndSize.{EndSize}
 use Rattle.insn_codec.specs.declared.insn.Insn.{Insn}
 use Rattle.insn_codec.specs.declared.insn.Insn.TheVariants.{Alu, Mov, MovSx, Neg, End}
+use Rattle.value_ranges.specs.PointerFaultCodes.{number_of}
+use Rattle.value_ranges.specs.declared.fault.PointerFault.{PointerFault}
+use Rattle.value_ranges.specs.declared.fault.PointerFault.TheVariants.{NoResult, TooFar}
 use Rattle.value_ranges.specs.declared.abs.Abs.{Abs}
 use Rattle.value_ranges.specs.declared.abs.Abs.TheVariants.{Unset, Num, Stack, Part}
 
--- positions within the limit, or refusal 35
-abbrev pub positions : ℤ → ℤ → Result Span ℕ
+-- positions within the limit
+abbrev pub positions : ℤ → ℤ → Result Span PointerFault
 positions lo hi =
     if int_lt lo (neg_ℤ (pos 1048576)) || int_lt (pos 1048576) hi
-    then Err 35 else Ok (span lo hi)
+    then Err TooFar else Ok (span lo hi)
 
 -- a pointer moved by the signed readings of numbers
-abbrev pub moved_up : Span → Span → Result Span ℕ
+abbrev pub moved_up : Span → Span → Result Span PointerFault
 moved_up p s = positions (p.lo +ℤ s.lo) (p.hi +ℤ s.hi)
 
-abbrev pub moved_down : Span → Span → Result Span ℕ
+abbrev pub moved_down : Span → Span → Result Span PointerFault
 moved_down p s = positions (p.lo -ℤ s.hi) (p.hi -ℤ s.lo)
 
-abbrev pub positions_after : Width → AluOp → Span → Ranges → Result Span ℕ
+abbrev pub positions_after : Width → AluOp → Span → Ranges → Result Span PointerFault
 positions_after W64 Add p n = moved_up p n.signed
 positions_after W64 Sub p n = moved_down p n.signed
-positions_after w op p n = Err 34
+positions_after w op p n = Err NoResult
 
-abbrev pub positions_onto : Width → AluOp → Ranges → Span → Result Span ℕ
+abbrev pub positions_onto : Width → AluOp → Ranges → Span → Result Span PointerFault
 positions_onto W64 Add n p = moved_up p n.signed
-positions_onto w op n p = Err 34
+positions_onto w op n p = Err NoResult
 
-abbrev pub in_stack : Result Span ℕ → Result Abs ℕ
+abbrev pub in_stack : Result Span PointerFault → Result Abs PointerFault
 in_stack (Ok p) = Ok (Stack p)
 in_stack (Err e) = Err e
 
-abbrev pub in_part : Result Span ℕ → Result Abs ℕ
+abbrev pub in_part : Result Span PointerFault → Result Abs PointerFault
 in_part (Ok p) = Ok (Part p)
 in_part (Err e) = Err e
 
@@ -59,22 +62,22 @@ number_ranges w op a b =
     beside (number_range w op a.unsigned b.unsigned)
     (if is_single a.unsigned && is_single b.unsigned then None else signed_row w op a b)
 
-abbrev pub alu_table : Width → AluOp → Abs → Abs → Result Abs ℕ
+abbrev pub alu_table : Width → AluOp → Abs → Abs → Result Abs PointerFault
 alu_table w op (Num a) (Num b) = Ok (Num (number_ranges w op a b))
 alu_table w op (Stack p) (Num b) = in_stack (positions_after w op p b)
 alu_table w op (Part p) (Num b) = in_part (positions_after w op p b)
 alu_table w op (Num a) (Stack p) = in_stack (positions_onto w op a p)
 alu_table w op (Num a) (Part p) = in_part (positions_onto w op a p)
-alu_table w op _ _ = Err 34
+alu_table w op _ _ = Err NoResult
 
-abbrev pub move_table : Width → Abs → Result Abs ℕ
+abbrev pub move_table : Width → Abs → Result Abs PointerFault
 move_table W64 b = Ok b
 move_table W32 (Num b) = Ok (Num (spanned (cut 32 b.unsigned)))
-move_table W32 _ = Err 34
+move_table W32 _ = Err NoResult
 
-abbrev pub on_range : (Interval → Interval) → Abs → Result Abs ℕ
+abbrev pub on_range : (Interval → Interval) → Abs → Result Abs PointerFault
 on_range f (Num n) = Ok (Num (spanned (f n.unsigned)))
-on_range f _ = Err 34
+on_range f _ = Err NoResult
 
 abbrev pub extension_range : SignExtension → Interval → Interval
 extension_range e r =
@@ -87,14 +90,22 @@ abbrev pub ordered_range : ByteOrder → EndSize → Interval → Interval
 ordered_range Little s r = low_range (end_bits s) r
 ordered_range c s r = if is_single r then single (ordered_by c s r.lo) else full (end_bits s)
 
--- the table of arithmetic instructions, or the refusal's number
+-- what an arithmetic instruction leaves, or why it leaves nothing
+abbrev pub value_table : Insn → Abs → Abs → Result Abs PointerFault
+value_table (Alu w op d s) a b = alu_table w op a b
+value_table (Mov w d s) a b = move_table w b
+value_table (MovSx e d s) a b = on_range (extension_range e) b
+value_table (Neg w d) a b = on_range (negated_range w) a
+value_table (End c s d) a b = on_range (ordered_range c s) a
+value_table i a b = Err NoResult
+
+abbrev pub with_number : Result Abs PointerFault → Result Abs ℕ
+with_number (Ok a) = Ok a
+with_number (Err fault) = Err (number_of fault)
+
+-- the same, with the refusal's number
 abbrev pub table_of : Insn → Abs → Abs → Result Abs ℕ
-table_of (Alu w op d s) a b = alu_table w op a b
-table_of (Mov w d s) a b = move_table w b
-table_of (MovSx e d s) a b = on_range (extension_range e) b
-table_of (Neg w d) a b = on_range (negated_range w) a
-table_of (End c s d) a b = on_range (ordered_range c s) a
-table_of i a b = Err 34
+table_of i a b = with_number (value_table i a b)
 
 abbrev pub IsArithmetic : Insn → Type 0
 IsArithmetic (Alu w op d s) = Unit {0}

@@ -5,8 +5,8 @@ ghost use Rattle.std.specs.Prelude.{◌≡◌, ◌≤ℤ◌};
 use crate::numbers::Numbers;
 use std::marker::Model;
 
-/// The positions from `lo` to `hi`, of which there is at least one. Positions have 32 bits; they are kept in 64, as a `Range`'s
-/// ends are, so that an `Abs` of any kind is copied by whole words.
+/// The positions from `lo` to `hi`, of which there is at least one. Positions have 32 bits; they
+/// are kept in 64, as a `Range`'s ends are, so that an `Abs` of any kind is copied by whole words.
 #[derive(Clone, Copy, Debug, PartialEq, Eq)]
 pub struct Reach {
     lo: i64,
@@ -55,8 +55,8 @@ impl Reach {
     }
 }
 
-/// What is known of a register: nothing, or that it holds a number of two ranges, or a pointer into the stack or into the
-/// part at a position of a reach.
+/// What is known of a register: nothing, or that it holds a number of two ranges, or a pointer into
+/// the stack or into the part at a position of a reach.
 #[derive(Clone, Copy, Debug, PartialEq, Eq)]
 pub enum Abs {
     Unset,

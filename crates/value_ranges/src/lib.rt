@@ -1,10 +1,12 @@
-//! What is known of a register before a program runs: ranges of numbers, as they are and read as signed numbers, and of
-//! positions in the stack and in the part. Each table is exact, and covers what the machine can give. The hints on inlining keep what a verifier asks at each
-//! instruction out of memory.
+//! What is known of a register before a program runs: ranges of numbers, as they are and read as
+//! signed numbers, and of positions in the stack and in the part. Each table is exact, and covers
+//! what the machine can give. The hints on inlining keep what a verifier asks at each instruction
+//! out of memory.
 #![tactic(auto)]
 
 mod abs;
 mod arithmetic;
+mod fault;
 mod joins;
 mod numbers;
 mod pointers;
@@ -16,8 +18,9 @@ mod unary_rows;
 mod words;
 
 pub use abs::{Abs, Reach};
-pub use arithmetic::alu;
-pub use joins::join;
+pub use arithmetic::{alu, compute};
+pub use fault::PointerFault;
+pub use joins::{join, join_into};
 pub use numbers::Numbers;
 pub use range::{Range, SignedRange};
 pub use refinements::refine;

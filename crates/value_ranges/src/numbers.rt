@@ -1,6 +1,6 @@
 //! Numbers of which two ranges are known, as they are and read as signed numbers.
 
-ghost use Rattle.std.specs.Prelude.{◌≡◌};
+ghost use Rattle.std.specs.Prelude.{◌≡◌, IsTrue};
 ghost use Rattle.value_ranges.specs.Joins.{ranges_hull};
 ghost use Rattle.value_ranges.specs.Numbers.{cut_signed, cut_unsigned, meet, nonempty, or_else, ranges, some_span, some_tidied, span_of, spanned};
 ghost use Rattle.value_ranges.specs.SignedRows.{beside};
@@ -127,12 +127,24 @@ fn cut_unsigned(n: Numbers) -> Option<Numbers>
     }
 }
 
+/// Whether the signed range is all that the other one tells: then neither cuts the other.
+#[inline(always)]
+pub(crate) fn is_spanned(n: Numbers) -> bool
+    ensures { IsTrue result → n ≡ spanned n.unsigned }
+{
+    let span = span_of(n.unsigned);
+    n.signed.lo() == span.lo() && n.signed.hi() == span.hi()
+}
+
 /// Each range cut to what the other one tells, unless that leaves nothing.
 #[inline(always)]
-#[tactic(auto, using(crate::proofs::SignedLemmas::tidied_is, crate::proofs::SignedLemmas::none_first, crate::proofs::SignedLemmas::none_second))]
+#[tactic(auto, using(crate::proofs::SignedLemmas::tidied_is, crate::proofs::SignedLemmas::none_first, crate::proofs::SignedLemmas::none_second, crate::proofs::SignedLemmas::spanned_is))]
 pub(crate) fn tidied(n: Numbers) -> Option<Numbers>
     ensures { result ≡ some_tidied n }
 {
+    if is_spanned(n) {
+        return Some(n);
+    }
     match cut_signed(n) {
         Some(first) => match cut_unsigned(first) {
             Some(second) => cut_signed(second),

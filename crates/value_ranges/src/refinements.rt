@@ -79,7 +79,8 @@ fn without(a: Range, b: Range) -> (u128, u64)
     }
 }
 
-/// The numbers of two ranges that stand so, unless there are none. A lower end may be one above the greatest `u64`.
+/// The numbers of two ranges that stand so, unless there are none. A lower end may be one above the
+/// greatest `u64`.
 #[inline(always)]
 fn narrowed(relation: Relation, a: Range, b: Range) -> Option<(Range, Range)>
     ensures { result ≡ unless_empty (narrowed relation a b) }

@@ -1,10 +1,10 @@
-//! The rows of the operators: which numbers they can give on numbers of two ranges. Sums and products are taken in
-//! 128 bits, so that a row reads as it is defined.
+//! The rows of the operators: which numbers they can give on numbers of two ranges. Sums and
+//! products are taken in 128 bits, so that a row reads as it is defined.
 
 ghost use Rattle.std.specs.Prelude.{◌≡◌, ◌<◌, ◌^◌};
 ghost use Rattle.machine_model.specs.Operators.{bits_of};
 ghost use Rattle.value_ranges.specs.Tables.{number_range};
-ghost use Rattle.value_ranges.specs.Ranges.{row_of, cut, ones, IsLeastMask, sum_range, difference_range, product_range, quotient_range, remainder_range, shifted_left_range, shifted_right_range};
+ghost use Rattle.value_ranges.specs.Ranges.{row_range, cut, ones, IsLeastMask, sum_range, difference_range, product_range, quotient_range, remainder_range, shifted_left_range, shifted_right_range};
 
 use crate::range::Range;
 use insn_codec::{AluOp, Width};
@@ -152,7 +152,7 @@ fn shifted_right(width: Width, a: Range, b: Range) -> Range
 fn row(op: AluOp, width: Width, a: Range, b: Range) -> Range
     requires a_fits { a.hi < 2 ^ bits_of width }
     requires b_fits { b.hi < 2 ^ bits_of width }
-    ensures { result ≡ row_of op (bits_of width) a b }
+    ensures { result ≡ row_range op (bits_of width) a b }
 {
     match op {
         AluOp::Add => sum(width, a, b),

@@ -1,4 +1,5 @@
-//! The rows of the operators on signed ranges. Sums are taken in 128 bits, so that a row reads as it is defined.
+//! The rows of the operators on signed ranges. Sums are taken in 128 bits, so that a row reads as
+//! it is defined.
 
 ghost use Rattle.std.specs.Prelude.{◌≡◌, ◌+ℤ◌, ◌-ℤ◌, ◌≤ℤ◌, ◌<◌};
 ghost use Rattle.value_ranges.specs.SignedRows.{fitting, signed_difference, signed_row, signed_shift, signed_sum};

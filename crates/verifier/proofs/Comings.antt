@@ -9,6 +9,7 @@ use Rattle.flow_graph.specs.Cycles.{IsJoint}
 use Rattle.flow_graph.specs.Flow.{AreNext, IsOrder}
 use Rattle.flow_graph.specs.declared.graph.Next.{Next}
 use Rattle.flow_graph.specs.declared.graph.Next.TheVariants.{Zero, One, Two}
+use Rattle.verifier.specs.declared.rule.Rule.{Rule}
 use Rattle.verifier.specs.declared.state.State.{State}
 use Rattle.verifier.specs.States.{passed, fault}
 use Rattle.verifier.specs.Arrive.{Subject, Arrival, Undefined, Comes, met, landed, sent, joined_over, IsArrive, arrive}
@@ -191,7 +192,7 @@ come_delivered p order n from to old new states later next i state keep solves m
         (pulled_allowed p to from i state (slice_index_or states to None) (slice_index_or later to None) insn arrived.arrives
         (subst (λ (j : Insn). fault_of j ≡ None) (one_some (insn_at p.code from) arrived.insn i arrived.there insn) arrived.allowed) before.1 met_is)
       where
-        fault_of : Insn → Option ℕ
+        fault_of : Insn → Option Rule
         fault_of j = fault p.need p.helpers j state
 
     on : (k : ℕ) → IsPast (slice_index_or old.first to None) k → IsPast (slice_index_or new.first to None) k

@@ -12,6 +12,7 @@ use Rattle.machine_model.proofs.Codes.{begins_within}
 use Rattle.flow_graph.specs.Cycles.{IsJoint}
 use Rattle.flow_graph.specs.Flow.{IsJoined, IsOrder, IsFlow}
 use Rattle.flow_graph.proofs.OrderLemmas.{joint_begins}
+use Rattle.verifier.specs.declared.rule.Rule.{Rule}
 use Rattle.verifier.specs.declared.state.State.{State}
 use Rattle.verifier.specs.declared.states.Fault.{Fault}
 use Rattle.verifier.specs.States.{fault, passed, entry_state}
@@ -25,7 +26,6 @@ use Rattle.verifier.proofs.Arrivals.{joined_over_stops, joint_past, no_edge_back
 use Rattle.verifier.proofs.Pulling.{landed_at, pulled_on, pulled_undefined, arrives_joined}
 use Rattle.verifier.proofs.Soundness.{Below, over_below}
 use Rattle.verifier.proofs.Linking.{linked_all}
-use Rattle.verifier.proofs.FaultLemmas.{refused_number}
 use Rattle.verifier.proofs.Comings.{passed_not_blocked, not_among, joint_among, among_before, pulled_from, come_blocked}
 
 -- ---- something arrives
@@ -38,9 +38,9 @@ below_nothing (Comes state) h = absurd h
 comes_not : (state : State) → Comes state ≡ Nothing → ⊥
 comes_not state e = cc
 
-unless_something : (o : Option ℕ) (state : State) → unless o state ≡ Nothing → ⊥
+unless_something : (o : Option Rule) (state : State) → unless o state ≡ Nothing → ⊥
 unless_something None state e = cc
-unless_something (Some number) state e = cc
+unless_something (Some rule) state e = cc
 
 sent_something : (p : Subject) (i : Insn) (fact : Fact) (a : Arrival) → (a ≡ Nothing → ⊥) → sent p (Some i) fact a ≡ Nothing → ⊥
 sent_something p i fact Nothing some e = some refl
@@ -161,11 +161,11 @@ sent_undefined p (Some i) fact = refl
 pub blocked_by : (p : Subject) (s : ℕ) → arrive p s ≡ Undefined → IsBlocked p s
 blocked_by p s e fact = ap (λ (a : Arrival). sent p (insn_at p.code s) fact a) e ∙ sent_undefined p (insn_at p.code s) fact
 
-pub blocked_at_fault : (p : Subject) (s number : ℕ) → IsFaulty p s number → IsBlocked p s
-blocked_at_fault p s number h fact =
+pub blocked_at_fault : (p : Subject) (s : ℕ) (rule : Rule) → IsFaulty p s rule → IsBlocked p s
+blocked_at_fault p s rule h fact =
     ap (λ (o : Option Insn). sent p o fact (arrive p s)) h.there
     ∙ (ap (λ (a : Arrival). sent p (Some h.insn) fact a) h.arrives
-    ∙ ap (λ (o : Option ℕ). unless o (passed h.insn fact h.state)) h.applies)
+    ∙ ap (λ (o : Option Rule). unless o (passed h.insn fact h.state)) h.applies)
 
 -- what arrives isn't two things
 pub never : (a : Arrival) (state : State) → a ≡ Undefined → a ≡ Comes state → ⊥
@@ -219,12 +219,12 @@ first_same p order n (Some f) told found = (
   ],
 )
 
-earlier_faulty : (p : Subject) (first : Option Fault) (f : Fault) → IsFaulty p f.slot f.number →
-    ((g : Fault) → first ≡ Some g → IsFaulty p g.slot g.number) → IsFaulty p (earlier first f).slot (earlier first f).number
+earlier_faulty : (p : Subject) (first : Option Fault) (f : Fault) → IsFaulty p f.slot f.rule →
+    ((g : Fault) → first ≡ Some g → IsFaulty p g.slot g.rule) → IsFaulty p (earlier first f).slot (earlier first f).rule
 earlier_faulty p None f h before = h
 earlier_faulty p (Some g) f h before = by_test (nat_lt g.slot f.slot)
   where
-    by_test : (b : Bool) → IsFaulty p (if b then g else f).slot (if b then g else f).number
+    by_test : (b : Bool) → IsFaulty p (if b then g else f).slot (if b then g else f).rule
     by_test true = before g refl
     by_test false = h
 
@@ -245,7 +245,7 @@ first_fault p order n None f told (at, h) = (
       let before = told s (among_before order n s m ne) in allowed_passed p s before.0 before.1,
 )
 first_fault p order n (Some g) f told (at, h) = (
-  earlier_faulty p (Some g) f h (λ k e. subst (λ (j : Fault). IsFaulty p j.slot j.number) (same_fault g k e) told.0),
+  earlier_faulty p (Some g) f h (λ k e. subst (λ (j : Fault). IsFaulty p j.slot j.rule) (same_fault g k e) told.0),
   λ s m below.
       let low = earlier_low (Some g) f in
       let under = earlier_below g f in
@@ -319,7 +319,7 @@ all_passed p order n j f solves all told = record {
 
 -- the first fault is at the lowest slot
 pub come_refused : (p : Subject) (order : List ℕ) (first : Fault) (n : ℕ) →
-    IsOrder p.code order → n ≡ length order → IsFirst p order n (Some first) → IsFirstFaulty p first.slot first.number
+    IsOrder p.code order → n ≡ length order → IsFirst p order n (Some first) → IsFirstFaulty p first.slot first.rule
 come_refused p order first n f all told = record {
   faulty = told.0;
   least = λ s below. elim (begun_or_not p.code s) [
@@ -327,6 +327,3 @@ come_refused p order first n f all told = record {
     | inr none ↦ second_allowed p s none
   ];
 }
-
-pub faulty_number : (p : Subject) (slot number : ℕ) → IsFaulty p slot number → (31 ≤ number) × (number ≤ 37)
-faulty_number p slot number h = refused_number p.need p.helpers h.insn h.state number h.applies

@@ -2,8 +2,6 @@ pub mod StateLemmas
 pub mod ArgumentLemmas
 pub mod Options
 pub mod Arrivals
-pub mod FaultLemmas
-pub mod TableErrors
 pub mod Counting
 pub mod Linking
 pub mod Pulling

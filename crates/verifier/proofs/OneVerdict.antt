@@ -23,6 +23,9 @@ use Rattle.helpers.specs.Table.{Table}
 use Rattle.verifier.specs.declared.state.State.{State}
 use Rattle.verifier.specs.declared.refusals.Refusal.{Refusal}
 use Rattle.verifier.specs.declared.refusals.Refusal.TheVariants.{NeedTooLarge, Codec, Flow, UnsetRead, OutOfStack, OutOfPart, BadKind, PointerRange, FramePointer, NoHelper, NoMemory}
+use Rattle.verifier.specs.declared.rule.Rule.{Rule}
+use Rattle.verifier.specs.declared.rule.Rule.TheVariants as rule
+use Rattle.verifier.specs.Rules.{refusal_at}
 use Rattle.verifier.specs.States.{fault}
 use Rattle.verifier.specs.Arrive.{Subject, Arrival, Comes, arrive}
 use Rattle.verifier.specs.Verdict.{IsFirstFaulty, IsFaulty, IsTable, IsAllowedAt}
@@ -95,43 +98,33 @@ not_flow code flow.NoMemory h r = r
 one_arrival : (a : Arrival) (s t : State) → a ≡ Comes s → a ≡ Comes t → s ≡ t
 one_arrival a s t x y = cc
 
-one_number : (o : Option ℕ) (m n : ℕ) → o ≡ Some m → o ≡ Some n → m ≡ n
-one_number o m n x y = cc
+one_rule : (o : Option Rule) (m n : Rule) → o ≡ Some m → o ≡ Some n → m ≡ n
+one_rule o m n x y = cc
 
-some_none : (o : Option ℕ) (n : ℕ) → o ≡ Some n → o ≡ None → ⊥
+some_none : (o : Option Rule) (n : Rule) → o ≡ Some n → o ≡ None → ⊥
 some_none o n x y = cc
 
-not_allowed : (p : Subject) (slot number : ℕ) → IsFaulty p slot number → IsAllowedAt p slot → ⊥
-not_allowed p slot number f allowed = some_none (fault p.need p.helpers f.insn f.state) number f.applies (allowed f.insn f.state f.there f.arrives)
+not_allowed : (p : Subject) (slot : ℕ) (rule : Rule) → IsFaulty p slot rule → IsAllowedAt p slot → ⊥
+not_allowed p slot rule f allowed = some_none (fault p.need p.helpers f.insn f.state) rule f.applies (allowed f.insn f.state f.there f.arrives)
 
-same_number : (p : Subject) (slot m n : ℕ) → IsFaulty p slot m → IsFaulty p slot n → m ≡ n
-same_number p slot m n x y =
+same_rule : (p : Subject) (slot : ℕ) (m n : Rule) → IsFaulty p slot m → IsFaulty p slot n → m ≡ n
+same_rule p slot m n x y =
     let insn : x.insn ≡ y.insn = one_some (insn_at p.code slot) x.insn y.insn x.there y.there in
     let state : x.state ≡ y.state = one_arrival (arrive p slot) x.state y.state x.arrives y.arrives in
-    one_number (fault p.need p.helpers y.insn y.state) m n
+    one_rule (fault p.need p.helpers y.insn y.state) m n
     (subst (λ (s : State). fault p.need p.helpers y.insn s ≡ Some m) state (subst (λ (i : Insn). fault p.need p.helpers i x.state ≡ Some m) insn x.applies)) y.applies
 
-one_first : (p : Subject) (s m t n : ℕ) → IsFirstFaulty p s m → IsFirstFaulty p t n → (s ≡ t) × (m ≡ n)
+one_first : (p : Subject) (s : ℕ) (m : Rule) (t : ℕ) (n : Rule) → IsFirstFaulty p s m → IsFirstFaulty p t n → (s ≡ t) × (m ≡ n)
 one_first p s m t n x y = elim (cases_lt s t) [
   | inl lt ↦ absurd (not_allowed p s m x.faulty (y.least s lt))
   | inr ge ↦ elim (cases_lt t s) [
     | inl gt ↦ absurd (not_allowed p t n y.faulty (x.least t gt))
     | inr le ↦ let same : s ≡ t = omega (arith, ge, le) in
-        (same, same_number p t m n (subst (λ (k : ℕ). IsFaulty p k m) same x.faulty) y.faulty)
+        (same, same_rule p t m n (subst (λ (k : ℕ). IsFaulty p k m) same x.faulty) y.faulty)
   ]
 ]
 
 -- ---- the four kinds of refusals
-
--- the refusal of this number at the slot
-refused : ℕ → ℕ → Refusal
-refused slot number =
-    if number == 31 then UnsetRead slot else
-    if number == 32 then OutOfStack slot else
-    if number == 33 then OutOfPart slot else
-    if number == 34 then BadKind slot else
-    if number == 35 then PointerRange slot else
-    if number == 36 then FramePointer slot else NoHelper slot
 
 record OfCodec (need : ℕ) (bytes : List ℕ) (f : Refusal) : Type 0 where
   small : need ≤ 65536
@@ -153,16 +146,15 @@ record OfStates (need : ℕ) (bytes : List ℕ) (helpers : Table) (f : Refusal) 
   decoded : IsProgram placed bytes
   flow : HasFlow (code_of placed)
   slot : ℕ
-  number : ℕ
-  first : IsFirstFaulty (record { need = need; helpers = helpers; code = code_of placed }) slot number
-  is : f ≡ refused slot number
+  rule : Rule
+  first : IsFirstFaulty (record { need = need; helpers = helpers; code = code_of placed }) slot rule
+  is : f ≡ refusal_at slot rule
 
 abbrev IsOfKind : ℕ → List ℕ → Table → Refusal → Type 0
 IsOfKind need bytes helpers f =
     ((65536 < need) × (f ≡ NeedTooLarge)) ⊎ (OfCodec need bytes f ⊎ (OfFlow need bytes f ⊎ OfStates need bytes helpers f))
 
 kind_of : (need : ℕ) (bytes : List ℕ) (helpers : Table) (f : Refusal) → Refuses need bytes helpers f → f ≢ NoMemory → IsOfKind need bytes helpers f
-unfolding refused
 kind_of need bytes helpers NeedTooLarge r ne = inl (r, refl)
 kind_of need bytes helpers (Codec fault) r ne = inr (inl (record { small = r.0; fault = fault; refuses = r.1; is = refl }))
 kind_of need bytes helpers (Flow fault) r ne =
@@ -173,7 +165,7 @@ kind_of need bytes helpers (UnsetRead slot) r ne = inr (inr (inr (record {
   decoded = r.decoded;
   flow = r.refused.flow;
   slot = slot;
-  number = 31;
+  rule = rule.UnsetRead;
   first = r.refused.first;
   is = refl;
 })))
@@ -183,7 +175,7 @@ kind_of need bytes helpers (OutOfStack slot) r ne = inr (inr (inr (record {
   decoded = r.decoded;
   flow = r.refused.flow;
   slot = slot;
-  number = 32;
+  rule = rule.OutOfStack;
   first = r.refused.first;
   is = refl;
 })))
@@ -193,7 +185,7 @@ kind_of need bytes helpers (OutOfPart slot) r ne = inr (inr (inr (record {
   decoded = r.decoded;
   flow = r.refused.flow;
   slot = slot;
-  number = 33;
+  rule = rule.OutOfPart;
   first = r.refused.first;
   is = refl;
 })))
@@ -203,7 +195,7 @@ kind_of need bytes helpers (BadKind slot) r ne = inr (inr (inr (record {
   decoded = r.decoded;
   flow = r.refused.flow;
   slot = slot;
-  number = 34;
+  rule = rule.BadKind;
   first = r.refused.first;
   is = refl;
 })))
@@ -213,7 +205,7 @@ kind_of need bytes helpers (PointerRange slot) r ne = inr (inr (inr (record {
   decoded = r.decoded;
   flow = r.refused.flow;
   slot = slot;
-  number = 35;
+  rule = rule.PointerRange;
   first = r.refused.first;
   is = refl;
 })))
@@ -223,7 +215,7 @@ kind_of need bytes helpers (FramePointer slot) r ne = inr (inr (inr (record {
   decoded = r.decoded;
   flow = r.refused.flow;
   slot = slot;
-  number = 36;
+  rule = rule.FramePointer;
   first = r.refused.first;
   is = refl;
 })))
@@ -233,7 +225,7 @@ kind_of need bytes helpers (NoHelper slot) r ne = inr (inr (inr (record {
   decoded = r.decoded;
   flow = r.refused.flow;
   slot = slot;
-  number = 37;
+  rule = rule.NoHelper;
   first = r.refused.first;
   is = refl;
 })))
@@ -258,9 +250,9 @@ flow_pair need bytes f g x y =
 states_pair : (need : ℕ) (bytes : List ℕ) (helpers : Table) (f g : Refusal) → OfStates need bytes helpers f → OfStates need bytes helpers g → f ≡ g
 states_pair need bytes helpers f g x y =
     let same : x.placed ≡ y.placed = one_program x.placed y.placed bytes x.decoded y.decoded in
-    let first = subst (λ (p : List Placed). IsFirstFaulty (record { need = need; helpers = helpers; code = code_of p }) x.slot x.number) same x.first in
-    let both = one_first (record { need = need; helpers = helpers; code = code_of y.placed }) x.slot x.number y.slot y.number first y.first in
-    x.is ∙ (ap (λ (s : ℕ). refused s x.number) both.0 ∙ (ap (λ (n : ℕ). refused y.slot n) both.1 ∙ sym y.is))
+    let first = subst (λ (p : List Placed). IsFirstFaulty (record { need = need; helpers = helpers; code = code_of p }) x.slot x.rule) same x.first in
+    let both = one_first (record { need = need; helpers = helpers; code = code_of y.placed }) x.slot x.rule y.slot y.rule first y.first in
+    x.is ∙ (ap (λ (s : ℕ). refusal_at s x.rule) both.0 ∙ (ap (λ (n : Rule). refusal_at y.slot n) both.1 ∙ sym y.is))
 
 flow_states : (need : ℕ) (bytes : List ℕ) (helpers : Table) (f g : Refusal) → OfFlow need bytes f → OfStates need bytes helpers g → ⊥
 flow_states need bytes helpers f g x y =
@@ -325,4 +317,4 @@ nothing_refused need bytes helpers v f a r = elim (memory_or f) [
     by_kind (inr (inr (inr x))) =
         let same = subjects v.need need v.helpers helpers v.code (code_of x.placed) a.same_need a.same_helpers (code_is x.placed x.decoded) in
         let table = subst (λ (p : Subject). IsTable p v.states) same a.states in
-        not_allowed (record { need = need; helpers = helpers; code = code_of x.placed }) x.slot x.number x.first.faulty (table.allowed x.slot)
+        not_allowed (record { need = need; helpers = helpers; code = code_of x.placed }) x.slot x.rule x.first.faulty (table.allowed x.slot)

@@ -7,6 +7,7 @@ use Rattle.machine_model.specs.Edges.{Code, Fact, Always, NotTaken, Taken, insn_
 use Rattle.machine_model.proofs.Codes.{begins_within}
 use Rattle.flow_graph.specs.Cycles.{IsJoint}
 use Rattle.flow_graph.proofs.OrderLemmas.{joint_begins}
+use Rattle.verifier.specs.declared.rule.Rule.{Rule}
 use Rattle.verifier.specs.declared.state.State.{State}
 use Rattle.verifier.specs.States.{passed, fault}
 use Rattle.verifier.specs.Arrive.{Subject, Arrival, Nothing, Undefined, Comes, met, unless, sent, landed, over, joined_over, IsArrive, arrive}
@@ -22,7 +23,7 @@ pub sent_is : (p : Subject) (o : Option Insn) (a : Arrival) (i : Insn) (fact : F
 sent_is p o a i fact state x y z =
     ap (λ (q : Option Insn). sent p q fact a) x
     ∙ (ap (λ (b : Arrival). sent p (Some i) fact b) y
-    ∙ ap (λ (n : Option ℕ). unless n (passed i fact state)) z)
+    ∙ ap (λ (n : Option Rule). unless n (passed i fact state)) z)
 
 pub over_is : (p : Subject) (a : ℕ → Arrival) (s k : ℕ) (i : Insn) (fact : Fact) (state : State) → insn_at p.code k ≡ Some i →
     a k ≡ Comes state → fault p.need p.helpers i state ≡ None →

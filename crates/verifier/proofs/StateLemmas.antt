@@ -4,6 +4,7 @@ use Rattle.std.proofs.lemmas.Int.{ints}
 use Rattle.value_ranges.specs.declared.abs.Abs.{Abs}
 use Rattle.value_ranges.specs.declared.abs.Abs.TheVariants.{Unset, Num, Stack, Part}
 use Rattle.value_ranges.specs.Joins.{joined}
+use Rattle.verifier.specs.declared.rule.Rule.{Rule}
 use Rattle.verifier.specs.declared.state.State.{State}
 use Rattle.verifier.specs.Covers.{abs_at}
 use Rattle.verifier.specs.Joining.{joined_to}
@@ -91,11 +92,11 @@ joined_called s t a long =
     (λ b c d e f g h i j k l. simp joined_unset) t.registers long
 
 -- what a verdict says
-pub refused_is : (o : Option ℕ) (left : Abs) (number : ℕ) → Err number ≡ judged o left → o ≡ Some number
-refused_is None left number e = absurd (cc)
-refused_is (Some other) left number e = cc
+pub refused_is : (o : Option Rule) (left : Abs) (rule : Rule) → Err rule ≡ judged o left → o ≡ Some rule
+refused_is None left rule e = absurd (cc)
+refused_is (Some other) left rule e = cc
 
-pub allowed_is : (o : Option ℕ) (left found : Abs) → Ok found ≡ judged o left → (o ≡ None) × (found ≡ left)
+pub allowed_is : (o : Option Rule) (left found : Abs) → Ok found ≡ judged o left → (o ≡ None) × (found ≡ left)
 allowed_is None left found e = (refl, cc)
 allowed_is (Some other) left found e = absurd (cc)
 

@@ -4,6 +4,7 @@ use Rattle.insn_codec.specs.declared.insn.Insn.{Insn}
 use Rattle.machine_model.specs.Edges.{Code, Fact, Always, NotTaken, Taken, insn_at, leads_at}
 use Rattle.helpers.specs.Table.{Table}
 use Rattle.verifier.specs.declared.state.State.{State}
+use Rattle.verifier.specs.declared.rule.Rule.{Rule}
 use Rattle.verifier.specs.States.{entry_state, passed, fault, joined_state}
 
 -- what is judged: a code, the bytes that its tasks need, and the helpers that it may call
@@ -26,9 +27,9 @@ met a Nothing = a
 met (Comes s) (Comes t) = Comes (joined_state s t)
 met a b = Undefined
 
-abbrev pub unless : Option ℕ → State → Arrival
+abbrev pub unless : Option Rule → State → Arrival
 unless None state = Comes state
-unless (Some number) state = Undefined
+unless (Some rule) state = Undefined
 
 -- what passes from an instruction to its edge with this fact, if it is allowed
 abbrev pub sent : Subject → Option Insn → Fact → Arrival → Arrival

@@ -1,4 +1,4 @@
--- Slots whose states are kept, and the ways from them to others.
+-- Used by private contracts and proofs alone: slots whose states are kept, and the ways from them to others.
 use Rattle.std.specs.Prelude.{◌≡◌, ◌≢◌, ℕ, ◌==◌, Bool, false, not, List, [], ◌∷◌, slice_get, Option, Some, None}
 use Rattle.machine_model.specs.Edges.{Code}
 use Rattle.flow_graph.specs.Cycles.{IsJoint}

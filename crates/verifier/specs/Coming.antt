@@ -1,4 +1,4 @@
--- What has come along a program's edges, when the instructions at the first places of its order have been examined.
+-- Used by private contracts and proofs alone: what has come along a program's edges, when the instructions at the first places of its order have been examined.
 use Rattle.std.specs.Prelude.{◌≡◌, ◌⊎◌, ℕ, ◌<◌, List, length, slice_index, slice_index_or, Option, Some, None, false, nat_lt, if◌then◌else◌}
 use Rattle.insn_codec.specs.declared.insn.Insn.{Insn}
 use Rattle.machine_model.specs.Edges.{Fact, insn_at}
@@ -67,12 +67,12 @@ abbrev pub IsFound : Subject → List ℕ → ℕ → ℕ → Option Fault → T
 IsFound p order n slot None =
     ((state : State) × IsPassed p slot state)
     ⊎ ((arrive p slot ≡ Undefined) × ((q : ℕ) × IsAmong order n q × IsBlocked p q))
-IsFound p order n slot (Some f) = (f.slot ≡ slot) × IsFaulty p f.slot f.number
+IsFound p order n slot (Some f) = (f.slot ≡ slot) × IsFaulty p f.slot f.rule
 
 -- the first fault of the instructions at these places, if there is one
 abbrev pub IsFirst : Subject → List ℕ → ℕ → Option Fault → Type 0
 IsFirst p order n None = (s : ℕ) → IsAmong order n s → (state : State) × IsPassed p s state
-IsFirst p order n (Some f) = IsFaulty p f.slot f.number × ((s : ℕ) → IsAmong order n s → s < f.slot → IsAllowedAt p s)
+IsFirst p order n (Some f) = IsFaulty p f.slot f.rule × ((s : ℕ) → IsAmong order n s → s < f.slot → IsAllowedAt p s)
 
 -- the one at the lower slot
 abbrev pub earlier : Option Fault → Fault → Fault

@@ -1,4 +1,4 @@
--- Two states joined register by register.
+-- Used by private contracts and proofs alone: two states joined register by register.
 use Rattle.std.specs.Prelude.{ℕ, Option, Some, None}
 use Rattle.value_ranges.specs.Joins.{joined}
 use Rattle.verifier.specs.declared.state.State.{State}

@@ -1,4 +1,5 @@
 pub mod Covers
+pub mod Rules
 pub mod States
 pub mod Checked
 pub mod Regions

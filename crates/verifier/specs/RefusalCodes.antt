@@ -2,10 +2,12 @@
 use Rattle.std.specs.Prelude.{ℕ, Option, Some, None}
 use Rattle.insn_codec.specs.declared.fault.CodecFault.{CodecFault}
 use Rattle.insn_codec.specs.declared.fault.CodecFault.TheVariants as codec
-use Rattle.insn_codec.specs.Fault.{code_of_fault as number_of_codec}
+use Rattle.insn_codec.specs.Fault.{code_of_fault as number_of_codec, slot_of_fault as codec_slot}
 use Rattle.flow_graph.specs.declared.fault.FlowFault.{FlowFault}
 use Rattle.flow_graph.specs.declared.fault.FlowFault.TheVariants as flow
-use Rattle.flow_graph.specs.FaultCodes.{code_of_fault as number_of_flow}
+use Rattle.flow_graph.specs.FaultCodes.{code_of_fault as number_of_flow, slot_of_fault as flow_slot}
+use Rattle.verifier.specs.declared.rule.Rule.TheVariants as rule
+use Rattle.verifier.specs.Rules.{number_of_rule}
 use Rattle.verifier.specs.declared.refusals.Refusal.{Refusal}
 use Rattle.verifier.specs.declared.refusals.Refusal.TheVariants.{NeedTooLarge, Codec, Flow, UnsetRead, OutOfStack, OutOfPart, BadKind, PointerRange, FramePointer, NoHelper, NoMemory}
 
@@ -13,29 +15,14 @@ abbrev pub number_of : Refusal → ℕ
 number_of NeedTooLarge = 38
 number_of (Codec fault) = number_of_codec fault
 number_of (Flow fault) = number_of_flow fault
-number_of (UnsetRead slot) = 31
-number_of (OutOfStack slot) = 32
-number_of (OutOfPart slot) = 33
-number_of (BadKind slot) = 34
-number_of (PointerRange slot) = 35
-number_of (FramePointer slot) = 36
-number_of (NoHelper slot) = 37
+number_of (UnsetRead slot) = number_of_rule rule.UnsetRead
+number_of (OutOfStack slot) = number_of_rule rule.OutOfStack
+number_of (OutOfPart slot) = number_of_rule rule.OutOfPart
+number_of (BadKind slot) = number_of_rule rule.BadKind
+number_of (PointerRange slot) = number_of_rule rule.PointerRange
+number_of (FramePointer slot) = number_of_rule rule.FramePointer
+number_of (NoHelper slot) = number_of_rule rule.NoHelper
 number_of NoMemory = 99
-
-abbrev pub codec_slot : CodecFault → Option ℕ
-codec_slot (codec.UnknownOp slot) = Some slot
-codec_slot (codec.BadRegister slot) = Some slot
-codec_slot (codec.UnusedField slot) = Some slot
-codec_slot (codec.HalfWide slot) = Some slot
-codec_slot fault = None
-
-abbrev pub flow_slot : FlowFault → Option ℕ
-flow_slot (flow.JumpOut slot) = Some slot
-flow_slot (flow.IntoWide slot) = Some slot
-flow_slot (flow.Cycle slot) = Some slot
-flow_slot (flow.FallsOff slot) = Some slot
-flow_slot (flow.Unreachable slot) = Some slot
-flow_slot flow.NoMemory = None
 
 -- the slot that a refusal tells
 abbrev pub slot_of : Refusal → Option ℕ

@@ -13,10 +13,14 @@ use Rattle.value_ranges.specs.Span.{Span}
 use Rattle.value_ranges.specs.Words.{entry, between, single_value, any_number, loaded, greatest}
 use Rattle.value_ranges.specs.Joins.{joined}
 use Rattle.value_ranges.specs.Refinements.{refined_by}
-use Rattle.value_ranges.specs.Tables.{table_of}
+use Rattle.value_ranges.specs.Tables.{value_table}
+use Rattle.value_ranges.specs.declared.fault.PointerFault.{PointerFault}
 use Rattle.value_ranges.specs.declared.abs.Abs.{Abs}
 use Rattle.value_ranges.specs.declared.abs.Abs.TheVariants.{Unset, Num, Stack, Part}
 use Rattle.verifier.specs.declared.state.State.{State}
+use Rattle.verifier.specs.declared.rule.Rule.{Rule}
+use Rattle.verifier.specs.declared.rule.Rule.TheVariants.{UnsetRead, OutOfStack, OutOfPart, BadKind, FramePointer, NoHelper}
+use Rattle.verifier.specs.Rules.{pointer_rule}
 use Rattle.verifier.specs.Covers.{abs_at}
 
 abbrev pub with_abs : State → ℕ → Abs → State
@@ -44,9 +48,9 @@ joined_state s t = record { registers = of_registers (λ r. joined (abs_at s r) 
 
 -- ---- along the edges
 
-abbrev pub or_unset : Result Abs ℕ → Abs
+abbrev pub or_unset : Result Abs PointerFault → Abs
 or_unset (Ok a) = a
-or_unset (Err number) = Unset
+or_unset (Err fault) = Unset
 
 -- after a call R0 has the answer, and the arguments are unset
 abbrev pub called_state : State → Abs → State
@@ -77,11 +81,11 @@ refined_state state dst src refined = with_operand (with_abs state dst refined.0
 
 -- what is known on the edge with this fact
 abbrev pub passed : Insn → Fact → State → State
-passed (Alu w op dst src) fact state = with_abs state dst (or_unset (table_of (Alu w op dst src) (abs_at state dst) (operand_at state src)))
-passed (Mov w dst src) fact state = with_abs state dst (or_unset (table_of (Mov w dst src) (abs_at state dst) (operand_at state src)))
-passed (MovSx e dst src) fact state = with_abs state dst (or_unset (table_of (MovSx e dst src) (abs_at state dst) (abs_at state src)))
-passed (Neg w dst) fact state = with_abs state dst (or_unset (table_of (Neg w dst) (abs_at state dst) (abs_at state dst)))
-passed (End order size dst) fact state = with_abs state dst (or_unset (table_of (End order size dst) (abs_at state dst) (abs_at state dst)))
+passed (Alu w op dst src) fact state = with_abs state dst (or_unset (value_table (Alu w op dst src) (abs_at state dst) (operand_at state src)))
+passed (Mov w dst src) fact state = with_abs state dst (or_unset (value_table (Mov w dst src) (abs_at state dst) (operand_at state src)))
+passed (MovSx e dst src) fact state = with_abs state dst (or_unset (value_table (MovSx e dst src) (abs_at state dst) (abs_at state src)))
+passed (Neg w dst) fact state = with_abs state dst (or_unset (value_table (Neg w dst) (abs_at state dst) (abs_at state dst)))
+passed (End order size dst) fact state = with_abs state dst (or_unset (value_table (End order size dst) (abs_at state dst) (abs_at state dst)))
 passed (LoadWide dst value) fact state = with_abs state dst (single_value value)
 passed (Load kind dst base offset) fact state = with_abs state dst (loaded kind)
 passed (JumpIf w c dst src offset) fact state =
@@ -91,95 +95,95 @@ passed i fact state = state
 
 -- ---- what an instruction has to find known
 
--- the first of two refusals, if there is one
-abbrev pub first : Option ℕ → Option ℕ → Option ℕ
-first (Some number) other = Some number
+-- the first of two broken rules, if there is one
+abbrev pub first : Option Rule → Option Rule → Option Rule
+first (Some rule) other = Some rule
 first None other = other
 
--- a register that is read is set
-abbrev pub unset_fault : Abs → Option ℕ
-unset_fault Unset = Some 31
+-- the fault of a register that is read unset
+abbrev pub unset_fault : Abs → Option Rule
+unset_fault Unset = Some UnsetRead
 unset_fault a = None
 
--- it has a number
-abbrev pub number_fault : Abs → Option ℕ
-number_fault Unset = Some 31
+-- the fault of a register that has no number
+abbrev pub number_fault : Abs → Option Rule
+number_fault Unset = Some UnsetRead
 number_fault (Num r) = None
-number_fault a = Some 34
+number_fault a = Some BadKind
 
--- so many bytes from each position on, moved by an offset, lie in a region of that size
-abbrev pub region_fault : ℕ → ℕ → Span → ℤ → ℕ → Option ℕ
-region_fault number size reach offset count =
-    if int_lt (reach.lo +ℤ offset) (pos 0) || int_lt (pos size) (reach.hi +ℤ offset +ℤ pos count) then Some number else None
+-- the fault of so many bytes at a position, moved by an offset, of which some may lie outside a region of that size
+abbrev pub region_fault : Rule → ℕ → Span → ℤ → ℕ → Option Rule
+region_fault rule size reach offset count =
+    if int_lt (reach.lo +ℤ offset) (pos 0) || int_lt (pos size) (reach.hi +ℤ offset +ℤ pos count) then Some rule else None
 
--- they lie in the stack, or in a part of that need
-abbrev pub access_fault : ℕ → Abs → ℤ → ℕ → Option ℕ
-access_fault need Unset offset count = Some 31
-access_fault need (Num r) offset count = Some 34
-access_fault need (Stack reach) offset count = region_fault 32 512 reach offset count
-access_fault need (Part reach) offset count = region_fault 33 need reach offset count
+-- the fault of an access of so many bytes, which may leave the stack or a part of that need, or whose address is none
+abbrev pub access_fault : ℕ → Abs → ℤ → ℕ → Option Rule
+access_fault need Unset offset count = Some UnsetRead
+access_fault need (Num r) offset count = Some BadKind
+access_fault need (Stack reach) offset count = region_fault OutOfStack 512 reach offset count
+access_fault need (Part reach) offset count = region_fault OutOfPart need reach offset count
 
-abbrev pub table_fault : Result Abs ℕ → Option ℕ
+abbrev pub table_fault : Result Abs PointerFault → Option Rule
 table_fault (Ok a) = None
-table_fault (Err number) = Some number
+table_fault (Err fault) = Some (pointer_rule fault)
 
--- R10 isn't written
-abbrev pub write_fault : ℕ → Option ℕ
-write_fault dst = if dst == 10 then Some 36 else None
+-- the fault of a write of R10
+abbrev pub write_fault : ℕ → Option Rule
+write_fault dst = if dst == 10 then Some FramePointer else None
 
--- the registers from R1 on that have arguments are set
-abbrev pub unset_arguments : State → ℕ → Option ℕ
+-- the fault of an argument that is unset, of the registers from R1 on
+abbrev pub unset_arguments : State → ℕ → Option Rule
 unset_arguments state zero = None
 unset_arguments state (suc count) = first (unset_arguments state count) (unset_fault (abs_at state (suc count)))
 
--- and have numbers
-abbrev pub number_arguments : State → ℕ → Option ℕ
+-- the fault of an argument that has no number, of the registers from R1 on
+abbrev pub number_arguments : State → ℕ → Option Rule
 number_arguments state zero = None
 number_arguments state (suc count) = first (number_arguments state count) (number_fault (abs_at state (suc count)))
 
--- so many bytes from each position on, of a pointer and a length, lie in the stack, or in a part of that need
-abbrev pub span_fault : ℕ → Abs → Abs → Option ℕ
+-- the fault of the bytes at a pointer, of which some may lie outside where they are as many as a length tells
+abbrev pub span_fault : ℕ → Abs → Abs → Option Rule
 span_fault need pointer (Num len) = access_fault need pointer (pos 0) (greatest len)
-span_fault need pointer Unset = Some 31
-span_fault need pointer (Stack reach) = Some 34
-span_fault need pointer (Part reach) = Some 34
+span_fault need pointer Unset = Some UnsetRead
+span_fault need pointer (Stack reach) = Some BadKind
+span_fault need pointer (Part reach) = Some BadKind
 
--- a length is at most 512
-abbrev pub length_fault : Abs → Option ℕ
-length_fault (Num len) = if nat_lt 512 (greatest len) then Some 34 else None
-length_fault Unset = Some 31
-length_fault (Stack reach) = Some 34
-length_fault (Part reach) = Some 34
+-- the fault of a length that may be over 512, or is none
+abbrev pub length_fault : Abs → Option Rule
+length_fault (Num len) = if nat_lt 512 (greatest len) then Some BadKind else None
+length_fault Unset = Some UnsetRead
+length_fault (Stack reach) = Some BadKind
+length_fault (Part reach) = Some BadKind
 
--- `fill` and `sum` take a pointer and a length, and `fill` a number besides; the others take numbers
-abbrev pub kind_fault : ℕ → State → ℕ → ℕ → Option ℕ
+-- the fault of an argument that isn't of its helper's kind: `fill` and `sum` take a pointer and a length, and `fill` a number besides; the others take numbers
+abbrev pub kind_fault : ℕ → State → ℕ → ℕ → Option Rule
 kind_fault need state helper arity =
     if helper == 4 then first (span_fault need (abs_at state 1) (abs_at state 2)) (first (length_fault (abs_at state 2)) (number_fault (abs_at state 3))) else
     if helper == 5 then first (span_fault need (abs_at state 1) (abs_at state 2)) (length_fault (abs_at state 2)) else
     number_arguments state arity
 
--- the helper is in the table, and its arguments are set, and of their kinds
-abbrev pub call_fault : ℕ → State → ℕ → Option ℕ → Option ℕ
-call_fault need state helper None = Some 37
+-- the fault of a call: its helper isn't in the table, or an argument is unset or of another kind
+abbrev pub call_fault : ℕ → State → ℕ → Option ℕ → Option Rule
+call_fault need state helper None = Some NoHelper
 call_fault need state helper (Some arity) = first (unset_arguments state arity) (kind_fault need state helper arity)
 
--- the lowest number that applies to the instruction where the registers are so
-abbrev pub fault : ℕ → Table → Insn → State → Option ℕ
+-- the rule of the lowest number that the instruction breaks where the registers are so
+abbrev pub fault : ℕ → Table → Insn → State → Option Rule
 fault need helpers (Alu w op dst src) state =
     first (unset_fault (abs_at state dst)) (first (unset_fault (operand_at state src))
-    (first (table_fault (table_of (Alu w op dst src) (abs_at state dst) (operand_at state src))) (write_fault dst)))
+    (first (table_fault (value_table (Alu w op dst src) (abs_at state dst) (operand_at state src))) (write_fault dst)))
 fault need helpers (Mov w dst src) state =
     first (unset_fault (operand_at state src))
-    (first (table_fault (table_of (Mov w dst src) (abs_at state dst) (operand_at state src))) (write_fault dst))
+    (first (table_fault (value_table (Mov w dst src) (abs_at state dst) (operand_at state src))) (write_fault dst))
 fault need helpers (MovSx e dst src) state =
     first (unset_fault (abs_at state src))
-    (first (table_fault (table_of (MovSx e dst src) (abs_at state dst) (abs_at state src))) (write_fault dst))
+    (first (table_fault (value_table (MovSx e dst src) (abs_at state dst) (abs_at state src))) (write_fault dst))
 fault need helpers (Neg w dst) state =
     first (unset_fault (abs_at state dst))
-    (first (table_fault (table_of (Neg w dst) (abs_at state dst) (abs_at state dst))) (write_fault dst))
+    (first (table_fault (value_table (Neg w dst) (abs_at state dst) (abs_at state dst))) (write_fault dst))
 fault need helpers (End order size dst) state =
     first (unset_fault (abs_at state dst))
-    (first (table_fault (table_of (End order size dst) (abs_at state dst) (abs_at state dst))) (write_fault dst))
+    (first (table_fault (value_table (End order size dst) (abs_at state dst) (abs_at state dst))) (write_fault dst))
 fault need helpers (LoadWide dst value) state = write_fault dst
 fault need helpers (Load kind dst base offset) state =
     first (access_fault need (abs_at state base) offset (load_bytes kind)) (write_fault dst)

@@ -1,4 +1,4 @@
--- What is surveyed, and what is found out.
+-- Used by private contracts and proofs alone: what is surveyed, and what is found out.
 use Rattle.std.specs.Prelude.{◌≡◌, ℕ, length, slice_index_or, Some}
 use Rattle.insn_codec.specs.declared.insn.Insn.{Insn}
 use Rattle.machine_model.specs.Edges.{Begins, insn_at}

@@ -3,6 +3,8 @@ use Rattle.std.specs.Prelude.{◌≡◌, ℕ, ◌<◌, List, length, slice_index
 use Rattle.insn_codec.specs.declared.insn.Insn.{Insn}
 use Rattle.machine_model.specs.Edges.{insn_at}
 use Rattle.verifier.specs.declared.state.State.{State}
+use Rattle.verifier.specs.declared.rule.Rule.{Rule}
+use Rattle.verifier.specs.declared.rule.Rule.TheVariants as rule
 use Rattle.verifier.specs.States.{fault}
 use Rattle.verifier.specs.declared.refusals.Refusal.{Refusal}
 use Rattle.verifier.specs.declared.refusals.Refusal.TheVariants.{UnsetRead, OutOfStack, OutOfPart, BadKind, PointerRange, FramePointer, NoHelper, NoMemory}
@@ -13,17 +15,17 @@ abbrev pub IsAllowedAt : Subject → ℕ → Type 0
 IsAllowedAt p slot = (i : Insn) (state : State) → insn_at p.code slot ≡ Some i → arrive p slot ≡ Comes state →
     fault p.need p.helpers i state ≡ None
 
--- a state arrives at the slot, and this is the lowest number that applies to its instruction there
-pub record IsFaulty (p : Subject) (slot number : ℕ) : Type 0 where
+-- a state arrives at the slot, and this is the rule of the lowest number that its instruction breaks there
+pub record IsFaulty (p : Subject) (slot : ℕ) (rule : Rule) : Type 0 where
   pub insn : Insn
   pub state : State
   pub there : insn_at p.code slot ≡ Some insn
   pub arrives : arrive p slot ≡ Comes state
-  pub applies : fault p.need p.helpers insn state ≡ Some number
+  pub applies : fault p.need p.helpers insn state ≡ Some rule
 
 -- it is the lowest slot of those
-pub record IsFirstFaulty (p : Subject) (slot number : ℕ) : Type 0 where
-  pub faulty : IsFaulty p slot number
+pub record IsFirstFaulty (p : Subject) (slot : ℕ) (rule : Rule) : Type 0 where
+  pub faulty : IsFaulty p slot rule
   pub least : (s : ℕ) → s < slot → IsAllowedAt p s
 
 abbrev pub arrival_of : Option State → Arrival
@@ -38,12 +40,12 @@ pub record IsTable (p : Subject) (states : List (Option State)) : Type 0 where
 
 -- the refusal tells the first instruction that isn't allowed
 abbrev pub RefusesStates : Subject → Refusal → Type 0
-RefusesStates p (UnsetRead slot) = IsFirstFaulty p slot 31
-RefusesStates p (OutOfStack slot) = IsFirstFaulty p slot 32
-RefusesStates p (OutOfPart slot) = IsFirstFaulty p slot 33
-RefusesStates p (BadKind slot) = IsFirstFaulty p slot 34
-RefusesStates p (PointerRange slot) = IsFirstFaulty p slot 35
-RefusesStates p (FramePointer slot) = IsFirstFaulty p slot 36
-RefusesStates p (NoHelper slot) = IsFirstFaulty p slot 37
+RefusesStates p (UnsetRead slot) = IsFirstFaulty p slot rule.UnsetRead
+RefusesStates p (OutOfStack slot) = IsFirstFaulty p slot rule.OutOfStack
+RefusesStates p (OutOfPart slot) = IsFirstFaulty p slot rule.OutOfPart
+RefusesStates p (BadKind slot) = IsFirstFaulty p slot rule.BadKind
+RefusesStates p (PointerRange slot) = IsFirstFaulty p slot rule.PointerRange
+RefusesStates p (FramePointer slot) = IsFirstFaulty p slot rule.FramePointer
+RefusesStates p (NoHelper slot) = IsFirstFaulty p slot rule.NoHelper
 RefusesStates p NoMemory = Unit {0}
 RefusesStates p refusal = ⊥

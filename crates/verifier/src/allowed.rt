@@ -1,8 +1,8 @@
-//! What an instruction has to find known, and what it leaves in its destination. The hints on inlining keep what is known of
-//! a register out of memory.
+//! What an instruction has to find known, and what it leaves in its destination. The hints on
+//! inlining keep what is known of a register out of memory.
 
 ghost use Rattle.std.specs.Prelude.{◌≡◌, ◌+◌, ◌≤◌, ◌<◌, IfNone, ℤ, pos, ◌+ℤ◌, int_lt, ◌||◌};
-ghost use Rattle.value_ranges.specs.Tables.{table_of, IsArithmetic, IsReadSet, IsSet};
+ghost use Rattle.value_ranges.specs.Tables.{value_table, IsArithmetic, IsReadSet, IsSet};
 ghost use Rattle.helpers.specs.Table.{arity_in};
 ghost use Rattle.machine_model.specs.Memory.{store_bytes, load_bytes};
 ghost use Rattle.verifier.specs.Covers.{abs_at};
@@ -11,95 +11,98 @@ ghost use Rattle.verifier.specs.Judged.{judged, left_by};
 ghost use Rattle.value_ranges.specs.Words.{loaded};
 
 use crate::calls::call_fault;
+use crate::rule::Rule;
 use crate::state::State;
 use helpers::HelperTable;
 use insn_codec::{Insn, LoadKind, Register, Size};
-use value_ranges::{Abs, Reach, alu, loaded};
+use value_ranges::{Abs, Reach, compute, loaded};
 
-/// A register that is read is set.
-pub(crate) fn unset_fault(abs: &Abs) -> Option<u8>
+/// The fault of a register that is read unset.
+pub(crate) fn unset_fault(abs: &Abs) -> Option<Rule>
     ensures fault { result ≡ unset_fault abs.now }
     ensures set { IfNone result (IsSet abs.now) }
 {
     match abs {
-        Abs::Unset => Some(31),
+        Abs::Unset => Some(Rule::UnsetRead),
         _ => None,
     }
 }
 
-/// It has a number.
-pub(crate) fn number_fault(abs: &Abs) -> Option<u8>
+/// The fault of a register that has no number.
+pub(crate) fn number_fault(abs: &Abs) -> Option<Rule>
     ensures { result ≡ number_fault abs.now }
 {
     match abs {
-        Abs::Unset => Some(31),
+        Abs::Unset => Some(Rule::UnsetRead),
         Abs::Num(_) => None,
-        Abs::Stack(_) | Abs::Part(_) => Some(34),
+        Abs::Stack(_) | Abs::Part(_) => Some(Rule::BadKind),
     }
 }
 
-/// R10 isn't written.
-fn write_fault(register: Register) -> Option<u8>
+/// The fault of a write of R10.
+fn write_fault(register: Register) -> Option<Rule>
     ensures { result ≡ write_fault register }
 {
     if register.number() == 10 {
-        Some(36)
+        Some(Rule::FramePointer)
     } else {
         None
     }
 }
 
-/// A position, moved by an offset.
+/// Where bytes begin that lie at a position, moved by an offset.
 #[tactic(auto, using(crate::proofs::StateLemmas::signed_values))]
-pub(crate) fn moved(position: i32, offset: i16) -> i128
+fn start_of(position: i32, offset: i16) -> i128
     ensures { result ≡ position +ℤ offset }
 {
     i128::from(position) + i128::from(offset)
 }
 
-/// The end of so many bytes from a position on, moved by an offset.
+/// Where so many bytes end that lie at a position, moved by an offset.
 #[tactic(auto, using(crate::proofs::StateLemmas::signed_values))]
-fn end_of(position: i32, offset: i16, count: u8) -> i128
+fn end_of(position: i32, offset: i16, count: u64) -> i128
     ensures { result ≡ position +ℤ offset +ℤ pos count }
 {
     i128::from(position) + i128::from(offset) + i128::from(count)
 }
 
-/// What goes from one position to another doesn't lie in a region of that size.
+/// Whether what goes from one position to another leaves a region of that size.
 #[tactic(auto, using(crate::proofs::StateLemmas::signed_values))]
-pub(crate) fn lies_outside(size: u32, from: i128, end: i128) -> bool
+fn lies_outside(size: u32, from: i128, end: i128) -> bool
     ensures { result ≡ (int_lt from (pos 0) || int_lt (pos size) end) }
 {
     from < 0 || i128::from(size) < end
 }
 
-/// So many bytes from each position on, moved by an offset, lie in a region of that size.
-fn region_fault(number: u8, size: u32, reach: Reach, offset: i16, count: u8) -> Option<u8>
-    ensures { result ≡ region_fault number size reach offset count }
+/// The fault of so many bytes at a position, moved by an offset, of which some may lie outside a
+/// region of that size.
+fn region_fault(rule: Rule, size: u32, reach: Reach, offset: i16, count: u64) -> Option<Rule>
+    ensures { result ≡ region_fault rule size reach offset count }
 {
-    let from = moved(reach.lo(), offset);
+    let from = start_of(reach.lo(), offset);
     let end = end_of(reach.hi(), offset, count);
     if lies_outside(size, from, end) {
-        Some(number)
+        Some(rule)
     } else {
         None
     }
 }
 
-/// They lie in the stack, or in a part of that need.
-fn access_fault(need: u32, abs: Abs, offset: i16, count: u8) -> Option<u8>
+/// The fault of an access of so many bytes, which may leave the stack or a part of that need, or
+/// whose address is none.
+pub(crate) fn access_fault(need: u32, abs: Abs, offset: i16, count: u64) -> Option<Rule>
     ensures { result ≡ access_fault need abs offset count }
 {
     match abs {
-        Abs::Unset => Some(31),
-        Abs::Num(_) => Some(34),
-        Abs::Stack(reach) => region_fault(32, 512, reach, offset, count),
-        Abs::Part(reach) => region_fault(33, need, reach, offset, count),
+        Abs::Unset => Some(Rule::UnsetRead),
+        Abs::Num(_) => Some(Rule::BadKind),
+        Abs::Stack(reach) => region_fault(Rule::OutOfStack, 512, reach, offset, count),
+        Abs::Part(reach) => region_fault(Rule::OutOfPart, need, reach, offset, count),
     }
 }
 
 /// How many bytes a store writes.
-fn store_bytes(size: Size) -> u8
+fn store_bytes(size: Size) -> u64
     ensures { result ≡ store_bytes size }
 {
     match size {
@@ -111,7 +114,7 @@ fn store_bytes(size: Size) -> u8
 }
 
 /// How many bytes a load reads.
-fn load_bytes(kind: LoadKind) -> u8
+fn load_bytes(kind: LoadKind) -> u64
     ensures { result ≡ load_bytes kind }
 {
     match kind {
@@ -123,134 +126,148 @@ fn load_bytes(kind: LoadKind) -> u8
 }
 
 /// What an instruction leaves in its destination, unless it is refused.
-fn unless_refused(fault: Option<u8>, left: Abs) -> Result<Abs, u8>
+fn unless_refused(fault: Option<Rule>, left: Abs) -> Result<Abs, Rule>
     ensures { result ≡ judged fault left }
 {
     match fault {
-        Some(number) => Err(number),
+        Some(rule) => Err(rule),
         None => Ok(left),
     }
 }
 
-/// The same where the instruction has no destination.
-fn nothing_unless_refused(fault: Option<u8>) -> Result<Abs, u8>
+/// What an instruction without a destination leaves, unless it is refused: nothing.
+fn nothing_unless_refused(fault: Option<Rule>) -> Result<Abs, Rule>
     ensures { result ≡ judged fault Abs.Unset }
 {
     unless_refused(fault, Abs::Unset)
 }
 
 /// What is left in a destination, unless that may not be written.
-fn written(to: Register, left: Abs) -> Result<Abs, u8>
+fn leave_in(to: Register, left: Abs) -> Result<Abs, Rule>
     ensures { result ≡ judged (write_fault to) left }
 {
     unless_refused(write_fault(to), left)
 }
 
-/// What the table gives for an arithmetic instruction or a move, if it allows it and the destination may be written.
+/// What the table gives for an arithmetic instruction or a move, if it allows it and the
+/// destination may be written.
 #[inline(always)]
-fn computed(insn: &Insn, dst: Abs, src: Abs, to: Register) -> Result<Abs, u8>
+fn compute_into(insn: &Insn, dst: Abs, src: Abs, to: Register) -> Result<Abs, Rule>
     requires arithmetic { IsArithmetic insn.now }
     requires set { IsReadSet insn.now dst src }
-    ensures { result ≡ judged (first (table_fault (table_of insn.now dst src)) (write_fault to)) (or_unset (table_of insn.now dst src)) }
+    ensures { result
+        ≡ judged (first (table_fault (value_table insn.now dst src)) (write_fault to))
+        (or_unset (value_table insn.now dst src)) }
 {
-    match alu(insn, dst, src) {
-        Err(number) => Err(number),
-        Ok(left) => written(to, left),
+    match compute(insn, dst, src) {
+        Err(fault) => Err(Rule::of_pointer(fault)),
+        Ok(left) => leave_in(to, left),
     }
 }
 
 /// What a load leaves, if it is allowed and its destination may be written.
-fn load(need: u32, base: Abs, offset: i16, kind: LoadKind, to: Register) -> Result<Abs, u8>
-    ensures { result ≡ judged (first (access_fault need base offset (load_bytes kind)) (write_fault to)) (loaded kind) }
+fn load(need: u32, base: Abs, offset: i16, kind: LoadKind, to: Register) -> Result<Abs, Rule>
+    ensures { result
+        ≡ judged (first (access_fault need base offset (load_bytes kind)) (write_fault to))
+        (loaded kind) }
 {
     match access_fault(need, base, offset, load_bytes(kind)) {
-        Some(number) => Err(number),
-        None => written(to, loaded(kind)),
+        Some(rule) => Err(rule),
+        None => leave_in(to, loaded(kind)),
     }
 }
 
 /// A store of a number leaves nothing, if it is allowed.
-fn store(need: u32, base: Abs, offset: i16, size: Size) -> Result<Abs, u8>
+fn store(need: u32, base: Abs, offset: i16, size: Size) -> Result<Abs, Rule>
     ensures { result ≡ judged (access_fault need base offset (store_bytes size)) Abs.Unset }
 {
     nothing_unless_refused(access_fault(need, base, offset, store_bytes(size)))
 }
 
-/// So does the store of a register.
-fn store_register(need: u32, base: Abs, offset: i16, size: Size, src: Abs) -> Result<Abs, u8>
+/// A store of a register leaves nothing, if it is allowed.
+fn store_register(need: u32, base: Abs, offset: i16, size: Size, src: Abs) -> Result<Abs, Rule>
     ensures { result ≡ judged (first (unset_fault base) (first (unset_fault src)
         (first (access_fault need base offset (store_bytes size)) (number_fault src)))) Abs.Unset }
 {
-    if let Some(number) = unset_fault(&base) {
-        return Err(number);
+    if let Some(rule) = unset_fault(&base) {
+        return Err(rule);
     }
-    if let Some(number) = unset_fault(&src) {
-        return Err(number);
+    if let Some(rule) = unset_fault(&src) {
+        return Err(rule);
     }
     match access_fault(need, base, offset, store_bytes(size)) {
-        Some(number) => Err(number),
+        Some(rule) => Err(rule),
         None => nothing_unless_refused(number_fault(&src)),
     }
 }
 
-/// So does a comparison, whose operands both are numbers.
-fn compared(dst: Abs, src: Abs) -> Result<Abs, u8>
-    ensures { result ≡ judged (first (unset_fault dst) (first (unset_fault src) (first (number_fault dst) (number_fault src)))) Abs.Unset }
+/// A comparison leaves nothing, if its operands both are numbers.
+fn compare(dst: Abs, src: Abs) -> Result<Abs, Rule>
+    ensures { result
+        ≡ judged (first (unset_fault dst)
+        (first (unset_fault src) (first (number_fault dst) (number_fault src)))) Abs.Unset }
 {
-    if let Some(number) = unset_fault(&dst) {
-        return Err(number);
+    if let Some(rule) = unset_fault(&dst) {
+        return Err(rule);
     }
-    if let Some(number) = unset_fault(&src) {
-        return Err(number);
+    if let Some(rule) = unset_fault(&src) {
+        return Err(rule);
     }
     match number_fault(&dst) {
-        Some(number) => Err(number),
+        Some(rule) => Err(rule),
         None => nothing_unless_refused(number_fault(&src)),
     }
 }
 
-/// A move reads the second operand alone.
+/// What a move leaves, which reads its second operand alone.
 #[inline(always)]
-fn moved_to(insn: &Insn, dst: Abs, src: Abs, to: Register) -> Result<Abs, u8>
+fn move_into(insn: &Insn, dst: Abs, src: Abs, to: Register) -> Result<Abs, Rule>
     requires arithmetic { IsArithmetic insn.now }
     requires reads { IsSet src → IsReadSet insn.now dst src }
-    ensures { result ≡ judged (first (unset_fault src) (first (table_fault (table_of insn.now dst src)) (write_fault to)))
-        (or_unset (table_of insn.now dst src)) }
+    ensures { result
+        ≡ judged (first (unset_fault src)
+        (first (table_fault (value_table insn.now dst src)) (write_fault to)))
+        (or_unset (value_table insn.now dst src)) }
 {
     match unset_fault(&src) {
-        Some(number) => Err(number),
-        None => computed(insn, dst, src, to),
+        Some(rule) => Err(rule),
+        None => compute_into(insn, dst, src, to),
     }
 }
 
-/// Some arithmetic instructions read their destination alone.
+/// What an arithmetic instruction leaves that reads its destination alone.
 #[inline(always)]
-fn unary(insn: &Insn, dst: Abs, src: Abs, to: Register) -> Result<Abs, u8>
+fn unary(insn: &Insn, dst: Abs, src: Abs, to: Register) -> Result<Abs, Rule>
     requires arithmetic { IsArithmetic insn.now }
     requires reads { IsSet dst → IsReadSet insn.now dst src }
-    ensures { result ≡ judged (first (unset_fault dst) (first (table_fault (table_of insn.now dst src)) (write_fault to)))
-        (or_unset (table_of insn.now dst src)) }
+    ensures { result
+        ≡ judged (first (unset_fault dst)
+        (first (table_fault (value_table insn.now dst src)) (write_fault to)))
+        (or_unset (value_table insn.now dst src)) }
 {
     match unset_fault(&dst) {
-        Some(number) => Err(number),
-        None => computed(insn, dst, src, to),
+        Some(rule) => Err(rule),
+        None => compute_into(insn, dst, src, to),
     }
 }
 
-/// The others read both operands.
+/// What an arithmetic instruction leaves that reads both operands.
 #[inline(always)]
-fn binary(insn: &Insn, dst: Abs, src: Abs, to: Register) -> Result<Abs, u8>
+fn binary(insn: &Insn, dst: Abs, src: Abs, to: Register) -> Result<Abs, Rule>
     requires arithmetic { IsArithmetic insn.now }
     requires reads { IsSet dst → IsSet src → IsReadSet insn.now dst src }
-    ensures { result ≡ judged (first (unset_fault dst) (first (unset_fault src) (first (table_fault (table_of insn.now dst src)) (write_fault to))))
-        (or_unset (table_of insn.now dst src)) }
+    ensures { result
+        ≡ judged (first (unset_fault dst)
+        (first (unset_fault src)
+        (first (table_fault (value_table insn.now dst src)) (write_fault to))))
+        (or_unset (value_table insn.now dst src)) }
 {
-    if let Some(number) = unset_fault(&dst) {
-        return Err(number);
+    if let Some(rule) = unset_fault(&dst) {
+        return Err(rule);
     }
     match unset_fault(&src) {
-        Some(number) => Err(number),
-        None => computed(insn, dst, src, to),
+        Some(rule) => Err(rule),
+        None => compute_into(insn, dst, src, to),
     }
 }
 
@@ -269,8 +286,10 @@ fn answer_range(helper: u32) -> Abs
 }
 
 /// A call leaves its answer, if it is allowed.
-fn called(need: u32, helpers: &HelperTable, state: &State, helper: u32) -> Result<Abs, u8>
-    ensures { result ≡ judged (call_fault need state.now helper (arity_in helpers.now helper)) (answer_range helper) }
+fn call(need: u32, helpers: &HelperTable, state: &State, helper: u32) -> Result<Abs, Rule>
+    ensures { result
+        ≡ judged (call_fault need state.now helper (arity_in helpers.now helper))
+        (answer_range helper) }
 {
     unless_refused(
         call_fault(need, helpers, state, helper),
@@ -278,22 +297,29 @@ fn called(need: u32, helpers: &HelperTable, state: &State, helper: u32) -> Resul
     )
 }
 
-/// What the instruction leaves in its destination, or the lowest number that applies to it where the registers are so.
+/// What the instruction leaves in its destination, or the rule of the lowest number that it breaks
+/// where the registers are so.
 #[inline(always)]
-pub(crate) fn judge(need: u32, helpers: &HelperTable, insn: &Insn, state: &State) -> Result<Abs, u8>
-    ensures { result ≡ judged (fault need helpers.now insn.now state.now) (left_by insn.now state.now) }
+pub(crate) fn judge(
+    need: u32,
+    helpers: &HelperTable,
+    insn: &Insn,
+    state: &State,
+) -> Result<Abs, Rule>
+    ensures { result
+        ≡ judged (fault need helpers.now insn.now state.now) (left_by insn.now state.now) }
 {
     match *insn {
         Insn::Alu { dst, src, .. } => binary(insn, state.at(dst), state.operand(&src), dst),
-        Insn::Mov { dst, src, .. } => moved_to(insn, state.at(dst), state.operand(&src), dst),
-        Insn::MovSx { dst, src, .. } => moved_to(insn, state.at(dst), state.at(src), dst),
+        Insn::Mov { dst, src, .. } => move_into(insn, state.at(dst), state.operand(&src), dst),
+        Insn::MovSx { dst, src, .. } => move_into(insn, state.at(dst), state.at(src), dst),
         Insn::Neg { dst, .. } | Insn::End { dst, .. } => unary(
             insn,
             state.at(dst),
             state.at(dst),
             dst,
         ),
-        Insn::LoadWide { dst, value } => written(dst, Abs::single(value)),
+        Insn::LoadWide { dst, value } => leave_in(dst, Abs::single(value)),
         Insn::Load {
             kind,
             dst,
@@ -313,8 +339,8 @@ pub(crate) fn judge(need: u32, helpers: &HelperTable, insn: &Insn, state: &State
             src,
         } => store_register(need, state.at(base), offset, size, state.at(src)),
         Insn::Jump { .. } | Insn::Jump32 { .. } => Ok(Abs::Unset),
-        Insn::JumpIf { dst, src, .. } => compared(state.at(dst), state.operand(&src)),
-        Insn::Call { helper } => called(need, helpers, state, helper),
+        Insn::JumpIf { dst, src, .. } => compare(state.at(dst), state.operand(&src)),
+        Insn::Call { helper } => call(need, helpers, state, helper),
         Insn::Exit => nothing_unless_refused(number_fault(&state.at(Register::new(0)))),
     }
 }

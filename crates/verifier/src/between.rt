@@ -1,4 +1,5 @@
-//! The states of the slots between those whose states are kept, which the only edge into each leads to.
+//! The states of the slots between those whose states are kept, which the only edge into each leads
+//! to.
 
 ghost use Rattle.std.specs.Prelude.{◌≡◌, ◌↔◌, ℕ, ◌<◌, length, reverse, Some, IsTrue, IfOk, false};
 ghost use Rattle.machine_model.specs.Edges.{Begins, Fact, IsEdge, insn_at};
@@ -58,7 +59,8 @@ fn pass_on(survey: &Survey<'_>, from: u32, state: &mut State, next: u32)
     requires passed { IsPassed (subject_of survey.now) from state.old }
     requires joint { IsJoint survey.now.graph.now.code from next }
     ensures { (fact : Fact) × IsEdge survey.now.graph.now.code from fact next
-        × (sent (subject_of survey.now) (insn_at survey.now.graph.now.code from) fact (Comes state.old) ≡ Comes state.new) }
+        × (sent (subject_of survey.now) (insn_at survey.now.graph.now.code from) fact
+        (Comes state.old) ≡ Comes state.new) }
 {
     let passage = passage_again(survey, from, state);
     let taken = is_jump(passage.next, next);
@@ -82,8 +84,9 @@ fn along(survey: &Survey<'_>, first: u32, state: State, mut path: Vec<u32>, slot
     state
 }
 
-/// The state that arrives at a slot of a program whose instructions are allowed: the one that is kept, or what comes of the nearest
-/// that is kept along the only edge into each slot from there on.
+/// The state that arrives at a slot of a program whose instructions are allowed: the one that is
+/// kept, or what comes of the nearest that is kept along the only edge into each slot from there
+/// on.
 pub(crate) fn state_between(
     alloc: Global,
     survey: &Survey<'_>,

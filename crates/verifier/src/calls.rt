@@ -5,10 +5,11 @@ ghost use Rattle.helpers.specs.Table.{arity_in};
 ghost use Rattle.verifier.specs.Covers.{abs_at};
 ghost use Rattle.verifier.specs.States.{first, unset_fault, number_fault, region_fault, access_fault, unset_arguments, number_arguments, span_fault, length_fault, kind_fault, call_fault};
 
-use crate::allowed::{lies_outside, moved, number_fault, unset_fault};
+use crate::allowed::{access_fault, number_fault, unset_fault};
+use crate::rule::Rule;
 use crate::state::State;
 use helpers::HelperTable;
-use value_ranges::{Abs, Reach};
+use value_ranges::Abs;
 
 /// The greatest number of bytes that a helper goes over.
 const GREATEST_LENGTH: u64 = 512;
@@ -23,117 +24,90 @@ fn argument(state: &State, number: u32) -> Abs
     }
 }
 
-/// The registers from R1 on that have arguments are set.
-fn unset_arguments(state: &State, arity: u32) -> Option<u8>
+/// The fault of an argument that is unset, of the registers from R1 on.
+fn unset_arguments(state: &State, arity: u32) -> Option<Rule>
     ensures { result ≡ unset_arguments state.now arity }
 {
     for before in 0..arity {
-        if let Some(number) = unset_fault(&argument(state, before + 1)) {
-            return Some(number);
+        if let Some(rule) = unset_fault(&argument(state, before + 1)) {
+            return Some(rule);
         }
     }
     None
 }
 
-/// They have numbers.
-fn number_arguments(state: &State, arity: u32) -> Option<u8>
+/// The fault of an argument that has no number, of the registers from R1 on.
+fn number_arguments(state: &State, arity: u32) -> Option<Rule>
     ensures { result ≡ number_arguments state.now arity }
 {
     for before in 0..arity {
-        if let Some(number) = number_fault(&argument(state, before + 1)) {
-            return Some(number);
+        if let Some(rule) = number_fault(&argument(state, before + 1)) {
+            return Some(rule);
         }
     }
     None
 }
 
-/// The end of so many bytes from a position on.
-#[tactic(auto, using(crate::proofs::StateLemmas::signed_values))]
-fn span_end(position: i32, count: u64) -> i128
-    ensures { result ≡ position +ℤ pos 0 +ℤ pos count }
-{
-    i128::from(position) + i128::from(count)
-}
-
-/// So many bytes from each position on lie in a region of that size.
-fn region_fault(number: u8, size: u32, reach: Reach, count: u64) -> Option<u8>
-    ensures { result ≡ region_fault number size reach (pos 0) count }
-{
-    let from = moved(reach.lo(), 0);
-    let end = span_end(reach.hi(), count);
-    if lies_outside(size, from, end) {
-        Some(number)
-    } else {
-        None
-    }
-}
-
-/// They lie in the stack, or in a part of that need.
-fn bytes_fault(need: u32, pointer: Abs, count: u64) -> Option<u8>
-    ensures { result ≡ access_fault need pointer (pos 0) count }
-{
-    match pointer {
-        Abs::Unset => Some(31),
-        Abs::Num(_) => Some(34),
-        Abs::Stack(reach) => region_fault(32, 512, reach, count),
-        Abs::Part(reach) => region_fault(33, need, reach, count),
-    }
-}
-
-/// They do so for each number of them that is a length.
-fn span_fault(need: u32, pointer: Abs, len: &Abs) -> Option<u8>
+/// The fault of the bytes at a pointer, of which some may lie outside where they are as many as a
+/// length tells.
+fn span_fault(need: u32, pointer: Abs, len: &Abs) -> Option<Rule>
     ensures { result ≡ span_fault need pointer len.now }
 {
     match len {
-        Abs::Unset => Some(31),
-        Abs::Num(numbers) => bytes_fault(need, pointer, numbers.greatest()),
-        Abs::Stack(_) | Abs::Part(_) => Some(34),
+        Abs::Unset => Some(Rule::UnsetRead),
+        Abs::Num(numbers) => access_fault(need, pointer, 0, numbers.greatest()),
+        Abs::Stack(_) | Abs::Part(_) => Some(Rule::BadKind),
     }
 }
 
-/// A length isn't over the greatest.
-fn length_fault(len: &Abs) -> Option<u8>
+/// The fault of a length that may be over the greatest, or is none.
+fn length_fault(len: &Abs) -> Option<Rule>
     ensures { result ≡ length_fault len.now }
 {
     match len {
-        Abs::Unset => Some(31),
+        Abs::Unset => Some(Rule::UnsetRead),
         Abs::Num(numbers) if numbers.greatest() <= GREATEST_LENGTH => None,
-        Abs::Num(_) | Abs::Stack(_) | Abs::Part(_) => Some(34),
+        Abs::Num(_) | Abs::Stack(_) | Abs::Part(_) => Some(Rule::BadKind),
     }
 }
 
-/// A pointer and a length are of their kinds, and what they span lies inside.
-fn bytes_of_kind(need: u32, pointer: Abs, len: &Abs) -> Option<u8>
+/// The fault of a pointer and a length: of what they span, or of the length.
+fn buffer_fault(need: u32, pointer: Abs, len: &Abs) -> Option<Rule>
     ensures { result ≡ first (span_fault need pointer len.now) (length_fault len.now) }
 {
     match span_fault(need, pointer, len) {
-        Some(number) => Some(number),
+        Some(rule) => Some(rule),
         None => length_fault(len),
     }
 }
 
-/// The arguments are of their helper's kinds.
-fn kind_fault(need: u32, state: &State, helper: u32, arity: u32) -> Option<u8>
+/// The fault of an argument that isn't of its helper's kind.
+fn kind_fault(need: u32, state: &State, helper: u32, arity: u32) -> Option<Rule>
     ensures { result ≡ kind_fault need state.now helper arity }
 {
     match helper {
-        4 => match bytes_of_kind(need, argument(state, 1), &argument(state, 2)) {
-            Some(number) => Some(number),
+        4 => match buffer_fault(need, argument(state, 1), &argument(state, 2)) {
+            Some(rule) => Some(rule),
             None => number_fault(&argument(state, 3)),
         },
-        5 => bytes_of_kind(need, argument(state, 1), &argument(state, 2)),
+        5 => buffer_fault(need, argument(state, 1), &argument(state, 2)),
         _ => number_arguments(state, arity),
     }
 }
 
-/// The helper is in the table, and its arguments are set, and of their kinds.
-pub(crate) fn call_fault(need: u32, helpers: &HelperTable, state: &State, helper: u32) -> Option<u8>
+/// The fault of a call: its helper isn't in the table, or an argument is unset or of another kind.
+pub(crate) fn call_fault(
+    need: u32,
+    helpers: &HelperTable,
+    state: &State,
+    helper: u32,
+) -> Option<Rule>
     ensures { result ≡ call_fault need state.now helper (arity_in helpers.now helper) }
 {
     match helpers.arity(helper) {
-        None => Some(37),
+        None => Some(Rule::NoHelper),
         Some(arity) => match unset_arguments(state, arity) {
-            Some(number) => Some(number),
+            Some(rule) => Some(rule),
             None => kind_fault(need, state, helper, arity),
         },
     }

@@ -1,4 +1,4 @@
-//! A state that is needed further.
+//! States that are needed further, and the boxes that hold them.
 
 ghost use Rattle.std.specs.Prelude.{◌≡◌, IfOk, if◌then◌else◌};
 ghost use Rattle.machine_model.specs.Edges.{NotTaken, Taken};
@@ -45,7 +45,8 @@ impl Held {
         &self.state
     }
 
-    /// It becomes what is known behind an instruction.
+    /// The state becomes what is known after an instruction.
+    #[inline(always)]
     pub(crate) fn pass(&mut self, insn: &Insn, taken: bool, left: &Abs)
         requires { left.now ≡ left_by insn.now self.old }
         ensures { self.new ≡ passed insn.now (if taken then Taken else NotTaken) self.old }
@@ -53,13 +54,45 @@ impl Held {
         pass(&mut self.state, insn, taken, left);
     }
 
-    /// It comes to a place, besides what came before.
-    pub(crate) fn come(self, place: &mut Option<Held>)
+    /// The state comes to a place, besides what came before. The box that is needed no longer
+    /// serves a later copy.
+    #[inline(always)]
+    pub(crate) fn come(self, place: &mut Option<Held>, boxes: &mut Boxes)
         ensures { place.new ≡ come_to place.old self }
     {
         match place {
-            Some(before) => before.state.join(&self.state),
+            Some(before) => {
+                before.state.join(&self.state);
+                boxes.free = Some(self);
+            }
             None => *place = Some(self),
+        }
+    }
+}
+
+/// Where copies of states get their boxes: one that is needed no longer, or new memory.
+#[derive(Drop)]
+pub(crate) struct Boxes {
+    alloc: Global,
+    free: Option<Held>,
+}
+
+impl Boxes {
+    /// No box is free.
+    pub(crate) fn new(alloc: Global) -> Boxes {
+        Boxes { alloc, free: None }
+    }
+
+    /// A copy of the state, in a box of its own.
+    pub(crate) fn copy(&mut self, state: &State) -> Result<Held, NoMemory>
+        ensures { IfOk result (λ held. held ≡ state.now) }
+    {
+        match self.free.take() {
+            Some(mut held) => {
+                *held.state = *state;
+                Ok(held)
+            }
+            None => Held::new(self.alloc, state),
         }
     }
 }

@@ -9,26 +9,30 @@ ghost use Rattle.verifier.specs.Checked.{Checked};
 ghost use Rattle.verifier.specs.Refusals.{Refuses, IsAccepted};
 ghost use Rattle.verifier.specs.Arrive.{Subject, Arrival, IsArrive, arrive};
 
-/// Of a program that has a graph, `arrive` solves its equation: the entry state arrives at the first slot, and elsewhere the
-/// join over all edges arrives.
+/// Of a program that has a graph, `arrive` solves its equation: the entry state arrives at the
+/// first slot, and elsewhere the join over all edges arrives.
 pub fn arrivals_are_joined()
-    ensures { (p : Subject) (order : List ℕ) → IsFlow (record { code = p.code; order = order }) → IsArrive p (arrive p) }
+    ensures { (p : Subject) (order : List ℕ) → IsFlow (record { code = p.code; order = order })
+        → IsArrive p (arrive p) }
 {}
 
 /// And nothing else solves it.
 pub fn arrivals_are_unique()
-    ensures { (p : Subject) (order : List ℕ) (other : ℕ → Arrival) → IsFlow (record { code = p.code; order = order }) → IsArrive p other →
+    ensures { (p : Subject) (order : List ℕ) (other : ℕ → Arrival)
+        → IsFlow (record { code = p.code; order = order }) → IsArrive p other →
         (s : ℕ) → s < length p.code → other s ≡ arrive p s }
 {}
 
 /// A program has one refusal at most, but for want of memory.
 pub fn one_refusal()
-    ensures { (need : ℕ) (bytes : List ℕ) (helpers : Table) (f g : Refusal) → Refuses need bytes helpers f → Refuses need bytes helpers g
+    ensures { (need : ℕ) (bytes : List ℕ) (helpers : Table) (f g : Refusal)
+        → Refuses need bytes helpers f → Refuses need bytes helpers g
         → f ≢ NoMemory → g ≢ NoMemory → f ≡ g }
 {}
 
 /// A program that is accepted is refused for want of memory alone.
 pub fn nothing_refused()
-    ensures { (need : ℕ) (bytes : List ℕ) (helpers : Table) (v : Checked) (f : Refusal) → IsAccepted need bytes helpers v
+    ensures { (need : ℕ) (bytes : List ℕ) (helpers : Table) (v : Checked) (f : Refusal)
+        → IsAccepted need bytes helpers v
         → Refuses need bytes helpers f → f ≡ NoMemory }
 {}

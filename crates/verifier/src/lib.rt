@@ -10,6 +10,7 @@ mod laws;
 mod passing;
 mod refusals;
 mod regions;
+mod rule;
 mod sources;
 mod state;
 mod states;
@@ -18,6 +19,7 @@ mod verified;
 
 pub use laws::{arrivals_are_joined, arrivals_are_unique, nothing_refused, one_refusal};
 pub use refusals::Refusal;
+pub use rule::Rule;
 pub use state::State;
 pub use verification::verify;
 pub use verified::Verified;

@@ -22,7 +22,8 @@ fn refine_operands(state: &mut State, insn: &Insn, taken: bool, dst: Register, s
     state.set_operands(dst, src, left, right);
 }
 
-/// A state becomes what is known behind an instruction, on its edge for a jump that is taken or on another.
+/// A state becomes what is known behind an instruction, on its edge for a jump that is taken or on
+/// another.
 #[inline(always)]
 pub(crate) fn pass(state: &mut State, insn: &Insn, taken: bool, left: &Abs)
     requires { left.now ≡ left_by insn.now state.old }

@@ -1,10 +1,12 @@
-//! The refusals.
+//! Why a program is refused.
 
-ghost use Rattle.std.specs.Prelude.{◌≡◌, ◌≤◌, Some};
+ghost use Rattle.std.specs.Prelude.{◌≡◌, Some};
 ghost use Rattle.verifier.specs.Arrive.{Subject};
-ghost use Rattle.verifier.specs.RefusalCodes.{number_of, slot_of, codec_slot, flow_slot};
+ghost use Rattle.verifier.specs.RefusalCodes.{number_of, slot_of};
+ghost use Rattle.verifier.specs.Rules.{number_of_rule, refusal_at};
 ghost use Rattle.verifier.specs.Verdict.{IsFirstFaulty, RefusesStates};
 
+use crate::rule::Rule;
 use flow_graph::FlowFault;
 use insn_codec::CodecFault;
 use refusal::NoMemory;
@@ -12,10 +14,10 @@ use std::alloc::{AllocError, AllocFailed};
 use thiserror::Error;
 
 /// Why a program isn't accepted. The number is the slot.
-#[derive(Clone, Copy, Debug, PartialEq, Eq, Error)]
+#[derive(Clone, Copy, Debug, PartialEq, Eq, Hash, Error)]
 pub enum Refusal {
     /// The program needs more bytes than a part may have.
-    #[error("need over 65536")]
+    #[error("38: need over 65536")]
     NeedTooLarge,
     /// The bytes are no program.
     #[error("{0}")]
@@ -24,56 +26,29 @@ pub enum Refusal {
     #[error("{0}")]
     Flow(FlowFault),
     /// A register is read that may be unset.
-    #[error("read of an unset register at slot {0}")]
+    #[error("31: read of an unset register at slot {0}")]
     UnsetRead(u32),
     /// An access may leave the stack.
-    #[error("access out of the stack at slot {0}")]
+    #[error("32: access out of the stack at slot {0}")]
     OutOfStack(u32),
     /// An access may leave the part.
-    #[error("access out of the part at slot {0}")]
+    #[error("33: access out of the part at slot {0}")]
     OutOfPart(u32),
     /// A number stands where a pointer is wanted, or a pointer where a number is.
-    #[error("wrong kind of value at slot {0}")]
+    #[error("34: wrong kind of value at slot {0}")]
     BadKind(u32),
     /// A pointer may go too far.
-    #[error("pointer out of range at slot {0}")]
+    #[error("35: pointer out of range at slot {0}")]
     PointerRange(u32),
     /// R10 is written.
-    #[error("write of r10 at slot {0}")]
+    #[error("36: write of r10 at slot {0}")]
     FramePointer(u32),
     /// The helper isn't in the table.
-    #[error("unknown helper at slot {0}")]
+    #[error("37: unknown helper at slot {0}")]
     NoHelper(u32),
     /// A growth was refused.
-    #[error("out of memory")]
+    #[error("99: out of memory")]
     NoMemory,
-}
-
-/// The slot that a decoder's refusal tells.
-fn codec_slot(fault: &CodecFault) -> Option<u32>
-    ensures { result ≡ codec_slot fault.now }
-{
-    match *fault {
-        CodecFault::UnknownOp(slot)
-        | CodecFault::BadRegister(slot)
-        | CodecFault::UnusedField(slot)
-        | CodecFault::HalfWide(slot) => Some(slot),
-        CodecFault::Empty | CodecFault::Ragged | CodecFault::TooLong | CodecFault::NoMemory => None,
-    }
-}
-
-/// The slot that a graph's refusal tells.
-fn flow_slot(fault: &FlowFault) -> Option<u32>
-    ensures { result ≡ flow_slot fault.now }
-{
-    match *fault {
-        FlowFault::JumpOut(slot)
-        | FlowFault::IntoWide(slot)
-        | FlowFault::Cycle(slot)
-        | FlowFault::FallsOff(slot)
-        | FlowFault::Unreachable(slot) => Some(slot),
-        FlowFault::NoMemory => None,
-    }
 }
 
 impl Refusal {
@@ -85,13 +60,13 @@ impl Refusal {
             Refusal::NeedTooLarge => 38,
             Refusal::Codec(fault) => fault.code(),
             Refusal::Flow(fault) => fault.code(),
-            Refusal::UnsetRead(_) => 31,
-            Refusal::OutOfStack(_) => 32,
-            Refusal::OutOfPart(_) => 33,
-            Refusal::BadKind(_) => 34,
-            Refusal::PointerRange(_) => 35,
-            Refusal::FramePointer(_) => 36,
-            Refusal::NoHelper(_) => 37,
+            Refusal::UnsetRead(_) => Rule::UnsetRead.code(),
+            Refusal::OutOfStack(_) => Rule::OutOfStack.code(),
+            Refusal::OutOfPart(_) => Rule::OutOfPart.code(),
+            Refusal::BadKind(_) => Rule::BadKind.code(),
+            Refusal::PointerRange(_) => Rule::PointerRange.code(),
+            Refusal::FramePointer(_) => Rule::FramePointer.code(),
+            Refusal::NoHelper(_) => Rule::NoHelper.code(),
             Refusal::NoMemory => 99,
         }
     }
@@ -101,8 +76,8 @@ impl Refusal {
         ensures { result ≡ slot_of self.now }
     {
         match self {
-            Refusal::Codec(fault) => codec_slot(fault),
-            Refusal::Flow(fault) => flow_slot(fault),
+            Refusal::Codec(fault) => fault.slot(),
+            Refusal::Flow(fault) => fault.slot(),
             Refusal::UnsetRead(slot)
             | Refusal::OutOfStack(slot)
             | Refusal::OutOfPart(slot)
@@ -114,21 +89,21 @@ impl Refusal {
         }
     }
 
-    /// The refusal of this number, 31 to 37, at the slot.
-    pub(crate) fn at(slot: u32, number: u8) -> Refusal
-        requires { (31 ≤ number) × (number ≤ 37) }
-        ensures first { (p : Subject) → IsFirstFaulty p slot number → RefusesStates p result }
-        ensures number { number_of result ≡ number }
+    /// The refusal of the instruction at the slot, which breaks the rule.
+    pub(crate) fn at(slot: u32, rule: Rule) -> Refusal
+        ensures first { (p : Subject) → IsFirstFaulty p slot rule → RefusesStates p result }
+        ensures refusal { result ≡ refusal_at slot rule }
+        ensures number { number_of result ≡ number_of_rule rule }
         ensures slot { slot_of result ≡ Some slot }
     {
-        match number {
-            31 => Refusal::UnsetRead(slot),
-            32 => Refusal::OutOfStack(slot),
-            33 => Refusal::OutOfPart(slot),
-            34 => Refusal::BadKind(slot),
-            35 => Refusal::PointerRange(slot),
-            36 => Refusal::FramePointer(slot),
-            _ => Refusal::NoHelper(slot),
+        match rule {
+            Rule::UnsetRead => Refusal::UnsetRead(slot),
+            Rule::OutOfStack => Refusal::OutOfStack(slot),
+            Rule::OutOfPart => Refusal::OutOfPart(slot),
+            Rule::BadKind => Refusal::BadKind(slot),
+            Rule::PointerRange => Refusal::PointerRange(slot),
+            Rule::FramePointer => Refusal::FramePointer(slot),
+            Rule::NoHelper => Refusal::NoHelper(slot),
         }
     }
 }

@@ -13,8 +13,8 @@ use refusal::NoMemory;
 use std::alloc::Global;
 use std::marker::Model;
 
-/// The slots that lead to each slot, lowest first: a list for each slot, linked through the edges. What has come from a slot is
-/// taken from the list.
+/// The slots that lead to each slot, lowest first: a list for each slot, linked through the edges.
+/// What has come from a slot is taken from the list.
 #[derive(Drop)]
 pub(crate) struct Sources {
     /// The lowest slot that leads to a slot, of those from which nothing has come.
@@ -38,10 +38,12 @@ impl Model for Sources {
 impl Sources {
     /// No slot is linked.
     fn none(alloc: Global, slots: u32) -> Result<Sources, NoMemory>
-        ensures first { IfOk result (λ t. (length t.first ≡ slots) × ((s : ℕ) → s < slots → slice_index_or t.first s None ≡ None)) }
+        ensures first { IfOk result (λ t. (length t.first ≡ slots)
+            × ((s : ℕ) → s < slots → slice_index_or t.first s None ≡ None)) }
         ensures following { IfOk result (λ t. length t.following ≡ slots) }
         ensures taken { IfOk result (λ t. length t.taken ≡ slots) }
-        ensures edges { IfOk result (λ t. (length t.edges ≡ slots) × ((s : ℕ) → s < slots → slice_index_or t.edges s 0 ≡ 0)) }
+        ensures edges { IfOk result (λ t. (length t.edges ≡ slots)
+            × ((s : ℕ) → s < slots → slice_index_or t.edges s 0 ≡ 0)) }
     {
         let first = vec![in alloc; None; slots as usize]?;
         let following = vec![in alloc; None; slots as usize]?;
@@ -59,7 +61,8 @@ impl Sources {
     fn count(&mut self, to: u32)
         requires to { to < length self.old.edges }
         requires room { slice_index_or self.old.edges to 0 < 4294967295 }
-        ensures edges { self.new.edges ≡ slice_set self.old.edges to (slice_index_or self.old.edges to 0 + 1) }
+        ensures edges { self.new.edges
+            ≡ slice_set self.old.edges to (slice_index_or self.old.edges to 0 + 1) }
         ensures first { self.new.first ≡ self.old.first }
         ensures following { self.new.following ≡ self.old.following }
         ensures taken { self.new.taken ≡ self.old.taken }
@@ -72,7 +75,8 @@ impl Sources {
         requires from { from < length self.old.following }
         requires to { to < length self.old.first }
         ensures first { self.new.first ≡ slice_set self.old.first to (Some from) }
-        ensures following { self.new.following ≡ slice_set self.old.following from (slice_index_or self.old.first to None) }
+        ensures following { self.new.following
+            ≡ slice_set self.old.following from (slice_index_or self.old.first to None) }
         ensures taken { self.new.taken ≡ self.old.taken }
         ensures edges { self.new.edges ≡ self.old.edges }
     {
@@ -86,7 +90,8 @@ impl Sources {
         requires to { to < length self.old.first }
         ensures first { self.new.first ≡ slice_set self.old.first to (Some from) }
         ensures following { self.new.following ≡ self.old.following }
-        ensures taken { self.new.taken ≡ slice_set self.old.taken from (slice_index_or self.old.first to None) }
+        ensures taken { self.new.taken
+            ≡ slice_set self.old.taken from (slice_index_or self.old.first to None) }
         ensures edges { self.new.edges ≡ self.old.edges }
     {
         self.taken[from as usize] = self.first[to as usize];
@@ -139,6 +144,7 @@ impl Sources {
     }
 
     /// Whether the slot's state is kept: it is slot 0, or at least two edges lead there.
+    #[inline(always)]
     pub(crate) fn is_kept(&self, slot: u32, graph: &Graph) -> bool
         requires linked { IsLinked graph.now.code self.now }
         requires slot { slot < length graph.now.code }
@@ -149,6 +155,7 @@ impl Sources {
     }
 
     /// The lowest slot that leads to the slot, of those from which nothing has come.
+    #[inline(always)]
     pub(crate) fn first(&self, to: u32) -> Option<u32>
         requires { to < length self.now.first }
         ensures { result ≡ slice_index_or self.now.first to None }
@@ -157,6 +164,7 @@ impl Sources {
     }
 
     /// The next slot that leads to a slot, after one that leads there by one of these edges.
+    #[inline(always)]
     fn after(&self, next: Next, from: u32, to: u32) -> Option<u32>
         requires following { from < length self.now.following }
         requires taken { from < length self.now.taken }
@@ -176,11 +184,13 @@ impl Sources {
     }
 
     /// What a slot passes on has come to another, where it leads by one of these edges.
+    #[inline(always)]
     pub(crate) fn note(&mut self, next: Next, from: u32, to: u32)
         requires following { from < length self.old.following }
         requires taken { from < length self.old.taken }
         requires to { to < length self.old.first }
-        ensures first { self.new.first ≡ slice_set self.old.first to (link_of self.old next from to) }
+        ensures first { self.new.first
+            ≡ slice_set self.old.first to (link_of self.old next from to) }
         ensures following { self.new.following ≡ self.old.following }
         ensures taken { self.new.taken ≡ self.old.taken }
         ensures edges { self.new.edges ≡ self.old.edges }
@@ -189,6 +199,7 @@ impl Sources {
     }
 
     /// Whether the slot takes nothing more from another.
+    #[inline(always)]
     fn is_past(&self, to: u32, from: u32) -> bool
         requires { to < length self.now.first }
         ensures { IsTrue result → IsPast (slice_index_or self.now.first to None) from }
@@ -199,12 +210,15 @@ impl Sources {
         }
     }
 
-    /// Whether what a slot passes on has come to each slot where it leads by one of these edges, but for one.
+    /// Whether what a slot passes on has come to each slot where it leads by one of these edges,
+    /// but for one.
+    #[inline(always)]
     pub(crate) fn is_taken_beside(&self, graph: &Graph, next: Next, from: u32, to: u32) -> bool
         requires next { AreNext graph.now.code from next }
         requires joint { IsJoint graph.now.code from to }
         requires linked { IsLinked graph.now.code self.now }
-        ensures { IsTrue result → (s : ℕ) → IsJoint graph.now.code from s → s ≢ to → IsPast (slice_index_or self.now.first s None) from }
+        ensures { IsTrue result → (s : ℕ) → IsJoint graph.now.code from s → s ≢ to
+            → IsPast (slice_index_or self.now.first s None) from }
     {
         let _slots = graph.slots();
         match next {

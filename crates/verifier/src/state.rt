@@ -7,7 +7,7 @@ ghost use Rattle.verifier.specs.Joining.{joined_to};
 ghost use Rattle.verifier.specs.States.{entry_state, joined_state, operand_at, refined_state, with_abs, called_state};
 
 use insn_codec::{Operand, Register};
-use value_ranges::{Abs, entry, immediate, join};
+use value_ranges::{Abs, entry, immediate, join_into};
 
 /// What is known of each register ahead of a slot, by its number.
 #[derive(Clone, Copy, Debug, PartialEq, Eq)]
@@ -99,8 +99,8 @@ impl State {
     fn join_at(&mut self, other: &State, register: Register)
         ensures { self.new ≡ joined_to self.old other.now register }
     {
-        let joined = join(self.at(register), other.at(register));
-        self.set(register, joined);
+        let place = usize::from(register.number());
+        join_into(&mut self.registers[place], &other.registers[place]);
     }
 
     /// Another way leads here.

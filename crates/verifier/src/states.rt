@@ -18,10 +18,11 @@ ghost use Rattle.verifier.specs.Sources.{IsLinked, IsNextSource};
 ghost use Rattle.verifier.specs.Survey.{subject_of, IsRegionThere, IsSurveyed};
 
 use crate::allowed::judge;
-use crate::held::Held;
+use crate::held::{Boxes, Held};
 use crate::kept::Kept;
 use crate::refusals::Refusal;
 use crate::regions::region_there;
+use crate::rule::Rule;
 use crate::sources::Sources;
 use crate::state::State;
 use flow_graph::{Graph, Next};
@@ -32,11 +33,11 @@ use refusal::NoMemory;
 use std::alloc::Global;
 use value_ranges::Abs;
 
-/// An instruction that isn't allowed, and the lowest number that applies to it.
+/// An instruction that isn't allowed, and the rule of the lowest number that it breaks.
 #[derive(Clone, Copy)]
 pub(crate) struct Fault {
     slot: u32,
-    number: u8,
+    rule: Rule,
 }
 
 /// What is surveyed: a program, the bytes that its tasks need, and the helpers that it may call.
@@ -58,7 +59,11 @@ pub(crate) struct Passage<'a> {
 
 /// The state at a place, which stays there if it is needed further.
 #[inline(always)]
-fn hand_over(alloc: Global, place: &mut Option<Held>, keep: bool) -> Result<Option<Held>, NoMemory>
+fn hand_over(
+    boxes: &mut Boxes,
+    place: &mut Option<Held>,
+    keep: bool,
+) -> Result<Option<Held>, NoMemory>
     ensures held { IfOk result (λ held. held ≡ place.old) }
     ensures place { OnOk result (place.new ≡ if keep then place.old else None) }
 {
@@ -67,14 +72,14 @@ fn hand_over(alloc: Global, place: &mut Option<Held>, keep: bool) -> Result<Opti
     }
     match place {
         None => Ok(None),
-        Some(state) => Ok(Some(Held::new(alloc, state.get())?)),
+        Some(state) => Ok(Some(boxes.copy(state.get())?)),
     }
 }
 
-/// What the instruction at a slot passes on along one edge comes to another slot, besides what came before. Its state stays if it
-/// is needed further.
+/// What the instruction at a slot passes on along one edge comes to another slot, besides what came
+/// before. Its state stays if it is needed further.
 fn send(
-    alloc: Global,
+    boxes: &mut Boxes,
     states: &mut [Option<Held>],
     passage: &Passage<'_>,
     to: u32,
@@ -87,24 +92,28 @@ fn send(
     requires left { (state : State) → Some state ≡ slice_index_or states.old passage.now.from None
         → passage.now.left ≡ left_by passage.now.insn.now state }
     ensures slots { OnOk result (length states.new ≡ length states.old) }
-    ensures others { OnOk result ((s : ℕ) → s ≢ to → s ≢ passage.now.from → slice_index_or states.new s None ≡ slice_index_or states.old s None) }
+    ensures others { OnOk result ((s : ℕ) → s ≢ to → s ≢ passage.now.from
+        → slice_index_or states.new s None ≡ slice_index_or states.old s None) }
     ensures from { OnOk result (slice_index_or states.new passage.now.from None
         ≡ if keep then slice_index_or states.old passage.now.from None else None) }
-    ensures met { OnOk result ((state : State) → Some state ≡ slice_index_or states.old passage.now.from None →
-        arrival_of (slice_index_or states.new to None) ≡ met (arrival_of (slice_index_or states.old to None))
+    ensures met { OnOk result ((state : State)
+        → Some state ≡ slice_index_or states.old passage.now.from None →
+        arrival_of (slice_index_or states.new to None)
+        ≡ met (arrival_of (slice_index_or states.old to None))
         (Comes (passed passage.now.insn.now (if taken then Taken else NotTaken) state))) }
 {
-    let held = hand_over(alloc, &mut states[passage.from as usize], keep)?;
+    let held = hand_over(boxes, &mut states[passage.from as usize], keep)?;
     if let Some(mut state) = held {
         state.pass(passage.insn, taken, &passage.left);
-        state.come(&mut states[to as usize]);
+        state.come(&mut states[to as usize], boxes);
     }
     Ok(())
 }
 
 /// What the instruction at a slot passes on comes to another slot along each edge that leads there.
+#[inline(always)]
 fn carry(
-    alloc: Global,
+    boxes: &mut Boxes,
     states: &mut [Option<Held>],
     graph: &Graph,
     passage: &Passage<'_>,
@@ -120,36 +129,42 @@ fn carry(
     requires left { (state : State) → Some state ≡ slice_index_or states.old passage.now.from None
         → passage.now.left ≡ left_by passage.now.insn.now state }
     ensures slots { OnOk result (length states.new ≡ length states.old) }
-    ensures others { OnOk result ((s : ℕ) → s ≢ to → s ≢ passage.now.from → slice_index_or states.new s None ≡ slice_index_or states.old s None) }
+    ensures others { OnOk result ((s : ℕ) → s ≢ to → s ≢ passage.now.from
+        → slice_index_or states.new s None ≡ slice_index_or states.old s None) }
     ensures from { OnOk result (slice_index_or states.new passage.now.from None
         ≡ if keep then slice_index_or states.old passage.now.from None else None) }
-    ensures met { OnOk result ((state : State) → Some state ≡ slice_index_or states.old passage.now.from None →
+    ensures met { OnOk result ((state : State)
+        → Some state ≡ slice_index_or states.old passage.now.from None →
         arrival_of (slice_index_or states.new to None)
         ≡ met (met (met (arrival_of (slice_index_or states.old to None))
-        (landed (leads_at graph.now.code passage.now.from Always) to (Comes (passed passage.now.insn.now Always state))))
-        (landed (leads_at graph.now.code passage.now.from NotTaken) to (Comes (passed passage.now.insn.now NotTaken state))))
-        (landed (leads_at graph.now.code passage.now.from Taken) to (Comes (passed passage.now.insn.now Taken state)))) }
+        (landed (leads_at graph.now.code passage.now.from Always) to
+        (Comes (passed passage.now.insn.now Always state))))
+        (landed (leads_at graph.now.code passage.now.from NotTaken) to
+        (Comes (passed passage.now.insn.now NotTaken state))))
+        (landed (leads_at graph.now.code passage.now.from Taken) to
+        (Comes (passed passage.now.insn.now Taken state)))) }
 {
     match passage.next {
         Next::Zero => unreachable!(),
-        Next::One(_) => send(alloc, states, passage, to, false, keep),
+        Next::One(_) => send(boxes, states, passage, to, false, keep),
         Next::Two(following, target) => {
             if following != to {
-                return send(alloc, states, passage, to, true, keep);
+                return send(boxes, states, passage, to, true, keep);
             }
             if target != to {
-                return send(alloc, states, passage, to, false, keep);
+                return send(boxes, states, passage, to, false, keep);
             }
-            send(alloc, states, passage, to, false, true)?;
-            send(alloc, states, passage, to, true, keep)
+            send(boxes, states, passage, to, false, true)?;
+            send(boxes, states, passage, to, true, keep)
         }
     }
 }
 
-/// What the instruction at a slot passes on comes to another slot, which takes it next. The state at the first stays as long as it
-/// is needed.
+/// What the instruction at a slot passes on comes to another slot, which takes it next. The state
+/// at the first stays as long as it is needed.
+#[inline(always)]
 fn deliver(
-    alloc: Global,
+    boxes: &mut Boxes,
     states: &mut [Option<Held>],
     sources: &mut Sources,
     graph: &Graph,
@@ -165,23 +180,29 @@ fn deliver(
         → passage.now.left ≡ left_by passage.now.insn.now state }
     ensures linked { OnOk result (IsLinked graph.now.code sources.new) }
     ensures slots { OnOk result (length states.new ≡ length states.old) }
-    ensures from { OnOk result ((state : State) → Some state ≡ slice_index_or states.new passage.now.from None
+    ensures from { OnOk result ((state : State)
+        → Some state ≡ slice_index_or states.new passage.now.from None
         → Some state ≡ slice_index_or states.old passage.now.from None) }
-    ensures firsts { OnOk result ((s : ℕ) → s ≢ to → slice_index_or sources.new.first s None ≡ slice_index_or sources.old.first s None) }
-    ensures first { OnOk result (IsNextSource graph.now.code to (suc passage.now.from) (slice_index_or sources.new.first to None)) }
+    ensures firsts { OnOk result ((s : ℕ) → s ≢ to
+        → slice_index_or sources.new.first s None ≡ slice_index_or sources.old.first s None) }
+    ensures first { OnOk result
+        (IsNextSource graph.now.code to (suc passage.now.from)
+        (slice_index_or sources.new.first to None)) }
     ensures come { OnOk result ((need : ℕ) (helpers : Table) (n : ℕ) (state : State) →
-        HasCome (record { need = need; helpers = helpers; code = graph.now.code }) graph.now.order n sources.old states.old →
+        HasCome (record { need = need; helpers = helpers; code = graph.now.code }) graph.now.order n
+        sources.old states.old →
         IsAmong graph.now.order n passage.now.from → (IsAmong graph.now.order n to → ⊥) →
         insn_at graph.now.code passage.now.from ≡ Some passage.now.insn.now →
         slice_index_or states.old passage.now.from None ≡ Some state →
-        HasCome (record { need = need; helpers = helpers; code = graph.now.code }) graph.now.order n sources.new states.new) }
+        HasCome (record { need = need; helpers = helpers; code = graph.now.code }) graph.now.order n
+        sources.new states.new) }
 {
     let slots = graph.slots();
     prove!(passage.from < slots);
     prove!(to < slots);
     let keep = sources.is_kept(passage.from, graph)
         || !sources.is_taken_beside(graph, passage.next, passage.from, to);
-    carry(alloc, states, graph, passage, to, keep)?;
+    carry(boxes, states, graph, passage, to, keep)?;
     sources.note(passage.next, passage.from, to);
     Ok(())
 }
@@ -223,16 +244,21 @@ pub(crate) fn passage_again<'a>(survey: &Survey<'a>, from: u32, state: &State) -
 /// What came to the slot at a place out of turn comes there in turn, as far as it is there.
 #[inline(always)]
 fn catch_up(
-    alloc: Global,
+    boxes: &mut Boxes,
     states: &mut [Option<Held>],
     sources: &mut Sources,
     survey: &Survey<'_>,
     place: usize,
 ) -> Result<(), NoMemory>
     requires place { place < length survey.now.graph.now.order }
-    requires come { HasCome (subject_of survey.now) survey.now.graph.now.order place sources.old states.old }
-    ensures come { OnOk result (HasCome (subject_of survey.now) survey.now.graph.now.order place sources.new states.new) }
-    ensures rest { OnOk result ((q : ℕ) → slice_index_or sources.new.first (slice_index survey.now.graph.now.order place) None ≡ Some q →
+    requires come { HasCome (subject_of survey.now) survey.now.graph.now.order place sources.old
+        states.old }
+    ensures come { OnOk result
+        (HasCome (subject_of survey.now) survey.now.graph.now.order place sources.new
+        states.new) }
+    ensures rest { OnOk result ((q : ℕ)
+        → slice_index_or sources.new.first (slice_index survey.now.graph.now.order place) None
+        ≡ Some q →
         slice_index_or states.new q None ≡ None) }
 {
     let slot = slot_at(survey.graph, place);
@@ -243,14 +269,15 @@ fn catch_up(
             None => return Ok(()),
             Some(state) => passage_again(survey, from, state.get()),
         };
-        deliver(alloc, states, sources, survey.graph, &passage, slot)?;
+        deliver(boxes, states, sources, survey.graph, &passage, slot)?;
     }
     Ok(())
 }
 
 /// What the instruction at a slot passes on comes to a slot that it leads to, if it is its turn.
+#[inline(always)]
 fn reach(
-    alloc: Global,
+    boxes: &mut Boxes,
     states: &mut [Option<Held>],
     sources: &mut Sources,
     graph: &Graph,
@@ -265,29 +292,34 @@ fn reach(
         → passage.now.left ≡ left_by passage.now.insn.now state }
     ensures linked { OnOk result (IsLinked graph.now.code sources.new) }
     ensures slots { OnOk result (length states.new ≡ length states.old) }
-    ensures from { OnOk result ((state : State) → Some state ≡ slice_index_or states.new passage.now.from None
+    ensures from { OnOk result ((state : State)
+        → Some state ≡ slice_index_or states.new passage.now.from None
         → Some state ≡ slice_index_or states.old passage.now.from None) }
     ensures come { OnOk result ((need : ℕ) (helpers : Table) (n : ℕ) →
-        HasCome (record { need = need; helpers = helpers; code = graph.now.code }) graph.now.order n sources.old states.old →
+        HasCome (record { need = need; helpers = helpers; code = graph.now.code }) graph.now.order n
+        sources.old states.old →
         IsAmong graph.now.order n passage.now.from → (IsAmong graph.now.order n to → ⊥) →
         insn_at graph.now.code passage.now.from ≡ Some passage.now.insn.now →
-        HasCome (record { need = need; helpers = helpers; code = graph.now.code }) graph.now.order n sources.new states.new) }
+        HasCome (record { need = need; helpers = helpers; code = graph.now.code }) graph.now.order n
+        sources.new states.new) }
 {
     let slots = graph.slots();
     prove!(passage.from < slots);
     prove!(to < slots);
     match sources.first(to) {
         Some(first) if first == passage.from => match &states[first as usize] {
-            Some(_) => deliver(alloc, states, sources, graph, passage, to),
+            Some(_) => deliver(boxes, states, sources, graph, passage, to),
             None => Ok(()),
         },
         _ => Ok(()),
     }
 }
 
-/// What the instruction at a slot passes on comes to the slots that it leads to, where it is its turn.
+/// What the instruction at a slot passes on comes to the slots that it leads to, where it is its
+/// turn.
+#[inline(always)]
 fn push_on(
-    alloc: Global,
+    boxes: &mut Boxes,
     states: &mut [Option<Held>],
     sources: &mut Sources,
     graph: &Graph,
@@ -300,9 +332,11 @@ fn push_on(
     requires left { (state : State) → Some state ≡ slice_index_or states.old passage.now.from None
         → passage.now.left ≡ left_by passage.now.insn.now state }
     ensures come { OnOk result ((need : ℕ) (helpers : Table) (n : ℕ) →
-        HasCome (record { need = need; helpers = helpers; code = graph.now.code }) graph.now.order (suc n) sources.old states.old →
+        HasCome (record { need = need; helpers = helpers; code = graph.now.code }) graph.now.order
+        (suc n) sources.old states.old →
         n < length graph.now.order → slice_index graph.now.order n ≡ passage.now.from →
-        HasCome (record { need = need; helpers = helpers; code = graph.now.code }) graph.now.order (suc n) sources.new states.new) }
+        HasCome (record { need = need; helpers = helpers; code = graph.now.code }) graph.now.order
+        (suc n) sources.new states.new) }
 {
     let slots = graph.slots();
     prove!(passage.from < slots);
@@ -313,18 +347,19 @@ fn push_on(
             }
             Ok(())
         }
-        Next::One(to) => reach(alloc, states, sources, graph, passage, to),
+        Next::One(to) => reach(boxes, states, sources, graph, passage, to),
         Next::Two(following, to) => {
-            reach(alloc, states, sources, graph, passage, following)?;
-            reach(alloc, states, sources, graph, passage, to)
+            reach(boxes, states, sources, graph, passage, following)?;
+            reach(boxes, states, sources, graph, passage, to)
         }
     }
 }
 
-/// What arrives at the slot at a place comes there, and its instruction is judged and passes it on. Tells its fault, if it has one of
-/// its own, and notes the region of its access.
+/// What arrives at the slot at a place comes there, and its instruction is judged and passes it on.
+/// Tells its fault, if it has one of its own, and notes the region of its access.
+#[inline(always)]
 fn examine(
-    alloc: Global,
+    boxes: &mut Boxes,
     states: &mut [Option<Held>],
     sources: &mut Sources,
     regions: &mut [Region],
@@ -332,16 +367,23 @@ fn examine(
     place: usize,
 ) -> Result<Option<Fault>, NoMemory>
     requires place { place < length survey.now.graph.now.order }
-    requires come { HasCome (subject_of survey.now) survey.now.graph.now.order place sources.old states.old }
+    requires come { HasCome (subject_of survey.now) survey.now.graph.now.order place sources.old
+        states.old }
     requires regions { length regions.old ≡ length survey.now.graph.now.code }
-    ensures come { OnOk result (HasCome (subject_of survey.now) survey.now.graph.now.order (suc place) sources.new states.new) }
-    ensures found { IfOk result (λ fault. IsFound (subject_of survey.now) survey.now.graph.now.order place (slice_index survey.now.graph.now.order place) fault) }
+    ensures come { OnOk result
+        (HasCome (subject_of survey.now) survey.now.graph.now.order (suc place) sources.new
+        states.new) }
+    ensures found { IfOk result
+        (λ fault. IsFound (subject_of survey.now) survey.now.graph.now.order place
+        (slice_index survey.now.graph.now.order place) fault) }
     ensures regions { OnOk result (length regions.new ≡ length regions.old) }
-    ensures others { OnOk result ((s : ℕ) → s ≢ slice_index survey.now.graph.now.order place → slice_index_or regions.new s Stack ≡ slice_index_or regions.old s Stack) }
-    ensures region { OnOk result (IsRegionThere (subject_of survey.now) (slice_index survey.now.graph.now.order place)
+    ensures others { OnOk result ((s : ℕ) → s ≢ slice_index survey.now.graph.now.order place
+        → slice_index_or regions.new s Stack ≡ slice_index_or regions.old s Stack) }
+    ensures region { OnOk result
+        (IsRegionThere (subject_of survey.now) (slice_index survey.now.graph.now.order place)
         (slice_index_or regions.new (slice_index survey.now.graph.now.order place) Stack)) }
 {
-    catch_up(alloc, states, sources, survey, place)?;
+    catch_up(boxes, states, sources, survey, place)?;
     let slot = slot_at(survey.graph, place);
     let slots = survey.graph.slots();
     prove!(slot < slots);
@@ -359,9 +401,9 @@ fn examine(
         }
     };
     match judged {
-        Err(number) => {
+        Err(rule) => {
             states[slot as usize] = None;
-            Ok(Some(Fault { slot, number }))
+            Ok(Some(Fault { slot, rule }))
         }
         Ok(left) => {
             let passage = Passage {
@@ -370,7 +412,7 @@ fn examine(
                 insn,
                 left,
             };
-            push_on(alloc, states, sources, survey.graph, &passage)?;
+            push_on(boxes, states, sources, survey.graph, &passage)?;
             Ok(None)
         }
     }
@@ -391,10 +433,12 @@ fn places(alloc: Global, need: u32, slots: u32) -> Result<Vec<Option<Held>>, NoM
     requires need { need ≤ 65536 }
     requires slots { 0 < slots }
     ensures slots { IfOk result (λ states. length states.items ≡ slots) }
-    ensures first { IfOk result (λ states. slice_index_or states.items 0 None ≡ Some (entry_state need)) }
-    ensures others { IfOk result (λ states. (s : ℕ) → 0 < s → s < slots → slice_index_or states.items s None ≡ None) }
+    ensures first { IfOk result (λ states. slice_index_or states.items 0 None
+        ≡ Some (entry_state need)) }
+    ensures others { IfOk result (λ states. (s : ℕ) → 0 < s → s < slots
+        → slice_index_or states.items s None ≡ None) }
 {
-    let mut states = Vec::new(alloc);
+    let mut states = Vec::with_capacity(alloc, slots as usize)?;
     states.push(Some(Held::new(alloc, &State::entry(need))?))?;
     for slot in 1..slots {
         prove!(slot > 0);
@@ -403,7 +447,8 @@ fn places(alloc: Global, need: u32, slots: u32) -> Result<Vec<Option<Held>>, NoM
     Ok(states)
 }
 
-/// What was found out of a program whose instructions are allowed: the states that are kept, and the regions of its accesses.
+/// What was found out of a program whose instructions are allowed: the states that are kept, and
+/// the regions of its accesses.
 #[derive(Drop)]
 pub(crate) struct Found {
     pub(crate) kept: Vec<Kept>,
@@ -419,9 +464,12 @@ fn kept(
 ) -> Result<Vec<Kept>, NoMemory>
     requires linked { IsLinked survey.now.graph.now.code sources.now }
     requires slots { length states.old ≡ length survey.now.graph.now.code }
-    requires there { (s : ℕ) → s < length survey.now.graph.now.code → is_kept survey.now.graph.now.code s ≡ true →
-        (state : State) × (slice_index_or states.old s None ≡ Some state) × (arrive (subject_of survey.now) s ≡ Comes state) }
-    ensures { IfOk result (λ kept. AreKept (subject_of survey.now) kept.items (length survey.now.graph.now.code)) }
+    requires there { (s : ℕ) → s < length survey.now.graph.now.code
+        → is_kept survey.now.graph.now.code s ≡ true →
+        (state : State) × (slice_index_or states.old s None ≡ Some state)
+        × (arrive (subject_of survey.now) s ≡ Comes state) }
+    ensures { IfOk result
+        (λ kept. AreKept (subject_of survey.now) kept.items (length survey.now.graph.now.code)) }
 {
     let slots = survey.graph.slots();
     let mut kept = Vec::new(alloc);
@@ -436,7 +484,8 @@ fn kept(
     Ok(kept)
 }
 
-/// The states that are kept and the regions of the accesses, or the first instruction that isn't allowed.
+/// The states that are kept and the regions of the accesses, or the first instruction that isn't
+/// allowed.
 pub(crate) fn states(
     alloc: Global,
     need: u32,
@@ -444,8 +493,11 @@ pub(crate) fn states(
     graph: &Graph,
 ) -> Result<Found, Refusal>
     requires need { need ≤ 65536 }
-    ensures { MatchResult result (λ found. IsSurveyed (record { need = need; helpers = helpers.now; code = graph.now.code }) found)
-        (λ refusal. RefusesStates (record { need = need; helpers = helpers.now; code = graph.now.code }) refusal) }
+    ensures { MatchResult result
+        (λ found. IsSurveyed
+        (record { need = need; helpers = helpers.now; code = graph.now.code }) found)
+        (λ refusal. RefusesStates
+        (record { need = need; helpers = helpers.now; code = graph.now.code }) refusal) }
 {
     let slots = graph.slots();
     let survey = Survey {
@@ -456,10 +508,11 @@ pub(crate) fn states(
     let mut sources = Sources::of(alloc, graph)?;
     let mut states = places(alloc, need, slots)?;
     let mut regions = vec![in alloc; Region::Stack; slots as usize]?;
+    let mut boxes = Boxes::new(alloc);
     let mut first = None;
     for place in 0..graph.order().len() {
         let fault = examine(
-            alloc,
+            &mut boxes,
             &mut states,
             &mut sources,
             &mut regions,
@@ -476,6 +529,6 @@ pub(crate) fn states(
             kept: kept(alloc, &mut states, &sources, &survey)?,
             regions,
         }),
-        Some(fault) => Err(Refusal::at(fault.slot, fault.number)),
+        Some(fault) => Err(Refusal::at(fault.slot, fault.rule)),
     }
 }

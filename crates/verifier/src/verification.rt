@@ -23,9 +23,9 @@ fn is_small(need: u32) -> bool
     need <= GREATEST_NEED
 }
 
-/// Accepts a program, or tells the one reason why not: its need, then its bytes, its edges, and at last the first
-/// instruction that isn't allowed where what is known of the registers is what its paths leave. Of all that applies at
-/// one slot the lowest number is told.
+/// Accepts a program, or tells the one reason why not: its need, then its bytes, its edges, and at
+/// last the first instruction that isn't allowed where what is known of the registers is what its
+/// paths leave. Of all that applies at one slot the lowest number is told.
 pub fn verify(
     alloc: Global,
     need: u32,

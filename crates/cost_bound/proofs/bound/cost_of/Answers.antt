@@ -1,4 +1,4 @@
-use Rattle.std.proofs.Common.{◌≡◌, ◌+◌, ◌*◌, ◌≤◌, ◌<◌, List, ℕ, length, refl, sym, ap, arith, slice_index}
+use Rattle.std.proofs.Common.{◌+◌, ◌*◌, ◌≤◌, ◌<◌, length, refl, sym, arith, slice_index}
 use Rattle.machine_model.specs.Edges.{Always, NotTaken, Taken}
 use Rattle.cost_bound.proofs.Steps.{cost_zero, cost_one, cost_two, cost_over, few_over, at_begins, at_within, is_there}
 use Rattle.cost_bound.proofs.bound.cost_of.Goals as goal

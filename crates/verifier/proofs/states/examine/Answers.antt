@@ -68,15 +68,15 @@ returns-in-Err-clause-come c =
     let arrives = comes_there (arrive (subject_of c.args.survey.now) c.slot_at-slot.result) (slice_index_or c.catch_up.new.states c.slot_at-slot.result None) c.in-Some-states.state kept
     (all_come (subject_of c.args.survey.now) c.args.survey.now.graph.now.order c.args.place c.slot_at-slot.result c.catch_up.new.sources c.catch_up.new.states
     c.slots-slots.ensures.flow.order c.slot_at-slot.ensures.slot c.requires.place c.in_ok-catch_up.ensures.come (sym c.in_default.ensures)) in
-    let number = refused_is _ (left_by c.unwrap-insn.result.now c.get-in-Some-states.result.now) c.in-Err.number c.in-Err.ensures in
+    let broken = refused_is _ (left_by c.unwrap-insn.result.now c.get-in-Some-states.result.now) c.in-Err.rule c.in-Err.ensures in
     come_cleared (subject_of c.args.survey.now) c.args.survey.now.graph.now.order c.args.place c.slot_at-slot.result c.catch_up.new.sources c.catch_up.new.states
     c.slot_at-slot.ensures.slot c.requires.place room c.in_ok-catch_up.ensures.come
-    (blocked_at_fault (subject_of c.args.survey.now) c.slot_at-slot.result c.in-Err.number (record {
+    (blocked_at_fault (subject_of c.args.survey.now) c.slot_at-slot.result c.in-Err.rule (record {
       insn = c.unwrap-insn.result.now;
       state = c.in-Some-states.state;
       there = sym (rw c.unwrap-insn.ensures at c.insn.ensures);
       arrives = arrives;
-      applies = rw c.get-in-Some-states.ensures at number;
+      applies = rw c.get-in-Some-states.ensures at broken;
     }))
 
 pub returns-in-Err-clause-found : goal.returns-in-Err-clause-found
@@ -86,14 +86,14 @@ returns-in-Err-clause-found c =
     let arrives = comes_there (arrive (subject_of c.args.survey.now) c.slot_at-slot.result) (slice_index_or c.catch_up.new.states c.slot_at-slot.result None) c.in-Some-states.state kept
     (all_come (subject_of c.args.survey.now) c.args.survey.now.graph.now.order c.args.place c.slot_at-slot.result c.catch_up.new.sources c.catch_up.new.states
     c.slots-slots.ensures.flow.order c.slot_at-slot.ensures.slot c.requires.place c.in_ok-catch_up.ensures.come (sym c.in_default.ensures)) in
-    let number = refused_is _ (left_by c.unwrap-insn.result.now c.get-in-Some-states.result.now) c.in-Err.number c.in-Err.ensures in (
+    let broken = refused_is _ (left_by c.unwrap-insn.result.now c.get-in-Some-states.result.now) c.in-Err.rule c.in-Err.ensures in (
       c.slot_at-slot.ensures.slot,
       record {
         insn = c.unwrap-insn.result.now;
         state = c.in-Some-states.state;
         there = sym (rw c.unwrap-insn.ensures at c.insn.ensures);
         arrives = arrives;
-        applies = rw c.get-in-Some-states.ensures at number;
+        applies = rw c.get-in-Some-states.ensures at broken;
       },
     )
 

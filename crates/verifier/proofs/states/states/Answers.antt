@@ -1,10 +1,9 @@
 use Rattle.std.proofs.Common.{◌≡◌, ◌<◌, ◌∙◌, length, sym, arith, add-one, Option, subst}
 use Rattle.std.proofs.lemmas.List.{with_items_is}
 use Rattle.verifier.specs.declared.states.Fault.{Fault}
-use Rattle.verifier.specs.Verdict.{IsFirstFaulty}
 use Rattle.verifier.specs.Coming.{IsFirst}
 use Rattle.verifier.proofs.Arrivals.{arrive_is}
-use Rattle.verifier.proofs.Examining.{come_start, first_same, first_fault, all_passed, all_among, come_refused, faulty_number}
+use Rattle.verifier.proofs.Examining.{come_start, first_same, first_fault, all_passed, all_among, come_refused}
 use Rattle.verifier.proofs.Keeping.{none_among, kept_there, regions_more}
 use Rattle.verifier.proofs.states.states.Goals as goal
 use Rattle.verifier.proofs.states.states.Goals.{in-None, in-Some}
@@ -78,19 +77,6 @@ returns-in-None-first c =
       regions = λ s begins. c.loop-place.invariant.regions s
           (all_among (record { need = c.args.need; helpers = c.args.helpers.now; code = c.args.graph.now.code }) c.args.graph.now.order c.loop-place.place s flow.order all begins);
     }
-
-first_faulty : (c : goal.In-Some-first) → IsFirstFaulty (record { need = c.args.need; helpers = c.args.helpers.now; code = c.args.graph.now.code }) c.in-Some-first.fault.slot c.in-Some-first.fault.number
-first_faulty c =
-    let flow = c.slots-slots.ensures.flow in
-    let all : c.loop-place.place ≡ length c.args.graph.now.order =
-    rw c.order-place-end.ensures at (let e : c.loop-place.place ≡ length c.order-place-end.result.now = omega (arith, c.loop-place-test.false, c.loop-place.auto.place-end) in e) in
-    come_refused (record { need = c.args.need; helpers = c.args.helpers.now; code = c.args.graph.now.code }) c.args.graph.now.order c.in-Some-first.fault c.loop-place.place
-    flow.order all
-    (subst (λ (o : Option Fault). IsFirst (record { need = c.args.need; helpers = c.args.helpers.now; code = c.args.graph.now.code }) c.args.graph.now.order c.loop-place.place o)
-    c.in-Some-first.is c.loop-place.invariant.told)
-
-pub at-requires : goal.at-requires
-at-requires c = faulty_number (record { need = c.args.need; helpers = c.args.helpers.now; code = c.args.graph.now.code }) c.in-Some-first.fault.slot c.in-Some-first.fault.number (first_faulty c).faulty
 
 pub returns : goal.returns
 returns c =
