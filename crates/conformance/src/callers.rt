@@ -1,5 +1,5 @@
-//! Helpers of a caller's own: 64 adds its first two numbers, of 65 each number counts twice as much as the one ahead of it, and
-//! 127 answers the greatest number.
+//! Helpers of a caller's own: 64 adds its first two numbers, of 65 each number counts twice as much
+//! as the one ahead of it, and 127 answers the greatest number.
 
 use std::alloc::Global;
 

@@ -1,4 +1,5 @@
-//! Chains of tasks that hand their bytes on: what their parts take of memory has nothing to do with the credit.
+//! Chains of tasks that hand their bytes on: what their parts take of memory has nothing to do with
+//! the credit.
 
 use crate::ways::{assembled, evaluated};
 use job_core::{Job, ProgramBytes, Totals, World, admit};
@@ -12,7 +13,8 @@ const COST: u32 = 28;
 
 const SIZE: usize = 65_536;
 
-/// The program of all links: it spawns a task with all the credit that it can spare, and all its bytes but so many, and ends.
+/// The program of all links: it spawns a task with all the credit that it can spare, and all its
+/// bytes but so many, and ends.
 fn link(alloc: Global, kept: i32) -> Result<ProgramBytes, Fail> {
     let keep = format!(in alloc; "sub64 r7, {kept}")?;
     let lines = [
@@ -46,7 +48,8 @@ fn chain(alloc: Global, kept: i32) -> Result<Job, Fail> {
     )?)
 }
 
-/// The room of all live parts after each task has spawned the next, and after all have ended what was spent.
+/// The room of all live parts after each task has spawned the next, and after all have ended what
+/// was spent.
 fn rooms(alloc: Global, kept: i32) -> Result<(usize, u32), Fail> {
     let mut world = World::open(alloc, chain(alloc, kept)?)?;
     for number in 0..LINKS {

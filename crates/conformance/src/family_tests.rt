@@ -1,5 +1,5 @@
-//! Jobs of a root and its child over schedules, as a job plays them and as the reference runs them. The answers were worked
-//! out by hand.
+//! Jobs of a root and its child over schedules, as a job plays them and as the reference runs them.
+//! The answers were worked out by hand.
 
 use crate::ways::{assembled, copied, reference_program};
 use assembler::assemble;
@@ -18,8 +18,8 @@ struct Family {
     schedule: &'static str,
 }
 
-/// The root asks for a child of this program, with this share and so many of its last bytes, and stores the answer in its
-/// first byte. It needs 4 bytes and costs 24.
+/// The root asks for a child of this program, with this share and so many of its last bytes, and
+/// stores the answer in its first byte. It needs 4 bytes and costs 24.
 fn root(alloc: Global, program: u32, share: u32, cut: u32) -> Result<Vec<u8>, Fail> {
     let source = format!(in alloc;
         "mov64 r6, r1\nmov64 r1, {program}\nmov64 r2, {share}\nmov64 r3, {cut}\nmov64 r4, 9\ncall 1\n\
@@ -31,8 +31,9 @@ stxb [r6+0], r0\nmov64 r0, 0\nexit\n"
 /// The child stores its argument in its first byte. It needs 4 bytes and costs 3.
 const CHILD: [&str; 3] = ["stxb [r1+0], r3", "mov64 r0, 0", "exit"];
 
-/// The buffer, what is held, returned, spent and used, whether the job is complete, and if it is, of each task number, program,
-/// argument, the credit that it was given, and R0, after it is played.
+/// The buffer, what is held, returned, spent and used, whether the job is complete, and if it is,
+/// of each task number, program, argument, the credit that it was given, and R0, after it is
+/// played.
 fn played(alloc: Global, family: &Family) -> Result<String, Fail> {
     let programs = [
         ProgramBytes {
@@ -139,8 +140,8 @@ fn run_by_reference(alloc: Global, family: &Family) -> Result<String, Fail> {
     }
 }
 
-/// The program, the share and the cut that the root asks for, the credit, the buffer's length, the schedule, and what it
-/// comes to.
+/// The program, the share and the cut that the root asks for, the credit, the buffer's length, the
+/// schedule, and what it comes to.
 const FAMILIES: [(u32, u32, u32, u32, usize, &str, &str); 9] = [
     (
         1,

@@ -1,4 +1,5 @@
-//! The ways to run a program, and tests that cross crates. The rows of `conformance_rows` stand on the ways.
+//! The ways to run a program, and tests that cross crates. The rows of `conformance_rows` stand on
+//! the ways.
 #![tactic(auto)]
 
 #[cfg(test)]
@@ -7,8 +8,6 @@ pub mod spawning;
 
 // one program, run in three ways
 pub mod callers;
-#[cfg(test)]
-mod embedding_tests;
 pub mod ways;
 
 // programs, memories and shares at their limits

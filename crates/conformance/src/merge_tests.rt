@@ -1,5 +1,5 @@
-//! How many states a verified program keeps: those of slot 0 and of each slot with at least two edges into it. And the others, which
-//! are worked out.
+//! How many states a verified program keeps: those of slot 0 and of each slot with at least two
+//! edges into it. And the others, which are worked out.
 
 ghost use Rattle.std.specs.Prelude.{◌≤◌};
 

@@ -1,5 +1,5 @@
-//! Places: the same three programs under two schedules, run by the reference. A task's number says when it was spawned, its place
-//! by whom. The answers were worked out by hand.
+//! Places: the same three programs under two schedules, run by the reference. A task's number says
+//! when it was spawned, its place by whom. The answers were worked out by hand.
 
 use crate::ways::{assembled, reference_program};
 use reference::{JobMember, ReferenceJob, ReferenceMove, run};

@@ -16,7 +16,8 @@ fn spawning(alloc: Global, program: i32, share: u32, count: u32) -> Result<Progr
     })
 }
 
-/// The programs of a root that spawns `count` tasks, each of which spawns as many that only end, and its credit.
+/// The programs of a root that spawns `count` tasks, each of which spawns as many that only end,
+/// and its credit.
 fn tree(alloc: Global, count: u32) -> Result<([ProgramBytes; 3], u32), Fail> {
     let share = count.wrapping_mul(22).wrapping_add(2);
     let credit = count.wrapping_mul(share.wrapping_add(20)).wrapping_add(2);
@@ -28,7 +29,8 @@ fn tree(alloc: Global, count: u32) -> Result<([ProgramBytes; 3], u32), Fail> {
     Ok((programs, credit))
 }
 
-/// Steps each task of a tree to its end, in order of number, and tells the tasks, the steps, and what was spent and returned.
+/// Steps each task of a tree to its end, in order of number, and tells the tasks, the steps, and
+/// what was spent and returned.
 fn counted(alloc: Global, count: u32) -> Result<(u32, u32, u32, u32), Fail> {
     let (programs, credit) = tree(alloc, count)?;
     let job = admit(alloc, &programs, credit, Vec::new(alloc))?;

@@ -17,8 +17,8 @@ fn number(dst: u8, value: i32) -> Insn
     }
 }
 
-/// The program that spawns `count` tasks of a program, each with the share and no bytes, and ends: five slots a task, and
-/// two.
+/// The program that spawns `count` tasks of a program, each with the share and no bytes, and ends:
+/// five slots a task, and two.
 pub fn spawn_each(
     alloc: Global,
     program: i32,

@@ -10,63 +10,68 @@ use virtual_machine::VmFault;
 type Row = (Refusal, u8, Option<u32>, &'static str);
 
 const ROWS: [Row; 12] = [
-    (Refusal::NeedTooLarge, 38, None, "need over 65536"),
-    (Refusal::Codec(CodecFault::Empty), 1, None, "no instruction"),
+    (Refusal::NeedTooLarge, 38, None, "38: need over 65536"),
+    (
+        Refusal::Codec(CodecFault::Empty),
+        1,
+        None,
+        "1: no instruction",
+    ),
     (
         Refusal::Codec(CodecFault::HalfWide(9)),
         7,
         Some(9),
-        "half of a wide instruction at slot 9",
+        "7: half of a wide instruction at slot 9",
     ),
     (
         Refusal::Flow(FlowFault::Cycle(3)),
         23,
         Some(3),
-        "cycle through slot 3",
+        "23: cycle through slot 3",
     ),
     (
         Refusal::UnsetRead(4),
         31,
         Some(4),
-        "read of an unset register at slot 4",
+        "31: read of an unset register at slot 4",
     ),
     (
         Refusal::OutOfStack(5),
         32,
         Some(5),
-        "access out of the stack at slot 5",
+        "32: access out of the stack at slot 5",
     ),
     (
         Refusal::OutOfPart(6),
         33,
         Some(6),
-        "access out of the part at slot 6",
+        "33: access out of the part at slot 6",
     ),
     (
         Refusal::BadKind(7),
         34,
         Some(7),
-        "wrong kind of value at slot 7",
+        "34: wrong kind of value at slot 7",
     ),
     (
         Refusal::PointerRange(8),
         35,
         Some(8),
-        "pointer out of range at slot 8",
+        "35: pointer out of range at slot 8",
     ),
     (
         Refusal::FramePointer(9),
         36,
         Some(9),
-        "write of r10 at slot 9",
+        "36: write of r10 at slot 9",
     ),
     (
         Refusal::NoHelper(10),
         37,
         Some(10),
-        "unknown helper at slot 10",
+        "37: unknown helper at slot 10",
     ),
-    (Refusal::NoMemory, 99, None, "out of memory"),
+    (Refusal::NoMemory, 99, None, "99: out of memory"),
 ];
 
 #[test]

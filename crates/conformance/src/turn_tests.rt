@@ -5,7 +5,8 @@ use std::test::Fail;
 use verifier::Refusal;
 use virtual_machine::{Vm, VmFault};
 
-/// Runs the program that is set, with at most 65,536 bytes of memory and a credit of at most 2,147,483,647.
+/// Runs the program that is set, with at most 65,536 bytes of memory and a credit of at most
+/// 2,147,483,647.
 fn run(vm: &mut Vm, mem: &mut Vec<u8>, credit: u32) -> Result<u64, VmFault> {
     mem.truncate(65536);
     vm.execute_program(mem, credit.min(2147483647))

@@ -64,7 +64,8 @@ pub fn by_vm(alloc: Global, start: &Start) -> anyhow::Result<(u64, u32, Vec<u8>)
     Ok((done.r0, done.used, memory))
 }
 
-/// R0, the credit used and the memory after the job of this program alone, whose buffer is the memory.
+/// R0, the credit used and the memory after the job of this program alone, whose buffer is the
+/// memory.
 pub fn by_job(alloc: Global, start: &Start) -> anyhow::Result<(u64, u32, Vec<u8>)> {
     let programs = [ProgramBytes {
         need: start.need,
@@ -99,7 +100,8 @@ pub fn by_reference(
     }
 }
 
-/// The tasks of a job at their ends, by the reference: what its root comes to with all that it spawns, where each spawn is taken.
+/// The tasks of a job at their ends, by the reference: what its root comes to with all that it
+/// spawns, where each spawn is taken.
 pub fn evaluated(
     alloc: Global,
     programs: &[ProgramBytes],

@@ -1,5 +1,5 @@
-//! `conformance_rows FILE..`: reads rows, each a program with its answer, and tells the rows that disagree. The answers were
-//! worked out by hand.
+//! `conformance_rows FILE..`: reads rows, each a program with its answer, and tells the rows that
+//! disagree. The answers were worked out by hand.
 #![tactic(auto)]
 
 mod answers;

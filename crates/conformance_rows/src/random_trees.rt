@@ -1,4 +1,5 @@
-//! Jobs of up to forty tasks with pseudo-random programs, each under several pseudo-random schedules.
+//! Jobs of up to forty tasks with pseudo-random programs, each under several pseudo-random
+//! schedules.
 
 use crate::trees::{Tree, by_evaluation, by_play};
 use assembler::assemble;
@@ -33,7 +34,8 @@ impl Random {
     }
 }
 
-/// A program that notes its argument, spawns some children with random shares and cuts, and notes what it is answered.
+/// A program that notes its argument, spawns some children with random shares and cuts, and notes
+/// what it is answered.
 fn program(alloc: Global, random: &mut Random, level: u32) -> anyhow::Result<ProgramBytes> {
     let mut source = String::from_str(alloc, "mov64 r6, r1\nmov64 r7, r3\nstxb [r6+0], r7\n")?;
     let last = level.saturating_add(1) == LEVELS;
@@ -96,8 +98,8 @@ fn schedule(alloc: Global, random: &mut Random) -> anyhow::Result<Vec<u32>> {
     Ok(numbers)
 }
 
-/// Plays so many jobs, each under so many schedules: whether each comes to what its root comes to by the reference, and the most tasks
-/// of a job.
+/// Plays so many jobs, each under so many schedules: whether each comes to what its root comes to
+/// by the reference, and the most tasks of a job.
 pub fn played(alloc: Global, seed: u64, jobs: u32, schedules: u32) -> anyhow::Result<String> {
     let mut random = Random(seed);
     let (mut agree, mut most) = (0u32, 0u32);

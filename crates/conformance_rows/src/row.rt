@@ -1,4 +1,5 @@
-//! Rows: what is asked, a program and the answer, with bars between them. A line that begins with `#` is a comment.
+//! Rows: what is asked, a program and the answer, with bars between them. A line that begins with
+//! `#` is a comment.
 
 use assembler::assemble;
 use job_core::ProgramBytes;
@@ -53,8 +54,8 @@ fn repeated(part: &str) -> (u32, &str) {
     }
 }
 
-/// The bytes of a program, a line after the other with slashes between them; `4 * exit` is that line four times. Where there is
-/// a `0x`, each line is bytes as hexadecimal behind it.
+/// The bytes of a program, a line after the other with slashes between them; `4 * exit` is that
+/// line four times. Where there is a `0x`, each line is bytes as hexadecimal behind it.
 pub fn bytes_of(alloc: Global, program: &str) -> anyhow::Result<Vec<u8>> {
     let is_hexadecimal = program.contains("0x");
     let mut source = String::new(alloc);

@@ -1,4 +1,5 @@
-//! Jobs of several tasks: what they come to over a schedule, and what their root comes to by itself with all that it spawns.
+//! Jobs of several tasks: what they come to over a schedule, and what their root comes to by itself
+//! with all that it spawns.
 
 use crate::row::text_of;
 use anyhow::bail;

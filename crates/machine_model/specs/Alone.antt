@@ -19,11 +19,11 @@ alone credit bytes = record {
 }
 
 -- what a helper of the caller's own may answer to five arguments
-abbrev pub Answers : Type 1
-Answers = ℕ → List ℕ → ℕ → Type 0
+abbrev pub MayAnswer : Type 1
+MayAnswer = ℕ → List ℕ → ℕ → Type 0
 
 -- what follows an effect: nothing follows a trap, and nothing is spawned
-abbrev pub Follows : Answers → (State → Type 0) → ℕ → State → Effect → Type 0
+abbrev pub Follows : MayAnswer → (State → Type 0) → ℕ → State → Effect → Type 0
 Follows may on r0 last (Goes next) = on next
 Follows may on r0 last (Ends word state) = (r0 ≡ word) × (last ≡ state)
 Follows may on r0 last (Spawns birth taken refused) = ⊥
@@ -32,10 +32,10 @@ Follows may on r0 last (Calls helper arguments caller) =
 Follows may on r0 last (Traps trap) = ⊥
 
 -- within so many steps the task ends with R0, in a last state
-abbrev pub EndsWithin : Program → Answers → ℕ → State → ℕ → State → Type 0
+abbrev pub EndsWithin : Program → MayAnswer → ℕ → State → ℕ → State → Type 0
 EndsWithin p may r0 last zero s = ⊥
 EndsWithin p may r0 last (suc n) s = Follows may (EndsWithin p may r0 last n) r0 last (effect p no_entries s)
 
 -- the task ends with R0, in a last state
-abbrev pub EndsAlone : Program → Answers → State → ℕ → State → Type 0
+abbrev pub EndsAlone : Program → MayAnswer → State → ℕ → State → Type 0
 EndsAlone p may s r0 last = (n : ℕ) × EndsWithin p may r0 last n s

@@ -1,4 +1,4 @@
-//! The laws of the definitions.
+//! What the definitions mean: credit is conserved, parts tile the buffer, and steps follow edges.
 
 ghost use Rattle.std.specs.Prelude.{◌≡◌, ℕ, List, length, Bool, Some};
 ghost use Rattle.machine_model.specs.Following.{FollowsEdge};
@@ -7,17 +7,22 @@ ghost use Rattle.machine_model.specs.Job.{Job, Move, run, step, credit_of, AreTi
 
 /// Over every schedule, the credit that is held, returned and spent is what was there at the start.
 pub fn conserves_credit()
-    ensures { (programs : List Program) (j k : Job) (moves : List Move) → run programs j moves ≡ Some k →
+    ensures { (programs : List Program) (j k : Job) (moves : List Move)
+        → run programs j moves ≡ Some k →
         credit_of k ≡ credit_of j }
 {}
 
-/// The ranges of the tasks, live and ended, tile the buffer after each step from a job where they do.
+/// The ranges of the tasks, live and ended, tile the buffer after each step from a job where they
+/// do.
 pub fn keeps_tiling()
-    ensures { (programs : List Program) (j k : Job) (n : ℕ) (refuses : Bool) → step programs j n refuses ≡ Some k →
+    ensures { (programs : List Program) (j k : Job) (n : ℕ) (refuses : Bool)
+        → step programs j n refuses ≡ Some k →
         AreTiles j.tasks (length j.buffer) → AreTiles k.tasks (length k.buffer) }
 {}
 
-/// Where an instruction doesn't end its task, the task goes on at the end of one of the instruction's edges.
+/// Where an instruction doesn't end its task, the task goes on at the end of one of the
+/// instruction's edges.
 pub fn steps_follow_edges()
-    ensures { (p : Program) (entries : Entries) (s : State) → FollowsEdge p.code s.slot (effect p entries s) }
+    ensures { (p : Program) (entries : Entries) (s : State)
+        → FollowsEdge p.code s.slot (effect p entries s) }
 {}

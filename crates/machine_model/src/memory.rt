@@ -1,5 +1,5 @@
-//! Loads and stores: numbers of 1, 2, 4 and 8 bytes at a place in memory, the lowest byte first (RFC 9669, section 5).
-//! And spans of bytes, which are filled and summed up.
+//! Loads and stores: numbers of 1, 2, 4 and 8 bytes at a place in memory, the lowest byte first
+//! (RFC 9669, section 5). And spans of bytes, which are filled and summed up.
 
 ghost use Rattle.std.specs.Prelude.{◌≡◌, ◌≤◌, ◌<◌, ◌+◌, ◌*◌, ◌^◌, length, replicate, sum};
 ghost use Rattle.machine_model.specs.Memory.{bytes_at, little_bytes, little_number, load_bytes, store_bytes, widened, written};
@@ -73,12 +73,15 @@ fn double_at(memory: &[u8], at: usize) -> u64
     ])
 }
 
-/// What a load of this kind gives at a place in memory: the number there, with zeros or its sign above it.
+/// What a load of this kind gives at a place in memory: the number there, with zeros or its sign
+/// above it.
 #[inline]
 pub fn load(kind: LoadKind, memory: &[u8], at: usize) -> u64
     requires { at + load_bytes kind ≤ length memory.now }
-    ensures value { result ≡ widened kind (little_number (bytes_at memory.now at (load_bytes kind))) }
-    ensures small { little_number (bytes_at memory.now at (load_bytes kind)) < 2 ^ (8 * load_bytes kind) }
+    ensures value { result
+        ≡ widened kind (little_number (bytes_at memory.now at (load_bytes kind))) }
+    ensures small { little_number (bytes_at memory.now at (load_bytes kind))
+        < 2 ^ (8 * load_bytes kind) }
 {
     match kind {
         LoadKind::Byte => u64::from(byte_at(memory, at)),

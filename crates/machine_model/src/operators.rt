@@ -1,4 +1,5 @@
-//! The operators with two operands and the conditions of jumps, exactly (RFC 9669, sections 4.1 and 4.3).
+//! The operators with two operands and the conditions of jumps, exactly (RFC 9669, sections 4.1 and
+//! 4.3).
 
 ghost use Rattle.std.specs.Prelude.{◌≡◌, ◌%◌, ◌^◌, ◌<◌};
 ghost use Rattle.machine_model.specs.Operators.{bits_of, holds, residue, result_of, signed};
@@ -85,8 +86,8 @@ pub fn apply_alu(op: AluOp, width: Width, a: u64, b: u64) -> u64
     }
 }
 
-/// What an instruction with this operator gives on two registers' numbers. The width is told apart first, so that the
-/// compiler can lay out each width's operators without a test of it.
+/// What an instruction with this operator gives on two registers' numbers. The width is told apart
+/// first, so that the compiler can lay out each width's operators without a test of it.
 #[inline(always)]
 pub fn alu_number(op: AluOp, width: Width, x: u64, y: u64) -> u64
     ensures { result ≡ number_result width op x y }

@@ -1,4 +1,5 @@
-//! The operations with one operand, exactly: sign extension, negation and byte order (RFC 9669, sections 4.1 and 4.2).
+//! The operations with one operand, exactly: sign extension, negation and byte order (RFC 9669,
+//! sections 4.1 and 4.2).
 
 ghost use Rattle.std.specs.Prelude.{◌≡◌, ◌-◌, ◌%◌, ◌^◌, ◌<◌};
 ghost use Rattle.machine_model.specs.Operators.{bits_of, signed};

@@ -7,7 +7,7 @@ use insn_codec::Insn;
 use insn_codec::Insn::Exit;
 use insn_codec::Width::W64;
 use reference::{
-    Outcome, ReferenceProgram, Running, TrapCause, Unanswered, effect, run_alone, start_alone,
+    ReferenceProgram, Running, StepOutcome, TrapCause, Unanswered, effect, run_alone, start_alone,
 };
 use std::alloc::Global;
 use std::process::Abort;
@@ -28,8 +28,8 @@ fn call(helper: u32) -> Insn {
     Insn::Call { helper }
 }
 
-/// What the caller's helpers answer: 64 the sum of its first two numbers, 65 its fifth and 7, the others their numbers as
-/// decimal digits, of which the first is the lowest.
+/// What the caller's helpers answer: 64 the sum of its first two numbers, 65 its fifth and 7, the
+/// others their numbers as decimal digits, of which the first is the lowest.
 fn helped(id: u32, arguments: [u64; 5]) -> u64 {
     match id {
         64 => arguments[0].wrapping_add(arguments[1]),
@@ -84,8 +84,8 @@ fn cause_of(
     let mut state = start_alone(credit, part);
     for _ in 0..64u8 {
         match effect(alloc, program, &[], state) {
-            Ok(Outcome::Goes(next)) => state = next,
-            Ok(Outcome::Traps(cause)) => return Ok(cause),
+            Ok(StepOutcome::Goes(next)) => state = next,
+            Ok(StepOutcome::Traps(cause)) => return Ok(cause),
             _ => return Err(Fail::new("no trap")),
         }
     }

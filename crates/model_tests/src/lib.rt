@@ -1,4 +1,5 @@
-//! The machine's operators, ranges of values and the reference, as tests over tables. Nothing stands on it.
+//! The machine's operators, ranges of values and the reference, as tests over tables. Nothing
+//! stands on it.
 #![tactic(auto)]
 
 #[cfg(test)]

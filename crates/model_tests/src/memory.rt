@@ -75,7 +75,8 @@ fn stored(size: Size, at: usize, number: u64) -> Option<[u8; 12]> {
     Some(memory)
 }
 
-/// The size and the place of a store of 0x8123456789abcdef, and eight bytes from a place on that hold all it wrote.
+/// The size and the place of a store of 0x8123456789abcdef, and eight bytes from a place on that
+/// hold all it wrote.
 const STORES: [(Size, usize, usize, [u8; 8]); 8] = [
     (
         Size::Byte,

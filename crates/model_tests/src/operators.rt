@@ -1,4 +1,5 @@
-//! Rows worked out by hand from RFC 9669. Registers hold 64 bits, so rows of 32 bits have upper halves to be cut.
+//! Rows worked out by hand from RFC 9669. Registers hold 64 bits, so rows of 32 bits have upper
+//! halves to be cut.
 
 use insn_codec::AluOp::{Add, And, Arsh, Div, Lsh, Mod, Mul, Or, Rsh, Sdiv, Smod, Sub, Xor};
 use insn_codec::Width::{W32, W64};

@@ -1,4 +1,5 @@
-//! Small programs, run by the reference as jobs of one task. Their answers are worked out by hand from RFC 9669.
+//! Small programs, run by the reference as jobs of one task. Their answers are worked out by hand
+//! from RFC 9669.
 
 ghost use Rattle.std.specs.Prelude.{◌≤◌};
 
@@ -15,8 +16,8 @@ use insn_codec::{
     Width,
 };
 use reference::{
-    Content, JobMember, Outcome, ReferenceMove, ReferenceProgram, Running, TrapCause, Unanswered,
-    effect, run,
+    Content, JobMember, ReferenceMove, ReferenceProgram, Running, StepOutcome, TrapCause,
+    Unanswered, effect, run,
 };
 use std::alloc::Global;
 use std::process::Abort;
@@ -152,8 +153,8 @@ fn trap_of(alloc: Global, programs: &[ReferenceProgram], bytes: &[u8]) -> Result
     let mut state = at_start(alloc, bytes)?;
     for _ in 0..128u8 {
         match effect(alloc, program, programs, state) {
-            Ok(Outcome::Goes(next)) => state = next,
-            Ok(Outcome::Traps(cause)) => return Ok(cause),
+            Ok(StepOutcome::Goes(next)) => state = next,
+            Ok(StepOutcome::Traps(cause)) => return Ok(cause),
             _ => return Err(Fail::new("no trap")),
         }
     }

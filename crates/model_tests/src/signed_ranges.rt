@@ -196,7 +196,8 @@ const AT_ENDS: [Edge; 10] = [
     ),
 ];
 
-/// Two ranges, each narrowed by the other; and what an unsigned comparison tells of the signed range.
+/// Two ranges, each narrowed by the other; and what an unsigned comparison tells of the signed
+/// range.
 const OF_TWO: [Edge; 12] = [
     (
         SignedLess,

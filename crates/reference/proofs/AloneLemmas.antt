@@ -3,7 +3,7 @@ use Rattle.std.proofs.Common.{◌≡◌, ◌≤◌, ◌⊎◌, inl, inr, ℕ, ze
 use Rattle.machine_model.specs.declared.program.Entry.{Entry}
 use Rattle.machine_model.specs.Machine.{State, Program, Effect, Goes, Ends, Spawns, Calls, Traps, Birth, Trap, answered, effect}
 use Rattle.machine_model.specs.Job.{entries_of}
-use Rattle.machine_model.specs.Alone.{Answers, EndsWithin, Follows, no_entries}
+use Rattle.machine_model.specs.Alone.{MayAnswer, EndsWithin, Follows, no_entries}
 use Rattle.reference.specs.Records.{FarOn, FarWithin, GoesFar, HasOneAnswer, NeverEnds, Stays, StaysFor}
 use Rattle.machine_model.proofs.Splits.{Births, births_effect}
 use Rattle.machine_model.proofs.Tables.{effect_same}
@@ -13,19 +13,19 @@ pub alone_effect : (p : Program) (s : State) → effect p (entries_of []) s ≡ 
 alone_effect p s = effect_same p (entries_of []) no_entries (λ n. refl) s
 
 -- an end of the state within m steps is one of the first state within n, and so is a way on, or one to more than the reference has
-pub record Leads (p : Program) (may : Answers) (n : ℕ) (first : State) (m : ℕ) (s : State) : Type 0 where
+pub record Leads (p : Program) (may : MayAnswer) (n : ℕ) (first : State) (m : ℕ) (s : State) : Type 0 where
   pub ends : (r0 : ℕ) (last : State) → EndsWithin p may r0 last m s → EndsWithin p may r0 last n first
   pub stays : StaysFor p may m s → StaysFor p may n first
   pub far : FarWithin p may m s → FarWithin p may n first
 
-pub leads_same : (p : Program) (may : Answers) (n m : ℕ) (s t : State) → m ≡ n → s ≡ t → Leads p may n t m s
+pub leads_same : (p : Program) (may : MayAnswer) (n m : ℕ) (s t : State) → m ≡ n → s ≡ t → Leads p may n t m s
 leads_same p may n m s t many is = record {
   ends = λ r0 last e. subst (EndsWithin p may r0 last n) is (subst (λ (i : ℕ). EndsWithin p may r0 last i s) many e);
   stays = λ e. subst (StaysFor p may n) is (subst (λ (i : ℕ). StaysFor p may i s) many e);
   far = λ e. subst (FarWithin p may n) is (subst (λ (i : ℕ). FarWithin p may i s) many e);
 }
 
-module _ (p : Program) (may : Answers) (n : ℕ) (first : State) (m k : ℕ) (s : State) (one : m ≡ suc k) (leads : Leads p may n first m s) where
+module _ (p : Program) (may : MayAnswer) (n : ℕ) (first : State) (m k : ℕ) (s : State) (one : m ≡ suc k) (leads : Leads p may n first m s) where
   -- an end is told from what follows the effect, and so is a way on
   by_effect : (e : Effect) → e ≡ effect p (entries_of []) s → (r0 : ℕ) (last : State) → Follows may (EndsWithin p may r0 last k) r0 last e →
       EndsWithin p may r0 last n first
@@ -80,10 +80,10 @@ module _ (p : Program) (may : Answers) (n : ℕ) (first : State) (m k : ℕ) (s 
       nothing : (entry : Entry) → no_entries birth.program ≡ Some entry → ⊥
       nothing entry e = cc
 
-pub stays_at_last : (p : Program) (may : Answers) (n : ℕ) (first : State) (m : ℕ) (s : State) → m ≡ 0 → Leads p may n first m s → StaysFor p may n first
+pub stays_at_last : (p : Program) (may : MayAnswer) (n : ℕ) (first : State) (m : ℕ) (s : State) → m ≡ 0 → Leads p may n first m s → StaysFor p may n first
 stays_at_last p may n first m s none leads = leads.stays (subst (λ (i : ℕ). StaysFor p may i s) (sym none) tt)
 
-apart : (may : Answers) → HasOneAnswer may → (A B : State → Type 0) → ((s : State) → A s → B s → ⊥) → (r0 : ℕ) (last : State) (e : Effect) →
+apart : (may : MayAnswer) → HasOneAnswer may → (A B : State → Type 0) → ((s : State) → A s → B s → ⊥) → (r0 : ℕ) (last : State) (e : Effect) →
     Stays may A e → Follows may B r0 last e → ⊥
 apart may one A B each r0 last (Goes next) a b = each next a b
 apart may one A B each r0 last (Ends word state) a b = a
@@ -93,7 +93,7 @@ apart may one A B each r0 last (Calls helper arguments caller) a b =
 apart may one A B each r0 last (Traps trap) a b = b
 
 -- a task that stays with some answers doesn't end with others, where there are none
-pub never_ends : (p : Program) (may : Answers) → HasOneAnswer may → (n : ℕ) (s : State) → StaysFor p may n s → NeverEnds p may n s
+pub never_ends : (p : Program) (may : MayAnswer) → HasOneAnswer may → (n : ℕ) (s : State) → StaysFor p may n s → NeverEnds p may n s
 never_ends p may one zero s stays = λ r0 last ends. ends
 never_ends p may one (suc n) s stays = λ r0 last ends.
     apart may one (StaysFor p may n) (EndsWithin p may r0 last n) (λ next a b. never_ends p may one n next a r0 last b) r0 last

@@ -1,5 +1,5 @@
 -- What the tasks of a path come to stays under an instruction of the last of them.
-use Rattle.std.proofs.Common.{◌≡◌, ◌↔◌, arith, ◌≤◌, false, nat_lt, length, ℕ, zero, suc, List, [], ◌∷◌, ◌++◌, map, reverse, slice_get, refl, sym, ◌∙◌, ap, subst, Option, Some, None, option_map}
+use Rattle.std.proofs.Common.{◌≡◌, ◌↔◌, arith, ◌≤◌, false, nat_lt, length, ℕ, zero, suc, List, [], ◌∷◌, ◌++◌, map, reverse, slice_get, refl, sym, ◌∙◌, ap, subst, Some, None, option_map}
 use Rattle.std.proofs.lemmas.Bool.Decides.{nat_tests}
 use Rattle.std.proofs.lemmas.Option.{slice_get-map}
 use Rattle.std.proofs.lemmas.List.{append_assoc, append-nil, map-append, reverse-append}
@@ -9,7 +9,7 @@ use Rattle.task_trees.specs.Eval.{Comes, Eval, EvalWithin, Finished, parent_of, 
 use Rattle.task_trees.specs.Answer.{RootComes}
 use Rattle.task_trees.proofs.EvalLemmas.{eval_from, eval_to}
 use Rattle.reference.specs.Records.{program_of, task_of}
-use Rattle.reference.specs.Evaluating.{AllCome, DoneThen, PathComes, finished_of}
+use Rattle.reference.specs.Evaluating.{DoneThen, PathComes, finished_of}
 use Rattle.reference.specs.declared.evaluating.FinishedTask.{FinishedTask}
 use Rattle.reference.specs.declared.evaluating.Pending.{Pending}
 use Rattle.reference.specs.declared.records.ReferenceProgram.{ReferenceProgram}

@@ -19,6 +19,6 @@ AllCome programs (p ∷ ps) result = (own later : List Finished) × Eval program
 abbrev pub DoneThen : List Program → List FinishedTask → List Pending → List Finished → Type 0
 DoneThen programs done ps result = (rest : List Finished) × AllCome programs ps rest × (result ≡ map finished_of done ++ rest)
 
--- the same for the tasks of a path, of which the last comes first
+-- the tasks that are done, and then what the tasks of a path come to, of which the last comes first
 abbrev pub PathComes : List Program → List Pending → List FinishedTask → List Finished → Type 0
 PathComes programs path done result = DoneThen programs done (reverse path) result

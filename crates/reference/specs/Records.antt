@@ -12,8 +12,8 @@ use Rattle.reference.specs.declared.records.Child.{Child}
 use Rattle.reference.specs.declared.records.Place.{Place}
 use Rattle.reference.specs.declared.records.Place.TheVariants as place
 use Rattle.reference.specs.declared.records.Request.{Request}
-use Rattle.reference.specs.declared.records.Outcome.{Outcome}
-use Rattle.reference.specs.declared.records.Outcome.TheVariants as outcome
+use Rattle.reference.specs.declared.records.StepOutcome.{StepOutcome}
+use Rattle.reference.specs.declared.records.StepOutcome.TheVariants as outcome
 use Rattle.reference.specs.declared.records.LiveTask.{LiveTask}
 use Rattle.reference.specs.declared.records.EndedTask.{EndedTask}
 use Rattle.reference.specs.declared.records.JobMember.{JobMember}
@@ -24,7 +24,7 @@ use Rattle.reference.specs.declared.records.Change.{Change}
 use Rattle.machine_model.specs.Job.{Task, Ending, Member, Live, Ended, Job, Move, entries_of, run, state_in}
 use Rattle.machine_model.specs.Value.{Value, Unset, Num, Stack, Part, Registers}
 use Rattle.machine_model.specs.Machine.{State, Program, Birth, Effect, Goes, Ends, Spawns, Calls, Traps, Trap, UnsetRead, OutsideStack, OutsidePart, WrongKind, OutsideCode, WritesStackEnd, NoHelper, OverSpent, answered, effect}
-use Rattle.machine_model.specs.Alone.{Answers, EndsWithin, no_entries}
+use Rattle.machine_model.specs.Alone.{MayAnswer, EndsWithin, no_entries}
 
 abbrev pub value_of : Content → Value
 value_of content.Unset = Unset
@@ -67,7 +67,7 @@ trap_of cause.WritesStackEnd = WritesStackEnd
 trap_of cause.NoHelper = NoHelper
 trap_of cause.OverSpent = OverSpent
 
-abbrev pub effect_of : Outcome → Effect
+abbrev pub effect_of : StepOutcome → Effect
 effect_of (outcome.Goes next) = Goes (state_of next)
 effect_of (outcome.Ends r0 last) = Ends r0 (state_of last)
 effect_of (outcome.Spawns child taken refused) = Spawns (birth_from child) (state_of taken) (state_of refused)
@@ -104,7 +104,7 @@ abbrev pub holding : (Value → Effect) → Result Content TrapCause → Effect
 holding go (Ok c) = go (value_of c)
 holding go (Err cause) = Traps (trap_of cause)
 
--- the same of two operands
+-- what is read of two operands, or why it isn't
 abbrev pub holding_both : (Value → Value → Effect) → Result (Content × Content) TrapCause → Effect
 holding_both go (Ok both) = go (value_of both.0) (value_of both.1)
 holding_both go (Err cause) = Traps (trap_of cause)
@@ -197,7 +197,7 @@ step_by j n (Some c) = option_map (changed_by j n) c
 -- ---- a program alone
 
 -- what follows an effect, where the task hasn't ended: it may have trapped
-abbrev pub Stays : Answers → (State → Type 0) → Effect → Type 0
+abbrev pub Stays : MayAnswer → (State → Type 0) → Effect → Type 0
 Stays may on (Goes next) = on next
 Stays may on (Ends r0 last) = ⊥
 Stays may on (Spawns birth taken refused) = ⊥
@@ -205,20 +205,20 @@ Stays may on (Calls helper arguments caller) = (answer : ℕ) × may helper argu
 Stays may on (Traps trap) = Unit {0}
 
 -- with some answers, the task doesn't end within so many steps
-abbrev pub StaysFor : Program → Answers → ℕ → State → Type 0
+abbrev pub StaysFor : Program → MayAnswer → ℕ → State → Type 0
 StaysFor p may zero s = Unit {0}
 StaysFor p may (suc n) s = Stays may (StaysFor p may n) (effect p no_entries s)
 
 -- a helper gives the same answer to the same arguments
-abbrev pub HasOneAnswer : Answers → Type 0
+abbrev pub HasOneAnswer : MayAnswer → Type 0
 HasOneAnswer may = (helper : ℕ) (arguments : List ℕ) (a b : ℕ) → may helper arguments a → may helper arguments b → a ≡ b
 
 -- the task doesn't end within so many steps, whatever is answered
-abbrev pub NeverEnds : Program → Answers → ℕ → State → Type 0
+abbrev pub NeverEnds : Program → MayAnswer → ℕ → State → Type 0
 NeverEnds p may n s = (r0 : ℕ) (last : State) → EndsWithin p may r0 last n s → ⊥
 
 -- what follows an effect is more than the reference has
-abbrev pub FarOn : Answers → (State → Type 0) → Effect → Type 0
+abbrev pub FarOn : MayAnswer → (State → Type 0) → Effect → Type 0
 FarOn may on (Goes next) = on next
 FarOn may on (Ends r0 last) = ⊥
 FarOn may on (Spawns birth taken refused) = ⊥
@@ -227,7 +227,7 @@ FarOn may on (Calls helper arguments caller) =
 FarOn may on (Traps trap) = ⊥
 
 -- within so many steps a task that runs alone may get to more than the reference has
-abbrev pub FarWithin : Program → Answers → ℕ → State → Type 0
+abbrev pub FarWithin : Program → MayAnswer → ℕ → State → Type 0
 FarWithin p may zero s = ⊥
 FarWithin p may (suc n) s =
     (4294967296 ≤ s.slot) ⊎ (GoesFar (effect p no_entries s) ⊎ FarOn may (FarWithin p may n) (effect p no_entries s))

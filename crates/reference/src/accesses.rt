@@ -9,14 +9,15 @@ ghost use Rattle.machine_model.specs.Memory.{store_bytes};
 ghost use Rattle.reference.specs.Records.{at_place, effect_of, placing, state_of, value_of};
 ghost use Rattle.reference.specs.declared.records.Place.TheVariants as place;
 
-use crate::records::{Content, Outcome, Place, Running, TrapCause};
+use crate::records::{Content, Place, Running, StepOutcome, TrapCause};
 use crate::registers::{content, immediate, number, put};
 use insn_codec::{LoadKind, Register, Size};
 use machine_model::memory::{load_bytes, store_bytes};
 
 /// Where so many bytes from a position on are in a region of this size, if they are there.
 fn place_within(position: i64, offset: i16, count: usize, size: usize) -> Option<usize>
-    ensures within { (trap : Trap) (go : ℕ → Effect) → within (position +ℤ offset) count size trap go ≡ at_place trap go result }
+    ensures within { (trap : Trap) (go : ℕ → Effect)
+        → within (position +ℤ offset) count size trap go ≡ at_place trap go result }
     ensures inside { (at : ℕ) → result ≡ Some at → at + count ≤ size }
 {
     let at = i128::from(position) + i128::from(offset);
@@ -36,9 +37,12 @@ pub(crate) fn place(
     offset: i16,
     count: usize,
 ) -> Result<Place, TrapCause>
-    ensures leads { (stack part : ℕ → Effect) → located (state_of state.now) (value_of pointer) offset count stack part ≡ placing stack part result }
+    ensures leads { (stack part : ℕ → Effect)
+        → located (state_of state.now) (value_of pointer) offset count stack part
+        ≡ placing stack part result }
     ensures stack { (at : ℕ) → result ≡ Ok (place.Stack at) → at + count ≤ length state.now.stack }
-    ensures part { (at : ℕ) → result ≡ Ok (place.Part at) → at + count ≤ length state.now.part.items }
+    ensures part { (at : ℕ) → result ≡ Ok (place.Part at)
+        → at + count ≤ length state.now.part.items }
 {
     match pointer {
         Content::Unset => Err(TrapCause::UnsetRead),
@@ -65,15 +69,16 @@ pub(crate) fn load(
     dst: Register,
     base: Register,
     offset: i16,
-) -> Outcome
+) -> StepOutcome
     requires { state.slot < 4294967296 }
-    ensures { (p : Program) (entries : Entries) → effect_of result ≡ meaning p entries (state_of state) (Load kind dst base offset) }
+    ensures { (p : Program) (entries : Entries)
+        → effect_of result ≡ meaning p entries (state_of state) (Load kind dst base offset) }
 {
     if dst.number() == 10 {
-        return Outcome::Traps(TrapCause::WritesStackEnd);
+        return StepOutcome::Traps(TrapCause::WritesStackEnd);
     }
     match place(&state, content(&state, base), offset, load_bytes(kind)) {
-        Err(cause) => Outcome::Traps(cause),
+        Err(cause) => StepOutcome::Traps(cause),
         Ok(Place::Stack(at)) => {
             let number = machine_model::memory::load(kind, &state.stack, at);
             put(state, dst, Content::Num(number))
@@ -92,30 +97,38 @@ fn store_number(
     pointer: Content,
     offset: i16,
     number: u64,
-) -> Outcome
+) -> StepOutcome
     requires { state.slot < 4294967296 }
     ensures { (i : Insn) → leads i state.slot Always ≡ Some (state.slot + 1) →
-        effect_of result ≡ stored i (state_of state) (value_of pointer) offset (store_bytes size) number }
+        effect_of result
+        ≡ stored i (state_of state) (value_of pointer) offset (store_bytes size) number }
 {
     match place(&state, pointer, offset, store_bytes(size)) {
-        Err(cause) => Outcome::Traps(cause),
+        Err(cause) => StepOutcome::Traps(cause),
         Ok(Place::Stack(at)) => {
             machine_model::memory::store(size, &mut state.stack, at, number);
             state.slot += 1;
-            Outcome::Goes(state)
+            StepOutcome::Goes(state)
         }
         Ok(Place::Part(at)) => {
             machine_model::memory::store(size, &mut state.part, at, number);
             state.slot += 1;
-            Outcome::Goes(state)
+            StepOutcome::Goes(state)
         }
     }
 }
 
 /// A store of a number that the instruction has.
-pub(crate) fn store(state: Running, size: Size, base: Register, offset: i16, imm: i32) -> Outcome
+pub(crate) fn store(
+    state: Running,
+    size: Size,
+    base: Register,
+    offset: i16,
+    imm: i32,
+) -> StepOutcome
     requires { state.slot < 4294967296 }
-    ensures { (p : Program) (entries : Entries) → effect_of result ≡ meaning p entries (state_of state) (Store size base offset imm) }
+    ensures { (p : Program) (entries : Entries)
+        → effect_of result ≡ meaning p entries (state_of state) (Store size base offset imm) }
 {
     let pointer = content(&state, base);
     store_number(state, size, pointer, offset, immediate(imm))
@@ -128,13 +141,15 @@ pub(crate) fn store_register(
     base: Register,
     offset: i16,
     src: Register,
-) -> Outcome
+) -> StepOutcome
     requires { state.slot < 4294967296 }
-    ensures { (p : Program) (entries : Entries) → effect_of result ≡ meaning p entries (state_of state) (StoreRegister size base offset src) }
+    ensures { (p : Program) (entries : Entries)
+        → effect_of result
+        ≡ meaning p entries (state_of state) (StoreRegister size base offset src) }
 {
     let pointer = content(&state, base);
     match number(content(&state, src)) {
-        Err(cause) => Outcome::Traps(cause),
+        Err(cause) => StepOutcome::Traps(cause),
         Ok(stored) => store_number(state, size, pointer, offset, stored),
     }
 }

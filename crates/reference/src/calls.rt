@@ -10,7 +10,7 @@ ghost use Rattle.machine_model.specs.Spawn.{answer_of};
 ghost use Rattle.reference.specs.Records.{asking, effect_of, program_of, registers_of, state_of};
 
 use crate::records::{
-    Child, Content, Outcome, ReferenceProgram, Request, Running, TrapCause, Unanswered,
+    Child, Content, ReferenceProgram, Request, Running, StepOutcome, TrapCause, Unanswered,
 };
 use crate::registers::{content, number};
 use insn_codec::Register;
@@ -33,9 +33,12 @@ pub(crate) fn answered(mut state: Running, answer: u64) -> Running
 }
 
 fn request(state: &Running) -> Result<Request, TrapCause>
-    ensures { (go : ℕ → ℕ → ℕ → ℕ → Effect) → number_in (registers_of state.now.registers 1) (λ program.
-        number_in (registers_of state.now.registers 2) (λ share. number_in (registers_of state.now.registers 3) (λ cut.
-        number_in (registers_of state.now.registers 4) (λ arg. go program share cut arg)))) ≡ asking go result }
+    ensures { (go : ℕ → ℕ → ℕ → ℕ → Effect)
+        → number_in (registers_of state.now.registers 1) (λ program.
+        number_in (registers_of state.now.registers 2)
+        (λ share. number_in (registers_of state.now.registers 3) (λ cut.
+        number_in (registers_of state.now.registers 4) (λ arg. go program share cut arg))))
+        ≡ asking go result }
 {
     let program = number(content(state, Register::new(1)))?;
     let share = number(content(state, Register::new(2)))?;
@@ -51,7 +54,9 @@ fn request(state: &Running) -> Result<Request, TrapCause>
 
 /// What a spawn is answered.
 fn answer(child: Option<Entry>, request: Request, state: &Running, after: u32, need: u32) -> u64
-    ensures value { result ≡ answer_of child request.share request.cut state.now.held state.now.used after (length state.now.part.items) need }
+    ensures value { result
+        ≡ answer_of child request.share request.cut state.now.held state.now.used after
+        (length state.now.part.items) need }
     ensures few { result ≡ 0 → request.share ≤ state.now.held }
     ensures short { result ≡ 0 → request.cut ≤ length state.now.part.items }
 {
@@ -82,11 +87,12 @@ fn answer(child: Option<Entry>, request: Request, state: &Running, after: u32, n
 }
 
 /// The child gets the last bytes, and the parent keeps the rest.
-fn hand_over(alloc: Global, state: Running, request: Request) -> Result<Outcome, Unanswered>
+fn hand_over(alloc: Global, state: Running, request: Request) -> Result<StepOutcome, Unanswered>
     requires slot { state.slot < 4294967296 }
     requires share { request.share ≤ state.held }
     requires cut { request.cut ≤ length state.part.items }
-    ensures spawned { IfOk result (λ e. effect_of e ≡ spawned (state_of state) request.program request.share request.cut request.arg 0) }
+    ensures spawned { IfOk result (λ e. effect_of e
+        ≡ spawned (state_of state) request.program request.share request.cut request.arg 0) }
     ensures memory { (error : Unanswered) → result ≡ Err error → error ≡ unanswered.NoMemory }
 {
     let part = state.part.as_slice();
@@ -110,7 +116,7 @@ fn hand_over(alloc: Global, state: Running, request: Request) -> Result<Outcome,
         arg: request.arg,
         bytes,
     };
-    Ok(Outcome::Spawns(child, answered(taken, 0), answered(state, 6)))
+    Ok(StepOutcome::Spawns(child, answered(taken, 0), answered(state, 6)))
 }
 
 fn cost_at(program: &ReferenceProgram, slot: usize) -> u32
@@ -135,12 +141,13 @@ fn entry_at(programs: &[ReferenceProgram], number: u64) -> Option<Entry>
 }
 
 /// Ends the task with R0.
-pub(crate) fn exit(state: Running) -> Outcome
-    ensures { (p : Program) (entries : Entries) → effect_of result ≡ meaning p entries (state_of state) Exit }
+pub(crate) fn exit(state: Running) -> StepOutcome
+    ensures { (p : Program) (entries : Entries)
+        → effect_of result ≡ meaning p entries (state_of state) Exit }
 {
     match number(content(&state, Register::new(0))) {
-        Err(cause) => Outcome::Traps(cause),
-        Ok(r0) => Outcome::Ends(r0, state),
+        Err(cause) => StepOutcome::Traps(cause),
+        Ok(r0) => StepOutcome::Ends(r0, state),
     }
 }
 
@@ -150,14 +157,16 @@ pub(crate) fn spawn(
     program: &ReferenceProgram,
     programs: &[ReferenceProgram],
     state: Running,
-) -> Result<Outcome, Unanswered>
+) -> Result<StepOutcome, Unanswered>
     requires { state.slot < 4294967296 }
-    ensures spawn { IfOk result (λ e. effect_of e ≡ spawn (program_of program.now) (entries_of (map program_of programs.now)) (state_of state)) }
+    ensures spawn { IfOk result (λ e. effect_of e
+        ≡ spawn (program_of program.now) (entries_of (map program_of programs.now))
+        (state_of state)) }
     ensures memory { (error : Unanswered) → result ≡ Err error → error ≡ unanswered.NoMemory }
 {
     let asked = match request(&state) {
         Ok(asked) => asked,
-        Err(cause) => return Ok(Outcome::Traps(cause)),
+        Err(cause) => return Ok(StepOutcome::Traps(cause)),
     };
     let child = entry_at(programs, asked.program);
     let after = cost_at(program, state.slot + 1);
@@ -165,5 +174,5 @@ pub(crate) fn spawn(
     if reply == 0 {
         return hand_over(alloc, state, asked);
     }
-    Ok(Outcome::Goes(answered(state, reply)))
+    Ok(StepOutcome::Goes(answered(state, reply)))
 }

@@ -9,7 +9,7 @@ ghost use Rattle.machine_model.specs.Outcomes.{alu_outcome, mov_outcome, positio
 ghost use Rattle.reference.specs.Records.{GoesFar, IsFarPosition, IsFarResult, effect_of, holding_both, registers_of, state_of, value_of};
 ghost use Rattle.machine_model.specs.Value.{Value};
 
-use crate::records::{Content, Outcome, Running, TrapCause, Unanswered};
+use crate::records::{Content, Running, StepOutcome, TrapCause, Unanswered};
 use crate::registers::{content, number, operand, put, set};
 use insn_codec::{AluOp, ByteOrder, EndSize, Operand, Register, SignExtension, Width};
 use machine_model::{alu_number, low_bits, negate, reorder_bytes, sign_extend, signed};
@@ -36,7 +36,7 @@ fn position_after(
     }
 }
 
-/// The same with the pointer as the second operand.
+/// Where a pointer as the second operand leads, with a number as the first.
 fn position_onto(
     width: Width,
     op: AluOp,
@@ -59,8 +59,10 @@ fn alu_content(
     left: Content,
     right: Content,
 ) -> Result<Option<Content>, Unanswered>
-    ensures value { IfOk result (λ o. option_map value_of o ≡ alu_outcome width op (value_of left) (value_of right)) }
-    ensures far { IsErr result → IsFarResult (alu_outcome width op (value_of left) (value_of right)) }
+    ensures value { IfOk result (λ o. option_map value_of o
+        ≡ alu_outcome width op (value_of left) (value_of right)) }
+    ensures far { IsErr result
+        → IsFarResult (alu_outcome width op (value_of left) (value_of right)) }
 {
     match (left, right) {
         (Content::Num(x), Content::Num(y)) => {
@@ -93,13 +95,15 @@ fn operands(state: &Running, dst: Register, src: Operand) -> Result<(Content, Co
 }
 
 /// On to the next slot with this value in a register, where there is one.
-fn put_given(state: Running, dst: Register, value: Option<Content>) -> Outcome
+fn put_given(state: Running, dst: Register, value: Option<Content>) -> StepOutcome
     requires { state.slot < 4294967296 }
     ensures { (i : Insn) → leads i state.slot Always ≡ Some (state.slot + 1) →
-        effect_of result ≡ given (option_map value_of value) (λ v. onward i Always (moved (state_of state) dst v)) }
+        effect_of result
+        ≡ given (option_map value_of value)
+        (λ v. onward i Always (moved (state_of state) dst v)) }
 {
     match value {
-        None => Outcome::Traps(TrapCause::WrongKind),
+        None => StepOutcome::Traps(TrapCause::WrongKind),
         Some(value) => put(state, dst, value),
     }
 }
@@ -111,16 +115,19 @@ pub(crate) fn alu(
     op: AluOp,
     dst: Register,
     src: Operand,
-) -> Result<Outcome, Unanswered>
+) -> Result<StepOutcome, Unanswered>
     requires { state.slot < 4294967296 }
-    ensures value { (p : Program) (entries : Entries) → IfOk result (λ e. effect_of e ≡ meaning p entries (state_of state) (Alu width op dst src)) }
-    ensures far { (p : Program) (entries : Entries) → IsErr result → GoesFar (meaning p entries (state_of state) (Alu width op dst src)) }
+    ensures value { (p : Program) (entries : Entries)
+        → IfOk result (λ e. effect_of e
+        ≡ meaning p entries (state_of state) (Alu width op dst src)) }
+    ensures far { (p : Program) (entries : Entries) → IsErr result
+        → GoesFar (meaning p entries (state_of state) (Alu width op dst src)) }
 {
     if dst.number() == 10 {
-        return Ok(Outcome::Traps(TrapCause::WritesStackEnd));
+        return Ok(StepOutcome::Traps(TrapCause::WritesStackEnd));
     }
     match operands(&state, dst, src) {
-        Err(cause) => Ok(Outcome::Traps(cause)),
+        Err(cause) => Ok(StepOutcome::Traps(cause)),
         Ok((left, right)) => {
             let value = alu_content(width, op, left, right)?;
             Ok(put_given(state, dst, value))
@@ -145,15 +152,16 @@ fn mov_content(width: Width, content: Content) -> Option<Content>
 }
 
 /// A move.
-pub(crate) fn mov(state: Running, width: Width, dst: Register, src: Operand) -> Outcome
+pub(crate) fn mov(state: Running, width: Width, dst: Register, src: Operand) -> StepOutcome
     requires { state.slot < 4294967296 }
-    ensures { (p : Program) (entries : Entries) → effect_of result ≡ meaning p entries (state_of state) (Mov width dst src) }
+    ensures { (p : Program) (entries : Entries)
+        → effect_of result ≡ meaning p entries (state_of state) (Mov width dst src) }
 {
     if dst.number() == 10 {
-        return Outcome::Traps(TrapCause::WritesStackEnd);
+        return StepOutcome::Traps(TrapCause::WritesStackEnd);
     }
     match set(operand(&state, src)) {
-        Err(cause) => Outcome::Traps(cause),
+        Err(cause) => StepOutcome::Traps(cause),
         Ok(value) => put_given(state, dst, mov_content(width, value)),
     }
 }
@@ -164,56 +172,60 @@ pub(crate) fn mov_extended(
     extension: SignExtension,
     dst: Register,
     src: Register,
-) -> Outcome
+) -> StepOutcome
     requires { state.slot < 4294967296 }
-    ensures { (p : Program) (entries : Entries) → effect_of result ≡ meaning p entries (state_of state) (MovSx extension dst src) }
+    ensures { (p : Program) (entries : Entries)
+        → effect_of result ≡ meaning p entries (state_of state) (MovSx extension dst src) }
 {
     if dst.number() == 10 {
-        return Outcome::Traps(TrapCause::WritesStackEnd);
+        return StepOutcome::Traps(TrapCause::WritesStackEnd);
     }
     match number(content(&state, src)) {
-        Err(cause) => Outcome::Traps(cause),
+        Err(cause) => StepOutcome::Traps(cause),
         Ok(x) => put(state, dst, Content::Num(sign_extend(extension, x))),
     }
 }
 
 /// A negation.
-pub(crate) fn negated(state: Running, width: Width, dst: Register) -> Outcome
+pub(crate) fn neg(state: Running, width: Width, dst: Register) -> StepOutcome
     requires { state.slot < 4294967296 }
-    ensures { (p : Program) (entries : Entries) → effect_of result ≡ meaning p entries (state_of state) (Neg width dst) }
+    ensures { (p : Program) (entries : Entries)
+        → effect_of result ≡ meaning p entries (state_of state) (Neg width dst) }
 {
     if dst.number() == 10 {
-        return Outcome::Traps(TrapCause::WritesStackEnd);
+        return StepOutcome::Traps(TrapCause::WritesStackEnd);
     }
     match number(content(&state, dst)) {
-        Err(cause) => Outcome::Traps(cause),
+        Err(cause) => StepOutcome::Traps(cause),
         Ok(x) => put(state, dst, Content::Num(negate(width, x))),
     }
 }
 
 /// The bytes in another order.
-pub(crate) fn reordered(state: Running, order: ByteOrder, size: EndSize, dst: Register) -> Outcome
+pub(crate) fn reorder(state: Running, order: ByteOrder, size: EndSize, dst: Register) -> StepOutcome
     requires { state.slot < 4294967296 }
-    ensures { (p : Program) (entries : Entries) → effect_of result ≡ meaning p entries (state_of state) (End order size dst) }
+    ensures { (p : Program) (entries : Entries)
+        → effect_of result ≡ meaning p entries (state_of state) (End order size dst) }
 {
     if dst.number() == 10 {
-        return Outcome::Traps(TrapCause::WritesStackEnd);
+        return StepOutcome::Traps(TrapCause::WritesStackEnd);
     }
     match number(content(&state, dst)) {
-        Err(cause) => Outcome::Traps(cause),
+        Err(cause) => StepOutcome::Traps(cause),
         Ok(x) => put(state, dst, Content::Num(reorder_bytes(order, size, x))),
     }
 }
 
 /// A number of 64 bits, from an instruction of two slots.
-pub(crate) fn load_wide(mut state: Running, dst: Register, value: u64) -> Outcome
+pub(crate) fn load_wide(mut state: Running, dst: Register, value: u64) -> StepOutcome
     requires { state.slot < 4294967296 }
-    ensures { (p : Program) (entries : Entries) → effect_of result ≡ meaning p entries (state_of state) (LoadWide dst value) }
+    ensures { (p : Program) (entries : Entries)
+        → effect_of result ≡ meaning p entries (state_of state) (LoadWide dst value) }
 {
     if dst.number() == 10 {
-        return Outcome::Traps(TrapCause::WritesStackEnd);
+        return StepOutcome::Traps(TrapCause::WritesStackEnd);
     }
     state.registers[dst.number() as usize] = Content::Num(value);
     state.slot += 2;
-    Outcome::Goes(state)
+    StepOutcome::Goes(state)
 }

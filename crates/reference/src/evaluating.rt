@@ -1,4 +1,5 @@
-//! What a job comes to where each spawn is taken, computed as the definition says: a child to its end, and then its parent on.
+//! What a job comes to where each spawn is taken, computed as the definition says: a child to its
+//! end, and then its parent on.
 
 ghost use Rattle.std.specs.Prelude.{◌≡◌, ◌↔◌, List, Vec, ◌∷◌, ◌++◌, [], map, true, false, Ok};
 ghost use Rattle.std.specs.declared.alloc.Global.{Global};
@@ -11,7 +12,7 @@ ghost use Rattle.reference.specs.declared.evaluating.Evaluation.TheVariants as e
 ghost use Rattle.reference.specs.declared.evaluating.FinishedTask.{FinishedTask};
 
 use crate::effects::effect;
-use crate::records::{EndedTask, LiveTask, Outcome, ReferenceProgram, Running, Unanswered};
+use crate::records::{EndedTask, LiveTask, ReferenceProgram, Running, StepOutcome, Unanswered};
 use crate::runs::{child_of, ending_of, root};
 use std::alloc::Global;
 
@@ -25,11 +26,12 @@ pub struct FinishedTask {
 /// What an evaluation comes to.
 #[derive(Drop)]
 pub enum Evaluation {
-    /// Each task at its end: the children in order, each after those that it spawned, and the root last.
+    /// Each task at its end: the children in order, each after those that it spawned, and the root
+    /// last.
     Comes(Vec<FinishedTask>),
     /// A task traps, so that the root comes to nothing.
     Traps,
-    /// It takes as many instructions as there may be, or more.
+    /// The job takes as many instructions as there may be, or more.
     GoesOn,
 }
 
@@ -74,8 +76,8 @@ fn with_state(task: LiveTask, state: Running) -> Pending
     }
 }
 
-/// One instruction of a task: it comes back to the path, its child behind it if it spawns one, or to those that are done. False where it
-/// traps.
+/// One instruction of a task: the task comes back to the path, its child after it if it spawns one,
+/// or to those that are done. False where the task traps.
 fn advance(
     alloc: Global,
     programs: &[ReferenceProgram],
@@ -87,7 +89,8 @@ fn advance(
         PathComes (map program_of programs.now) (path.old.items ++ next ∷ []) done.old.items fs
         ↔ PathComes (map program_of programs.now) path.new.items done.new.items fs }
     ensures traps { result ≡ Ok false → (fs : List Finished) →
-        PathComes (map program_of programs.now) (path.old.items ++ next ∷ []) done.old.items fs → ⊥ }
+        PathComes (map program_of programs.now) (path.old.items ++ next ∷ []) done.old.items fs
+        → ⊥ }
 {
     let Pending { task, bytes } = next;
     let Some(program) = programs.get(task.program as usize) else {
@@ -95,15 +98,15 @@ fn advance(
     };
     let state = state_of(&task, bytes);
     match effect(alloc, program, programs, state)? {
-        Outcome::Goes(state) => path.push(with_state(task, state))?,
-        Outcome::Ends(r0, last) => {
+        StepOutcome::Goes(state) => path.push(with_state(task, state))?,
+        StepOutcome::Ends(r0, last) => {
             let ending = ending_of(alloc, &task, &last, r0)?;
             done.push(FinishedTask {
                 ending,
                 bytes: last.part,
             })?;
         }
-        Outcome::Spawns(child, taken, _) => {
+        StepOutcome::Spawns(child, taken, _) => {
             let Some(children) = task.children.checked_add(1) else {
                 return Err(Unanswered::TooLarge);
             };
@@ -114,14 +117,15 @@ fn advance(
                 bytes: child.bytes,
             })?;
         }
-        Outcome::Calls(..) => return Ok(false),
-        Outcome::Traps(_) => return Ok(false),
+        StepOutcome::Calls(..) => return Ok(false),
+        StepOutcome::Traps(_) => return Ok(false),
     }
     Ok(true)
 }
 
-/// What the root of a job comes to with all that it spawns, where each spawn that passes its tests is taken, in fewer instructions of all
-/// tasks together than `steps`. An Err says that there is no answer: for want of memory, or where a number on the way doesn't fit its type.
+/// What the root of a job comes to with all that it spawns, where each spawn that passes its tests
+/// is taken, in fewer instructions of all tasks together than `steps`. An Err says that there is no
+/// answer: for want of memory, or where a number on the way doesn't fit its type.
 pub fn evaluate(
     alloc: Global,
     programs: &[ReferenceProgram],
@@ -131,7 +135,8 @@ pub fn evaluate(
 ) -> Result<Evaluation, Unanswered>
     ensures comes { (fs : Vec FinishedTask Global) → result ≡ Ok (evaluation.Comes fs) →
         RootComes (map program_of programs.now) credit buffer.items (map finished_of fs.items) }
-    ensures traps { result ≡ Ok evaluation.Traps → (fs : List Finished) → RootComes (map program_of programs.now) credit buffer.items fs → ⊥ }
+    ensures traps { result ≡ Ok evaluation.Traps → (fs : List Finished)
+        → RootComes (map program_of programs.now) credit buffer.items fs → ⊥ }
 {
     let root = root(alloc, credit, buffer.as_slice().len());
     let mut path = Vec::new(alloc);

@@ -8,59 +8,61 @@ ghost use Rattle.reference.specs.Records.{GoesFar, counting, effect_of, passing,
 
 use crate::accesses::place;
 use crate::calls::{answered, spawn};
-use crate::records::{Content, Outcome, Place, ReferenceProgram, Running, TrapCause, Unanswered};
+use crate::records::{
+    Content, Place, ReferenceProgram, Running, StepOutcome, TrapCause, Unanswered,
+};
 use crate::registers::{content, number};
 use insn_codec::Register;
 use machine_model::memory;
 use std::alloc::Global;
 
 /// The credit that is left.
-fn credit_left(state: Running) -> Outcome
+fn credit_left(state: Running) -> StepOutcome
     requires { state.slot < 4294967296 }
     ensures { effect_of result ≡ Goes (answered (state_of state) (state.held - state.used)) }
 {
     let left = state.held.saturating_sub(state.used);
-    Outcome::Goes(answered(state, u64::from(left)))
+    StepOutcome::Goes(answered(state, u64::from(left)))
 }
 
 /// The length of the part.
-fn part_len(state: Running) -> Outcome
+fn part_len(state: Running) -> StepOutcome
     requires { state.slot < 4294967296 }
     ensures { effect_of result ≡ Goes (answered (state_of state) (length state.part.items)) }
 {
     let size = state.part.as_slice().len();
-    Outcome::Goes(answered(state, size as u64))
+    StepOutcome::Goes(answered(state, size as u64))
 }
 
 /// So many bytes from a pointer on become this one.
-fn filled(mut state: Running, pointer: Content, len: u64, byte: u8) -> Outcome
+fn filled(mut state: Running, pointer: Content, len: u64, byte: u8) -> StepOutcome
     requires { state.slot < 4294967296 }
     ensures { effect_of result ≡ filled (state_of state) (value_of pointer) len byte }
 {
     let count = len as usize;
     match place(&state, pointer, 0, count) {
-        Err(cause) => Outcome::Traps(cause),
+        Err(cause) => StepOutcome::Traps(cause),
         Ok(Place::Stack(at)) => {
             memory::fill(&mut state.stack, at, count, byte);
-            Outcome::Goes(answered(state, 0))
+            StepOutcome::Goes(answered(state, 0))
         }
         Ok(Place::Part(at)) => {
             memory::fill(&mut state.part, at, count, byte);
-            Outcome::Goes(answered(state, 0))
+            StepOutcome::Goes(answered(state, 0))
         }
     }
 }
 
 /// Fills the bytes that R1 points to, as many as R2 says, with the low byte of R3.
-fn fill(state: Running) -> Outcome
+fn fill(state: Running) -> StepOutcome
     requires { state.slot < 4294967296 }
     ensures { effect_of result ≡ fill (state_of state) }
 {
     let pointer = content(&state, Register::new(1));
     match number(content(&state, Register::new(2))) {
-        Err(cause) => Outcome::Traps(cause),
+        Err(cause) => StepOutcome::Traps(cause),
         Ok(len) => match number(content(&state, Register::new(3))) {
-            Err(cause) => Outcome::Traps(cause),
+            Err(cause) => StepOutcome::Traps(cause),
             Ok(byte) => filled(state, pointer, len, (byte % 256) as u8),
         },
     }
@@ -79,41 +81,44 @@ fn total(bytes: &[u8]) -> Option<u64>
 }
 
 /// The sum of so many bytes from a pointer on.
-fn summed(state: Running, pointer: Content, len: u64) -> Result<Outcome, Unanswered>
+fn summed(state: Running, pointer: Content, len: u64) -> Result<StepOutcome, Unanswered>
     requires { state.slot < 4294967296 }
-    ensures value { IfOk result (λ e. effect_of e ≡ summed (state_of state) (value_of pointer) len) }
-    ensures far { result ≡ Err unanswered.TooLarge → GoesFar (summed (state_of state) (value_of pointer) len) }
+    ensures value { IfOk result (λ e. effect_of e
+        ≡ summed (state_of state) (value_of pointer) len) }
+    ensures far { result ≡ Err unanswered.TooLarge
+        → GoesFar (summed (state_of state) (value_of pointer) len) }
 {
     let count = len as usize;
     match place(&state, pointer, 0, count) {
-        Err(cause) => Ok(Outcome::Traps(cause)),
+        Err(cause) => Ok(StepOutcome::Traps(cause)),
         Ok(Place::Stack(at)) => match total(&state.stack[at..at + count]) {
             None => Err(Unanswered::TooLarge),
-            Some(sum) => Ok(Outcome::Goes(answered(state, sum))),
+            Some(sum) => Ok(StepOutcome::Goes(answered(state, sum))),
         },
         Ok(Place::Part(at)) => match total(&state.part[at..at + count]) {
             None => Err(Unanswered::TooLarge),
-            Some(sum) => Ok(Outcome::Goes(answered(state, sum))),
+            Some(sum) => Ok(StepOutcome::Goes(answered(state, sum))),
         },
     }
 }
 
 /// Sums up the bytes that R1 points to, as many as R2 says.
-fn sum_of(state: Running) -> Result<Outcome, Unanswered>
+fn sum_of(state: Running) -> Result<StepOutcome, Unanswered>
     requires { state.slot < 4294967296 }
     ensures value { IfOk result (λ e. effect_of e ≡ sum_of (state_of state)) }
     ensures far { result ≡ Err unanswered.TooLarge → GoesFar (sum_of (state_of state)) }
 {
     let pointer = content(&state, Register::new(1));
     match number(content(&state, Register::new(2))) {
-        Err(cause) => Ok(Outcome::Traps(cause)),
+        Err(cause) => Ok(StepOutcome::Traps(cause)),
         Ok(len) => summed(state, pointer, len),
     }
 }
 
 /// An argument of a helper that takes so many: those past them are 0.
 fn argument(state: &Running, arity: u32, register: Register) -> Result<u64, TrapCause>
-    ensures { (go : ℕ → Effect) → argument (state_of state.now) arity register go ≡ counting go result }
+    ensures { (go : ℕ → Effect)
+        → argument (state_of state.now) arity register go ≡ counting go result }
 {
     if u32::from(register.number()) <= arity {
         number(content(state, register))
@@ -124,9 +129,12 @@ fn argument(state: &Running, arity: u32, register: Register) -> Result<u64, Trap
 
 /// The five arguments of a helper that takes so many.
 fn arguments(state: &Running, arity: u32) -> Result<[u64; 5], TrapCause>
-    ensures { (go : List ℕ → Effect) → argument (state_of state.now) arity 1 (λ a. argument (state_of state.now) arity 2 (λ b.
+    ensures { (go : List ℕ → Effect)
+        → argument (state_of state.now) arity 1
+        (λ a. argument (state_of state.now) arity 2 (λ b.
         argument (state_of state.now) arity 3 (λ c. argument (state_of state.now) arity 4 (λ d.
-        argument (state_of state.now) arity 5 (λ e. go (a ∷ b ∷ c ∷ d ∷ e ∷ [])))))) ≡ passing go result }
+        argument (state_of state.now) arity 5 (λ e. go (a ∷ b ∷ c ∷ d ∷ e ∷ []))))))
+        ≡ passing go result }
 {
     let first = argument(state, arity, Register::new(1))?;
     let second = argument(state, arity, Register::new(2))?;
@@ -147,14 +155,14 @@ fn arity_of(registered: &[Option<u32>], helper: u32) -> Option<u32>
 }
 
 /// A call of a helper of the caller's own, if there is such a one.
-fn call_registered(state: Running, helper: u32, arity: Option<u32>) -> Outcome
+fn call_registered(state: Running, helper: u32, arity: Option<u32>) -> StepOutcome
     ensures { effect_of result ≡ call_registered (state_of state) helper arity }
 {
     match arity {
-        None => Outcome::Traps(TrapCause::NoHelper),
+        None => StepOutcome::Traps(TrapCause::NoHelper),
         Some(arity) => match arguments(&state, arity) {
-            Err(cause) => Outcome::Traps(cause),
-            Ok(arguments) => Outcome::Calls(helper, arguments, state),
+            Err(cause) => StepOutcome::Traps(cause),
+            Ok(arguments) => StepOutcome::Calls(helper, arguments, state),
         },
     }
 }
@@ -166,10 +174,15 @@ pub(crate) fn call(
     programs: &[ReferenceProgram],
     state: Running,
     helper: u32,
-) -> Result<Outcome, Unanswered>
+) -> Result<StepOutcome, Unanswered>
     requires { state.slot < 4294967296 }
-    ensures value { IfOk result (λ e. effect_of e ≡ call (program_of program.now) (entries_of (map program_of programs.now)) (state_of state) helper) }
-    ensures far { result ≡ Err unanswered.TooLarge → GoesFar (call (program_of program.now) (entries_of (map program_of programs.now)) (state_of state) helper) }
+    ensures value { IfOk result (λ e. effect_of e
+        ≡ call (program_of program.now) (entries_of (map program_of programs.now))
+        (state_of state) helper) }
+    ensures far { result ≡ Err unanswered.TooLarge
+        → GoesFar
+        (call (program_of program.now) (entries_of (map program_of programs.now))
+        (state_of state) helper) }
 {
     match helper {
         1 => spawn(alloc, program, programs, state),

@@ -1,5 +1,6 @@
-//! The reference: the definitions of `machine_model` as a plain, slow program, one function a definition. What it is compared with
-//! shares the exact operators with it, and loads, stores and fills of memory, but nothing else.
+//! The reference: the definitions of `machine_model` as a plain, slow program, one function a
+//! definition. What it is compared with shares the exact operators with it, and loads, stores and
+//! fills of memory, but nothing else.
 #![tactic(auto)]
 
 // what it works on
@@ -7,8 +8,8 @@ mod records;
 mod registers;
 
 pub use records::{
-    Change, Child, Content, EndedTask, JobMember, LiveTask, Outcome, ReferenceJob, ReferenceMove,
-    ReferenceProgram, Request, Running, TrapCause, Unanswered,
+    Child, Content, EndedTask, JobMember, LiveTask, ReferenceJob, ReferenceMove, ReferenceProgram,
+    Running, StepOutcome, TrapCause, Unanswered,
 };
 
 // what one instruction does to one task
@@ -28,4 +29,4 @@ mod runs;
 
 pub use alone::{run_alone, start_alone};
 pub use evaluating::{Evaluation, FinishedTask, evaluate};
-pub use runs::{run, start, step};
+pub use runs::run;

@@ -62,8 +62,8 @@ pub enum TrapCause {
     OverSpent,
 }
 
-/// A program: the bytes that it needs, its instructions by slot, the greatest cost of a run from each slot, and how many
-/// arguments each helper of the caller's own takes, by its id.
+/// A program: the bytes that it needs, its instructions by slot, the greatest cost of a run from
+/// each slot, and how many arguments each helper of the caller's own takes, by its id.
 #[derive(Drop)]
 pub struct ReferenceProgram {
     pub need: u32,
@@ -94,7 +94,7 @@ pub struct Child {
 
 /// What an instruction comes to.
 #[derive(Drop)]
-pub enum Outcome {
+pub enum StepOutcome {
     Goes(Running),
     Ends(u64, Running),
     /// The child, and the task where the spawn is taken and where it is refused.

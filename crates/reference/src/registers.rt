@@ -8,7 +8,7 @@ ghost use Rattle.machine_model.specs.Operators.{residue};
 ghost use Rattle.reference.specs.Records.{counting, effect_of, holding, registers_of, state_of, value_of};
 ghost use Rattle.machine_model.specs.Value.{Value};
 
-use crate::records::{Content, Outcome, Running, TrapCause};
+use crate::records::{Content, Running, StepOutcome, TrapCause};
 use insn_codec::{Operand, Register};
 
 pub(crate) fn content(state: &Running, register: Register) -> Content
@@ -56,12 +56,12 @@ pub(crate) fn number(content: Content) -> Result<u64, TrapCause>
 }
 
 /// On to the next slot, with a value in a register.
-pub(crate) fn put(mut state: Running, dst: Register, value: Content) -> Outcome
+pub(crate) fn put(mut state: Running, dst: Register, value: Content) -> StepOutcome
     requires { state.slot < 4294967296 }
     ensures { (i : Insn) → leads i state.slot Always ≡ Some (state.slot + 1) →
         effect_of result ≡ onward i Always (moved (state_of state) dst (value_of value)) }
 {
     state.registers[dst.number() as usize] = value;
     state.slot += 1;
-    Outcome::Goes(state)
+    StepOutcome::Goes(state)
 }

@@ -12,8 +12,8 @@ ghost use Rattle.reference.specs.Records.{BearsFar, IsFarRun, IsFarStep, birth_f
 
 use crate::effects::effect;
 use crate::records::{
-    Change, Child, Content, EndedTask, JobMember, LiveTask, Outcome, ReferenceJob, ReferenceMove,
-    ReferenceProgram, Running, Unanswered,
+    Change, Child, Content, EndedTask, JobMember, LiveTask, ReferenceJob, ReferenceMove,
+    ReferenceProgram, Running, StepOutcome, Unanswered,
 };
 use std::alloc::Global;
 
@@ -37,7 +37,7 @@ fn drop_first(bytes: &[u8], count: usize) -> &[u8]
     }
 }
 
-fn copied(alloc: Global, places: &[u64]) -> Result<Vec<u64>, Unanswered>
+fn copy_places(alloc: Global, places: &[u64]) -> Result<Vec<u64>, Unanswered>
     ensures value { IfOk result (λ v. v.items ≡ places.now) }
     ensures memory { (error : Unanswered) → result ≡ Err error → error ≡ unanswered.NoMemory }
 {
@@ -76,10 +76,11 @@ fn written(alloc: Global, buffer: &[u8], at: usize, bytes: &[u8]) -> Result<Vec<
 }
 
 fn with_state(alloc: Global, task: &LiveTask, state: &Running) -> Result<LiveTask, Unanswered>
-    ensures value { IfOk result (λ t. task_of t ≡ with_state (task_of task.now) (state_of state.now)) }
+    ensures value { IfOk result (λ t. task_of t
+        ≡ with_state (task_of task.now) (state_of state.now)) }
     ensures memory { (error : Unanswered) → result ≡ Err error → error ≡ unanswered.NoMemory }
 {
-    let place = copied(alloc, &task.place)?;
+    let place = copy_places(alloc, &task.place)?;
     let part = state.part.as_slice();
     Ok(LiveTask {
         program: task.program,
@@ -116,7 +117,8 @@ pub(crate) fn entry_registers(size: usize, arg: u64) -> [Content; 11]
     ]
 }
 
-/// The child of a task that now has this state: of all its children the one with this number, counted from 1.
+/// The child of a task that now has this state: of all its children the one with this number,
+/// counted from 1.
 pub(crate) fn child_of(
     alloc: Global,
     task: &LiveTask,
@@ -125,10 +127,12 @@ pub(crate) fn child_of(
     number: u64,
 ) -> Result<LiveTask, Unanswered>
     requires { number ≡ suc task.now.children }
-    ensures value { IfOk result (λ t. task_of t ≡ child_of (task_of task.now) (state_of state.now) (birth_from child.now)) }
-    ensures far { result ≡ Err unanswered.TooLarge → 2 ^ 64 ≤ task.now.base + length state.now.part.items }
+    ensures value { IfOk result (λ t. task_of t
+        ≡ child_of (task_of task.now) (state_of state.now) (birth_from child.now)) }
+    ensures far { result ≡ Err unanswered.TooLarge
+        → 2 ^ 64 ≤ task.now.base + length state.now.part.items }
 {
-    let mut place = copied(alloc, &task.place)?;
+    let mut place = copy_places(alloc, &task.place)?;
     place.push(number)?;
     let part = state.part.as_slice();
     let Some(base) = task.base.checked_add(part.len()) else {
@@ -158,10 +162,11 @@ pub(crate) fn ending_of(
     state: &Running,
     r0: u64,
 ) -> Result<EndedTask, Unanswered>
-    ensures value { IfOk result (λ e. ended_of e ≡ ending_of (task_of task.now) (state_of state.now) r0) }
+    ensures value { IfOk result (λ e. ended_of e
+        ≡ ending_of (task_of task.now) (state_of state.now) r0) }
     ensures memory { (error : Unanswered) → result ≡ Err error → error ≡ unanswered.NoMemory }
 {
-    let place = copied(alloc, &task.place)?;
+    let place = copy_places(alloc, &task.place)?;
     Ok(EndedTask {
         program: task.program,
         arg: task.arg,
@@ -213,7 +218,8 @@ fn ending(
     r0: u64,
 ) -> Result<Change, Unanswered>
     ensures value { IfOk result (λ c. (j : Job) (n : ℕ) → j.buffer ≡ buffer.now → (refuses : Bool) →
-        Some (changed_by j n c) ≡ applied j n (task_of task.now) refuses (Ends r0 (state_of last.now))) }
+        Some (changed_by j n c)
+        ≡ applied j n (task_of task.now) refuses (Ends r0 (state_of last.now))) }
     ensures memory { (error : Unanswered) → result ≡ Err error → error ≡ unanswered.NoMemory }
 {
     let buffer = copied_bytes(alloc, buffer)?;
@@ -233,8 +239,11 @@ fn bearing(
     child: &Child,
     taken: &Running,
 ) -> Result<Change, Unanswered>
-    ensures value { IfOk result (λ c. (j : Job) (n : ℕ) → j.buffer ≡ buffer.now → (refused : State) →
-        Some (changed_by j n c) ≡ applied j n (task_of task.now) false (Spawns (birth_from child.now) (state_of taken.now) refused)) }
+    ensures value { IfOk result (λ c. (j : Job) (n : ℕ) → j.buffer ≡ buffer.now
+        → (refused : State) →
+        Some (changed_by j n c)
+        ≡ applied j n (task_of task.now) false
+        (Spawns (birth_from child.now) (state_of taken.now) refused)) }
     ensures far { result ≡ Err unanswered.TooLarge →
         (2 ^ 64 ≤ task.now.base + length taken.now.part.items) ⊎ (2 ^ 64 ≤ task.now.children + 1) }
 {
@@ -258,23 +267,25 @@ fn change(
     buffer: &[u8],
     task: &LiveTask,
     refuses: bool,
-    outcome: &Outcome,
+    outcome: &StepOutcome,
 ) -> Result<Option<Change>, Unanswered>
     ensures value { IfOk result (λ o. (j : Job) (n : ℕ) → j.buffer ≡ buffer.now →
-        option_map (changed_by j n) o ≡ applied j n (task_of task.now) refuses (effect_of outcome.now)) }
-    ensures far { result ≡ Err unanswered.TooLarge → BearsFar (task_of task.now) refuses (effect_of outcome.now) }
+        option_map (changed_by j n) o
+        ≡ applied j n (task_of task.now) refuses (effect_of outcome.now)) }
+    ensures far { result ≡ Err unanswered.TooLarge
+        → BearsFar (task_of task.now) refuses (effect_of outcome.now) }
 {
     match outcome {
-        Outcome::Goes(next) => Ok(Some(going(alloc, buffer, task, next)?)),
-        Outcome::Ends(r0, last) => Ok(Some(ending(alloc, buffer, task, last, *r0)?)),
-        Outcome::Spawns(child, taken, refused) => {
+        StepOutcome::Goes(next) => Ok(Some(going(alloc, buffer, task, next)?)),
+        StepOutcome::Ends(r0, last) => Ok(Some(ending(alloc, buffer, task, last, *r0)?)),
+        StepOutcome::Spawns(child, taken, refused) => {
             if refuses {
                 Ok(Some(going(alloc, buffer, task, refused)?))
             } else {
                 Ok(Some(bearing(alloc, buffer, task, child, taken)?))
             }
         }
-        Outcome::Calls(..) | Outcome::Traps(_) => Ok(None),
+        StepOutcome::Calls(..) | StepOutcome::Traps(_) => Ok(None),
     }
 }
 
@@ -297,18 +308,21 @@ fn apply(job: &mut ReferenceJob, n: usize, change: Change) -> Result<(), Unanswe
     Ok(())
 }
 
-/// What a step of task `n` makes of the job, where the task is alive. The first is None where no step is done, and the
-/// second where it traps.
-fn stepped(
+/// What a step of task `n` makes of the job, where the task is alive. The first is None where no
+/// step is done, and the second where it traps.
+fn step_change(
     alloc: Global,
     programs: &[ReferenceProgram],
     job: &ReferenceJob,
     n: usize,
     refuses: bool,
 ) -> Result<Option<Option<Change>>, Unanswered>
-    ensures steps { IfOk result (λ o. step_by (job_of job.now) n o ≡ step (map program_of programs.now) (job_of job.now) n refuses) }
-    ensures within { IfOk result (λ o. (c : Option Change) → o ≡ Some c → n < length job.now.tasks.items) }
-    ensures far { result ≡ Err unanswered.TooLarge → IsFarStep (map program_of programs.now) (job_of job.now) n refuses }
+    ensures steps { IfOk result (λ o. step_by (job_of job.now) n o
+        ≡ step (map program_of programs.now) (job_of job.now) n refuses) }
+    ensures within { IfOk result (λ o. (c : Option Change) → o ≡ Some c
+        → n < length job.now.tasks.items) }
+    ensures far { result ≡ Err unanswered.TooLarge
+        → IsFarStep (map program_of programs.now) (job_of job.now) n refuses }
 {
     match job.tasks.get(n) {
         None => Ok(None),
@@ -335,11 +349,13 @@ pub fn step(
     n: usize,
     refuses: bool,
 ) -> Result<bool, Unanswered>
-    ensures value { IfOk result (λ went. when went (job_of job.new) ≡ step (map program_of programs.now) (job_of job.old) n refuses) }
+    ensures value { IfOk result (λ went. when went (job_of job.new)
+        ≡ step (map program_of programs.now) (job_of job.old) n refuses) }
     ensures kept { result ≡ Ok false → job_of job.new ≡ job_of job.old }
-    ensures far { result ≡ Err unanswered.TooLarge → IsFarStep (map program_of programs.now) (job_of job.old) n refuses }
+    ensures far { result ≡ Err unanswered.TooLarge
+        → IsFarStep (map program_of programs.now) (job_of job.old) n refuses }
 {
-    match stepped(alloc, programs, job, n, refuses)? {
+    match step_change(alloc, programs, job, n, refuses)? {
         None => Ok(true),
         Some(None) => Ok(false),
         Some(Some(change)) => {
@@ -380,8 +396,9 @@ pub fn start(alloc: Global, credit: u32, buffer: Vec<u8>) -> Result<ReferenceJob
     Ok(ReferenceJob { buffer, tasks })
 }
 
-/// The job after these moves, from the start of one with this credit and buffer. None where a task traps on the way. An
-/// Err says that there is no answer: for want of memory, or where a number on the way doesn't fit its type.
+/// The job after these moves, from the start of one with this credit and buffer. None where a task
+/// traps on the way. An Err says that there is no answer: for want of memory, or where a number on
+/// the way doesn't fit its type.
 pub fn run(
     alloc: Global,
     programs: &[ReferenceProgram],
@@ -389,7 +406,8 @@ pub fn run(
     buffer: Vec<u8>,
     moves: &[ReferenceMove],
 ) -> Result<Option<ReferenceJob>, Unanswered>
-    ensures value { IfOk result (λ o. option_map job_of o ≡ run (map program_of programs.now) (start credit buffer.items) (map move_of moves.now)) }
+    ensures value { IfOk result (λ o. option_map job_of o
+        ≡ run (map program_of programs.now) (start credit buffer.items) (map move_of moves.now)) }
     ensures far { result ≡ Err unanswered.TooLarge →
         IsFarRun (map program_of programs.now) (start credit buffer.items) (map move_of moves.now) }
 {

@@ -27,7 +27,7 @@ Comes on t result (Spawns birth taken refused) =
 Comes on t result (Calls helper arguments caller) = ⊥
 Comes on t result (Traps trap) = ⊥
 
--- the same within so many steps, one after the other or side by side
+-- what the task comes to with all that it spawns, within so many steps: those of a child count beside those that its parent has left
 abbrev pub EvalWithin : List Program → ℕ → Task → List ℕ → List Finished → Type 0
 EvalWithin programs zero t bytes result = ⊥
 EvalWithin programs (suc n) t bytes result = (p : Program) × (slice_get programs t.program ≡ Some p)

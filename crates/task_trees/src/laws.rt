@@ -11,7 +11,8 @@ ghost use Rattle.task_trees.specs.Answer.{HasAnswer, NoRefusals, PlaysToAnswer, 
 
 /// A task by itself, whose spawns are answered alike, comes to one end.
 pub fn runs_once_alone()
-    ensures { (p : Program) (entries : Entries) (s : State) (asked others : List Asked) (r0 r0' : ℕ) (last last' : State) →
+    ensures { (p : Program) (entries : Entries) (s : State) (asked others : List Asked) (r0 r0' : ℕ)
+        (last last' : State) →
         Solo p entries s asked r0 last → Solo p entries s others r0' last' →
         map (λ (a : Asked). a.refused) asked ≡ map (λ (a : Asked). a.refused) others →
         (asked ≡ others) × (r0 ≡ r0') × (last ≡ last') }
@@ -23,42 +24,53 @@ pub fn evaluates_once()
         Eval programs t bytes xs → Eval programs t bytes ys → xs ≡ ys }
 {}
 
-/// What a task comes to with all that it spawns is what it comes to by itself, its spawns all taken, and what each of its children comes
-/// to.
+/// What a task comes to with all that it spawns is what it comes to by itself, its spawns all
+/// taken, and what each of its children comes to.
 pub fn evaluates_by_itself_first()
-    ensures { (programs : List Program) (t : Task) (bytes : List ℕ) (fs : List Finished) → t.size ≡ length bytes →
+    ensures { (programs : List Program) (t : Task) (bytes : List ℕ) (fs : List Finished)
+        → t.size ≡ length bytes →
         Eval programs t bytes fs → SoloThenChildren programs t bytes fs }
 {}
 
-/// A step whose spawn isn't refused leaves the ended tasks, joined with what the live ones come to, as they were, but for their order.
+/// A step whose spawn isn't refused leaves the ended tasks, joined with what the live ones come to,
+/// as they were, but for their order.
 pub fn steps_keep_answer()
-    ensures forth { (programs : List Program) (j k : Job) (n : ℕ) (xs : List Finished) → step programs j n false ≡ Some k →
-        AreTiles j.tasks (length j.buffer) → JobComes programs j xs → (ys : List Finished) × JobComes programs k ys × IsPermutation xs ys }
-    ensures back { (programs : List Program) (j k : Job) (n : ℕ) (ys : List Finished) → step programs j n false ≡ Some k →
-        AreTiles j.tasks (length j.buffer) → JobComes programs k ys → (xs : List Finished) × JobComes programs j xs × IsPermutation xs ys }
+    ensures forth { (programs : List Program) (j k : Job) (n : ℕ) (xs : List Finished)
+        → step programs j n false ≡ Some k →
+        AreTiles j.tasks (length j.buffer) → JobComes programs j xs → (ys : List Finished)
+        × JobComes programs k ys × IsPermutation xs ys }
+    ensures back { (programs : List Program) (j k : Job) (n : ℕ) (ys : List Finished)
+        → step programs j n false ≡ Some k →
+        AreTiles j.tasks (length j.buffer) → JobComes programs k ys → (xs : List Finished)
+        × JobComes programs j xs × IsPermutation xs ys }
 {}
 
-/// A complete run in which no spawn was refused has the buffer, the credit spent and the R0s by place that the root comes to by itself
-/// with all that it spawns.
+/// A complete run in which no spawn was refused has the buffer, the credit spent and the R0s by
+/// place that the root comes to by itself with all that it spawns.
 pub fn one_answer()
-    ensures { (programs : List Program) (credit : ℕ) (buffer : List ℕ) (moves : List Move) (last : Job) →
+    ensures { (programs : List Program) (credit : ℕ) (buffer : List ℕ) (moves : List Move)
+        (last : Job) →
         run programs (start credit buffer) moves ≡ Some last → NoRefusals moves → IsComplete last →
         (fs : List Finished) × RootComes programs credit buffer fs × HasAnswer last fs }
 {}
 
-/// Two complete runs of one job in which no spawn was refused have the same buffer, the same credit spent, and the same tasks at the same
-/// places, whatever their schedules and numbers.
+/// Two complete runs of one job in which no spawn was refused have the same buffer, the same credit
+/// spent, and the same tasks at the same places, whatever their schedules and numbers.
 pub fn schedules_agree()
-    ensures { (programs : List Program) (credit : ℕ) (buffer : List ℕ) (moves others : List Move) (last other : Job) →
+    ensures { (programs : List Program) (credit : ℕ) (buffer : List ℕ) (moves others : List Move)
+        (last other : Job) →
         run programs (start credit buffer) moves ≡ Some last → NoRefusals moves → IsComplete last →
-        run programs (start credit buffer) others ≡ Some other → NoRefusals others → IsComplete other →
+        run programs (start credit buffer) others ≡ Some other → NoRefusals others
+        → IsComplete other →
         (last.buffer ≡ other.buffer) × (sum_by spent_by last.tasks ≡ sum_by spent_by other.tasks)
         × IsPermutation (ended_in last.buffer last.tasks) (ended_in other.buffer other.tasks) }
 {}
 
-/// After each step, the places of the tasks are told by their parents: a spawn by task n adds n to them.
+/// After each step, the places of the tasks are told by their parents: a spawn by task n adds n to
+/// them.
 pub fn keeps_parents()
-    ensures start { (credit : ℕ) (buffer : List ℕ) → let j : Job = start credit buffer in AreParents [] j.tasks }
+    ensures start { (credit : ℕ) (buffer : List ℕ)
+        → let j : Job = start credit buffer in AreParents [] j.tasks }
     ensures step { (programs : List Program) (j k : Job) (n : ℕ) (refuses : Bool) (parents : List ℕ) →
         step programs j n refuses ≡ Some k → AreParents parents j.tasks →
         (parents' : List ℕ) × GrowBy n j k parents parents' × AreParents parents' k.tasks }
@@ -66,22 +78,26 @@ pub fn keeps_parents()
 
 /// Over every schedule, no two tasks of a job have one place.
 pub fn places_differ()
-    ensures { (programs : List Program) (credit : ℕ) (buffer : List ℕ) (moves : List Move) (last : Job) →
+    ensures { (programs : List Program) (credit : ℕ) (buffer : List ℕ) (moves : List Move)
+        (last : Job) →
         run programs (start credit buffer) moves ≡ Some last → HavePlaces last }
 {}
 
-/// A run over a schedule is one that refuses nothing but spawns. Where it refuses none and its last job is complete, that has the answer of
-/// the root.
+/// A run over a schedule is one that refuses nothing but spawns. Where it refuses none and its last
+/// job is complete, that has the answer of the root.
 pub fn plays_to_answer()
-    ensures { (programs : List Program) (credit : ℕ) (buffer : List ℕ) (moves : List Move) (last : Job) →
+    ensures { (programs : List Program) (credit : ℕ) (buffer : List ℕ) (moves : List Move)
+        (last : Job) →
         run programs (start credit buffer) moves ≡ Some last →
         PlaysToAnswer programs credit buffer (map (λ (m : Move). m.number) moves) last }
 {}
 
-/// Over every schedule, with refusals or without, each ended task has the use and the R0 that it comes to by itself on some part, under some
-/// answers.
+/// Over every schedule, with refusals or without, each ended task has the use and the R0 that it
+/// comes to by itself on some part, under some answers.
 pub fn each_ran_alone()
-    ensures { (programs : List Program) (credit : ℕ) (buffer : List ℕ) (moves : List Move) (last : Job) (n : ℕ) (e : Ending) →
-        run programs (start credit buffer) moves ≡ Some last → slice_get last.tasks n ≡ Some (Ended e) →
+    ensures { (programs : List Program) (credit : ℕ) (buffer : List ℕ) (moves : List Move)
+        (last : Job) (n : ℕ) (e : Ending) →
+        run programs (start credit buffer) moves ≡ Some last
+        → slice_get last.tasks n ≡ Some (Ended e) →
         RanAlone programs e (take e.size (drop e.base last.buffer)) }
 {}

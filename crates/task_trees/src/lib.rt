@@ -1,4 +1,5 @@
-//! What a task comes to with all that it spawns, and that a job comes to this whatever its schedule.
+//! What a task comes to with all that it spawns, and that a job comes to this whatever its
+//! schedule.
 #![tactic(auto)]
 
 mod laws;

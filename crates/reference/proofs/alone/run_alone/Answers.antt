@@ -1,6 +1,6 @@
 use Rattle.std.proofs.Common.{◌≡◌, ◌-◌, ◌+◌, ℕ, suc, arith, refl, subst, sym}
 use Rattle.reference.specs.declared.records.Running.{Running}
-use Rattle.machine_model.specs.Alone.{Answers, EndsWithin, alone}
+use Rattle.machine_model.specs.Alone.{MayAnswer, EndsWithin, alone}
 use Rattle.machine_model.specs.Machine.{Program, State}
 use Rattle.reference.specs.Records.{program_of, state_of}
 use Rattle.reference.proofs.AloneLemmas.{Leads, leads_same, leads_goes, leads_calls, never_ends, ends_there, stays_at_trap, spawns_nothing, stays_at_last, far_there, far_call}
@@ -15,7 +15,7 @@ loop-init g c = leads_same _ _ _ _ _ _ (omega arith) c.start_alone-state.ensures
 pub returns-in-Ends-clause-ends : goal.returns-in-Ends-clause-ends
 returns-in-Ends-clause-ends g c = λ r0 last e.
     let p : Program = program_of c.args.program.now in
-    let may : Answers = λ id arguments answer. goal.F-post g c.args.helper.now id arguments answer in
+    let may : MayAnswer = λ id arguments answer. goal.F-post g c.args.helper.now id arguments answer in
     let first : State = alone c.args.credit c.args.part.items in
     let s : State = state_of c.loop.state in
     let left : ℕ = c.args.steps - c.loop.counter in
@@ -29,7 +29,7 @@ returns-in-Ends-clause-ends g c = λ r0 last e.
 pub returns-in-Traps-clause-stays : goal.returns-in-Traps-clause-stays
 returns-in-Traps-clause-stays g c = λ _.
     let p : Program = program_of c.args.program.now in
-    let may : Answers = λ id arguments answer. goal.F-post g c.args.helper.now id arguments answer in
+    let may : MayAnswer = λ id arguments answer. goal.F-post g c.args.helper.now id arguments answer in
     let first : State = alone c.args.credit c.args.part.items in
     let s : State = state_of c.loop.state in
     let left : ℕ = c.args.steps - c.loop.counter in
@@ -40,7 +40,7 @@ returns-in-Traps-clause-stays g c = λ _.
 pub returns-in-Spawns-clause-stays : goal.returns-in-Spawns-clause-stays
 returns-in-Spawns-clause-stays g c = λ _.
     let p : Program = program_of c.args.program.now in
-    let may : Answers = λ id arguments answer. goal.F-post g c.args.helper.now id arguments answer in
+    let may : MayAnswer = λ id arguments answer. goal.F-post g c.args.helper.now id arguments answer in
     let first : State = alone c.args.credit c.args.part.items in
     let s : State = state_of c.loop.state in
     let left : ℕ = c.args.steps - c.loop.counter in
@@ -51,7 +51,7 @@ returns-in-Spawns-clause-stays g c = λ _.
 pub loop-preserved : goal.loop-preserved
 loop-preserved g c =
     let p : Program = program_of c.args.program.now in
-    let may : Answers = λ id arguments answer. goal.F-post g c.args.helper.now id arguments answer in
+    let may : MayAnswer = λ id arguments answer. goal.F-post g c.args.helper.now id arguments answer in
     let first : State = alone c.args.credit c.args.part.items in
     let s : State = state_of c.loop.state in
     let left : ℕ = c.args.steps - c.loop.counter in
@@ -92,7 +92,7 @@ returns-clause-never g c = λ none one.
 pub returns-in_err-next-clause-far : goal.returns-in_err-next-clause-far
 returns-in_err-next-clause-far g c = λ is.
     let p : Program = program_of c.args.program.now in
-    let may : Answers = λ id arguments answer. goal.F-post g c.args.helper.now id arguments answer in
+    let may : MayAnswer = λ id arguments answer. goal.F-post g c.args.helper.now id arguments answer in
     let first : State = alone c.args.credit c.args.part.items in
     let s : State = state_of c.loop.state in
     let left : ℕ = c.args.steps - c.loop.counter in
@@ -104,7 +104,7 @@ returns-in_err-next-clause-far g c = λ is.
 pub returns-in_err-state-in-Calls-clause-far : goal.returns-in_err-state-in-Calls-clause-far
 returns-in_err-state-in-Calls-clause-far g c = λ _.
     let p : Program = program_of c.args.program.now in
-    let may : Answers = λ id arguments answer. goal.F-post g c.args.helper.now id arguments answer in
+    let may : MayAnswer = λ id arguments answer. goal.F-post g c.args.helper.now id arguments answer in
     let first : State = alone c.args.credit c.args.part.items in
     let s : State = state_of c.loop.state in
     let left : ℕ = c.args.steps - c.loop.counter in

@@ -15,10 +15,10 @@ pub returns-in-MovSx-clause-value : goal.returns-in-MovSx-clause-value
 returns-in-MovSx-clause-value c = rw c.in-MovSx.is (c.mov_extended.ensures (program_of c.args.program.now) (entries_of (map program_of c.args.programs.now)))
 
 pub returns-in-Neg-clause-value : goal.returns-in-Neg-clause-value
-returns-in-Neg-clause-value c = rw c.in-Neg.is (c.negated.ensures (program_of c.args.program.now) (entries_of (map program_of c.args.programs.now)))
+returns-in-Neg-clause-value c = rw c.in-Neg.is (c.neg.ensures (program_of c.args.program.now) (entries_of (map program_of c.args.programs.now)))
 
 pub returns-in-End-clause-value : goal.returns-in-End-clause-value
-returns-in-End-clause-value c = rw c.in-End.is (c.reordered.ensures (program_of c.args.program.now) (entries_of (map program_of c.args.programs.now)))
+returns-in-End-clause-value c = rw c.in-End.is (c.reorder.ensures (program_of c.args.program.now) (entries_of (map program_of c.args.programs.now)))
 
 pub returns-in-LoadWide-clause-value : goal.returns-in-LoadWide-clause-value
 returns-in-LoadWide-clause-value c = rw c.in-LoadWide.is (c.load_wide.ensures (program_of c.args.program.now) (entries_of (map program_of c.args.programs.now)))

@@ -1,4 +1,4 @@
-use Rattle.std.proofs.Common.{◌≡◌, ◌∙◌, ap, sym, refl, arith, false, nat_lt, ℕ, length, map, slice_get, Some}
+use Rattle.std.proofs.Common.{◌≡◌, ◌∙◌, ap, sym, refl, arith, false, nat_lt, ℕ, length, map}
 use Rattle.std.proofs.lemmas.Option.{slice_get_read}
 use Rattle.machine_model.specs.Job.{Task, entries_of, with_state}
 use Rattle.machine_model.specs.Machine.{effect}

@@ -1,4 +1,4 @@
-use Rattle.std.proofs.Common.{◌≡◌, ◌∙◌, Vec, [], ap, false, length, map, refl, subst, sym, Ok}
+use Rattle.std.proofs.Common.{◌≡◌, ◌∙◌, Vec, [], ap, length, map, refl, subst, sym, Ok}
 use Rattle.std.proofs.lemmas.List.{nil_from_length}
 use Rattle.std.specs.declared.alloc.Global.{Global}
 use Rattle.task_trees.specs.Answer.{RootComes}

@@ -7,7 +7,7 @@ use Rattle.reference.specs.Records.{BearsFar, task_of}
 use Rattle.reference.specs.declared.records.JobMember.{JobMember}
 use Rattle.reference.specs.declared.records.JobMember.TheVariants.{Live}
 use Rattle.reference.proofs.RunLemmas.{far_step, same_error}
-use Rattle.reference.proofs.runs.stepped.Goals as goal
+use Rattle.reference.proofs.runs.step_change.Goals as goal
 
 pub returns-in_err-outcome-in-Some-get-clause-far : goal.returns-in_err-outcome-in-Some-get-clause-far
 returns-in_err-outcome-in-Some-get-clause-far c = λ is.

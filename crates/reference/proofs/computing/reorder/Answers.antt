@@ -7,7 +7,7 @@ use Rattle.machine_model.specs.Outcomes.{ordered_by}
 use Rattle.reference.specs.Records.{state_of}
 use Rattle.machine_model.specs.Value.{Num}
 use Rattle.reference.proofs.EffectLemmas.{one_number, put_into}
-use Rattle.reference.proofs.computing.reordered.Goals as goal
+use Rattle.reference.proofs.computing.reorder.Goals as goal
 
 pub returns-in-Err : goal.returns-in-Err
 returns-in-Err c = λ p entries.
