@@ -1,5 +1,5 @@
 -- Bytes that are put into a buffer as far as it reaches.
-use Rattle.std.proofs.Common.{◌≡◌, ℕ, ◌≤◌, ◌+◌, ◌-◌, List, [], length, take, drop, ◌++◌, refl, sym, ◌∙◌, arith, ap, append-nil}
+use Rattle.std.proofs.Common.{◌≡◌, ℕ, ◌≤◌, ◌+◌, ◌-◌, List, [], length, take, drop, ◌++◌, sym, ◌∙◌, arith, ap, append-nil}
 use Rattle.std.proofs.lemmas.Grind.{common_steps}
 use Rattle.std.proofs.Math.Seq.{take-append-add}
 use Rattle.std.proofs.lemmas.List.{take-append-le, length-take-le}

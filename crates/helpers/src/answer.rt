@@ -5,10 +5,10 @@ ghost use Rattle.machine_model.specs.Spawn.{answer_of};
 
 use machine_model::Entry;
 
-/// The first cause that a spawn isn't made for, or 0: 1 no such program, 2 a share under the child's cost, 3 too little
-/// credit left for the rest of the parent's run (`after` is the cost of the slot behind the call, and `used` has the
-/// call's price in it), 4 a cut under the child's need, 5 too few bytes left for the parent (`len` and `need` are the
-/// parent's).
+/// The first cause that a spawn isn't made for, or 0: 1 no such program, 2 a share under the
+/// child's cost, 3 too little credit left for the rest of the parent's run (`after` is the cost of
+/// the slot after the call, and `used` has the call's price in it), 4 a cut under the child's need,
+/// 5 too few bytes left for the parent (`len` and `need` are the parent's).
 pub fn spawn_answer(
     child: Option<Entry>,
     share: u64,

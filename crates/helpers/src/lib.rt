@@ -1,4 +1,5 @@
-//! What a task has besides its frame: the helpers that it may call, its part of the buffer, and whom it asks for a spawn.
+//! What a task has besides its frame: the helpers that it may call, its part of the buffer, and
+//! whom it asks for a spawn.
 #![tactic(auto)]
 
 mod answer;

@@ -59,8 +59,10 @@ impl Part {
     #[inline]
     pub fn load(&self, kind: LoadKind, at: usize) -> u64
         requires { at + load_bytes kind ≤ length self.now.bytes }
-        ensures value { result ≡ widened kind (little_number (bytes_at self.now.bytes at (load_bytes kind))) }
-        ensures small { little_number (bytes_at self.now.bytes at (load_bytes kind)) < 2 ^ (8 * load_bytes kind) }
+        ensures value { result
+            ≡ widened kind (little_number (bytes_at self.now.bytes at (load_bytes kind))) }
+        ensures small { little_number (bytes_at self.now.bytes at (load_bytes kind))
+            < 2 ^ (8 * load_bytes kind) }
     {
         load(kind, &self.bytes, at)
     }
@@ -69,7 +71,9 @@ impl Part {
     #[inline]
     pub fn store(&mut self, size: Size, at: usize, number: u64)
         requires { at + store_bytes size ≤ length self.old.bytes }
-        ensures { self.new ≡ record self.old { bytes = written self.old.bytes at (little_bytes (store_bytes size) number) } }
+        ensures { self.new
+            ≡ record self.old
+            { bytes = written self.old.bytes at (little_bytes (store_bytes size) number) } }
     {
         store(size, &mut self.bytes, at, number);
     }
@@ -77,7 +81,8 @@ impl Part {
     /// Gives so many bytes from a place on this value.
     pub fn fill(&mut self, at: usize, count: usize, byte: u8)
         requires { at + count ≤ length self.old.bytes }
-        ensures { self.new ≡ record self.old { bytes = written self.old.bytes at (replicate count byte) } }
+        ensures { self.new
+            ≡ record self.old { bytes = written self.old.bytes at (replicate count byte) } }
     {
         fill(&mut self.bytes, at, count, byte);
     }
@@ -99,10 +104,13 @@ impl Part {
         put(buffer, self.base, &self.bytes);
     }
 
-    /// The same as far as the buffer reaches: what would lie past its end is left out.
+    /// Copies the bytes to where they lie in the job's buffer, as far as it reaches: what would lie
+    /// past its end is left out.
     #[tactic(auto, using(crate::proofs::PieceLemmas::written_past, crate::proofs::PieceLemmas::written_inside, crate::proofs::PieceLemmas::written_across))]
     pub fn copy_within(&self, buffer: &mut Vec<u8>)
-        ensures { buffer.new.items ≡ take (length buffer.old.items) (written buffer.old.items self.now.base self.now.bytes) }
+        ensures { buffer.new.items
+            ≡ take (length buffer.old.items)
+            (written buffer.old.items self.now.base self.now.bytes) }
     {
         let length = buffer.len();
         if length <= self.base {
@@ -116,7 +124,7 @@ impl Part {
         }
     }
 
-    /// For how many bytes it has room.
+    /// For how many bytes the part has room.
     pub fn room(&self) -> usize
         ensures room { result ≡ self.now.room }
         ensures fits { length self.now.bytes ≤ self.now.room }
@@ -124,16 +132,19 @@ impl Part {
         self.bytes.capacity()
     }
 
-    /// Moves the last `count` bytes out. Their room is kept, so that the piece can be put back without memory. Where they are all
-    /// the bytes, the piece takes them with their room: nothing is copied then, and no memory is asked for.
+    /// Moves the last `count` bytes out. Their room is kept, so that the piece can be put back
+    /// without memory. Where they are all the bytes, the piece takes them with their room: nothing
+    /// is copied then, and no memory is asked for.
     pub fn cut(&mut self, alloc: Global, count: usize) -> Result<Part, NoMemory>
         requires { count ≤ length self.old.bytes }
         ensures rest { IfOk result (λ piece. (self.new.base ≡ self.old.base) ×
             (self.new.bytes ≡ take (length self.old.bytes - count) self.old.bytes)) }
-        ensures bytes { IfOk result (λ piece. piece.bytes ≡ drop (length self.old.bytes - count) self.old.bytes) }
+        ensures bytes { IfOk result (λ piece. piece.bytes
+            ≡ drop (length self.old.bytes - count) self.old.bytes) }
         ensures base { IfOk result (λ piece. piece.base ≡ self.old.base + length self.new.bytes) }
         ensures room { IfOk result (λ piece. joined_room self.new piece ≡ self.old.room) }
-        ensures fits { IfOk result (λ piece. length self.new.bytes + length piece.bytes ≤ joined_room self.new piece) }
+        ensures fits { IfOk result (λ piece. length self.new.bytes + length piece.bytes
+            ≤ joined_room self.new piece) }
         ensures err { OnErr result (self.new ≡ self.old) }
         ensures copies { OnErr result (count < length self.old.bytes) }
     {
@@ -145,20 +156,20 @@ impl Part {
                 bytes,
             });
         }
-        let mut bytes = Vec::new(alloc);
-        bytes.extend_from_slice(&self.bytes[keep..])?;
-        self.bytes.truncate(keep);
+        let bytes = self.bytes.split_off(keep)?;
         Ok(Part {
             base: self.base + keep,
             bytes,
         })
     }
 
-    /// Puts a piece back where it was cut. Pieces that were cut one after the other are put back in the opposite order.
+    /// Puts a piece back where it was cut. Pieces that were cut one after the other are put back in
+    /// the opposite order.
     pub fn rejoin(&mut self, piece: Part)
         requires base { piece.base ≡ self.old.base + length self.old.bytes }
         requires room { length self.old.bytes + length piece.bytes ≤ joined_room self.old piece }
-        ensures bytes { (self.new.base ≡ self.old.base) × (self.new.bytes ≡ self.old.bytes ++ piece.bytes) }
+        ensures bytes { (self.new.base ≡ self.old.base)
+            × (self.new.bytes ≡ self.old.bytes ++ piece.bytes) }
         ensures room { joined_room self.old piece ≤ self.new.room }
     {
         let Part {
@@ -172,7 +183,8 @@ impl Part {
         }
     }
 
-    /// Gives back the room that the bytes don't need, where it is as much again as they take, or more.
+    /// Gives back the room that the bytes don't need, where it is as much again as they take, or
+    /// more.
     pub fn shed_room(&mut self)
         ensures bytes { (self.new.base ≡ self.old.base) × (self.new.bytes ≡ self.old.bytes) }
         ensures room { self.new.room ≤ self.old.room }
@@ -182,7 +194,7 @@ impl Part {
         }
     }
 
-    /// Its bytes.
+    /// The part's bytes.
     pub fn into_bytes(self) -> Vec<u8>
         ensures { result.items ≡ self.bytes }
     {
@@ -206,7 +218,8 @@ impl Part {
     #[inline]
     pub fn put_bytes(&mut self, bytes: Vec<u8>)
         requires { self.old.base + length bytes.items ≤ 65536 }
-        ensures { self.new ≡ record { base = self.old.base; bytes = bytes.items; room = vec_capacity bytes } }
+        ensures { self.new
+            ≡ record { base = self.old.base; bytes = bytes.items; room = vec_capacity bytes } }
     {
         self.bytes = bytes;
     }

@@ -10,9 +10,9 @@ use std::marker::Model;
 /// The first id of a caller's own helpers.
 const FIRST_ADDED: u32 = 64;
 
-/// The helpers that a program may call: `spawn`, `credit_left`, `part_len`, `fill` and `sum`, of ids 1 to 5, and those that
-/// the caller added, of ids 64 to 127. Contracts see how many arguments each of the added ones takes, which has no places
-/// before the first is added.
+/// The helpers that a program may call: `spawn`, `credit_left`, `part_len`, `fill` and `sum`, of
+/// ids 1 to 5, and those that the caller added, of ids 64 to 127. Contracts see how many arguments
+/// each of the added ones takes, which has no places before the first is added.
 #[derive(Drop)]
 pub struct HelperTable {
     added: Option<Box<[Option<u32>; 64]>>,
@@ -59,13 +59,15 @@ impl HelperTable {
         HelperTable { added: None }
     }
 
-    /// Adds a helper of the caller's own, with so many arguments, or gives the one of this id another number of them.
-    /// Memory is taken for the first one alone.
+    /// Adds a helper of the caller's own, with so many arguments, or gives the one of this id
+    /// another number of them. Memory is taken for the first one alone.
     pub fn add(&mut self, alloc: Global, id: u32, arity: u32) -> Result<(), NoMemory>
         requires added { 64 ≤ id }
         requires few { id < 128 }
         requires arity { arity ≤ 5 }
-        ensures ok { IfOk result (λ _. (other : ℕ) → arity_in self.new other ≡ (if other == id then Some arity else arity_in self.old other)) }
+        ensures ok { IfOk result (λ _. (other : ℕ)
+            → arity_in self.new other
+            ≡ (if other == id then Some arity else arity_in self.old other)) }
         ensures err { OnErr result (self.new ≡ self.old) }
         ensures first { OnErr result (self.old ≡ job_table) }
     {
@@ -81,7 +83,7 @@ impl HelperTable {
         Ok(())
     }
 
-    /// The same table.
+    /// A copy of the table.
     pub fn copied(&self, alloc: Global) -> Result<HelperTable, NoMemory>
         ensures same { IfOk result (λ copy. copy ≡ self.now) }
         ensures added { OnErr result (self.now ≢ job_table) }

@@ -7,8 +7,9 @@ ghost use Rattle.interpreter.specs.Telling.{Took, Refused};
 use helpers::{Part, SpawnRecord, Spawner};
 use std::alloc::Global;
 
-/// Cuts the last `count` bytes off the part and hands them over to a child. Where there is no memory, or the spawner
-/// refuses the child, the part is whole again. Where the child is taken, nothing comes back, so that the part needs no room for it.
+/// Cuts the last `count` bytes off the part and hands them over to a child. Where there is no
+/// memory, or the spawner refuses the child, the part is whole again. Where the child is taken,
+/// nothing comes back, so that the part needs no room for it.
 pub fn hand_over<S: Spawner>(
     alloc: Global,
     program: u16,
@@ -19,16 +20,33 @@ pub fn hand_over<S: Spawner>(
     spawner: &mut S,
 ) -> bool
     requires few { count ≤ length part.old.bytes }
-    requires asks { (piece : Piece) → S.asks spawner.old (record { program = program; share = share; arg = arg; part = piece }) }
+    requires asks { (piece : Piece)
+        → S.asks spawner.old
+        (record { program = program; share = share; arg = arg; part = piece }) }
     ensures base { part.new.base ≡ part.old.base }
-    ensures taken { IsTrue result → part.new.bytes ≡ take (length part.old.bytes - count) part.old.bytes }
+    ensures taken { IsTrue result
+        → part.new.bytes ≡ take (length part.old.bytes - count) part.old.bytes }
     ensures took { IsTrue result →
-        Took (record { program = program; share = share; arg = arg; bytes = drop (length part.old.bytes - count) part.old.bytes })
-        (part.old.base + (length part.old.bytes - count)) (λ child reply. S.spawns spawner.old child reply spawner.new) }
+        Took (record {
+          program = program;
+          share = share;
+          arg = arg;
+          bytes = drop
+              (length part.old.bytes - count) part.old.bytes;
+        })
+        (part.old.base + (length part.old.bytes - count))
+        (λ child reply. S.spawns spawner.old child reply spawner.new) }
     ensures whole { IsFalse result → part.new.bytes ≡ part.old.bytes }
     ensures refused { IsFalse result →
-        Refused (record { program = program; share = share; arg = arg; bytes = drop (length part.old.bytes - count) part.old.bytes })
-        (part.old.base + (length part.old.bytes - count)) (λ child reply. S.spawns spawner.old child reply spawner.new)
+        Refused (record {
+          program = program;
+          share = share;
+          arg = arg;
+          bytes = drop
+              (length part.old.bytes - count) part.old.bytes;
+        })
+        (part.old.base + (length part.old.bytes - count))
+        (λ child reply. S.spawns spawner.old child reply spawner.new)
         (spawner.new ≡ spawner.old) }
     ensures entries { S.entries spawner.new ≡ S.entries spawner.old }
 {

@@ -16,7 +16,7 @@ module _ {S : Type 0} (spawns : S → SpawnRecord → Result (Unit {0}) SpawnRec
       if_refused a.refused (Took a.birth (base + a.at) (λ child reply. spawns old child reply new))
       (Refused a.birth (base + a.at) (λ child reply. spawns old child reply new) (new ≡ old))
 
-  -- it replied to each of these spawns, in order, and nothing else was asked of it
+  -- the spawner replied to each of these spawns, in order, and nothing else was asked of it
   abbrev pub GoesThrough : S → List Asked → S → Type 0
   GoesThrough old [] new = new ≡ old
   GoesThrough old (a ∷ later) new = (mid : S) × Replied old a mid × GoesThrough mid later new

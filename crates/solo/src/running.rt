@@ -13,10 +13,12 @@ use interpreter::{Credit, Frame, Next};
 use std::alloc::Global;
 use verifier::Verified;
 
-/// Runs a task from slot 0 to its end, whatever the frame's own slot is, and gives R0. Whatever task stands behind the frame, what
-/// happens is the run of that task by itself, whose spawns the spawner answered one after the other.
+/// Runs a task from slot 0 to its end, whatever the frame's own slot is, and gives R0. Whatever
+/// task stands behind the frame, what happens is the run of that task by itself, whose spawns the
+/// spawner answered one after the other.
 ///
-/// It asks for a program that may call a job's helpers alone, and for a spawner that takes any record.
+/// The call asks for a program that may call a job's helpers alone, and for a spawner that takes
+/// any record.
 pub fn run_to_end<S: Spawner>(
     alloc: Global,
     frame: &mut Frame,
@@ -29,8 +31,10 @@ pub fn run_to_end<S: Spawner>(
     requires covered { IsCovered code.now (at_slot frame.old 0) part.old credit.old }
     requires takes_any { (s : S) (child : SpawnRecord) → S.asks s child }
     ensures alone { (registers : Registers) → AreBehind code.now (at_slot frame.old 0) registers →
-        RunsAlone (program_of code.now) (S.entries spawner.old) (state_of (at_slot frame.old 0) part.old credit.old registers)
-        (λ asked. GoesThrough S.spawns part.old.base spawner.old asked spawner.new) result credit.new.used part.new.bytes }
+        RunsAlone (program_of code.now) (S.entries spawner.old)
+        (state_of (at_slot frame.old 0) part.old credit.old registers)
+        (λ asked. GoesThrough S.spawns part.old.base spawner.old asked spawner.new) result
+        credit.new.used part.new.bytes }
     ensures base { part.new.base ≡ part.old.base }
     ensures entries { S.entries spawner.new ≡ S.entries spawner.old }
 {

@@ -1,12 +1,9 @@
 -- What a call on a fresh frame is.
-use Rattle.std.specs.Prelude.{◌≡◌, replicate}
+use Rattle.std.specs.Prelude.{◌≡◌}
 use denote.Param.Members.{Once}
 use denote.Ref.{MutBor}
 use Rattle.interpreter.specs.declared.frame.Frame.{Frame}
-
--- a frame of zeros
-abbrev pub zeroed : Frame
-zeroed = record { words = replicate 11 0; stack = replicate 512 0; slot = 0 }
+use Rattle.interpreter.specs.Behind.{zeroed}
 
 module _ {F T R : Type 0} (g : Once F (MutBor Frame × (T × Unit {0})) (R × (MutBor Frame × Unit {0}))) (f : F) (task : T) where
   -- f may be called on any frame of zeros and the task

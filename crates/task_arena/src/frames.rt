@@ -7,8 +7,8 @@ use bumpalo::Bump;
 use interpreter::Frame;
 use std::alloc::Global;
 
-/// Where a worker's frames lie. It doesn't move between threads. The frames of one job take memory until the job ends, or until
-/// a frame of another job is asked for.
+/// Where a worker's frames lie. An arena doesn't move between threads. The frames of one job take
+/// memory until the job ends, or until a frame of another job is asked for.
 pub struct Frames {
     alloc: Global,
     arena: Bump,
@@ -39,8 +39,8 @@ impl Frames {
 
     /// Runs `f` on a frame of zeros and the task, whatever an earlier task or job left.
     ///
-    /// Where the arena has no room for a frame, a new one is taken. Where that has none either, the task comes back as it was (99),
-    /// and `f` isn't called.
+    /// Where the arena has no room for a frame, a new one is taken. Where that has none either, the
+    /// task comes back as it was (99), and `f` isn't called.
     pub fn with_frame<T, R, F: FnOnce(&mut Frame, T) -> R + Drop>(
         &mut self,
         job: u64,

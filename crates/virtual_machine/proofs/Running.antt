@@ -4,7 +4,7 @@ use Rattle.machine_model.specs.Value.{Registers}
 use Rattle.machine_model.specs.Machine.{State, Effect, Goes, Ends, Spawns, Calls, Traps, answered, effect}
 use Rattle.virtual_machine.proofs.Asking.{Asks, asks_effect}
 use Rattle.machine_model.proofs.Splits.{Splits, splits_effect, Births, births_effect}
-use Rattle.machine_model.specs.Alone.{Answers, Follows, EndsWithin, EndsAlone, no_entries}
+use Rattle.machine_model.specs.Alone.{MayAnswer, Follows, EndsWithin, EndsAlone, no_entries}
 use Rattle.task_trees.specs.Solo.{entering}
 use Rattle.machine_model.specs.Job.{entry_registers}
 use Rattle.helpers.specs.Piece.{Piece}
@@ -19,7 +19,7 @@ use Rattle.interpreter.specs.Stretch.{GoesOn, spent_on}
 use Rattle.interpreter.proofs.Enters.{behind_entry, covered_entry}
 
 -- A task stands behind the frame, which leads from the start to wherever that task leads.
-pub record IsUnderWay (p : Checked) (may : Answers) (start : State) (frame : Frame) (part : Piece) (credit : Credit) : Type 0 where
+pub record IsUnderWay (p : Checked) (may : MayAnswer) (start : State) (frame : Frame) (part : Piece) (credit : Credit) : Type 0 where
   pub covered : IsCovered p frame part credit
   pub registers : Registers
   pub behind : AreBehind p frame registers
@@ -28,13 +28,13 @@ pub record IsUnderWay (p : Checked) (may : Answers) (start : State) (frame : Fra
   pub size : length part.bytes ≡ length start.part
 
 -- the program runs to its end from a task whose effect is known
-pub more : (p : Checked) (may : Answers) (s next : State) (r0 : ℕ) (last : State) →
+pub more : (p : Checked) (may : MayAnswer) (s next : State) (r0 : ℕ) (last : State) →
     ((n : ℕ) → EndsWithin (program_of p) may r0 last n next → Follows may (EndsWithin (program_of p) may r0 last n) r0 last (effect (program_of p) no_entries s)) →
     EndsAlone (program_of p) may next r0 last → EndsAlone (program_of p) may s r0 last
 more p may s next r0 last follows ends = (suc ends.0, follows ends.0 ends.1)
 
 -- what a step that went on leaves of a task: the next one, whose end is its own
-pub record Onward (p : Checked) (may : Answers) (s : State) (frame : Frame) (part : Piece) (credit : Credit) (silent : Type 0) : Type 0 where
+pub record Onward (p : Checked) (may : MayAnswer) (s : State) (frame : Frame) (part : Piece) (credit : Credit) (silent : Type 0) : Type 0 where
   pub registers : Registers
   pub behind : AreBehind p frame registers
   pub leads : (r0 : ℕ) (last : State) → EndsAlone (program_of p) may (state_of frame part credit registers) r0 last →
@@ -43,11 +43,11 @@ pub record Onward (p : Checked) (may : Answers) (s : State) (frame : Frame) (par
   pub quiet : silent
 
 -- what the spawner may answer where it is called is what the run asks for, and it stays as it is
-abbrev pub AreAnswers : Checked → Answers → (ℕ → List ℕ → ℕ → Type 0) → Type 0 → Type 0
+abbrev pub AreAnswers : Checked → MayAnswer → (ℕ → List ℕ → ℕ → Type 0) → Type 0 → Type 0
 AreAnswers p may asked quiet = (helper arity : ℕ) (arguments : List ℕ) (answer : ℕ) → (0 < helper → 5 < helper) →
     arity_in p.helpers helper ≡ Some arity → asked helper arguments answer → may helper arguments answer × quiet
 
-module _ (p : Checked) (may : Answers) (s : State) (frame : Frame) (part : Piece) (credit : Credit) (quiet : Type 0)
+module _ (p : Checked) (may : MayAnswer) (s : State) (frame : Frame) (part : Piece) (credit : Credit) (quiet : Type 0)
     (told : SpawnRecord → Result (Unit {0}) SpawnRecord → Type 0) (asked : ℕ → List ℕ → ℕ → Type 0) (are : AreAnswers p may asked quiet) where
   went : (e : Effect) → effect (program_of p) no_entries s ≡ e → Splits s.part e → Births no_entries s.held e → Asks (program_of p) s.part e →
       Did p e Went frame part credit quiet told asked → Onward p may s frame part credit quiet
@@ -74,7 +74,7 @@ module _ (p : Checked) (may : Answers) (s : State) (frame : Frame) (part : Piece
   went (Traps trap) is splits births asks did = absurd did
 
 -- a task that starts is under way
-pub enters : (p : Checked) (may : Answers) (arg credit len : ℕ) (part : Piece) (frame : Frame) → arg < 2 ^ 64 → IsVerified p → p.need ≤ length part.bytes →
+pub enters : (p : Checked) (may : MayAnswer) (arg credit len : ℕ) (part : Piece) (frame : Frame) → arg < 2 ^ 64 → IsVerified p → p.need ≤ length part.bytes →
     len ≡ length part.bytes → length part.bytes ≤ 65536 → cost_at p 0 ≤ credit → credit ≤ 2147483647 → frame ≡ entry_frame len arg →
     IsUnderWay p may (entering arg credit part.bytes) frame part (record { held = credit; used = 0 })
 enters p may arg credit len part frame fits v need size small cost limit is =
@@ -87,7 +87,7 @@ enters p may arg credit len part frame fits v need size small cost limit is =
       size = refl;
     })
 
-module _ (p : Checked) (may : Answers) (start : State) (f : Frame) (part : Piece) (credit : Credit) (way : IsUnderWay p may start f part credit)
+module _ (p : Checked) (may : MayAnswer) (start : State) (f : Frame) (part : Piece) (credit : Credit) (way : IsUnderWay p may start f part credit)
     (f' : Frame) (part' : Piece) (credit' : Credit) (quiet : Type 0) (told : SpawnRecord → Result (Unit {0}) SpawnRecord → Type 0)
     (asked : ℕ → List ℕ → ℕ → Type 0) where
   -- the task ahead of the step
@@ -130,7 +130,7 @@ module _ (p : Checked) (may : Answers) (start : State) (f : Frame) (part : Piece
   ends word did = ended word (effect (program_of p) no_entries before) refl (splits_effect (program_of p) no_entries before) did
 
 -- a stretch of instructions that go on
-pub goes_far : (p : Checked) (may : Answers) (start : State) (f : Frame) (part : Piece) (credit : Credit) → IsUnderWay p may start f part credit →
+pub goes_far : (p : Checked) (may : MayAnswer) (start : State) (f : Frame) (part : Piece) (credit : Credit) → IsUnderWay p may start f part credit →
     (n : ℕ) (mid : Frame) (mid_part : Piece) → GoesOn p credit n f part mid mid_part → IsUnderWay p may start mid mid_part (spent_on credit n)
 goes_far p may start f part credit way zero mid mid_part goes =
     let none : credit ≡ spent_on credit zero = ap (λ u. let c : Credit = record { held = credit.held; used = u } in c) (omega arith) in

@@ -1,7 +1,7 @@
 -- What a program that runs alone comes to, and why one isn't run.
 use Rattle.std.specs.Prelude.{◌≡◌, ℕ, ◌<◌, ◌≤◌, List, length, Option, Some, None}
 use Rattle.machine_model.specs.Machine.{State}
-use Rattle.machine_model.specs.Alone.{Answers, EndsAlone, alone}
+use Rattle.machine_model.specs.Alone.{MayAnswer, EndsAlone, alone}
 use Rattle.task_trees.specs.Solo.{entering}
 use Rattle.helpers.specs.Table.{Table}
 use Rattle.verifier.specs.Checked.{Checked, program_of, cost_at}
@@ -10,13 +10,13 @@ use Rattle.virtual_machine.specs.declared.vm_fault.VmFault.{VmFault}
 use Rattle.virtual_machine.specs.declared.vm_fault.VmFault.TheVariants.{NoProgram, CreditLow, MemoryShort, NoMemory}
 
 -- the program runs alone from its entry to its end with R0, and leaves these bytes
-pub record Runs (p : Checked) (may : Answers) (credit : ℕ) (bytes : List ℕ) (r0 : ℕ) (left : List ℕ) : Type 0 where
+pub record Runs (p : Checked) (may : MayAnswer) (credit : ℕ) (bytes : List ℕ) (r0 : ℕ) (left : List ℕ) : Type 0 where
   pub last : State
   pub ends : EndsAlone (program_of p) may (alone credit bytes) r0 last
   pub leaves : left ≡ last.part
 
--- the same with any argument, and with what it used of the credit
-pub record RunsOn (p : Checked) (may : Answers) (arg credit : ℕ) (bytes : List ℕ) (r0 used : ℕ) (left : List ℕ) : Type 0 where
+-- the program runs alone with this argument from its entry to its end with R0, used so much of the credit, and leaves these bytes
+pub record RunsOn (p : Checked) (may : MayAnswer) (arg credit : ℕ) (bytes : List ℕ) (r0 used : ℕ) (left : List ℕ) : Type 0 where
   pub last : State
   pub ends : EndsAlone (program_of p) may (entering arg credit bytes) r0 last
   pub uses : used ≡ last.used
@@ -29,18 +29,18 @@ pub record IsRunnable (program : Option Checked) (credit len : ℕ) (p : Checked
   pub fits : p.need ≤ len
 
 -- the program that is set runs
-pub record Executes (program : Option Checked) (may : Answers) (credit : ℕ) (bytes : List ℕ) (r0 : ℕ) (left : List ℕ) : Type 0 where
+pub record Executes (program : Option Checked) (may : MayAnswer) (credit : ℕ) (bytes : List ℕ) (r0 : ℕ) (left : List ℕ) : Type 0 where
   pub p : Checked
   pub runnable : IsRunnable program credit (length bytes) p
   pub runs : Runs p may credit bytes r0 left
 
--- the same with any argument, and with what it used of the credit
-pub record ExecutesOn (program : Option Checked) (may : Answers) (arg credit : ℕ) (bytes : List ℕ) (r0 used : ℕ) (left : List ℕ) : Type 0 where
+-- the program that is set runs with this argument, and used so much of the credit
+pub record ExecutesOn (program : Option Checked) (may : MayAnswer) (arg credit : ℕ) (bytes : List ℕ) (r0 used : ℕ) (left : List ℕ) : Type 0 where
   pub p : Checked
   pub runnable : IsRunnable program credit (length bytes) p
   pub runs : RunsOn p may arg credit bytes r0 used left
 
--- why it doesn't run; a run takes no memory
+-- why the program doesn't run; a run takes no memory
 abbrev pub IsUnrunnable : Option Checked → ℕ → ℕ → VmFault → Type 0
 IsUnrunnable program credit len NoProgram = program ≡ None
 IsUnrunnable program credit len (CreditLow wanted given) =

@@ -7,7 +7,7 @@ use Rattle.virtual_machine.specs.declared.registered.Registered.{Registered}
 abbrev pub Post : Type 1
 Post = ℕ → ℕ → ℕ → ℕ → ℕ → ℕ → Type 0
 
--- the same, where the arguments are a list
+-- what a function may answer to a list of five arguments
 abbrev pub to_list : Post → List ℕ → ℕ → Type 0
 to_list post [] answer = ⊥
 to_list post (a ∷ []) answer = ⊥

@@ -13,8 +13,8 @@ const FIRST_REGISTERED: u32 = 64;
 /// How many ids there are.
 const PLACES: usize = 64;
 
-/// The functions by their ids less 64: none, or as many places as there are ids, which are 64 to 127. Nothing is spawned
-/// beside them.
+/// The functions by their ids less 64: none, or as many places as there are ids, which are 64 to
+/// 127. Nothing is spawned beside them.
 #[derive(Drop)]
 pub struct Functions {
     places: Vec<Option<Registered>>,
@@ -35,7 +35,8 @@ impl Functions {
     /// Makes the places, where there are none.
     pub fn make_room(&mut self, alloc: Global) -> Result<(), NoMemory>
         ensures room { OnOk result (64 ≤ length self.new.places.items) }
-        ensures same { (id : ℕ) → function_of self.new.places.items id ≡ function_of self.old.places.items id }
+        ensures same { (id : ℕ)
+            → function_of self.new.places.items id ≡ function_of self.old.places.items id }
     {
         while self.places.len() < PLACES {
             self.places.push(None)?;
@@ -47,7 +48,8 @@ impl Functions {
     pub fn put(&mut self, id: u32, registered: Registered)
         requires id { (64 ≤ id) × (id < 128) }
         requires room { 64 ≤ length self.old.places.items }
-        ensures { self.new.places.items ≡ slice_set self.old.places.items (id - 64) (Some registered) }
+        ensures { self.new.places.items
+            ≡ slice_set self.old.places.items (id - 64) (Some registered) }
     {
         self.places[(id - FIRST_REGISTERED) as usize] = Some(registered);
     }

@@ -6,7 +6,7 @@ ghost use Rattle.virtual_machine.specs.Registering.{code_of_register_fault};
 use thiserror::Error;
 
 /// Why a caller's helper isn't registered.
-#[derive(Clone, Copy, Debug, PartialEq, Eq, Error)]
+#[derive(Clone, Copy, Debug, PartialEq, Eq, Hash, Error)]
 pub enum RegisterFault {
     /// The id isn't one of 64 to 127.
     #[error("44: the id of a caller's helper is 64 to 127")]

@@ -20,8 +20,8 @@ use refusal::NoMemory;
 use std::alloc::Global;
 use verifier::{Refusal, Verified, verify};
 
-/// A machine for single programs: the program that is set, if one is, the helpers that a program may call, and the functions
-/// of those that the caller registered.
+/// A machine for single programs: the program that is set, if one is, the helpers that a program
+/// may call, and the functions of those that the caller registered.
 #[derive(Drop)]
 pub struct Vm {
     program: Option<Verified>,
@@ -36,12 +36,14 @@ pub struct Vm {
 impl Vm {
     ghost use Rattle.virtual_machine.specs.Holding.{program_in, helpers_in, functions_in};
 
-    /// A machine with the program of this need and code, if they are given, and with the helpers of a job. The program's
-    /// refusal is [`Refusal`]'s.
+    /// A machine with the program of this need and code, if they are given, and with the helpers of
+    /// a job. The program's refusal is [`Refusal`]'s.
     pub fn new(alloc: Global, program: Option<(u32, &[u8])>) -> Result<Vm, Refusal>
         ensures program { MatchResult result
-            (λ vm. MatchOption program.entry (program_in vm ≡ None) (λ given. IsSet given.0 given.1.now job_table (program_in vm)))
-            (λ refusal. MatchOption program.entry ⊥ (λ given. Refuses given.0 given.1.now job_table refusal)) }
+            (λ vm. MatchOption program.entry (program_in vm
+            ≡ None) (λ given. IsSet given.0 given.1.now job_table (program_in vm)))
+            (λ refusal. MatchOption program.entry ⊥
+            (λ given. Refuses given.0 given.1.now job_table refusal)) }
         ensures helpers { IfOk result (λ vm. (helpers_in vm ≡ job_table) × (functions_in vm ≡ [])) }
     {
         let helpers = HelperTable::job();
@@ -56,13 +58,15 @@ impl Vm {
         })
     }
 
-    /// Sets the program of this need and code, verified with the machine's helpers. Where it is refused, by the refusals of
-    /// [`Refusal`], the program that was set stays.
+    /// Sets the program of this need and code, verified with the machine's helpers. Where it is
+    /// refused, by the refusals of [`Refusal`], the program that was set stays.
     pub fn set_program(&mut self, alloc: Global, need: u32, code: &[u8]) -> Result<(), Refusal>
         ensures program { MatchResult result
             (λ _. IsSet need code.now (helpers_in self.old) (program_in self.new))
-            (λ refusal. Refuses need code.now (helpers_in self.old) refusal × (program_in self.new ≡ program_in self.old)) }
-        ensures helpers { (helpers_in self.new ≡ helpers_in self.old) × (functions_in self.new ≡ functions_in self.old) }
+            (λ refusal. Refuses need code.now (helpers_in self.old) refusal
+            × (program_in self.new ≡ program_in self.old)) }
+        ensures helpers { (helpers_in self.new ≡ helpers_in self.old)
+            × (functions_in self.new ≡ functions_in self.old) }
     {
         self.program = Some(verify(alloc, need, code, &self.helpers)?);
         Ok(())
@@ -72,7 +76,8 @@ impl Vm {
     pub fn set_verified(&mut self, program: Verified)
         requires { program.helpers ≡ helpers_in self.old }
         ensures program { program_in self.new ≡ Some program }
-        ensures helpers { (helpers_in self.new ≡ helpers_in self.old) × (functions_in self.new ≡ functions_in self.old) }
+        ensures helpers { (helpers_in self.new ≡ helpers_in self.old)
+            × (functions_in self.new ≡ functions_in self.old) }
     {
         self.program = Some(program);
     }
@@ -91,11 +96,13 @@ impl Vm {
         self.program.is_some()
     }
 
-    /// Registers the caller's helper of this id: its function, and how many arguments that takes. It has those that it had no
-    /// longer. Arguments past them are 0 when the function is called.
+    /// Registers the caller's helper of this id: its function, and how many arguments that takes. A
+    /// function that the id had before is no longer called. Arguments past that many are 0 when the
+    /// function is called.
     ///
-    /// It asks for an id of 64 to 127, for at most 5 arguments, for a function that may be called on any five numbers, and that
-    /// no program is set. The refusal, 99, leaves all as it was.
+    /// The call asks for an id of 64 to 127, for at most 5 arguments, for a function that may be
+    /// called on any five numbers, and that no program is set. The refusal, 99, leaves all as it
+    /// was.
     pub fn register_helper(
         &mut self,
         alloc: Global,
@@ -108,12 +115,16 @@ impl Vm {
         requires unset { program_in self.old ≡ None }
         requires callable { Function.IsAlwaysCallable function }
         ensures arity { OnOk result ((other : ℕ) →
-            arity_in (helpers_in self.new) other ≡ (if other == id then Some arity else arity_in (helpers_in self.old) other)) }
-        ensures function { OnOk result ((f : _) × (function_of (functions_in self.new) id ≡ Some f) × (f.function ≡ function)) }
+            arity_in (helpers_in self.new) other
+            ≡ (if other == id then Some arity else arity_in (helpers_in self.old) other)) }
+        ensures function { OnOk result ((f : _) × (function_of (functions_in self.new) id ≡ Some f)
+            × (f.function ≡ function)) }
         ensures others { OnOk result ((other : ℕ) → other ≢ id →
             function_of (functions_in self.new) other ≡ function_of (functions_in self.old) other) }
         ensures err { OnErr result ((helpers_in self.new ≡ helpers_in self.old)
-            × ((other : ℕ) → function_of (functions_in self.new) other ≡ function_of (functions_in self.old) other)) }
+            × ((other : ℕ)
+            → function_of (functions_in self.new) other
+            ≡ function_of (functions_in self.old) other)) }
         ensures program { program_in self.new ≡ None }
     {
         self.functions.make_room(alloc)?;
@@ -122,11 +133,12 @@ impl Vm {
         Ok(())
     }
 
-    /// Registers the caller's helper of this id, as [`Vm::register_helper`] does, which asks for what is tested here. Of the function alone it
-    /// asks that it may be called on any five numbers.
+    /// Registers the caller's helper of this id, as [`Vm::register_helper`] does, which asks for
+    /// what is tested here. Of the function alone it asks that it may be called on any five
+    /// numbers.
     ///
-    /// The refusals, in this order, after which all is as it was: 44 the id isn't one of 64 to 127, 45 there are more than 5 arguments, 46 a
-    /// program is set, and 99.
+    /// The refusals, in this order, after which all is as it was: 44 the id isn't one of 64 to 127,
+    /// 45 there are more than 5 arguments, 46 a program is set, and 99.
     pub fn try_register_helper(
         &mut self,
         alloc: Global,
@@ -138,12 +150,16 @@ impl Vm {
         ensures may { OnOk result (IsRegistrable id arity (program_in self.old)) }
         ensures may_not { IfErr result (λ fault. IsUnregistrable id arity (program_in self.old) fault) }
         ensures arity { OnOk result ((other : ℕ) →
-            arity_in (helpers_in self.new) other ≡ (if other == id then Some arity else arity_in (helpers_in self.old) other)) }
-        ensures function { OnOk result ((f : _) × (function_of (functions_in self.new) id ≡ Some f) × (f.function ≡ function)) }
+            arity_in (helpers_in self.new) other
+            ≡ (if other == id then Some arity else arity_in (helpers_in self.old) other)) }
+        ensures function { OnOk result ((f : _) × (function_of (functions_in self.new) id ≡ Some f)
+            × (f.function ≡ function)) }
         ensures others { OnOk result ((other : ℕ) → other ≢ id →
             function_of (functions_in self.new) other ≡ function_of (functions_in self.old) other) }
         ensures err { OnErr result ((helpers_in self.new ≡ helpers_in self.old)
-            × ((other : ℕ) → function_of (functions_in self.new) other ≡ function_of (functions_in self.old) other)) }
+            × ((other : ℕ)
+            → function_of (functions_in self.new) other
+            ≡ function_of (functions_in self.old) other)) }
         ensures program { program_in self.new ≡ program_in self.old }
     {
         if id < 64 {
@@ -164,15 +180,19 @@ impl Vm {
         }
     }
 
-    /// Runs the program alone from its entry to its end, with the memory as its part, this argument and this credit, and gives R0 and what it
-    /// used of the credit. Otherwise it is [`Vm::execute_program`].
+    /// Runs the program alone from its entry to its end, with the memory as its part, this argument
+    /// and this credit, and gives R0 and what it used of the credit. Otherwise it is
+    /// [`Vm::execute_program`].
     pub fn execute(&mut self, mem: &mut [u8], arg: u64, credit: u32) -> Result<Executed, VmFault>
         requires small { length mem.old ≤ 65536 }
         requires limit { credit ≤ 2147483647 }
         ensures runs { MatchResult result
-            (λ done. ExecutesOn (program_in self.old) (called (functions_in self.old)) arg credit mem.old done.r0 done.used mem.new)
-            (λ fault. IsUnrunnable (program_in self.old) credit (length mem.old) fault × (mem.new ≡ mem.old)) }
-        ensures kept { (program_in self.new ≡ program_in self.old) × (helpers_in self.new ≡ helpers_in self.old)
+            (λ done. ExecutesOn (program_in self.old) (called (functions_in self.old)) arg credit
+            mem.old done.r0 done.used mem.new)
+            (λ fault. IsUnrunnable (program_in self.old) credit (length mem.old) fault
+            × (mem.new ≡ mem.old)) }
+        ensures kept { (program_in self.new ≡ program_in self.old)
+            × (helpers_in self.new ≡ helpers_in self.old)
             × (functions_in self.new ≡ functions_in self.old) }
     {
         let Some(program) = &self.program else {
@@ -193,19 +213,24 @@ impl Vm {
         Ok(run_alone(program, mem, arg, credit, &mut self.functions))
     }
 
-    /// Runs the program alone from its entry to its end, with argument 0, the memory as its part, and this credit, and gives
-    /// R0. It works on the memory in place, and leaves it as the run leaves it. Each spawn is answered 1. It asks for at most 65,536
-    /// bytes of memory and for a credit of at most 2,147,483,647.
+    /// Runs the program alone from its entry to its end, with argument 0, the memory as its part,
+    /// and this credit, and gives R0. The run works on the memory in place. Each spawn is answered
+    /// 1. The call asks for at most 65,536 bytes of memory and for a credit of at most
+    /// 2,147,483,647.
     ///
-    /// The refusals, in this order, after which the memory is as it was: 41 no program is set, 42 the credit is under the
-    /// program's cost, 43 the memory is shorter than the program's need. It takes no memory of its own, so that 99 never comes.
+    /// The refusals, in this order, after which the memory is as it was: 41 no program is set, 42
+    /// the credit is under the program's cost, 43 the memory is shorter than the program's need.
+    /// The run takes no memory of its own, so that 99 never comes.
     pub fn execute_program(&mut self, mem: &mut [u8], credit: u32) -> Result<u64, VmFault>
         requires small { length mem.old ≤ 65536 }
         requires limit { credit ≤ 2147483647 }
         ensures runs { MatchResult result
-            (λ r0. Executes (program_in self.old) (called (functions_in self.old)) credit mem.old r0 mem.new)
-            (λ fault. IsUnrunnable (program_in self.old) credit (length mem.old) fault × (mem.new ≡ mem.old)) }
-        ensures kept { (program_in self.new ≡ program_in self.old) × (helpers_in self.new ≡ helpers_in self.old)
+            (λ r0. Executes (program_in self.old) (called (functions_in self.old)) credit mem.old r0
+            mem.new)
+            (λ fault. IsUnrunnable (program_in self.old) credit (length mem.old) fault
+            × (mem.new ≡ mem.old)) }
+        ensures kept { (program_in self.new ≡ program_in self.old)
+            × (helpers_in self.new ≡ helpers_in self.old)
             × (functions_in self.new ≡ functions_in self.old) }
     {
         match self.execute(mem, 0, credit) {
