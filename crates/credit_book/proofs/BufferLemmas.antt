@@ -1,9 +1,8 @@
 -- The buffer that a history leaves, with one event more.
-use Rattle.std.proofs.Common.{◌≡◌, ℕ, ◌+◌, ◌≤◌, List, [], ◌∷◌, ◌++◌, length, take, drop, replicate, refl, sym, ap, ◌∙◌, subst, arith}
+use Rattle.std.proofs.Common.{◌≡◌, ℕ, List, [], ◌∷◌, ◌++◌, length, take, replicate, refl, sym, ap, ◌∙◌, arith}
 use Rattle.std.proofs.lemmas.Grind.{common_steps}
 use Rattle.machine_model.specs.Memory.{written}
 use Rattle.credit_book.specs.declared.event.Event.{Event}
-use Rattle.credit_book.specs.declared.event.Event.TheVariants.{End}
 use Rattle.credit_book.specs.declared.task.Outcome.{Outcome}
 use Rattle.credit_book.specs.Books.{end_event}
 use Rattle.credit_book.specs.Buffers.{left_by, buffer_from, buffer_of, IsCollected}

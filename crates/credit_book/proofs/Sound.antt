@@ -9,7 +9,7 @@ use Rattle.credit_book.specs.declared.event.Stage.{Stage}
 use Rattle.credit_book.specs.declared.event.Stage.TheVariants.{Fresh, Parked, Claimed, Ended}
 use Rattle.credit_book.specs.declared.event.Standing.{Standing}
 use Rattle.credit_book.specs.declared.event.TaskEnd.{TaskEnd}
-use Rattle.credit_book.specs.History.{Table, standing_at, task_at, no_tasks, is_fresh, may_work, is_alive, May, after, new_task, table_from, table_of, IsLegalFrom, IsHistoryOf, held_in, spent_in, returned_in, IsAlive, IsComplete, without_first}
+use Rattle.credit_book.specs.History.{Table, standing_at, task_at, no_tasks, is_fresh, may_work, is_alive, May, after, new_task, table_from, table_of, IsLegalFrom, IsHistoryOf, held_in, spent_in, returned_in, IsComplete, without_first}
 
 -- a live task holds credit, and one that has ended holds none
 abbrev pub Holds : Standing → Type 0

@@ -1,15 +1,14 @@
 -- What the word of a board tells.
-use Rattle.std.proofs.Common.{◌≡◌, ℕ, ◌+◌, ◌*◌, ◌/◌, ◌%◌, ◌<◌, ◌≤◌, ◌↔◌, IsTrue, List, [], ◌∷◌, ◌++◌, refl, sym, ap, ◌∙◌, subst, arith, nat_eq, eqb, eq-eqb, eqb-true}
+use Rattle.std.proofs.Common.{◌≡◌, ℕ, ◌+◌, ◌*◌, ◌/◌, ◌%◌, ◌<◌, ◌↔◌, IsTrue, List, ◌++◌, sym, ap, ◌∙◌, subst, arith, nat_eq, eq-eqb, eqb-true}
 use mathlib.Core.List.{IsPrefix}
 use Rattle.credit_book.specs.declared.event.Event.{Event}
-use Rattle.credit_book.specs.declared.event.Event.TheVariants.{Open}
-use Rattle.credit_book.specs.History.{IsLegal, IsHistoryOf, IsComplete, table_of, held_in, spent_in, returned_in, word_of}
-use Rattle.std.proofs.Common.{true, false}
+use Rattle.credit_book.specs.History.{IsLegal, IsHistoryOf, IsComplete, table_of, spent_in, returned_in, word_of}
+use Rattle.std.proofs.Common.{false}
 use mathlib.Core.Option.{none}
-use Rattle.atomic_table.specs.Table.{Me, Step, step}
+use Rattle.atomic_table.specs.Table.{Me, step}
 use Rattle.credit_book.specs.declared.seats.View.{View}
 use Rattle.credit_book.specs.Rule.{Looks}
-use Rattle.credit_book.proofs.Sound.{IsSound, sound_of, complete_from-held, held_from-complete}
+use Rattle.credit_book.proofs.Sound.{sound_of, complete_from-held, held_from-complete}
 
 pub seen_history : (job issued : ℕ) (h seen : List Event) → IsHistoryOf job issued h → IsPrefix h seen → IsLegal seen → IsHistoryOf job issued seen
 seen_history job issued h seen is pre legal = (legal, (is.1.0 ++ pre.0, sym pre.1 ∙ ap (λ l. l ++ pre.0) is.1.1))

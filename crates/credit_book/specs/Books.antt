@@ -1,5 +1,5 @@
 -- What contracts see of a book, and what its fields keep.
-use Rattle.std.specs.Prelude.{◌≡◌, ℕ, ◌+◌, ◌<◌, ◌≤◌, Bool, true, false, List, [], ◌∷◌, ◌++◌, length}
+use Rattle.std.specs.Prelude.{◌≡◌, ℕ, ◌<◌, ◌≤◌, true, List, [], ◌∷◌, ◌++◌, length}
 use Rattle.credit_book.specs.declared.event.Event.{Event}
 use Rattle.credit_book.specs.declared.event.Event.TheVariants.{Open, Spawn, Park, Claim, End}
 use Rattle.credit_book.specs.declared.event.Standing.{Standing}
@@ -13,7 +13,7 @@ use Rattle.credit_book.specs.declared.book.Report.{Report}
 use Rattle.helpers.specs.Piece.{Piece}
 use Rattle.credit_book.specs.Boards.{Sign}
 use Rattle.credit_book.specs.Buffers.{buffer_of}
-use Rattle.credit_book.specs.History.{Table, May, table_of, IsHistoryOf, IsComplete, spent_in, returned_in, word_of, standing_at, is_fresh, may_work}
+use Rattle.credit_book.specs.History.{May, table_of, IsHistoryOf, spent_in, returned_in, word_of, standing_at, is_fresh, may_work}
 
 -- the job's board, its history, the length of its buffer, and the tickets that are parked now, the first parked first
 pub record Account : Type 0 where

@@ -99,8 +99,10 @@ impl Model for Post {
 impl Post {
     /// The board, and a reader that has seen the opening alone.
     pub fn seat(&mut self) -> Result<(Arc<Board>, Reader), NoMemory>
-        ensures board { IfOk result (λ r. (arc_value r.0 ≡ self.old.board) × (r.1.board ≡ self.old.board)) }
-        ensures seen { IfOk result (λ r. (r.1.seen ≡ Open self.old.board.job self.old.board.issued ∷ []) × (r.1.looks ≡ 0)) }
+        ensures board { IfOk result (λ r. (arc_value r.0 ≡ self.old.board)
+            × (r.1.board ≡ self.old.board)) }
+        ensures seen { IfOk result (λ r. (r.1.seen
+            ≡ Open self.old.board.job self.old.board.issued ∷ []) × (r.1.looks ≡ 0)) }
         ensures same { self.new ≡ self.old }
     {
         self.writer.seat()
@@ -123,7 +125,8 @@ impl Board {
         ensures counted { reader.new.looks ≡ reader.old.looks + 1 }
         ensures later { IsPrefix reader.old.seen reader.new.seen }
         ensures legal { IsHistoryOf self.now.job self.now.issued reader.new.seen }
-        ensures totals { (result.spent ≡ spent_in (table_of reader.new.seen)) × (result.returned ≡ returned_in (table_of reader.new.seen)) }
+        ensures totals { (result.spent ≡ spent_in (table_of reader.new.seen))
+            × (result.returned ≡ returned_in (table_of reader.new.seen)) }
         ensures complete { IsTrue result.complete ↔ IsComplete (table_of reader.new.seen) }
     {
         let issued = self.opening.issued;
@@ -147,9 +150,12 @@ impl Board {
         issued: u32,
     ) -> Result<(Arc<Board>, Post, Reader), NoMemory>
         requires { (1 ≤ issued) × (issued ≤ 2147483647) }
-        ensures board { IfOk result (λ r. ((arc_value r.0).job ≡ job) × ((arc_value r.0).issued ≡ issued)) }
-        ensures post { IfOk result (λ r. (r.1.board ≡ arc_value r.0) × (r.1.history ≡ Open job issued ∷ [])) }
-        ensures reader { IfOk result (λ r. (r.2.board ≡ arc_value r.0) × (r.2.seen ≡ Open job issued ∷ []) × (r.2.looks ≡ 0)) }
+        ensures board { IfOk result (λ r. ((arc_value r.0).job ≡ job)
+            × ((arc_value r.0).issued ≡ issued)) }
+        ensures post { IfOk result (λ r. (r.1.board ≡ arc_value r.0)
+            × (r.1.history ≡ Open job issued ∷ [])) }
+        ensures reader { IfOk result (λ r. (r.2.board ≡ arc_value r.0)
+            × (r.2.seen ≡ Open job issued ∷ []) × (r.2.looks ≡ 0)) }
     {
         let opening = Opening { job, issued };
         let (table, mut seat) = Table::of_words(alloc, &[0], &opening)?;
@@ -170,7 +176,8 @@ impl Board {
     /// A reader that has seen the same.
     pub fn another(&self, reader: &mut Reader) -> Result<Reader, NoMemory>
         requires { reader.old.board ≡ self.now }
-        ensures new { IfOk result (λ r. (r.board ≡ self.now) × (r.seen ≡ reader.old.seen) × (r.looks ≡ 0)) }
+        ensures new { IfOk result (λ r. (r.board ≡ self.now) × (r.seen ≡ reader.old.seen)
+            × (r.looks ≡ 0)) }
         ensures same { reader.new ≡ reader.old }
     {
         let opening = reader.opening;
@@ -191,7 +198,8 @@ impl Writer {
 
     /// The board, and a reader that has seen what the writer knows.
     pub(crate) fn seat(&mut self) -> Result<(Arc<Board>, Reader), NoMemory>
-        ensures board { IfOk result (λ r. (arc_value r.0 ≡ self.old.board) × (r.1.board ≡ self.old.board)) }
+        ensures board { IfOk result (λ r. (arc_value r.0 ≡ self.old.board)
+            × (r.1.board ≡ self.old.board)) }
         ensures seen { IfOk result (λ r. (r.1.seen ≡ self.old.history) × (r.1.looks ≡ 0)) }
         ensures same { self.new ≡ self.old }
     {
@@ -213,8 +221,9 @@ impl Writer {
         Past::new(&self.seat)
     }
 
-    /// Publishes a longer history, whose sums are those of the last one and these amounts, in one step.
-    /// `past` and `about` are for the proof of the caller alone, which picks the history by them.
+    /// Publishes a longer history, whose sums are those of the last one and these amounts, in one
+    /// step. `past` and `about` are for the proof of the caller alone, which picks the history by
+    /// them.
     pub(crate) fn publish<J: Chronicle, T>(&mut self, past: &Past, about: &T, amount: u64)
         requires legal { IsLegal J.history }
         requires longer { IsPrefix self.old.history J.history }

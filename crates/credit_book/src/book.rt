@@ -26,7 +26,7 @@ pub struct Report {
     pub tasks: Vec<TaskEnd>,
 }
 
-/// The tasks of a job. It lies under the job's lock.
+/// The tasks of a job. A book lies under the job's lock.
 #[derive(Drop)]
 pub struct Book {
     writer: Writer,
@@ -81,7 +81,10 @@ fn standing_of(standings: &[Standing], number: u32) -> Standing
 
 fn end_task(tasks: &mut Vec<TaskEnd>, outcome: &Outcome, rest: u32)
     requires { outcome.now.number < length tasks.old.items }
-    ensures items { tasks.new.items ≡ slice_set tasks.old.items outcome.now.number (ended_task (slice_index_or tasks.old.items outcome.now.number no_task) outcome.now rest) }
+    ensures items { tasks.new.items
+        ≡ slice_set tasks.old.items outcome.now.number
+        (ended_task (slice_index_or tasks.old.items outcome.now.number no_task) outcome.now
+        rest) }
     ensures room { vec_capacity tasks.new ≡ vec_capacity tasks.old }
 {
     let number = outcome.number as usize;
@@ -100,11 +103,18 @@ impl Book {
 
     /// Ends a task: what it used is spent, the rest of what it held comes back.
     pub fn end(&mut self, outcome: Outcome) -> Result<Progress, Refused<Outcome>>
-        ensures done { IfOk result (λ p. (self.new.board ≡ self.old.board) × (self.new.size ≡ self.old.size) × (self.new.waiting ≡ self.old.waiting) × (outcome.job ≡ self.old.board.job) × (self.new.history ≡ self.old.history ++ end_event outcome ∷ [])) }
-        ensures legal { IfOk result (λ _. IsHistoryOf self.new.board.job self.new.board.issued self.new.history) }
-        ensures totals { IfOk result (λ p. (p.spent ≡ spent_in (table_of self.new.history)) × (p.returned ≡ returned_in (table_of self.new.history))) }
-        ensures complete { IfOk result (λ p. IsTrue p.complete ↔ IsComplete (table_of self.new.history)) }
-        ensures refused { IfErr result (λ r. (self.new ≡ self.old) × (r.value ≡ outcome) × IsEndFault self.old outcome r.fault) }
+        ensures done { IfOk result (λ p. (self.new.board ≡ self.old.board)
+            × (self.new.size ≡ self.old.size) × (self.new.waiting ≡ self.old.waiting)
+            × (outcome.job ≡ self.old.board.job)
+            × (self.new.history ≡ self.old.history ++ end_event outcome ∷ [])) }
+        ensures legal { IfOk result
+            (λ _. IsHistoryOf self.new.board.job self.new.board.issued self.new.history) }
+        ensures totals { IfOk result (λ p. (p.spent ≡ spent_in (table_of self.new.history))
+            × (p.returned ≡ returned_in (table_of self.new.history))) }
+        ensures complete { IfOk result (λ p. IsTrue p.complete
+            ↔ IsComplete (table_of self.new.history)) }
+        ensures refused { IfErr result (λ r. (self.new ≡ self.old) × (r.value ≡ outcome)
+            × IsEndFault self.old outcome r.fault) }
     {
         let opening = self.writer.opening();
         let number = outcome.number as usize;
@@ -142,9 +152,12 @@ fn reserve_task(
     tasks: &mut Vec<TaskEnd>,
     parked: &mut VecDeque<Ticket>,
 ) -> Result<(), NoMemory>
-    ensures items { (standings.new.items ≡ standings.old.items) × (tasks.new.items ≡ tasks.old.items) × (parked.new.items ≡ parked.old.items) }
+    ensures items { (standings.new.items ≡ standings.old.items)
+        × (tasks.new.items ≡ tasks.old.items) × (parked.new.items ≡ parked.old.items) }
     ensures kept { deque_capacity parked.old ≤ deque_capacity parked.new }
-    ensures room { OnOk result ((length standings.new.items < vec_capacity standings.new) × (length tasks.new.items < vec_capacity tasks.new) × (length standings.old.items + 1 ≤ deque_capacity parked.new)) }
+    ensures room { OnOk result ((length standings.new.items < vec_capacity standings.new)
+        × (length tasks.new.items < vec_capacity tasks.new)
+        × (length standings.old.items + 1 ≤ deque_capacity parked.new)) }
 {
     standings.reserve(1)?;
     tasks.reserve(1)?;
@@ -158,7 +171,10 @@ fn share_out(standings: &mut Vec<Standing>, parent: u32, standing: Standing, sha
     requires there { parent < length standings.old.items }
     requires room { length standings.old.items < vec_capacity standings.old }
     requires covered { share ≤ standing.held }
-    ensures { standings.new.items ≡ slice_set standings.old.items parent (record { held = standing.held - share; stage = standing.stage }) ++ record { held = share; stage = Fresh } ∷ [] }
+    ensures { standings.new.items
+        ≡ slice_set standings.old.items parent
+        (record { held = standing.held - share; stage = standing.stage })
+        ++ record { held = share; stage = Fresh } ∷ [] }
 {
     standings[parent as usize] = Standing {
         held: standing.held - share,
@@ -176,8 +192,10 @@ impl Book {
 
     /// The book with the root's task alone, which holds all the credit.
     pub fn open(alloc: Global, post: Post, root: Part) -> Result<(Book, Ticket), NoMemory>
-        ensures book { IfOk result (λ r. (r.0.board ≡ post.board) × (r.0.history ≡ post.history) × (r.0.size ≡ length root.bytes) × (r.0.waiting ≡ [])) }
-        ensures ticket { IfOk result (λ r. r.1 ≡ root_ticket post.board.job post.board.issued root) }
+        ensures book { IfOk result (λ r. (r.0.board ≡ post.board) × (r.0.history ≡ post.history)
+            × (r.0.size ≡ length root.bytes) × (r.0.waiting ≡ [])) }
+        ensures ticket { IfOk result (λ r. r.1
+            ≡ root_ticket post.board.job post.board.issued root) }
     {
         let writer = post.into_writer();
         let opening = writer.opening();
@@ -246,7 +264,8 @@ impl Book {
 
     /// What was spent and returned so far.
     pub fn progress(&self) -> Progress
-        ensures totals { (result.spent ≡ spent_in (table_of self.now.history)) × (result.returned ≡ returned_in (table_of self.now.history)) }
+        ensures totals { (result.spent ≡ spent_in (table_of self.now.history))
+            × (result.returned ≡ returned_in (table_of self.now.history)) }
         ensures complete { IsTrue result.complete ↔ IsComplete (table_of self.now.history) }
     {
         let complete = self.is_complete();
@@ -269,7 +288,8 @@ impl Book {
     pub fn report(&self) -> Option<&Report>
         ensures variant { IsSome result ↔ IsComplete (table_of self.now.history) }
         ensures report { IfSome result (λ r. IsReport self.now.size self.now.history r.now) }
-        ensures legal { IfSome result (λ _. IsHistoryOf self.now.board.job self.now.board.issued self.now.history) }
+        ensures legal { IfSome result
+            (λ _. IsHistoryOf self.now.board.job self.now.board.issued self.now.history) }
     {
         if self.is_complete() {
             Some(&self.report)
@@ -278,7 +298,7 @@ impl Book {
         }
     }
 
-    /// The same, for the book. It comes back where a task is alive.
+    /// The report, for the book. The book comes back where a task is alive.
     pub fn close(self) -> Result<Report, Book>
         ensures variant { IsOk result ↔ IsComplete (table_of self.history) }
         ensures report { IfOk result (λ r. IsReport self.size self.history r) }
@@ -298,9 +318,15 @@ impl Book {
 
     /// Keeps the ticket of a task that has not run.
     pub fn park(&mut self, ticket: Ticket) -> Result<(), Refused<Ticket>>
-        ensures done { IfOk result (λ _. (self.new.board ≡ self.old.board) × (self.new.size ≡ self.old.size) × (self.new.waiting ≡ self.old.waiting ++ ticket ∷ []) × (ticket.job ≡ self.old.board.job) × (self.new.history ≡ self.old.history ++ Park ticket.number ∷ [])) }
-        ensures legal { IfOk result (λ _. IsHistoryOf self.new.board.job self.new.board.issued self.new.history) }
-        ensures refused { IfErr result (λ r. (self.new ≡ self.old) × (r.value ≡ ticket) × IsParkFault self.old ticket r.fault) }
+        ensures done { IfOk result (λ _. (self.new.board ≡ self.old.board)
+            × (self.new.size ≡ self.old.size)
+            × (self.new.waiting ≡ self.old.waiting ++ ticket ∷ [])
+            × (ticket.job ≡ self.old.board.job)
+            × (self.new.history ≡ self.old.history ++ Park ticket.number ∷ [])) }
+        ensures legal { IfOk result
+            (λ _. IsHistoryOf self.new.board.job self.new.board.issued self.new.history) }
+        ensures refused { IfErr result (λ r. (self.new ≡ self.old) × (r.value ≡ ticket)
+            × IsParkFault self.old ticket r.fault) }
     {
         let opening = self.writer.opening();
         let number = ticket.number as usize;
@@ -319,8 +345,11 @@ impl Book {
 
     /// The ticket that was parked first.
     pub fn claim(&mut self) -> Option<Ticket>
-        ensures some { IfSome result (λ t. (self.new.board ≡ self.old.board) × (self.new.size ≡ self.old.size) × (self.old.waiting ≡ t ∷ self.new.waiting) × (self.new.history ≡ self.old.history ++ Claim t.number ∷ [])) }
-        ensures legal { IfSome result (λ _. IsHistoryOf self.new.board.job self.new.board.issued self.new.history) }
+        ensures some { IfSome result (λ t. (self.new.board ≡ self.old.board)
+            × (self.new.size ≡ self.old.size) × (self.old.waiting ≡ t ∷ self.new.waiting)
+            × (self.new.history ≡ self.old.history ++ Claim t.number ∷ [])) }
+        ensures legal { IfSome result
+            (λ _. IsHistoryOf self.new.board.job self.new.board.issued self.new.history) }
         ensures none { IfNone result ((self.old.waiting ≡ []) × (self.new ≡ self.old)) }
     {
         let ticket = self.parked.pop_front()?;
@@ -336,9 +365,15 @@ impl Book {
 
     /// A new task, with a share of its parent's credit.
     pub fn spawn(&mut self, parent: u32, asked: SpawnRecord) -> Result<Ticket, Refused<SpawnRecord>>
-        ensures done { let child = length (table_of self.old.history).standings in IfOk result (λ t. (self.new.board ≡ self.old.board) × (self.new.size ≡ self.old.size) × (self.new.waiting ≡ self.old.waiting) × (t ≡ ticket_of self.old.board.job child asked) × (self.new.history ≡ self.old.history ++ spawn_event parent child asked ∷ [])) }
-        ensures legal { IfOk result (λ _. IsHistoryOf self.new.board.job self.new.board.issued self.new.history) }
-        ensures refused { IfErr result (λ r. (self.new ≡ self.old) × (r.value ≡ asked) × IsSpawnFault self.old parent asked r.fault) }
+        ensures done { let child = length (table_of self.old.history).standings in IfOk result
+            (λ t. (self.new.board ≡ self.old.board) × (self.new.size ≡ self.old.size)
+            × (self.new.waiting ≡ self.old.waiting)
+            × (t ≡ ticket_of self.old.board.job child asked)
+            × (self.new.history ≡ self.old.history ++ spawn_event parent child asked ∷ [])) }
+        ensures legal { IfOk result
+            (λ _. IsHistoryOf self.new.board.job self.new.board.issued self.new.history) }
+        ensures refused { IfErr result (λ r. (self.new ≡ self.old) × (r.value ≡ asked)
+            × IsSpawnFault self.old parent asked r.fault) }
     {
         let opening = self.writer.opening();
         let standing = standing_of(self.standings.as_slice(), parent);

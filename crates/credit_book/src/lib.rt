@@ -1,5 +1,5 @@
-//! The credit of a job: a book of its tasks, which whoever runs the job keeps under a lock, and a board on which any thread reads how far
-//! the job is, without waiting.
+//! The credit of a job: a book of its tasks, which whoever runs the job keeps under a lock, and a
+//! board on which any thread reads how far the job is, without waiting.
 #![tactic(auto)]
 
 // what may happen to the tasks of a job

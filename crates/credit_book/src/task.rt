@@ -44,14 +44,14 @@ impl Ticket {
         self.held
     }
 
-    /// Its argument.
+    /// The task's argument.
     pub fn arg(&self) -> u64
         ensures { result ≡ self.now.arg }
     {
         self.arg
     }
 
-    /// Its part of the buffer.
+    /// The task's part of the buffer.
     pub fn part(&self) -> &Part
         ensures { result.now ≡ self.now.part }
     {
@@ -67,7 +67,8 @@ impl Ticket {
     }
 }
 
-/// How a task ended: what it used of its credit, its R0, whether it was run, and what is left of its part.
+/// How a task ended: what it used of its credit, its R0, whether it was run, and what is left of
+/// its part.
 #[derive(Drop)]
 pub struct Outcome {
     pub job: u64,

@@ -7,7 +7,7 @@ use Rattle.verifier.specs.Checked.{Checked, program_of}
 use Rattle.job_core.specs.declared.tasks.Stepped.{Stepped}
 use Rattle.job_core.specs.declared.tasks.Stepped.TheVariants as stepped
 use Rattle.job_core.specs.declared.live.Live.{Live}
-use Rattle.job_core.specs.Behind.{Kept, IsBehind, LeadsOn, Plays, Steps, Answers}
+use Rattle.job_core.specs.Behind.{Kept, IsBehind, LeadsOn, Plays, Steps, StepAnswers}
 use Rattle.job_core.specs.OneTask.{GoesAlone, stays, goes, RunsTask}
 use Rattle.job_core.proofs.Plays.{plays_none}
 use Rattle.job_core.proofs.Simulates.{live_at}

@@ -96,3 +96,13 @@ slot_of (Program index refusal) = slot_of_program refusal
 slot_of CreditLow = None
 slot_of BufferShort = None
 slot_of NoMemory = None
+
+-- the place of the program that it tells, if it tells one
+abbrev pub place_of : AdmitFault → Option ℕ
+place_of NoPrograms = None
+place_of TooManyPrograms = None
+place_of TooLarge = None
+place_of (Program index refusal) = Some index
+place_of CreditLow = None
+place_of BufferShort = None
+place_of NoMemory = None

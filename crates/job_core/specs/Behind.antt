@@ -102,15 +102,15 @@ pub record IsBehind (kept : Kept) (j : Job) : Type 0 where
   pub limit : kept.issued ≤ 2147483647
 
 -- what a step of a number is answered, from one job to the next
-abbrev pub Answers : Stepped → Job → ℕ → Job → Type 0
-Answers Skipped j n k = (IsAlive j n → ⊥) × (k ≡ j)
-Answers Went j n k = IsAlive j n × IsAlive k n
-Answers (Ended r0) j n k = IsAlive j n × ((e : job.Ending) × (slice_get k.tasks n ≡ Some (job.Ended e)) × (e.r0 ≡ r0))
+abbrev pub StepAnswers : Stepped → Job → ℕ → Job → Type 0
+StepAnswers Skipped j n k = (IsAlive j n → ⊥) × (k ≡ j)
+StepAnswers Went j n k = IsAlive j n × IsAlive k n
+StepAnswers (Ended r0) j n k = IsAlive j n × ((e : job.Ending) × (slice_get k.tasks n ≡ Some (job.Ended e)) × (e.r0 ≡ r0))
 
 -- the next job behind, if a spawn here is refused or not
 abbrev pub Steps : Kept → Job → ℕ → Stepped → Kept → Type 0
 Steps old j n out new =
-    (refuses : Bool) × (k : Job) × (step (map program_of old.programs) j n refuses ≡ Some k) × IsBehind new k × Answers out j n k
+    (refuses : Bool) × (k : Job) × (step (map program_of old.programs) j n refuses ≡ Some k) × IsBehind new k × StepAnswers out j n k
 
 -- the moves lead to a job with the credit that was issued
 pub record Reaches (programs : List Program) (j : Job) (moves : List Move) : Type 0 where

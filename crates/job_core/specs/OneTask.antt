@@ -3,7 +3,7 @@ use Rattle.std.specs.Prelude.{◌≡◌, ℕ, suc, List, map, Bool, Some}
 use Rattle.machine_model.specs.Machine.{Program}
 use Rattle.machine_model.specs.Job.{Job, IsAlive, step}
 use Rattle.verifier.specs.Checked.{program_of}
-use Rattle.job_core.specs.Behind.{Kept, IsBehind, Answers, Steps}
+use Rattle.job_core.specs.Behind.{Kept, IsBehind, StepAnswers, Steps}
 use Rattle.job_core.specs.declared.tasks.Stepped.{Stepped}
 use Rattle.job_core.specs.declared.tasks.Stepped.TheVariants.{Skipped}
 
@@ -17,7 +17,7 @@ pub record RunsTask (old : Kept) (j : Job) (n count : ℕ) (came_to : Stepped) (
   pub last : Job
   pub steps : GoesAlone (map program_of old.programs) n j count last
   pub behind : IsBehind new last
-  pub answers : Answers came_to j n last
+  pub answers : StepAnswers came_to j n last
 
 -- the task isn't alive, so nothing changes
 pub record IsIdle (old : Kept) (n : ℕ) (new : Kept) : Type 0 where

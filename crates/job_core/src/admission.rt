@@ -2,7 +2,7 @@
 
 ghost use Rattle.std.specs.Prelude.{◌≡◌, ◌≤◌, length, IfOk, IfErr};
 ghost use Rattle.job_core.specs.Admitted.{AreOwn};
-ghost use Rattle.job_core.specs.Admission.{AreAccepted, IsAdmittedFrom, IsFirstFault, RefusesJob, fault_of, number_of, slot_of};
+ghost use Rattle.job_core.specs.Admission.{AreAccepted, IsAdmittedFrom, IsFirstFault, RefusesJob, fault_of, number_of, place_of, slot_of};
 
 use crate::job::Job;
 use helpers::HelperTable;
@@ -21,28 +21,29 @@ pub struct ProgramBytes {
 }
 
 /// Why a job isn't admitted.
-#[derive(Clone, Copy, Debug, PartialEq, Eq, Error)]
+#[derive(Clone, Copy, Debug, PartialEq, Eq, Hash, Error)]
 pub enum AdmitFault {
     /// A job has a program at least: 61.
-    #[error("no program")]
+    #[error("61: no program")]
     NoPrograms,
     /// A job has 16 programs at most: 62.
-    #[error("more than 16 programs")]
+    #[error("62: more than 16 programs")]
     TooManyPrograms,
     /// The credit is at most 2,147,483,647, and the buffer 65,536 bytes: 65.
-    #[error("credit or buffer over its limit")]
+    #[error("65: credit or buffer over its limit")]
     TooLarge,
-    /// The first program that isn't accepted, by its place, and its refusal, with the refusal's number.
+    /// The first program that isn't accepted, by its place, and its refusal, with the refusal's
+    /// number.
     #[error("program {0}: {1}")]
     Program(u32, Refusal),
     /// The credit is under the root's cost: 63.
-    #[error("credit under the cost of the root")]
+    #[error("63: credit under the cost of the root")]
     CreditLow,
     /// The buffer is shorter than the root's need: 64.
-    #[error("buffer under the need of the root")]
+    #[error("64: buffer under the need of the root")]
     BufferShort,
     /// A growth was refused: 99.
-    #[error("out of memory")]
+    #[error("99: out of memory")]
     NoMemory,
 }
 
@@ -59,6 +60,16 @@ impl AdmitFault {
             AdmitFault::CreditLow => 63,
             AdmitFault::BufferShort => 64,
             AdmitFault::NoMemory => 99,
+        }
+    }
+
+    /// The place of the program that it tells, if it tells one.
+    pub fn program(&self) -> Option<u32>
+        ensures { result ≡ place_of self.now }
+    {
+        match self {
+            AdmitFault::Program(index, _) => Some(*index),
+            _ => None,
         }
     }
 
@@ -104,7 +115,7 @@ impl<T: Drop> From<AllocFailed<T>> for AdmitFault {
 }
 
 /// Why the program of this number isn't accepted.
-fn refused(index: usize, refusal: Refusal) -> AdmitFault
+fn admit_fault(index: usize, refusal: Refusal) -> AdmitFault
     requires { index ≤ 16 }
     ensures { result ≡ fault_of index refusal }
 {
@@ -126,7 +137,7 @@ fn verify_each(alloc: Global, programs: &[ProgramBytes]) -> Result<Vec<Verified>
     for program in programs {
         match verify(alloc, program.need, &program.code, &helpers) {
             Ok(verified) => accepted.push(verified)?,
-            Err(refusal) => return Err(refused(accepted.len(), refusal)),
+            Err(refusal) => return Err(admit_fault(accepted.len(), refusal)),
         }
     }
     Ok(accepted)
@@ -134,7 +145,8 @@ fn verify_each(alloc: Global, programs: &[ProgramBytes]) -> Result<Vec<Verified>
 
 /// Admits a job: its programs as bytes, of which number 0 is the root's, its credit and its buffer.
 ///
-/// Of the refusals the first that applies comes, in the order of [`AdmitFault`]; want of memory may come at any time.
+/// Of the refusals the first that applies comes, in the order of [`AdmitFault`]; want of memory may
+/// come at any time.
 pub fn admit(
     alloc: Global,
     programs: &[ProgramBytes],

@@ -25,7 +25,7 @@ impl Job {
     ghost use Rattle.std.specs.Prelude.{◌≡◌};
     ghost use Rattle.job_core.specs.Admitted.{IsAdmitted};
 
-    /// Its programs, of which number 0 is the root's.
+    /// The job's programs, of which number 0 is the root's.
     pub fn programs(&self) -> &[Verified]
         ensures { result.now ≡ self.now.programs }
     {
@@ -39,10 +39,12 @@ impl Job {
         self.credit
     }
 
-    /// Its programs, its credit and its buffer.
+    /// The job's programs, its credit and its buffer.
     pub fn into_parts(self) -> (Vec<Verified>, u32, Vec<u8>)
-        ensures parts { record { programs = result.0.items; credit = result.1; buffer = result.2.items } ≡ self }
-        ensures admitted { IsAdmitted (record { programs = result.0.items; credit = result.1; buffer = result.2.items }) }
+        ensures parts { record { programs = result.0.items; credit = result.1; buffer = result.2.items }
+            ≡ self }
+        ensures admitted { IsAdmitted
+            (record { programs = result.0.items; credit = result.1; buffer = result.2.items }) }
     {
         let Job {
             programs,

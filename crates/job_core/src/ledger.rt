@@ -10,8 +10,9 @@ use credit_book::{Book, BookFault, Outcome, Refused};
 use helpers::{Entry, SpawnRecord, Spawner};
 use std::alloc::Global;
 
-/// The live tasks by number, the book of all of them, and what a spawn has to know of each program. `turn` is the number of the task
-/// that runs, and `parents` has the number of each task's parent, from the first child on.
+/// The live tasks by number, the book of all of them, and what a spawn has to know of each program.
+/// `turn` is the number of the task that runs, and `parents` has the number of each task's parent,
+/// from the first child on.
 #[derive(Drop)]
 pub struct Ledger {
     pub alloc: Global,
@@ -24,14 +25,19 @@ pub struct Ledger {
 }
 
 impl Ledger {
-    /// Ends the task of a number: what it used of its credit is spent, the rest comes back, and the bytes of its part are collected.
+    /// Ends the task of a number: what it used of its credit is spent, the rest comes back, and the
+    /// bytes of its part are collected.
     pub fn end(&mut self, number: u32, live: Live, r0: u64)
-        requires standing { standing_at (table_of self.old.book.history) number ≡ record { held = live.credit.held; stage = Fresh } }
+        requires standing { standing_at (table_of self.old.book.history) number
+            ≡ record { held = live.credit.held; stage = Fresh } }
         requires used { live.credit.used ≤ live.credit.held }
         ensures history { self.new.book.history
-            ≡ self.old.book.history ++ End number live.credit.used r0 true live.part.base live.part.bytes ∷ [] }
-        ensures book { (self.new.book.board ≡ self.old.book.board) × (self.new.book.size ≡ self.old.book.size) }
-        ensures same { (self.new.entries.items ≡ self.old.entries.items) × (self.new.lives.items ≡ self.old.lives.items)
+            ≡ self.old.book.history
+            ++ End number live.credit.used r0 true live.part.base live.part.bytes ∷ [] }
+        ensures book { (self.new.book.board ≡ self.old.book.board)
+            × (self.new.book.size ≡ self.old.book.size) }
+        ensures same { (self.new.entries.items ≡ self.old.entries.items)
+            × (self.new.lives.items ≡ self.old.lives.items)
             × (self.new.turn ≡ self.old.turn) × (self.new.parents.items ≡ self.old.parents.items) }
     {
         let outcome = Outcome {
@@ -81,8 +87,8 @@ impl Spawner for Ledger {
         };
         match self.book.spawn(self.turn, child) {
             Ok(ticket) => {
-                let _ = self.lives.push(Some(place.enter(ticket)));
-                let _ = self.parents.push(self.turn);
+                self.lives.push_reserved(Some(place.enter(ticket)));
+                self.parents.push_reserved(self.turn);
                 Ok(())
             }
             Err(Refused { fault, value }) => match fault {

@@ -1,11 +1,11 @@
 //! What is kept of a live task.
 
-ghost use Rattle.std.specs.Prelude.{◌≡◌, ℕ, ◌≤◌, ◌<◌, ◌^◌, length, replicate, IfOk};
+ghost use Rattle.std.specs.Prelude.{◌≡◌, ℕ, ◌≤◌, ◌<◌, ◌^◌, length, IfOk};
 ghost use Rattle.helpers.specs.Piece.{Piece};
 ghost use Rattle.machine_model.specs.Machine.{effect};
 ghost use Rattle.machine_model.specs.Value.{Registers};
 ghost use Rattle.verifier.specs.Checked.{program_of};
-ghost use Rattle.interpreter.specs.Behind.{AreBehind, IsCovered, Did, state_of, entry_frame, at_slot, out_of, slot_after};
+ghost use Rattle.interpreter.specs.Behind.{AreBehind, IsCovered, Did, state_of, entry_frame, at_slot, out_of, slot_after, zeroed};
 ghost use Rattle.interpreter.specs.Stretch as stretch;
 ghost use Rattle.interpreter.specs.Children.{MayHandOver};
 ghost use Rattle.job_core.specs.Living.{Living};
@@ -30,7 +30,7 @@ struct Body {
 #[derive(Drop)]
 pub struct Vacant {
     body: Box<Body>,
-    ghost zeroed: { body.value.frame ≡ record { words = replicate 11 0; stack = replicate 512 0; slot = 0 } },
+    ghost fresh: { body.value.frame ≡ zeroed },
 }
 
 impl Vacant {
@@ -70,8 +70,9 @@ impl Vacant {
     }
 }
 
-/// A live task: the slot of its next instruction and its credit, which each step changes, and the rest in a box. A run of steps
-/// takes it from its place, which moves a few words, and holds these two in registers.
+/// A live task: the slot of its next instruction and its credit, which each step changes, and the
+/// rest in a box. A run of steps takes it from its place, which moves a few words, and holds these
+/// two in registers.
 #[derive(Drop)]
 pub struct Live {
     slot: u32,
@@ -96,21 +97,21 @@ impl Model for Live {
 impl Live {
     ghost use Rattle.interpreter.specs.declared.frame.Next.TheVariants as Next;
 
-    /// The number of its program.
+    /// The number of the task's program.
     pub fn program(&self) -> u16
         ensures { result ≡ self.now.program }
     {
         self.body.program
     }
 
-    /// Its part of the buffer.
+    /// The task's part of the buffer.
     pub fn part(&self) -> &Part
         ensures { result.now ≡ self.now.part }
     {
         &self.body.part
     }
 
-    /// Its part, once it has ended.
+    /// The task's part, once it has ended.
     pub fn into_part(self) -> Part
         ensures { result ≡ self.part }
     {
@@ -142,8 +143,8 @@ impl Live {
         self.slot = slot;
     }
 
-    /// The instructions from a slot of its program on, which is its next one: `limit` at most, up to and with the first that ends
-    /// it or calls a helper. The slot stays noted where it was.
+    /// The instructions from a slot of its program on, which is its next one: `limit` at most, up
+    /// to and with the first that ends it or calls a helper. The slot stays noted where it was.
     #[inline(always)]
     pub fn run_at<S: Spawner>(
         &mut self,
@@ -156,13 +157,18 @@ impl Live {
         requires covered { IsCovered code.now (at_slot self.old.frame slot) self.old.part self.old.credit }
         requires some { 0 < limit }
         requires children { MayHandOver (S.entries spawner.old) self.old.credit.held (S.asks spawner.old) }
-        ensures ran { stretch.Ran code.now self.old.credit limit result.count (at_slot self.old.frame slot) self.old.part (λ frame part credit.
+        ensures ran { stretch.Ran code.now self.old.credit limit result.count
+            (at_slot self.old.frame slot) self.old.part (λ frame part credit.
             (registers : Registers) → AreBehind code.now frame registers →
-            Did code.now (effect (program_of code.now) (S.entries spawner.old) (state_of frame part credit registers))
-            (out_of result.next) (at_slot self.new.frame (slot_after frame.slot result.next)) self.new.part self.new.credit (spawner.new ≡ spawner.old)
+            Did code.now
+            (effect (program_of code.now) (S.entries spawner.old)
+            (state_of frame part credit registers))
+            (out_of result.next) (at_slot self.new.frame (slot_after frame.slot result.next))
+            self.new.part self.new.credit (spawner.new ≡ spawner.old)
             (λ child reply. S.spawns spawner.old child reply spawner.new)
             (λ helper arguments answer. S.calls spawner.old helper arguments answer spawner.new)) }
-        ensures covered { (next : ℕ) → result.next ≡ Next.At next → IsCovered code.now (at_slot self.new.frame next) self.new.part self.new.credit }
+        ensures covered { (next : ℕ) → result.next ≡ Next.At next
+            → IsCovered code.now (at_slot self.new.frame next) self.new.part self.new.credit }
         ensures base { self.new.part.base ≡ self.old.part.base }
         ensures program { self.new.program ≡ self.old.program }
         ensures slot { self.new.frame.slot ≡ self.old.frame.slot }

@@ -19,7 +19,8 @@ fn count(parents: &[u32], parent: u32) -> usize
 pub fn place_in(alloc: Global, parents: &[u32], number: u32) -> Result<Vec<u32>, NoMemory>
     requires parents { (tasks : List Member) × AreParents parents.now tasks }
     requires given { number ≤ length parents.now }
-    ensures { IfOk result (λ place. (tasks : List Member) (m : Member) → AreParents parents.now tasks →
+    ensures { IfOk result (λ place. (tasks : List Member) (m : Member)
+        → AreParents parents.now tasks →
         slice_get tasks number ≡ Some m → place.items ≡ place_of m) }
 {
     let mut place = Vec::new(alloc);

@@ -13,9 +13,12 @@ impl Job {
 
     /// A board for the job under this number, its post, and a reader that has seen the opening.
     pub fn board(&self, alloc: Global, number: u64) -> Result<(Arc<Board>, Post, Reader), NoMemory>
-        ensures board { IfOk result (λ r. ((arc_value r.0).job ≡ number) × ((arc_value r.0).issued ≡ self.now.credit)) }
-        ensures post { IfOk result (λ r. (r.1.board ≡ arc_value r.0) × (r.1.history ≡ Open number self.now.credit ∷ [])) }
-        ensures reader { IfOk result (λ r. (r.2.board ≡ arc_value r.0) × (r.2.seen ≡ Open number self.now.credit ∷ []) × (r.2.looks ≡ 0)) }
+        ensures board { IfOk result (λ r. ((arc_value r.0).job ≡ number)
+            × ((arc_value r.0).issued ≡ self.now.credit)) }
+        ensures post { IfOk result (λ r. (r.1.board ≡ arc_value r.0)
+            × (r.1.history ≡ Open number self.now.credit ∷ [])) }
+        ensures reader { IfOk result (λ r. (r.2.board ≡ arc_value r.0)
+            × (r.2.seen ≡ Open number self.now.credit ∷ []) × (r.2.looks ≡ 0)) }
     {
         // what a program costs at least is a fact of its type
         prove!(self.programs[0].need() <= 65_536);

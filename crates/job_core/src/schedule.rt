@@ -5,7 +5,8 @@ ghost use Rattle.std.specs.Prelude.{◌≡◌, ◌≢◌, ◌↔◌, ℕ, ◌<�
 /// So many entries are looked at together.
 const BLOCK: usize = 16;
 
-/// Whether each entry names this task. It looks at all of them, which is quicker than to stop at the first other one.
+/// Whether each entry names this task. All of them are looked at, which is quicker than to stop at
+/// the first other one.
 #[inline(always)]
 fn all_name(entries: &[u32], number: u32) -> bool
     ensures { IsTrue result ↔ ((i : ℕ) → i < length entries.now → get_or entries.now i 0 ≡ number) }
@@ -22,7 +23,8 @@ pub fn named_alike(schedule: &[u32]) -> usize
     requires { 0 < length schedule.now }
     ensures some { (0 < result) × (result ≤ length schedule.now) }
     ensures alike { (i : ℕ) → i < result → get_or schedule.now i 0 ≡ get_or schedule.now 0 0 }
-    ensures most { result < length schedule.now → get_or schedule.now result 0 ≢ get_or schedule.now 0 0 }
+    ensures most { result < length schedule.now
+        → get_or schedule.now result 0 ≢ get_or schedule.now 0 0 }
 {
     let number = schedule[0];
     let mut named = 1;

@@ -15,7 +15,8 @@ pub struct Tasks {
     pub ledger: Ledger,
 }
 
-/// What a step of a world has come to: no task of that number is alive, or the task went on, or it ended with R0.
+/// What a step of a world has come to: no task of that number is alive, or the task went on, or it
+/// ended with R0.
 #[derive(Clone, Copy, Debug, PartialEq, Eq)]
 pub enum Stepped {
     Skipped,
@@ -33,7 +34,8 @@ impl Tasks {
     pub fn step(&mut self, alloc: Global, number: u32) -> Stepped
         requires behind { (j : Job) × IsBehind (kept_of self.old) j }
         requires booked { IsBooked self.old }
-        ensures steps { (j : Job) → IsBehind (kept_of self.old) j → Steps (kept_of self.old) j number result (kept_of self.new) }
+        ensures steps { (j : Job) → IsBehind (kept_of self.old) j
+            → Steps (kept_of self.old) j number result (kept_of self.new) }
         ensures programs { self.new.programs.items ≡ self.old.programs.items }
         ensures booked { IsBooked self.new }
     {
@@ -59,8 +61,8 @@ impl Tasks {
         }
     }
 
-    /// Runs a task on from its next instruction, `limit` of them at most, or until it ends. How many ran, and what that came to: it isn't
-    /// alive, it goes on, or it ended.
+    /// Runs a task on from its next instruction, `limit` of them at most, or until it ends. How
+    /// many ran, and what that came to: it isn't alive, it goes on, or it ended.
     ///
     /// The task is taken from its place, and its program looked up, but once.
     #[inline(always)]
@@ -68,8 +70,10 @@ impl Tasks {
         requires behind { (j : Job) × IsBehind (kept_of self.old) j }
         requires booked { IsBooked self.old }
         ensures leads { LeadsOn (kept_of self.old) (replicate result.0 number) (kept_of self.new) }
-        ensures runs { (j : Job) → IsBehind (kept_of self.old) j → RunsTask (kept_of self.old) j number result.0 result.1 (kept_of self.new) }
-        ensures idle { result.0 ≡ 0 → 0 < limit → IsIdle (kept_of self.old) number (kept_of self.new) }
+        ensures runs { (j : Job) → IsBehind (kept_of self.old) j
+            → RunsTask (kept_of self.old) j number result.0 result.1 (kept_of self.new) }
+        ensures idle { result.0 ≡ 0 → 0 < limit
+            → IsIdle (kept_of self.old) number (kept_of self.new) }
         ensures whole { result.1 ≡ Stepped.Went → result.0 ≡ limit }
         ensures most { result.0 ≤ limit }
         ensures few { result.0 ≤ 2147483647 }
@@ -102,13 +106,15 @@ impl Tasks {
         (gone, Stepped::Went)
     }
 
-    /// Goes along a schedule as long as it names the task that it begins with, one instruction for each entry, or until the task
-    /// ends. What is left of it. Where the task isn't alive, all these entries are passed over.
+    /// Goes along a schedule as long as it names the task that it begins with, one instruction for
+    /// each entry, or until the task ends. What is left of it. Where the task isn't alive, all
+    /// these entries are passed over.
     pub fn run<'a>(&mut self, alloc: Global, schedule: &'a [u32]) -> &'a [u32]
         requires behind { (j : Job) × IsBehind (kept_of self.old) j }
         requires booked { IsBooked self.old }
         requires some { 0 < length schedule.now }
-        ensures leads { (numbers : List ℕ) × (schedule.now ≡ numbers ++ result.now) × LeadsOn (kept_of self.old) numbers (kept_of self.new) }
+        ensures leads { (numbers : List ℕ) × (schedule.now ≡ numbers ++ result.now)
+            × LeadsOn (kept_of self.old) numbers (kept_of self.new) }
         ensures booked { IsBooked self.new }
         ensures shorter { length result.now < length schedule.now }
     {

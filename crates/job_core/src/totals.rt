@@ -5,7 +5,8 @@ ghost use Rattle.job_core.specs.Sums.{used_of};
 
 use crate::live::Live;
 
-/// Credit that live tasks hold, that ended tasks returned and spent, and that all of them have used.
+/// Credit that live tasks hold, that ended tasks returned and spent, and that all of them have
+/// used.
 #[derive(Clone, Copy, Debug, PartialEq, Eq)]
 pub struct Totals {
     pub held: u32,

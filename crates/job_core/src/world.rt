@@ -84,18 +84,22 @@ impl World {
 
     /// One instruction of a task, if it is alive.
     pub fn step(&mut self, alloc: Global, number: u32) -> Stepped
-        ensures steps { (j : model.Job) → IsBehind self.old j → Steps self.old j number result self.new }
+        ensures steps { (j : model.Job) → IsBehind self.old j
+            → Steps self.old j number result self.new }
         ensures programs { self.new.programs ≡ self.old.programs }
     {
         self.tasks.step(alloc, number)
     }
 
-    /// Runs a task on from its next instruction, `limit` of them at most, or until it ends. How many ran, and what that came to: it isn't
-    /// alive, and none ran; it goes on, and `limit` of them ran; or it ended.
+    /// Runs a task on from its next instruction, `limit` of them at most, or until it ends. How
+    /// many ran, and what that came to: it isn't alive, and none ran; it goes on, and `limit` of
+    /// them ran; or it ended.
     ///
-    /// Each of them costs some of the job's credit, so that a run without a limit, 4,294,967,295, comes to an end of the task.
+    /// Each of them costs some of the job's credit, so that a run without a limit, 4,294,967,295,
+    /// comes to an end of the task.
     pub fn run(&mut self, alloc: Global, number: u32, limit: u32) -> (u32, Stepped)
-        ensures runs { (j : model.Job) → IsBehind self.old j → RunsTask self.old j number result.0 result.1 self.new }
+        ensures runs { (j : model.Job) → IsBehind self.old j
+            → RunsTask self.old j number result.0 result.1 self.new }
         ensures whole { result.1 ≡ Stepped.Went → result.0 ≡ limit }
         ensures most { result.0 ≤ limit }
         ensures few { result.0 ≤ 2147483647 }
@@ -105,10 +109,12 @@ impl World {
         (count as u32, came_to)
     }
 
-    /// Goes along a schedule as long as it names the task that it begins with, one instruction for each entry. What is left of it.
+    /// Goes along a schedule as long as it names the task that it begins with, one instruction for
+    /// each entry. What is left of it.
     fn follow<'a>(&mut self, alloc: Global, schedule: &'a [u32]) -> &'a [u32]
         requires { 0 < length schedule.now }
-        ensures leads { (numbers : List ℕ) × (schedule.now ≡ numbers ++ result.now) × LeadsOn self.old numbers self.new }
+        ensures leads { (numbers : List ℕ) × (schedule.now ≡ numbers ++ result.now)
+            × LeadsOn self.old numbers self.new }
         ensures shorter { length result.now < length schedule.now }
     {
         self.tasks.run(alloc, schedule)
@@ -131,11 +137,14 @@ impl World {
         self.tasks.ledger.book.count()
     }
 
-    /// Where a task, live or ended, stands in the tree of tasks: the root's place is the empty list, and that of another task is its parent's,
-    /// followed by its number among that one's children, counted from 1. None where no task has this number.
+    /// Where a task, live or ended, stands in the tree of tasks: the root's place is the empty
+    /// list, and that of another task is its parent's, followed by its number among that one's
+    /// children, counted from 1. None where no task has this number.
     pub fn place(&self, number: u32) -> Result<Option<Vec<u32>>, NoMemory>
-        ensures known { IfOk result (λ found. (j : model.Job) → IsBehind self.now j → (IsSome found ↔ number < length j.tasks)) }
-        ensures value { IfOk result (λ found. (j : model.Job) → IsBehind self.now j → IfSome found (λ place.
+        ensures known { IfOk result (λ found. (j : model.Job) → IsBehind self.now j
+            → (IsSome found ↔ number < length j.tasks)) }
+        ensures value { IfOk result (λ found. (j : model.Job) → IsBehind self.now j
+            → IfSome found (λ place.
             (m : Member) → slice_get j.tasks number ≡ Some m → place.items ≡ place_of m)) }
     {
         let ledger = &self.tasks.ledger;
@@ -145,7 +154,8 @@ impl World {
         Ok(Some(place_in(ledger.alloc, &ledger.parents, number)?))
     }
 
-    /// For how many bytes the task's part has room, which is the memory that it takes. None where the task isn't alive.
+    /// For how many bytes the task's part has room, which is the memory that it takes. None where
+    /// the task isn't alive.
     pub fn part_room(&self, number: u32) -> Option<usize>
         ensures { result ≡ room_at self.now.lives number }
     {
@@ -162,7 +172,8 @@ impl World {
         self.tasks.ledger.book.progress().complete
     }
 
-    /// The credit that live tasks hold, and that ended tasks returned and spent, and what all of them have used.
+    /// The credit that live tasks hold, and that ended tasks returned and spent, and what all of
+    /// them have used.
     pub fn totals(&self) -> Totals
         ensures { (j : model.Job) → IsBehind self.now j → AreTotals result j }
     {
@@ -179,7 +190,8 @@ impl World {
 
     /// The job's buffer as it is now.
     pub fn buffer(&self, alloc: Global) -> Result<Vec<u8>, NoMemory>
-        ensures { IfOk result (λ buffer. (j : model.Job) → IsBehind self.now j → buffer.items ≡ j.buffer) }
+        ensures { IfOk result (λ buffer. (j : model.Job) → IsBehind self.now j
+            → buffer.items ≡ j.buffer) }
     {
         let mut buffer = Vec::new(alloc);
         buffer.extend_from_slice(self.tasks.ledger.book.collected())?;
@@ -190,15 +202,18 @@ impl World {
     /// The report, where no task is alive.
     pub fn report(&self) -> Option<&Report>
         ensures some { (j : model.Job) → IsBehind self.now j → (IsSome result ↔ IsComplete j) }
-        ensures value { (j : model.Job) → IsBehind self.now j → IfSome result (λ report. IsReportOf report.now j) }
+        ensures value { (j : model.Job) → IsBehind self.now j
+            → IfSome result (λ report. IsReportOf report.now j) }
     {
         self.tasks.ledger.book.report()
     }
 
     /// Gives the report up where no task is alive, and else the world back as it was.
     pub fn close(self) -> Result<Report, World>
-        ensures report { IfOk result (λ report. (j : model.Job) → IsBehind self j → IsComplete j × IsReportOf report j) }
-        ensures world { IfErr result (λ world. (world ≡ self) × ((j : model.Job) → IsBehind self j → IsComplete j → ⊥)) }
+        ensures report { IfOk result (λ report. (j : model.Job) → IsBehind self j → IsComplete j
+            × IsReportOf report j) }
+        ensures world { IfErr result (λ world. (world ≡ self)
+            × ((j : model.Job) → IsBehind self j → IsComplete j → ⊥)) }
     {
         if !self.is_complete() {
             return Err(self);
@@ -222,8 +237,8 @@ ghost use Rattle.task_trees.specs.Answer.{PlaysToAnswer};
 
 /// One instruction of each task of the schedule in turn.
 ///
-/// Where no spawn was refused and no task is alive, the buffer, the R0s by place and the credit spent are those that the root comes to with
-/// all that it spawns, whatever the schedule.
+/// Where no spawn was refused and no task is alive, the buffer, the R0s by place and the credit
+/// spent are those that the root comes to with all that it spawns, whatever the schedule.
 pub fn play(alloc: Global, job: Job, schedule: &[u32]) -> Result<World, NoMemory>
     ensures answer { IfOk result (λ world. (last : model.Job) × IsBehind world last
         × PlaysToAnswer (map program_of job.programs) job.credit job.buffer schedule.now last) }
@@ -239,7 +254,8 @@ pub fn play(alloc: Global, job: Job, schedule: &[u32]) -> Result<World, NoMemory
 
 ghost use Rattle.job_core.specs.Behind.{Kept};
 
-/// What a world keeps leaves one buffer to every job behind it.
+/// What a world keeps leaves one buffer to every job behind what it keeps.
 pub fn keeps_one_buffer()
-    ensures { (kept : Kept) (j k : model.Job) → IsBehind kept j → IsBehind kept k → j.buffer ≡ k.buffer }
+    ensures { (kept : Kept) (j k : model.Job) → IsBehind kept j → IsBehind kept k
+        → j.buffer ≡ k.buffer }
 {}

@@ -1,4 +1,5 @@
-//! A job of a root and its child, worked by hand: what the book answers, what the board tells, and what is left of both.
+//! A job of a root and its child, worked by hand: what the book answers, what the board tells, and
+//! what is left of both.
 
 use credit_book::{Board, Book, BookFault, Outcome, Post, Progress, Ticket};
 use helpers::{Part, SpawnRecord};
@@ -34,8 +35,8 @@ fn none(alloc: Global) -> Part {
     Part::whole(Vec::new(alloc))
 }
 
-/// The book of a job with a credit of 34 and eight bytes, whose root has spawned a child with 10 of it and the last four bytes, what
-/// the root has left, and the child's ticket.
+/// The book of a job with a credit of 34 and eight bytes, whose root has spawned a child with 10 of
+/// it and the last four bytes, what the root has left, and the child's ticket.
 fn family(alloc: Global, post: Post) -> Result<(Book, Part, Ticket), Fail> {
     let (mut book, root) = open(alloc, post)?;
     let mut part = root.into_part();

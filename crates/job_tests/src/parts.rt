@@ -147,7 +147,8 @@ fn no_bytes_are_filled_or_summed_up(rt: HostRuntime) -> Result<(), Fail> {
 #[test]
 fn spawns_are_answered(rt: HostRuntime) -> Result<(), Fail> {
     let child = Some(Entry { cost: 10, need: 8 });
-    // the parent has 100, has used 40, and the rest of its run costs 20; it has 32 bytes and needs 16
+    // the parent has 100, has used 40, and the rest of its run costs 20; it has 32 bytes and needs
+    // 16
     for (share, cut, want) in [
         (10, 8, 0),
         (40, 16, 0),

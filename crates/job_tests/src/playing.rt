@@ -1,10 +1,12 @@
-//! Schedules that are played come to what their entries come to one at a time. Expected answers were worked out by hand.
+//! Schedules that are played come to what their entries come to one at a time. Expected answers
+//! were worked out by hand.
 
 use job_core::{Job, ProgramBytes, TaskEnd, Totals, World, admit, play};
 use std::alloc::Global;
 use std::test::Fail;
 
-/// Spawns the child with a share of 10 in its fifth instruction, answers 7 in its seventh, and costs 22.
+/// Spawns the child with a share of 10 in its fifth instruction, answers 7 in its seventh, and
+/// costs 22.
 const ROOT: &str =
     "b701000001000000b70200000a000000b703000000000000b7040000000000008500000001000000\
 07000000070000009500000000000000";
@@ -46,7 +48,8 @@ fn job(alloc: Global) -> Result<Job, Fail> {
     Ok(admit(alloc, &programs, 40, Vec::new(alloc))?)
 }
 
-/// What is held, returned, spent and used, and of a job that is complete each task's number, R0, credit spent and rest.
+/// What is held, returned, spent and used, and of a job that is complete each task's number, R0,
+/// credit spent and rest.
 fn told(alloc: Global, world: &World) -> Result<String, Fail> {
     let Totals {
         held,

@@ -43,7 +43,8 @@ impl Spawner for Refusing {
     }
 }
 
-/// Runs a task of the program, which needs no bytes, to its end, and tells R0, the credit used and the spawns asked for.
+/// Runs a task of the program, which needs no bytes, to its end, and tells R0, the credit used and
+/// the spawns asked for.
 fn ended(alloc: Global, program: &Verified, held: u32) -> Option<(u64, u32, u32)> {
     if program.cost() > held || held > 2_147_483_647 || program.need() > 0 {
         return None;

@@ -22,11 +22,11 @@ known seat = view seat
 abbrev pub moves : Pass → Moves
 moves p = moves_of p.owns p
 
--- it was made with this lane
+-- the pass was made with this lane
 abbrev pub IsOwner : Lane → Pass → Type 0
 IsOwner lane p = (p.owns ≡ true) × (p.seen.value ≡ lane.ready)
 
--- it was made with this thief, or with another of the same lane
+-- the pass was made with this thief, or with another of the same lane
 abbrev pub IsGuest : Thief → Pass → Type 0
 IsGuest thief p = (p.owns ≡ false) × IsPassOf (stealer_deque thief.reach) p.seat
 

@@ -21,11 +21,11 @@ IsTaken old ticket new =
     ((new.own ≡ with_taken old.own (ticket ∷ [])) × (new.others ≡ old.others))
     ⊎ ((new.own ≡ old.own) × IsTakenFrom old.others ticket new.others)
 
--- it has moved nothing, and knows of no other lane
+-- the worker has moved nothing, and knows of no other lane
 abbrev pub IsAlone : Moved → Type 0
 IsAlone m = (m.own ≡ newcomer) × (m.others ≡ [])
 
--- it has moved nothing, and has a way into each lane but its own
+-- the worker has moved nothing, and has a way into each lane but its own
 pub record IsNew (workers : ℕ) (m : Moved) : Type 0 where
   pub own : m.own ≡ newcomer
   pub count : length m.others + 1 ≡ workers

@@ -97,7 +97,7 @@ impl Lane {
         })
     }
 
-    /// The pass of the owner of a new lane. Its seat stays unused.
+    /// The pass of the owner of a new lane. The owner's seat stays unused.
     pub(crate) fn owner(&self) -> Result<Pass, NoMemory>
         ensures { IfOk result (λ p. IsOwner self.now p × (moves p ≡ worker_view self.now.ready)) }
     {
@@ -112,7 +112,8 @@ impl Lane {
 
     /// A thief of this lane, and a bare seat of its own.
     pub(crate) fn way(&self) -> Result<(Thief, Seat), NoMemory>
-        ensures { IfOk result (λ g. IsThiefOf self.now g.0 × IsPassOf (stealer_deque g.0.reach) g.1 × (view g.1 ≡ newcomer)) }
+        ensures { IfOk result (λ g. IsThiefOf self.now g.0 × IsPassOf (stealer_deque g.0.reach) g.1
+            × (view g.1 ≡ newcomer)) }
     {
         let reach = self.ready.stealer()?;
         let seat = reach.pass();
@@ -134,7 +135,8 @@ impl Lane {
 
     /// Puts a ticket at the back, or gives it back where there is no room for it.
     pub(crate) fn put(&mut self, ticket: Ticket) -> Result<(), Ticket>
-        ensures { MatchResult result (λ _. worker_view self.new.ready ≡ with_pushed (worker_view self.old.ready) (ticket ∷ []))
+        ensures { MatchResult result (λ _. worker_view self.new.ready
+            ≡ with_pushed (worker_view self.old.ready) (ticket ∷ []))
             (λ back. (back ≡ ticket) × (worker_view self.new.ready ≡ worker_view self.old.ready)) }
     {
         self.ready.push_as::<Pushed>(ticket)
@@ -143,16 +145,18 @@ impl Lane {
     /// The ticket at the front.
     pub(crate) fn next(&mut self) -> Option<Ticket>
         ensures { MatchOption result (worker_view self.new.ready ≡ worker_view self.old.ready)
-            (λ ticket. worker_view self.new.ready ≡ with_taken (worker_view self.old.ready) (ticket ∷ [])) }
+            (λ ticket. worker_view self.new.ready
+            ≡ with_taken (worker_view self.old.ready) (ticket ∷ [])) }
     {
         self.ready.pop_as::<Taken>()
     }
 
-    /// Puts a ticket at the back. It comes back where there is no room for it.
+    /// Puts a ticket at the back. The ticket comes back where there is no room for it.
     pub fn push(&mut self, pass: &mut Pass, ticket: Ticket) -> Result<(), Ticket>
         requires { IsOwner self.old pass.old }
         ensures pass { IsOwner self.new pass.new }
-        ensures moved { MatchResult result (λ _. moves pass.new ≡ with_pushed (moves pass.old) (ticket ∷ []))
+        ensures moved { MatchResult result (λ _. moves pass.new
+            ≡ with_pushed (moves pass.old) (ticket ∷ []))
             (λ back. (back ≡ ticket) × (moves pass.new ≡ moves pass.old)) }
     {
         let pushed = self.put(ticket);

@@ -1,4 +1,5 @@
-//! Deques of ready tickets: the owner of a lane pushes and takes, and thieves steal, first in first out.
+//! Deques of ready tickets: the owner of a lane pushes and takes, and thieves steal, first in first
+//! out.
 #![tactic(auto)]
 
 // one lane, its owner and its thieves
@@ -9,7 +10,6 @@ mod opening;
 
 pub use ends::{Lane, Pass, Stolen, Thief};
 pub use laws::each_once_in_order;
-pub use moves::{Moves, Task};
 pub use opening::lane;
 
 // the lanes of workers that steal from one another

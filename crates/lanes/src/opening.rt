@@ -1,4 +1,4 @@
-//! New lanes.
+//! Opening a lane, with its owner's pass and its thieves.
 
 ghost use Rattle.std.specs.Prelude.{◌≡◌, ◌≤◌, All, IfOk, vec_len};
 ghost use Rattle.lanes.specs.Interleaving.{newcomer};

@@ -10,8 +10,8 @@ use refusal::NoMemory;
 use std::alloc::Global;
 use std::marker::Model;
 
-/// What one of several workers has of their lanes: the owner's end of its own, and a way into each other one. Contracts see what it has
-/// moved in each.
+/// What one of several workers has of their lanes: the owner's end of its own, and a way into each
+/// other one. Contracts see what it has moved in each.
 #[derive(Drop)]
 pub struct Lanes {
     own: Lane,
@@ -53,17 +53,21 @@ impl Lanes {
         self.ways = ways;
     }
 
-    /// Puts a ticket at the back of its own lane. It comes back where there is no room for it.
+    /// Puts a ticket at the back of the worker's own lane. The ticket comes back where there is no
+    /// room for it.
     pub fn push(&mut self, ticket: Ticket) -> Result<(), Ticket>
-        ensures { MatchResult result (λ _. self.new ≡ record { own = with_pushed self.old.own (ticket ∷ []); others = self.old.others })
+        ensures { MatchResult result (λ _. self.new
+            ≡ record { own = with_pushed self.old.own (ticket ∷ []); others = self.old.others })
             (λ back. (back ≡ ticket) × (self.new ≡ self.old)) }
     {
         self.own.put(ticket)
     }
 
-    /// The ticket at the front of its own lane, or else at the front of the first other one that gives one. Nothing else is moved.
+    /// The ticket at the front of its own lane, or else at the front of the first other one that
+    /// gives one. Nothing else is moved.
     pub fn next(&mut self) -> Option<Ticket>
-        ensures { MatchOption result (self.new ≡ self.old) (λ ticket. IsTaken self.old ticket self.new) }
+        ensures { MatchOption result (self.new
+            ≡ self.old) (λ ticket. IsTaken self.old ticket self.new) }
     {
         if let Some(ticket) = self.own.next() {
             return Some(ticket);
@@ -86,7 +90,8 @@ fn ways_of(alloc: Global, all: &[Lanes], place: usize) -> Result<Vec<Way>, NoMem
     Ok(ways)
 }
 
-/// The lanes of so many workers, 16 at most, each of which has a lane of its own and a way into each other one.
+/// The lanes of so many workers, 16 at most, each of which has a lane of its own and a way into
+/// each other one.
 pub fn lanes_between(alloc: Global, workers: u32) -> Result<Vec<Lanes>, NoMemory>
     requires { workers ≤ 16 }
     ensures count { IfOk result (λ all. vec_len all ≡ workers) }

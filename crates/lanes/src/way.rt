@@ -41,7 +41,8 @@ impl Way {
 
     /// Takes the ticket at the front of the lane.
     pub fn steal(&mut self) -> Stolen
-        ensures { MatchStolen result (self.new ≡ self.old) (λ ticket. self.new ≡ with_taken self.old (ticket ∷ [])) }
+        ensures { MatchStolen result (self.new ≡ self.old) (λ ticket. self.new
+            ≡ with_taken self.old (ticket ∷ [])) }
     {
         self.thief.steal_on(&mut self.seat)
     }
@@ -49,7 +50,8 @@ impl Way {
 
 /// The ticket at the front of the first lane that gives one.
 pub(crate) fn first_stolen(ways: &mut Vec<Way>) -> Option<Ticket>
-    ensures { MatchOption result (ways.new.items ≡ ways.old.items) (λ ticket. IsTakenFrom ways.old.items ticket ways.new.items) }
+    ensures { MatchOption result (ways.new.items
+        ≡ ways.old.items) (λ ticket. IsTakenFrom ways.old.items ticket ways.new.items) }
 {
     for place in 0..ways.len() {
         if let Stolen::Got(ticket) = ways[place].steal() {

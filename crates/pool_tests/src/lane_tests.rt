@@ -50,7 +50,8 @@ fn owner_and_thief_take_in_the_order_of_pushing(rt: HostRuntime) -> Result<(), F
     Ok(())
 }
 
-/// What the worker at each of these places finds, one after the other, where the worker at place p has ticket p + 1 in its lane.
+/// What the worker at each of these places finds, one after the other, where the worker at place p
+/// has ticket p + 1 in its lane.
 fn found(alloc: Global, workers: u32, places: &[usize]) -> Result<Vec<u32>, Fail> {
     let mut tickets = Tickets::open(alloc)?;
     let mut all = lanes_between(alloc, workers.min(16))?;

@@ -1,4 +1,5 @@
-//! Tests of the pool: jobs that threads run, while others look at their boards. Nothing stands on it.
+//! Tests of the pool: jobs that threads run, while others look at their boards. Nothing stands on
+//! it.
 #![tactic(auto)]
 
 // a job beside its post, and tasks that are run by hand

@@ -40,8 +40,8 @@ fn follows(before: Progress, now: Progress, issued: u32) -> bool {
         && (!now.complete || now.spent.wrapping_add(now.returned) == issued)
 }
 
-/// Looks until the job is over and once more, and raises an alarm where a look goes back, or says complete with less than what was issued,
-/// or the last one doesn't say complete.
+/// Looks until the job is over and once more, and raises an alarm where a look goes back, or says
+/// complete with less than what was issued, or the last one doesn't say complete.
 pub fn looks<R: Wait>(
     rt: &R,
     looker: Looker,

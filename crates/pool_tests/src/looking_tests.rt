@@ -23,7 +23,8 @@ fn spawning(alloc: Global, program: u32, share: u32) -> Result<String, Fail> {
     Ok(text)
 }
 
-/// A root that spawns 32 tasks, each of which spawns 32 that only end: 1,057 tasks. A spawn costs 20 with its moves, and all ends 2.
+/// A root that spawns 32 tasks, each of which spawns 32 that only end: 1,057 tasks. A spawn costs
+/// 20 with its moves, and all ends 2.
 fn crowd(alloc: Global) -> Result<Opened, Fail> {
     let share = 20 * 32 + 2 + 32 * 2;
     let credit = 20 * 32 + 2 + 32 * share;
@@ -38,7 +39,8 @@ fn crowd(alloc: Global) -> Result<Opened, Fail> {
     Ok(Opened::new(alloc, 1, job)?)
 }
 
-/// Runs the job with four workers, while four other threads look. Whether each look was right, and all was spent.
+/// Runs the job with four workers, while four other threads look. Whether each look was right, and
+/// all was spent.
 fn watched<R: Threads + Wait + Sync>(rt: &R, alloc: Global) -> Result<bool, Fail> {
     let mut opened = crowd(alloc)?;
     let issued = opened.issued();

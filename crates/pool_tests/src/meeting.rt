@@ -13,7 +13,8 @@ pub struct Meeting {
     second_saw: AtomicBool,
 }
 
-/// Says that a task came, and looks for the other one for 10,000,000 turns at most. A task that hasn't seen it isn't there any longer.
+/// Says that a task came, and looks for the other one for 10,000,000 turns at most. A task that
+/// hasn't seen it isn't there any longer.
 fn meet(own: &AtomicBool, other: &AtomicBool, saw: &AtomicBool) {
     own.store(true, Ordering::SeqCst);
     for _ in 0..10_000_000u32 {

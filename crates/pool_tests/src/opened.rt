@@ -13,7 +13,8 @@ use std::test::Fail;
 use std::thread::Threads;
 use workers::{Gate, PoolFault, run_job};
 
-/// The job of programs, each by its need and its text, with this credit and so many zeros as its buffer.
+/// The job of programs, each by its need and its text, with this credit and so many zeros as its
+/// buffer.
 pub fn admitted(
     alloc: Global,
     programs: &[(u32, &str)],

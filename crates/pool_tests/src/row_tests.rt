@@ -6,7 +6,8 @@ use std::alloc::Global;
 use std::test::Fail;
 use workers::OpenGate;
 
-/// Hands the last four bytes of its part to a child with 10 of credit and the argument 9, and puts the answer into its own first byte.
+/// Hands the last four bytes of its part to a child with 10 of credit and the argument 9, and puts
+/// the answer into its own first byte.
 pub const ROOT: &str = "\
 mov64 r6, r1
 mov64 r1, 1

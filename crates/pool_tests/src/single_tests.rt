@@ -7,9 +7,10 @@ use credit_book::Report;
 use std::alloc::Global;
 use std::test::Fail;
 use task_arena::Frames;
-use workers::unrun;
+use workers::unrun_outcome;
 
-/// Runs the root of a job without children on the frames, and tells its R0, what it used, and whether it ran.
+/// Runs the root of a job without children on the frames, and tells its R0, what it used, and
+/// whether it ran.
 fn root_of(
     alloc: Global,
     frames: &mut Frames,
@@ -46,7 +47,7 @@ fn family(alloc: Global, runs_root: bool, runs_child: bool) -> Result<Report, Fa
     let outcome = if runs_root {
         hand.run(alloc, root, &mut frames)
     } else {
-        unrun(root)
+        unrun_outcome(root)
     };
     if !hand.end(outcome) {
         return Err(Fail::new("the root's end is refused"));
@@ -55,7 +56,7 @@ fn family(alloc: Global, runs_root: bool, runs_child: bool) -> Result<Report, Fa
         let outcome = if runs_child {
             hand.run(alloc, child, &mut frames)
         } else {
-            unrun(child)
+            unrun_outcome(child)
         };
         if !hand.end(outcome) {
             return Err(Fail::new("the child's end is refused"));

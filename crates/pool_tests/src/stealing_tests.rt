@@ -12,7 +12,8 @@ use std::thread::Threads;
 /// How many tickets are pushed.
 const TICKETS: u32 = 100_000;
 
-/// Marks what it finds, which comes in the order of pushing, until all was pushed and it finds nothing.
+/// Marks what it finds, which comes in the order of pushing, until all was pushed and it finds
+/// nothing.
 fn steals<R: Wait>(rt: &R, lanes: Lanes, tally: &Tally) {
     let mut lanes = lanes;
     let mut last = 0;

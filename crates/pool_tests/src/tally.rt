@@ -5,7 +5,8 @@ use refusal::NoMemory;
 use std::alloc::Global;
 use std::sync::atomic::{AtomicBool, AtomicU32, Ordering};
 
-/// A mark for each number from 0 on, and whether all tickets were pushed, and whether something went wrong.
+/// A mark for each number from 0 on, and whether all tickets were pushed, and whether something
+/// went wrong.
 #[derive(Drop)]
 pub struct Tally {
     marks: Vec<AtomicU32>,

@@ -6,7 +6,7 @@ use Rattle.credit_book.specs.declared.book.Report.{Report}
 use Rattle.credit_book.specs.History.{IsHistoryOf, IsComplete, table_of}
 use Rattle.credit_book.specs.Books.{IsReport}
 
--- It is the report of a legal history of this job with no live task, and of so many bytes. What was spent and returned adds up to what was
+-- The report is that of a legal history of this job with no live task, and of so many bytes. What was spent and returned adds up to what was
 -- issued, and the tasks are numbered from 0 up.
 pub record IsFinal (job issued size : ℕ) (report : Report) : Type 0 where
   pub history : List Event

@@ -8,7 +8,7 @@ use Rattle.credit_book.specs.declared.task.Outcome.{Outcome}
 use Rattle.task_trees.specs.Solo.{Asked, entering}
 use Rattle.solo.specs.Through.{RunsAlone}
 
--- it wasn't run
+-- the ticket's task wasn't run
 pub record IsUnrun (ticket : Ticket) (outcome : Outcome) : Type 0 where
   pub job : outcome.job ≡ ticket.job
   pub number : outcome.number ≡ ticket.number
@@ -23,7 +23,7 @@ pub record Suffices (p : Checked) (ticket : Ticket) : Type 0 where
   pub limit : ticket.held ≤ 2147483647
   pub fits : p.need ≤ length ticket.part.bytes
 
--- The ticket's task, by itself on this program, while the spawner went `through` what it asked for. It has the place where its part begins.
+-- The ticket's task, by itself on this program, while the spawner went `through` what it asked for. The outcome has the place where the part begins.
 pub record IsRunBy (p : Checked) (entries : Entries) (ticket : Ticket) (through : List Asked → Type 0) (outcome : Outcome) : Type 0 where
   pub job : outcome.job ≡ ticket.job
   pub number : outcome.number ≡ ticket.number
@@ -31,7 +31,7 @@ pub record IsRunBy (p : Checked) (entries : Entries) (ticket : Ticket) (through 
   pub alone : RunsAlone (program_of p) entries (entering ticket.arg ticket.held ticket.part.bytes) through outcome.r0 outcome.used outcome.part.bytes
   pub base : outcome.part.base ≡ ticket.part.base
 
--- the same on the program that it names, for which it suffices
+-- the ticket's task, by itself on the program that it names, for which its credit and its part suffice
 pub record IsRunOf (programs : List Checked) (ticket : Ticket) (through : List Asked → Type 0) (outcome : Outcome) : Type 0 where
   pub program : Checked
   pub named : slice_get programs ticket.program ≡ Some program
@@ -42,6 +42,6 @@ abbrev pub by_ran : Bool → Type 0 → Type 0 → Type 0
 by_ran true ran unran = ran
 by_ran false ran unran = unran
 
--- it was run so, or not at all, and then the spawner is as it was
+-- the ticket's task was run so, or not at all, and then the spawner is as it was
 abbrev pub IsOutcome : List Checked → Ticket → (List Asked → Type 0) → Type 0 → Outcome → Type 0
 IsOutcome programs ticket through silent outcome = by_ran outcome.ran (IsRunOf programs ticket through outcome) (IsUnrun ticket outcome × silent)

@@ -48,7 +48,9 @@ impl Desk {
 
     /// Spawns a child of the parent: its ticket, or the record as it was.
     pub fn spawn(&mut self, parent: u32, child: SpawnRecord) -> Result<Ticket, SpawnRecord>
-        ensures ticket { IfOk result (λ ticket. ticket ≡ ticket_of self.old.book.board.job (length (table_of self.old.book.history).standings) child) }
+        ensures ticket { IfOk result (λ ticket. ticket
+            ≡ ticket_of self.old.book.board.job
+            (length (table_of self.old.book.history).standings) child) }
         ensures back { IfErr result (λ back. (back ≡ child) × (self.new ≡ self.old)) }
     {
         match self.book.spawn(parent, child) {
@@ -78,12 +80,14 @@ impl Desk {
         !self.has_refused
     }
 
-    /// The report of a job with this number, this credit and this many bytes, once no task is alive: 82 where the book has refused an
-    /// end, a task is alive, or the job is another.
+    /// The report of a job with this number, this credit and this many bytes, once no task is
+    /// alive: 82 where the book has refused an end, a task is alive, or the job is another.
     pub fn close(self, job: u64, issued: u32, size: usize) -> Result<Report, PoolFault>
         ensures report { IfOk result (λ report. IsFinal job issued size report) }
-        ensures refused { IfErr result (λ fault. (fault ≡ BookRefused) × (self.has_refused ≡ false → self.book.board.job ≡ job →
-            self.book.board.issued ≡ issued → self.book.size ≡ size → IsComplete (table_of self.book.history) → ⊥)) }
+        ensures refused { IfErr result (λ fault. (fault ≡ BookRefused)
+            × (self.has_refused ≡ false → self.book.board.job ≡ job →
+            self.book.board.issued ≡ issued → self.book.size ≡ size
+            → IsComplete (table_of self.book.history) → ⊥)) }
     {
         let Desk { book, has_refused } = self;
         if has_refused || book.job() != job || book.issued() != issued {

@@ -8,16 +8,16 @@ use std::alloc::AllocError;
 use thiserror::Error;
 
 /// Why a job gave no report.
-#[derive(Clone, Copy, Debug, PartialEq, Eq, Error)]
+#[derive(Clone, Copy, Debug, PartialEq, Eq, Hash, Error)]
 pub enum PoolFault {
     /// No thread could be started: 81.
-    #[error("no worker could be started")]
+    #[error("81: no worker could be started")]
     NoWorker,
     /// The book refused an end, or what was closed isn't the job's: 82.
-    #[error("the book refused an end, or is another job's")]
+    #[error("82: the book refused an end, or is another job's")]
     BookRefused,
     /// A growth was refused: 99.
-    #[error("out of memory")]
+    #[error("99: out of memory")]
     NoMemory,
 }
 

@@ -45,13 +45,18 @@ impl<'a, R: Wait> Hands<'a, R> {
         }
     }
 
-    /// The ticket of a task to run: of its own lane, or else of another's, or else one that is parked. Its children come back here.
+    /// The ticket of a task to run: of its own lane, or else of another's, or else one that is
+    /// parked. The children that the task spawns come back here. A worker that has nothing to do
+    /// doesn't wait for the desk: those that have would have to wake it.
     pub fn find(&mut self) -> Found
         ensures { self.new.shared ≡ self.old.shared }
     {
         let found = match self.lanes.next() {
             Some(ticket) => Found::Ready(ticket),
-            None => self.shared.desk.lock(self.rt).claim(),
+            None => match self.shared.desk.try_lock() {
+                Some(mut desk) => desk.claim(),
+                None => Found::Nothing,
+            },
         };
         if let Found::Ready(ticket) = &found {
             self.turn = ticket.number();
@@ -66,7 +71,8 @@ impl<'a, R: Wait> Hands<'a, R> {
 
     /// Puts a new task's ticket into its own lane, or parks it where there is no room for it.
     fn keep(&mut self, ticket: Ticket)
-        ensures { (self.new.shared ≡ self.old.shared) × (self.new.turn ≡ self.old.turn) × IsKept self.old.lanes ticket self.new.lanes }
+        ensures { (self.new.shared ≡ self.old.shared) × (self.new.turn ≡ self.old.turn)
+            × IsKept self.old.lanes ticket self.new.lanes }
     {
         if let Err(back) = self.lanes.push(ticket) {
             self.shared.desk.lock(self.rt).park(back);

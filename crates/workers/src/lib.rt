@@ -7,7 +7,7 @@ mod outcome;
 mod work;
 
 pub use gate::{Gate, OpenGate};
-pub use outcome::unrun;
+pub use outcome::unrun_outcome;
 pub use work::{entry_in, work_one};
 
 // what lies under the job's lock

@@ -8,7 +8,7 @@ ghost use Rattle.job_core.specs.Admitted.{AreOwn};
 ghost use Rattle.workers.specs.Noted.{IsNoted, EndedAs, NotedAlone};
 
 use crate::gate::Gate;
-use crate::outcome::unrun;
+use crate::outcome::unrun_outcome;
 use crate::work::work_one;
 use credit_book::{Outcome, TaskEnd, Ticket};
 use helpers::Spawner;
@@ -68,7 +68,8 @@ fn note_at(notes: &[Note], place: usize) -> Option<Note>
     Some(notes[place - 1])
 }
 
-/// Whether each task of the report ended as a worker noted it, or wasn't run, and nothing else was noted.
+/// Whether each task of the report ended as a worker noted it, or wasn't run, and nothing else was
+/// noted.
 pub(crate) fn agrees(alloc: Global, ends: &[TaskEnd], notes: &[Note]) -> Result<bool, NoMemory>
     ensures { IfOk result (λ same. IsTrue same → All (EndedAs notes.now) ends.now) }
 {
@@ -88,7 +89,7 @@ pub(crate) fn agrees(alloc: Global, ends: &[TaskEnd], notes: &[Note]) -> Result<
     Ok(true)
 }
 
-/// Runs the ticket's task, and notes it. It isn't run where there is no room for the note.
+/// Runs the ticket's task, and notes it. The task isn't run where there is no room for the note.
 pub(crate) fn run_noted<S: Spawner, G: Gate>(
     alloc: Global,
     ticket: Ticket,
@@ -106,7 +107,7 @@ pub(crate) fn run_noted<S: Spawner, G: Gate>(
     ensures entries { S.entries spawner.new ≡ S.entries spawner.old }
 {
     if notes.reserve(1).is_err() {
-        return unrun(ticket);
+        return unrun_outcome(ticket);
     }
     let number = ticket.number();
     let program = ticket.program();

@@ -28,8 +28,8 @@ struct Worker {
     lanes: Lanes,
 }
 
-/// What one worker does in its thread, until a look says that the job is complete, or the book has refused an end.
-/// What it noted of the tasks that it ran.
+/// What one worker does in its thread, until a look says that the job is complete, or the book has
+/// refused an end. What it noted of the tasks that it ran.
 fn work<R: Wait, G: Gate>(
     rt: &R,
     shared: &Shared,
@@ -102,7 +102,8 @@ fn start<'s, E: 's, R: Threads + Wait + Sync, G: Gate + Sync>(
         .ok()
 }
 
-/// Starts a thread for each worker, and joins those that could be started. What their workers noted.
+/// Starts a thread for each worker, and joins those that could be started. What their workers
+/// noted.
 fn run_all<'s, E: 's, R: Threads + Wait + Sync, G: Gate + Sync>(
     rt: &'s R,
     scope: &Scope<'s, E>,
@@ -111,7 +112,8 @@ fn run_all<'s, E: 's, R: Threads + Wait + Sync, G: Gate + Sync>(
     workers: Vec<Worker>,
     alloc: Global,
 ) -> Result<Vec<Vec<Note>>, PoolFault>
-    ensures { IfOk result (λ all. All (λ notes. All (NotedAlone shared.now.programs.items) notes.items) all.items) }
+    ensures { IfOk result
+        (λ all. All (λ notes. All (NotedAlone shared.now.programs.items) notes.items) all.items) }
 {
     let mut threads = Vec::with_capacity(alloc, workers.len())?;
     for worker in workers {
@@ -128,7 +130,7 @@ fn run_all<'s, E: 's, R: Threads + Wait + Sync, G: Gate + Sync>(
     }
 }
 
-/// The notes of all workers, one after the other. They are those of the programs.
+/// The notes of all workers, one after the other, each of a run of one of the programs.
 fn gather(alloc: Global, shared: &Shared, lists: &[Vec<Note>]) -> Result<Vec<Note>, NoMemory>
     requires { All (λ notes. All (NotedAlone shared.now.programs.items) notes.items) lists.now }
     ensures { IfOk result (λ notes. All (NotedAlone shared.now.programs.items) notes.items) }
@@ -168,20 +170,25 @@ fn run_in_threads<R: Threads + Wait + Sync, G: Gate + Sync>(
         thread::scope_env(),
         rt,
         |scope| -> Result<Vec<Vec<Note>>, PoolFault>
-            ensures { IfOk result (λ all. All (λ notes. All (NotedAlone shared.entry.now.programs.items) notes.items) all.items) }
+            ensures { IfOk result
+                (λ all. All
+                (λ notes. All (NotedAlone shared.entry.now.programs.items) notes.items)
+                all.items) }
         { run_all(rt, scope, shared, gate, workers, alloc) },
     )?;
     Ok(gather(alloc, shared, &lists)?)
 }
 
-/// Runs the job in so many threads, 1 to 16, and gives the report of its book once no task is alive. The post is that of the job, opened
-/// with its credit.
+/// Runs the job in so many threads, 1 to 16, and gives the report of its book once no task is
+/// alive. The post is that of the job, opened with its credit.
 ///
-/// Each task of the report that ran gives what it gives by itself, on some part, under some answers of its spawns, and each other spent nothing.
+/// Each task of the report that ran gives what it gives by itself, on some part, under some answers
+/// of its spawns, and each other spent nothing.
 ///
-/// 81 where no thread could be started: with some started the job runs on those. 82 where the book has refused an end, upon which
-/// all workers leave, or where what was closed isn't the job's, or isn't as the workers noted. 99 where there was no memory ahead of the
-/// first thread, or for what the workers noted, once all have left. It returns if its waits do.
+/// 81 where no thread could be started: with some started the job runs on those. 82 where the book
+/// has refused an end, upon which all workers leave, or where what was closed isn't the job's, or
+/// isn't as the workers noted. 99 where there was no memory ahead of the first thread, or for what
+/// the workers noted, once all have left. The call returns if its waits do.
 #[tactic(auto, using(crate::proofs::NotedLemmas::all_alone))]
 pub fn run_job<R: Threads + Wait + Sync, G: Gate + Sync>(
     rt: &R,

@@ -6,12 +6,12 @@ ghost use Rattle.helpers.specs.Table.{job_table};
 ghost use Rattle.helpers.specs.declared.spawner.SpawnRecord.{SpawnRecord};
 ghost use Rattle.verifier.specs.Checked.{program_of, IsVerified};
 ghost use Rattle.job_core.specs.Admitted.{AreOwn};
-ghost use Rattle.task_arena.specs.Fresh.{zeroed};
+ghost use Rattle.interpreter.specs.Behind.{zeroed};
 ghost use Rattle.solo.specs.Through.{GoesThrough};
 ghost use Rattle.workers.specs.Outcomes.{IsOutcome, IsRunBy, Suffices};
 
 use crate::gate::Gate;
-use crate::outcome::unrun;
+use crate::outcome::unrun_outcome;
 use credit_book::{Outcome, Ticket};
 use helpers::{Entry, Spawner};
 use interpreter::{Credit, Frame};
@@ -20,7 +20,8 @@ use std::alloc::Global;
 use task_arena::Frames;
 use verifier::Verified;
 
-/// What a spawn has to know of the program of this number, if the list has it. It asks for at most 65,536 programs.
+/// What a spawn has to know of the program of this number, if the list has it. The call asks for at
+/// most 65,536 programs.
 pub fn entry_in(programs: &[Verified], program: u64) -> Option<Entry>
     requires { length programs.now ≤ 65536 }
     ensures entry { result ≡ entries_of (map program_of programs.now) program }
@@ -54,7 +55,8 @@ fn run_ticket<'c, 's, 'g, S: Spawner, G: Gate>(
     requires suffices { Suffices task.1.now task.0 }
     requires takes_any { (s : S) (child : SpawnRecord) → S.asks s child }
     ensures alone { IsRunBy task.entry.1.now (S.entries task.entry.2.now) task.entry.0
-        (λ asked. GoesThrough S.spawns task.entry.0.part.base task.entry.2.now asked result.1.now) result.0 }
+        (λ asked. GoesThrough S.spawns task.entry.0.part.base task.entry.2.now asked result.1.now)
+        result.0 }
     ensures entries { S.entries result.1.now ≡ S.entries task.entry.2.now }
     ensures same { result.1.ghost_name ≡ task.entry.2.ghost_name }
 {
@@ -82,8 +84,9 @@ fn run_ticket<'c, 's, 'g, S: Spawner, G: Gate>(
 
 /// Runs the ticket's task to its end, by itself, on a frame of zeros, or not at all.
 ///
-/// It isn't run where no frame can be had, or where the list has no program of its number, its credit is under the program's cost or
-/// over 2,147,483,647, or its part is shorter than the program's need. It asks for programs that may call a job's helpers alone, and for a
+/// The task isn't run where no frame can be had, or where the list has no program of its number,
+/// its credit is under the program's cost or over 2,147,483,647, or its part is shorter than the
+/// program's need. The call asks for programs that may call a job's helpers alone, and for a
 /// spawner that takes any record and knows the programs of the list.
 pub fn work_one<S: Spawner, G: Gate>(
     alloc: Global,
@@ -96,15 +99,16 @@ pub fn work_one<S: Spawner, G: Gate>(
     requires own { AreOwn programs.now }
     requires knows { S.entries spawner.old ≡ entries_of (map program_of programs.now) }
     requires takes_any { (s : S) (child : SpawnRecord) → S.asks s child }
-    ensures outcome { IsOutcome programs.now ticket (λ asked. GoesThrough S.spawns ticket.part.base spawner.old asked spawner.new)
+    ensures outcome { IsOutcome programs.now ticket
+        (λ asked. GoesThrough S.spawns ticket.part.base spawner.old asked spawner.new)
         (spawner.new ≡ spawner.old) result }
     ensures entries { S.entries spawner.new ≡ S.entries spawner.old }
 {
     let Some(code) = programs.get(ticket.program() as usize) else {
-        return unrun(ticket);
+        return unrun_outcome(ticket);
     };
     if !suffices(code, &ticket) {
-        return unrun(ticket);
+        return unrun_outcome(ticket);
     }
     match frames.with_frame(
         ticket.job(),
@@ -117,7 +121,7 @@ pub fn work_one<S: Spawner, G: Gate>(
         }
         Err((ticket, _, back, _, _)) => {
             let _ = back;
-            unrun(ticket)
+            unrun_outcome(ticket)
         }
     }
 }

@@ -8,13 +8,13 @@ use Rattle.job_core.proofs.admission.verify_each.Goals as goal
 pub loop-program-init : goal.loop-program-init
 loop-program-init c = rw (c.new-accepted.ensures.items) (accepted_none c.args.programs.now)
 
-pub refused-requires : goal.refused-requires
-refused-requires c = omega (arith, c.len.ensures, c.loop-program.invariant.many, c.loop-program-test.true, c.requires)
+pub admit_fault-requires : goal.admit_fault-requires
+admit_fault-requires c = omega (arith, c.len.ensures, c.loop-program.invariant.many, c.loop-program-test.true, c.requires)
 
 pub returns-in-Err-clause-refused : goal.returns-in-Err-clause-refused
 returns-in-Err-clause-refused c =
     let count : c.len.result ≡ c.loop-program.program-index = omega (arith, c.len.ensures, c.loop-program.invariant.many) in
-    rw (c.refused.ensures) (rw count
+    rw (c.admit_fault.ensures) (rw count
     (first_fault c.args.programs.now c.loop-program.program-index c.loop-program.accepted.items c.program-item.result c.in-Err.refusal
     c.loop-program.invariant
     (slice_get_read c.args.programs.now (length c.args.programs.now) c.loop-program.program-index c.program-item.result refl c.loop-program-test.true c.program-item.is)

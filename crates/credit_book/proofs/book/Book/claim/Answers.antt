@@ -1,11 +1,9 @@
-use Rattle.std.proofs.Common.{◌≡◌, ℕ, ◌+◌, ◌≤◌, get_or, set, sym, ap, ◌∙◌, refl, subst, arith, ◌++◌, ◌∷◌, [], map, length, length-set}
-use Rattle.std.specs.VecDeque.{deque_capacity}
+use Rattle.std.proofs.Common.{◌≡◌, get_or, ap, ◌∙◌, refl, arith, map, length, length-set}
 use Rattle.credit_book.specs.declared.event.Event.TheVariants.{Claim}
 use Rattle.credit_book.specs.declared.event.Stage.TheVariants.{Claimed}
 use Rattle.credit_book.specs.declared.event.Standing.{Standing}
 use Rattle.credit_book.specs.declared.task.Ticket.{Ticket}
-use Rattle.credit_book.specs.Books.{Account, IsBook}
-use Rattle.credit_book.proofs.Books.{gone, Spawned, claimed, claim_within, same_numbers, posted-quiet}
+use Rattle.credit_book.proofs.Books.{gone, claimed, claim_within, same_numbers, posted-quiet}
 use Rattle.credit_book.proofs.BufferLemmas.{collected-quiet}
 use Rattle.credit_book.proofs.book.Book.claim.Goals as goal
 

@@ -1,10 +1,7 @@
-use Rattle.std.proofs.Common.{◌≡◌, ℕ, ◌+◌, ◌-◌, ◌≤◌, Bool, true, List, get_or, sym, ap, ◌∙◌, subst, arith, eq-eqb, eqb-true, ◌++◌, ◌∷◌, [], map, length, length-set}
+use Rattle.std.proofs.Common.{ℕ, ◌-◌, ◌≤◌, sym, ap, ◌∙◌, subst, arith, eq-eqb, eqb-true, ◌++◌, ◌∷◌, [], length-set}
 use Rattle.std.specs.VecDeque.{deque_capacity}
-use Rattle.credit_book.specs.declared.event.Standing.{Standing}
-use Rattle.credit_book.specs.declared.task.Ticket.{Ticket}
 use Rattle.credit_book.specs.Boards.{Sign}
-use Rattle.credit_book.specs.Books.{Account, IsBook, end_event}
-use Rattle.credit_book.specs.History.{may_work, table_of, standing_at, IsComplete}
+use Rattle.credit_book.specs.Books.{Account, end_event}
 use Rattle.credit_book.proofs.Books.{gone, Read, read, end_legal, posted_prefix, posted-all, end_within_tasks, end_fits, issued_small, end_amount, end_book_as, book_complete, on_board}
 use Rattle.credit_book.proofs.BufferLemmas.{collected-end, length-collected}
 use Rattle.credit_book.proofs.book.Book.end.Goals as goal

@@ -1,10 +1,9 @@
-use Rattle.std.proofs.Common.{◌≡◌, ℕ, ◌+◌, ◌≤◌, true, get_or, set, sym, ap, ◌∙◌, refl, subst, arith, ◌++◌, ◌∷◌, [], map, length, length-set, length-append}
-use Rattle.std.specs.VecDeque.{deque_capacity}
+use Rattle.std.proofs.Common.{◌≡◌, true, get_or, sym, ap, ◌∙◌, refl, arith, ◌++◌, ◌∷◌, [], map, length-set}
 use Rattle.credit_book.specs.declared.event.Event.TheVariants.{Park}
 use Rattle.credit_book.specs.declared.event.Stage.TheVariants.{Parked}
 use Rattle.credit_book.specs.declared.event.Standing.{Standing}
 use Rattle.credit_book.specs.declared.task.Ticket.{Ticket}
-use Rattle.credit_book.specs.Books.{Account, IsBook}
+use Rattle.credit_book.specs.Books.{Account}
 use Rattle.credit_book.specs.History.{is_fresh}
 use Rattle.credit_book.proofs.Books.{gone, quiet_word, posted-quiet, quiet_book, park_becomes, sound_book, numbers-push, length-numbers}
 use Rattle.credit_book.proofs.Sound.{parked_lt}

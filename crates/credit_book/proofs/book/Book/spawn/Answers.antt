@@ -1,12 +1,11 @@
-use Rattle.std.proofs.Common.{◌≡◌, ◌≢◌, ℕ, ◌+◌, ◌-◌, ◌<◌, ◌≤◌, true, List, get_or, set, sym, ap, ◌∙◌, refl, subst, arith, ◌++◌, ◌∷◌, [], map, length, length-set, length-append}
-use Rattle.std.specs.VecDeque.{deque_capacity}
+use Rattle.std.proofs.Common.{◌≡◌, ◌≢◌, ℕ, ◌-◌, get_or, set, sym, ap, ◌∙◌, refl, arith, ◌++◌, ◌∷◌, [], map, length, length-set, length-append}
 use Rattle.credit_book.specs.declared.event.Event.TheVariants.{Spawn}
 use Rattle.credit_book.specs.declared.event.Stage.TheVariants.{Fresh}
 use Rattle.credit_book.specs.declared.event.Standing.{Standing}
 use Rattle.credit_book.specs.declared.task.Ticket.{Ticket}
-use Rattle.credit_book.specs.Books.{Account, IsBook, spawn_event, ticket_of}
-use Rattle.credit_book.specs.History.{Table, table_of, may_work}
-use Rattle.credit_book.proofs.Books.{gone, table_with, Spawned, spawned, child_small, tasks_number, same_numbers, same_book, not_failed, posted-quiet}
+use Rattle.credit_book.specs.Books.{Account, spawn_event, ticket_of}
+use Rattle.credit_book.specs.History.{table_of}
+use Rattle.credit_book.proofs.Books.{gone, spawned, child_small, tasks_number, same_book, not_failed, posted-quiet}
 use Rattle.credit_book.proofs.BufferLemmas.{collected-quiet}
 use Rattle.credit_book.proofs.book.Book.spawn.Goals as goal
 
