@@ -1,8 +1,6 @@
 -- The numbers of the refusals, and what else they tell.
 use Rattle.std.specs.Prelude.{ℕ, Option, Some, None}
-use Rattle.job_core.specs.Admission.{number_of, slot_of}
-use Rattle.job_core.specs.declared.admission.AdmitFault.{AdmitFault}
-use Rattle.job_core.specs.declared.admission.AdmitFault.TheVariants as admit
+use Rattle.job_core.specs.Admission.{number_of, place_of, slot_of}
 use Rattle.accounts.specs.declared.fault.DeskFault.{DeskFault}
 use Rattle.accounts.specs.declared.fault.DeskFault.TheVariants as desk
 use Rattle.accounts.specs.declared.fault.SubmitFault.{SubmitFault}
@@ -21,20 +19,11 @@ submit_code submit.NoTenant = 74
 submit_code submit.BalanceLow = 75
 submit_code (submit.Admit fault) = number_of fault
 
--- the place of the program that a job isn't admitted for
-abbrev pub program_of : AdmitFault → Option ℕ
-program_of admit.NoPrograms = None
-program_of admit.TooManyPrograms = None
-program_of admit.TooLarge = None
-program_of (admit.Program index refusal) = Some index
-program_of admit.CreditLow = None
-program_of admit.BufferShort = None
-program_of admit.NoMemory = None
-
+-- the place of the program that it tells, if it tells one
 abbrev pub submit_program : SubmitFault → Option ℕ
 submit_program submit.NoTenant = None
 submit_program submit.BalanceLow = None
-submit_program (submit.Admit fault) = program_of fault
+submit_program (submit.Admit fault) = place_of fault
 
 -- the slot that it tells, if it tells one
 abbrev pub submit_slot : SubmitFault → Option ℕ

@@ -13,8 +13,8 @@ const MOST_GRANTED: u64 = 1_000_000_000_000;
 
 /// Tenants and their jobs.
 ///
-/// A tenant's sums are kept beside its name, so that no call goes over the jobs: tenants are found by a search in a tree, and jobs,
-/// whose numbers run from 1, by their place.
+/// A tenant's sums are kept beside its name, so that no call goes over the jobs: tenants are found
+/// by a search in a tree, and jobs, whose numbers run from 1, by their place.
 #[derive(Drop)]
 pub struct Desk {
     tenants: BTreeMap<String, Sums>,
@@ -62,11 +62,13 @@ impl Desk {
 
     /// Grants credit to a tenant, which is made if it is new, and answers its account.
     ///
-    /// 65 where its grants would pass 1,000,000,000,000 in all, and 99 where a growth was refused, which only a new tenant asks for.
+    /// 65 where its grants would pass 1,000,000,000,000 in all, and 99 where a growth was refused,
+    /// which only a new tenant asks for.
     #[tactic(auto, unfolding(crate::specs::Ledgers::account_at))]
     pub fn grant(&mut self, alloc: Global, tenant: &str, amount: u32) -> Result<Account, DeskFault>
         ensures granted { OnOk result (GrantsMore self.old tenant.now amount self.new) }
-        ensures within { OnOk result (unwrap_or (granted_to self.old tenant.now) 0 + amount ≤ most_granted) }
+        ensures within { OnOk result (unwrap_or (granted_to self.old tenant.now) 0 + amount
+            ≤ most_granted) }
         ensures account { IfOk result (λ _. result ≡ account_at self.new tenant.now) }
         ensures refused { IfErr result (λ e. RefusesGrant self.old tenant.now amount e) }
         ensures unchanged { OnErr result (self.new ≡ self.old) }
@@ -93,10 +95,11 @@ impl Desk {
         }
     }
 
-    /// Takes a job, and answers its number, counted from 1: its credit goes from the tenant's balance to what it has open.
+    /// Takes a job, and answers its number, counted from 1: its credit goes from the tenant's
+    /// balance to what it has open.
     ///
-    /// 74 where the tenant was granted nothing, then 75 where the credit is over its balance, then what [`admit`] refuses, then 99. A
-    /// refusal uses up no number.
+    /// 74 where the tenant was granted nothing, then 75 where the credit is over its balance, then
+    /// what [`admit`] refuses, then 99. A refusal uses up no number.
     pub fn submit(
         &mut self,
         alloc: Global,
@@ -108,7 +111,8 @@ impl Desk {
         ensures taken { OnOk result (Takes self.old tenant.now credit self.new) }
         ensures number { IfOk result (λ taken. taken.0 ≡ length self.new.jobs) }
         ensures admitted { IfOk result (λ taken. IsAdmittedFrom programs.now credit buffer.items taken.1) }
-        ensures refused { IfErr result (λ e. RefusesSubmit self.old tenant.now programs.now credit buffer.items e) }
+        ensures refused { IfErr result
+            (λ e. RefusesSubmit self.old tenant.now programs.now credit buffer.items e) }
         ensures unchanged { OnErr result (self.new ≡ self.old) }
     {
         let Some(sums) = sums_of(&self.tenants, tenant) else {
@@ -130,10 +134,12 @@ impl Desk {
         Ok((self.jobs.len() as u64, job))
     }
 
-    /// Ends an open job with its report, or with the number of what it failed by; 76 where no open job has the number.
+    /// Ends an open job with its report, or with the number of what it failed by; 76 where no open
+    /// job has the number.
     ///
-    /// What the report has spent is spent, and the rest of the job's credit is back in the balance. A report whose spent and returned
-    /// don't add up to the credit counts as 82; with a number the whole credit goes back.
+    /// What the report has spent is spent, and the rest of the job's credit is back in the balance.
+    /// A report whose spent and returned don't add up to the credit counts as 82; with a number the
+    /// whole credit goes back.
     pub fn finish(&mut self, job: u64, outcome: Result<Report, u8>) -> Result<(), DeskFault>
         ensures finished { OnOk result (Finishes self.old job outcome self.new) }
         ensures refused { IfErr result (λ e. (e ≡ fault.NoJob) × IsNotOpen self.old job) }
@@ -180,10 +186,12 @@ impl Desk {
         }
     }
 
-    /// The report of a job; 76 where there is no such job, 77 while it is open, or the number that it failed by.
+    /// The report of a job; 76 where there is no such job, 77 while it is open, or the number that
+    /// it failed by.
     #[tactic(auto, unfolding(crate::specs::Ledgers::report_at))]
     pub fn result(&self, job: u64) -> Result<&Report, DeskFault>
-        ensures { MatchResult result (λ report. report_at self.now job ≡ Ok report.now) (λ e. report_at self.now job ≡ Err e) }
+        ensures { MatchResult result (λ report. report_at self.now job
+            ≡ Ok report.now) (λ e. report_at self.now job ≡ Err e) }
     {
         let Some(entry) = entry_at(&self.jobs, job) else {
             return Err(DeskFault::NoJob);

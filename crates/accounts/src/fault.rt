@@ -9,25 +9,25 @@ use std::alloc::AllocError;
 use thiserror::Error;
 
 /// Why an account or a job isn't told or changed.
-#[derive(Clone, Copy, Debug, PartialEq, Eq, Error)]
+#[derive(Clone, Copy, Debug, PartialEq, Eq, Hash, Error)]
 pub enum DeskFault {
     /// The tenant was granted nothing: 74.
-    #[error("no such tenant")]
+    #[error("74: no such tenant")]
     NoTenant,
     /// There is no such job, or none that is open: 76.
-    #[error("no such job")]
+    #[error("76: no such job")]
     NoJob,
     /// The job is still open: 77.
-    #[error("job under way")]
+    #[error("77: job under way")]
     NotComplete,
     /// A tenant's grants are at most 1,000,000,000,000 in all: 65.
-    #[error("grants over their limit")]
+    #[error("65: grants over their limit")]
     TooLarge,
     /// The job failed with the refusal of this number.
-    #[error("job failed with refusal {0}")]
+    #[error("{0}: job failed")]
     Failed(u8),
     /// A growth was refused: 99.
-    #[error("out of memory")]
+    #[error("99: out of memory")]
     NoMemory,
 }
 
@@ -58,13 +58,13 @@ impl From<NoMemory> for DeskFault {
 }
 
 /// Why a job isn't taken.
-#[derive(Clone, Copy, Debug, PartialEq, Eq, Error)]
+#[derive(Clone, Copy, Debug, PartialEq, Eq, Hash, Error)]
 pub enum SubmitFault {
     /// The tenant was granted nothing: 74.
-    #[error("no such tenant")]
+    #[error("74: no such tenant")]
     NoTenant,
     /// The credit is over the balance: 75.
-    #[error("credit over the balance")]
+    #[error("75: credit over the balance")]
     BalanceLow,
     /// The job isn't admitted, or a growth was refused: the number is that of the refusal.
     #[error("{0}")]
@@ -88,7 +88,7 @@ impl SubmitFault {
         ensures { result ≡ submit_program self.now }
     {
         match self {
-            SubmitFault::Admit(AdmitFault::Program(index, _)) => Some(*index),
+            SubmitFault::Admit(fault) => fault.program(),
             _ => None,
         }
     }

@@ -78,7 +78,9 @@ pub fn settle(credit: u32, outcome: Result<Report, u8>) -> Standing
 /// Notes how a job stands.
 pub fn note(jobs: &mut Vec<JobEntry>, job: u64, standing: Standing)
     requires { (entry : JobEntry) × (job_at jobs.old.items job ≡ Some entry) }
-    ensures { (entry : JobEntry) → job_at jobs.old.items job ≡ Some entry → jobs.new.items ≡ slice_set jobs.old.items (job - 1) (record entry { standing = standing }) }
+    ensures { (entry : JobEntry) → job_at jobs.old.items job ≡ Some entry
+        → jobs.new.items
+        ≡ slice_set jobs.old.items (job - 1) (record entry { standing = standing }) }
 {
     jobs[(job - 1) as usize].standing = standing;
 }

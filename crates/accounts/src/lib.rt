@@ -5,8 +5,7 @@
 mod jobs;
 mod tenants;
 
-pub use jobs::{JobEntry, Standing};
-pub use tenants::{Account, Sums};
+pub use tenants::Account;
 
 // what is asked of it
 mod desk;

@@ -19,7 +19,8 @@ pub struct Sums {
     pub spent: u64,
 }
 
-/// A tenant's account: its grants, what is left of them, the credit of its open jobs, and what its jobs spent.
+/// A tenant's account: its grants, what is left of them, the credit of its open jobs, and what its
+/// jobs spent.
 #[derive(Clone, Copy, Debug, PartialEq, Eq)]
 pub struct Account {
     pub granted: u64,
@@ -57,7 +58,9 @@ pub fn sums_of(tenants: &BTreeMap<String, Sums>, name: &str) -> Option<Sums>
 /// Changes the sums of a tenant that is there.
 pub fn change(tenants: &mut BTreeMap<String, Sums>, name: &str, sums: Sums)
     requires { (old : Sums) × (tree.get_by_text tenants.old name.now ≡ Some old) }
-    ensures { (q : List ℕ) → tree.get_by_text tenants.new q ≡ update bytes_eq (tree.get_by_text tenants.old) name.now (Some sums) q }
+    ensures { (q : List ℕ)
+        → tree.get_by_text tenants.new q
+        ≡ update bytes_eq (tree.get_by_text tenants.old) name.now (Some sums) q }
 {
     if let Some(tenant) = tenants.get_mut(name) {
         *tenant = sums;
@@ -71,7 +74,9 @@ pub fn add(
     name: &str,
     sums: Sums,
 ) -> Result<(), NoMemory>
-    ensures ok { OnOk result ((q : List ℕ) → tree.get_by_text tenants.new q ≡ update bytes_eq (tree.get_by_text tenants.old) name.now (Some sums) q) }
+    ensures ok { OnOk result ((q : List ℕ)
+        → tree.get_by_text tenants.new q
+        ≡ update bytes_eq (tree.get_by_text tenants.old) name.now (Some sums) q) }
     ensures err { OnErr result (tenants.new.entries ≡ tenants.old.entries) }
 {
     let name = String::from_str(alloc, name)?;

@@ -30,7 +30,8 @@ fn answers_to(alloc: Global, session: &mut Session, piece: &[u8]) -> Result<(Hea
     Ok((first, second))
 }
 
-// Nothing is answered to a frame before its last byte is there, and then it is answered once, as if it had come whole.
+// Nothing is answered to a frame before its last byte is there, and then it is answered once, as if
+// it had come whole.
 #[test]
 fn waits_for_each_byte_of_a_frame(rt: HostRuntime) -> Result<(), Fail> {
     let alloc = rt.alloc();
@@ -57,8 +58,8 @@ fn waits_for_each_byte_of_a_frame(rt: HostRuntime) -> Result<(), Fail> {
     Ok(())
 }
 
-/// Whether a session may answer this to the beginning of a text. No object or array is read before its last bracket; else the
-/// beginning may be a text of its own.
+/// Whether a session may answer this to the beginning of a text. No object or array is read before
+/// its last bracket; else the beginning may be a text of its own.
 fn may_answer(beginning: &[u8], answer: Heard) -> bool {
     let begun = beginning.trim_ascii();
     let is_nested = matches!(begun.first(), Some(b'{' | b'['));
@@ -71,7 +72,8 @@ fn may_answer(beginning: &[u8], answer: Heard) -> bool {
     }
 }
 
-// A frame that holds the beginning of a request is answered once, by name where it is no request, and the session goes on.
+// A frame that holds the beginning of a request is answered once, by name where it is no request,
+// and the session goes on.
 #[test]
 fn refuses_each_beginning_of_a_text(rt: HostRuntime) -> Result<(), Fail> {
     let alloc = rt.alloc();

@@ -8,7 +8,8 @@ use sessions::{Request, job_object};
 use std::alloc::Global;
 use std::test::Fail;
 
-/// Asks for a child with a share of 10 and its last 4 bytes, and stores the answer in its first byte. It needs 4 bytes, and costs 24.
+/// Asks for a child with a share of 10 and its last 4 bytes, and stores the answer in its first
+/// byte. It needs 4 bytes, and costs 24.
 const ROOT: &str =
     "bf16000000000000b701000001000000b70200000a000000b703000004000000b70400000900000085000000010000007306000000000000b7000000000000009500000000000000";
 
@@ -155,7 +156,8 @@ fn keeps_an_open_job_apart(rt: HostRuntime) -> Result<(), Fail> {
     Ok(())
 }
 
-/// The number that a job failed by, and what its report told of spent and returned where that is 82.
+/// The number that a job failed by, and what its report told of spent and returned where that is
+/// 82.
 const FAILURES: [(u8, u32, u32); 5] = [
     (81, 0, 0),
     (99, 0, 0),

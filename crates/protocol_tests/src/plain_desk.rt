@@ -1,4 +1,5 @@
-//! The accounts as a plain list of entries: what was granted to each tenant, and each job. Sums are taken anew for each answer.
+//! The accounts as a plain list of entries: what was granted to each tenant, and each job. Sums are
+//! taken anew for each answer.
 
 use std::alloc::{AllocError, Global};
 
@@ -94,7 +95,8 @@ impl PlainDesk {
         Ok(self.account(tenant))
     }
 
-    /// The number of the job, or why it isn't taken: its program ends without its R0 where it is bad, and costs 2 where it isn't.
+    /// The number of the job, or why it isn't taken: its program ends without its R0 where it is
+    /// bad, and costs 2 where it isn't.
     pub(crate) fn submit(
         &mut self,
         tenant: usize,

@@ -1,4 +1,5 @@
-//! A desk and a plain list of entries, over the same calls: they answer alike, and have the same sums after each call.
+//! A desk and a plain list of entries, over the same calls: they answer alike, and have the same
+//! sums after each call.
 
 use crate::plain_desk::{PlainAccount, PlainDesk, PlainStanding};
 use accounts::{Account, Desk, DeskFault};
@@ -112,7 +113,8 @@ fn finish(alloc: Global, desk: &mut Desk, number: u64, standing: PlainStanding) 
     code_of(&desk.finish(number, outcome))
 }
 
-/// What the desk says of a job: whether it is open, its report or its code, and its number where there is none.
+/// What the desk says of a job: whether it is open, its report or its code, and its number where
+/// there is none.
 fn told(desk: &Desk, number: u64) -> Result<PlainStanding, u8> {
     let seen = Progress {
         spent: 1,

@@ -186,7 +186,7 @@ fn reads_job_objects(rt: HostRuntime) -> Result<(), Fail> {
     }
     assert_eq!(rt;
         format!(in alloc; "{}", SessionFault::BadRequest)?.as_str(),
-        "no such request"
+        "73: no such request"
     );
     Ok(())
 }

@@ -1,4 +1,5 @@
-//! A server in one thread: a desk answers the requests, and each job is played as soon as it is taken, first its task 0, then its task 1.
+//! A server in one thread: a desk answers the requests, and each job is played as soon as it is
+//! taken, first its task 0, then its task 1.
 
 use crate::framing::behind_length;
 use accounts::{Account, Desk, DeskFault};
@@ -132,7 +133,8 @@ fn result_frame(alloc: Global, desk: &Desk, job: u64) -> Result<Vec<u8>, Fail> {
     Ok(reply_frame(alloc, &reply)?)
 }
 
-/// Feeds a piece, and answers each request that is whole now. After a frame that is too long comes one reply more, and it is told.
+/// Feeds a piece, and answers each request that is whole now. After a frame that is too long comes
+/// one reply more, and it is told.
 pub(crate) fn serve_piece(
     alloc: Global,
     session: &mut Session,

@@ -1,5 +1,5 @@
 -- What the codec leaves where it finds no memory for a frame.
-use Rattle.std.proofs.Common.{◌≡◌, ℕ, ◌≤◌, ◌<◌, List, ◌++◌, length, take, drop, Err, refl, sym, ap, ◌∙◌, subst, inl, inr}
+use Rattle.std.proofs.Common.{◌≡◌, ℕ, List, ◌++◌, length, take, drop, Err, refl, sym, ap, ◌∙◌, subst, inl, inr}
 use Rattle.std.proofs.lemmas.Bool.{cases_lt}
 use Rattle.std.proofs.lemmas.List.{take-append-drop}
 use Rattle.std.specs.declared.io.Error.{Error}
@@ -10,9 +10,9 @@ use Rattle.tokio_util.specs.Codec.LengthDelimited.{codec_layout, IsAtHead, Cut, 
 use Rattle.tokio_util.specs.Codec.LengthDelimited.{gives_frames}
 use Rattle.tokio_util.specs.Codec.LengthDelimitedLaws.{cut_payload_whole, cut_payload_short}
 use Rattle.tokio_util.specs.Codec.Next.{Decodes}
-use Rattle.sessions.specs.Frames.{Front, whole, front}
+use Rattle.sessions.specs.Frames.{whole, front}
 use Rattle.sessions.specs.Layout.{frame_layout}
-use Rattle.sessions.specs.Session.{IsLeftAt, at_its_length, at_its_payload, behind_it}
+use Rattle.sessions.specs.Session.{IsLeftAt, at_its_length, at_its_payload}
 use Rattle.sessions.proofs.Cuts.{front_of, cut_is_front, cut_fresh}
 
 -- a payload that is cut stood before what follows it

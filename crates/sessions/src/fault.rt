@@ -7,19 +7,19 @@ use std::alloc::{AllocError, AllocFailed};
 use thiserror::Error;
 
 /// Why a session gives no request, or a text is no job object.
-#[derive(Clone, Copy, Debug, PartialEq, Eq, Error)]
+#[derive(Clone, Copy, Debug, PartialEq, Eq, Hash, Error)]
 pub enum SessionFault {
     /// A frame's length is over 1,048,576 bytes: 71. The session answers nothing else from then on.
-    #[error("frame over 1048576 bytes")]
+    #[error("71: frame over 1048576 bytes")]
     FrameTooLarge,
     /// The bytes are no JSON: 72.
-    #[error("no JSON")]
+    #[error("72: no JSON")]
     NotJson,
     /// The JSON is no request, or no job object: 73.
-    #[error("no such request")]
+    #[error("73: no such request")]
     BadRequest,
     /// A growth was refused: 99.
-    #[error("out of memory")]
+    #[error("99: out of memory")]
     NoMemory,
 }
 

@@ -43,7 +43,8 @@ pub(crate) fn number_member(value: &Value, key: &str, low: u64, high: u64) -> Op
 #[tactic(auto, unfolding(crate::specs::Grammar::bytes_at))]
 pub(crate) fn bytes_member(alloc: Global, value: &Value, key: &str) -> Result<Vec<u8>, SessionFault>
     ensures ok { IfOk result (λ bytes. bytes_at key.now (view value.now) ≡ Some bytes.items) }
-    ensures err { IfErr result (λ e. (e ≢ NoMemory) → (e ≡ BadRequest) × (bytes_at key.now (view value.now) ≡ None)) }
+    ensures err { IfErr result (λ e. (e ≢ NoMemory) → (e ≡ BadRequest)
+        × (bytes_at key.now (view value.now) ≡ None)) }
 {
     let Some(text) = text_member(value, key) else {
         return Err(SessionFault::BadRequest);

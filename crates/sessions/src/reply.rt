@@ -1,26 +1,32 @@
 //! Replies, and the JSON that says them.
 
-ghost use Rattle.std.specs.Prelude.{◌≡◌, ◌≤◌, IfOk, length, map};
+ghost use Rattle.std.specs.Prelude.{◌≡◌, ◌≤◌, ◌++◌, false, IfOk, OnOk, decimal, length, map};
 ghost use Rattle.serde_json.specs.View.{view};
+ghost use Rattle.serde_json.specs.Written.{compact_text, has_float};
 ghost use Rattle.sessions.specs.Frames.{framed};
 ghost use Rattle.sessions.specs.Replies.{refusal_data, account_data, submit_data, status_data, play_data, task_data, result_data, reply_data, text_of, frame_of};
 
 use credit_book::TaskEnd;
+use itoa::Buffer;
 use refusal::NoMemory;
 use serde_json::{Value, json};
 use std::alloc::{AllocError, Global};
 
+/// Room for a reply without bytes and tasks.
+const ROOM: usize = 128;
+
 /// What is answered.
 #[derive(Clone, Copy, Debug)]
 pub enum Reply<'a> {
-    /// The number of a refusal; of a program that isn't accepted also its place among the job's programs and, where it has one,
-    /// the slot.
+    /// The number of a refusal; of a program that isn't accepted also its place among the job's
+    /// programs and, where it has one, the slot.
     Refused {
         code: u8,
         program: Option<u32>,
         slot: Option<u32>,
     },
-    /// What a tenant was granted, what is left of it, what its open jobs hold, and what its jobs have spent.
+    /// What a tenant was granted, what is left of it, what its open jobs hold, and what its jobs
+    /// have spent.
     Account {
         balance: u64,
         granted: u64,
@@ -55,43 +61,63 @@ pub enum Reply<'a> {
     },
 }
 
-#[tactic(auto, unfolding(crate::specs::Replies::refusal_data))]
-fn refusal_value(
-    alloc: Global,
+// Some JSON, and a number after it.
+fn put_number(out: &mut Vec<u8>, lead: &[u8], number: u64) -> Result<(), AllocError>
+    ensures { OnOk result (out.new.items ≡ out.old.items ++ (lead.now ++ decimal number)) }
+{
+    out.extend_from_slice(lead)?;
+    let mut digits = Buffer::new();
+    out.extend_from_slice(digits.format(number).as_bytes())
+}
+
+fn write_refusal(
+    out: &mut Vec<u8>,
     code: u8,
     program: Option<u32>,
     slot: Option<u32>,
-) -> Result<Value, AllocError>
-    ensures { IfOk result (λ v. view v ≡ refusal_data code program slot) }
+) -> Result<(), AllocError>
+    ensures { OnOk result (out.new.items ≡ out.old.items
+        ++ compact_text (refusal_data code program slot)) }
 {
-    match program {
-        None => json!(in alloc; {"code": code, "ok": false}),
-        Some(program) => match slot {
-            None => json!(in alloc; {"code": code, "ok": false, "program": program}),
-            Some(slot) =>
-                json!(in alloc; {"code": code, "ok": false, "program": program, "slot": slot}),
-        },
-    }
+    put_number(out, b"{\"code\":", u64::from(code))?;
+    let Some(program) = program else {
+        out.extend_from_slice(b",\"ok\":false}")?;
+        return Ok(());
+    };
+    put_number(out, b",\"ok\":false,\"program\":", u64::from(program))?;
+    let Some(slot) = slot else {
+        out.extend_from_slice(b"}")?;
+        return Ok(());
+    };
+    put_number(out, b",\"slot\":", u64::from(slot))?;
+    out.extend_from_slice(b"}")?;
+    Ok(())
 }
 
-#[tactic(auto, unfolding(crate::specs::Replies::account_data))]
-fn account_value(
-    alloc: Global,
+fn write_account(
+    out: &mut Vec<u8>,
     balance: u64,
     granted: u64,
     opened: u64,
     spent: u64,
-) -> Result<Value, AllocError>
-    ensures { IfOk result (λ v. view v ≡ account_data balance granted opened spent) }
+) -> Result<(), AllocError>
+    ensures { OnOk result (out.new.items ≡ out.old.items
+        ++ compact_text (account_data balance granted opened spent)) }
 {
-    json!(in alloc; {"balance": balance, "granted": granted, "ok": true, "open": opened, "spent": spent})
+    put_number(out, b"{\"balance\":", balance)?;
+    put_number(out, b",\"granted\":", granted)?;
+    put_number(out, b",\"ok\":true,\"open\":", opened)?;
+    put_number(out, b",\"spent\":", spent)?;
+    out.extend_from_slice(b"}")?;
+    Ok(())
 }
 
-#[tactic(auto, unfolding(crate::specs::Replies::submit_data))]
-fn submit_value(alloc: Global, job: u64) -> Result<Value, AllocError>
-    ensures { IfOk result (λ v. view v ≡ submit_data job) }
+fn write_submit(out: &mut Vec<u8>, job: u64) -> Result<(), AllocError>
+    ensures { OnOk result (out.new.items ≡ out.old.items ++ compact_text (submit_data job)) }
 {
-    json!(in alloc; {"job": job, "ok": true})
+    put_number(out, b"{\"job\":", job)?;
+    out.extend_from_slice(b",\"ok\":true}")?;
+    Ok(())
 }
 
 #[tactic(auto, unfolding(crate::specs::Replies::status_data))]
@@ -164,33 +190,47 @@ fn play_value(
     json!(in alloc; {"buffer": buffer.as_str(), "complete": complete, "held": held, "ok": true, "returned": returned, "spent": spent, "used": used})
 }
 
-fn reply_value(alloc: Global, reply: &Reply) -> Result<Value, AllocError>
-    ensures { IfOk result (λ v. view v ≡ reply_data reply.now) }
+// A reply that holds bytes or tasks goes by a value: its text is long beside what that costs.
+fn write_value(alloc: Global, out: &mut Vec<u8>, value: &Value) -> Result<(), AllocError>
+    requires { has_float (view value.now) ≡ false }
+    ensures { OnOk result (out.new.items ≡ out.old.items ++ compact_text (view value.now)) }
+{
+    let text = value.to_vec(alloc)?;
+    out.extend_from_slice(text.as_slice())?;
+    Ok(())
+}
+
+fn write_reply(alloc: Global, out: &mut Vec<u8>, reply: &Reply) -> Result<(), AllocError>
+    ensures { OnOk result (out.new.items ≡ out.old.items ++ text_of reply.now) }
 {
     match *reply {
         Reply::Refused {
             code,
             program,
             slot,
-        } => refusal_value(alloc, code, program, slot),
+        } => write_refusal(out, code, program, slot),
         Reply::Account {
             balance,
             granted,
             opened,
             spent,
-        } => account_value(alloc, balance, granted, opened, spent),
-        Reply::Submit { job } => submit_value(alloc, job),
+        } => write_account(out, balance, granted, opened, spent),
+        Reply::Submit { job } => write_submit(out, job),
         Reply::Status {
             complete,
             returned,
             spent,
-        } => status_value(alloc, complete, returned, spent),
+        } => write_value(alloc, out, &status_value(alloc, complete, returned, spent)?),
         Reply::Result {
             buffer,
             returned,
             spent,
             tasks,
-        } => result_value(alloc, buffer, returned, spent, tasks),
+        } => write_value(
+            alloc,
+            out,
+            &result_value(alloc, buffer, returned, spent, tasks)?,
+        ),
         Reply::Play {
             buffer,
             complete,
@@ -198,7 +238,11 @@ fn reply_value(alloc: Global, reply: &Reply) -> Result<Value, AllocError>
             returned,
             spent,
             used,
-        } => play_value(alloc, buffer, complete, held, returned, spent, used),
+        } => write_value(
+            alloc,
+            out,
+            &play_value(alloc, buffer, complete, held, returned, spent, used)?,
+        ),
     }
 }
 
@@ -206,7 +250,8 @@ fn reply_value(alloc: Global, reply: &Reply) -> Result<Value, AllocError>
 pub fn reply_text(alloc: Global, reply: &Reply) -> Result<Vec<u8>, NoMemory>
     ensures { IfOk result (λ text. text.items ≡ text_of reply.now) }
 {
-    let text = reply_value(alloc, reply)?.to_vec(alloc)?;
+    let mut text = Vec::with_capacity(alloc, ROOM)?;
+    write_reply(alloc, &mut text, reply)?;
     Ok(text)
 }
 
@@ -221,7 +266,8 @@ fn framed(alloc: Global, text: &[u8]) -> Result<Vec<u8>, AllocError>
     Ok(frame)
 }
 
-/// The reply's JSON behind its length of four bytes, the highest first; where it is over 4,294,967,295 bytes, the frame of refusal 65.
+/// The reply's JSON behind its length of four bytes, the highest first; where it is over
+/// 4,294,967,295 bytes, the frame of refusal 65.
 #[tactic(auto, unfolding(crate::specs::Replies::frame_of))]
 pub fn reply_frame(alloc: Global, reply: &Reply) -> Result<Vec<u8>, NoMemory>
     ensures { IfOk result (λ frame. frame.items ≡ frame_of reply.now) }

@@ -2,7 +2,7 @@
 
 ghost use Rattle.std.specs.Prelude.{◌≡◌, ◌≢◌, Some, None, IfOk, IfErr, map};
 ghost use Rattle.serde_json.specs.View.{view};
-ghost use Rattle.sessions.specs.Grammar.{program_of, programs_at, numbers_at, grant_of, account_of, submit_of, status_of, result_of, order_of, form_of, request_of, asked, order_asked, program_asked, object_of, object_asked};
+ghost use Rattle.sessions.specs.Grammar.{program_from, programs_at, numbers_at, grant_of, account_of, submit_of, status_of, result_of, order_of, form_of, request_of, asked, order_asked, program_asked, object_of, object_asked};
 ghost use Rattle.sessions.specs.Answers.{PayloadAnswer, ObjectAnswer};
 ghost use Rattle.sessions.specs.declared.fault.SessionFault.TheVariants.{BadRequest, NoMemory};
 
@@ -18,7 +18,8 @@ const MOST_IN_A_GRANT: u64 = 2_147_483_647;
 
 const U32_MAX: u64 = 4_294_967_295;
 
-/// What a tenant, or who runs the server, asks. A tenant's name has 1 to 32 of `a` to `z`, `0` to `9`, `_` and `-`.
+/// What a tenant, or who runs the server, asks. A tenant's name has 1 to 32 of `a` to `z`, `0` to
+/// `9`, `_` and `-`.
 #[derive(Drop)]
 pub enum Request {
     /// Credit for a tenant: 1 to 2,147,483,647.
@@ -65,10 +66,11 @@ pub struct JobObject {
     pub schedule: Vec<u32>,
 }
 
-#[tactic(auto, unfolding(crate::specs::Grammar::program_of))]
+#[tactic(auto, unfolding(crate::specs::Grammar::program_from))]
 fn read_program(alloc: Global, value: &Value) -> Result<ProgramBytes, SessionFault>
-    ensures ok { IfOk result (λ p. program_of (view value.now) ≡ Some (program_asked p)) }
-    ensures err { IfErr result (λ e. (e ≢ NoMemory) → (e ≡ BadRequest) × (program_of (view value.now) ≡ None)) }
+    ensures ok { IfOk result (λ p. program_from (view value.now) ≡ Some (program_asked p)) }
+    ensures err { IfErr result (λ e. (e ≢ NoMemory) → (e ≡ BadRequest)
+        × (program_from (view value.now) ≡ None)) }
 {
     let Some(need) = number_member(value, "need", 0, U32_MAX) else {
         return Err(SessionFault::BadRequest);
@@ -82,8 +84,10 @@ fn read_program(alloc: Global, value: &Value) -> Result<ProgramBytes, SessionFau
 
 #[tactic(auto, unfolding(crate::specs::Grammar::programs_at))]
 fn read_programs(alloc: Global, value: &Value) -> Result<Vec<ProgramBytes>, SessionFault>
-    ensures ok { IfOk result (λ ps. programs_at (view value.now) ≡ Some (map program_asked ps.items)) }
-    ensures err { IfErr result (λ e. (e ≢ NoMemory) → (e ≡ BadRequest) × (programs_at (view value.now) ≡ None)) }
+    ensures ok { IfOk result (λ ps. programs_at (view value.now)
+        ≡ Some (map program_asked ps.items)) }
+    ensures err { IfErr result (λ e. (e ≢ NoMemory) → (e ≡ BadRequest)
+        × (programs_at (view value.now) ≡ None)) }
 {
     let Some(items) = list_member(value, "programs") else {
         return Err(SessionFault::BadRequest);
@@ -100,7 +104,8 @@ fn read_programs(alloc: Global, value: &Value) -> Result<Vec<ProgramBytes>, Sess
 #[tactic(auto, unfolding(crate::specs::Grammar::order_of))]
 fn read_order(alloc: Global, value: &Value) -> Result<Order, SessionFault>
     ensures ok { IfOk result (λ o. order_of (view value.now) ≡ Some (order_asked o)) }
-    ensures err { IfErr result (λ e. (e ≢ NoMemory) → (e ≡ BadRequest) × (order_of (view value.now) ≡ None)) }
+    ensures err { IfErr result (λ e. (e ≢ NoMemory) → (e ≡ BadRequest)
+        × (order_of (view value.now) ≡ None)) }
 {
     let Some(credit) = number_member(value, "credit", 0, U32_MAX) else {
         return Err(SessionFault::BadRequest);
@@ -117,7 +122,8 @@ fn read_order(alloc: Global, value: &Value) -> Result<Order, SessionFault>
 #[tactic(auto, unfolding(crate::specs::Grammar::numbers_at))]
 fn read_schedule(alloc: Global, value: &Value) -> Result<Vec<u32>, SessionFault>
     ensures ok { IfOk result (λ ns. numbers_at (view value.now) ≡ Some ns.items) }
-    ensures err { IfErr result (λ e. (e ≢ NoMemory) → (e ≡ BadRequest) × (numbers_at (view value.now) ≡ None)) }
+    ensures err { IfErr result (λ e. (e ≢ NoMemory) → (e ≡ BadRequest)
+        × (numbers_at (view value.now) ≡ None)) }
 {
     let Some(items) = list_member(value, "schedule") else {
         return Err(SessionFault::BadRequest);
@@ -135,7 +141,8 @@ fn read_schedule(alloc: Global, value: &Value) -> Result<Vec<u32>, SessionFault>
 #[tactic(auto, unfolding(crate::specs::Grammar::grant_of))]
 fn read_grant(alloc: Global, value: &Value) -> Result<Request, SessionFault>
     ensures ok { IfOk result (λ r. grant_of (view value.now) ≡ Some (asked r)) }
-    ensures err { IfErr result (λ e. (e ≢ NoMemory) → (e ≡ BadRequest) × (grant_of (view value.now) ≡ None)) }
+    ensures err { IfErr result (λ e. (e ≢ NoMemory) → (e ≡ BadRequest)
+        × (grant_of (view value.now) ≡ None)) }
 {
     let Some(tenant) = tenant_member(value) else {
         return Err(SessionFault::BadRequest);
@@ -152,7 +159,8 @@ fn read_grant(alloc: Global, value: &Value) -> Result<Request, SessionFault>
 #[tactic(auto, unfolding(crate::specs::Grammar::account_of))]
 fn read_account(alloc: Global, value: &Value) -> Result<Request, SessionFault>
     ensures ok { IfOk result (λ r. account_of (view value.now) ≡ Some (asked r)) }
-    ensures err { IfErr result (λ e. (e ≢ NoMemory) → (e ≡ BadRequest) × (account_of (view value.now) ≡ None)) }
+    ensures err { IfErr result (λ e. (e ≢ NoMemory) → (e ≡ BadRequest)
+        × (account_of (view value.now) ≡ None)) }
 {
     let Some(tenant) = tenant_member(value) else {
         return Err(SessionFault::BadRequest);
@@ -176,7 +184,8 @@ fn read_status(value: &Value) -> Result<Request, SessionFault>
 #[tactic(auto, unfolding(crate::specs::Grammar::submit_of))]
 fn read_submit(alloc: Global, value: &Value) -> Result<Request, SessionFault>
     ensures ok { IfOk result (λ r. submit_of (view value.now) ≡ Some (asked r)) }
-    ensures err { IfErr result (λ e. (e ≢ NoMemory) → (e ≡ BadRequest) × (submit_of (view value.now) ≡ None)) }
+    ensures err { IfErr result (λ e. (e ≢ NoMemory) → (e ≡ BadRequest)
+        × (submit_of (view value.now) ≡ None)) }
 {
     let Some(tenant) = tenant_member(value) else {
         return Err(SessionFault::BadRequest);
@@ -209,7 +218,8 @@ fn read_result(value: &Value) -> Result<Request, SessionFault>
 #[tactic(auto, unfolding(crate::specs::Grammar::form_of))]
 fn read_form(alloc: Global, op: &str, value: &Value) -> Result<Request, SessionFault>
     ensures ok { IfOk result (λ r. form_of op.now (view value.now) ≡ Some (asked r)) }
-    ensures err { IfErr result (λ e. (e ≢ NoMemory) → (e ≡ BadRequest) × (form_of op.now (view value.now) ≡ None)) }
+    ensures err { IfErr result (λ e. (e ≢ NoMemory) → (e ≡ BadRequest)
+        × (form_of op.now (view value.now) ≡ None)) }
 {
     if op == "grant" {
         return read_grant(alloc, value);
@@ -232,7 +242,8 @@ fn read_form(alloc: Global, op: &str, value: &Value) -> Result<Request, SessionF
 #[tactic(auto, unfolding(crate::specs::Grammar::request_of))]
 fn read_value(alloc: Global, value: &Value) -> Result<Request, SessionFault>
     ensures ok { IfOk result (λ r. request_of (view value.now) ≡ Some (asked r)) }
-    ensures err { IfErr result (λ e. (e ≢ NoMemory) → (e ≡ BadRequest) × (request_of (view value.now) ≡ None)) }
+    ensures err { IfErr result (λ e. (e ≢ NoMemory) → (e ≡ BadRequest)
+        × (request_of (view value.now) ≡ None)) }
 {
     match text_member(value, "op") {
         Some(op) => read_form(alloc, op, value),
@@ -257,8 +268,10 @@ fn read_object(
     value: &Value,
     wants_schedule: bool,
 ) -> Result<JobObject, SessionFault>
-    ensures ok { IfOk result (λ o. object_of wants_schedule (view value.now) ≡ Some (object_asked o)) }
-    ensures err { IfErr result (λ e. (e ≢ NoMemory) → (e ≡ BadRequest) × (object_of wants_schedule (view value.now) ≡ None)) }
+    ensures ok { IfOk result (λ o. object_of wants_schedule (view value.now)
+        ≡ Some (object_asked o)) }
+    ensures err { IfErr result (λ e. (e ≢ NoMemory) → (e ≡ BadRequest)
+        × (object_of wants_schedule (view value.now) ≡ None)) }
 {
     let Order {
         programs,
@@ -282,8 +295,8 @@ fn read_object(
     })
 }
 
-/// The job that a text says: a submit without its `op` and `tenant`. Where a schedule is wanted the text has to have it; where none is,
-/// it isn't looked at, and is empty.
+/// The job that a text says: a submit without its `op` and `tenant`. Where a schedule is wanted the
+/// text has to have it; where none is, it isn't looked at, and is empty.
 ///
 /// No JSON is 72, JSON that is no job object 73, and a growth that was refused 99.
 pub fn job_object(alloc: Global, text: &[u8], schedule: bool) -> Result<JobObject, SessionFault>

@@ -76,8 +76,8 @@ fn lasting(fault: SessionFault) -> Option<SessionFault>
 
 /// Takes a stream in pieces of any size, and gives its requests in order.
 ///
-/// Each byte is copied when it comes, and once more at most, where room is made for the rest of its frame, if [`Session::next_request`] is called
-/// after each piece.
+/// Each byte is copied when it comes, and once more at most, where room is made for the rest of its
+/// frame, if [`Session::next_request`] is called after each piece.
 #[derive(Drop)]
 pub struct Session {
     buffer: BytesMut,
@@ -98,11 +98,13 @@ impl Session {
         }
     }
 
-    /// Takes the next piece of the stream. A refusal takes nothing of it; after 99 the same call may be made again.
+    /// Takes the next piece of the stream. A refusal takes nothing of it; after 99 the same call
+    /// may be made again.
     ///
     /// Once [`Session::next_request`] has answered 71 or 99, so does every later call.
     pub fn feed(&mut self, piece: &[u8]) -> Result<(), SessionFault>
-        ensures taken { OnOk result ((ended_by self.old ≡ None) × (unread self.new ≡ unread self.old ++ piece.now)) }
+        ensures taken { OnOk result ((ended_by self.old ≡ None)
+            × (unread self.new ≡ unread self.old ++ piece.now)) }
         ensures refused { OnErr result (unread self.new ≡ unread self.old) }
         ensures why { IfErr result (λ e. ended_by self.old ≡ None → e ≡ NoMemory) }
         ensures ended { IfSome (ended_by self.old) (λ fault. result ≡ Err fault) }
@@ -120,7 +122,8 @@ impl Session {
     // Takes the whole frame that stands first.
     fn take_frame(&mut self) -> Result<BytesMut, SessionFault>
         requires { IsHeadOf Whole (front (unread self.old)) }
-        ensures frame { IfOk result (λ frame. front (unread self.old) ≡ Front.whole frame.items (unread self.new)) }
+        ensures frame { IfOk result (λ frame. front (unread self.old)
+            ≡ Front.whole frame.items (unread self.new)) }
         ensures refused { IfErr result (λ e. e ≡ NoMemory) }
         ensures left { OnErr result (FrameAnswer (Err NoMemory) (unread self.old) (unread self.new)) }
         ensures same { ended_by self.new ≡ ended_by self.old }
@@ -132,7 +135,8 @@ impl Session {
         }
     }
 
-    // Room for the rest of the frame that stands first, so that the buffer doesn't grow piece by piece. It grows so where there is no memory for it.
+    // Room for the rest of the frame that stands first, so that the buffer doesn't grow piece by
+    // piece. It grows so where there is no memory for it.
     fn make_room(&mut self)
         ensures unread { unread self.new ≡ unread self.old }
         ensures same { ended_by self.new ≡ ended_by self.old }
@@ -150,9 +154,13 @@ impl Session {
 
     // The payload of the next frame, once it is whole.
     fn next_frame(&mut self) -> Result<Option<BytesMut>, SessionFault>
-        ensures answer { ended_by self.old ≡ None → FrameAnswer result (unread self.old) (unread self.new) }
-        ensures ended { IfSome (ended_by self.old) (λ fault. (result ≡ Err fault) × (ended_by self.new ≡ Some fault) × (unread self.new ≡ unread self.old)) }
-        ensures lasts { ended_by self.old ≡ None → MatchResult result (λ _. ended_by self.new ≡ None) (λ e. ended_by self.new ≡ lasting_of e) }
+        ensures answer { ended_by self.old ≡ None
+            → FrameAnswer result (unread self.old) (unread self.new) }
+        ensures ended { IfSome (ended_by self.old) (λ fault. (result ≡ Err fault)
+            × (ended_by self.new ≡ Some fault) × (unread self.new ≡ unread self.old)) }
+        ensures lasts { ended_by self.old ≡ None
+            → MatchResult result (λ _. ended_by self.new ≡ None) (λ e. ended_by self.new
+            ≡ lasting_of e) }
     {
         if let Some(fault) = self.ended_by {
             return Err(fault);
@@ -178,12 +186,17 @@ impl Session {
 
     /// The next request, once its frame is whole; `None` until then.
     ///
-    /// 72 and 73 use up their frame, and the session goes on. A frame that is too long is 71 at its turn, and so is every later
-    /// call. After 99 every later call answers 99; no byte behind the frame that found no memory is lost.
+    /// 72 and 73 use up their frame, and the session goes on. A frame that is too long is 71 at its
+    /// turn, and so is every later call. After 99 every later call answers 99; no byte behind the
+    /// frame that found no memory is lost.
     pub fn next_request(&mut self, alloc: Global) -> Result<Option<Request>, SessionFault>
-        ensures answer { ended_by self.old ≡ None → RequestAnswer result (unread self.old) (unread self.new) }
-        ensures ended { IfSome (ended_by self.old) (λ fault. (result ≡ Err fault) × (ended_by self.new ≡ Some fault) × (unread self.new ≡ unread self.old)) }
-        ensures lasts { ended_by self.old ≡ None → MatchResult result (λ _. ended_by self.new ≡ None) (λ e. ended_by self.new ≡ lasting_of e) }
+        ensures answer { ended_by self.old ≡ None
+            → RequestAnswer result (unread self.old) (unread self.new) }
+        ensures ended { IfSome (ended_by self.old) (λ fault. (result ≡ Err fault)
+            × (ended_by self.new ≡ Some fault) × (unread self.new ≡ unread self.old)) }
+        ensures lasts { ended_by self.old ≡ None
+            → MatchResult result (λ _. ended_by self.new ≡ None) (λ e. ended_by self.new
+            ≡ lasting_of e) }
     {
         let frame = match self.next_frame() {
             Ok(Some(frame)) => frame,
