@@ -45,7 +45,8 @@ fn grants_over_loopback(rt: HostRuntime) -> Result<(), Fail> {
     Ok(())
 }
 
-// Two of three connections grant. The second is cut inside its next frame, and the third leaves while it is answered.
+// Two of three connections grant. The second is cut inside its next frame, and the third leaves
+// while it is answered.
 fn visit_often<R: Net<Stream = TcpStream>>(
     rt: &R,
     alloc: Global,
@@ -157,7 +158,7 @@ fn tells_its_faults(rt: HostRuntime) -> Result<(), Fail> {
     assert_eq!(rt; fault.status(), 3);
     assert_eq!(rt;
         format!(in alloc; "{fault}")?.as_str(),
-        "a connection was given up: write failed"
+        "a connection was given up: 84: write failed"
     );
     assert_eq!(rt;
         format!(in alloc; "{}", ServeFault::Socket)?.as_str(),

@@ -1,4 +1,5 @@
-//! A server and its clients in one process, over loopback, and a pool of jobs by itself, as tests. Nothing stands on it.
+//! A server and its clients in one process, over loopback, and a pool of jobs by itself, as tests.
+//! Nothing stands on it.
 #![tactic(auto)]
 
 #[cfg(test)]

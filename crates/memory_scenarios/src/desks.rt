@@ -33,7 +33,8 @@ const JOBS: u64 = 3;
 /// What is granted to each tenant.
 const GRANT: u32 = 240;
 
-/// The account of a tenant, which has to add up. That of one that was granted nothing has zeros alone.
+/// The account of a tenant, which has to add up. That of one that was granted nothing has zeros
+/// alone.
 fn account(desk: &Desk, tenant: &str) -> Result<Account, Stop> {
     let account = match desk.account(tenant) {
         Ok(account) => account,
@@ -187,8 +188,9 @@ const REPLIES: [&str; 6] = [
     "{\"balance\":73,\"granted\":100,\"ok\":true,\"open\":0,\"spent\":27}",
 ];
 
-/// A stream of requests, served. Where memory is refused, either its end tells so, behind a beginning of the replies, or a reply does; the
-/// account adds up, and the job's credit is open, spent or back.
+/// A stream of requests, served. Where memory is refused, either its end tells so, behind a
+/// beginning of the replies, or a reply does; the account adds up, and the job's credit is open,
+/// spent or back.
 pub fn served(alloc: Global) -> Result<Vec<u64>, Stop> {
     let stream = frames(alloc, &REQUESTS)?;
     let replies = frames(alloc, &REPLIES)?;

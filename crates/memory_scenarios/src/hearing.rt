@@ -120,7 +120,8 @@ pub fn replied(alloc: Global, report: &Report) -> Result<Vec<u64>, Stop> {
     Ok(numbers)
 }
 
-/// A reply that is refused is given when it is asked for again, and its frame is its text behind its length.
+/// A reply that is refused is given when it is asked for again, and its frame is its text behind
+/// its length.
 fn frame_length(alloc: Global, reply: &Reply) -> Result<u64, Stop> {
     for _ in 0..3u8 {
         let Ok(text) = reply_text(alloc, reply) else {

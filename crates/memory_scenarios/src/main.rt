@@ -1,9 +1,10 @@
-//! Goes through scenarios, and prints what each comes to. Where one request for memory is refused, whichever that is, it looks that all
-//! stands as it has to, calls again, and prints the same.
+//! Goes through scenarios, and prints what each comes to. Where one request for memory is refused,
+//! whichever that is, it looks that all stands as it has to, calls again, and prints the same.
 //!
-//! With nothing on standard input it goes through all. With `NAME AHEAD MOST` it makes and drops AHEAD requests for memory, goes through the
-//! scenario of this name, and then tells whether a request of the scenario's was refused, or how many it made if that is under MOST: for
-//! this it makes up to MOST requests more, one of which is refused where none was before.
+//! With nothing on standard input it goes through all. With `NAME AHEAD MOST` it makes and drops
+//! AHEAD requests for memory, goes through the scenario of this name, and then tells whether a
+//! request of the scenario's was refused, or how many it made if that is under MOST: for this it
+//! makes up to MOST requests more, one of which is refused where none was before.
 #![tactic(auto)]
 
 mod desks;

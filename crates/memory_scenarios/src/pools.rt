@@ -61,7 +61,8 @@ pub fn run_by_two<R: Threads + Wait + Sync>(rt: &R, alloc: Global) -> Result<Vec
     }
 }
 
-/// Gives the job to a runner as number 1. `false`: the start was refused, and the runner holds nothing.
+/// Gives the job to a runner as number 1. `false`: the start was refused, and the runner holds
+/// nothing.
 fn is_started<N: Runner>(alloc: Global, runner: &mut N) -> Result<bool, Stop>
     requires { N.ready runner.old }
     ensures { N.ready runner.new }

@@ -22,7 +22,8 @@ pub fn question_of(input: &[u8]) -> Option<Question<'_>> {
     Some(Question { name, ahead, most })
 }
 
-/// Makes requests for memory, one after the other, and drops what they give. How many were made ahead of one that was refused, or all.
+/// Makes requests for memory, one after the other, and drops what they give. How many were made
+/// ahead of one that was refused, or all.
 pub fn make(alloc: Global, count: u32) -> u32
     ensures { result ≤ count }
 {

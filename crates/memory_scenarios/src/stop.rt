@@ -8,7 +8,8 @@ use std::alloc::{AllocError, AllocFailed};
 /// Why a scenario doesn't come to its numbers.
 #[derive(Clone, Copy, Debug, PartialEq, Eq)]
 pub enum Stop {
-    /// Memory was refused where nothing is left to call again, or a spawn was: the scenario begins anew.
+    /// Memory was refused where nothing is left to call again, or a spawn was: the scenario begins
+    /// anew.
     Refused,
     /// What stands isn't what has to.
     Differs(&'static str),

@@ -1,5 +1,5 @@
-//! A job of two tasks: the root hands the last four bytes of its buffer and 10 of its credit of 34 to a child, which puts 9 into the first of
-//! them.
+//! A job of two tasks: the root hands the last four bytes of its buffer and 10 of its credit of 34
+//! to a child, which puts 9 into the first of them.
 
 use crate::stop::{Stop, holds};
 use assembler::assemble;
@@ -48,7 +48,8 @@ pub fn job(alloc: Global) -> Result<Job, Stop> {
     }
 }
 
-/// The numbers of the report of a job whose spawn was taken. Where it was refused, those of a root alone have to stand there.
+/// The numbers of the report of a job whose spawn was taken. Where it was refused, those of a root
+/// alone have to stand there.
 pub fn told(alloc: Global, report: &Report) -> Result<Vec<u64>, Stop> {
     holds(
         report.spent.checked_add(report.returned) == Some(CREDIT),

@@ -10,7 +10,8 @@ use workers::PoolFault;
 
 /// What a job came to: its number, its credit, and its report or the number of what it failed by.
 ///
-/// A report is that of a whole run of a job of this number and this credit, so that what was spent and returned adds up to the credit.
+/// A report is that of a whole run of a job of this number and this credit, so that what was spent
+/// and returned adds up to the credit.
 #[derive(Drop)]
 pub struct Ending {
     number: u64,

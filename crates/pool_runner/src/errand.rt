@@ -41,7 +41,8 @@ impl Errand {
     }
 }
 
-/// Starts the thread of a job, which runs it on so many workers, 1 to 16. `None`: no thread could be started.
+/// Starts the thread of a job, which runs it on so many workers, 1 to 16. `None`: no thread could
+/// be started.
 pub fn start_thread<R: Threads + Wait + Copy + Send + Sync + 'static>(
     rt: R,
     errand: Errand,

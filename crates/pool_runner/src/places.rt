@@ -19,7 +19,8 @@ use std::collections::BTreeMap;
 use std::sync::Wait;
 use std::thread::{JoinHandle, Threads};
 
-/// The jobs that were started and not yet taken, each with a place of its own, and their places by number.
+/// The jobs that were started and not yet taken, each with a place of its own, and their places by
+/// number.
 #[derive(Drop)]
 pub(crate) struct Places {
     jobs: Slab<Running>,
@@ -46,7 +47,8 @@ fn finished<R: Wait>(
     rt: &R,
 ) -> Option<(u64, usize, Result<Report, u8>)>
     ensures { IfSome result (λ found. (tree.get nat_cmp keys.now found.0 ≡ Some found.1)
-        × ((held : _) × (slots.get jobs.now found.1 ≡ Some held) × IsEndOf held.number held.credit found.2)) }
+        × ((held : _) × (slots.get jobs.now found.1 ≡ Some held)
+        × IsEndOf held.number held.credit found.2)) }
 {
     for (number, key) in keys {
         if let Some(running) = jobs.get(*key) {
@@ -73,8 +75,8 @@ impl Places {
         }
     }
 
-    /// Starts a job, whose places are made ahead of its thread and given up where the start is refused: by 99, or by 81 where no thread
-    /// could be started, or a job of this number is held.
+    /// Starts a job, whose places are made ahead of its thread and given up where the start is
+    /// refused: by 99, or by 81 where no thread could be started, or a job of this number is held.
     pub fn start<F: Fn(Errand) -> Option<JoinHandle<()>>>(
         &mut self,
         alloc: Global,
@@ -122,7 +124,8 @@ impl Places {
         look_at(&mut self.jobs, key)
     }
 
-    /// The finished job of lowest number and what it came to. It isn't held any more, and its thread has ended.
+    /// The finished job of lowest number and what it came to. It isn't held any more, and its
+    /// thread has ended.
     pub fn take<R: Wait + Threads>(&mut self, rt: &R) -> Option<(u64, Result<Report, u8>)>
         ensures { Takes self.old result self.new }
     {

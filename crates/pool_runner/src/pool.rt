@@ -12,7 +12,8 @@ use streams::Runner;
 /// Runs each job in a thread of its own, which `starter` starts.
 ///
 /// A method of a trait can't send its handle to a thread, so the caller gives a closure that does:
-/// `|errand| start_thread(rt, errand, workers)`. That a thread is ever run, or a job ever finished, is nowhere claimed.
+/// `|errand| start_thread(rt, errand, workers)`. That a thread is ever run, or a job ever finished,
+/// is nowhere claimed.
 #[derive(Drop)]
 pub struct PoolRunner<R, F: Fn(Errand) -> Option<JoinHandle<()>>> {
     rt: R,

@@ -36,8 +36,8 @@ impl Model for Running {
     ghost invariant = { λ r. (r.reader.board ≡ arc_value r.board) × (r.reader.board.job ≡ r.number) × (r.reader.board.issued ≡ r.credit) };
 }
 
-/// Starts the thread of a job by `starter`, once all that it needs is made: 99 where a growth was refused, and 81 where no thread could
-/// be started.
+/// Starts the thread of a job by `starter`, once all that it needs is made: 99 where a growth was
+/// refused, and 81 where no thread could be started.
 pub(crate) fn begin<F: Fn(Errand) -> Option<JoinHandle<()>>>(
     alloc: Global,
     starter: &F,

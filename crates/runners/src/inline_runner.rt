@@ -8,8 +8,8 @@ use std::alloc::Global;
 use std::collections::BTreeMap;
 use streams::Runner;
 
-/// Plays each job at its start, in the caller's thread, always the live task of lowest number next. Its reports are kept until they are
-/// taken.
+/// Plays each job at its start, in the caller's thread, always the live task of lowest number next.
+/// Its reports are kept until they are taken.
 #[derive(Drop)]
 pub struct InlineRunner {
     finished: BTreeMap<u64, Report>,

@@ -10,8 +10,8 @@ use std::alloc::Global;
 
 /// Plays a job to its end, always the live task of lowest number next.
 ///
-/// A task that ended stays ended, and a child has a higher number than every task before it: so each task is run on to its end, in order of
-/// number, and none is looked for.
+/// A task that ended stays ended, and a child has a higher number than every task before it: so
+/// each task is run on to its end, in order of number, and none is looked for.
 pub fn play_lowest(alloc: Global, job: Job) -> Result<Report, NoMemory>
     ensures { IfOk result (λ report. IsPlayed job report) }
 {

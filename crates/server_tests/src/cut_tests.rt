@@ -1,4 +1,5 @@
-//! A stream that ends at any of its bytes: each frame that is whole is answered, and nothing is answered to the rest.
+//! A stream that ends at any of its bytes: each frame that is whole is answered, and nothing is
+//! answered to the rest.
 
 use crate::ends::{ALWAYS, Given, Taken};
 use crate::texts::frames;
@@ -35,7 +36,8 @@ const ROWS: [(&str, &str, u64); 7] = [
     ("[]", "{\"code\":73,\"ok\":false}", 101),
 ];
 
-/// What a stream has to come to: how many frames are whole, their replies, and what the tenant was granted.
+/// What a stream has to come to: how many frames are whole, their replies, and what the tenant was
+/// granted.
 #[derive(Drop)]
 struct Whole {
     count: u64,

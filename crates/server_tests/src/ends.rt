@@ -1,4 +1,5 @@
-//! Ends of a stream in memory. They give and take so many bytes at a call, and fail once they were called so often.
+//! Ends of a stream in memory. They give and take so many bytes at a call, and fail once they were
+//! called so often.
 
 use std::alloc::Global;
 use streams::{Failed, Sink, Source};

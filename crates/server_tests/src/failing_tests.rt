@@ -1,4 +1,5 @@
-//! An end that fails, at each of its calls: what was written is a beginning of the replies, and the desk is that of the requests read.
+//! An end that fails, at each of its calls: what was written is a beginning of the replies, and the
+//! desk is that of the requests read.
 
 use crate::ends::{ALWAYS, Given, Taken};
 use crate::texts::frames;
@@ -92,9 +93,9 @@ fn stops_where_the_writer_fails(rt: HostRuntime) -> Result<(), Fail> {
 fn tells_its_numbers(rt: HostRuntime) -> Result<(), Fail> {
     let alloc = rt.alloc();
     for (fault, code, text) in [
-        (StreamFault::ReadFailed, 83, "read failed"),
-        (StreamFault::WriteFailed, 84, "write failed"),
-        (StreamFault::NoMemory, 99, "out of memory"),
+        (StreamFault::ReadFailed, 83, "83: read failed"),
+        (StreamFault::WriteFailed, 84, "84: write failed"),
+        (StreamFault::NoMemory, 99, "99: out of memory"),
     ] {
         assert_eq!(rt; fault.code(), code);
         assert_eq!(rt; format!(in alloc; "{fault}")?.as_str(), text);

@@ -1,4 +1,5 @@
-//! Whole streams, in pieces of several sizes, on a new desk whose jobs are played at once. Expected texts were written out by hand.
+//! Whole streams, in pieces of several sizes, on a new desk whose jobs are played at once. Expected
+//! texts were written out by hand.
 
 use crate::texts::{answered, frames};
 use std::test::Fail;
@@ -54,7 +55,8 @@ fn answers_each_frame(rt: HostRuntime) -> Result<(), Fail> {
     Ok(())
 }
 
-// A job is granted for, given, played and told, and refused where the balance is low or its program isn't accepted.
+// A job is granted for, given, played and told, and refused where the balance is low or its program
+// isn't accepted.
 #[test]
 fn plays_jobs(rt: HostRuntime) -> Result<(), Fail> {
     let alloc = rt.alloc();

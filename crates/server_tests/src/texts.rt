@@ -18,7 +18,8 @@ pub(crate) fn frames(alloc: Global, texts: &[&str]) -> Result<Vec<u8>, Fail> {
     Ok(bytes)
 }
 
-/// What is answered to a stream on a new desk, and what is written, where each call gives and takes so many bytes.
+/// What is answered to a stream on a new desk, and what is written, where each call gives and takes
+/// so many bytes.
 pub(crate) fn answered(
     alloc: Global,
     bytes: &[u8],

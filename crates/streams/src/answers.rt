@@ -25,7 +25,9 @@ fn carry_out<N: Runner>(
 ) -> Result<Vec<u8>, NoMemory>
     requires { N.ready runner.old }
     ensures ready { N.ready runner.new }
-    ensures done { Framed result (λ told. Replies N.starts N.looks desk.old runner.old (Ok (asked request)) told desk.new runner.new) }
+    ensures done { Framed result
+        (λ told. Replies N.starts N.looks desk.old runner.old (Ok (asked request)) told desk.new
+        runner.new) }
 {
     match request {
         Request::Grant { tenant, amount } => answer_grant(alloc, desk, &tenant, amount),
@@ -50,7 +52,9 @@ fn reply_to<N: Runner>(
 ) -> Result<Vec<u8>, NoMemory>
     requires { N.ready runner.old }
     ensures ready { N.ready runner.new }
-    ensures done { Framed result (λ told. Replies N.starts N.looks desk.old runner.old (query_of request) told desk.new runner.new) }
+    ensures done { Framed result
+        (λ told. Replies N.starts N.looks desk.old runner.old (query_of request) told desk.new
+        runner.new) }
 {
     match request {
         Ok(request) => carry_out(alloc, desk, runner, request),

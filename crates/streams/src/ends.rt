@@ -35,8 +35,8 @@ pub trait Sink {
     // A write failed.
     ghost has_failed: { Self → Bool };
 
-    /// Takes bytes from the front of the piece, and answers how many: at least one of a piece that isn't empty. A write that fails takes
-    /// none.
+    /// Takes bytes from the front of the piece, and answers how many: at least one of a piece that
+    /// isn't empty. A write that fails takes none.
     fn write(&mut self, piece: &[u8]) -> Result<usize, Failed>
         requires { has_failed self.old ≡ false }
         ensures count { IfOk result (λ n. n ≤ length piece.now) }
@@ -50,7 +50,8 @@ pub trait Sink {
 pub fn write_all<W: Sink>(sink: &mut W, bytes: &[u8]) -> Result<(), Failed>
     requires { W.has_failed sink.old ≡ false }
     ensures ok { OnOk result (W.told sink.new ≡ W.told sink.old ++ bytes.now) }
-    ensures err { OnErr result ((n : ℕ) × (n ≤ length bytes.now) × (W.told sink.new ≡ W.told sink.old ++ take n bytes.now)) }
+    ensures err { OnErr result ((n : ℕ) × (n ≤ length bytes.now)
+        × (W.told sink.new ≡ W.told sink.old ++ take n bytes.now)) }
     ensures failed { W.has_failed sink.new ≡ is_err result }
 {
     let mut done = 0;

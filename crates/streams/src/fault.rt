@@ -7,16 +7,16 @@ use refusal::NoMemory;
 use thiserror::Error;
 
 /// Why a stream was given up.
-#[derive(Clone, Copy, Debug, PartialEq, Eq, Error)]
+#[derive(Clone, Copy, Debug, PartialEq, Eq, Hash, Error)]
 pub enum StreamFault {
     /// The reader failed: 83.
-    #[error("read failed")]
+    #[error("83: read failed")]
     ReadFailed,
     /// The writer failed: 84.
-    #[error("write failed")]
+    #[error("84: write failed")]
     WriteFailed,
     /// A piece, a frame or a reply found no memory: 99.
-    #[error("out of memory")]
+    #[error("99: out of memory")]
     NoMemory,
 }
 

@@ -47,7 +47,8 @@ pub fn answer_grant(
     tenant: &str,
     amount: u32,
 ) -> Result<Vec<u8>, NoMemory>
-    ensures { Framed result (λ told. Grants desk.old tenant.now amount told desk.new ⊎ GrantsNone desk.old tenant.now amount told desk.new) }
+    ensures { Framed result (λ told. Grants desk.old tenant.now amount told desk.new
+        ⊎ GrantsNone desk.old tenant.now amount told desk.new) }
 {
     let account = desk.grant(alloc, tenant, amount);
     reply_frame(alloc, &account_reply(account))
@@ -65,7 +66,9 @@ fn start_job<N: Runner>(alloc: Global, desk: &mut Desk, runner: &mut N, number: 
     requires ready { N.ready runner.old }
     requires open { IsOpenJob desk.old number }
     ensures ready { N.ready runner.new }
-    ensures started { (outcome : Result (Unit {0}) ℕ) × N.starts runner.old number job outcome runner.new × Settles desk.old number outcome desk.new }
+    ensures started { (outcome : Result (Unit {0}) ℕ)
+        × N.starts runner.old number job outcome runner.new
+        × Settles desk.old number outcome desk.new }
 {
     match runner.start(alloc, number, job) {
         Ok(()) => {}
@@ -75,7 +78,8 @@ fn start_job<N: Runner>(alloc: Global, desk: &mut Desk, runner: &mut N, number: 
     }
 }
 
-/// Takes a job and starts it, and tells its number. A start that is refused ends the job at once with its number.
+/// Takes a job and starts it, and tells its number. A start that is refused ends the job at once
+/// with its number.
 pub fn answer_submit<N: Runner>(
     alloc: Global,
     desk: &mut Desk,
@@ -87,7 +91,9 @@ pub fn answer_submit<N: Runner>(
 ) -> Result<Vec<u8>, NoMemory>
     requires { N.ready runner.old }
     ensures ready { N.ready runner.new }
-    ensures done { Framed result (λ told. Submits N.starts desk.old runner.old tenant.now programs.now credit buffer.items told desk.new runner.new) }
+    ensures done { Framed result
+        (λ told. Submits N.starts desk.old runner.old tenant.now programs.now credit
+        buffer.items told desk.new runner.new) }
 {
     match desk.submit(alloc, tenant, programs, credit, buffer) {
         Ok((number, job)) => {
@@ -114,7 +120,8 @@ pub fn answer_status<N: Runner>(
 ) -> Result<Vec<u8>, NoMemory>
     requires { N.ready runner.old }
     ensures ready { N.ready runner.new }
-    ensures done { Framed result (λ told. (seen : Progress) × N.looks runner.old job seen runner.new × (told ≡ progress_told (progress_at desk.now job seen))) }
+    ensures done { Framed result (λ told. (seen : Progress) × N.looks runner.old job seen runner.new
+        × (told ≡ progress_told (progress_at desk.now job seen))) }
 {
     let seen = runner.look(job);
     match desk.status(job, seen) {

@@ -13,12 +13,12 @@ pub trait Handler<D> {
     // It may be called.
     ghost ready: { Self → Type 0 };
 
-    // From a desk and a handler, for what a frame asks or the number of its refusal, the reply and the
-    // desk and the handler after it.
+    // From a desk and a handler, for what a frame asks or the number of its refusal, the reply and
+    // the desk and the handler after it.
     ghost answers: { D × Self → Result Asked ℕ → List ℕ → D × Self → Type 0 };
 
-    /// Answers what a frame asks, or the number of its refusal. Where the reply finds no memory, the
-    /// request was still carried out.
+    /// Answers what a frame asks, or the number of its refusal. Where the reply finds no memory,
+    /// the request was still carried out.
     fn answer(
         &mut self,
         alloc: Global,
@@ -27,6 +27,9 @@ pub trait Handler<D> {
     ) -> Result<Vec<u8>, NoMemory>
         requires { ready self.old }
         ensures ready { ready self.new }
-        ensures ok { IfOk result (λ reply. answers (desk.old, self.old) (query_of request) reply.items (desk.new, self.new)) }
-        ensures err { OnErr result ((reply : List ℕ) × answers (desk.old, self.old) (query_of request) reply (desk.new, self.new)) };
+        ensures ok { IfOk result
+            (λ reply. answers (desk.old, self.old) (query_of request) reply.items
+            (desk.new, self.new)) }
+        ensures err { OnErr result ((reply : List ℕ)
+            × answers (desk.old, self.old) (query_of request) reply (desk.new, self.new)) };
 }

@@ -36,7 +36,8 @@ pub trait Runner {
         ensures ready { ready self.new }
         ensures looks { looks self.old number result self.new };
 
-    /// The finished job of lowest number, given once, with its report or the number of what it failed by.
+    /// The finished job of lowest number, given once, with its report or the number of what it
+    /// failed by.
     fn take(&mut self) -> Option<(u64, Result<Report, u8>)>
         requires { ready self.old }
         ensures ready { ready self.new }

@@ -51,9 +51,11 @@ fn answer_one<W: Sink, D, H: Handler<D>>(
     requires sink { W.has_failed writer.old ≡ false }
     requires ready { H.ready handler.old }
     ensures ready { H.ready handler.new }
-    ensures ok { OnOk result ((reply : List ℕ) × H.answers (desk.old, handler.old) (query_of request) reply (desk.new, handler.new)
+    ensures ok { OnOk result ((reply : List ℕ)
+        × H.answers (desk.old, handler.old) (query_of request) reply (desk.new, handler.new)
         × (W.told writer.new ≡ W.told writer.old ++ reply)) }
-    ensures err { OnErr result ((reply : List ℕ) × (n : ℕ) × H.answers (desk.old, handler.old) (query_of request) reply (desk.new, handler.new)
+    ensures err { OnErr result ((reply : List ℕ) × (n : ℕ)
+        × H.answers (desk.old, handler.old) (query_of request) reply (desk.new, handler.new)
         × (W.told writer.new ≡ W.told writer.old ++ take n reply)) }
     ensures well { OnOk result (W.has_failed writer.new ≡ false) }
     ensures write_failed { result ≡ Err StreamFault.WriteFailed → W.has_failed writer.new ≡ true }
@@ -81,10 +83,15 @@ fn answer_frames<W: Sink, D, H: Handler<D>>(
     requires sink { W.has_failed writer.old ≡ false }
     requires ready { H.ready handler.old }
     ensures ready { H.ready handler.new }
-    ensures served { IfOk result (λ _. (count : ℕ) × Serves H.answers (desk.old, handler.old) (unread session.old) (W.told writer.old) count (desk.new, handler.new) (unread session.new) (W.told writer.new)
+    ensures served { IfOk result (λ _. (count : ℕ)
+        × Serves H.answers (desk.old, handler.old) (unread session.old) (W.told writer.old)
+        count (desk.new, handler.new) (unread session.new) (W.told writer.new)
         × (number.new ≡ min (number.old + count) (2 ^ 64 - 1))) }
-    ensures left { IfOk result (λ goes_on. front (unread session.new) ≡ (if goes_on then partial else too_large)) }
-    ensures stopped { OnErr result (IsStopped H.answers (desk.old, handler.old) (unread session.old) (W.told writer.old) (desk.new, handler.new) (W.told writer.new)) }
+    ensures left { IfOk result (λ goes_on. front (unread session.new)
+        ≡ (if goes_on then partial else too_large)) }
+    ensures stopped { OnErr result
+        (IsStopped H.answers (desk.old, handler.old) (unread session.old) (W.told writer.old)
+        (desk.new, handler.new) (W.told writer.new)) }
     ensures well { OnOk result (W.has_failed writer.new ≡ false) }
     ensures goes_on { IfOk result (λ goes_on. IsTrue goes_on → ended_by session.new ≡ None) }
     ensures write_failed { result ≡ Err StreamFault.WriteFailed → W.has_failed writer.new ≡ true }
@@ -102,7 +109,8 @@ fn answer_frames<W: Sink, D, H: Handler<D>>(
     }
 }
 
-// Takes a piece that came, and answers each frame that is whole now. `false`: a length is over the limit.
+// Takes a piece that came, and answers each frame that is whole now. `false`: a length is over the
+// limit.
 fn take_piece<W: Sink, D, H: Handler<D>>(
     alloc: Global,
     session: &mut Session,
@@ -117,10 +125,15 @@ fn take_piece<W: Sink, D, H: Handler<D>>(
     requires sink { W.has_failed writer.old ≡ false }
     requires ready { H.ready handler.old }
     ensures ready { H.ready handler.new }
-    ensures served { IfOk result (λ _. (count : ℕ) × Serves H.answers (desk.old, handler.old) (unread session.old ++ piece.now) (W.told writer.old) count (desk.new, handler.new) (unread session.new) (W.told writer.new)
+    ensures served { IfOk result (λ _. (count : ℕ)
+        × Serves H.answers (desk.old, handler.old) (unread session.old
+        ++ piece.now) (W.told writer.old) count (desk.new, handler.new) (unread session.new)
+        (W.told writer.new)
         × (number.new ≡ min (number.old + count) (2 ^ 64 - 1))) }
-    ensures left { IfOk result (λ goes_on. front (unread session.new) ≡ (if goes_on then partial else too_large)) }
-    ensures stopped { OnErr result (IsStopped H.answers (desk.old, handler.old) (unread session.old ++ piece.now) (W.told writer.old) (desk.new, handler.new) (W.told writer.new)) }
+    ensures left { IfOk result (λ goes_on. front (unread session.new)
+        ≡ (if goes_on then partial else too_large)) }
+    ensures stopped { OnErr result (IsStopped H.answers (desk.old, handler.old) (unread session.old
+        ++ piece.now) (W.told writer.old) (desk.new, handler.new) (W.told writer.new)) }
     ensures well { OnOk result (W.has_failed writer.new ≡ false) }
     ensures goes_on { IfOk result (λ goes_on. IsTrue goes_on → ended_by session.new ≡ None) }
     ensures write_failed { result ≡ Err StreamFault.WriteFailed → W.has_failed writer.new ≡ true }
@@ -137,7 +150,8 @@ fn take_piece<W: Sink, D, H: Handler<D>>(
 fn refuse_length<W: Sink>(alloc: Global, writer: &mut W) -> Result<(), StreamFault>
     requires { W.has_failed writer.old ≡ false }
     ensures ok { OnOk result (W.told writer.new ≡ W.told writer.old ++ too_large_reply) }
-    ensures err { OnErr result ((n : ℕ) × (W.told writer.new ≡ W.told writer.old ++ take n too_large_reply)) }
+    ensures err { OnErr result ((n : ℕ)
+        × (W.told writer.new ≡ W.told writer.old ++ take n too_large_reply)) }
     ensures well { OnOk result (W.has_failed writer.new ≡ false) }
     ensures write_failed { result ≡ Err StreamFault.WriteFailed → W.has_failed writer.new ≡ true }
     ensures no_memory { result ≡ Err StreamFault.NoMemory → W.has_failed writer.new ≡ false }
@@ -158,14 +172,16 @@ fn refuse_length<W: Sink>(alloc: Global, writer: &mut W) -> Result<(), StreamFau
     }
 }
 
-/// Answers the frames of all that the reader gives, in order, each by one reply, and tells how many. Those that are answered 72 or 73
-/// count; the number stays at `2^64 - 1`.
+/// Answers the frames of all that the reader gives, in order, each by one reply, and tells how
+/// many. Those that are answered 72 or 73 count; the number stays at `2^64 - 1`.
 ///
-/// It reads pieces of at most 4,096 bytes up to the end of input, at most `2^64 - 1` of them. A last frame that is cut short is answered
-/// by nothing. A length over the limit is answered 71, once, which isn't counted, and nothing more is read.
+/// It reads pieces of at most 4,096 bytes up to the end of input, at most `2^64 - 1` of them. A
+/// last frame that is cut short is answered by nothing. A length over the limit is answered 71,
+/// once, which isn't counted, and nothing more is read.
 ///
-/// 83 where the reader failed, 84 where the writer failed, and 99 where a piece, a frame or a reply found no memory, and neither has failed. What
-/// was written is then a beginning of the replies, and the desk is that after the requests that were read so far.
+/// 83 where the reader failed, 84 where the writer failed, and 99 where a piece, a frame or a reply
+/// found no memory, and neither has failed. What was written is then a beginning of the replies,
+/// and the desk is that after the requests that were read so far.
 pub fn serve_stream<R: Source, W: Sink, D, H: Handler<D>>(
     alloc: Global,
     reader: &mut R,
@@ -177,14 +193,19 @@ pub fn serve_stream<R: Source, W: Sink, D, H: Handler<D>>(
     requires sink { W.has_failed writer.old ≡ false }
     requires ready { H.ready handler.old }
     ensures ready { H.ready handler.new }
-    ensures served { IfOk result (λ number. (all : List ℕ) × (R.told reader.new ≡ R.told reader.old ++ all)
-        × IsServed H.answers (desk.old, handler.old) all (W.told writer.old) (R.is_over reader.new ≡ true) (desk.new, handler.new) number (W.told writer.new)) }
+    ensures served { IfOk result (λ number. (all : List ℕ)
+        × (R.told reader.new ≡ R.told reader.old ++ all)
+        × IsServed H.answers (desk.old, handler.old) all (W.told writer.old) (R.is_over reader.new
+        ≡ true) (desk.new, handler.new) number (W.told writer.new)) }
     ensures stopped { OnErr result ((all : List ℕ) × (R.told reader.new ≡ R.told reader.old ++ all)
-        × IsStopped H.answers (desk.old, handler.old) all (W.told writer.old) (desk.new, handler.new) (W.told writer.new)) }
+        × IsStopped H.answers (desk.old, handler.old) all (W.told writer.old)
+        (desk.new, handler.new) (W.told writer.new)) }
     ensures read_failed { result ≡ Err StreamFault.ReadFailed → R.has_failed reader.new ≡ true }
     ensures write_failed { result ≡ Err StreamFault.WriteFailed → W.has_failed writer.new ≡ true }
-    ensures no_memory { result ≡ Err StreamFault.NoMemory → (R.has_failed reader.new ≡ false) × (W.has_failed writer.new ≡ false) }
-    ensures well { OnOk result ((R.has_failed reader.new ≡ false) × (W.has_failed writer.new ≡ false)) }
+    ensures no_memory { result ≡ Err StreamFault.NoMemory → (R.has_failed reader.new ≡ false)
+        × (W.has_failed writer.new ≡ false) }
+    ensures well { OnOk result ((R.has_failed reader.new ≡ false)
+        × (W.has_failed writer.new ≡ false)) }
 {
     let mut session = Session::new(alloc);
     let mut piece = [0u8; PIECE_LEN];

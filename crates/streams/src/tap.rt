@@ -6,8 +6,8 @@ use traces::Told;
 
 /// A reader or a writer, with what went through it.
 ///
-/// Its read fails where that of the reader gives an error, its write where that of the writer gives an error or takes no byte of a piece
-/// that isn't empty. Neither is tried again.
+/// Its read fails where that of the reader gives an error, its write where that of the writer gives
+/// an error or takes no byte of a piece that isn't empty. Neither is tried again.
 #[derive(Drop)]
 pub struct Tap<T> {
     inner: T,

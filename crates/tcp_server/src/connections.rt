@@ -18,7 +18,8 @@ fn serve_next<L: OpenListener<Stream = TcpStream>, N: Runner>(
 ) -> Result<(), ServeFault>
     requires { N.ready runner.old }
     ensures ready { N.ready runner.new }
-    ensures visit { Visit (answers_by N.starts N.looks N.takes) (desk.old, runner.old) result (desk.new, runner.new) }
+    ensures visit { Visit (answers_by N.starts N.looks N.takes) (desk.old, runner.old) result
+        (desk.new, runner.new) }
 {
     let Ok((stream, _)) = listener.accept() else {
         return Err(ServeFault::Socket);
@@ -44,10 +45,11 @@ fn first_fault(
     }
 }
 
-/// Serves so many connections of the listener, one after the other, each from the desk and the runner that the last one left.
+/// Serves so many connections of the listener, one after the other, each from the desk and the
+/// runner that the last one left.
 ///
-/// A connection that could not be taken, or that was given up by 83, 84 or 99, counts as served. The first such fault is answered at the
-/// end.
+/// A connection that could not be taken, or that was given up by 83, 84 or 99, counts as served.
+/// The first such fault is answered at the end.
 pub fn serve_connections<L: OpenListener<Stream = TcpStream>, N: Runner>(
     alloc: Global,
     listener: &L,
@@ -57,7 +59,8 @@ pub fn serve_connections<L: OpenListener<Stream = TcpStream>, N: Runner>(
 ) -> Result<(), ServeFault>
     requires { N.ready runner.old }
     ensures ready { N.ready runner.new }
-    ensures visits { Visits (answers_by N.starts N.looks N.takes) (desk.old, runner.old) sessions (desk.new, runner.new) result }
+    ensures visits { Visits (answers_by N.starts N.looks N.takes) (desk.old, runner.old) sessions
+        (desk.new, runner.new) result }
 {
     let mut outcome = Ok(());
     let mut done = 0;

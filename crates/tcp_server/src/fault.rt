@@ -6,7 +6,7 @@ use streams::StreamFault;
 use thiserror::Error;
 
 /// Why a server didn't serve all that it was to. The program ends with status 3 then.
-#[derive(Clone, Copy, Debug, PartialEq, Eq, Error)]
+#[derive(Clone, Copy, Debug, PartialEq, Eq, Hash, Error)]
 pub enum ServeFault {
     /// The port could not be listened on, or a connection not be taken.
     #[error("a socket failed")]

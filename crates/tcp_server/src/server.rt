@@ -11,11 +11,12 @@ use std::net::{Ipv4Addr, Net, OpenListener, SocketAddr, TcpListener, TcpStream};
 use std::sync::Wait;
 use std::thread::{JoinHandle, Threads};
 
-/// Serves so many connections of the listener, one after the other, on a new desk whose jobs a pool of so many workers a job runs, 1 to
-/// 16. Once the last has ended it joins the threads of all jobs, and returns if they do.
+/// Serves so many connections of the listener, one after the other, on a new desk whose jobs a pool
+/// of so many workers a job runs, 1 to 16. Once the last has ended it joins the threads of all
+/// jobs, and returns if they do.
 ///
-/// A connection that could not be taken, or that was given up by 83, 84 or 99, counts as served, and the next is taken with the same desk.
-/// The first such fault is answered at the end.
+/// A connection that could not be taken, or that was given up by 83, 84 or 99, counts as served,
+/// and the next is taken with the same desk. The first such fault is answered at the end.
 pub fn serve_on<
     R: Threads + Wait + Copy + Send + Sync + Drop + 'static,
     L: OpenListener<Stream = TcpStream>,
@@ -32,8 +33,8 @@ pub fn serve_on<
     served
 }
 
-/// Listens on this port of 127.0.0.1, and serves so many connections as [`serve_on`] does. It answers [`ServeFault::Socket`] where the port
-/// can't be listened on.
+/// Listens on this port of 127.0.0.1, and serves so many connections as [`serve_on`] does. It
+/// answers [`ServeFault::Socket`] where the port can't be listened on.
 pub fn serve<R: Net<Stream = TcpStream> + Threads + Wait + Copy + Send + Sync + Drop + 'static>(
     rt: R,
     alloc: Global,
