@@ -1,4 +1,5 @@
-//! `bpfjobs`: eBPF programs as text, their verdicts, and the jobs that run them. `bpfjobs --help` tells its commands.
+//! `bpfjobs`: eBPF programs as text, their verdicts, and the jobs that run them. `bpfjobs --help`
+//! tells its commands.
 #![tactic(auto)]
 
 ghost use Rattle.command_line.specs.Commands.{IsInRange};
@@ -40,7 +41,6 @@ fn explained<R: Print + Eprint>(rt: &R, usage: Usage) -> u8 {
             let _ = error.print(rt);
             if error.use_stderr() { USAGE } else { 0 }
         }
-        Usage::Unread => USAGE,
         Usage::NoMemory => FAILED,
     }
 }

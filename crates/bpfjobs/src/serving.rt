@@ -7,8 +7,8 @@ use std::net::{Net, TcpStream};
 use std::sync::Wait;
 use std::thread::Threads;
 
-/// Takes so many connections on the port of 127.0.0.1, one after the other, and gives the status: 0 once all have ended, 3 where one of
-/// them or the socket failed.
+/// Takes so many connections on the port of 127.0.0.1, one after the other, and gives the status: 0
+/// once all have ended, 3 where one of them or the socket failed.
 pub fn serve<R: Net<Stream = TcpStream> + Threads + Wait + Copy + Send + Sync + Drop + 'static>(
     rt: R,
     alloc: Global,

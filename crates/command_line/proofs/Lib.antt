@@ -1,1 +1,4 @@
+pub mod LineLemmas
 pub mod NumberLemmas
+pub mod RowLemmas
+pub mod SubcommandLemmas

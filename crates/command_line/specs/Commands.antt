@@ -28,6 +28,10 @@ IsCommandOf name rows (Serve port workers sessions) =
     (name ≡ codes "serve") × IsNumberIn rows (codes "port") 1 65535 port
     × IsNumberIn rows (codes "workers") 1 16 workers × IsNumberIn rows (codes "sessions") 1 1000000 sessions
 
+-- they are those of a command
+abbrev pub SaysCommand : Text → List Row → Type 0
+SaysCommand name rows = (command : Command) × IsCommandOf name rows command
+
 -- its numbers are in range
 abbrev pub IsInRange : Command → Type 0
 IsInRange Assemble = Unit {0}
@@ -41,5 +45,4 @@ IsInRange (Serve port workers sessions) =
 -- words that clap takes are refused for want of memory alone
 abbrev pub IsUsage : Usage → List Text → Type 0
 IsUsage (usage.Refused error) words = takes bpfjobs_app words ≡ true → kind_of error ≡ OutOfMemory
-IsUsage usage.Unread words = Unit {0}
 IsUsage usage.NoMemory words = Unit {0}

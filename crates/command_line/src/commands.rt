@@ -20,7 +20,8 @@ pub enum Command {
     Run {
         workers: u32,
     },
-    /// Requests over TCP on a port from 1 to 65535: 1 to 1,000,000 connections, with 1 to 16 threads for each job.
+    /// Requests over TCP on a port from 1 to 65535: 1 to 1,000,000 connections, with 1 to 16
+    /// threads for each job.
     Serve {
         port: u32,
         workers: u32,
@@ -33,8 +34,6 @@ pub enum Command {
 pub enum Usage {
     /// clap refuses them, or was asked for help. Its text says it.
     Refused(Error),
-    /// clap's matches have no such command, or no number in range. It doesn't come.
-    Unread,
     /// A growth was refused: 99.
     NoMemory,
 }

@@ -1,62 +1,64 @@
 //! The command that words say.
 
-ghost use Rattle.std.specs.Prelude.{◌≡◌, map, IfOk, IfErr, IfSome, Some, string_bytes, List};
+ghost use Rattle.std.specs.Prelude.{◌≡◌, ℕ, map, IfOk, IfErr, Some, string_bytes, List};
 ghost use Rattle.clap.specs.Words.{Row, Text, found_of, rows_of, subcommand_of};
 ghost use Rattle.command_line.specs.Program.{bpfjobs_app};
-ghost use Rattle.command_line.specs.Commands.{IsNumberIn, IsCommandOf, IsInRange, IsUsage};
+ghost use Rattle.command_line.specs.Commands.{IsNumberIn, IsCommandOf, IsInRange, IsUsage, SaysCommand};
 
 use crate::commands::{Command, Usage};
 use crate::program::bpfjobs;
 use clap::ArgMatches;
 use std::alloc::Global;
 
-// The number of an argument, from low to high.
-fn number(matches: &ArgMatches<'_>, id: &str, low: u32, high: u32) -> Option<u32>
-    ensures { IfSome result (λ n. IsNumberIn (rows_of (found_of matches.now)) id.now low high n) }
+// The number of an argument that has one, from low to high.
+fn number(matches: &ArgMatches<'_>, id: &str, low: u32, high: u32) -> u32
+    requires { (n : ℕ) × IsNumberIn (rows_of (found_of matches.now)) id.now low high n }
+    ensures { IsNumberIn (rows_of (found_of matches.now)) id.now low high result }
 {
-    let number = matches.get_one::<u32>(id)?;
-    if low <= number && number <= high {
-        Some(number)
-    } else {
-        None
+    match matches.get_one::<u32>(id) {
+        Some(number) => number,
+        None => unreachable!(),
     }
 }
 
-fn command_of(name: &str, matches: &ArgMatches<'_>) -> Option<Command>
-    ensures named { IfSome result (λ command. IsCommandOf name.now (rows_of (found_of matches.now)) command) }
-    ensures range { IfSome result (λ command. IsInRange command) }
+fn command_of(name: &str, matches: &ArgMatches<'_>) -> Command
+    requires { SaysCommand name.now (rows_of (found_of matches.now)) }
+    ensures named { IsCommandOf name.now (rows_of (found_of matches.now)) result }
+    ensures range { IsInRange result }
 {
     match name {
-        "assemble" => Some(Command::Assemble),
-        "disassemble" => Some(Command::Disassemble),
+        "assemble" => Command::Assemble,
+        "disassemble" => Command::Disassemble,
         "verify" => {
-            let need = number(matches, "need", 0, u32::MAX)?;
-            Some(Command::Verify { need })
+            let need = number(matches, "need", 0, u32::MAX);
+            Command::Verify { need }
         }
-        "play" => Some(Command::Play),
+        "play" => Command::Play,
         "run" => {
-            let workers = number(matches, "workers", 1, 16)?;
-            Some(Command::Run { workers })
+            let workers = number(matches, "workers", 1, 16);
+            Command::Run { workers }
         }
         "serve" => {
-            let port = number(matches, "port", 1, 65535)?;
-            let workers = number(matches, "workers", 1, 16)?;
-            let sessions = number(matches, "sessions", 1, 1000000)?;
-            Some(Command::Serve {
+            let port = number(matches, "port", 1, 65535);
+            let workers = number(matches, "workers", 1, 16);
+            let sessions = number(matches, "sessions", 1, 1000000);
+            Command::Serve {
                 port,
                 workers,
                 sessions,
-            })
+            }
         }
-        _ => None,
+        _ => unreachable!(),
     }
 }
 
-/// The command that the words say, of which the first is the program's name: the subcommand and its numbers are those that clap's matches
-/// of the words give. Words that clap takes are refused only for want of memory.
+/// The command that the words say, of which the first is the program's name: the subcommand and its
+/// numbers are those that clap's matches of the words give. Words that clap takes are refused only
+/// for want of memory.
 pub fn command(alloc: Global, words: &[String]) -> Result<Command, Usage>
     ensures ok { IfOk result (λ command. (name : Text) × (rows : List Row)
-        × (subcommand_of bpfjobs_app (map string_bytes words.now) ≡ Some (name, rows)) × IsCommandOf name rows command) }
+        × (subcommand_of bpfjobs_app (map string_bytes words.now) ≡ Some (name, rows))
+        × IsCommandOf name rows command) }
     ensures range { IfOk result (λ command. IsInRange command) }
     ensures err { IfErr result (λ usage. IsUsage usage (map string_bytes words.now)) }
 {
@@ -64,11 +66,8 @@ pub fn command(alloc: Global, words: &[String]) -> Result<Command, Usage>
         Ok(matches) => matches,
         Err(error) => return Err(Usage::Refused(error)),
     };
-    let Some((name, inner)) = matches.subcommand() else {
-        return Err(Usage::Unread);
-    };
-    match command_of(name, inner) {
-        Some(command) => Ok(command),
-        None => Err(Usage::Unread),
+    match matches.subcommand() {
+        Some((name, inner)) => Ok(command_of(name, inner)),
+        None => unreachable!(),
     }
 }

@@ -26,7 +26,8 @@ fn performed<R: Threads + Wait + Sync>(
     Ok(format!(in alloc; "{status} {}", text.trim_end())?)
 }
 
-/// The status of a row's command, a space, and what it printed; `2 ` where its words are wrong, and `serve` where they say that.
+/// The status of a row's command, a space, and what it printed; `2 ` where its words are wrong, and
+/// `serve` where they say that.
 pub fn answer<R: Threads + Wait + Sync>(
     rt: &R,
     alloc: Global,

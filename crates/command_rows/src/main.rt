@@ -1,5 +1,6 @@
-//! `command_rows FILE..`: reads rows, each the words of a command and its input, with the status and the text that it answers, and tells
-//! the rows that disagree. The answers were worked out by hand.
+//! `command_rows FILE..`: reads rows, each the words of a command and its input, with the status
+//! and the text that it answers, and tells the rows that disagree. The answers were worked out by
+//! hand.
 #![tactic(auto)]
 
 mod answers;

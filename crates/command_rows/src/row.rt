@@ -1,4 +1,5 @@
-//! Rows: words, input, status and output, with bars between them. A line that begins with `#` is a comment.
+//! Rows: words, input, status and output, with bars between them. A line that begins with `#` is a
+//! comment.
 
 use std::alloc::Global;
 

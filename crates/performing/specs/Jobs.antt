@@ -5,10 +5,8 @@ use Rattle.sessions.specs.Answers.{ObjectAnswer}
 use Rattle.sessions.specs.Faults.{code_of}
 use Rattle.sessions.specs.Replies.{play_data}
 use Rattle.sessions.specs.declared.request.JobObject.{JobObject}
-use Rattle.job_core.specs.declared.admission.AdmitFault.{AdmitFault}
-use Rattle.job_core.specs.declared.admission.AdmitFault.TheVariants as admit
 use Rattle.job_core.specs.declared.totals.Totals.{Totals}
-use Rattle.job_core.specs.Admission.{IsAdmittedFrom, RefusesJob, number_of, slot_of}
+use Rattle.job_core.specs.Admission.{IsAdmittedFrom, RefusesJob, number_of, place_of, slot_of}
 use Rattle.job_core.specs.Admitted.{Order}
 use Rattle.job_core.specs.Answers.{AreTotals}
 use Rattle.job_core.specs.Behind.{Kept, Plays}
@@ -29,19 +27,9 @@ IsDeclined wants input (declined.Object fault) = ObjectAnswer wants (Err fault) 
 IsDeclined wants input (declined.Job fault) =
     (object : JobObject) × ObjectAnswer wants (Ok object) input × RefusesJob object.programs.items object.credit object.buffer.items fault
 
--- the place of the program that a job isn't admitted for
-abbrev pub program_of : AdmitFault → Option ℕ
-program_of admit.NoPrograms = None
-program_of admit.TooManyPrograms = None
-program_of admit.TooLarge = None
-program_of (admit.Program index refusal) = Some index
-program_of admit.CreditLow = None
-program_of admit.BufferShort = None
-program_of admit.NoMemory = None
-
 abbrev pub declined_line : Declined → List ℕ
 declined_line (declined.Object fault) = refusal_reply (code_of fault) None None
-declined_line (declined.Job fault) = refusal_reply (number_of fault) (program_of fault) (slot_of fault)
+declined_line (declined.Job fault) = refusal_reply (number_of fault) (place_of fault) (slot_of fault)
 
 -- how far a job is
 pub record Tells (j : Job) (text : List ℕ) (status : ℕ) : Type 0 where

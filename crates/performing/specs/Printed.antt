@@ -3,8 +3,6 @@ use Rattle.std.specs.Prelude.{◌≡◌, ℕ, List, [], ◌∷◌, ◌++◌, cod
 use Rattle.std.specs.Fmt.{decimal}
 use Rattle.serde_json.specs.Data.{Data}
 use Rattle.serde_json.specs.Written.{compact_text}
-use Rattle.assembler.specs.declared.fault.TextFault.{TextFault}
-use Rattle.assembler.specs.declared.fault.TextFault.TheVariants.{UnknownWord, BadOperand, NumberRange, Empty, TooLong, NoMemory}
 use Rattle.sessions.specs.Replies.{refusal_data}
 
 -- a text and a status are these
@@ -26,12 +24,3 @@ reply_line value = compact_text value ++ 10 ∷ []
 
 abbrev pub refusal_reply : ℕ → Option ℕ → Option ℕ → List ℕ
 refusal_reply code program slot = reply_line (refusal_data code program slot)
-
--- the line that a refusal of source text tells
-abbrev pub line_of : TextFault → Option ℕ
-line_of (UnknownWord line) = Some line
-line_of (BadOperand line) = Some line
-line_of (NumberRange line) = Some line
-line_of Empty = None
-line_of TooLong = None
-line_of NoMemory = None

@@ -4,19 +4,19 @@ use Rattle.std.specs.Str.{IsUtf8}
 use Rattle.hex.specs.Hex.{encode_lower}
 use Rattle.insn_codec.specs.declared.insn.Insn.{Insn}
 use Rattle.insn_codec.specs.declared.fault.CodecFault.{CodecFault}
-use Rattle.insn_codec.specs.Fault.{code_of_fault as codec_number}
+use Rattle.insn_codec.specs.Fault.{code_of_fault as codec_number, slot_of_fault as codec_slot}
 use Rattle.insn_codec.specs.Spelling.{IsRefusal}
 use Rattle.disassembler.specs.Line.{IsListing}
 use Rattle.assembler.specs.declared.fault.TextFault.{TextFault}
-use Rattle.assembler.specs.Fault.{code_of_fault as text_number}
+use Rattle.assembler.specs.Fault.{code_of_fault as text_number, line_of}
 use Rattle.assembler.specs.Source.{IsAssembly, IsTextRefusal, source_lines}
 use Rattle.helpers.specs.Table.{job_table}
 use Rattle.verifier.specs.declared.refusals.Refusal.{Refusal}
 use Rattle.verifier.specs.Checked.{Checked, cost_at}
-use Rattle.verifier.specs.RefusalCodes.{codec_slot, number_of, slot_of}
+use Rattle.verifier.specs.RefusalCodes.{number_of, slot_of}
 use Rattle.verifier.specs.Refusals.{IsAccepted, Refuses}
 use Rattle.performing.specs.Hexadecimal.{IsHexadecimal, IsNoHexadecimal}
-use Rattle.performing.specs.Printed.{Prints, accepted_line, line_of, refusal_line}
+use Rattle.performing.specs.Printed.{Prints, accepted_line, refusal_line}
 
 -- of a source text
 pub data IsAssembled (source text : List ℕ) (status : ℕ) : Type 0 where

@@ -16,8 +16,13 @@ pub struct Answer {
 }
 
 /// The line of a refusal: `refused N`, or `refused N at K`, where K is the line or the slot.
-pub fn refused(alloc: Global, number: u8, place: Option<u64>) -> Result<Answer, NoMemory>
-    ensures { IfOk result (λ answer. Prints answer.text.items answer.status (refusal_line number place) 1) }
+pub(crate) fn answer_refusal(
+    alloc: Global,
+    number: u8,
+    place: Option<u64>,
+) -> Result<Answer, NoMemory>
+    ensures { IfOk result
+        (λ answer. Prints answer.text.items answer.status (refusal_line number place) 1) }
 {
     match place {
         Some(place) => {
@@ -38,8 +43,10 @@ pub fn refused(alloc: Global, number: u8, place: Option<u64>) -> Result<Answer, 
 }
 
 /// A reply as JSON, in a line.
-pub fn replied(alloc: Global, reply: &Reply, status: u8) -> Result<Answer, NoMemory>
-    ensures { IfOk result (λ answer. Prints answer.text.items answer.status (reply_line (reply_data reply.now)) status) }
+pub fn answer_reply(alloc: Global, reply: &Reply, status: u8) -> Result<Answer, NoMemory>
+    ensures { IfOk result
+        (λ answer. Prints answer.text.items answer.status (reply_line (reply_data reply.now))
+        status) }
 {
     let mut text = reply_text(alloc, reply)?;
     text.push(b'\n')?;

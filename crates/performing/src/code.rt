@@ -2,46 +2,20 @@
 
 ghost use Rattle.std.specs.Prelude.{◌≡◌, ◌∷◌, ◌++◌, [], IfOk};
 ghost use Rattle.hex.specs.Hex.{encode_lower};
-ghost use Rattle.verifier.specs.RefusalCodes.{codec_slot};
-ghost use Rattle.performing.specs.Printed.{Prints, accepted_line, line_of};
+ghost use Rattle.performing.specs.Printed.{Prints, accepted_line};
 ghost use Rattle.performing.specs.Programs.{IsAssembled, IsDisassembled, IsVerified};
 
-use crate::answer::{Answer, refused};
-use crate::hexadecimal::{Unread, decoded};
-use assembler::{TextFault, assemble};
+use crate::answer::{Answer, answer_refusal};
+use crate::hexadecimal::{Unread, read_hexadecimal};
+use assembler::assemble;
 use disassembler::disassemble;
 use helpers::HelperTable;
-use insn_codec::CodecFault;
 use refusal::NoMemory;
 use std::alloc::Global;
 use verifier::verify;
 
 // Input that isn't what it is to be.
 const NOT_INPUT: u8 = 73;
-
-// The line that a refusal tells, if it tells one.
-fn line_of(fault: &TextFault) -> Option<u64>
-    ensures { result ≡ line_of fault.now }
-{
-    match *fault {
-        TextFault::UnknownWord(line) | TextFault::BadOperand(line) | TextFault::NumberRange(line) =>
-            Some(line),
-        TextFault::Empty | TextFault::TooLong | TextFault::NoMemory => None,
-    }
-}
-
-// The slot that a refusal tells, if it tells one.
-fn slot_of(fault: &CodecFault) -> Option<u64>
-    ensures { result ≡ codec_slot fault.now }
-{
-    match *fault {
-        CodecFault::UnknownOp(slot)
-        | CodecFault::BadRegister(slot)
-        | CodecFault::UnusedField(slot)
-        | CodecFault::HalfWide(slot) => Some(slot as u64),
-        CodecFault::Empty | CodecFault::Ragged | CodecFault::TooLong | CodecFault::NoMemory => None,
-    }
-}
 
 // A slot as a place.
 fn place_of(slot: Option<u32>) -> Option<u64>
@@ -55,7 +29,8 @@ fn place_of(slot: Option<u32>) -> Option<u64>
 
 // Bytes in hexadecimal, in a line.
 fn in_hexadecimal(alloc: Global, bytes: &[u8]) -> Result<Answer, NoMemory>
-    ensures { IfOk result (λ answer. Prints answer.text.items answer.status (encode_lower bytes.now ++ 10 ∷ []) 0) }
+    ensures { IfOk result (λ answer. Prints answer.text.items answer.status (encode_lower bytes.now
+        ++ 10 ∷ []) 0) }
 {
     let mut text = hex::encode(alloc, bytes)?;
     text.push('\n')?;
@@ -65,27 +40,29 @@ fn in_hexadecimal(alloc: Global, bytes: &[u8]) -> Result<Answer, NoMemory>
     })
 }
 
-/// The bytes of the program that a source text says, in hexadecimal; or the refusal and its line. 73 where the input is no UTF-8.
-pub fn assembled(alloc: Global, source: &[u8]) -> Result<Answer, NoMemory>
+/// The bytes of the program that a source text says, in hexadecimal; or the refusal and its line.
+/// 73 where the input is no UTF-8.
+pub fn answer_assemble(alloc: Global, source: &[u8]) -> Result<Answer, NoMemory>
     ensures { IfOk result (λ answer. IsAssembled source.now answer.text.items answer.status) }
 {
     let text = match str::from_utf8(source) {
         Ok(text) => text,
-        Err(_) => return refused(alloc, NOT_INPUT, None),
+        Err(_) => return answer_refusal(alloc, NOT_INPUT, None),
     };
     match assemble(alloc, text) {
         Ok(bytes) => in_hexadecimal(alloc, &bytes),
-        Err(fault) => refused(alloc, fault.code(), line_of(&fault)),
+        Err(fault) => answer_refusal(alloc, fault.code(), fault.line()),
     }
 }
 
-/// The lines of the program that the input writes in hexadecimal; or the refusal and its slot. 73 where it isn't hexadecimal.
-pub fn disassembled(alloc: Global, input: &[u8]) -> Result<Answer, NoMemory>
+/// The lines of the program that the input writes in hexadecimal; or the refusal and its slot. 73
+/// where it isn't hexadecimal.
+pub fn answer_disassemble(alloc: Global, input: &[u8]) -> Result<Answer, NoMemory>
     ensures { IfOk result (λ answer. IsDisassembled input.now answer.text.items answer.status) }
 {
-    let bytes = match decoded(alloc, input) {
+    let bytes = match read_hexadecimal(alloc, input) {
         Ok(bytes) => bytes,
-        Err(Unread::NotHexadecimal) => return refused(alloc, NOT_INPUT, None),
+        Err(Unread::NotHexadecimal) => return answer_refusal(alloc, NOT_INPUT, None),
         Err(Unread::NoMemory) => return Err(NoMemory),
     };
     match disassemble(alloc, &bytes) {
@@ -93,12 +70,12 @@ pub fn disassembled(alloc: Global, input: &[u8]) -> Result<Answer, NoMemory>
             text: lines.into_bytes(),
             status: 0,
         }),
-        Err(fault) => refused(alloc, fault.code(), slot_of(&fault)),
+        Err(fault) => answer_refusal(alloc, fault.code(), place_of(fault.slot())),
     }
 }
 
 // The line of a program that is accepted.
-fn accepted(alloc: Global, cost: u32) -> Result<Answer, NoMemory>
+fn answer_cost(alloc: Global, cost: u32) -> Result<Answer, NoMemory>
     ensures { IfOk result (λ answer. Prints answer.text.items answer.status (accepted_line cost) 0) }
 {
     let line = format!(in alloc; "accepted cost {cost}\n")?;
@@ -108,18 +85,18 @@ fn accepted(alloc: Global, cost: u32) -> Result<Answer, NoMemory>
     })
 }
 
-/// The cost of the program that the input writes in hexadecimal, which calls the helpers of a job and needs so many bytes; or the refusal
-/// and its slot. 73 where the input isn't hexadecimal.
-pub fn verified(alloc: Global, need: u32, input: &[u8]) -> Result<Answer, NoMemory>
+/// The cost of the program that the input writes in hexadecimal, which calls the helpers of a job
+/// and needs so many bytes; or the refusal and its slot. 73 where the input isn't hexadecimal.
+pub fn answer_verify(alloc: Global, need: u32, input: &[u8]) -> Result<Answer, NoMemory>
     ensures { IfOk result (λ answer. IsVerified need input.now answer.text.items answer.status) }
 {
-    let code = match decoded(alloc, input) {
+    let code = match read_hexadecimal(alloc, input) {
         Ok(code) => code,
-        Err(Unread::NotHexadecimal) => return refused(alloc, NOT_INPUT, None),
+        Err(Unread::NotHexadecimal) => return answer_refusal(alloc, NOT_INPUT, None),
         Err(Unread::NoMemory) => return Err(NoMemory),
     };
     match verify(alloc, need, &code, &HelperTable::job()) {
-        Ok(program) => accepted(alloc, program.cost()),
-        Err(refusal) => refused(alloc, refusal.code(), place_of(refusal.slot())),
+        Ok(program) => answer_cost(alloc, program.cost()),
+        Err(refusal) => answer_refusal(alloc, refusal.code(), place_of(refusal.slot())),
     }
 }

@@ -2,9 +2,9 @@
 
 ghost use Rattle.std.specs.Prelude.{◌≡◌, IfOk, IfErr, Bool};
 ghost use Rattle.performing.specs.Printed.{Prints};
-ghost use Rattle.performing.specs.Jobs.{IsOrdered, IsDeclined, declined_line, program_of};
+ghost use Rattle.performing.specs.Jobs.{IsOrdered, IsDeclined, declined_line};
 
-use crate::answer::{Answer, replied};
+use crate::answer::{Answer, answer_reply};
 use job_core::{AdmitFault, Job, admit};
 use refusal::NoMemory;
 use sessions::{JobObject, Reply, SessionFault, job_object};
@@ -19,20 +19,11 @@ pub enum Declined {
     Job(AdmitFault),
 }
 
-// The place of the program that isn't accepted, if that is why.
-fn program_of(fault: &AdmitFault) -> Option<u32>
-    ensures { result ≡ program_of fault.now }
-{
-    match fault {
-        AdmitFault::Program(index, _) => Some(*index),
-        _ => None,
-    }
-}
-
 impl Declined {
     /// The refusal as a reply.
     pub fn answer(&self, alloc: Global) -> Result<Answer, NoMemory>
-        ensures { IfOk result (λ answer. Prints answer.text.items answer.status (declined_line self.now) 1) }
+        ensures { IfOk result
+            (λ answer. Prints answer.text.items answer.status (declined_line self.now) 1) }
     {
         let refusal = match self {
             Declined::Object(fault) => Reply::Refused {
@@ -42,16 +33,16 @@ impl Declined {
             },
             Declined::Job(fault) => Reply::Refused {
                 code: fault.code(),
-                program: program_of(fault),
+                program: fault.program(),
                 slot: fault.slot(),
             },
         };
-        replied(alloc, &refusal, 1)
+        answer_reply(alloc, &refusal, 1)
     }
 }
 
 /// The job that the input says, as it is admitted, and its schedule where one is wanted.
-pub fn ordered(
+pub fn read_job(
     alloc: Global,
     input: &[u8],
     wants_schedule: bool,

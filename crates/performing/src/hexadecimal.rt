@@ -22,7 +22,7 @@ fn is_trailing(byte: u8) -> bool
 }
 
 // The text without what trails it.
-fn trimmed(text: &[u8]) -> &[u8]
+fn trim(text: &[u8]) -> &[u8]
     ensures { IsTrimmed text.now result.now }
 {
     let mut end = text.len();
@@ -33,11 +33,11 @@ fn trimmed(text: &[u8]) -> &[u8]
 }
 
 /// The bytes, by digits in either case. Blanks and line ends behind them are dropped.
-pub fn decoded(alloc: Global, text: &[u8]) -> Result<Vec<u8>, Unread>
+pub fn read_hexadecimal(alloc: Global, text: &[u8]) -> Result<Vec<u8>, Unread>
     ensures ok { IfOk result (λ bytes. IsHexadecimal text.now bytes.items) }
     ensures err { IfErr result (λ why. why ≡ unread.NotHexadecimal → IsNoHexadecimal text.now) }
 {
-    match hex::decode(alloc, trimmed(text)) {
+    match hex::decode(alloc, trim(text)) {
         Ok(bytes) => Ok(bytes),
         Err(FromHexError::OutOfMemory) => Err(Unread::NoMemory),
         Err(_) => Err(Unread::NotHexadecimal),

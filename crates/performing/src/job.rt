@@ -6,8 +6,8 @@ ghost use Rattle.machine_model.specs.Job as model;
 ghost use Rattle.performing.specs.Printed.{Prints, refusal_reply};
 ghost use Rattle.performing.specs.Jobs.{IsPlayed, Tells};
 
-use crate::answer::{Answer, replied};
-use crate::declined::ordered;
+use crate::answer::{Answer, answer_reply};
+use crate::declined::read_job;
 use job_core::{World, play};
 use refusal::NoMemory;
 use sessions::Reply;
@@ -15,19 +15,21 @@ use std::alloc::Global;
 
 // There was no memory for it.
 fn out_of_memory(alloc: Global) -> Result<Answer, NoMemory>
-    ensures { IfOk result (λ answer. Prints answer.text.items answer.status (refusal_reply 99 None None) 1) }
+    ensures { IfOk result
+        (λ answer. Prints answer.text.items answer.status (refusal_reply 99 None None) 1) }
 {
     let refusal = Reply::Refused {
         code: 99,
         program: None,
         slot: None,
     };
-    replied(alloc, &refusal, 1)
+    answer_reply(alloc, &refusal, 1)
 }
 
 // How far the job is.
-fn told(alloc: Global, world: &World) -> Result<Answer, NoMemory>
-    ensures { IfOk result (λ answer. (j : model.Job) → IsBehind world.now j → Tells j answer.text.items answer.status) }
+fn answer_world(alloc: Global, world: &World) -> Result<Answer, NoMemory>
+    ensures { IfOk result (λ answer. (j : model.Job) → IsBehind world.now j
+        → Tells j answer.text.items answer.status) }
 {
     let buffer = world.buffer(alloc)?;
     let totals = world.totals();
@@ -39,19 +41,20 @@ fn told(alloc: Global, world: &World) -> Result<Answer, NoMemory>
         spent: totals.spent,
         used: totals.used,
     };
-    replied(alloc, &reply, 0)
+    answer_reply(alloc, &reply, 0)
 }
 
-/// How far the job that the input says comes by its schedule, as the reply; or the refusal as a reply.
-pub fn played(alloc: Global, input: &[u8]) -> Result<Answer, NoMemory>
+/// How far the job that the input says comes by its schedule, as the reply; or the refusal as a
+/// reply.
+pub fn answer_play(alloc: Global, input: &[u8]) -> Result<Answer, NoMemory>
     ensures { IfOk result (λ answer. IsPlayed input.now answer.text.items answer.status) }
 {
-    let (job, schedule) = match ordered(alloc, input, true) {
+    let (job, schedule) = match read_job(alloc, input, true) {
         Ok(order) => order,
         Err(why) => return why.answer(alloc),
     };
     match play(alloc, job, &schedule) {
-        Ok(world) => told(alloc, &world),
+        Ok(world) => answer_world(alloc, &world),
         Err(NoMemory) => out_of_memory(alloc),
     }
 }

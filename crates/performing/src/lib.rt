@@ -1,24 +1,25 @@
-//! The commands of `bpfjobs` that need no thread: from the bytes of the input to the text of the answer and the status.
+//! The commands of `bpfjobs` that need no thread: from the bytes of the input to the text of the
+//! answer and the status.
 #![tactic(auto)]
 
 // what is printed
 mod answer;
 
-pub use answer::{Answer, refused, replied};
+pub use answer::{Answer, answer_reply};
 
 // programs, as text and in hexadecimal
 mod code;
 mod hexadecimal;
 
-pub use code::{assembled, disassembled, verified};
-pub use hexadecimal::{Unread, decoded};
+pub use code::{answer_assemble, answer_disassemble, answer_verify};
+pub use hexadecimal::{Unread, read_hexadecimal};
 
 // jobs, as JSON
 mod declined;
 mod job;
 
-pub use declined::{Declined, ordered};
-pub use job::played;
+pub use declined::{Declined, read_job};
+pub use job::answer_play;
 
 // from a source to a sink
 mod ends;

@@ -4,7 +4,7 @@ ghost use Rattle.std.specs.Prelude.{◌≡◌, ◌⊎◌, ◌≤◌, ◌++◌, �
 ghost use Rattle.performing.specs.Performing.{IsCutShort};
 ghost use Rattle.pool_performing.specs.Runs.{IsOver, IsAnswer};
 
-use crate::run::ran;
+use crate::run::answer_run;
 use command_line::Command;
 use performing::{Answer, answer_to, read_all, tell};
 use refusal::NoMemory;
@@ -24,7 +24,7 @@ fn answer_of<T: Threads + Wait + Sync>(
     ensures { IfOk result (λ answer. IsAnswer command input.now answer.text.items answer.status) }
 {
     match command {
-        Command::Run { workers } => ran(rt, alloc, workers, input),
+        Command::Run { workers } => answer_run(rt, alloc, workers, input),
         Command::Assemble => answer_to(alloc, Command::Assemble, input),
         Command::Disassemble => answer_to(alloc, Command::Disassemble, input),
         Command::Verify { need } => answer_to(alloc, Command::Verify { need }, input),
@@ -33,11 +33,11 @@ fn answer_of<T: Threads + Wait + Sync>(
     }
 }
 
-/// Reads the whole input, writes the answer of any command but `serve`, and gives the status: 0 answered, 1 refused. A `run` waits for its
-/// threads.
+/// Reads the whole input, writes the answer of any command but `serve`, and gives the status: 0
+/// answered, 1 refused. A `run` waits for its threads.
 ///
-/// 83 where the reader failed, 84 where the writer failed, and 99 where the input or the answer found no memory. What was written is then a
-/// beginning of the answer, or nothing.
+/// 83 where the reader failed, 84 where the writer failed, and 99 where the input or the answer
+/// found no memory. What was written is then a beginning of the answer, or nothing.
 pub fn perform<T: Threads + Wait + Sync, R: Source, W: Sink>(
     rt: &T,
     alloc: Global,
@@ -48,14 +48,17 @@ pub fn perform<T: Threads + Wait + Sync, R: Source, W: Sink>(
     requires over { IsOver command }
     requires source { R.has_failed reader.old ≡ false }
     requires sink { W.has_failed writer.old ≡ false }
-    ensures done { IfOk result (λ status. (input text : List ℕ) × (R.told reader.new ≡ R.told reader.old ++ input)
+    ensures done { IfOk result (λ status. (input text : List ℕ)
+        × (R.told reader.new ≡ R.told reader.old ++ input)
         × ((R.is_over reader.new ≡ true) ⊎ (2 ^ 64 - 1 ≤ length input))
         × IsAnswer command input text status × (W.told writer.new ≡ W.told writer.old ++ text)) }
-    ensures stopped { OnErr result ((input : List ℕ) × (R.told reader.new ≡ R.told reader.old ++ input)
+    ensures stopped { OnErr result ((input : List ℕ)
+        × (R.told reader.new ≡ R.told reader.old ++ input)
         × IsCutShort (IsAnswer command input) (W.told writer.old) (W.told writer.new)) }
     ensures read_failed { result ≡ Err StreamFault.ReadFailed → R.has_failed reader.new ≡ true }
     ensures write_failed { result ≡ Err StreamFault.WriteFailed → W.has_failed writer.new ≡ true }
-    ensures well { OnOk result ((R.has_failed reader.new ≡ false) × (W.has_failed writer.new ≡ false)) }
+    ensures well { OnOk result ((R.has_failed reader.new ≡ false)
+        × (W.has_failed writer.new ≡ false)) }
 {
     let input = read_all(alloc, reader)?;
     let answer = answer_of(rt, alloc, command, &input)?;

@@ -6,7 +6,7 @@ ghost use Rattle.sessions.specs.Replies.{result_data};
 ghost use Rattle.pool_performing.specs.Runs.{IsRun};
 
 use credit_book::Report;
-use performing::{Answer, ordered, replied};
+use performing::{Answer, answer_reply, read_job};
 use refusal::NoMemory;
 use sessions::Reply;
 use std::alloc::Global;
@@ -18,21 +18,24 @@ use workers::{OpenGate, run_job};
 const NUMBER: u64 = 0;
 
 // A refusal that has a number alone.
-fn refused(alloc: Global, code: u8) -> Result<Answer, NoMemory>
-    ensures { IfOk result (λ answer. Prints answer.text.items answer.status (refusal_reply code None None) 1) }
+fn answer_failure(alloc: Global, code: u8) -> Result<Answer, NoMemory>
+    ensures { IfOk result
+        (λ answer. Prints answer.text.items answer.status (refusal_reply code None None) 1) }
 {
     let refusal = Reply::Refused {
         code,
         program: None,
         slot: None,
     };
-    replied(alloc, &refusal, 1)
+    answer_reply(alloc, &refusal, 1)
 }
 
 // What the job came to.
-fn reported(alloc: Global, report: &Report) -> Result<Answer, NoMemory>
+fn answer_report(alloc: Global, report: &Report) -> Result<Answer, NoMemory>
     ensures { IfOk result (λ answer. Prints answer.text.items answer.status
-        (reply_line (result_data report.now.buffer.items report.now.returned report.now.spent report.now.tasks.items)) 0) }
+        (reply_line
+        (result_data report.now.buffer.items report.now.returned report.now.spent
+        report.now.tasks.items)) 0) }
 {
     let result = Reply::Result {
         buffer: &report.buffer,
@@ -40,12 +43,12 @@ fn reported(alloc: Global, report: &Report) -> Result<Answer, NoMemory>
         spent: report.spent,
         tasks: &report.tasks,
     };
-    replied(alloc, &result, 0)
+    answer_reply(alloc, &result, 0)
 }
 
-/// What the job that the input says comes to on so many threads, 1 to 16, as the reply; or the refusal as a reply. It returns if its waits
-/// do.
-pub fn ran<R: Threads + Wait + Sync>(
+/// What the job that the input says comes to on so many threads, 1 to 16, as the reply; or the
+/// refusal as a reply. It returns if its waits do.
+pub fn answer_run<R: Threads + Wait + Sync>(
     rt: &R,
     alloc: Global,
     workers: u32,
@@ -54,16 +57,16 @@ pub fn ran<R: Threads + Wait + Sync>(
     requires { (1 ≤ workers) × (workers ≤ 16) }
     ensures { IfOk result (λ answer. IsRun input.now answer.text.items answer.status) }
 {
-    let (job, _) = match ordered(alloc, input, false) {
+    let (job, _) = match read_job(alloc, input, false) {
         Ok(order) => order,
         Err(why) => return why.answer(alloc),
     };
     let post = match job.board(alloc, NUMBER) {
         Ok((_, post, _)) => post,
-        Err(NoMemory) => return refused(alloc, 99),
+        Err(NoMemory) => return answer_failure(alloc, 99),
     };
     match run_job(rt, alloc, job, post, workers, &OpenGate) {
-        Ok(report) => reported(alloc, &report),
-        Err(fault) => refused(alloc, fault.code()),
+        Ok(report) => answer_report(alloc, &report),
+        Err(fault) => answer_failure(alloc, fault.code()),
     }
 }

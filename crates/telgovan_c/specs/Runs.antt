@@ -1,7 +1,7 @@
 -- Runs over the caller's memory, as C sees them.
 use Rattle.std.specs.Prelude.{◌≡◌, ℕ, zero, suc, ◌+◌, ◌<◌, ◌≤◌, ◌⊎◌, List, ◌++◌, length, take, drop, slice_range, slice_get, Some}
 use Rattle.helpers.specs.Table.{job_table}
-use Rattle.machine_model.specs.Alone.{Answers}
+use Rattle.machine_model.specs.Alone.{MayAnswer}
 use Rattle.verifier.specs.declared.refusals.Refusal.{Refusal}
 use Rattle.verifier.specs.Checked.{Checked}
 use Rattle.verifier.specs.RefusalCodes.{number_of}
@@ -10,35 +10,35 @@ use Rattle.virtual_machine.specs.declared.vm_fault.VmFault.{VmFault}
 use Rattle.virtual_machine.specs.Executes.{ExecutesOn, IsUnrunnable}
 use Rattle.virtual_machine.specs.VmFaultCodes.{code_of_fault}
 use Rattle.telgovan_c.specs.declared.verdicts.Verdict.{Verdict}
-use Rattle.telgovan_c.specs.declared.runs.Outcome.{Outcome}
+use Rattle.telgovan_c.specs.declared.runs.RunOutcome.{RunOutcome}
 use Rattle.telgovan_c.specs.declared.runs.Run.{Run}
 use Rattle.telgovan_c.specs.Verdicts.{accepted_verdict, refused_verdict}
 
 -- nobody answers a helper of a caller's, which no program may call
-abbrev pub unanswered : Answers
+abbrev pub unanswered : MayAnswer
 unanswered helper arguments answer = ⊥
 
-abbrev pub refused_run : ℕ → Outcome
+abbrev pub refused_run : ℕ → RunOutcome
 refused_run number = record { r0 = 0; status = number; used = 0 }
 
 -- What the program comes to on these bytes: the refusal of what is over a limit, else that of a single program, else its run by itself.
-pub data IsOutcome (p : Checked) (argument credit : ℕ) (old new : List ℕ) (told : Outcome) : Type 0 where
+pub data IsOutcome (p : Checked) (argument credit : ℕ) (old new : List ℕ) (told : RunOutcome) : Type 0 where
   over_limit : ((2147483647 < credit) ⊎ (65536 < length old)) → new ≡ old → told ≡ refused_run 65 → IsOutcome p argument credit old new told
   refused : credit ≤ 2147483647 → length old ≤ 65536 → (fault : VmFault) → IsUnrunnable (Some p) credit (length old) fault → new ≡ old → told ≡ refused_run (code_of_fault fault) → IsOutcome p argument credit old new told
   ran : credit ≤ 2147483647 → length old ≤ 65536 → (r0 used : ℕ) → ExecutesOn (Some p) unanswered argument credit old r0 used new → told ≡ record { r0 = r0; status = 0; used = used } → IsOutcome p argument credit old new told
 
 -- A run on its piece of the memory, where that has such a piece. Nothing else of the memory changes.
-pub data IsRun (p : Checked) (credit : ℕ) (old new : List ℕ) (run : Run) (told : Outcome) : Type 0 where
+pub data IsRun (p : Checked) (credit : ℕ) (old new : List ℕ) (run : Run) (told : RunOutcome) : Type 0 where
   inside : run.start + run.length ≤ length old → (left : List ℕ) → IsOutcome p run.argument credit (slice_range old run.start (run.start + run.length)) left told → new ≡ take run.start old ++ (left ++ drop (run.start + run.length) old) → IsRun p credit old new run told
   outside : length old < run.start + run.length → new ≡ old → told ≡ refused_run 43 → IsRun p credit old new run told
 
-abbrev pub with_outcome : Run → Outcome → Run
+abbrev pub with_outcome : Run → RunOutcome → Run
 with_outcome run told = record { start = run.start; length = run.length; argument = run.argument; outcome = told }
 
 -- the run of this number, told
 pub record IsTurn (p : Checked) (credit : ℕ) (old new : List ℕ) (asked told : List Run) (n : ℕ) : Type 0 where
   pub run : Run
-  pub outcome : Outcome
+  pub outcome : RunOutcome
   pub there : slice_get asked n ≡ Some run
   pub set : slice_get told n ≡ Some (with_outcome run outcome)
   pub comes : IsRun p credit old new run outcome
@@ -55,6 +55,6 @@ pub data IsBurst (need : ℕ) (code : List ℕ) (credit : ℕ) (old new : List �
   refused : (refusal : Refusal) → Refuses need code job_table refusal → verdict ≡ refused_verdict refusal → told ≡ asked → new ≡ old → IsBurst need code credit old new asked told verdict
 
 -- a program verified and run once; or refused, where nothing changes
-pub data IsSingle (need : ℕ) (code : List ℕ) (argument credit : ℕ) (old new : List ℕ) (told : Outcome) : Type 0 where
+pub data IsSingle (need : ℕ) (code : List ℕ) (argument credit : ℕ) (old new : List ℕ) (told : RunOutcome) : Type 0 where
   ran : (program : Checked) → IsAccepted need code job_table program → IsOutcome program argument credit old new told → IsSingle need code argument credit old new told
   refused : (refusal : Refusal) → Refuses need code job_table refusal → told ≡ refused_run (number_of refusal) → new ≡ old → IsSingle need code argument credit old new told

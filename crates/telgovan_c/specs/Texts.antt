@@ -3,24 +3,13 @@ use Rattle.std.specs.Prelude.{◌≡◌, ℕ, ◌<◌, ◌≤◌, List, ◌++◌
 use Rattle.std.specs.Str.{IsUtf8}
 use Rattle.insn_codec.specs.declared.insn.Insn.{Insn}
 use Rattle.insn_codec.specs.declared.fault.CodecFault.{CodecFault}
-use Rattle.insn_codec.specs.Fault.{code_of_fault as codec_number}
+use Rattle.insn_codec.specs.Fault.{code_of_fault as codec_number, slot_of_fault as codec_slot}
 use Rattle.insn_codec.specs.Spelling.{IsRefusal}
 use Rattle.disassembler.specs.Line.{IsListing}
 use Rattle.assembler.specs.declared.fault.TextFault.{TextFault}
-use Rattle.assembler.specs.declared.fault.TextFault.TheVariants.{UnknownWord, BadOperand, NumberRange, Empty, TooLong, NoMemory}
-use Rattle.assembler.specs.Fault.{code_of_fault as text_number}
+use Rattle.assembler.specs.Fault.{code_of_fault as text_number, line_of}
 use Rattle.assembler.specs.Source.{IsAssembly, IsTextRefusal, source_lines}
-use Rattle.verifier.specs.RefusalCodes.{codec_slot}
 use Rattle.telgovan_c.specs.declared.texts.Written.{Written}
-
--- the line that a refusal of source text tells
-abbrev pub line_of : TextFault → Option ℕ
-line_of (UnknownWord line) = Some line
-line_of (BadOperand line) = Some line
-line_of (NumberRange line) = Some line
-line_of Empty = None
-line_of TooLong = None
-line_of NoMemory = None
 
 abbrev pub refused_text : ℕ → Option ℕ → Written
 refused_text number None = record { length = 0; place = 0; status = number; has_place = false }

@@ -1,13 +1,14 @@
-//! The library as C sees it: verdicts, texts and runs over the caller's memory. No thread and no lock is in it, nothing is kept between calls,
-//! and nothing is touched but what a call lends.
+//! The library as C sees it: verdicts, texts and runs over the caller's memory. No thread and no
+//! lock is in it, nothing is kept between calls, and nothing is touched but what a call lends.
 //!
-//! `include/telgovan.h` declares what is exported here. Each answer has a status: 0, or the number of the refusal.
+//! `include/telgovan.h` declares what is exported here. Each answer has a status: 0, or the number
+//! of the refusal.
 #![tactic(auto)]
 
 mod runs;
 mod texts;
 mod verdicts;
 
-pub use runs::{Outcome, Run, telgovan_burst, telgovan_run};
+pub use runs::{Run, RunOutcome, telgovan_burst, telgovan_run};
 pub use texts::{Written, telgovan_assemble, telgovan_disassemble};
 pub use verdicts::{Verdict, telgovan_verify};

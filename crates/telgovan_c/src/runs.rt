@@ -6,7 +6,7 @@ ghost use Rattle.verifier.specs.Checked.{Checked};
 ghost use Rattle.virtual_machine.specs.Holding.{functions_in, program_in};
 ghost use Rattle.telgovan_c.specs.Runs.{IsBurst, IsOutcome, IsRun, IsSingle, RunInTurn, refused_run};
 
-use crate::verdicts::{Verdict, accepted, refused};
+use crate::verdicts::{Verdict, accepted_verdict, refused_verdict};
 use helpers::HelperTable;
 use std::alloc::Global;
 use verifier::{Verified, verify};
@@ -21,32 +21,32 @@ const MAX_CREDIT: u32 = 2147483647;
 
 const MAX_PART: usize = 65536;
 
-/// What a run came to: `status` is 0 where the program ran, with R0 and what it used of the credit. Otherwise `status` is the number of the
-/// refusal, and the memory is as it was.
+/// What a run came to: `status` is 0 where the program ran, with R0 and what it used of the credit.
+/// Otherwise `status` is the number of the refusal, and the memory is as it was.
 #[repr(C)]
 #[derive(Clone, Copy)]
-pub struct Outcome {
+pub struct RunOutcome {
     pub r0: u64,
     pub status: u32,
     pub used: u32,
 }
 
-/// A run of a burst: the piece of memory that is the program's part, so many bytes from `start` on, and the argument that it gets. `outcome` is
-/// what it came to.
+/// A run of a burst: the piece of memory that is the program's part, so many bytes from `start` on,
+/// and the argument that it gets. `outcome` is what it came to.
 #[repr(C)]
 #[derive(Clone, Copy)]
 pub struct Run {
     pub start: u64,
     pub length: u64,
     pub argument: u64,
-    pub outcome: Outcome,
+    pub outcome: RunOutcome,
 }
 
 // Nothing ran, for the refusal of this number.
-fn refused_run(number: u32) -> Outcome
+fn refused_run(number: u32) -> RunOutcome
     ensures { result ≡ refused_run number }
 {
-    Outcome {
+    RunOutcome {
         r0: 0,
         status: number,
         used: 0,
@@ -54,16 +54,18 @@ fn refused_run(number: u32) -> Outcome
 }
 
 // Runs the machine's program with these bytes as its part.
-fn run_on(vm: &mut Vm, bytes: &mut [u8], argument: u64, credit: u32) -> Outcome
+fn run_on(vm: &mut Vm, bytes: &mut [u8], argument: u64, credit: u32) -> RunOutcome
     requires functions { functions_in vm.old ≡ [] }
-    ensures outcome { (p : Checked) → program_in vm.old ≡ Some p → IsOutcome p argument credit bytes.old bytes.new result }
-    ensures kept { (program_in vm.new ≡ program_in vm.old) × (functions_in vm.new ≡ functions_in vm.old) }
+    ensures outcome { (p : Checked) → program_in vm.old ≡ Some p
+        → IsOutcome p argument credit bytes.old bytes.new result }
+    ensures kept { (program_in vm.new ≡ program_in vm.old)
+        × (functions_in vm.new ≡ functions_in vm.old) }
 {
     if credit > MAX_CREDIT || bytes.len() > MAX_PART {
         return refused_run(OVER_LIMIT);
     }
     match vm.execute(bytes, argument, credit) {
-        Ok(done) => Outcome {
+        Ok(done) => RunOutcome {
             r0: done.r0,
             status: 0,
             used: done.used,
@@ -73,10 +75,12 @@ fn run_on(vm: &mut Vm, bytes: &mut [u8], argument: u64, credit: u32) -> Outcome
 }
 
 // Runs the machine's program on the run's piece of the memory.
-fn run_at(vm: &mut Vm, memory: &mut [u8], run: &Run, credit: u32) -> Outcome
+fn run_at(vm: &mut Vm, memory: &mut [u8], run: &Run, credit: u32) -> RunOutcome
     requires functions { functions_in vm.old ≡ [] }
-    ensures run { (p : Checked) → program_in vm.old ≡ Some p → IsRun p credit memory.old memory.new run.now result }
-    ensures kept { (program_in vm.new ≡ program_in vm.old) × (functions_in vm.new ≡ functions_in vm.old) }
+    ensures run { (p : Checked) → program_in vm.old ≡ Some p
+        → IsRun p credit memory.old memory.new run.now result }
+    ensures kept { (program_in vm.new ≡ program_in vm.old)
+        × (functions_in vm.new ≡ functions_in vm.old) }
 {
     let size = memory.len() as u64;
     if run.start > size || run.length > size - run.start {
@@ -90,7 +94,8 @@ fn run_at(vm: &mut Vm, memory: &mut [u8], run: &Run, credit: u32) -> Outcome
 // Runs the machine's program on each piece in turn.
 fn run_all(vm: &mut Vm, memory: &mut [u8], runs: &mut [Run], credit: u32)
     requires functions { functions_in vm.old ≡ [] }
-    ensures runs { (p : Checked) → program_in vm.old ≡ Some p → RunInTurn p credit memory.old runs.old runs.new (length runs.old) memory.new }
+    ensures runs { (p : Checked) → program_in vm.old ≡ Some p
+        → RunInTurn p credit memory.old runs.old runs.new (length runs.old) memory.new }
     ensures length { length runs.new ≡ length runs.old }
 {
     let mut done = 0;
@@ -108,7 +113,7 @@ fn run_single(
     memory: &mut [u8],
     argument: u64,
     credit: u32,
-) -> Outcome
+) -> RunOutcome
     requires job { program.helpers ≡ job_table }
     ensures { IsOutcome program argument credit memory.old memory.new result }
 {
@@ -142,7 +147,7 @@ fn single(
     memory: &mut [u8],
     argument: u64,
     credit: u32,
-) -> Outcome
+) -> RunOutcome
     ensures { IsSingle need code.now argument credit memory.old memory.new result }
 {
     match verify(alloc, need, code, &HelperTable::job()) {
@@ -164,18 +169,19 @@ fn burst(
 {
     match verify(alloc, need, code, &HelperTable::job()) {
         Ok(program) => {
-            let verdict = accepted(&program);
+            let verdict = accepted_verdict(&program);
             run_burst(alloc, program, memory, runs, credit);
             verdict
         }
-        Err(refusal) => refused(&refusal),
+        Err(refusal) => refused_verdict(&refusal),
     }
 }
 
-/// Verifies a program of this need, with the helpers of a job, and runs it on each piece of the memory in turn, each time with this credit. It
-/// answers the verdict's status. Where the program is refused nothing runs. A run is refused, and the next goes on, by 65 where its piece has
-/// over 65,536 bytes or the credit is over 2,147,483,647, 43 where the memory has no such piece or the piece is shorter than the need, and 42 where
-/// the credit is under the cost.
+/// Verifies a program of this need, with the helpers of a job, and runs it on each piece of the
+/// memory in turn, each time with this credit. It answers the verdict's status. Where the program
+/// is refused nothing runs. A run is refused, and the next goes on, by 65 where its piece has over
+/// 65,536 bytes or the credit is over 2,147,483,647, 43 where the memory has no such piece or the
+/// piece is shorter than the need, and 42 where the credit is under the cost.
 #[unsafe(no_mangle)]
 pub extern "C" fn telgovan_burst(
     alloc: Global,
@@ -193,8 +199,9 @@ pub extern "C" fn telgovan_burst(
     verdict.status
 }
 
-/// Verifies a program of this need, with the helpers of a job, and runs it once with the memory as its part. It answers the outcome's status: that
-/// of the verdict where the program is refused, else the run's.
+/// Verifies a program of this need, with the helpers of a job, and runs it once with the memory as
+/// its part. It answers the outcome's status: that of the verdict where the program is refused,
+/// else the run's.
 #[unsafe(no_mangle)]
 pub extern "C" fn telgovan_run(
     alloc: Global,
@@ -203,7 +210,7 @@ pub extern "C" fn telgovan_run(
     credit: u32,
     argument: u64,
     memory: &mut [u8],
-    outcome: &mut Outcome,
+    outcome: &mut RunOutcome,
 ) -> u32
     ensures run { IsSingle need code.now argument credit memory.old memory.new outcome.new }
     ensures status { result ≡ outcome.new.status }

@@ -1,12 +1,10 @@
 //! Source text to bytes, and back.
 
 ghost use Rattle.std.specs.Prelude.{◌≡◌};
-ghost use Rattle.verifier.specs.RefusalCodes.{codec_slot};
-ghost use Rattle.telgovan_c.specs.Texts.{IsAssembled, IsDisassembled, IsWritten, line_of, refused_text};
+ghost use Rattle.telgovan_c.specs.Texts.{IsAssembled, IsDisassembled, IsWritten, refused_text};
 
-use assembler::{TextFault, assemble};
+use assembler::assemble;
 use disassembler::disassemble;
-use insn_codec::CodecFault;
 use std::alloc::Global;
 
 // What isn't UTF-8 is no text.
@@ -14,8 +12,9 @@ const NOT_TEXT: u32 = 73;
 // The room is shorter than what is to be written.
 const OVER_LIMIT: u32 = 65;
 
-/// What was written into the caller's room: `status` is 0 where it was, and `length` how many bytes. Where they don't fit, `status` is 65 and `length`
-/// is the room that they take. Otherwise `status` is the number of the refusal, and `place` the line or the slot where it stands, if
+/// What was written into the caller's room: `status` is 0 where it was, and `length` how many
+/// bytes. Where they don't fit, `status` is 65 and `length` is the room that they take. Otherwise
+/// `status` is the number of the refusal, and `place` the line or the slot where it stands, if
 /// `has_place`. The room stays as it was but for what was written.
 #[repr(C)]
 #[derive(Clone, Copy)]
@@ -27,7 +26,7 @@ pub struct Written {
 }
 
 // Nothing is written, for a refusal of this number.
-fn refused(number: u32, place: Option<u64>) -> Written
+fn refused_text(number: u32, place: Option<u64>) -> Written
     ensures { result ≡ refused_text number place }
 {
     Written {
@@ -57,55 +56,42 @@ fn write_into(bytes: &[u8], room: &mut [u8]) -> Written
     }
 }
 
-// The line that a refusal tells, if it tells one.
-fn line_of(fault: &TextFault) -> Option<u64>
-    ensures { result ≡ line_of fault.now }
+// A slot as a place.
+fn place_of(slot: Option<u32>) -> Option<u64>
+    ensures { result ≡ slot }
 {
-    match *fault {
-        TextFault::UnknownWord(line) | TextFault::BadOperand(line) | TextFault::NumberRange(line) =>
-            Some(line),
-        TextFault::Empty | TextFault::TooLong | TextFault::NoMemory => None,
-    }
-}
-
-// The slot that a refusal tells, if it tells one.
-fn slot_of(fault: &CodecFault) -> Option<u64>
-    ensures { result ≡ codec_slot fault.now }
-{
-    match *fault {
-        CodecFault::UnknownOp(slot)
-        | CodecFault::BadRegister(slot)
-        | CodecFault::UnusedField(slot)
-        | CodecFault::HalfWide(slot) => Some(slot as u64),
-        CodecFault::Empty | CodecFault::Ragged | CodecFault::TooLong | CodecFault::NoMemory => None,
+    match slot {
+        Some(slot) => Some(slot as u64),
+        None => None,
     }
 }
 
 // The bytes of the program that a source text says, into the room.
-fn assembled(alloc: Global, source: &[u8], room: &mut [u8]) -> Written
+fn assemble_into(alloc: Global, source: &[u8], room: &mut [u8]) -> Written
     ensures { IsAssembled source.now room.old room.new result }
 {
     let text = match str::from_utf8(source) {
         Ok(text) => text,
-        Err(_) => return refused(NOT_TEXT, None),
+        Err(_) => return refused_text(NOT_TEXT, None),
     };
     match assemble(alloc, text) {
         Ok(bytes) => write_into(&bytes, room),
-        Err(fault) => refused(u32::from(fault.code()), line_of(&fault)),
+        Err(fault) => refused_text(u32::from(fault.code()), fault.line()),
     }
 }
 
 // The lines of the program that the bytes spell, into the room.
-fn disassembled(alloc: Global, code: &[u8], room: &mut [u8]) -> Written
+fn disassemble_into(alloc: Global, code: &[u8], room: &mut [u8]) -> Written
     ensures { IsDisassembled code.now room.old room.new result }
 {
     match disassemble(alloc, code) {
         Ok(lines) => write_into(lines.as_bytes(), room),
-        Err(fault) => refused(u32::from(fault.code()), slot_of(&fault)),
+        Err(fault) => refused_text(u32::from(fault.code()), place_of(fault.slot())),
     }
 }
 
-/// Writes the bytes of the program that a source text says, and answers the status. 73 where the text is no UTF-8.
+/// Writes the bytes of the program that a source text says, and answers the status. 73 where the
+/// text is no UTF-8.
 #[unsafe(no_mangle)]
 pub extern "C" fn telgovan_assemble(
     alloc: Global,
@@ -116,11 +102,12 @@ pub extern "C" fn telgovan_assemble(
     ensures written { IsAssembled source.now room.old room.new told.new }
     ensures status { result ≡ told.new.status }
 {
-    *told = assembled(alloc, source, room);
+    *told = assemble_into(alloc, source, room);
     told.status
 }
 
-/// Writes the lines of the program that the bytes spell, each with a line feed behind it, and answers the status.
+/// Writes the lines of the program that the bytes spell, each with a line feed behind it, and
+/// answers the status.
 #[unsafe(no_mangle)]
 pub extern "C" fn telgovan_disassemble(
     alloc: Global,
@@ -131,6 +118,6 @@ pub extern "C" fn telgovan_disassemble(
     ensures written { IsDisassembled code.now room.old room.new told.new }
     ensures status { result ≡ told.new.status }
 {
-    *told = disassembled(alloc, code, room);
+    *told = disassemble_into(alloc, code, room);
     told.status
 }

@@ -7,8 +7,9 @@ use helpers::HelperTable;
 use std::alloc::Global;
 use verifier::{Refusal, Verified, verify};
 
-/// What is said of a program: `status` is 0 where it is accepted, and then `cost` is the most that a run may use of its credit. Otherwise
-/// `status` is the number of the refusal, and `slot` where it stands, if `has_slot`.
+/// What is said of a program: `status` is 0 where it is accepted, and then `cost` is the most that
+/// a run may use of its credit. Otherwise `status` is the number of the refusal, and `slot` where
+/// it stands, if `has_slot`.
 #[repr(C)]
 #[derive(Clone, Copy)]
 pub struct Verdict {
@@ -19,7 +20,7 @@ pub struct Verdict {
 }
 
 /// The verdict on a program that is accepted.
-pub(crate) fn accepted(program: &Verified) -> Verdict
+pub(crate) fn accepted_verdict(program: &Verified) -> Verdict
     ensures { result ≡ accepted_verdict program.now }
 {
     Verdict {
@@ -31,7 +32,7 @@ pub(crate) fn accepted(program: &Verified) -> Verdict
 }
 
 /// The verdict on one that is refused.
-pub(crate) fn refused(refusal: &Refusal) -> Verdict
+pub(crate) fn refused_verdict(refusal: &Refusal) -> Verdict
     ensures { result ≡ refused_verdict refusal.now }
 {
     let slot = refusal.slot();
@@ -48,8 +49,8 @@ fn verdict_on(alloc: Global, need: u32, code: &[u8]) -> Verdict
     ensures { IsVerdict need code.now result }
 {
     match verify(alloc, need, code, &HelperTable::job()) {
-        Ok(program) => accepted(&program),
-        Err(refusal) => refused(&refusal),
+        Ok(program) => accepted_verdict(&program),
+        Err(refusal) => refused_verdict(&refusal),
     }
 }
 

@@ -1,25 +1,33 @@
-use Rattle.std.proofs.Common.{ap, sym, refl, map, string_bytes, true, ◌≡◌, ◌∙◌}
-use Rattle.clap.specs.Words.{found_of, is_simple, rows_of, subcommand_of, subcommand_rows_of, takes}
-use Rattle.clap.proofs.OnLiterals.{clap_on_literals}
-use Rattle.command_line.specs.Program.{bpfjobs_app}
+use Rattle.std.proofs.Common.{ap, sym, map, string_bytes, is_some, true, true≢false, ◌≡◌, ◌∙◌}
+use Rattle.clap.specs.Words.{found_of, is_simple, is_simple_and_free, rows_of, subcommand_of, subcommand_rows_of, takes}
+use Rattle.clap.proofs.TakesLemmas.{some_rows}
+use Rattle.command_line.proofs.LineLemmas.{entered_says, is_entered, is_plain, plain}
 use Rattle.command_line.proofs.NumberLemmas.{pair_of, named}
 use Rattle.command_line.proofs.reading.command.Goals as goal
 
-is_plain : is_simple bpfjobs_app ≡ true
-unfolding clap_on_literals
-is_plain = refl
+pub command_of-requires : goal.command_of-requires
+command_of-requires c =
+    let words = map string_bytes c.args.words.now in
+    let entered = (c.in-Ok.ensures.matches (ap is_simple c.in_ok-bpfjobs.ensures ∙ is_plain)).1 in
+    let found = pair_of (subcommand_rows_of c.in-Ok.matches) c.in-Some.name.now (rows_of (found_of c.in-Some.inner.now)) (c.in-Some.ensures.name ∙ named _ _ _) c.in-Some.ensures.rows in
+    entered_says words _ c.in_ok-bpfjobs.ensures (c.in-Ok.ensures.kinds (ap is_simple_and_free c.in_ok-bpfjobs.ensures ∙ plain)) c.in-Some.name.now (rows_of (found_of c.in-Some.inner.now)) (sym entered ∙ found)
 
-pub returns-in-Some-command_of-clause-ok : goal.returns-in-Some-command_of-clause-ok
-returns-in-Some-command_of-clause-ok c =
-    let plain = ap is_simple c.in_ok-bpfjobs.ensures ∙ is_plain in
-    let entered = (c.in-Ok.ensures.matches plain).1 in
-    let name = c.in-Some.ensures.name in
-    let rows = c.in-Some.ensures.rows in
-    let found = pair_of (subcommand_rows_of c.in-Ok.matches) c.in-Some.name.now (rows_of (found_of c.in-Some.inner.now)) (name ∙ named _ _ _) rows in (
+pub unreachable-requires : goal.unreachable-requires
+unreachable-requires c =
+    let words = map string_bytes c.args.words.now in
+    let entered = (c.in-Ok.ensures.matches (ap is_simple c.in_ok-bpfjobs.ensures ∙ is_plain)).1 in
+    let there = is_entered words _ c.in_ok-bpfjobs.ensures (c.in-Ok.ensures.kinds (ap is_simple_and_free c.in_ok-bpfjobs.ensures ∙ plain)) in
+    let met : is_some c.subcommand.result ≡ true = c.subcommand.ensures.variant ∙ some_rows _ ∙ ap is_some entered ∙ there in
+    true≢false (sym met ∙ ap is_some c.in-None.is)
+
+pub returns-clause-ok : goal.returns-clause-ok
+returns-clause-ok c =
+    let entered = (c.in-Ok.ensures.matches (ap is_simple c.in_ok-bpfjobs.ensures ∙ is_plain)).1 in
+    let found = pair_of (subcommand_rows_of c.in-Ok.matches) c.in-Some.name.now (rows_of (found_of c.in-Some.inner.now)) (c.in-Some.ensures.name ∙ named _ _ _) c.in-Some.ensures.rows in (
       c.in-Some.name.now,
       rows_of (found_of c.in-Some.inner.now),
       ap (λ a. subcommand_of a (map string_bytes c.args.words.now)) (sym c.in_ok-bpfjobs.ensures) ∙ sym entered ∙ found,
-      c.in-Some-command_of.ensures.named,
+      c.command_of.ensures.named,
     )
 
 pub returns-in-Err-clause-err : goal.returns-in-Err-clause-err

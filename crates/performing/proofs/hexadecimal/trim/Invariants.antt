@@ -1,6 +1,6 @@
 use Rattle.std.proofs.Common.{◌≤◌, ◌<◌, ℕ, length, slice_index}
 use Rattle.performing.specs.Hexadecimal.{IsTrailing}
-use Rattle.performing.proofs.hexadecimal.trimmed.Given as goal
+use Rattle.performing.proofs.hexadecimal.trim.Given as goal
 
 abbrev pub invariant-loop-end : goal.invariant-loop-end
 invariant-loop-end l = record {

@@ -1,7 +1,7 @@
 use Rattle.std.proofs.Common.{refl}
 use Rattle.std.specs.Prelude.{string_bytes}
 use Rattle.telgovan_c.specs.Texts.{listed, refused}
-use Rattle.telgovan_c.proofs.texts.disassembled.Goals as goal
+use Rattle.telgovan_c.proofs.texts.disassemble_into.Goals as goal
 
 pub returns-in-Ok : goal.returns-in-Ok
 returns-in-Ok c =
@@ -10,4 +10,4 @@ returns-in-Ok c =
 
 pub returns-in-Err : goal.returns-in-Err
 returns-in-Err c =
-    refused c.in-Err.fault c.in-Err.ensures.refused refl (rw (c.from.ensures, c.code.ensures, c.slot_of.ensures) at c.refused.ensures)
+    refused c.in-Err.fault c.in-Err.ensures.refused refl (rw (c.from.ensures, c.code.ensures, c.place_of.ensures, c.slot.ensures) at c.refused_text.ensures)

@@ -2,7 +2,7 @@ use Rattle.std.proofs.Common.{rules, refl}
 use Rattle.std.proofs.lemmas.Result.{IfOk-weaker}
 use Rattle.std.specs.Prelude.{string_bytes}
 use Rattle.performing.specs.Programs.{listed, refused}
-use Rattle.performing.proofs.code.disassembled.Goals as goal
+use Rattle.performing.proofs.code.answer_disassemble.Goals as goal
 
 pub returns-in-Ok-disassemble : goal.returns-in-Ok-disassemble
 returns-in-Ok-disassemble c =
@@ -12,4 +12,4 @@ returns-in-Ok-disassemble c =
 pub returns : goal.returns
 returns c =
     let why = rw c.deref.ensures.value at c.in-Err.ensures.refused in
-    IfOk-weaker c.refused-in-Err.result _ _ (λ a p. refused c.in-Ok.bytes.items c.in-Err.fault c.in-Ok.ensures.ok why (rw (c.code.ensures, c.slot_of.ensures) at p)) c.refused-in-Err.ensures
+    IfOk-weaker c.answer_refusal-in-Err.result _ _ (λ a p. refused c.in-Ok.bytes.items c.in-Err.fault c.in-Ok.ensures.ok why (rw (c.code.ensures, c.place_of.ensures, c.slot.ensures) at p)) c.answer_refusal-in-Err.ensures

@@ -1,6 +1,6 @@
 use Rattle.std.proofs.Common.{arith, refl}
-use Rattle.performing.proofs.hexadecimal.trimmed.Goals as goal
-use Rattle.performing.proofs.hexadecimal.trimmed.Goals.{then-loop-end-test+else-is_trailing, else-loop-end-test}
+use Rattle.performing.proofs.hexadecimal.trim.Goals as goal
+use Rattle.performing.proofs.hexadecimal.trim.Goals.{then-loop-end-test+else-is_trailing, else-loop-end-test}
 
 pub returns : goal.returns
 returns c = record {

@@ -1,6 +1,6 @@
 use Rattle.std.proofs.lemmas.Result.{IfOk-weaker}
 use Rattle.performing.specs.Programs.{assembled, refused}
-use Rattle.performing.proofs.code.assembled.Goals as goal
+use Rattle.performing.proofs.code.answer_assemble.Goals as goal
 
 pub returns-in-Ok-assemble : goal.returns-in-Ok-assemble
 returns-in-Ok-assemble c =
@@ -12,4 +12,4 @@ pub returns-in-Err-assemble : goal.returns-in-Err-assemble
 returns-in-Err-assemble c =
     let cases = c.in-Ok.ensures.cases in
     let why = rw cases.0 at c.in-Err-assemble.ensures.refused in
-    IfOk-weaker c.refused-in-Err-assemble.result _ _ (λ a p. refused c.in-Err-assemble.fault cases.1 why (rw (c.code.ensures, c.line_of.ensures) at p)) c.refused-in-Err-assemble.ensures
+    IfOk-weaker c.answer_refusal-in-Err-assemble.result _ _ (λ a p. refused c.in-Err-assemble.fault cases.1 why (rw (c.code.ensures, c.line.ensures) at p)) c.answer_refusal-in-Err-assemble.ensures

@@ -1,5 +1,5 @@
 use Rattle.std.proofs.Common.{refl}
-use Rattle.performing.proofs.declined.ordered.Goals as goal
+use Rattle.performing.proofs.declined.read_job.Goals as goal
 
 pub returns-in-Ok-admit-clause-ok : goal.returns-in-Ok-admit-clause-ok
 returns-in-Ok-admit-clause-ok c = record {
