@@ -1,4 +1,5 @@
-//! `bpfrun FILE`: verifies one eBPF program, runs it by itself and prints what it comes to. `bpfrun --help` tells how.
+//! `bpfrun FILE`: verifies one eBPF program, runs it by itself and prints what it comes to. `bpfrun
+//! --help` tells how.
 #![tactic(auto)]
 
 ghost use Rattle.std.specs.Prelude.{◌≤◌};
@@ -36,7 +37,6 @@ fn explained<R: Print + Eprint>(rt: &R, usage: Usage) -> u8 {
             let _ = error.print(rt);
             if error.use_stderr() { USAGE } else { 0 }
         }
-        Usage::Unread => USAGE,
         Usage::NoMemory => FAILED,
     }
 }

@@ -1,17 +1,12 @@
 -- The lines of a source text that say something.
-use Rattle.std.proofs.Common.{◌≡◌, inl, inr, ℕ, ◌+◌, Bool, true, false, List, [], ◌∷◌, ◌++◌, length, refl, ap, sym, subst, ◌∙◌, append_assoc}
+use Rattle.std.proofs.Common.{◌≡◌, ℕ, ◌+◌, Bool, true, false, List, [], ◌∷◌, ◌++◌, length, refl, ap, sym, ◌∙◌, append_assoc}
 use Rattle.std.specs.Prelude.{◌==◌, if◌then◌else◌}
 use Rattle.std.specs.List.{slice_split}
 use Rattle.std.proofs.lemmas.List.{append-nil}
 use Rattle.disassembler.specs.Cut.{IsFree, BeginsWith}
 use Rattle.assembler.specs.Source.{is_line_feed, numbered, stripped}
-use Rattle.assembler.proofs.SourceLines.{left_of, split_last, split_more}
+use Rattle.assembler.proofs.SourceLines.{cut_at, left_of}
 use Rattle.trial.specs.Places.{said}
-
-cut_at : (line tail : List ℕ) → IsFree 10 10 line → BeginsWith 10 10 tail → slice_split is_line_feed (line ++ tail) ≡ line ∷ left_of tail
-cut_at line [] f b = ap (slice_split is_line_feed) (append-nil line) ∙ split_last line f
-cut_at line (c ∷ cs) f (inl b) = ap (λ (x : ℕ). slice_split is_line_feed (line ++ x ∷ cs)) b ∙ split_more line cs f
-cut_at line (c ∷ cs) f (inr b) = ap (λ (x : ℕ). slice_split is_line_feed (line ++ x ∷ cs)) b ∙ split_more line cs f
 
 by_test : (b : Bool) (x : ℕ × List ℕ) (more : List (ℕ × List ℕ)) → if◌then◌else◌ {A = List (ℕ × List ℕ)} b more (x ∷ more) ≡ if◌then◌else◌ {A = List (ℕ × List ℕ)} b [] (x ∷ []) ++ more
 by_test true x more = refl

@@ -11,7 +11,7 @@ use Rattle.trial.specs.declared.fault.Fault.TheVariants as fault
 use Rattle.trial.specs.declared.form.Form.{Form}
 use Rattle.trial.specs.declared.lines.Line.{Line}
 use Rattle.trial.specs.Forms.{IsRead, IsUnread}
-use Rattle.trial.specs.Places.{IsPlace, told}
+use Rattle.trial.specs.Places.{IsPlace, IsQuote, told}
 use Rattle.trial.specs.Printed.{IsRefusalText, ran_text}
 use Rattle.trial.specs.Runs.{IsRun, IsStopped}
 
@@ -30,12 +30,14 @@ part_of need None = replicate (min (need_of need None) 65536) 0
 abbrev pub shown : Bool → List ℕ → Option (List ℕ)
 shown is_shown left = if is_shown then Some left else None
 
--- The lines of the refusal, with the place that it is about.
+-- The lines of the refusal, with what it quotes and the place that it is about.
 pub record IsDeclined (form : Form) (input code : List ℕ) (why : Fault) (text : List ℕ) (status : ℕ) : Type 0 where
   pub lasting : why ≢ fault.NoMemory
+  pub quote : Option (List ℕ)
+  pub quotes : IsQuote why input quote
   pub place : Option Line
   pub about : IsPlace form why input code place
-  pub lines : IsRefusalText why (option_map told place) text
+  pub lines : IsRefusalText why quote (option_map told place) text
   pub one : status ≡ 1
 
 -- The verifier's refusal is told, or explained.
@@ -49,7 +51,7 @@ pub data IsJudged (asked : Asked) (need : ℕ) (input code old left : List ℕ) 
   rejected : (why : Refusal) → IsStopped need code asked.credit old (fault.Program why) → left ≡ old → IsRejected asked need input code why text status → IsJudged asked need input code old left is_shown text status
   stopped : (why : Fault) → IsStopped need code asked.credit old why → left ≡ old → IsDeclined asked.form input code why text status → IsJudged asked need input code old left is_shown text status
 
--- The same of a program as its file has it.
+-- What is answered to a program as its file has it.
 pub data IsTried (asked : Asked) (need : ℕ) (input old left : List ℕ) (is_shown : Bool) (text : List ℕ) (status : ℕ) : Type 0 where
   judged : (code : List ℕ) → IsRead asked.form input code → IsJudged asked need input code old left is_shown text status → IsTried asked need input old left is_shown text status
   unread : (why : Fault) → IsUnread asked.form input why → left ≡ old → IsDeclined asked.form input [] why text status → IsTried asked need input old left is_shown text status

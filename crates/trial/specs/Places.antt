@@ -1,10 +1,12 @@
 -- The line of a source text that a refusal is about.
 use Rattle.std.specs.Prelude.{◌≡◌, ◌≢◌, ℕ, ◌==◌, List, [], ◌∷◌, length, Option, Some, None, option_map, slice_get, if◌then◌else◌}
+use Rattle.std.specs.Str.{IsUtf8}
 use Rattle.insn_codec.specs.declared.insn.Placed.{Placed}
 use Rattle.insn_codec.specs.Spelling.{IsProgram, IsRefusal}
 use Rattle.insn_codec.specs.declared.fault.CodecFault.{CodecFault}
 use Rattle.assembler.specs.Source.{source_lines}
-use Rattle.performing.specs.Printed.{line_of}
+use Rattle.assembler.specs.Fault.{line_of}
+use Rattle.assembler.specs.Quoted.{line_numbered, quoted_of}
 use Rattle.verifier.specs.RefusalCodes.{slot_of}
 use Rattle.trial.specs.declared.fault.Fault.{Fault}
 use Rattle.trial.specs.declared.fault.Fault.TheVariants as fault
@@ -22,8 +24,7 @@ said number text = if length text == 0 then [] else (number, text) ∷ []
 
 -- the line of this number
 abbrev pub IsNumbered : ℕ → List (ℕ × List ℕ) → Option Line → Type 0
-IsNumbered number lines None = (k : ℕ) (line : ℕ × List ℕ) → slice_get lines k ≡ Some line → line.0 ≢ number
-IsNumbered number lines (Some line) = (k : ℕ) × (slice_get lines k ≡ Some (told line)) × (line.number ≡ number)
+IsNumbered number lines place = option_map told place ≡ option_map (λ text. (number, text)) (line_numbered number lines)
 
 -- the number of the instruction at this slot
 abbrev pub IsIndex : ℕ → List Placed → Option ℕ → Type 0
@@ -60,3 +61,14 @@ abbrev pub IsPlace : Form → Fault → List ℕ → List ℕ → Option Line �
 IsPlace Text why input code place = IsTextPlace why input code place
 IsPlace Hexadecimal why input code place = place ≡ None
 IsPlace Bytes why input code place = place ≡ None
+
+-- what a refusal quotes of a source text, which is UTF-8
+abbrev pub IsQuote : Fault → List ℕ → Option (List ℕ) → Type 0
+IsQuote fault.NotText input quote = quote ≡ None
+IsQuote fault.NotHexadecimal input quote = quote ≡ None
+IsQuote (fault.Text why) input quote = IsUtf8 input → quote ≡ quoted_of why input
+IsQuote fault.MemoryTooLarge input quote = quote ≡ None
+IsQuote (fault.Program why) input quote = quote ≡ None
+IsQuote (fault.CreditLow wanted given) input quote = quote ≡ None
+IsQuote (fault.MemoryShort wanted given) input quote = quote ≡ None
+IsQuote fault.NoMemory input quote = quote ≡ None

@@ -22,10 +22,15 @@ abbrev pub place_line : Option (ℕ × List ℕ) → List ℕ
 place_line None = []
 place_line (Some line) = ((codes "line " ++ (decimal line.0 ++ codes ": ")) ++ line.1) ++ 10 ∷ []
 
-abbrev pub refused_line : ℕ → List ℕ → List ℕ
-refused_line number words = codes "refused " ++ (decimal number ++ (codes ": " ++ (words ++ codes "\n")))
+-- a colon and what is quoted, where something is
+abbrev pub quote_text : Option (List ℕ) → List ℕ
+quote_text None = []
+quote_text (Some part) = codes ": `" ++ (part ++ codes "`")
 
--- `refused N: ` with words, and the line
-pub record IsRefusalText (fault : Fault) (place : Option (ℕ × List ℕ)) (text : List ℕ) : Type 0 where
+abbrev pub refused_line : ℕ → List ℕ → Option (List ℕ) → List ℕ
+refused_line number words quote = codes "refused " ++ (decimal number ++ (codes ": " ++ (words ++ (quote_text quote ++ codes "\n"))))
+
+-- `refused N: ` with words and what is quoted, and the line
+pub record IsRefusalText (fault : Fault) (quote : Option (List ℕ)) (place : Option (ℕ × List ℕ)) (text : List ℕ) : Type 0 where
   pub words : List ℕ
-  pub same : text ≡ refused_line (number_of fault) words ++ place_line place
+  pub same : text ≡ refused_line (number_of fault) words quote ++ place_line place

@@ -1,7 +1,7 @@
 -- What a program comes to on a memory: its run by itself, or why it doesn't run.
 use Rattle.std.specs.Prelude.{◌≡◌, ◌≢◌, ℕ, ◌<◌, ◌≤◌, List, length, Some}
 use Rattle.helpers.specs.Table.{job_table}
-use Rattle.machine_model.specs.Alone.{Answers}
+use Rattle.machine_model.specs.Alone.{MayAnswer}
 use Rattle.verifier.specs.declared.refusals.Refusal.{Refusal}
 use Rattle.verifier.specs.declared.refusals.Refusal.TheVariants as refusal
 use Rattle.verifier.specs.Checked.{Checked, cost_at}
@@ -11,7 +11,7 @@ use Rattle.trial.specs.declared.fault.Fault.{Fault}
 use Rattle.trial.specs.declared.fault.Fault.TheVariants as fault
 
 -- nobody answers a helper of a caller's, which no program may call
-abbrev pub unanswered : Answers
+abbrev pub unanswered : MayAnswer
 unanswered helper arguments answer = ⊥
 
 -- the program is accepted, and runs with R0 and what it used of the credit, and leaves these bytes

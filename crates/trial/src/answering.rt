@@ -8,10 +8,10 @@ ghost use Rattle.trial.specs.declared.fault.Fault.TheVariants as fault_variant;
 
 use crate::fault::Fault;
 use crate::form::Form;
-use crate::place::place_of;
+use crate::place::{place_of, quote_of};
 use crate::reading::bytes_of;
 use crate::running::run;
-use crate::telling::{ran, refused};
+use crate::telling::{tell_refusal, tell_run};
 use explain::explain;
 use helpers::HelperTable;
 use performing::Answer;
@@ -26,7 +26,8 @@ const MAX_NEED: usize = 65536;
 #[derive(Clone, Copy, Debug, PartialEq, Eq)]
 pub struct Asked {
     pub form: Form,
-    /// How many bytes of its part it needs; if that isn't said, all of its memory, and none without one.
+    /// How many bytes of its part it needs; if that isn't said, all of its memory, and none without
+    /// one.
     pub need: Option<u32>,
     pub arg: u64,
     pub credit: u32,
@@ -48,14 +49,15 @@ fn need_of(need: Option<u32>, memory: Option<&[u8]>) -> u32
 }
 
 // Why the verifier refuses a program; none where it doesn't.
-fn explained(
+fn explain_refusal(
     alloc: Global,
     form: Form,
     need: u32,
     input: &[u8],
     code: &[u8],
 ) -> Result<Option<Answer>, NoMemory>
-    ensures { IfOk result (λ told. IfSome told (λ answer. ((why : Refusal) × Refuses need code.now job_table why) × (answer.status ≡ 1))) }
+    ensures { IfOk result (λ told. IfSome told (λ answer. ((why : Refusal)
+        × Refuses need code.now job_table why) × (answer.status ≡ 1))) }
 {
     let source = match form {
         Form::Text => str::from_utf8(input).ok(),
@@ -71,7 +73,7 @@ fn explained(
 }
 
 // The lines of a refusal.
-fn declined(
+fn print_refusal(
     alloc: Global,
     form: Form,
     input: &[u8],
@@ -79,14 +81,15 @@ fn declined(
     fault: &Fault,
 ) -> Result<Answer, NoMemory>
     requires { fault.now ≢ fault_variant.NoMemory }
-    ensures { IfOk result (λ answer. IsDeclined form input.now code.now fault.now answer.text.items answer.status) }
+    ensures { IfOk result
+        (λ answer. IsDeclined form input.now code.now fault.now answer.text.items answer.status) }
 {
     let place = place_of(alloc, form, input, code, fault)?;
-    refused(alloc, fault, place)
+    tell_refusal(alloc, fault, quote_of(input, fault), place)
 }
 
 // What is answered where the verifier refuses a program.
-fn rejected(
+fn answer_refusal(
     alloc: Global,
     asked: &Asked,
     need: u32,
@@ -94,18 +97,20 @@ fn rejected(
     code: &[u8],
     refusal: Refusal,
 ) -> Result<Answer, NoMemory>
-    ensures { IfOk result (λ answer. IsRejected asked.now need input.now code.now refusal answer.text.items answer.status) }
+    ensures { IfOk result
+        (λ answer. IsRejected asked.now need input.now code.now refusal answer.text.items
+        answer.status) }
 {
     if asked.explains {
-        if let Some(answer) = explained(alloc, asked.form, need, input, code)? {
+        if let Some(answer) = explain_refusal(alloc, asked.form, need, input, code)? {
             return Ok(answer);
         }
     }
-    declined(alloc, asked.form, input, code, &Fault::Program(refusal))
+    print_refusal(alloc, asked.form, input, code, &Fault::Program(refusal))
 }
 
 // What is answered to the bytes of a program.
-fn judged(
+fn answer_code(
     alloc: Global,
     asked: &Asked,
     need: u32,
@@ -115,19 +120,21 @@ fn judged(
     is_shown: bool,
 ) -> Result<Answer, NoMemory>
     requires limit { asked.now.credit ≤ 2147483647 }
-    ensures { IfOk result (λ answer. IsJudged asked.now need input.now code.now memory.old memory.new is_shown answer.text.items answer.status) }
+    ensures { IfOk result
+        (λ answer. IsJudged asked.now need input.now code.now memory.old memory.new is_shown
+        answer.text.items answer.status) }
 {
     match run(alloc, need, code, memory, asked.arg, asked.credit) {
-        Ok(done) if is_shown => ran(alloc, done, Some(memory)),
-        Ok(done) => ran(alloc, done, None),
+        Ok(done) if is_shown => tell_run(alloc, done, Some(memory)),
+        Ok(done) => tell_run(alloc, done, None),
         Err(Fault::NoMemory) => Err(NoMemory),
-        Err(Fault::Program(refusal)) => rejected(alloc, asked, need, input, code, refusal),
-        Err(fault) => declined(alloc, asked.form, input, code, &fault),
+        Err(Fault::Program(refusal)) => answer_refusal(alloc, asked, need, input, code, refusal),
+        Err(fault) => print_refusal(alloc, asked.form, input, code, &fault),
     }
 }
 
 // What is answered to a program with this memory, which is shown or not.
-fn tried(
+fn answer_input(
     alloc: Global,
     asked: &Asked,
     need: u32,
@@ -136,17 +143,20 @@ fn tried(
     is_shown: bool,
 ) -> Result<Answer, NoMemory>
     requires limit { asked.now.credit ≤ 2147483647 }
-    ensures { IfOk result (λ answer. IsTried asked.now need input.now memory.old memory.new is_shown answer.text.items answer.status) }
+    ensures { IfOk result
+        (λ answer. IsTried asked.now need input.now memory.old memory.new is_shown
+        answer.text.items answer.status) }
 {
     match bytes_of(alloc, asked.form, input) {
-        Ok(code) => judged(alloc, asked, need, input, &code, memory, is_shown),
+        Ok(code) => answer_code(alloc, asked, need, input, &code, memory, is_shown),
         Err(Fault::NoMemory) => Err(NoMemory),
-        Err(fault) => declined(alloc, asked.form, input, &[], &fault),
+        Err(fault) => print_refusal(alloc, asked.form, input, &[], &fault),
     }
 }
 
-/// What is answered to a program: what its run comes to on the memory, or the refusal, with its line or the verifier's explanation. Without a
-/// memory its part is as many zeros as it needs, and without a need it needs the whole memory. It asks for a credit of at most 2,147,483,647.
+/// What is answered to a program: what its run comes to on the memory, or the refusal, with its
+/// line or the verifier's explanation. Without a memory its part is as many zeros as it needs, and
+/// without a need it needs the whole memory. The call asks for a credit of at most 2,147,483,647.
 pub fn answer(
     alloc: Global,
     asked: &Asked,
@@ -154,18 +164,21 @@ pub fn answer(
     memory: Option<Vec<u8>>,
 ) -> Result<Answer, NoMemory>
     requires limit { asked.now.credit ≤ 2147483647 }
-    ensures { IfOk result (λ answer. (left : List ℕ) × IsTried asked.now (need_of asked.now.need (option_map (λ m. m.items) memory)) input.now
-        (part_of asked.now.need (option_map (λ m. m.items) memory)) left (is_some memory) answer.text.items answer.status) }
+    ensures { IfOk result (λ answer. (left : List ℕ)
+        × IsTried asked.now (need_of asked.now.need (option_map (λ m. m.items) memory))
+        input.now
+        (part_of asked.now.need (option_map (λ m. m.items) memory)) left (is_some memory)
+        answer.text.items answer.status) }
 {
     match memory {
         Some(mut memory) => {
             let need = need_of(asked.need, Some(&memory));
-            tried(alloc, asked, need, input, &mut memory, true)
+            answer_input(alloc, asked, need, input, &mut memory, true)
         }
         None => {
             let need = need_of(asked.need, None);
             let mut zeros = vec![in alloc; 0u8; (need as usize).min(MAX_NEED)]?;
-            tried(alloc, asked, need, input, &mut zeros, false)
+            answer_input(alloc, asked, need, input, &mut zeros, false)
         }
     }
 }

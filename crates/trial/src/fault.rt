@@ -10,37 +10,38 @@ use thiserror::Error;
 use verifier::Refusal;
 
 /// Why a program doesn't run.
-#[derive(Clone, Copy, Debug, PartialEq, Eq, Error)]
+#[derive(Clone, Copy, Debug, PartialEq, Eq, Hash, Error)]
 pub enum Fault {
     /// Source text is no UTF-8.
-    #[error("the text is no UTF-8")]
+    #[error("73: the text is no UTF-8")]
     NotText,
     /// What is to be hexadecimal isn't.
-    #[error("the file is no hexadecimal")]
+    #[error("73: the file is no hexadecimal")]
     NotHexadecimal,
     /// A line is no instruction's, or there are none or too many.
     #[error("{0}")]
     Text(TextFault),
     /// The memory is longer than a part may be.
-    #[error("a memory of over 65536 bytes")]
+    #[error("65: a memory of over 65536 bytes")]
     MemoryTooLarge,
     /// The verifier refuses the program.
     #[error("{0}")]
     Program(Refusal),
     /// The credit is under the program's cost.
-    #[error("a credit of {given}, under the program's cost of {wanted}")]
+    #[error("42: a credit of {given}, under the program's cost of {wanted}")]
     CreditLow { wanted: u32, given: u32 },
     /// The memory is shorter than the program's need, both in bytes.
-    #[error("a memory of {given} bytes, under the program's need of {wanted}")]
+    #[error("43: a memory of {given} bytes, under the program's need of {wanted}")]
     MemoryShort { wanted: u32, given: u32 },
     /// A growth was refused.
-    #[error("out of memory")]
+    #[error("99: out of memory")]
     NoMemory,
 }
 
 impl Fault {
-    /// The number of the refusal: 73 no text or no hexadecimal, 65 too much memory, 42 too little credit, 43 too little memory, 99, or that of
-    /// the assembler (1, 3, 11 to 13) or the verifier (1 to 7, 21 to 25, 31 to 38).
+    /// The number of the refusal: 73 no text or no hexadecimal, 65 too much memory, 42 too little
+    /// credit, 43 too little memory, 99, or that of the assembler (1, 3, 11 to 13) or the verifier
+    /// (1 to 7, 21 to 25, 31 to 38).
     pub fn code(&self) -> u8
         ensures { result ≡ number_of self.now }
     {

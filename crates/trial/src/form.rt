@@ -4,17 +4,18 @@ ghost use Rattle.std.specs.Prelude.{◌≡◌};
 ghost use Rattle.trial.specs.Forms.{form_of};
 
 /// How a program's file is written.
-#[derive(Clone, Copy, Debug, PartialEq, Eq)]
+#[derive(Clone, Copy, Debug, PartialEq, Eq, Hash)]
 pub enum Form {
     /// Source text, an instruction a line.
     Text,
-    /// Its bytes in hexadecimal.
+    /// The program's bytes in hexadecimal.
     Hexadecimal,
-    /// Its bytes.
+    /// The program's bytes.
     Bytes,
 }
 
-/// The form that the end of a path tells: `.bpf` source text, `.hex` hexadecimal, any other end bytes.
+/// The form that the end of a path tells: `.bpf` source text, `.hex` hexadecimal, any other end
+/// bytes.
 pub fn form_of(path: &str) -> Form
     ensures { result ≡ form_of path.now }
 {

@@ -1,4 +1,5 @@
-//! A trial of one program, for whoever writes it: how its file is read, whether it is accepted, and what its run by itself comes to.
+//! A trial of one program, for whoever writes it: how its file is read, whether it is accepted, and
+//! what its run by itself comes to.
 #![tactic(auto)]
 
 // the program's bytes, and their run
@@ -12,12 +13,12 @@ pub use form::{Form, form_of};
 pub use reading::bytes_of;
 pub use running::run;
 
-// the line that a refusal is about
+// the line that a refusal is about, and what it quotes
 mod lines;
 mod place;
 
 pub use lines::{Line, lines_of};
-pub use place::place_of;
+pub use place::{place_of, quote_of};
 
 // what is printed
 mod answering;

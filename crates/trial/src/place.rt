@@ -1,41 +1,23 @@
-//! The line of the source text that a refusal is about.
+//! The line of the source text that a refusal is about, and what it quotes of it.
 
-ghost use Rattle.std.specs.Prelude.{◌≡◌, map, slice_get, IfOk};
+ghost use Rattle.std.specs.Prelude.{◌≡◌, option_map, slice_get, IfOk};
 ghost use Rattle.assembler.specs.Source.{source_lines};
-ghost use Rattle.performing.specs.Printed.{line_of};
-ghost use Rattle.trial.specs.Places.{IsAtSlot, IsIndex, IsNumbered, IsPlace, told};
+ghost use Rattle.trial.specs.Places.{IsAtSlot, IsIndex, IsNumbered, IsPlace, IsQuote};
 
 use crate::fault::Fault;
 use crate::form::Form;
 use crate::lines::{Line, lines_of};
-use assembler::TextFault;
+use assembler::line_with_number;
 use insn_codec::{CodecFault, Placed, decode};
 use refusal::NoMemory;
 use std::alloc::Global;
 
-// The line that a refusal of the text tells, if it tells one.
-fn line_of(fault: &TextFault) -> Option<u64>
-    ensures { result ≡ line_of fault.now }
-{
-    match *fault {
-        TextFault::UnknownWord(line) | TextFault::BadOperand(line) | TextFault::NumberRange(line) =>
-            Some(line),
-        TextFault::Empty | TextFault::TooLong | TextFault::NoMemory => None,
-    }
-}
-
 // The line of this number.
-fn numbered<'a>(lines: &[Line<'a>], number: u64) -> Option<Line<'a>>
-    ensures { IsNumbered number (map told lines.now) result }
+fn numbered(source: &[u8], number: u64) -> Option<Line<'_>>
+    ensures { IsNumbered number (source_lines source.now) result }
 {
-    let mut place = 0;
-    while place < lines.len() {
-        if lines[place].number == number {
-            return Some(lines[place]);
-        }
-        place += 1;
-    }
-    None
+    let text = line_with_number(source, number)?;
+    Some(Line { number, text })
 }
 
 // The number of the instruction at a slot, from 0 on.
@@ -83,8 +65,9 @@ fn at_slot<'a>(
     }
 }
 
-/// The line of a source text that a refusal is about: the one that is no instruction's, or that of the instruction at the slot that the verifier
-/// tells. None where the refusal tells neither, and where the file is no source text.
+/// The line of a source text that a refusal is about: the one that is no instruction's, or that of
+/// the instruction at the slot that the verifier tells. None where the refusal tells neither, and
+/// where the file is no source text.
 pub fn place_of<'a>(
     alloc: Global,
     form: Form,
@@ -96,8 +79,8 @@ pub fn place_of<'a>(
 {
     match form {
         Form::Text => match fault {
-            Fault::Text(fault) => match line_of(fault) {
-                Some(number) => Ok(numbered(&lines_of(alloc, input)?, number)),
+            Fault::Text(fault) => match fault.line() {
+                Some(number) => Ok(numbered(input, number)),
                 None => Ok(None),
             },
             Fault::Program(refusal) => match refusal.slot() {
@@ -107,5 +90,16 @@ pub fn place_of<'a>(
             _ => Ok(None),
         },
         Form::Hexadecimal | Form::Bytes => Ok(None),
+    }
+}
+
+/// What a refusal quotes of a source text: the word of its line, or the operands. None where the
+/// refusal isn't of a line.
+pub fn quote_of<'a>(input: &'a [u8], fault: &Fault) -> Option<&'a str>
+    ensures { IsQuote fault.now input.now (option_map (λ part. part.now) result) }
+{
+    match fault {
+        Fault::Text(fault) => fault.quoted(str::from_utf8(input).ok()?),
+        _ => None,
     }
 }

@@ -6,11 +6,11 @@ ghost use Rattle.trial.specs.Forms.{IsRead, IsUnread};
 use crate::fault::Fault;
 use crate::form::Form;
 use assembler::{TextFault, assemble};
-use performing::{Unread, decoded};
+use performing::{Unread, read_hexadecimal};
 use std::alloc::Global;
 
 // The bytes that a source text says.
-fn assembled(alloc: Global, input: &[u8]) -> Result<Vec<u8>, Fault>
+fn assemble_text(alloc: Global, input: &[u8]) -> Result<Vec<u8>, Fault>
     ensures read { IfOk result (λ bytes. IsRead Form.Text input.now bytes.items) }
     ensures unread { IfErr result (λ fault. IsUnread Form.Text input.now fault) }
 {
@@ -25,15 +25,15 @@ fn assembled(alloc: Global, input: &[u8]) -> Result<Vec<u8>, Fault>
     }
 }
 
-/// The bytes of a program whose file is written in this form. The refusals: 73 the text is no UTF-8, or the file no hexadecimal, 99, and those of
-/// the text, which are 1, 3 and 11 to 13.
+/// The bytes of a program whose file is written in this form. The refusals: 73 the text is no
+/// UTF-8, or the file no hexadecimal, 99, and those of the text, which are 1, 3 and 11 to 13.
 pub fn bytes_of(alloc: Global, form: Form, input: &[u8]) -> Result<Vec<u8>, Fault>
     ensures read { IfOk result (λ bytes. IsRead form input.now bytes.items) }
     ensures unread { IfErr result (λ fault. IsUnread form input.now fault) }
 {
     match form {
-        Form::Text => assembled(alloc, input),
-        Form::Hexadecimal => match decoded(alloc, input) {
+        Form::Text => assemble_text(alloc, input),
+        Form::Hexadecimal => match read_hexadecimal(alloc, input) {
             Ok(bytes) => Ok(bytes),
             Err(Unread::NotHexadecimal) => Err(Fault::NotHexadecimal),
             Err(Unread::NoMemory) => Err(Fault::NoMemory),

@@ -11,11 +11,13 @@ use virtual_machine::{Executed, Vm, VmFault};
 // The most bytes that a part has.
 const MAX_PART: usize = 65536;
 
-/// Verifies a program of this need, with the helpers of a job, and runs it by itself with the memory as its part. It gives R0 and what it used of
-/// the credit, and leaves the memory as the run leaves it. It asks for a credit of at most 2,147,483,647.
+/// Verifies a program of this need, with the helpers of a job, and runs it by itself with the
+/// memory as its part. The answer is R0 and what was used of the credit; the memory is as the run
+/// leaves it. The call asks for a credit of at most 2,147,483,647.
 ///
-/// The refusals, in this order, after which the memory is as it was: 65 the memory has over 65,536 bytes, those of the verifier, 42 the credit is
-/// under the program's cost, 43 the memory is shorter than its need; and 99.
+/// The refusals, in this order, after which the memory is as it was: 65 the memory has over 65,536
+/// bytes, those of the verifier, 42 the credit is under the program's cost, 43 the memory is
+/// shorter than its need; and 99.
 pub fn run(
     alloc: Global,
     need: u32,

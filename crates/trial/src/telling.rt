@@ -3,7 +3,7 @@
 ghost use Rattle.std.specs.Prelude.{◌≡◌, option_map, string_bytes, IfOk};
 ghost use Rattle.performing.specs.Printed.{Prints};
 ghost use Rattle.trial.specs.Places.{told};
-ghost use Rattle.trial.specs.Printed.{IsRefusalText, memory_line, place_line, ran_text};
+ghost use Rattle.trial.specs.Printed.{IsRefusalText, memory_line, place_line, quote_text, ran_text};
 
 use crate::fault::Fault;
 use crate::lines::Line;
@@ -14,7 +14,8 @@ use virtual_machine::Executed;
 
 // The memory in hexadecimal, where it is shown.
 fn memory_line(alloc: Global, memory: Option<&[u8]>) -> Result<String, NoMemory>
-    ensures { IfOk result (λ line. string_bytes line ≡ memory_line (option_map (λ bytes. bytes.now) memory.entry)) }
+    ensures { IfOk result (λ line. string_bytes line
+        ≡ memory_line (option_map (λ bytes. bytes.now) memory.entry)) }
 {
     match memory {
         Some(bytes) => {
@@ -26,8 +27,14 @@ fn memory_line(alloc: Global, memory: Option<&[u8]>) -> Result<String, NoMemory>
 }
 
 /// R0 and what the run spent, and the memory in hexadecimal where it is shown; with status 0.
-pub(crate) fn ran(alloc: Global, done: Executed, memory: Option<&[u8]>) -> Result<Answer, NoMemory>
-    ensures { IfOk result (λ answer. Prints answer.text.items answer.status (ran_text done.r0 done.used (option_map (λ bytes. bytes.now) memory.entry)) 0) }
+pub(crate) fn tell_run(
+    alloc: Global,
+    done: Executed,
+    memory: Option<&[u8]>,
+) -> Result<Answer, NoMemory>
+    ensures { IfOk result
+        (λ answer. Prints answer.text.items answer.status
+        (ran_text done.r0 done.used (option_map (λ bytes. bytes.now) memory.entry)) 0) }
 {
     let line = memory_line(alloc, memory)?;
     let mut text = format!(in alloc; "r0 {}\nspent {}\n", done.r0, done.used)?;
@@ -53,18 +60,43 @@ fn place_line(alloc: Global, place: Option<Line<'_>>) -> Result<Vec<u8>, NoMemor
     }
 }
 
-/// The number of the refusal and its words, and the line that it is about; with status 1.
-pub(crate) fn refused(
+// The words of a refusal, behind the number that its text begins with.
+fn words_of(text: &str) -> &str {
+    match text.split_once(' ') {
+        Some((_number, words)) => words,
+        None => text,
+    }
+}
+
+// What a refusal quotes, as it is printed.
+fn quote_text(alloc: Global, quote: Option<&str>) -> Result<String, NoMemory>
+    ensures { IfOk result (λ text. string_bytes text
+        ≡ quote_text (option_map (λ part. part.now) quote.entry)) }
+{
+    match quote {
+        Some(part) => Ok(format!(in alloc; ": `{part}`")?),
+        None => Ok(String::new(alloc)),
+    }
+}
+
+/// The number of the refusal, its words and what it quotes, and the line that it is about; with
+/// status 1.
+pub(crate) fn tell_refusal(
     alloc: Global,
     fault: &Fault,
+    quote: Option<&str>,
     place: Option<Line<'_>>,
 ) -> Result<Answer, NoMemory>
-    ensures text { IfOk result (λ answer. IsRefusalText fault.now (option_map told place.entry) answer.text.items) }
+    ensures text { IfOk result
+        (λ answer. IsRefusalText fault.now (option_map (λ part. part.now) quote.entry)
+        (option_map told place.entry) answer.text.items) }
     ensures status { IfOk result (λ answer. answer.status ≡ 1) }
 {
-    let words = format!(in alloc; "{fault}")?;
+    let text = format!(in alloc; "{fault}")?;
     let line = place_line(alloc, place)?;
-    let first = format!(in alloc; "refused {}: {}\n", fault.code(), words.as_str())?;
+    let words = words_of(text.as_str());
+    let quote = quote_text(alloc, quote)?;
+    let first = format!(in alloc; "refused {}: {words}{}\n", fault.code(), quote.as_str())?;
     let mut text = first.into_bytes();
     text.extend_from_slice(&line)?;
     Ok(Answer { text, status: 1 })

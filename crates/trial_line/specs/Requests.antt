@@ -22,8 +22,14 @@ pub record IsRequestOf (rows : List Row) (request : Request) : Type 0 where
   pub arg : IsNumberIn rows (codes "arg") 0 18446744073709551615 request.arg
   pub explains : IsTrue request.explains ↔ (first_of (codes "explain") rows ≡ Some (codes "true"))
 
+-- they are those of a request
+pub record SaysRequest (rows : List Row) : Type 0 where
+  pub file : (path : Text) × (first_of (codes "file") rows ≡ Some path)
+  pub need : (number : Option ℕ) × IsMaybeNumber rows (codes "need") 4294967295 number
+  pub credit : (number : ℕ) × IsNumberIn rows (codes "credit") 0 2147483647 number
+  pub arg : (number : ℕ) × IsNumberIn rows (codes "arg") 0 18446744073709551615 number
+
 -- words that clap takes are refused for want of memory alone
 abbrev pub IsUsage : Usage → List Text → Type 0
 IsUsage (usage.Refused error) words = takes bpfrun_app words ≡ true → kind_of error ≡ OutOfMemory
-IsUsage usage.Unread words = Unit {0}
 IsUsage usage.NoMemory words = Unit {0}

@@ -1,5 +1,5 @@
-//! `trial_rows FILE..`: reads rows, each a program with the words that `bpfrun` is given and what it answers, and tells the rows that
-//! disagree. The answers were worked out by hand.
+//! `trial_rows FILE..`: reads rows, each a program with the words that `bpfrun` is given and what
+//! it answers, and tells the rows that disagree. The answers were worked out by hand.
 #![tactic(auto)]
 
 mod answers;

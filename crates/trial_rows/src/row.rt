@@ -1,4 +1,5 @@
-//! Rows: words, file, memory, status and output, with bars between them. A line that begins with `#` is a comment.
+//! Rows: words, file, memory, status and output, with bars between them. A line that begins with
+//! `#` is a comment.
 
 use std::alloc::Global;
 

@@ -1,19 +1,20 @@
-use Rattle.std.proofs.Common.{ap, refl, subst, map, string_bytes, true, ◌≡◌, ◌∙◌}
-use Rattle.clap.specs.Words.{is_simple, matches_of, takes}
-use Rattle.clap.proofs.OnLiterals.{clap_on_literals}
-use Rattle.trial_line.specs.Program.{bpfrun_app}
-use Rattle.trial_line.specs.Requests.{IsRequestOf}
+use Rattle.std.proofs.Common.{ap, subst, map, string_bytes, sym, ◌∙◌}
+use Rattle.clap.specs.Words.{is_simple, is_simple_and_free, matches_of, takes}
+use Rattle.trial_line.specs.Requests.{IsRequestOf, SaysRequest}
+use Rattle.trial_line.proofs.LineLemmas.{is_plain, line_says, plain}
 use Rattle.trial_line.proofs.reading.request.Goals as goal
 
-is_plain : is_simple bpfrun_app ≡ true
-unfolding clap_on_literals
-is_plain = refl
+pub request_of-requires : goal.request_of-requires
+request_of-requires c =
+    let rows = (c.in-Ok.ensures.matches (ap is_simple c.in_ok-bpfrun.ensures ∙ is_plain)).0 in
+    let says = line_says (map string_bytes c.args.words.now) _ c.in_ok-bpfrun.ensures (c.in-Ok.ensures.kinds (ap is_simple_and_free c.in_ok-bpfrun.ensures ∙ plain)) in
+    subst SaysRequest (sym rows) says
 
-pub returns-in-Ok-request_of-clause-ok : goal.returns-in-Ok-request_of-clause-ok
-returns-in-Ok-request_of-clause-ok c =
-    let plain = ap is_simple c.in_ok-bpfrun.ensures ∙ is_plain in
-    let rows = (c.in-Ok.ensures.matches plain).0 ∙ ap (λ a. matches_of a (map string_bytes c.args.words.now)) c.in_ok-bpfrun.ensures in
-    subst (λ rows. IsRequestOf rows c.in-Ok-request_of.request) rows c.in-Ok-request_of.ensures.parts
+pub returns-in-Ok-clause-ok : goal.returns-in-Ok-clause-ok
+returns-in-Ok-clause-ok c =
+    let simple = ap is_simple c.in_ok-bpfrun.ensures ∙ is_plain in
+    let rows = (c.in-Ok.ensures.matches simple).0 ∙ ap (λ a. matches_of a (map string_bytes c.args.words.now)) c.in_ok-bpfrun.ensures in
+    subst (λ rows. IsRequestOf rows c.request_of.result) rows c.request_of.ensures.parts
 
 pub returns-in-Err-clause-err : goal.returns-in-Err-clause-err
 returns-in-Err-clause-err c = λ taken. c.in-Err.ensures.passes (ap (λ a. takes a (map string_bytes c.args.words.now)) c.in_ok-bpfrun.ensures ∙ taken)

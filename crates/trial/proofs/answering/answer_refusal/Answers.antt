@@ -1,5 +1,5 @@
 use Rattle.trial.specs.Answered.{explained}
-use Rattle.trial.proofs.answering.rejected.Goals as goal
+use Rattle.trial.proofs.answering.answer_refusal.Goals as goal
 
 pub returns-in-Some : goal.returns-in-Some
 returns-in-Some c =

@@ -1,9 +1,0 @@
-use Rattle.std.proofs.Common.{◌≡◌, length, reverse}
-use Rattle.assembler.specs.Source.{without_blanks}
-use Rattle.trial.proofs.lines.without_back.Given as goal
-
-abbrev pub invariant-loop-rest : goal.invariant-loop-rest
-invariant-loop-rest l = reverse (without_blanks (reverse l.text)) ≡ reverse (without_blanks (reverse l.rest))
-
-abbrev pub decreases-loop-rest : goal.decreases-loop-rest
-decreases-loop-rest l = length l.rest
