@@ -1,4 +1,5 @@
-//! What a look at a job, a task that is parked and claimed, and a task that is spawned and ends take.
+//! What a look at a job, a task that is parked and claimed, and a task that is spawned and ends
+//! take.
 
 ghost use Rattle.std.specs.Prelude.{◌≡◌};
 ghost use Rattle.std.specs.Arc.{arc_value};

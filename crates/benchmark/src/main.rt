@@ -1,5 +1,6 @@
-//! `benchmark`: runs each scenario once and prints what it came to. `benchmark time`: prints how long a step of `play` takes,
-//! in nanoseconds, how many slots `verify` judges in a second, and how quick `execute_program` is.
+//! `benchmark`: runs each scenario once and prints what it came to. `benchmark time`: prints how
+//! long a step of `play` takes, in nanoseconds, how many slots `verify` judges in a second, and how
+//! quick `execute_program` is.
 #![tactic(auto)]
 
 mod book_timing;

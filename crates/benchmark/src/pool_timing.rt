@@ -11,8 +11,11 @@ use std::thread::Threads;
 use std::time::{Duration, Instant};
 use workers::{OpenGate, run_job};
 
-/// How often each job is run.
+/// How often each job is played.
 const ROUNDS: u32 = 10;
+
+/// How often each job is run by each pool.
+const POOL_ROUNDS: u32 = 40;
 
 /// What a spawn costs with the four moves ahead of it.
 const SPAWN_PRICE: u32 = 20;
@@ -113,29 +116,50 @@ fn played<C: Clock>(clock: &C, alloc: Global, tree: Tree) -> anyhow::Result<Dura
     Ok(quickest)
 }
 
-/// The time of the quickest round, by a pool of so many threads, 1 to 16.
+/// The time of one run, by a pool of so many threads, 1 to 16.
 fn run<R: Clock + Threads + Wait + Sync>(
     rt: &R,
     alloc: Global,
     tree: Tree,
     workers: u32,
+    number: u64,
 ) -> anyhow::Result<Duration> {
-    let workers = workers.clamp(1, 16);
-    let mut quickest = Duration::MAX;
-    for round in 0..ROUNDS {
-        let job = tree.job(alloc)?;
-        let (_board, post, _reader) = job.board(alloc, u64::from(round))?;
-        let start = Instant::now(rt)?;
-        let report = run_job(rt, alloc, job, post, workers, &OpenGate)?;
-        quickest = quickest.min(start.elapsed(rt)?);
-        if report.tasks.len() != tree.tasks() as usize {
-            bail!("tasks are missing");
-        }
+    let job = tree.job(alloc)?;
+    let (_board, post, _reader) = job.board(alloc, number)?;
+    let start = Instant::now(rt)?;
+    let report = run_job(rt, alloc, job, post, workers.clamp(1, 16), &OpenGate)?;
+    let took = start.elapsed(rt)?;
+    if report.tasks.len() != tree.tasks() as usize {
+        bail!("tasks are missing");
     }
-    Ok(quickest)
+    Ok(took)
 }
 
-/// Prints how many tasks a millisecond end, by `play` and by pools, and how quick each pool is beside `play`.
+/// The time of the quickest round of each pool. The pools take turns, so that what else the machine
+/// does is the same for each.
+fn run_in_turn<R: Clock + Threads + Wait + Sync>(
+    rt: &R,
+    alloc: Global,
+    tree: Tree,
+) -> anyhow::Result<[Duration; 3]> {
+    let [mut one, mut two, mut four] = [Duration::MAX; 3];
+    for round in 0..POOL_ROUNDS {
+        let number = u64::from(round);
+        one = one.min(run(rt, alloc, tree, 1, number)?);
+        two = two.min(run(rt, alloc, tree, 2, number)?);
+        four = four.min(run(rt, alloc, tree, 4, number)?);
+    }
+    Ok([one, two, four])
+}
+
+/// How many times as quick as one duration another is, as hundredths.
+fn times_as_quick(slow: Duration, quick: Duration) -> (u128, u128) {
+    let hundredths = slow.as_nanos().saturating_mul(100) / quick.as_nanos().max(1);
+    (hundredths / 100, hundredths % 100)
+}
+
+/// Prints how many tasks a millisecond end, by `play` and by pools, and how quick each pool is
+/// beside `play` and beside one worker.
 fn print_tree<R: Clock + Threads + Wait + Sync, W: Write>(
     rt: &R,
     alloc: Global,
@@ -143,20 +167,20 @@ fn print_tree<R: Clock + Threads + Wait + Sync, W: Write>(
     tree: Tree,
 ) -> anyhow::Result<()> {
     let (tasks, steps) = (u128::from(tree.tasks()), tree.steps);
-    let alone = played(rt, alloc, tree)?.as_nanos().max(1);
-    let rate = tasks.saturating_mul(1_000_000) / alone;
+    let alone = played(rt, alloc, tree)?;
+    let rate = tasks.saturating_mul(1_000_000) / alone.as_nanos().max(1);
     writeln!(
         output,
         "play of {tasks} tasks of {steps} steps: {rate} tasks a millisecond"
     )?;
-    for workers in [1, 2, 4] {
-        let nanos = run(rt, alloc, tree, workers)?.as_nanos().max(1);
-        let rate = tasks.saturating_mul(1_000_000) / nanos;
-        let hundredths = alone.saturating_mul(100) / nanos;
-        let (units, rest) = (hundredths / 100, hundredths % 100);
+    let [one, two, four] = run_in_turn(rt, alloc, tree)?;
+    for (workers, took) in [(1, one), (2, two), (4, four)] {
+        let rate = tasks.saturating_mul(1_000_000) / took.as_nanos().max(1);
+        let (units, rest) = times_as_quick(alone, took);
+        let (ones, parts) = times_as_quick(one, took);
         writeln!(
             output,
-            "a pool of {workers} on these: {rate} tasks a millisecond, {units}.{rest:02} of play's speed"
+            "a pool of {workers} on these: {rate} tasks a millisecond, {units}.{rest:02} of play's speed, {ones}.{parts:02} of one worker's"
         )?;
     }
     Ok(())

@@ -1,4 +1,5 @@
-//! How quick a session and a desk read and answer requests, beside `serde_json`'s own reading of the same texts.
+//! How quick a session and a desk read and answer requests, beside `serde_json`'s own reading of
+//! the same texts.
 
 use accounts::Desk;
 use serde_json::Value;

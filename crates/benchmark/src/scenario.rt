@@ -17,7 +17,8 @@ pub enum Scenario {
     Ladder,
     /// Conditional jumps to the last slots, none of them taken: each path joins there.
     Comb,
-    /// Pieces of two slots, each with a jump to the next one, which stands elsewhere: half of the jumps lead backward.
+    /// Pieces of two slots, each with a jump to the next one, which stands elsewhere: half of the
+    /// jumps lead backward.
     Shuffled,
 }
 
@@ -116,7 +117,8 @@ fn jump(condition: Condition, dst: u8, value: i32, offset: i16) -> Insn
     }
 }
 
-/// A jump at each third place: past the instruction behind it where R0 is odd, which every other time it is.
+/// A jump at each third place: past the instruction behind it where R0 is odd, which every other
+/// time it is.
 fn ladder(place: u32) -> Insn {
     match place % 3 {
         0 => jump(Condition::Set, 0, 1, 1),
@@ -134,7 +136,8 @@ fn comb(place: u32, body: u32) -> Insn {
     }
 }
 
-/// How many pieces on the next one stands. It has no factor in common with how many pieces there are.
+/// How many pieces on the next one stands. It has no factor in common with how many pieces there
+/// are.
 const STRIDE: u32 = 1009;
 
 /// A jump at each odd place: to the piece that comes next, and from the last one behind all pieces.

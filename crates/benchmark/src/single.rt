@@ -1,4 +1,5 @@
-//! Programs that a machine for single programs runs: a filter of packets, and the sum of a whole part.
+//! Programs that a machine for single programs runs: a filter of packets, and the sum of a whole
+//! part.
 
 ghost use Rattle.std.specs.Prelude.{◌≤◌, vec_len};
 
@@ -7,7 +8,8 @@ use insn_codec::{AluOp, Insn, Operand, Register, Width, encode};
 use std::alloc::Global;
 use virtual_machine::Vm;
 
-/// Takes a packet of the protocols TCP over IP, version 4, to port 80 or 443: 1 for such a one, else 0.
+/// Takes a packet of the protocols TCP over IP, version 4, to port 80 or 443: 1 for such a one,
+/// else 0.
 const FILTER: &str = "\
 ldxh r3, [r1+12]
 jne r3, 8, +14      ; the packet's kind, 0x0800 with its highest byte first

@@ -1,4 +1,5 @@
-//! How quick a stream of requests is answered, in memory beside the bare session and desk, and over the loopback address.
+//! How quick a stream of requests is answered, in memory beside the bare session and desk, and over
+//! the loopback address.
 
 use accounts::Desk;
 use anyhow::bail;

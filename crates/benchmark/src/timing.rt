@@ -86,7 +86,8 @@ fn print_single_times<C: Clock, W: Write>(
     Ok(())
 }
 
-/// The time that the quickest of `ROUNDS` runs of the program by the machine for single programs takes.
+/// The time that the quickest of `ROUNDS` runs of the program by the machine for single programs
+/// takes.
 fn executed_alone<C: Clock>(
     clock: &C,
     alloc: Global,
