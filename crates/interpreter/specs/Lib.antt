@@ -4,3 +4,4 @@ pub mod Access
 pub mod Behind
 pub mod Stretch
 pub mod Children
+pub mod Whoever

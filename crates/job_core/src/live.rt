@@ -2,10 +2,8 @@
 
 ghost use Rattle.std.specs.Prelude.{◌≡◌, ℕ, ◌≤◌, ◌<◌, ◌^◌, length, IfOk};
 ghost use Rattle.helpers.specs.Piece.{Piece};
-ghost use Rattle.machine_model.specs.Machine.{effect};
-ghost use Rattle.machine_model.specs.Value.{Registers};
-ghost use Rattle.verifier.specs.Checked.{program_of};
-ghost use Rattle.interpreter.specs.Behind.{AreBehind, IsCovered, Did, state_of, entry_frame, at_slot, out_of, slot_after, zeroed};
+ghost use Rattle.interpreter.specs.Behind.{IsCovered, entry_frame, at_slot, out_of, slot_after, zeroed};
+ghost use Rattle.interpreter.specs.Whoever.{DidToAll};
 ghost use Rattle.interpreter.specs.Stretch as stretch;
 ghost use Rattle.interpreter.specs.Children.{MayHandOver};
 ghost use Rattle.job_core.specs.Living.{Living};
@@ -159,10 +157,7 @@ impl Live {
         requires children { MayHandOver (S.entries spawner.old) self.old.credit.held (S.asks spawner.old) }
         ensures ran { stretch.Ran code.now self.old.credit limit result.count
             (at_slot self.old.frame slot) self.old.part (λ frame part credit.
-            (registers : Registers) → AreBehind code.now frame registers →
-            Did code.now
-            (effect (program_of code.now) (S.entries spawner.old)
-            (state_of frame part credit registers))
+            DidToAll code.now (S.entries spawner.old) frame part credit
             (out_of result.next) (at_slot self.new.frame (slot_after frame.slot result.next))
             self.new.part self.new.credit (spawner.new ≡ spawner.old)
             (λ child reply. S.spawns spawner.old child reply spawner.new)
