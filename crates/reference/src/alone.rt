@@ -45,7 +45,7 @@ fn ask_helper<F: Fn(u32, [u64; 5]) -> u64>(
         return Err(Unanswered::TooLarge);
     }
     let answer = helper(id, arguments);
-    Ok(calls::answered(caller, answer))
+    Ok(calls::put_answer(caller, answer))
 }
 
 /// R0 and the last state of the program alone, with this credit and these bytes as its part, if it

@@ -18,7 +18,7 @@ use machine_model::Entry;
 use std::alloc::Global;
 
 /// After a call: the answer in R0, and no arguments.
-pub(crate) fn answered(mut state: Running, answer: u64) -> Running
+pub(crate) fn put_answer(mut state: Running, answer: u64) -> Running
     requires { state.slot < 4294967296 }
     ensures { state_of result ≡ answered (state_of state) answer }
 {
@@ -116,7 +116,7 @@ fn hand_over(alloc: Global, state: Running, request: Request) -> Result<StepOutc
         arg: request.arg,
         bytes,
     };
-    Ok(StepOutcome::Spawns(child, answered(taken, 0), answered(state, 6)))
+    Ok(StepOutcome::Spawns(child, put_answer(taken, 0), put_answer(state, 6)))
 }
 
 fn cost_at(program: &ReferenceProgram, slot: usize) -> u32
@@ -174,5 +174,5 @@ pub(crate) fn spawn(
     if reply == 0 {
         return hand_over(alloc, state, asked);
     }
-    Ok(StepOutcome::Goes(answered(state, reply)))
+    Ok(StepOutcome::Goes(put_answer(state, reply)))
 }

@@ -7,7 +7,7 @@ ghost use Rattle.reference.specs.declared.records.Unanswered.TheVariants as unan
 ghost use Rattle.reference.specs.Records.{GoesFar, counting, effect_of, passing, program_of, state_of, value_of};
 
 use crate::accesses::place;
-use crate::calls::{answered, spawn};
+use crate::calls::{put_answer, spawn};
 use crate::records::{
     Content, Place, ReferenceProgram, Running, StepOutcome, TrapCause, Unanswered,
 };
@@ -22,7 +22,7 @@ fn credit_left(state: Running) -> StepOutcome
     ensures { effect_of result ≡ Goes (answered (state_of state) (state.held - state.used)) }
 {
     let left = state.held.saturating_sub(state.used);
-    StepOutcome::Goes(answered(state, u64::from(left)))
+    StepOutcome::Goes(put_answer(state, u64::from(left)))
 }
 
 /// The length of the part.
@@ -31,11 +31,11 @@ fn part_len(state: Running) -> StepOutcome
     ensures { effect_of result ≡ Goes (answered (state_of state) (length state.part.items)) }
 {
     let size = state.part.as_slice().len();
-    StepOutcome::Goes(answered(state, size as u64))
+    StepOutcome::Goes(put_answer(state, size as u64))
 }
 
 /// So many bytes from a pointer on become this one.
-fn filled(mut state: Running, pointer: Content, len: u64, byte: u8) -> StepOutcome
+fn fill_at(mut state: Running, pointer: Content, len: u64, byte: u8) -> StepOutcome
     requires { state.slot < 4294967296 }
     ensures { effect_of result ≡ filled (state_of state) (value_of pointer) len byte }
 {
@@ -44,11 +44,11 @@ fn filled(mut state: Running, pointer: Content, len: u64, byte: u8) -> StepOutco
         Err(cause) => StepOutcome::Traps(cause),
         Ok(Place::Stack(at)) => {
             memory::fill(&mut state.stack, at, count, byte);
-            StepOutcome::Goes(answered(state, 0))
+            StepOutcome::Goes(put_answer(state, 0))
         }
         Ok(Place::Part(at)) => {
             memory::fill(&mut state.part, at, count, byte);
-            StepOutcome::Goes(answered(state, 0))
+            StepOutcome::Goes(put_answer(state, 0))
         }
     }
 }
@@ -63,7 +63,7 @@ fn fill(state: Running) -> StepOutcome
         Err(cause) => StepOutcome::Traps(cause),
         Ok(len) => match number(content(&state, Register::new(3))) {
             Err(cause) => StepOutcome::Traps(cause),
-            Ok(byte) => filled(state, pointer, len, (byte % 256) as u8),
+            Ok(byte) => fill_at(state, pointer, len, (byte % 256) as u8),
         },
     }
 }
@@ -81,7 +81,7 @@ fn total(bytes: &[u8]) -> Option<u64>
 }
 
 /// The sum of so many bytes from a pointer on.
-fn summed(state: Running, pointer: Content, len: u64) -> Result<StepOutcome, Unanswered>
+fn sum_at(state: Running, pointer: Content, len: u64) -> Result<StepOutcome, Unanswered>
     requires { state.slot < 4294967296 }
     ensures value { IfOk result (λ e. effect_of e
         ≡ summed (state_of state) (value_of pointer) len) }
@@ -93,11 +93,11 @@ fn summed(state: Running, pointer: Content, len: u64) -> Result<StepOutcome, Una
         Err(cause) => Ok(StepOutcome::Traps(cause)),
         Ok(Place::Stack(at)) => match total(&state.stack[at..at + count]) {
             None => Err(Unanswered::TooLarge),
-            Some(sum) => Ok(StepOutcome::Goes(answered(state, sum))),
+            Some(sum) => Ok(StepOutcome::Goes(put_answer(state, sum))),
         },
         Ok(Place::Part(at)) => match total(&state.part[at..at + count]) {
             None => Err(Unanswered::TooLarge),
-            Some(sum) => Ok(StepOutcome::Goes(answered(state, sum))),
+            Some(sum) => Ok(StepOutcome::Goes(put_answer(state, sum))),
         },
     }
 }
@@ -111,7 +111,7 @@ fn sum_of(state: Running) -> Result<StepOutcome, Unanswered>
     let pointer = content(&state, Register::new(1));
     match number(content(&state, Register::new(2))) {
         Err(cause) => Ok(StepOutcome::Traps(cause)),
-        Ok(len) => summed(state, pointer, len),
+        Ok(len) => sum_at(state, pointer, len),
     }
 }
 

@@ -64,7 +64,7 @@ fn state_in(alloc: Global, buffer: &[u8], task: &LiveTask) -> Result<Running, Un
 }
 
 /// The buffer with these bytes from a place on.
-fn written(alloc: Global, buffer: &[u8], at: usize, bytes: &[u8]) -> Result<Vec<u8>, Unanswered>
+fn write_over(alloc: Global, buffer: &[u8], at: usize, bytes: &[u8]) -> Result<Vec<u8>, Unanswered>
     ensures value { IfOk result (λ v. v.items ≡ written buffer.now at bytes.now) }
     ensures memory { (error : Unanswered) → result ≡ Err error → error ≡ unanswered.NoMemory }
 {
@@ -181,7 +181,7 @@ pub(crate) fn ending_of(
 }
 
 /// What a task that goes on in this state makes of the job.
-fn going(
+fn go_on(
     alloc: Global,
     buffer: &[u8],
     task: &LiveTask,
@@ -191,7 +191,7 @@ fn going(
         changed_by j n c ≡ goes_on j n (task_of task.now) (state_of next.now)) }
     ensures memory { (error : Unanswered) → result ≡ Err error → error ≡ unanswered.NoMemory }
 {
-    let buffer = written(alloc, buffer, task.base, &next.part)?;
+    let buffer = write_over(alloc, buffer, task.base, &next.part)?;
     let live = with_state(alloc, task, next)?;
     Ok(Change {
         buffer,
@@ -200,7 +200,7 @@ fn going(
     })
 }
 
-fn copied_bytes(alloc: Global, bytes: &[u8]) -> Result<Vec<u8>, Unanswered>
+fn copy_bytes(alloc: Global, bytes: &[u8]) -> Result<Vec<u8>, Unanswered>
     ensures value { IfOk result (λ v. v.items ≡ bytes.now) }
     ensures memory { (error : Unanswered) → result ≡ Err error → error ≡ unanswered.NoMemory }
 {
@@ -210,7 +210,7 @@ fn copied_bytes(alloc: Global, bytes: &[u8]) -> Result<Vec<u8>, Unanswered>
 }
 
 /// What a task that ends makes of the job.
-fn ending(
+fn end_task(
     alloc: Global,
     buffer: &[u8],
     task: &LiveTask,
@@ -222,7 +222,7 @@ fn ending(
         ≡ applied j n (task_of task.now) refuses (Ends r0 (state_of last.now))) }
     ensures memory { (error : Unanswered) → result ≡ Err error → error ≡ unanswered.NoMemory }
 {
-    let buffer = copied_bytes(alloc, buffer)?;
+    let buffer = copy_bytes(alloc, buffer)?;
     let ended = ending_of(alloc, task, last, r0)?;
     Ok(Change {
         buffer,
@@ -232,7 +232,7 @@ fn ending(
 }
 
 /// What a spawn that is taken makes of the job.
-fn bearing(
+fn bear_child(
     alloc: Global,
     buffer: &[u8],
     task: &LiveTask,
@@ -247,7 +247,7 @@ fn bearing(
     ensures far { result ≡ Err unanswered.TooLarge →
         (2 ^ 64 ≤ task.now.base + length taken.now.part.items) ⊎ (2 ^ 64 ≤ task.now.children + 1) }
 {
-    let buffer = copied_bytes(alloc, buffer)?;
+    let buffer = copy_bytes(alloc, buffer)?;
     let mut parent = with_state(alloc, task, taken)?;
     let Some(children) = task.children.checked_add(1) else {
         return Err(Unanswered::TooLarge);
@@ -276,13 +276,13 @@ fn change(
         → BearsFar (task_of task.now) refuses (effect_of outcome.now) }
 {
     match outcome {
-        StepOutcome::Goes(next) => Ok(Some(going(alloc, buffer, task, next)?)),
-        StepOutcome::Ends(r0, last) => Ok(Some(ending(alloc, buffer, task, last, *r0)?)),
+        StepOutcome::Goes(next) => Ok(Some(go_on(alloc, buffer, task, next)?)),
+        StepOutcome::Ends(r0, last) => Ok(Some(end_task(alloc, buffer, task, last, *r0)?)),
         StepOutcome::Spawns(child, taken, refused) => {
             if refuses {
-                Ok(Some(going(alloc, buffer, task, refused)?))
+                Ok(Some(go_on(alloc, buffer, task, refused)?))
             } else {
-                Ok(Some(bearing(alloc, buffer, task, child, taken)?))
+                Ok(Some(bear_child(alloc, buffer, task, child, taken)?))
             }
         }
         StepOutcome::Calls(..) | StepOutcome::Traps(_) => Ok(None),

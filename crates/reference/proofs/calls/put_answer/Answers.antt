@@ -2,7 +2,7 @@ use Rattle.std.proofs.Common.{ap, arith, length, ◌<◌, ◌+◌}
 use std.Path.{fun_ext}
 use Rattle.machine_model.specs.Value.{Registers}
 use Rattle.reference.proofs.EffectLemmas.{set_called}
-use Rattle.reference.proofs.calls.answered.Goals as goal
+use Rattle.reference.proofs.calls.put_answer.Goals as goal
 
 pub returns : goal.returns
 returns c =
