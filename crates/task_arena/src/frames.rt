@@ -7,13 +7,19 @@ use bumpalo::Bump;
 use interpreter::Frame;
 use std::alloc::Global;
 
-/// Where a worker's frames lie. An arena doesn't move between threads. The frames of one job take
-/// memory until the job ends, or until a frame of another job is asked for.
+/// How many frames are placed between two resets: few enough to stay in a processor's cache, and so
+/// that the memory of a job's frames doesn't grow with the number of its tasks.
+const MOST_FRAMES: u32 = 16;
+
+/// Where a worker's frames lie. An arena doesn't move between threads. It is reset once it holds 16
+/// frames, when a frame of another job is asked for, and where the job ends.
 pub struct Frames {
     alloc: Global,
     arena: Bump,
     /// The job of the last frame, if it hasn't ended.
     job: Option<u64>,
+    /// How many frames were placed since the last reset.
+    placed: u32,
 }
 
 impl Drop for Frames {
@@ -22,6 +28,7 @@ impl Drop for Frames {
             alloc: _,
             arena,
             job: _,
+            placed: _,
         } = self;
         drop(arena);
     }
@@ -34,6 +41,7 @@ impl Frames {
             alloc,
             arena: Bump::new(alloc),
             job: None,
+            placed: 0,
         }
     }
 
@@ -50,10 +58,12 @@ impl Frames {
         requires { TakesFresh F.FnOnce f task }
         ensures { MatchResult result (λ answer. AnswersFresh F.FnOnce f task answer) (λ back. back ≡ task) }
     {
-        if self.job != Some(job) {
+        if self.job != Some(job) || self.placed >= MOST_FRAMES {
             self.end_job();
             self.job = Some(job);
+            self.placed = 0;
         }
+        self.placed += 1;
         if let Ok(frame) = self.arena.try_alloc(Frame::zeroed()) {
             return Ok(f(frame, task));
         }
