@@ -6,7 +6,12 @@ ghost use Rattle.lanes.specs.Sharing.{IsTakenFrom};
 
 use crate::ends::{Seat, Stolen, Thief};
 use credit_book::Ticket;
+use std::hint;
 use std::marker::Model;
+
+/// How often a thief tries a lane from which others take at the same time. Whenever it is too late,
+/// another has taken a ticket.
+const TRIES: u32 = 100;
 
 /// A thief beside what it knows. Contracts see what it has moved.
 #[derive(Drop)]
@@ -39,12 +44,28 @@ impl Way {
         Way { thief, seat }
     }
 
-    /// Takes the ticket at the front of the lane.
-    pub fn steal(&mut self) -> Stolen
+    /// Takes the ticket at the front of the lane, where no other caller comes first.
+    fn steal(&mut self) -> Stolen
         ensures { MatchStolen result (self.new ≡ self.old) (λ ticket. self.new
             ≡ with_taken self.old (ticket ∷ [])) }
     {
         self.thief.steal_on(&mut self.seat)
+    }
+
+    /// Takes the ticket at the front of the lane. Where other callers come first it tries again, as
+    /// long as it doesn't look as if they always did.
+    pub fn take(&mut self) -> Option<Ticket>
+        ensures { MatchOption result (self.new ≡ self.old) (λ ticket. self.new
+            ≡ with_taken self.old (ticket ∷ [])) }
+    {
+        for _ in 0..TRIES {
+            match self.steal() {
+                Stolen::Got(ticket) => return Some(ticket),
+                Stolen::Empty => return None,
+                Stolen::Retry => hint::spin_loop(),
+            }
+        }
+        None
     }
 }
 
@@ -54,7 +75,7 @@ pub(crate) fn first_stolen(ways: &mut Vec<Way>) -> Option<Ticket>
         ≡ ways.old.items) (λ ticket. IsTakenFrom ways.old.items ticket ways.new.items) }
 {
     for place in 0..ways.len() {
-        if let Stolen::Got(ticket) = ways[place].steal() {
+        if let Some(ticket) = ways[place].take() {
             return Some(ticket);
         }
     }

@@ -1,6 +1,7 @@
--- Where a new task's ticket goes.
-use Rattle.std.specs.Prelude.{◌≡◌, ◌⊎◌, ℕ, [], ◌∷◌}
+-- Where a new task's ticket goes, and the outcome of one that has run.
+use Rattle.std.specs.Prelude.{◌≡◌, ◌⊎◌, ℕ, List, [], ◌∷◌, ◌++◌}
 use Rattle.helpers.specs.declared.spawner.SpawnRecord.{SpawnRecord}
+use Rattle.credit_book.specs.declared.task.Outcome.{Outcome}
 use Rattle.credit_book.specs.declared.task.Ticket.{Ticket}
 use Rattle.credit_book.specs.Books.{ticket_of}
 use Rattle.lanes.specs.Interleaving.{with_pushed}
@@ -15,3 +16,7 @@ pub record IsHanded (old : Moved) (child : SpawnRecord) (new : Moved) : Type 0 w
   pub job : ℕ
   pub number : ℕ
   pub kept : IsKept old (ticket_of job number child) new
+
+-- behind those that are held back, or to the book, with all of them
+abbrev pub IsHeldBack : List Outcome → Outcome → List Outcome → Type 0
+IsHeldBack old outcome new = (new ≡ old ++ outcome ∷ []) ⊎ (new ≡ [])

@@ -80,6 +80,17 @@ impl Desk {
         !self.has_refused
     }
 
+    /// Ends tasks, the last of the list first. Whether the book has refused no end so far.
+    pub fn end_all(&mut self, outcomes: &mut Vec<Outcome>) -> bool
+        ensures refused { IsTrue result ↔ (self.new.has_refused ≡ false) }
+        ensures all { outcomes.new.items ≡ [] }
+    {
+        while let Some(outcome) = outcomes.pop() {
+            self.end(outcome);
+        }
+        !self.has_refused
+    }
+
     /// The report of a job with this number, this credit and this many bytes, once no task is
     /// alive: 82 where the book has refused an end, a task is alive, or the job is another.
     pub fn close(self, job: u64, issued: u32, size: usize) -> Result<Report, PoolFault>

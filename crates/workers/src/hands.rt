@@ -7,75 +7,183 @@ ghost use Rattle.job_core.specs.Admitted.{AreOwn};
 use crate::desk::{Desk, Found};
 use crate::work::entry_in;
 use credit_book::{Outcome, Ticket};
+use crossbeam_utils::CachePadded;
 use helpers::{Entry, SpawnRecord, Spawner};
 use lanes::Lanes;
-use std::sync::{Mutex, Wait};
+use std::alloc::Global;
+use std::sync::{Mutex, MutexGuard, Wait};
+use std::{hint, thread};
 use verifier::Verified;
 
-/// What the workers of a job share, beside their lanes.
+/// How many outcomes a worker holds back at least, so that the book is told of many at once.
+const FEW_HELD_BACK: usize = 16;
+
+/// How many it holds back at most, where others are at the desk.
+const MOST_HELD_BACK: usize = 256;
+
+/// A task with at most this credit is brief: what ended before it may wait until it has ended too.
+const BRIEF: u32 = 4096;
+
+/// How often a worker tries the desk before it sleeps until it is woken: that takes longer than a
+/// worker stays at the desk, and meanwhile others come first.
+const TRIES: u32 = 1000;
+
+/// How many moments a worker waits after its first try. A worker that is at the desk again and again,
+/// as one whose task spawns many, comes back while others wait: each that comes in between costs it
+/// what it has of the book in its own cache.
+const FIRST_WAIT: u32 = 256;
+
+/// How often the wait doubles.
+const DOUBLINGS: u32 = 4;
+
+/// From which try on a worker leaves the processor to others as well.
+const PATIENCE: u32 = 8;
+
+/// What the workers of a job share, beside their lanes. The lock, what is under it and the programs
+/// lie on lines of their own, so that who tries the lock holds nobody else up.
 #[derive(Drop)]
 pub(crate) struct Shared {
     pub programs: Vec<Verified>,
-    pub desk: Mutex<Desk>,
+    pub desk: CachePadded<Mutex<CachePadded<Desk>>>,
     ghost few: { vec_len programs ≤ 16 },
     ghost own: { AreOwn programs.items } by { Prim.hlevel props },
 }
 
-/// A worker's lanes, and the number of the task that it runs, whose children go to its own lane.
+/// Waits ahead of another try: longer each time, up to a bound.
+fn wait_a_while(turn: u32) {
+    for _ in 0..FIRST_WAIT << turn.min(DOUBLINGS) {
+        hint::spin_loop();
+    }
+    if turn >= PATIENCE {
+        thread::yield_now();
+    }
+}
+
+/// The desk, for this worker alone until it lets go of it.
+fn take_desk<'a, R: Wait>(rt: &R, shared: &'a Shared) -> MutexGuard<'a, CachePadded<Desk>> {
+    for turn in 0..TRIES {
+        if let Some(desk) = shared.desk.try_lock() {
+            return desk;
+        }
+        wait_a_while(turn);
+    }
+    shared.desk.lock(rt)
+}
+
+/// A worker's lanes, the number of the task that it runs, whose children go to its own lane, and
+/// what it ran that the book hasn't been told of.
 #[derive(Drop)]
 pub(crate) struct Hands<'a, R> {
     rt: &'a R,
     pub shared: &'a Shared,
     lanes: Lanes,
     turn: u32,
+    ended: Vec<Outcome>,
 }
 
 impl<'a, R: Wait> Hands<'a, R> {
-    ghost use Rattle.workers.specs.Handing.{IsKept};
+    ghost use Rattle.std.specs.Prelude.{◌⊎◌, []};
+    ghost use Rattle.workers.specs.declared.desk.Found.TheVariants.{Nothing};
+    ghost use Rattle.workers.specs.Handing.{IsHeldBack, IsKept};
 
-    /// A worker that runs no task yet.
-    pub fn new(rt: &'a R, shared: &'a Shared, lanes: Lanes) -> Hands<'a, R>
+    /// A worker that runs no task yet. It holds no outcome back where there is no memory for that.
+    pub fn new(rt: &'a R, alloc: Global, shared: &'a Shared, lanes: Lanes) -> Hands<'a, R>
         ensures { result.shared.now ≡ shared.now }
     {
+        let ended = match Vec::with_capacity(alloc, MOST_HELD_BACK) {
+            Ok(ended) => ended,
+            Err(_) => Vec::new(alloc),
+        };
         Hands {
             rt,
             shared,
             lanes,
             turn: 0,
+            ended,
         }
     }
 
     /// The ticket of a task to run: of its own lane, or else of another's, or else one that is
-    /// parked. The children that the task spawns come back here. A worker that has nothing to do
-    /// doesn't wait for the desk: those that have would have to wake it.
+    /// parked. The children that the task spawns come back here. Before a task that may take long,
+    /// and where there is none, the book is told of all that has ended here.
     pub fn find(&mut self) -> Found
-        ensures { self.new.shared ≡ self.old.shared }
+        ensures shared { self.new.shared ≡ self.old.shared }
+        ensures kept { (self.new.ended.items ≡ self.old.ended.items) ⊎ (self.new.ended.items ≡ []) }
+        ensures told { result ≡ Nothing → self.new.ended.items ≡ [] }
     {
         let found = match self.lanes.next() {
             Some(ticket) => Found::Ready(ticket),
-            None => match self.shared.desk.try_lock() {
-                Some(mut desk) => desk.claim(),
-                None => Found::Nothing,
-            },
+            None => self.claim(),
         };
         if let Found::Ready(ticket) = &found {
             self.turn = ticket.number();
+            if ticket.held() > BRIEF && !self.end_held_back() {
+                return Found::Refusal;
+            }
         }
         found
     }
 
-    /// Ends a task. Whether the book has refused no end so far.
-    pub fn end(&self, outcome: Outcome) -> bool {
-        self.shared.desk.lock(self.rt).end(outcome)
+    /// The ticket that was parked first, once the book knows of all that has ended here. A worker
+    /// that has nothing to tell doesn't wait for the desk: those that have would have to wake it.
+    fn claim(&mut self) -> Found
+        ensures shared { self.new.shared ≡ self.old.shared }
+        ensures told { self.new.ended.items ≡ [] }
+    {
+        let shared = self.shared;
+        if !self.ended.is_empty() {
+            let mut desk = take_desk(self.rt, shared);
+            desk.end_all(&mut self.ended);
+            return desk.claim();
+        }
+        match shared.desk.try_lock() {
+            Some(mut desk) => desk.claim(),
+            None => Found::Nothing,
+        }
+    }
+
+    /// Tells the book of all that has ended here. Whether it has refused no end so far, as far as
+    /// this worker knows.
+    fn end_held_back(&mut self) -> bool
+        ensures shared { self.new.shared ≡ self.old.shared }
+        ensures told { self.new.ended.items ≡ [] }
+    {
+        self.ended.is_empty() || take_desk(self.rt, self.shared).end_all(&mut self.ended)
+    }
+
+    /// The same, where nobody is at the desk. Otherwise all stays held back.
+    fn end_if_free(&mut self) -> bool
+        ensures shared { self.new.shared ≡ self.old.shared }
+        ensures told { (self.new.ended.items ≡ self.old.ended.items) ⊎ (self.new.ended.items ≡ []) }
+    {
+        match self.shared.desk.try_lock() {
+            Some(mut desk) => desk.end_all(&mut self.ended),
+            None => true,
+        }
+    }
+
+    /// Ends a task, or holds its outcome back where there is room for it. Whether the book has
+    /// refused no end so far, as far as this worker knows.
+    pub fn end(&mut self, outcome: Outcome) -> bool
+        ensures shared { self.new.shared ≡ self.old.shared }
+        ensures told { IsHeldBack self.old.ended.items outcome self.new.ended.items }
+    {
+        if self.ended.len() < self.ended.capacity() {
+            self.ended.push_reserved(outcome);
+            return self.ended.len() < FEW_HELD_BACK || self.end_if_free();
+        }
+        let mut desk = take_desk(self.rt, self.shared);
+        desk.end_all(&mut self.ended);
+        desk.end(outcome)
     }
 
     /// Puts a new task's ticket into its own lane, or parks it where there is no room for it.
     fn keep(&mut self, ticket: Ticket)
         ensures { (self.new.shared ≡ self.old.shared) × (self.new.turn ≡ self.old.turn)
-            × IsKept self.old.lanes ticket self.new.lanes }
+            × (self.new.ended ≡ self.old.ended) × IsKept self.old.lanes ticket self.new.lanes }
     {
         if let Err(back) = self.lanes.push(ticket) {
-            self.shared.desk.lock(self.rt).park(back);
+            take_desk(self.rt, self.shared).park(back);
         }
     }
 }
@@ -90,7 +198,7 @@ impl<R: Wait> Spawner for Hands<'_, R> {
 
     ghost asks = { λ hands child. Unit {0} };
 
-    ghost spawns = { λ old child reply new. MatchResult reply (λ _. IsHanded old.lanes child new.lanes × (new.shared ≡ old.shared) × (new.turn ≡ old.turn)) (λ _. new ≡ old) };
+    ghost spawns = { λ old child reply new. MatchResult reply (λ _. IsHanded old.lanes child new.lanes × (new.shared ≡ old.shared) × (new.turn ≡ old.turn) × (new.ended ≡ old.ended)) (λ _. new ≡ old) };
 
     ghost calls = { λ old helper arguments answer new. (answer ≡ 0) × (new ≡ old) };
 
@@ -99,7 +207,7 @@ impl<R: Wait> Spawner for Hands<'_, R> {
     }
 
     fn spawn(&mut self, child: SpawnRecord) -> Result<(), SpawnRecord> {
-        let spawned = self.shared.desk.lock(self.rt).spawn(self.turn, child);
+        let spawned = take_desk(self.rt, self.shared).spawn(self.turn, child);
         match spawned {
             Ok(ticket) => {
                 self.keep(ticket);

@@ -11,6 +11,7 @@ use crate::hands::{Hands, Shared};
 use crate::noting::{Note, agrees, run_noted};
 use crate::watch::Watch;
 use credit_book::{Book, Post, Report};
+use crossbeam_utils::CachePadded;
 use helpers::Part;
 use job_core::Job;
 use lanes::{Lanes, lanes_between};
@@ -43,7 +44,7 @@ fn work<R: Wait, G: Gate>(
     let mut watch = watch;
     let mut notes = Vec::new(alloc);
     let mut frames = Frames::new(alloc);
-    let mut hands = Hands::new(rt, shared, lanes);
+    let mut hands = Hands::new(rt, alloc, shared, lanes);
     for _ in rt.forever() {
         match hands.find() {
             Found::Ready(ticket) => {
@@ -211,11 +212,12 @@ pub fn run_job<R: Threads + Wait + Sync, G: Gate + Sync>(
     let number = book.job();
     let shared = Shared {
         programs,
-        desk: Mutex::new(Desk::open(book, root)),
+        desk: CachePadded::new(Mutex::new(CachePadded::new(Desk::open(book, root)))),
     };
     let notes = run_in_threads(rt, alloc, &shared, crew, gate)?;
     let Shared { programs: _, desk } = shared;
-    let report = desk.into_inner().close(number, credit, size)?;
+    let desk = desk.into_inner().into_inner().into_inner();
+    let report = desk.close(number, credit, size)?;
     if !agrees(alloc, &report.tasks, &notes)? {
         return Err(PoolFault::BookRefused);
     }
