@@ -5,7 +5,7 @@ use mathlib.Core.Option.{some, some-ne-none, some-injective}
 use mathlib.Core.Logic.{dite}
 use native.Mathlib.Decide.{dec_lt}
 use lib.ListN.{get_elem?}
-use Rattle.crossbeam_deque.specs.Tasks.{Pushes, Takes, Admits}
+use Rattle.crossbeam_deque.specs.Tasks.{Pushes, Takes, TakesBatch, Admits}
 use Rattle.crossbeam_deque.proofs.Lists.{at_set, set_here, set_else, at_longer}
 use Rattle.credit_book.specs.declared.task.Ticket.{Ticket}
 use Rattle.lanes.specs.declared.moves.Task.{Task}
@@ -134,3 +134,12 @@ takes caller v most xs items views _ _ h at =
       },
       refl,
     )
+
+taken_again : (v : Moves) (xs ys : List Ticket) → with_taken (with_taken v xs) ys ≡ with_taken v (xs ++ ys)
+taken_again v xs ys =
+    ap (λ (l : List Task). let m : Moves = record { pushed = v.pushed; taken = l } in m)
+    (append_assoc v.taken (map task_of xs) (map task_of ys) ∙ ap (λ l. v.taken ++ l) (sym (map-append task_of xs ys)))
+
+pub takes_batch : (caller : ℕ) (v : Moves) (most : ℕ) → TakesBatch Interleaved caller v most (λ u xs w. w ≡ with_taken u xs)
+takes_batch caller v most =
+    (takes caller v most, λ xs u is. (takes caller u 1, λ ys w more. more ∙ ap (λ (m : Moves). with_taken m ys) is ∙ taken_again v xs ys))

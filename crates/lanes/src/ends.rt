@@ -49,6 +49,9 @@ pub(crate) type Seat = crossbeam_deque::Pass<Ticket, Moves>;
 /// The slots that a lane begins with.
 const FIRST_ROOM: usize = 16;
 
+/// How many tickets a thief takes at most at once, and no more than half of those that there are.
+const MOST_AT_ONCE: usize = 8;
+
 /// The owner's end.
 #[derive(Drop)]
 pub struct Lane {
@@ -178,9 +181,10 @@ impl Lane {
 }
 
 impl Thief {
-    ghost use Rattle.std.specs.Prelude.{[], ◌∷◌};
-    ghost use Rattle.crossbeam_deque.specs.Handles.{view, stealer_deque, IsPassOf};
-    ghost use Rattle.lanes.specs.Interleaving.{with_taken};
+    ghost use Rattle.std.specs.Prelude.{[], ◌∷◌, List};
+    ghost use Rattle.credit_book.specs.declared.task.Ticket.{Ticket};
+    ghost use Rattle.crossbeam_deque.specs.Handles.{view, worker_view, stealer_deque, IsPassOf};
+    ghost use Rattle.lanes.specs.Interleaving.{with_pushed, with_taken};
     ghost use Rattle.lanes.specs.Passes.{moves, IsGuest, MatchStolen};
 
     /// Takes the ticket at the front of another worker's lane.
@@ -201,6 +205,29 @@ impl Thief {
             (λ ticket. view seat.new ≡ with_taken (view seat.old) (ticket ∷ [])) }
     {
         match self.reach.steal_as::<Taken>(seat) {
+            Steal::Success(ticket) => Stolen::Got(ticket),
+            Steal::Empty => Stolen::Empty,
+            Steal::Retry => Stolen::Retry,
+        }
+    }
+
+    /// The ticket at the front, for a bare seat. Some of those behind it go into the thief's own
+    /// lane, in order.
+    pub(crate) fn steal_some(&mut self, seat: &mut Seat, own: &mut Lane) -> Stolen
+        requires { IsPassOf (stealer_deque self.old.reach) seat.old }
+        ensures pass { IsPassOf (stealer_deque self.new.reach) seat.new }
+        ensures moved { MatchStolen result
+            ((view seat.new ≡ view seat.old) × (worker_view own.new.ready ≡ worker_view own.old.ready))
+            (λ ticket. (more : List Ticket) × (view seat.new ≡ with_taken (view seat.old) (ticket ∷ more))
+            × (worker_view own.new.ready ≡ with_pushed (worker_view own.old.ready) more)) }
+    {
+        match self
+            .reach
+            .steal_batch_and_pop_as::<Global, Moves, InOrder, Taken, Pushed>(
+                seat,
+                &mut own.ready,
+                MOST_AT_ONCE,
+            ) {
             Steal::Success(ticket) => Stolen::Got(ticket),
             Steal::Empty => Stolen::Empty,
             Steal::Retry => Stolen::Retry,

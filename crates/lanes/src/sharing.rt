@@ -64,7 +64,8 @@ impl Lanes {
     }
 
     /// The ticket at the front of its own lane, or else at the front of the first other one that
-    /// gives one. Nothing else is moved.
+    /// gives one. Then some of those behind it may come over into its own lane, so that a thief
+    /// needn't come back for each. Nothing else is moved.
     pub fn next(&mut self) -> Option<Ticket>
         ensures { MatchOption result (self.new
             ≡ self.old) (λ ticket. IsTaken self.old ticket self.new) }
@@ -72,7 +73,7 @@ impl Lanes {
         if let Some(ticket) = self.own.next() {
             return Some(ticket);
         }
-        first_stolen(&mut self.ways)
+        first_stolen(&mut self.ways, &mut self.own)
     }
 }
 

@@ -1,10 +1,12 @@
 //! The way of one worker into another's lane.
-ghost use Rattle.std.specs.Prelude.{◌≡◌, [], ◌∷◌, ◌<◌, length, MatchOption};
-ghost use Rattle.lanes.specs.Interleaving.{with_taken};
+ghost use Rattle.std.specs.Prelude.{◌≡◌, [], ◌∷◌, ◌<◌, List, length, MatchOption};
+ghost use Rattle.crossbeam_deque.specs.Handles.{worker_view};
+ghost use Rattle.credit_book.specs.declared.task.Ticket.{Ticket};
+ghost use Rattle.lanes.specs.Interleaving.{with_pushed, with_taken};
 ghost use Rattle.lanes.specs.Passes.{MatchStolen};
 ghost use Rattle.lanes.specs.Sharing.{IsTakenFrom};
 
-use crate::ends::{Seat, Stolen, Thief};
+use crate::ends::{Lane, Seat, Stolen, Thief};
 use credit_book::Ticket;
 use std::hint;
 use std::marker::Model;
@@ -44,22 +46,27 @@ impl Way {
         Way { thief, seat }
     }
 
-    /// Takes the ticket at the front of the lane, where no other caller comes first.
-    fn steal(&mut self) -> Stolen
-        ensures { MatchStolen result (self.new ≡ self.old) (λ ticket. self.new
-            ≡ with_taken self.old (ticket ∷ [])) }
+    /// Takes the ticket at the front of the lane, and moves some of those behind it into the
+    /// thief's own lane, where no other caller comes first.
+    fn steal(&mut self, own: &mut Lane) -> Stolen
+        ensures { MatchStolen result
+            ((self.new ≡ self.old) × (worker_view own.new.ready ≡ worker_view own.old.ready))
+            (λ ticket. (more : List Ticket) × (self.new ≡ with_taken self.old (ticket ∷ more))
+            × (worker_view own.new.ready ≡ with_pushed (worker_view own.old.ready) more)) }
     {
-        self.thief.steal_on(&mut self.seat)
+        self.thief.steal_some(&mut self.seat, own)
     }
 
-    /// Takes the ticket at the front of the lane. Where other callers come first it tries again, as
-    /// long as it doesn't look as if they always did.
-    pub fn take(&mut self) -> Option<Ticket>
-        ensures { MatchOption result (self.new ≡ self.old) (λ ticket. self.new
-            ≡ with_taken self.old (ticket ∷ [])) }
+    /// The same. Where other callers come first it tries again, as long as it doesn't look as if
+    /// they always did.
+    pub fn take(&mut self, own: &mut Lane) -> Option<Ticket>
+        ensures { MatchOption result
+            ((self.new ≡ self.old) × (worker_view own.new.ready ≡ worker_view own.old.ready))
+            (λ ticket. (more : List Ticket) × (self.new ≡ with_taken self.old (ticket ∷ more))
+            × (worker_view own.new.ready ≡ with_pushed (worker_view own.old.ready) more)) }
     {
         for _ in 0..TRIES {
-            match self.steal() {
+            match self.steal(own) {
                 Stolen::Got(ticket) => return Some(ticket),
                 Stolen::Empty => return None,
                 Stolen::Retry => hint::spin_loop(),
@@ -69,13 +76,16 @@ impl Way {
     }
 }
 
-/// The ticket at the front of the first lane that gives one.
-pub(crate) fn first_stolen(ways: &mut Vec<Way>) -> Option<Ticket>
-    ensures { MatchOption result (ways.new.items
-        ≡ ways.old.items) (λ ticket. IsTakenFrom ways.old.items ticket ways.new.items) }
+/// The ticket at the front of the first lane that gives one. Some of those behind it may come over
+/// into the thief's own lane.
+pub(crate) fn first_stolen(ways: &mut Vec<Way>, own: &mut Lane) -> Option<Ticket>
+    ensures { MatchOption result
+        ((ways.new.items ≡ ways.old.items) × (worker_view own.new.ready ≡ worker_view own.old.ready))
+        (λ ticket. (more : List Ticket) × IsTakenFrom ways.old.items (ticket ∷ more) ways.new.items
+        × (worker_view own.new.ready ≡ with_pushed (worker_view own.old.ready) more)) }
 {
     for place in 0..ways.len() {
-        if let Some(ticket) = ways[place].take() {
+        if let Some(ticket) = ways[place].take(own) {
             return Some(ticket);
         }
     }

@@ -86,3 +86,43 @@ fn a_worker_takes_its_own_ticket_and_then_the_next_workers(rt: HostRuntime) -> R
     }
     Ok(())
 }
+
+/// What the worker at each of these places finds, one after the other, where the first of two has
+/// so many tickets in its lane, numbered from 1.
+fn shared(alloc: Global, count: u32, places: &[usize]) -> Result<Vec<u32>, Fail> {
+    let mut tickets = Tickets::open(alloc)?;
+    let mut all = lanes_between(alloc, 2)?;
+    if let Some(lanes) = all.first_mut() {
+        for _ in 0..count {
+            let ticket = tickets.next(alloc)?;
+            if lanes.push(ticket).is_err() {
+                return Err(Fail::new("a push is refused"));
+            }
+        }
+    }
+    let mut numbers = Vec::new(alloc);
+    for place in places {
+        let taken = match all.get_mut(*place) {
+            Some(lanes) => lanes.next(),
+            None => None,
+        };
+        numbers.push(number_of(taken).unwrap_or(0))?;
+    }
+    Ok(numbers)
+}
+
+#[test]
+fn a_thief_takes_up_to_half_of_a_lane_and_eight_at_most(rt: HostRuntime) -> Result<(), Fail> {
+    let alloc = rt.alloc();
+    let rows: [(u32, &[usize], &[u32]); 5] = [
+        (1, &[1, 1, 0], &[1, 0, 0]),
+        (2, &[1, 0, 1], &[1, 2, 0]),
+        (3, &[1, 0, 1, 0], &[1, 3, 2, 0]),
+        (9, &[1, 0, 1, 1, 1, 1, 1], &[1, 6, 2, 3, 4, 5, 7]),
+        (30, &[1, 0, 1, 0, 1], &[1, 9, 2, 10, 3]),
+    ];
+    for (count, places, numbers) in rows {
+        assert_eq!(rt; shared(alloc, count, places)?.as_slice(), numbers);
+    }
+    Ok(())
+}

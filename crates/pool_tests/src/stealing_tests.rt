@@ -1,4 +1,4 @@
-//! An owner that pushes and takes, while three thieves steal from it.
+//! An owner that pushes and takes, while thieves steal from it and from one another.
 
 use crate::tally::Tally;
 use crate::tickets::Tickets;
@@ -12,9 +12,9 @@ use std::thread::Threads;
 /// How many tickets are pushed.
 const TICKETS: u32 = 100_000;
 
-/// Marks what it finds, which comes in the order of pushing, until all was pushed and it finds
-/// nothing.
-fn steals<R: Wait>(rt: &R, lanes: Lanes, tally: &Tally) {
+/// Marks what it finds until all was pushed and it finds nothing. It comes in the order of pushing
+/// where nobody else steals: a thief may also take from another what that one has taken earlier.
+fn steals<R: Wait>(rt: &R, lanes: Lanes, is_alone: bool, tally: &Tally) {
     let mut lanes = lanes;
     let mut last = 0;
     for _ in rt.forever() {
@@ -22,7 +22,7 @@ fn steals<R: Wait>(rt: &R, lanes: Lanes, tally: &Tally) {
         match lanes.next() {
             Some(ticket) => {
                 let number = tally.see(&ticket);
-                if number <= last {
+                if is_alone && number <= last {
                     tally.fail();
                 }
                 last = number;
@@ -58,17 +58,22 @@ fn pushes(alloc: Global, lanes: Lanes, tally: &Tally) -> Result<(), Fail> {
     Ok(())
 }
 
-/// Lets three thieves and an owner have the tickets. Whether each was seen once.
-fn shared_out<R: Threads + Wait + Sync>(rt: &R, alloc: Global) -> Result<bool, Fail> {
+/// Lets so many thieves, 1 to 15, and an owner have the tickets. Whether each was seen once.
+fn shared_out<R: Threads + Wait + Sync>(rt: &R, alloc: Global, thieves: u32) -> Result<bool, Fail> {
     let tally = Tally::new(alloc, 100_001)?;
     let seen = &tally;
-    let mut all = lanes_between(alloc, 4)?;
+    let thieves = thieves.clamp(1, 15);
+    let is_alone = thieves == 1;
+    let mut all = lanes_between(alloc, thieves + 1)?;
     let Some(own) = all.pop() else {
         return Err(Fail::new("there are no lanes"));
     };
     let pushed = thread::scope(thread::scope_env(), rt, |scope| {
         for lanes in all {
-            if scope.spawn(move || steals(rt, lanes, seen)).is_err() {
+            if scope
+                .spawn(move || steals(rt, lanes, is_alone, seen))
+                .is_err()
+            {
                 seen.fail();
             }
         }
@@ -82,6 +87,7 @@ fn shared_out<R: Threads + Wait + Sync>(rt: &R, alloc: Global) -> Result<bool, F
 
 #[test]
 fn each_ticket_is_seen_once(rt: HostRuntime) -> Result<(), Fail> {
-    assert!(rt; shared_out(&rt, rt.alloc())?);
+    assert!(rt; shared_out(&rt, rt.alloc(), 1)?);
+    assert!(rt; shared_out(&rt, rt.alloc(), 3)?);
     Ok(())
 }

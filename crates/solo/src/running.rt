@@ -8,24 +8,29 @@ ghost use Rattle.verifier.specs.Checked.{program_of};
 ghost use Rattle.interpreter.specs.Behind.{AreBehind, IsCovered, at_slot, state_of};
 ghost use Rattle.solo.specs.Through.{GoesThrough, RunsAlone};
 
+use crate::listening::Listener;
 use helpers::{Part, Spawner};
 use interpreter::{Credit, Frame, Next};
 use std::alloc::Global;
 use verifier::Verified;
 
+/// How many instructions a task runs at most until its listener is told.
+const STRETCH: usize = 256;
+
 /// Runs a task from slot 0 to its end, whatever the frame's own slot is, and gives R0. Whatever
 /// task stands behind the frame, what happens is the run of that task by itself, whose spawns the
-/// spawner answered one after the other.
+/// spawner answered one after the other. The listener is told of each stretch.
 ///
 /// The call asks for a program that may call a job's helpers alone, and for a spawner that takes
 /// any record.
-pub fn run_to_end<S: Spawner>(
+pub fn run_to_end<S: Spawner, L: Listener>(
     alloc: Global,
     frame: &mut Frame,
     code: &Verified,
     part: &mut Part,
     credit: &mut Credit,
     spawner: &mut S,
+    listener: &L,
 ) -> u64
     requires own { code.now.helpers ≡ job_table }
     requires covered { IsCovered code.now (at_slot frame.old 0) part.old credit.old }
@@ -40,7 +45,8 @@ pub fn run_to_end<S: Spawner>(
 {
     let mut slot = 0;
     loop {
-        let ran = frame.run_at(alloc, code, slot, usize::MAX, part, credit, spawner);
+        let ran = frame.run_at(alloc, code, slot, STRETCH, part, credit, spawner);
+        listener.pause();
         match ran.next {
             Next::At(next) => slot = next,
             Next::Ended(r0) => return r0,

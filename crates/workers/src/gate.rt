@@ -1,5 +1,7 @@
 //! Who is told of the tasks that run.
 
+use solo::Listener;
+
 /// Is told of each task ahead of its first step and past its last one, by the worker that runs it.
 pub trait Gate {
     /// The task of this number is about to run.
@@ -17,4 +19,27 @@ impl Gate for OpenGate {
     fn before(&self, _number: u32) {}
 
     fn after(&self, _number: u32) {}
+}
+
+/// A gate, beside whoever is told how the tasks go on.
+#[derive(Drop)]
+pub(crate) struct Heard<'a, 'b, G, L> {
+    pub gate: &'a G,
+    pub listener: &'b L,
+}
+
+impl<G: Gate, L> Gate for Heard<'_, '_, G, L> {
+    fn before(&self, number: u32) {
+        self.gate.before(number);
+    }
+
+    fn after(&self, number: u32) {
+        self.gate.after(number);
+    }
+}
+
+impl<G, L: Listener> Listener for Heard<'_, '_, G, L> {
+    fn pause(&self) {
+        self.listener.pause();
+    }
 }

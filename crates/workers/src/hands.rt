@@ -5,6 +5,7 @@ ghost use Rattle.std.proofs.Props.{props};
 ghost use Rattle.job_core.specs.Admitted.{AreOwn};
 
 use crate::desk::{Desk, Found};
+use crate::stay::Stay;
 use crate::work::entry_in;
 use credit_book::{Outcome, Ticket};
 use crossbeam_utils::CachePadded;
@@ -26,18 +27,17 @@ const BRIEF: u32 = 4096;
 
 /// How often a worker tries the desk before it sleeps until it is woken: that takes longer than a
 /// worker stays at the desk, and meanwhile others come first.
-const TRIES: u32 = 1000;
+const TRIES: u32 = 2000;
 
-/// How many moments a worker waits after its first try. A worker that is at the desk again and again,
-/// as one whose task spawns many, comes back while others wait: each that comes in between costs it
-/// what it has of the book in its own cache.
-const FIRST_WAIT: u32 = 256;
+/// How many moments a worker waits after its first try: few, since a worker that has spawned all
+/// children of one task is away from the desk just until the next task spawns.
+const FIRST_WAIT: u32 = 8;
 
 /// How often the wait doubles.
-const DOUBLINGS: u32 = 4;
+const DOUBLINGS: u32 = 3;
 
 /// From which try on a worker leaves the processor to others as well.
-const PATIENCE: u32 = 8;
+const PATIENCE: u32 = 100;
 
 /// What the workers of a job share, beside their lanes. The lock, what is under it and the programs
 /// lie on lines of their own, so that who tries the lock holds nobody else up.
@@ -48,6 +48,19 @@ pub(crate) struct Shared {
     ghost few: { vec_len programs ≤ 16 },
     ghost own: { AreOwn programs.items } by { Prim.hlevel props },
 }
+
+impl Shared {
+    /// The programs of the job.
+    pub fn list(&self) -> &[Verified]
+        ensures programs { result.now ≡ self.now.programs.items }
+        ensures own { AreOwn result.now }
+    {
+        &self.programs
+    }
+}
+
+/// The desk, for one worker alone until it lets go of this.
+pub(crate) type AtDesk<'a> = MutexGuard<'a, CachePadded<Desk>>;
 
 /// Waits ahead of another try: longer each time, up to a bound.
 fn wait_a_while(turn: u32) {
@@ -60,7 +73,7 @@ fn wait_a_while(turn: u32) {
 }
 
 /// The desk, for this worker alone until it lets go of it.
-fn take_desk<'a, R: Wait>(rt: &R, shared: &'a Shared) -> MutexGuard<'a, CachePadded<Desk>> {
+fn take_desk<'a, R: Wait>(rt: &R, shared: &'a Shared) -> AtDesk<'a> {
     for turn in 0..TRIES {
         if let Some(desk) = shared.desk.try_lock() {
             return desk;
@@ -73,21 +86,28 @@ fn take_desk<'a, R: Wait>(rt: &R, shared: &'a Shared) -> MutexGuard<'a, CachePad
 /// A worker's lanes, the number of the task that it runs, whose children go to its own lane, and
 /// what it ran that the book hasn't been told of.
 #[derive(Drop)]
-pub(crate) struct Hands<'a, R> {
+pub(crate) struct Hands<'a, 'b, R> {
     rt: &'a R,
     pub shared: &'a Shared,
+    stay: &'b Stay<'a>,
     lanes: Lanes,
     turn: u32,
     ended: Vec<Outcome>,
 }
 
-impl<'a, R: Wait> Hands<'a, R> {
+impl<'a, 'b, R: Wait> Hands<'a, 'b, R> {
     ghost use Rattle.std.specs.Prelude.{◌⊎◌, []};
     ghost use Rattle.workers.specs.declared.desk.Found.TheVariants.{Nothing};
     ghost use Rattle.workers.specs.Handing.{IsHeldBack, IsKept};
 
     /// A worker that runs no task yet. It holds no outcome back where there is no memory for that.
-    pub fn new(rt: &'a R, alloc: Global, shared: &'a Shared, lanes: Lanes) -> Hands<'a, R>
+    pub fn new(
+        rt: &'a R,
+        alloc: Global,
+        shared: &'a Shared,
+        stay: &'b Stay<'a>,
+        lanes: Lanes,
+    ) -> Hands<'a, 'b, R>
         ensures { result.shared.now ≡ shared.now }
     {
         let ended = match Vec::with_capacity(alloc, MOST_HELD_BACK) {
@@ -97,9 +117,26 @@ impl<'a, R: Wait> Hands<'a, R> {
         Hands {
             rt,
             shared,
+            stay,
             lanes,
             turn: 0,
             ended,
+        }
+    }
+
+    /// The desk, for this worker alone until it lets go of it.
+    fn desk(&self) -> AtDesk<'a> {
+        match self.stay.take() {
+            Some(desk) => desk,
+            None => take_desk(self.rt, self.shared),
+        }
+    }
+
+    /// The same, where nobody else is at it.
+    fn desk_if_free(&self) -> Option<AtDesk<'a>> {
+        match self.stay.take() {
+            Some(desk) => Some(desk),
+            None => self.shared.desk.try_lock(),
         }
     }
 
@@ -130,13 +167,12 @@ impl<'a, R: Wait> Hands<'a, R> {
         ensures shared { self.new.shared ≡ self.old.shared }
         ensures told { self.new.ended.items ≡ [] }
     {
-        let shared = self.shared;
         if !self.ended.is_empty() {
-            let mut desk = take_desk(self.rt, shared);
+            let mut desk = self.desk();
             desk.end_all(&mut self.ended);
             return desk.claim();
         }
-        match shared.desk.try_lock() {
+        match self.desk_if_free() {
             Some(mut desk) => desk.claim(),
             None => Found::Nothing,
         }
@@ -148,7 +184,7 @@ impl<'a, R: Wait> Hands<'a, R> {
         ensures shared { self.new.shared ≡ self.old.shared }
         ensures told { self.new.ended.items ≡ [] }
     {
-        self.ended.is_empty() || take_desk(self.rt, self.shared).end_all(&mut self.ended)
+        self.ended.is_empty() || self.desk().end_all(&mut self.ended)
     }
 
     /// The same, where nobody is at the desk. Otherwise all stays held back.
@@ -156,7 +192,7 @@ impl<'a, R: Wait> Hands<'a, R> {
         ensures shared { self.new.shared ≡ self.old.shared }
         ensures told { (self.new.ended.items ≡ self.old.ended.items) ⊎ (self.new.ended.items ≡ []) }
     {
-        match self.shared.desk.try_lock() {
+        match self.desk_if_free() {
             Some(mut desk) => desk.end_all(&mut self.ended),
             None => true,
         }
@@ -172,23 +208,23 @@ impl<'a, R: Wait> Hands<'a, R> {
             self.ended.push_reserved(outcome);
             return self.ended.len() < FEW_HELD_BACK || self.end_if_free();
         }
-        let mut desk = take_desk(self.rt, self.shared);
+        let mut desk = self.desk();
         desk.end_all(&mut self.ended);
         desk.end(outcome)
     }
 
     /// Puts a new task's ticket into its own lane, or parks it where there is no room for it.
-    fn keep(&mut self, ticket: Ticket)
+    fn keep(&mut self, desk: &mut Desk, ticket: Ticket)
         ensures { (self.new.shared ≡ self.old.shared) × (self.new.turn ≡ self.old.turn)
             × (self.new.ended ≡ self.old.ended) × IsKept self.old.lanes ticket self.new.lanes }
     {
         if let Err(back) = self.lanes.push(ticket) {
-            take_desk(self.rt, self.shared).park(back);
+            desk.park(back);
         }
     }
 }
 
-impl<R: Wait> Spawner for Hands<'_, R> {
+impl<R: Wait> Spawner for Hands<'_, '_, R> {
     ghost use Rattle.std.specs.Prelude.{◌≡◌, map, MatchResult};
     ghost use Rattle.machine_model.specs.Job.{entries_of};
     ghost use Rattle.verifier.specs.Checked.{program_of};
@@ -207,14 +243,16 @@ impl<R: Wait> Spawner for Hands<'_, R> {
     }
 
     fn spawn(&mut self, child: SpawnRecord) -> Result<(), SpawnRecord> {
-        let spawned = take_desk(self.rt, self.shared).spawn(self.turn, child);
-        match spawned {
+        let mut desk = self.desk();
+        let spawned = match desk.spawn(self.turn, child) {
             Ok(ticket) => {
-                self.keep(ticket);
+                self.keep(&mut desk, ticket);
                 Ok(())
             }
             Err(back) => Err(back),
-        }
+        };
+        self.stay.go_on(desk);
+        spawned
     }
 
     /// A job's programs call no helper of a caller's, so that nobody asks.

@@ -20,6 +20,7 @@ pub use fault::PoolFault;
 // the threads
 mod hands;
 mod pool;
+mod stay;
 mod watch;
 
 pub use pool::run_job;

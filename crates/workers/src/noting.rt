@@ -9,10 +9,11 @@ ghost use Rattle.workers.specs.Noted.{IsNoted, EndedAs, NotedAlone};
 
 use crate::gate::Gate;
 use crate::outcome::unrun_outcome;
-use crate::work::work_one;
+use crate::work::work_heard;
 use credit_book::{Outcome, TaskEnd, Ticket};
 use helpers::Spawner;
 use refusal::NoMemory;
+use solo::Listener;
 use std::alloc::Global;
 use task_arena::Frames;
 use verifier::Verified;
@@ -90,7 +91,7 @@ pub(crate) fn agrees(alloc: Global, ends: &[TaskEnd], notes: &[Note]) -> Result<
 }
 
 /// Runs the ticket's task, and notes it. The task isn't run where there is no room for the note.
-pub(crate) fn run_noted<S: Spawner, G: Gate>(
+pub(crate) fn run_noted<S: Spawner, G: Gate + Listener>(
     alloc: Global,
     ticket: Ticket,
     programs: &[Verified],
@@ -113,7 +114,7 @@ pub(crate) fn run_noted<S: Spawner, G: Gate>(
     let program = ticket.program();
     let arg = ticket.arg();
     let given = ticket.held();
-    let outcome = work_one(alloc, ticket, programs, spawner, frames, gate);
+    let outcome = work_heard(alloc, ticket, programs, spawner, frames, gate);
     if outcome.ran {
         notes.push_reserved(Note {
             number,

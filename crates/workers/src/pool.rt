@@ -6,9 +6,10 @@ ghost use Rattle.workers.specs.Noted.{NotedAlone, EndedAlone};
 
 use crate::desk::{Desk, Found};
 use crate::fault::PoolFault;
-use crate::gate::Gate;
+use crate::gate::{Gate, Heard};
 use crate::hands::{Hands, Shared};
 use crate::noting::{Note, agrees, run_noted};
+use crate::stay::Stay;
 use crate::watch::Watch;
 use credit_book::{Book, Post, Report};
 use crossbeam_utils::CachePadded;
@@ -31,10 +32,10 @@ struct Worker {
 
 /// What one worker does in its thread, until a look says that the job is complete, or the book has
 /// refused an end. What it noted of the tasks that it ran.
-fn work<R: Wait, G: Gate>(
-    rt: &R,
-    shared: &Shared,
-    gate: &G,
+fn work<'s, R: Wait, G: Gate>(
+    rt: &'s R,
+    shared: &'s Shared,
+    gate: &'s G,
     worker: Worker,
     alloc: Global,
 ) -> Vec<Note>
@@ -44,17 +45,22 @@ fn work<R: Wait, G: Gate>(
     let mut watch = watch;
     let mut notes = Vec::new(alloc);
     let mut frames = Frames::new(alloc);
-    let mut hands = Hands::new(rt, alloc, shared, lanes);
+    let stay = Stay::away();
+    let heard = Heard {
+        gate,
+        listener: &stay,
+    };
+    let mut hands = Hands::new(rt, alloc, shared, &stay, lanes);
     for _ in rt.forever() {
         match hands.find() {
             Found::Ready(ticket) => {
                 let outcome = run_noted(
                     alloc,
                     ticket,
-                    &shared.programs,
+                    shared.list(),
                     &mut hands,
                     &mut frames,
-                    gate,
+                    &heard,
                     &mut notes,
                 );
                 if !hands.end(outcome) {

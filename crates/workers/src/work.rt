@@ -10,12 +10,12 @@ ghost use Rattle.interpreter.specs.Behind.{zeroed};
 ghost use Rattle.solo.specs.Through.{GoesThrough};
 ghost use Rattle.workers.specs.Outcomes.{IsOutcome, IsRunBy, Suffices};
 
-use crate::gate::Gate;
+use crate::gate::{Gate, Heard};
 use crate::outcome::unrun_outcome;
 use credit_book::{Outcome, Ticket};
 use helpers::{Entry, Spawner};
 use interpreter::{Credit, Frame};
-use solo::run_to_end;
+use solo::{Listener, Nobody, run_to_end};
 use std::alloc::Global;
 use task_arena::Frames;
 use verifier::Verified;
@@ -45,7 +45,7 @@ fn suffices(code: &Verified, ticket: &Ticket) -> bool
 }
 
 /// Runs the ticket's task on a frame of zeros, and hands the spawner back.
-fn run_ticket<'c, 's, 'g, S: Spawner, G: Gate>(
+fn run_ticket<'c, 's, 'g, S: Spawner, G: Gate + Listener>(
     frame: &mut Frame,
     task: (Ticket, &'c Verified, &'s mut S, &'g G, Global),
 ) -> (Outcome, &'s mut S)
@@ -69,7 +69,7 @@ fn run_ticket<'c, 's, 'g, S: Spawner, G: Gate>(
         used: 0,
     };
     let mut part = ticket.into_part();
-    let r0 = run_to_end(alloc, frame, code, &mut part, &mut credit, spawner);
+    let r0 = run_to_end(alloc, frame, code, &mut part, &mut credit, spawner, gate);
     gate.after(number);
     let outcome = Outcome {
         job,
@@ -82,13 +82,14 @@ fn run_ticket<'c, 's, 'g, S: Spawner, G: Gate>(
     (outcome, spawner)
 }
 
-/// Runs the ticket's task to its end, by itself, on a frame of zeros, or not at all.
+/// Runs the ticket's task to its end, by itself, on a frame of zeros, or not at all. The gate is told
+/// how it goes on as well.
 ///
 /// The task isn't run where no frame can be had, or where the list has no program of its number,
 /// its credit is under the program's cost or over 2,147,483,647, or its part is shorter than the
 /// program's need. The call asks for programs that may call a job's helpers alone, and for a
 /// spawner that takes any record and knows the programs of the list.
-pub fn work_one<S: Spawner, G: Gate>(
+pub(crate) fn work_heard<S: Spawner, G: Gate + Listener>(
     alloc: Global,
     ticket: Ticket,
     programs: &[Verified],
@@ -124,4 +125,33 @@ pub fn work_one<S: Spawner, G: Gate>(
             unrun_outcome(ticket)
         }
     }
+}
+
+/// Runs the ticket's task to its end, by itself, on a frame of zeros, or not at all.
+///
+/// The task isn't run where no frame can be had, or where the list has no program of its number,
+/// its credit is under the program's cost or over 2,147,483,647, or its part is shorter than the
+/// program's need. The call asks for programs that may call a job's helpers alone, and for a
+/// spawner that takes any record and knows the programs of the list.
+pub fn work_one<S: Spawner, G: Gate>(
+    alloc: Global,
+    ticket: Ticket,
+    programs: &[Verified],
+    spawner: &mut S,
+    frames: &mut Frames,
+    gate: &G,
+) -> Outcome
+    requires own { AreOwn programs.now }
+    requires knows { S.entries spawner.old ≡ entries_of (map program_of programs.now) }
+    requires takes_any { (s : S) (child : SpawnRecord) → S.asks s child }
+    ensures outcome { IsOutcome programs.now ticket
+        (λ asked. GoesThrough S.spawns ticket.part.base spawner.old asked spawner.new)
+        (spawner.new ≡ spawner.old) result }
+    ensures entries { S.entries spawner.new ≡ S.entries spawner.old }
+{
+    let heard = Heard {
+        gate,
+        listener: &Nobody,
+    };
+    work_heard(alloc, ticket, programs, spawner, frames, &heard)
 }

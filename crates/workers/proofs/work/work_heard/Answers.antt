@@ -1,7 +1,7 @@
 use Rattle.std.proofs.Common.{rules, refl, ap, ◌∙◌}
 use Rattle.solo.specs.Through.{GoesThrough}
 use Rattle.workers.proofs.Runs.{outcome_of, read_at}
-use Rattle.workers.proofs.work.work_one.Goals as goal
+use Rattle.workers.proofs.work.work_heard.Goals as goal
 
 pub returns-in-Ok-clause-outcome : goal.returns-in-Ok-clause-outcome
 returns-in-Ok-clause-outcome g c =

@@ -1,0 +1,9 @@
+use Rattle.crossbeam_deque.specs.Handles.{worker_view}
+use Rattle.lanes.proofs.Moving.{takes_batch, pushes}
+use Rattle.lanes.proofs.ends.Thief.steal_some.Goals as goal
+
+pub steal_batch_and_pop_as-requires-clause-takes : goal.steal_batch_and_pop_as-requires-clause-takes
+steal_batch_and_pop_as-requires-clause-takes c = takes_batch _ _ 8
+
+pub steal_batch_and_pop_as-requires-clause-pushes : goal.steal_batch_and_pop_as-requires-clause-pushes
+steal_batch_and_pop_as-requires-clause-pushes c = λ x xs w left. rw (c.args.own.now.owner, c.args.self.now.fifo, c.args.own.now.fifo) (pushes (worker_view c.args.own.now.ready) xs)
