@@ -19,7 +19,8 @@ const ROUNDS: u32 = 50;
 
 const LOOKS: u32 = 100_000;
 
-const TICKETS: u32 = 10_000;
+/// How many tickets a round moves.
+pub(crate) const TICKETS: u32 = 10_000;
 
 /// So many children fit into a program, each spawned by five instructions.
 const CHILDREN: u32 = 800;
@@ -56,7 +57,7 @@ fn looked<C: Clock>(clock: &C, alloc: Global) -> anyhow::Result<Duration> {
 }
 
 /// A book with so many tasks that wait.
-fn spawned(alloc: Global, tickets: &mut Vec<Ticket>) -> anyhow::Result<Book> {
+pub(crate) fn spawned(alloc: Global, tickets: &mut Vec<Ticket>) -> anyhow::Result<Book> {
     let (_board, post, _reader) = Board::open(alloc, 1, 2 * TICKETS)?;
     let (mut book, _root) = Book::open(alloc, post, Part::whole(Vec::new(alloc)))?;
     for _ in 0..TICKETS {
@@ -132,7 +133,7 @@ fn played<C: Clock>(clock: &C, alloc: Global) -> anyhow::Result<Duration> {
 }
 
 /// Prints a time divided by how often it was done, in nanoseconds.
-fn print_each<W: Write>(
+pub(crate) fn print_each<W: Write>(
     output: &mut W,
     what: &str,
     whole: Duration,

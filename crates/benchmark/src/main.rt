@@ -4,6 +4,7 @@
 #![tactic(auto)]
 
 mod book_timing;
+mod lane_timing;
 mod pool_timing;
 mod protocol_timing;
 mod results;

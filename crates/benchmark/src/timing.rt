@@ -1,6 +1,7 @@
 //! How long a step and a verdict take.
 
 use crate::book_timing::print_book_times;
+use crate::lane_timing::print_lane_times;
 use crate::protocol_timing::print_protocol_times;
 use crate::results::{SCENARIOS, schedule};
 use crate::scenario::{Scenario, program};
@@ -143,5 +144,6 @@ pub fn print_times<C: Clock, W: Write>(
     }
     print_single_times(clock, alloc, output)?;
     print_book_times(clock, alloc, output)?;
+    print_lane_times(clock, alloc, output)?;
     print_protocol_times(clock, alloc, output)
 }
