@@ -49,7 +49,7 @@ pub(crate) type Seat = crossbeam_deque::Pass<Ticket, Moves>;
 /// The slots that a lane begins with.
 const FIRST_ROOM: usize = 16;
 
-/// How many tickets a thief takes at most at once, and no more than half of those that there are.
+/// How many tickets a thief takes at most at once: the first, and at most half of those behind it.
 const MOST_AT_ONCE: usize = 8;
 
 /// The owner's end.

@@ -3,3 +3,4 @@ pub mod PoolFaultCodes
 pub mod Final
 pub mod Noted
 pub mod Handing
+pub mod AtDesk

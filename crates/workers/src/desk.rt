@@ -1,8 +1,9 @@
 //! What lies under the lock of a job: its book, and whether this has refused an end.
 
-ghost use Rattle.std.specs.Prelude.{◌≡◌, ◌++◌, ◌∷◌, [], IfOk, IfErr, IsTrue, ◌↔◌, length, false};
-ghost use Rattle.credit_book.specs.Books.{ticket_of};
+ghost use Rattle.std.specs.Prelude.{◌≡◌, ◌∷◌, [], IfOk, IfErr, IsTrue, ◌↔◌, length, false, reverse};
+ghost use Rattle.credit_book.specs.Books.{ticket_of, spawn_event};
 ghost use Rattle.credit_book.specs.History.{IsComplete, table_of};
+ghost use Rattle.workers.specs.AtDesk.{AreEnded, HasMore, IsEnded, IsFoundAt, IsParked};
 ghost use Rattle.workers.specs.Final.{IsFinal};
 ghost use Rattle.workers.specs.declared.fault.PoolFault.TheVariants.{BookRefused};
 
@@ -30,7 +31,9 @@ pub(crate) enum Found {
 
 impl Desk {
     /// The desk of a book that was just opened, whose root's ticket is parked.
-    pub fn open(book: Book, root: Ticket) -> Desk {
+    pub fn open(book: Book, root: Ticket) -> Desk
+        ensures { IsParked (record { book = book; has_refused = false }) root result }
+    {
         let mut desk = Desk {
             book,
             has_refused: false,
@@ -39,8 +42,10 @@ impl Desk {
         desk
     }
 
-    /// Parks a ticket, for any worker to claim.
-    pub fn park(&mut self, ticket: Ticket) {
+    /// Parks a ticket, for any worker to claim. A refusal is remembered.
+    pub fn park(&mut self, ticket: Ticket)
+        ensures { IsParked self.old ticket self.new }
+    {
         if self.book.park(ticket).is_err() {
             self.has_refused = true;
         }
@@ -51,6 +56,10 @@ impl Desk {
         ensures ticket { IfOk result (λ ticket. ticket
             ≡ ticket_of self.old.book.board.job
             (length (table_of self.old.book.history).standings) child) }
+        ensures added { IfOk result (λ _. (self.new.has_refused ≡ self.old.has_refused)
+            × (self.new.book.waiting ≡ self.old.book.waiting)
+            × HasMore self.old.book (spawn_event parent
+            (length (table_of self.old.book.history).standings) child) self.new.book) }
         ensures back { IfErr result (λ back. (back ≡ child) × (self.new ≡ self.old)) }
     {
         match self.book.spawn(parent, child) {
@@ -60,7 +69,9 @@ impl Desk {
     }
 
     /// The ticket that was parked first, if the book has refused no end.
-    pub fn claim(&mut self) -> Found {
+    pub fn claim(&mut self) -> Found
+        ensures { IsFoundAt self.old result self.new }
+    {
         if self.has_refused {
             return Found::Refusal;
         }
@@ -72,7 +83,8 @@ impl Desk {
 
     /// Ends a task. Whether the book has refused no end so far.
     pub fn end(&mut self, outcome: Outcome) -> bool
-        ensures { IsTrue result ↔ (self.new.has_refused ≡ false) }
+        ensures refused { IsTrue result ↔ (self.new.has_refused ≡ false) }
+        ensures ended { IsEnded self.old outcome self.new }
     {
         if self.book.end(outcome).is_err() {
             self.has_refused = true;
@@ -84,6 +96,7 @@ impl Desk {
     pub fn end_all(&mut self, outcomes: &mut Vec<Outcome>) -> bool
         ensures refused { IsTrue result ↔ (self.new.has_refused ≡ false) }
         ensures all { outcomes.new.items ≡ [] }
+        ensures ended { AreEnded self.old (reverse outcomes.old.items) self.new }
     {
         while let Some(outcome) = outcomes.pop() {
             self.end(outcome);
