@@ -1,21 +1,18 @@
 -- What a job's thread leaves.
-use Rattle.std.specs.Prelude.{◌≡◌, ℕ, Result, Ok, Err}
+use Rattle.std.specs.Prelude.{◌≡◌, ℕ, Result, Ok, Err, All, length}
 use Rattle.credit_book.specs.declared.book.Report.{Report}
+use Rattle.job_core.specs.Admitted.{Order}
 use Rattle.workers.specs.declared.fault.PoolFault.{PoolFault}
 use Rattle.workers.specs.PoolFaultCodes.{number_of}
 use Rattle.workers.specs.Final.{IsFinal}
+use Rattle.workers.specs.Noted.{EndedAlone}
 
--- a job's number, its credit, and its report or the number of what it failed by
-pub record Ended : Type 0 where
-  pub number : ℕ
-  pub credit : ℕ
-  pub outcome : Result Report ℕ
-
--- the report of a whole run of a job of this number and this credit
-abbrev pub IsRun : ℕ → ℕ → Report → Type 0
-IsRun number credit report = (size : ℕ) × IsFinal number credit size report
+-- the report of a whole run of this job under this number, each of whose tasks gives what it gives by itself
+pub record IsRun (number : ℕ) (job : Order) (report : Report) : Type 0 where
+  pub final : IsFinal number job.credit (length job.buffer) report
+  pub alone : All (EndedAlone job.programs) report.tasks.items
 
 -- such a report, or the number of a pool's refusal
-abbrev pub IsEndOf : ℕ → ℕ → Result Report ℕ → Type 0
-IsEndOf number credit (Ok report) = IsRun number credit report
-IsEndOf number credit (Err code) = (fault : PoolFault) × (code ≡ number_of fault)
+abbrev pub IsEndOf : ℕ → Order → Result Report ℕ → Type 0
+IsEndOf number job (Ok report) = IsRun number job report
+IsEndOf number job (Err code) = (fault : PoolFault) × (code ≡ number_of fault)

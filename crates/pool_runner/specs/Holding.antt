@@ -5,27 +5,28 @@ use Rattle.credit_book.specs.Boards.{Sight}
 use Rattle.credit_book.specs.History.{IsHistoryOf, IsComplete, table_of, spent_in, returned_in}
 use Rattle.credit_book.specs.declared.board.Progress.{Progress}
 use Rattle.credit_book.specs.declared.event.Event.TheVariants.{Open}
+use Rattle.job_core.specs.Admitted.{Order}
 
--- its number, its credit, and what was seen of its board so far
+-- its number, the job, and what was seen of its board so far
 pub record Held : Type 0 where
   pub number : ℕ
-  pub credit : ℕ
+  pub job : Order
   pub sight : Sight
 
 -- a job that was just started: nothing was seen of it but its opening
-pub record IsFresh (number credit : ℕ) (held : Held) : Type 0 where
+pub record IsFresh (number : ℕ) (job : Order) (held : Held) : Type 0 where
   pub numbered : held.number ≡ number
-  pub credited : held.credit ≡ credit
-  pub seen : held.sight.seen ≡ Open number credit ∷ []
+  pub given : held.job ≡ job
+  pub seen : held.sight.seen ≡ Open number job.credit ∷ []
   pub looks : held.sight.looks ≡ 0
 
 -- One look more: its totals are those of the history that is then seen, a legal one of this job that begins with all that was seen before.
 pub record IsSeen (old : Held) (told : Progress) (new : Held) : Type 0 where
   pub number : new.number ≡ old.number
-  pub credit : new.credit ≡ old.credit
+  pub job : new.job ≡ old.job
   pub looks : new.sight.looks ≡ old.sight.looks + 1
   pub later : IsPrefix old.sight.seen new.sight.seen
-  pub legal : IsHistoryOf old.number old.credit new.sight.seen
+  pub legal : IsHistoryOf old.number old.job.credit new.sight.seen
   pub spent : told.spent ≡ spent_in (table_of new.sight.seen)
   pub returned : told.returned ≡ returned_in (table_of new.sight.seen)
   pub complete : IsTrue told.complete ↔ IsComplete (table_of new.sight.seen)

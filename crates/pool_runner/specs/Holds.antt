@@ -5,6 +5,7 @@ use Rattle.std.specs.BTreeMap.{btree_map_len}
 use Rattle.std.specs.Ordering.{nat_cmp}
 use Rattle.slab.specs.Slab as slots
 use Rattle.credit_book.specs.declared.book.Report.{Report}
+use Rattle.job_core.specs.Admitted.{Order}
 use Rattle.credit_book.specs.declared.board.Progress.{Progress}
 use Rattle.pool_runner.specs.declared.places.Places.{Places}
 use Rattle.pool_runner.specs.Endings.{IsEndOf}
@@ -29,17 +30,17 @@ pub record Stays (old new : Places) : Type 0 where
   pub count : count_of new ≡ count_of old
 
 -- one job more
-pub record Adds (old : Places) (number credit : ℕ) (new : Places) : Type 0 where
+pub record Adds (old : Places) (number : ℕ) (job : Order) (new : Places) : Type 0 where
   pub held : Held
   pub was_none : held_at old number ≡ None
-  pub fresh : IsFresh number credit held
+  pub fresh : IsFresh number job held
   pub changes : Changes old number (Some held) new
   pub count : count_of new ≡ count_of old + 1
 
 -- a job is held, or the start is refused by 81 or 99
-abbrev pub Starts : Places → ℕ → ℕ → Result (Unit {0}) ℕ → Places → Type 0
-Starts old number credit (Ok _) new = Adds old number credit new
-Starts old number credit (Err code) new = ((code ≡ 81) ⊎ (code ≡ 99)) × Stays old new
+abbrev pub Starts : Places → ℕ → Order → Result (Unit {0}) ℕ → Places → Type 0
+Starts old number job (Ok _) new = Adds old number job new
+Starts old number job (Err code) new = ((code ≡ 81) ⊎ (code ≡ 99)) × Stays old new
 
 -- a job is seen
 pub record Sees (old : Places) (number : ℕ) (held : Held) (told : Progress) (new : Places) : Type 0 where
@@ -60,7 +61,7 @@ Looks old number told new = looks_at old number (held_at old number) told new
 pub record Gives (old : Places) (number : ℕ) (outcome : Result Report ℕ) (new : Places) : Type 0 where
   pub held : Held
   pub was : held_at old number ≡ Some held
-  pub end : IsEndOf number held.credit outcome
+  pub end : IsEndOf number held.job outcome
   pub changes : Changes old number None new
   pub count : count_of new + 1 ≡ count_of old
 

@@ -1,14 +1,13 @@
-//! A job that waits for its thread, and the thread.
+//! A job that waits for its thread, and what it does there.
 
 ghost use Rattle.std.specs.Prelude.{◌≡◌, ◌≤◌};
+ghost use Rattle.pool_runner.specs.Endings.{IsEndOf};
 
-use crate::ending::{Ending, Slot};
-use credit_book::Post;
+use credit_book::{Post, Report};
 use job_core::Job;
 use std::alloc::Global;
-use std::sync::{Arc, Wait};
-use std::thread;
-use std::thread::{JoinHandle, Threads};
+use std::sync::{Arc, Mutex, Wait};
+use std::thread::Threads;
 use workers::{OpenGate, run_job};
 
 /// A job that waits for its thread, with the post of its board.
@@ -18,40 +17,30 @@ pub struct Errand {
     pub(crate) number: u64,
     pub(crate) job: Job,
     pub(crate) post: Post,
-    pub(crate) slot: Arc<Slot>,
+    pub(crate) is_done: Arc<Mutex<bool>>,
     ghost board: { post.board.job ≡ number },
     ghost credit: { post.board.issued ≡ job.credit },
 }
 
 impl Errand {
-    /// Runs the job on so many workers, 1 to 16, and leaves what it came to under its lock.
-    fn run<R: Threads + Wait + Sync>(self, rt: &R, workers: u32)
+    /// Runs the job on so many workers, 1 to 16, and says under its lock that it is done. What it
+    /// came to.
+    pub(crate) fn run<R: Threads + Wait + Sync>(self, rt: &R, workers: u32) -> Result<Report, u8>
         requires { (1 ≤ workers) × (workers ≤ 16) }
+        ensures { IsEndOf self.number self.job result }
     {
         let Errand {
             alloc,
-            number,
+            number: _,
             job,
             post,
-            slot,
+            is_done,
         } = self;
-        let credit = job.credit();
         let result = run_job(rt, alloc, job, post, workers, &OpenGate);
-        *slot.lock(rt) = Some(Ending::new(number, credit, result));
+        *is_done.lock(rt) = true;
+        match result {
+            Ok(report) => Ok(report),
+            Err(fault) => Err(fault.code()),
+        }
     }
-}
-
-/// Starts the thread of a job, which runs it on so many workers, 1 to 16. `None`: no thread could
-/// be started.
-pub fn start_thread<R: Threads + Wait + Copy + Send + Sync + 'static>(
-    rt: R,
-    errand: Errand,
-    workers: u32,
-) -> Option<JoinHandle<()>>
-    requires { (1 ≤ workers) × (workers ≤ 16) }
-{
-    let work = move ||
-        requires { (1 ≤ workers) × (workers ≤ 16) }
-    { errand.run(&rt, workers) };
-    thread::spawn(&rt, work).ok()
 }

@@ -5,9 +5,11 @@
 mod ending;
 mod errand;
 mod running;
+mod starting;
 
-pub use ending::Ending;
-pub use errand::{Errand, start_thread};
+pub use ending::{EndOf, JobThread};
+pub use errand::Errand;
+pub use starting::start_thread;
 
 // all jobs
 mod keys;

@@ -6,8 +6,8 @@ ghost use Rattle.std.specs.BTreeMap as tree;
 ghost use Rattle.std.specs.Ordering.{nat_cmp};
 ghost use Rattle.slab.specs.Slab as slots;
 ghost use Rattle.pool_runner.specs.Holding.{AreKept, IsSeen};
-ghost use Rattle.pool_runner.specs.Endings.{IsEndOf};
 
+use crate::ending::JobThread;
 use crate::errand::Errand;
 use crate::keys::{forget, key_of, note};
 use crate::running::{Running, begin};
@@ -17,7 +17,7 @@ use slab::Slab;
 use std::alloc::Global;
 use std::collections::BTreeMap;
 use std::sync::Wait;
-use std::thread::{JoinHandle, Threads};
+use std::thread::Threads;
 
 /// The jobs that were started and not yet taken, each with a place of its own, and their places by
 /// number.
@@ -40,20 +40,19 @@ fn look_at(jobs: &mut Slab<Running>, key: usize) -> Progress
     }
 }
 
-/// The finished job of lowest number, with its key, and what it came to, which is given once.
+/// The finished job of lowest number, with its key.
 fn finished<R: Wait>(
     jobs: &Slab<Running>,
     keys: &BTreeMap<u64, usize>,
     rt: &R,
-) -> Option<(u64, usize, Result<Report, u8>)>
+) -> Option<(u64, usize)>
     ensures { IfSome result (λ found. (tree.get nat_cmp keys.now found.0 ≡ Some found.1)
-        × ((held : _) × (slots.get jobs.now found.1 ≡ Some held)
-        × IsEndOf held.number held.credit found.2)) }
+        × ((held : _) × (slots.get jobs.now found.1 ≡ Some held))) }
 {
     for (number, key) in keys {
         if let Some(running) = jobs.get(*key) {
-            if let Some(outcome) = running.take(rt) {
-                return Some((*number, *key, outcome));
+            if running.is_done(rt) {
+                return Some((*number, *key));
             }
         }
     }
@@ -63,6 +62,7 @@ fn finished<R: Wait>(
 impl Places {
     ghost use Rattle.std.specs.Prelude.{◌≡◌, ℕ, None};
     ghost use Rattle.pool_runner.specs.Holds.{held_at, count_of, Starts, Looks, Takes};
+    ghost use Rattle.pool_runner.specs.Starting.{StartsOwn};
 
     /// Places that nothing has.
     pub fn new(alloc: Global) -> Places
@@ -77,15 +77,16 @@ impl Places {
 
     /// Starts a job, whose places are made ahead of its thread and given up where the start is
     /// refused: by 99, or by 81 where no thread could be started, or a job of this number is held.
-    pub fn start<F: Fn(Errand) -> Option<JoinHandle<()>>>(
+    pub fn start<F: Fn(Errand) -> Option<JobThread>>(
         &mut self,
         alloc: Global,
         starter: &F,
         number: u64,
         job: Job,
     ) -> Result<(), u8>
-        requires { F.IsAlwaysCallable starter.now }
-        ensures { Starts self.old number job.credit result self.new }
+        requires callable { F.IsAlwaysCallable starter.now }
+        requires own { StartsOwn (F.post starter.now) }
+        ensures { Starts self.old number job result self.new }
     {
         if key_of(&self.keys, number).is_some() {
             return Err(81);
@@ -129,19 +130,19 @@ impl Places {
     pub fn take<R: Wait + Threads>(&mut self, rt: &R) -> Option<(u64, Result<Report, u8>)>
         ensures { Takes self.old result self.new }
     {
-        let (number, key, outcome) = finished(&self.jobs, &self.keys, rt)?;
+        let (number, key) = finished(&self.jobs, &self.keys, rt)?;
         forget(&mut self.keys, number);
-        if let Some(running) = self.jobs.try_remove(key) {
-            running.join(rt);
+        match self.jobs.try_remove(key) {
+            Some(running) => Some((number, running.join(rt))),
+            None => unreachable!(),
         }
-        Some((number, outcome))
     }
 
     /// Waits for the threads of all jobs.
     pub fn join_all<R: Threads>(self, rt: &R) {
         let Places { mut jobs, keys: _ } = self;
         for running in jobs.drain() {
-            running.join(rt);
+            let _ = running.join(rt);
         }
     }
 }

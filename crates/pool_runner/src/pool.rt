@@ -1,27 +1,29 @@
 //! A runner that runs each job in a thread of its own.
 
+use crate::ending::JobThread;
 use crate::errand::Errand;
 use crate::places::Places;
 use credit_book::{Progress, Report};
 use job_core::Job;
 use std::alloc::Global;
 use std::sync::Wait;
-use std::thread::{JoinHandle, Threads};
+use std::thread::Threads;
 use streams::Runner;
 
 /// Runs each job in a thread of its own, which `starter` starts.
 ///
 /// A method of a trait can't send its handle to a thread, so the caller gives a closure that does:
-/// `|errand| start_thread(rt, errand, workers)`. That a thread is ever run, or a job ever finished,
-/// is nowhere claimed.
+/// `|errand| start_thread(rt, errand, workers)`. It may be called on any errand, and its threads
+/// promise the end of the errand's own job. That a thread is ever run, or a job ever finished, is
+/// nowhere claimed.
 #[derive(Drop)]
-pub struct PoolRunner<R, F: Fn(Errand) -> Option<JoinHandle<()>>> {
+pub struct PoolRunner<R, F: Fn(Errand) -> Option<JobThread>> {
     rt: R,
     starter: F,
     places: Places,
 }
 
-impl<R: Drop, F: Fn(Errand) -> Option<JoinHandle<()>> + Drop> PoolRunner<R, F> {
+impl<R: Drop, F: Fn(Errand) -> Option<JobThread> + Drop> PoolRunner<R, F> {
     ghost use Rattle.std.specs.Prelude.{◌≡◌, ℕ, None};
     ghost use Rattle.pool_runner.specs.Holds.{held_at};
 
@@ -38,7 +40,7 @@ impl<R: Drop, F: Fn(Errand) -> Option<JoinHandle<()>> + Drop> PoolRunner<R, F> {
     }
 }
 
-impl<R: Threads + Drop, F: Fn(Errand) -> Option<JoinHandle<()>> + Drop> PoolRunner<R, F> {
+impl<R: Threads + Drop, F: Fn(Errand) -> Option<JobThread> + Drop> PoolRunner<R, F> {
     /// Waits for the threads of all jobs.
     pub fn join_all(self) {
         let PoolRunner {
@@ -50,15 +52,16 @@ impl<R: Threads + Drop, F: Fn(Errand) -> Option<JoinHandle<()>> + Drop> PoolRunn
     }
 }
 
-impl<R: Threads + Wait + Drop, F: Fn(Errand) -> Option<JoinHandle<()>> + Drop> Runner
+impl<R: Threads + Wait + Drop, F: Fn(Errand) -> Option<JobThread> + Drop> Runner
     for PoolRunner<R, F> {
     ghost use Rattle.pool_runner.specs.Holds.{count_of, Starts, Looks, Takes};
+    ghost use Rattle.pool_runner.specs.Starting.{StartsOwn};
 
     ghost held = { λ p. count_of p.places };
 
-    ghost ready = { λ p. F.IsAlwaysCallable p.starter };
+    ghost ready = { λ p. F.IsAlwaysCallable p.starter × StartsOwn (F.post p.starter) };
 
-    ghost starts = { λ p number order result q. Starts p.places number order.credit result q.places };
+    ghost starts = { λ p number order result q. Starts p.places number order result q.places };
 
     ghost looks = { λ p number progress q. Looks p.places number progress q.places };
 

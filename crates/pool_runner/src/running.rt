@@ -1,27 +1,26 @@
 //! One job and its thread.
 
-ghost use Rattle.std.specs.Prelude.{◌≡◌, ◌⊎◌, IfOk, IfErr, IfSome};
+ghost use Rattle.std.specs.Prelude.{◌≡◌, ◌⊎◌, IfOk, IfErr};
 ghost use Rattle.pool_runner.specs.Endings.{IsEndOf};
 ghost use Rattle.pool_runner.specs.Holding.{IsFresh, IsSeen};
+ghost use Rattle.pool_runner.specs.Starting.{StartsOwn};
 
-use crate::ending::Slot;
+use crate::ending::JobThread;
 use crate::errand::Errand;
 use credit_book::{Board, Progress, Reader, Report};
 use job_core::Job;
 use std::alloc::Global;
 use std::marker::Model;
 use std::sync::{Arc, Mutex, Wait};
-use std::thread::{JoinHandle, Threads};
+use std::thread::Threads;
 
-/// A job, its board with what was seen of it, its lock, and its thread.
+/// A job's board with what was seen of it, whether the job is done, under its lock, and its thread.
 #[derive(Drop)]
 pub(crate) struct Running {
-    number: u64,
-    credit: u32,
     board: Arc<Board>,
     reader: Reader,
-    slot: Arc<Slot>,
-    thread: JoinHandle<()>,
+    is_done: Arc<Mutex<bool>>,
+    thread: JobThread,
 }
 
 impl Model for Running {
@@ -31,31 +30,31 @@ impl Model for Running {
 
     ghost Value = { Held };
 
-    ghost view = { λ r. record { number = r.number; credit = r.credit; sight = r.reader } };
+    ghost view = { λ r. record { number = r.thread.promise.number; job = r.thread.promise.job.value; sight = r.reader } };
 
-    ghost invariant = { λ r. (r.reader.board ≡ arc_value r.board) × (r.reader.board.job ≡ r.number) × (r.reader.board.issued ≡ r.credit) };
+    ghost invariant = { λ r. (r.reader.board ≡ arc_value r.board) × (r.reader.board.job ≡ r.thread.promise.number) × (r.reader.board.issued ≡ r.thread.promise.job.value.credit) };
 }
 
 /// Starts the thread of a job by `starter`, once all that it needs is made: 99 where a growth was
 /// refused, and 81 where no thread could be started.
-pub(crate) fn begin<F: Fn(Errand) -> Option<JoinHandle<()>>>(
+pub(crate) fn begin<F: Fn(Errand) -> Option<JobThread>>(
     alloc: Global,
     starter: &F,
     number: u64,
     job: Job,
 ) -> Result<Running, u8>
-    requires { F.IsAlwaysCallable starter.now }
-    ensures fresh { IfOk result (λ held. IsFresh number job.credit held) }
+    requires callable { F.IsAlwaysCallable starter.now }
+    requires own { StartsOwn (F.post starter.now) }
+    ensures fresh { IfOk result (λ held. IsFresh number job held) }
     ensures refused { IfErr result (λ code. (code ≡ 81) ⊎ (code ≡ 99)) }
 {
-    let credit = job.credit();
     let Ok((board, post, reader)) = job.board(alloc, number) else {
         return Err(99);
     };
-    let Ok(slot) = Arc::new(alloc, Mutex::new(None)) else {
+    let Ok(is_done) = Arc::new(alloc, Mutex::new(false)) else {
         return Err(99);
     };
-    let Ok(filled) = Arc::try_clone(&slot) else {
+    let Ok(told) = Arc::try_clone(&is_done) else {
         return Err(99);
     };
     let errand = Errand {
@@ -63,15 +62,13 @@ pub(crate) fn begin<F: Fn(Errand) -> Option<JoinHandle<()>>>(
         number,
         job,
         post,
-        slot: filled,
+        is_done: told,
     };
     match starter(errand) {
         Some(thread) => Ok(Running {
-            number,
-            credit,
             board,
             reader,
-            slot,
+            is_done,
             thread,
         }),
         None => Err(81),
@@ -87,17 +84,16 @@ impl Running {
         board.look(&mut self.reader)
     }
 
-    /// What the job came to, if its thread is done and this wasn't taken before.
-    pub fn take<R: Wait>(&self, rt: &R) -> Option<Result<Report, u8>>
-        ensures { IfSome result (λ outcome. IsEndOf self.now.number self.now.credit outcome) }
-    {
-        let ending = self.slot.lock(rt).take()?;
-        Some(ending.of_job(self.number, self.credit))
+    /// Whether the job is done, so that its thread is about to end, or has ended.
+    pub fn is_done<R: Wait>(&self, rt: &R) -> bool {
+        *self.is_done.lock(rt)
     }
 
-    /// Waits for the job's thread.
-    pub fn join<R: Threads>(self, rt: &R) {
+    /// Waits for the job's thread. What the job came to.
+    pub fn join<R: Threads>(self, rt: &R) -> Result<Report, u8>
+        ensures { IsEndOf self.number self.job result }
+    {
         let Running { thread, .. } = self;
-        thread.join(rt);
+        thread.join(rt)
     }
 }

@@ -1,15 +1,16 @@
 //! A server of this machine.
 
-ghost use Rattle.std.specs.Prelude.{◌≤◌};
+ghost use Rattle.std.specs.Prelude.{◌≤◌, IfSome};
+ghost use Rattle.pool_runner.specs.Starting.{IsStarted};
 
 use crate::connections::serve_connections;
 use crate::fault::ServeFault;
 use accounts::Desk;
-use pool_runner::{Errand, PoolRunner, start_thread};
+use pool_runner::{Errand, JobThread, PoolRunner, start_thread};
 use std::alloc::Global;
 use std::net::{Ipv4Addr, Net, OpenListener, SocketAddr, TcpListener, TcpStream};
 use std::sync::Wait;
-use std::thread::{JoinHandle, Threads};
+use std::thread::Threads;
 
 /// Serves so many connections of the listener, one after the other, on a new desk whose jobs a pool
 /// of so many workers a job runs, 1 to 16. Once the last has ended it joins the threads of all
@@ -23,8 +24,9 @@ pub fn serve_on<
 >(rt: R, alloc: Global, listener: &L, workers: u32, sessions: u32) -> Result<(), ServeFault>
     requires { (1 ≤ workers) × (workers ≤ 16) }
 {
-    let starter = move |errand: Errand| -> Option<JoinHandle<()>>
+    let starter = move |errand: Errand| -> Option<JobThread>
         requires { (1 ≤ workers) × (workers ≤ 16) }
+        ensures { IfSome result (λ thread. IsStarted errand thread) }
     { start_thread(rt, errand, workers) };
     let mut runner = PoolRunner::new(rt, alloc, starter);
     let mut desk = Desk::new(alloc);

@@ -1,8 +1,8 @@
-use Rattle.std.proofs.Common.{rules, ◌≡◌, ◌∙◌, ℕ, None, Some, refl, sym}
+use Rattle.std.proofs.Common.{◌≡◌, Some, refl, sym}
 use Rattle.std.specs.BTreeMap as tree
 use Rattle.std.specs.Ordering.{nat_cmp}
 use Rattle.slab.specs.Slab as slots
-use Rattle.pool_runner.specs.Holding.{AreKept, Held, job_by}
+use Rattle.pool_runner.specs.Holding.{job_by}
 use Rattle.pool_runner.proofs.Keeping.{kept_changed, others_changed, found_at, is_there, looks_held}
 use Rattle.pool_runner.proofs.places.Places.look.Goals as goal
 

@@ -1,0 +1,14 @@
+-- What the thread of a job that waits for it promises.
+use Rattle.std.specs.Prelude.{◌≡◌, ℕ, Option, Some, Result}
+use Rattle.std.specs.declared.thread.PromisedHandle.{PromisedHandle}
+use Rattle.credit_book.specs.declared.book.Report.{Report}
+use Rattle.pool_runner.specs.declared.ending.EndOf.{EndOf}
+use Rattle.pool_runner.specs.declared.errand.Errand.{Errand}
+
+-- the thread promises the end of the errand's own job, under its own number
+abbrev pub IsStarted : Errand → PromisedHandle (Result Report ℕ) EndOf → Type 0
+IsStarted errand thread = (thread.promise.number ≡ errand.number) × (thread.promise.job.value ≡ errand.job)
+
+-- so does each thread that may come of an errand
+abbrev pub StartsOwn : (Errand → Option (PromisedHandle (Result Report ℕ) EndOf) → Type 0) → Type 0
+StartsOwn may_start = (errand : Errand) (thread : PromisedHandle (Result Report ℕ) EndOf) → may_start errand (Some thread) → IsStarted errand thread
