@@ -1,6 +1,6 @@
 //! A worker's view of how far the job is.
 
-ghost use Rattle.std.specs.Prelude.{◌≡◌, ◌↔◌, ◌∷◌, [], IfOk, IsTrue};
+ghost use Rattle.std.specs.Prelude.{◌≡◌, ◌+◌, ◌↔◌, ◌∷◌, [], IfOk, IsTrue};
 ghost use Rattle.std.specs.Arc.{arc_value};
 ghost use mathlib.Core.List.{IsPrefix};
 ghost use Rattle.credit_book.specs.declared.event.Event.TheVariants.{Open};
@@ -33,6 +33,7 @@ impl Watch {
     /// Looks whether no task is alive, in the history that is then seen.
     pub fn is_complete(&mut self) -> bool
         ensures board { self.new.reader.board ≡ self.old.reader.board }
+        ensures counted { self.new.reader.looks ≡ self.old.reader.looks + 1 }
         ensures later { IsPrefix self.old.reader.seen self.new.reader.seen }
         ensures legal { IsHistoryOf self.old.reader.board.job self.old.reader.board.issued
             self.new.reader.seen }
