@@ -1,4 +1,4 @@
--- What a job's thread leaves.
+-- What a job's thread comes to.
 use Rattle.std.specs.Prelude.{◌≡◌, ℕ, Result, Ok, Err, All, length}
 use Rattle.credit_book.specs.declared.book.Report.{Report}
 use Rattle.job_core.specs.Admitted.{Order}

@@ -54,7 +54,7 @@ pub(crate) fn begin<F: Fn(Errand) -> Option<JobThread>>(
     let Ok(is_done) = Arc::new(alloc, Mutex::new(false)) else {
         return Err(99);
     };
-    let Ok(told) = Arc::try_clone(&is_done) else {
+    let Ok(for_thread) = Arc::try_clone(&is_done) else {
         return Err(99);
     };
     let errand = Errand {
@@ -62,7 +62,7 @@ pub(crate) fn begin<F: Fn(Errand) -> Option<JobThread>>(
         number,
         job,
         post,
-        is_done: told,
+        is_done: for_thread,
     };
     match starter(errand) {
         Some(thread) => Ok(Running {

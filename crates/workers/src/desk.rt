@@ -1,7 +1,8 @@
 //! What lies under the lock of a job: its book, and whether this has refused an end.
 
 ghost use Rattle.std.specs.Prelude.{◌≡◌, ◌∷◌, [], IfOk, IfErr, IsTrue, ◌↔◌, length, false, reverse};
-ghost use Rattle.credit_book.specs.Books.{ticket_of, spawn_event};
+ghost use Rattle.credit_book.specs.Books.{IsSpawnFault, ticket_of, spawn_event};
+ghost use Rattle.credit_book.specs.declared.fault.BookFault.{BookFault};
 ghost use Rattle.credit_book.specs.History.{IsComplete, table_of};
 ghost use Rattle.workers.specs.AtDesk.{AreEnded, HasMore, IsEnded, IsFoundAt, IsParked};
 ghost use Rattle.workers.specs.Final.{IsFinal};
@@ -61,6 +62,8 @@ impl Desk {
             × HasMore self.old.book (spawn_event parent
             (length (table_of self.old.book.history).standings) child) self.new.book) }
         ensures back { IfErr result (λ back. (back ≡ child) × (self.new ≡ self.old)) }
+        ensures refused { IfErr result (λ _. (fault : BookFault)
+            × IsSpawnFault self.old.book parent child fault) }
     {
         match self.book.spawn(parent, child) {
             Ok(ticket) => Ok(ticket),
