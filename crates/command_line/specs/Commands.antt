@@ -1,8 +1,8 @@
 -- The command that a subcommand and its matches are.
-use Rattle.std.specs.Prelude.{◌≡◌, ℕ, ◌≤◌, List, codes, Some, true}
+use Rattle.std.specs.Prelude.{◌≡◌, ◌⊎◌, ℕ, ◌≤◌, List, codes, Some, true}
 use Rattle.std.specs.Str.Parse.{IsNumeral, digits_value, without_leading_plus}
 use Rattle.clap.specs.Words.{Row, Text, kind_of, one_of, takes}
-use Rattle.clap.specs.declared.error.kind.ErrorKind.TheVariants.{OutOfMemory}
+use Rattle.clap.specs.declared.error.kind.ErrorKind.TheVariants.{DisplayHelp, DisplayVersion, OutOfMemory}
 use Rattle.command_line.specs.declared.commands.Command.{Command}
 use Rattle.command_line.specs.declared.commands.Command.TheVariants.{Assemble, Disassemble, Verify, Play, Run, Serve}
 use Rattle.command_line.specs.declared.commands.Usage.{Usage}
@@ -46,3 +46,8 @@ IsInRange (Serve port workers sessions) =
 abbrev pub IsUsage : Usage → List Text → Type 0
 IsUsage (usage.Refused error) words = takes bpfjobs_app words ≡ true → kind_of error ≡ OutOfMemory
 IsUsage usage.NoMemory words = Unit {0}
+
+-- the words ask for help, or for the version: that is no mistake
+abbrev pub AsksHelp : Usage → Type 0
+AsksHelp (usage.Refused error) = (kind_of error ≡ DisplayHelp) ⊎ (kind_of error ≡ DisplayVersion)
+AsksHelp usage.NoMemory = ⊥

@@ -3,7 +3,7 @@ use Rattle.clap.specs.Words.{found_of, is_simple, is_simple_and_free, rows_of, s
 use Rattle.clap.proofs.TakesLemmas.{some_rows}
 use Rattle.command_line.proofs.LineLemmas.{entered_says, is_entered, is_plain, plain}
 use Rattle.command_line.proofs.NumberLemmas.{pair_of, named}
-use Rattle.command_line.proofs.reading.command.Goals as goal
+use Rattle.command_line.proofs.reading.command_in.Goals as goal
 
 pub command_of-requires : goal.command_of-requires
 command_of-requires c =
