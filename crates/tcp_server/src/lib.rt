@@ -9,6 +9,6 @@ mod server;
 
 pub use address::address_of;
 pub use connections::serve_connections;
-pub use fault::ServeFault;
+pub use fault::{ServeFault, status_of};
 pub use listener::Listener;
 pub use server::{serve, serve_on};
