@@ -1,5 +1,5 @@
 -- A desk and a runner that plays each job at its start answer as the plain ledger does.
-use Rattle.std.proofs.Common.{◌≡◌, ◌⊎◌, ℕ, suc, List, [], ◌∷◌, ◌++◌, length, map, refl, sym, ap, ◌∙◌, subst, inl, inr, false, Option, Some, None, Result, Ok, Err, append_assoc}
+use Rattle.std.proofs.Common.{◌≡◌, ◌⊎◌, ◌-◌, ◌^◌, ℕ, suc, min, arith, length-append, List, [], ◌∷◌, ◌++◌, length, map, refl, sym, ap, ◌∙◌, subst, inl, inr, false, Option, Some, None, Result, Ok, Err, append_assoc}
 use Rattle.std.specs.Ordering.{nat_cmp}
 use Rattle.std.specs.BTreeMap.{insert_entry}
 use Rattle.serde_json.specs.Data.{Data}
@@ -22,7 +22,7 @@ use Rattle.streams.specs.Passing as passing
 use Rattle.streams.specs.Answering.{Answers, Grants, GrantsNone, Replies, Settles, Submits, TakesJob, progress_told}
 use Rattle.streams.specs.Serves.{Serves}
 use Rattle.streams.specs.Serves as serving
-use Rattle.streams.specs.Stops.{EndsWith, IsServed}
+use Rattle.streams.specs.Stops.{EndsWith, IsServed, StopsAt}
 use Rattle.streams.proofs.Answered.{opened}
 use Rattle.runners.specs.Played.{IsPlayed, StartsInline, TakesInline}
 use Rattle.runners.specs.LedgerReplies.{AreNoted, ComesTo, LedgerReplies, PlaysJob, PlaysNone, RepliesTo, Tells, WritesReplies, none_yet, one_more, unseen}
@@ -143,20 +143,22 @@ module _ {R : Type 0} (reports : R → List (ℕ × Report)) where
   -- ---- all frames
 
   -- the payloads that are cut are answered over the ledger
-  pub record IsPlain (start : Ledger × R) (bytes before left out : List ℕ) (ledger : Ledger) : Type 0 where
+  pub record IsPlain (start : Ledger × R) (bytes before : List ℕ) (number : ℕ) (left out : List ℕ) (ledger : Ledger) : Type 0 where
     pub first : Ledger
     pub noted : AreNoted start.0 (reports start.1) first
     pub payloads : List (List ℕ)
+    pub counts : length payloads ≡ number
     pub cuts : Cuts bytes payloads left
     pub text : List ℕ
     pub replies : RepliesTo first payloads text ledger
     pub written : out ≡ before ++ text
 
-  pub plain : (start : Ledger × R) (bytes before : List ℕ) (count : ℕ) (s : Ledger × R) (left out : List ℕ) (ledger : Ledger) → Serves answers start bytes before count s left out → AreNoted s.0 (reports s.1) ledger → IsPlain start bytes before left out ledger
+  pub plain : (start : Ledger × R) (bytes before : List ℕ) (count : ℕ) (s : Ledger × R) (left out : List ℕ) (ledger : Ledger) → Serves answers start bytes before count s left out → AreNoted s.0 (reports s.1) ledger → IsPlain start bytes before count left out ledger
   plain start bytes before count s left out ledger serving.none_yet noted = record {
     first = ledger;
     noted = noted;
     payloads = [];
+    counts = refl;
     cuts = none_cut bytes;
     text = [];
     replies = none_yet;
@@ -174,6 +176,7 @@ module _ {R : Type 0} (reports : R → List (ℕ × Report)) where
         first = earlier.first;
         noted = earlier.noted;
         payloads = earlier.payloads ++ payload ∷ [];
+        counts = omega (arith, length-append earlier.payloads (payload ∷ []), earlier.counts);
         cuts = cuts_one bytes earlier.payloads l payload rest earlier.cuts stands;
         text = earlier.text ++ frame_of answer.told;
         replies = one_more earlier.payloads earlier.text answer.mid payload query answer.told ledger earlier.replies heard told;
@@ -191,7 +194,7 @@ module _ {R : Type 0} (reports : R → List (ℕ × Report)) where
   ends_on too_large before out text after is e = (_, refl, e ∙ ap (λ xs. xs ++ _) is ∙ append_assoc before text _)
 
   pub writes_replies : (start : Ledger × R) (bytes before : List ℕ) (over : Type 0) (end : Ledger × R) (number : ℕ) (after : List ℕ) → IsServed answers start bytes before over end number after →
-      WritesReplies start.0 (reports start.1) bytes before end.0 (reports end.1) after
+      WritesReplies start.0 (reports start.1) bytes before over end.0 (reports end.1) number after
   writes_replies start bytes before over end number after served =
       let last = all_noted (reports end.1) end.0 in
       let p = plain start bytes before served.count end served.left served.out last.0 served.frames last.1 in
@@ -205,8 +208,10 @@ module _ {R : Type 0} (reports : R → List (ℕ × Report)) where
         text = ends.0;
         replies = record {
           out = p.text;
-          replies = subst (λ ps. RepliesTo p.first ps p.text last.0) (ap (λ f. f.payloads) (sym cut)) p.replies;
-          last = subst (λ f. EndsWith (front f) p.text ends.0) (ap (λ f. f.rest) (sym cut)) ends.1;
+          replies = subst (λ f. RepliesTo p.first f.payloads p.text last.0) (sym cut) p.replies;
+          last = subst (λ f. EndsWith (front f.rest) p.text ends.0) (sym cut) ends.1;
         };
         written = ends.2;
+        counts = served.counts ∙ ap (λ n. min n (2 ^ 64 - 1)) (sym p.counts ∙ ap (λ f. length f.payloads) (sym cut));
+        stops = subst (λ f. StopsAt (front f.rest) over bytes) (sym cut) served.stops;
       }

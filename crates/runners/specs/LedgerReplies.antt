@@ -1,5 +1,5 @@
 -- The replies to the frames of a stream over the plain ledger alone: each job is played when it is submitted, and is over then.
-use Rattle.std.specs.Prelude.{◌≡◌, ◌⊎◌, ◌<◌, ◌≤◌, ℕ, List, [], ◌∷◌, ◌++◌, length, map, take, false, Result, Ok, Err}
+use Rattle.std.specs.Prelude.{◌≡◌, ◌⊎◌, ◌-◌, ◌^◌, ℕ, List, [], ◌∷◌, ◌++◌, length, map, min, false, Result, Ok, Err}
 use Rattle.serde_json.specs.Data.{Data}
 use Rattle.credit_book.specs.declared.book.Report.{Report}
 use Rattle.credit_book.specs.declared.board.Progress.{Progress}
@@ -15,7 +15,7 @@ use Rattle.sessions.specs.Replies.{frame_of, reply_data, submit_data}
 use Rattle.sessions.specs.declared.reply.Reply.{Reply}
 use Rattle.streams.specs.Answering.{Grants, GrantsNone, account_told, progress_told, refused, report_told, submit_refused}
 use Rattle.streams.specs.Passing.{Notes}
-use Rattle.streams.specs.Stops.{EndsWith, too_large_reply}
+use Rattle.streams.specs.Stops.{EndsWith, StopsAt}
 use Rattle.runners.specs.Played.{IsPlayed}
 
 -- what a job that is submitted comes to: the report of its run, in which the live task of lowest number is always the next; or no run, for want of memory
@@ -74,8 +74,9 @@ abbrev pub AreNoted : Ledger → List (ℕ × Report) → Ledger → Type 0
 AreNoted desk [] ledger = ledger ≡ desk
 AreNoted desk (held ∷ reports) ledger = (next : Ledger) × Notes desk held.0 (Ok held.1) next × AreNoted next reports ledger
 
--- From a desk and reports to others the bytes are answered, and what was written are the replies over their ledgers.
-pub record WritesReplies (desk : Ledger) (held : List (ℕ × Report)) (bytes before : List ℕ) (end : Ledger) (left : List (ℕ × Report)) (after : List ℕ) : Type 0 where
+-- From a desk and reports to others the bytes are answered, and what was written are the replies over their ledgers. The number is that of the
+-- frames, and nothing more is read for a reason; `over` says that the reader has no more.
+pub record WritesReplies (desk : Ledger) (held : List (ℕ × Report)) (bytes before : List ℕ) (over : Type 0) (end : Ledger) (left : List (ℕ × Report)) (number : ℕ) (after : List ℕ) : Type 0 where
   pub start : Ledger
   pub noted : AreNoted desk held start
   pub last : Ledger
@@ -83,17 +84,5 @@ pub record WritesReplies (desk : Ledger) (held : List (ℕ × Report)) (bytes be
   pub text : List ℕ
   pub replies : LedgerReplies start bytes text last
   pub written : after ≡ before ++ text
-
--- Some payloads at the front are answered, and what was written is a beginning of the replies to them, and of one 71.
-pub record BeginsReplies (desk : Ledger) (held : List (ℕ × Report)) (bytes before : List ℕ) (end : Ledger) (left : List (ℕ × Report)) (after : List ℕ) : Type 0 where
-  pub start : Ledger
-  pub noted : AreNoted desk held start
-  pub last : Ledger
-  pub noted_last : AreNoted end left last
-  pub payloads : List (List ℕ)
-  pub further : List (List ℕ)
-  pub first : (frames_of bytes).payloads ≡ payloads ++ further
-  pub text : List ℕ
-  pub replies : RepliesTo start payloads text last
-  pub count : ℕ
-  pub written : after ≡ before ++ take count (text ++ too_large_reply)
+  pub counts : number ≡ min (length (frames_of bytes).payloads) (2 ^ 64 - 1)
+  pub stops : StopsAt (front (frames_of bytes).rest) over bytes

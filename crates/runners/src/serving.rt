@@ -1,6 +1,6 @@
 //! A stream whose jobs are played at once.
 
-ghost use Rattle.std.specs.Prelude.{◌≡◌, ◌++◌, ℕ, List, false, IfOk};
+ghost use Rattle.std.specs.Prelude.{◌≡◌, ◌++◌, List, ℕ, true, false, IfOk};
 ghost use Rattle.runners.specs.LedgerReplies.{WritesReplies};
 
 use crate::inline_runner::InlineRunner;
@@ -20,10 +20,11 @@ pub fn serve_inline<R: Source, W: Sink>(
 ) -> Result<u64, StreamFault>
     requires source { R.has_failed reader.old ≡ false }
     requires sink { W.has_failed writer.old ≡ false }
-    ensures replies { IfOk result (λ _. (all : List ℕ)
+    ensures replies { IfOk result (λ number. (all : List ℕ)
         × (R.told reader.new ≡ R.told reader.old ++ all)
-        × WritesReplies desk.old runner.old.finished.entries all (W.told writer.old) desk.new
-        runner.new.finished.entries (W.told writer.new)) }
+        × WritesReplies desk.old runner.old.finished.entries all (W.told writer.old)
+        (R.is_over reader.new ≡ true) desk.new runner.new.finished.entries number
+        (W.told writer.new)) }
 {
     serve_stream(alloc, reader, writer, desk, runner)
 }
