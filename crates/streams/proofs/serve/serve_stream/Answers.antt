@@ -24,8 +24,7 @@ reads-init g c =
 
 pub returns-in-Err-clause-stopped : goal.returns-in-Err-clause-stopped
 returns-in-Err-clause-stopped g c =
-    let before = c.reads.invariant.served in
-    (
+    let before = c.reads.invariant.served in (
       before.0,
       c.in-Err.ensures.err ∙ before.2,
       record { count = before.1; left = unread c.reads.session; frames = before.3; waits = c.reads.invariant.left },
