@@ -22,7 +22,7 @@ use Rattle.streams.specs.Passing as passing
 use Rattle.streams.specs.Answering.{Answers, Grants, GrantsNone, Replies, Settles, Submits, TakesJob, progress_told}
 use Rattle.streams.specs.Serves.{Serves}
 use Rattle.streams.specs.Serves as serving
-use Rattle.streams.specs.Stops.{EndsWith, IsServed, StopsAt}
+use Rattle.streams.specs.Stops.{EndsWith, IsServed, StopsAt, too_large_reply}
 use Rattle.streams.proofs.Answered.{opened}
 use Rattle.runners.specs.Played.{IsPlayed, StartsInline, TakesInline}
 use Rattle.runners.specs.LedgerReplies.{AreNoted, ComesTo, LedgerReplies, PlaysJob, PlaysNone, RepliesTo, Tells, WritesReplies, none_yet, one_more, unseen}
@@ -34,20 +34,20 @@ finishing desk number report entry there Open is =
     let next : Ledger = record { grants = desk.grants; jobs = _ } in
     (next, inl (record { entry = entry; was = there; opened = is; jobs = record { grants = λ q. refl; jobs = refl } }))
 finishing desk number report entry there (Reported old) is =
-    (desk, inr (λ other found open. let same : Some other ≡ Some entry = sym found ∙ there in let clash : Open ≡ Reported old = sym open ∙ ap (λ o. (entry_or o entry).standing) same ∙ is in absurd cc, refl))
+    (desk, inr (λ other found is_open. let same : Some other ≡ Some entry = sym found ∙ there in let clash : Open ≡ Reported old = sym is_open ∙ ap (λ o. (entry_or o entry).standing) same ∙ is in absurd cc, refl))
   where
     entry_or : Option JobEntry → JobEntry → JobEntry
     entry_or (Some e) d = e
     entry_or None d = d
 finishing desk number report entry there (Failed code) is =
-    (desk, inr (λ other found open. let same : Some other ≡ Some entry = sym found ∙ there in let clash : Open ≡ Failed code = sym open ∙ ap (λ o. (entry_or o entry).standing) same ∙ is in absurd cc, refl))
+    (desk, inr (λ other found is_open. let same : Some other ≡ Some entry = sym found ∙ there in let clash : Open ≡ Failed code = sym is_open ∙ ap (λ o. (entry_or o entry).standing) same ∙ is in absurd cc, refl))
   where
     entry_or : Option JobEntry → JobEntry → JobEntry
     entry_or (Some e) d = e
     entry_or None d = d
 
 note_at : (desk : Ledger) (number : ℕ) (report : Report) (o : Option JobEntry) → job_at desk.jobs number ≡ o → (next : Ledger) × Notes desk number (Ok report) next
-note_at desk number report None there = (desk, inr (λ entry found open. let clash : None ≡ Some entry = sym there ∙ found in absurd cc, refl))
+note_at desk number report None there = (desk, inr (λ entry found is_open. let clash : None ≡ Some entry = sym there ∙ found in absurd cc, refl))
 note_at desk number report (Some entry) there = finishing desk number report entry there entry.standing refl
 
 pub all_noted : (reports : List (ℕ × Report)) (desk : Ledger) → (ledger : Ledger) × AreNoted desk reports ledger
@@ -73,15 +73,15 @@ module _ {R : Type 0} (reports : R → List (ℕ × Report)) where
   answers s query reply t = Answers starts looks takes s.0 s.1 query reply t.0 t.1
 
   -- what is taken is noted
-  taken_noted : (desk after : Ledger) (runner last : R) (ledger : Ledger) → Taken takes desk runner after last → AreNoted after (reports last) ledger → AreNoted desk (reports runner) ledger
-  taken_noted desk after runner last ledger passing.none_yet noted = noted
-  taken_noted desk after runner last ledger (passing.one_more d r number outcome s e before took notes) noted =
+  taken_noted : (desk : Ledger) (runner : R) (after : Ledger) (last : R) (ledger : Ledger) → Taken takes desk runner after last → AreNoted after (reports last) ledger → AreNoted desk (reports runner) ledger
+  taken_noted desk runner after last ledger passing.none_yet noted = noted
+  taken_noted desk runner after last ledger (passing.one_more d r number outcome s e before took notes) noted =
       let told : Notes d number (Ok took.0) e = subst (λ o. Notes d number o e) took.1 notes in
-      taken_noted desk d runner r ledger before (subst (λ held. AreNoted d held ledger) (sym took.2) (e, told, noted))
+      taken_noted desk runner d r ledger before (subst (λ held. AreNoted d held ledger) (sym took.2) (e, told, noted))
 
   passes_noted : (desk after : Ledger) (runner left : R) → Passes takes desk runner after left → AreNoted desk (reports runner) after × (reports left ≡ [])
   passes_noted desk after runner left p =
-      (taken_noted desk after runner p.last after p.taken (subst (λ held. AreNoted after held after) (sym p.none_left.0) refl), p.none_left.1)
+      (taken_noted desk runner after p.last after p.taken (subst (λ held. AreNoted after held after) (sym p.none_left.0) refl), p.none_left.1)
 
   -- ---- one frame
 
@@ -191,7 +191,7 @@ module _ {R : Type 0} (reports : R → List (ℕ × Report)) where
   ends_on : (f : Front) (before out text after : List ℕ) → out ≡ before ++ text → EndsWith f out after → (whole_text : List ℕ) × EndsWith f text whole_text × (after ≡ before ++ whole_text)
   ends_on (whole payload rest) before out text after is e = absurd e
   ends_on partial before out text after is e = (text, refl, e ∙ is)
-  ends_on too_large before out text after is e = (_, refl, e ∙ ap (λ xs. xs ++ _) is ∙ append_assoc before text _)
+  ends_on too_large before out text after is e = (text ++ too_large_reply, refl, e ∙ ap (λ xs. xs ++ too_large_reply) is ∙ append_assoc before text too_large_reply)
 
   pub writes_replies : (start : Ledger × R) (bytes before : List ℕ) (over : Type 0) (end : Ledger × R) (number : ℕ) (after : List ℕ) → IsServed answers start bytes before over end number after →
       WritesReplies start.0 (reports start.1) bytes before over end.0 (reports end.1) number after
