@@ -16,9 +16,15 @@ use Rattle.streams.specs.Stops.{IsCutOff, IsReadOut, IsServed, IsStarved, IsStop
 use Rattle.streams.specs.declared.fault.StreamFault.{StreamFault}
 use Rattle.streams.specs.declared.fault.StreamFault.TheVariants.{ReadFailed, WriteFailed, NoMemory}
 use Rattle.tcp_server.specs.declared.fault.ServeFault.{ServeFault}
+use Rattle.pool_runner.specs.declared.places.Places.{Places}
+use Rattle.pool_runner.specs.Holds.{Starts, Looks, Takes}
+use Rattle.tcp_server.specs.Serving.{IsServing, Noted, Steps, new_desk}
 use Rattle.tcp_server.specs.Visits.{IsThrough, Passage, Visit, Visits, answers_by, none_yet, not_taken, one_more, taken}
 
 -- ---- a desk and a runner, and that desk with what the runner comes to
+
+abbrev pub beside : {R Q : Type 0} → (R → Q) → Ledger × R → Ledger × Q
+beside f s = (s.0, f s.1)
 
 module _ {R Q : Type 0} (f : R → Q)
     (starts : R → ℕ → Order → Result (Unit {0}) ℕ → R → Type 0) (looks : R → ℕ → Progress → R → Type 0) (takes : R → Option (ℕ × Result Report ℕ) → R → Type 0)
@@ -26,16 +32,15 @@ module _ {R Q : Type 0} (f : R → Q)
     (starts_alike : (r : R) (n : ℕ) (o : Order) (x : Result (Unit {0}) ℕ) (s : R) → starts r n o x s → starts1 (f r) n o x (f s))
     (looks_alike : (r : R) (n : ℕ) (p : Progress) (s : R) → looks r n p s → looks1 (f r) n p (f s))
     (takes_alike : (r : R) (x : Option (ℕ × Result Report ℕ)) (s : R) → takes r x s → takes1 (f r) x (f s)) where
-
-  taken_alike : (desk after : Ledger) (runner last : R) → Taken takes desk runner after last → Taken takes1 desk (f runner) after (f last)
-  taken_alike desk after runner last passing.none_yet = passing.none_yet
-  taken_alike desk after runner last (passing.one_more d r number outcome s e before takes_one notes) =
-      passing.one_more d (f r) number outcome (f s) e (taken_alike desk d runner r before) (takes_alike r (Some (number, outcome)) s takes_one) notes
+  taken_alike : (desk : Ledger) (runner : R) (after : Ledger) (last : R) → Taken takes desk runner after last → Taken takes1 desk (f runner) after (f last)
+  taken_alike desk runner after last passing.none_yet = passing.none_yet
+  taken_alike desk runner after last (passing.one_more d r number outcome s e before takes_one notes) =
+      passing.one_more d (f r) number outcome (f s) e (taken_alike desk runner d r before) (takes_alike r (Some (number, outcome)) s takes_one) notes
 
   passes_alike : (desk after : Ledger) (runner left : R) → Passes takes desk runner after left → Passes takes1 desk (f runner) after (f left)
   passes_alike desk after runner left p = record {
     last = f p.last;
-    taken = taken_alike desk after runner p.last p.taken;
+    taken = taken_alike desk runner after p.last p.taken;
     none_left = takes_alike p.last None left p.none_left;
   }
 
@@ -68,11 +73,8 @@ module _ {R Q : Type 0} (f : R → Q)
   replies_alike desk after runner left (Ok (status number)) told r = (r.0, looks_alike runner number r.0 left r.1, r.2, r.3)
   replies_alike desk after runner left (Ok (result number)) told r = (r.0, r.1, ap f r.2)
 
-  abbrev pub beside : Ledger × R → Ledger × Q
-  beside s = (s.0, f s.1)
-
   pub answers_alike : (s : Ledger × R) (query : Result Asked ℕ) (reply : List ℕ) (t : Ledger × R) → answers_by starts looks takes s query reply t →
-      answers_by starts1 looks1 takes1 (beside s) query reply (beside t)
+      answers_by starts1 looks1 takes1 (beside f s) query reply (beside f t)
   answers_alike s query reply t a = record {
     mid = a.mid;
     rest = f a.rest;
@@ -86,7 +88,6 @@ module _ {R Q : Type 0} (f : R → Q)
 
 module _ {S T : Type 0} (g : S → T) (answers : S → Result Asked ℕ → List ℕ → S → Type 0) (answers1 : T → Result Asked ℕ → List ℕ → T → Type 0)
     (alike : (s : S) (query : Result Asked ℕ) (reply : List ℕ) (t : S) → answers s query reply t → answers1 (g s) query reply (g t)) where
-
   serves_alike : (start : S) (bytes before : List ℕ) (count : ℕ) (s : S) (left out : List ℕ) → Serves answers start bytes before count s left out → Serves answers1 (g start) bytes before count (g s) left out
   serves_alike start bytes before count s left out serving.none_yet = serving.none_yet
   serves_alike start bytes before count s left out (serving.one_more n u l o payload rest reply query t served first heard answer) =
@@ -133,7 +134,6 @@ module _ {S T : Type 0} (g : S → T) (answers : S → Result Asked ℕ → List
   module _ {L M : Type 0} (k : L → M) (opens fails : L → L → Type 0) (notes : L → Passage → L → Type 0) (opens1 fails1 : M → M → Type 0) (notes1 : M → Passage → M → Type 0)
       (opens_alike : (l m : L) → opens l m → opens1 (k l) (k m)) (fails_alike : (l m : L) → fails l m → fails1 (k l) (k m))
       (notes_alike : (l : L) (p : Passage) (m : L) → notes l p m → notes1 (k l) p (k m)) where
-
     visit_alike : (l : L) (s : S) (came : Result (Unit {0}) ServeFault) (m : L) (t : S) → Visit opens fails notes answers l s came m t → Visit opens1 fails1 notes1 answers1 (k l) (g s) came (k m) (g t)
     visit_alike l s came m t (not_taken last failed) = not_taken (k last) (fails_alike l last failed)
     visit_alike l s came m t (taken there last p outcome end opened through noted) =
@@ -143,3 +143,27 @@ module _ {S T : Type 0} (g : S → T) (answers : S → Result Asked ℕ → List
     visits_alike l s n m t outcome none_yet = none_yet
     visits_alike l s n m t outcome (one_more c there u so_far came last v before visit) =
         one_more c (k there) (g u) so_far came (k last) (g v) (visits_alike l s c there u so_far before) (visit_alike there u came last v visit)
+
+-- ---- a server
+
+-- the runner's own state is forgotten, but for the jobs that it holds
+pub pool_visits : {L R : Type 0} (f : R → Places) (opens fails : L → L → Type 0) (notes : L → Passage → L → Type 0) (l : L) (s : Ledger × R) (n : ℕ) (m : L) (t : Ledger × R) (outcome : Result (Unit {0}) ServeFault) →
+    Visits opens fails notes (answers_by (λ r number order result q. Starts (f r) number order result (f q)) (λ r number progress q. Looks (f r) number progress (f q)) (λ r result q. Takes (f r) result (f q))) l s n m t outcome →
+    Visits opens fails notes (answers_by Starts Looks Takes) l (beside f s) n m (beside f t) outcome
+pool_visits f opens fails notes l s n m t outcome visits =
+    visits_alike (beside f) _ (answers_by Starts Looks Takes)
+    (answers_alike f _ _ _ Starts Looks Takes (λ r n o x s h. h) (λ r n p s h. h) (λ r x s h. h))
+    (λ k. k) opens fails notes opens fails notes (λ a b h. h) (λ a b h. h) (λ a p b h. h) l s n m t outcome visits
+
+-- and so is a listener of which nothing is known
+pub any_listener : {L : Type 0} (listener : L) (sessions : ℕ) (outcome : Result (Unit {0}) ServeFault) → IsServing {L = L} (λ _ _. Unit {0}) (λ _ _. Unit {0}) (λ _ _ _. Unit {0}) listener sessions outcome →
+    IsServing Steps Steps Noted tt sessions outcome
+any_listener {L} listener sessions outcome serving = record {
+  first = serving.first;
+  none = serving.none;
+  last = tt;
+  end = serving.end;
+  visits = visits_alike (λ (s : Ledger × Places). s) (answers_by Starts Looks Takes) (answers_by Starts Looks Takes) (λ s q r t h. h)
+      (λ (l : L). tt) (λ _ _. Unit {0}) (λ _ _. Unit {0}) (λ _ _ _. Unit {0}) Steps Steps Noted (λ a b h. tt) (λ a b h. tt) (λ a p b h. tt)
+      listener (new_desk, serving.first) sessions serving.last serving.end outcome serving.visits;
+}

@@ -21,10 +21,13 @@ use std::thread::Threads;
 ///
 /// A connection that could not be taken, or that was given up by 83, 84 or 99, counts as served,
 /// and the next is taken with the same desk. The first such fault is answered at the end.
-pub fn serve_on<
-    R: Threads + Wait + Copy + Send + Sync + Drop + 'static,
-    L: Listener + Drop,
->(rt: R, alloc: Global, mut listener: L, workers: u32, sessions: u32) -> Result<(), ServeFault>
+pub fn serve_on<R: Threads + Wait + Copy + Send + Sync + Drop + 'static, L: Listener + Drop>(
+    rt: R,
+    alloc: Global,
+    mut listener: L,
+    workers: u32,
+    sessions: u32,
+) -> Result<(), ServeFault>
     requires { (1 ≤ workers) × (workers ≤ 16) }
     ensures { IsServing L.opens L.fails L.notes listener sessions result }
 {
