@@ -8,14 +8,14 @@ use Rattle.job_core.specs.Admission.{IsAdmittedFrom}
 use Rattle.job_core.specs.Admitted as core
 use Rattle.accounts.specs.declared.fault.SubmitFault.{SubmitFault}
 use Rattle.accounts.specs.Ledgers.{Ledger, RefusesSubmit, Takes, Finishes, account_at, progress_at, report_at}
-use Rattle.sessions.specs.Frames.{front, frames_of}
+use Rattle.sessions.specs.Frames.{front, frames_of, too_large}
 use Rattle.sessions.specs.Grammar.{Asked, grant, account, submit, status, result, program_asked}
 use Rattle.sessions.specs.Answers.{Hears}
 use Rattle.sessions.specs.Replies.{frame_of, reply_data, submit_data}
 use Rattle.sessions.specs.declared.reply.Reply.{Reply}
 use Rattle.streams.specs.Answering.{Grants, GrantsNone, account_told, progress_told, refused, report_told, submit_refused}
 use Rattle.streams.specs.Passing.{Notes}
-use Rattle.streams.specs.Stops.{EndsWith, StopsAt}
+use Rattle.streams.specs.Stops.{EndsWith, StopsAt, too_large_reply}
 use Rattle.runners.specs.Played.{IsPlayed}
 
 -- what a job that is submitted comes to: the report of its run, in which the live task of lowest number is always the next; or no run, for want of memory
@@ -86,3 +86,24 @@ pub record WritesReplies (desk : Ledger) (held : List (ℕ × Report)) (bytes be
   pub written : after ≡ before ++ text
   pub counts : number ≡ min (length (frames_of bytes).payloads) (2 ^ 64 - 1)
   pub stops : StopsAt (front (frames_of bytes).rest) over bytes
+
+-- bytes begin a text: the replies to some payloads, or those to all of them and one 71 behind them, where a length over the limit comes next
+abbrev pub Begins : List ℕ → List (List ℕ) → List ℕ → List ℕ → Type 0
+Begins bytes further text part =
+    (more : List ℕ) × ((part ++ more ≡ text)
+    ⊎ ((front (frames_of bytes).rest ≡ too_large) × (further ≡ []) × (part ++ more ≡ text ++ too_large_reply)))
+
+-- From a desk and reports to others the first payloads of the bytes are answered, and what was written is a beginning of the replies over their ledgers.
+pub record BeginsReplies (desk : Ledger) (held : List (ℕ × Report)) (bytes before : List ℕ) (end : Ledger) (left : List (ℕ × Report)) (after : List ℕ) : Type 0 where
+  pub start : Ledger
+  pub noted : AreNoted desk held start
+  pub last : Ledger
+  pub noted_last : AreNoted end left last
+  pub payloads : List (List ℕ)
+  pub further : List (List ℕ)
+  pub first : (frames_of bytes).payloads ≡ payloads ++ further
+  pub text : List ℕ
+  pub replies : RepliesTo start payloads text last
+  pub part : List ℕ
+  pub written : after ≡ before ++ part
+  pub begins : Begins bytes further text part
