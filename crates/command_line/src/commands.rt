@@ -52,13 +52,7 @@ impl Usage {
         ensures mistake { (AsksHelp self.now → ⊥) → result ≡ 2 }
     {
         match self {
-            Usage::Refused(error) => {
-                if error.use_stderr() {
-                    MISTAKEN
-                } else {
-                    0
-                }
-            }
+            Usage::Refused(error) => { if error.use_stderr() { MISTAKEN } else { 0 } }
             Usage::NoMemory => MISTAKEN,
         }
     }
