@@ -71,7 +71,7 @@ fn first_and_fifth(alloc: Global, world: &World) -> Result<u64, Stop> {
 /// How deep in the tree the task stands.
 fn length_of_place(world: &World, number: u32) -> Result<u64, Stop> {
     for _ in 0..2u8 {
-        match world.place(number) {
+        match world.place(alloc, number) {
             Ok(Some(place)) => return Ok(place.len() as u64),
             Ok(None) => return Ok(99),
             Err(_) => {}
