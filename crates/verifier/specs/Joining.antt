@@ -10,6 +10,6 @@ abbrev pub joined_to : State → State → ℕ → State
 joined_to s t r = with_abs s r (joined (abs_at s r) (abs_at t r))
 
 -- a state comes to a place that may have one
-abbrev pub come_to : Option State → State → Option State
-come_to None state = Some state
-come_to (Some before) state = Some (joined_state before state)
+abbrev pub joined_into : Option State → State → Option State
+joined_into None state = Some state
+joined_into (Some before) state = Some (joined_state before state)

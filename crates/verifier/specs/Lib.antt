@@ -3,10 +3,10 @@ pub mod Rules
 pub mod States
 pub mod Checked
 pub mod Regions
-pub mod Arrive
+pub mod InStates
 pub mod Verdict
 pub mod Survey
-pub mod Coming
+pub mod Propagation
 pub mod Merges
 pub mod Kept
 pub mod Between

@@ -80,18 +80,18 @@ abbrev pub refined_state : State → ℕ → Operand → Abs × Abs → State
 refined_state state dst src refined = with_operand (with_abs state dst refined.0) src refined.1
 
 -- what is known on the edge with this fact
-abbrev pub passed : Insn → Fact → State → State
-passed (Alu w op dst src) fact state = with_abs state dst (or_unset (value_table (Alu w op dst src) (abs_at state dst) (operand_at state src)))
-passed (Mov w dst src) fact state = with_abs state dst (or_unset (value_table (Mov w dst src) (abs_at state dst) (operand_at state src)))
-passed (MovSx e dst src) fact state = with_abs state dst (or_unset (value_table (MovSx e dst src) (abs_at state dst) (abs_at state src)))
-passed (Neg w dst) fact state = with_abs state dst (or_unset (value_table (Neg w dst) (abs_at state dst) (abs_at state dst)))
-passed (End order size dst) fact state = with_abs state dst (or_unset (value_table (End order size dst) (abs_at state dst) (abs_at state dst)))
-passed (LoadWide dst value) fact state = with_abs state dst (single_value value)
-passed (Load kind dst base offset) fact state = with_abs state dst (loaded kind)
-passed (JumpIf w c dst src offset) fact state =
+abbrev pub transferred : Insn → Fact → State → State
+transferred (Alu w op dst src) fact state = with_abs state dst (or_unset (value_table (Alu w op dst src) (abs_at state dst) (operand_at state src)))
+transferred (Mov w dst src) fact state = with_abs state dst (or_unset (value_table (Mov w dst src) (abs_at state dst) (operand_at state src)))
+transferred (MovSx e dst src) fact state = with_abs state dst (or_unset (value_table (MovSx e dst src) (abs_at state dst) (abs_at state src)))
+transferred (Neg w dst) fact state = with_abs state dst (or_unset (value_table (Neg w dst) (abs_at state dst) (abs_at state dst)))
+transferred (End order size dst) fact state = with_abs state dst (or_unset (value_table (End order size dst) (abs_at state dst) (abs_at state dst)))
+transferred (LoadWide dst value) fact state = with_abs state dst (single_value value)
+transferred (Load kind dst base offset) fact state = with_abs state dst (loaded kind)
+transferred (JumpIf w c dst src offset) fact state =
     refined_state state dst src (refined_by (JumpIf w c dst src offset) (is_taken fact) (abs_at state dst) (operand_at state src))
-passed (Call helper) fact state = called_state state (answer_range helper)
-passed i fact state = state
+transferred (Call helper) fact state = called_state state (answer_range helper)
+transferred i fact state = state
 
 -- ---- what an instruction has to find known
 

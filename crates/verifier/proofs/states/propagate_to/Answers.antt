@@ -1,17 +1,17 @@
 use Rattle.std.proofs.Common.{◌≡◌, ◌≢◌, ◌<◌, ◌∙◌, ℕ, length, refl, sym, arith, None, Bool, not, true, false, slice_index_or}
 use Rattle.std.specs.Bool.{IsTrue}
 use Rattle.flow_graph.specs.Cycles.{IsJoint}
-use Rattle.verifier.specs.Arrive.{Subject}
-use Rattle.verifier.specs.Coming.{IsPast}
+use Rattle.verifier.specs.InStates.{Subject}
+use Rattle.verifier.specs.Propagation.{IsPast}
 use Rattle.verifier.specs.Merges.{is_kept}
 use Rattle.verifier.proofs.Arrivals.{arrive_is, joint_past, joint_apart}
 use Rattle.verifier.proofs.Comings.{come_delivered, linked_noted}
-use Rattle.verifier.proofs.states.deliver.Goals as goal
-use Rattle.verifier.proofs.states.deliver.Goals.{then-is_kept, else-is_kept}
+use Rattle.verifier.proofs.states.propagate_to.Goals as goal
+use Rattle.verifier.proofs.states.propagate_to.Goals.{then-is_kept, else-is_kept}
 
-pub carry-requires-clause-other : goal.carry-requires-clause-other
-carry-requires-clause-other c =
-    joint_apart c.args.graph.now.code c.args.graph.now.order c.args.passage.now.from c.args.to c.slots-slots.ensures.flow.order c.requires.joint
+pub propagate_edges-requires-clause-other : goal.propagate_edges-requires-clause-other
+propagate_edges-requires-clause-other c =
+    joint_apart c.args.graph.now.code c.args.graph.now.order c.args.visited.now.from c.args.to c.slots-slots.ensures.flow.order c.requires.joint
 
 pub returns-clause-linked : goal.returns-clause-linked
 returns-clause-linked c =
@@ -26,23 +26,23 @@ not_false true e = refl
 not_false false e = absurd (cc)
 
 free : (c : goal.After-note) → c.if-is_kept.keep ≡ false →
-    (is_kept c.args.graph.now.code c.args.passage.now.from ≡ false)
-    × ((s : ℕ) → IsJoint c.args.graph.now.code c.args.passage.now.from s → s ≢ c.args.to → IsPast (slice_index_or c.args.sources.now.first s None) c.args.passage.now.from)
+    (is_kept c.args.graph.now.code c.args.visited.now.from ≡ false)
+    × ((s : ℕ) → IsJoint c.args.graph.now.code c.args.visited.now.from s → s ≢ c.args.to → IsPast (slice_index_or c.args.sources.now.first s None) c.args.visited.now.from)
 free c e = elim c.if-is_kept.branch [
   | then-is_kept w ↦ absurd (not_both (c.if-is_kept.keep) (w.keep-is ∙ w.if-is_kept.true) e)
   | else-is_kept w ↦ (sym c.is_kept.ensures ∙ w.if-is_kept.false, w.is_taken_beside.ensures (not_false w.is_taken_beside.result (sym w.keep-is ∙ e)))
 ]
 
-pub returns-clause-come : goal.returns-clause-come
-returns-clause-come c = λ need helpers n state h among none insn there.
+pub returns-clause-propagated : goal.returns-clause-propagated
+returns-clause-propagated c = λ need helpers n state h among none insn there.
     let flow = c.slots-slots.ensures.flow in
     let p : Subject = record { need = need; helpers = helpers; code = c.args.graph.now.code } in
     let within : c.args.to < length c.args.graph.now.code = omega (arith, c.if-prove-2.false, c.slots-slots.ensures.slots) in
-    come_delivered p c.args.graph.now.order n c.args.passage.now.from c.args.to c.args.sources.now c.note.new.self c.args.states.now c.carry.new.states
-    c.args.passage.now.next c.args.passage.now.insn.now state c.if-is_kept.keep
+    come_delivered p c.args.graph.now.order n c.args.visited.now.from c.args.to c.args.sources.now c.note.new.self c.args.states.now c.propagate_edges.new.states
+    c.args.visited.now.next c.args.visited.now.insn.now state c.if-is_kept.keep
     (arrive_is p c.args.graph.now.order flow.joined flow.order flow.short)
-    (joint_past c.args.graph.now.code c.args.graph.now.order c.args.passage.now.from c.args.to flow c.requires.joint) within
-    (joint_apart c.args.graph.now.code c.args.graph.now.order c.args.passage.now.from c.args.to flow.order c.requires.joint)
+    (joint_past c.args.graph.now.code c.args.graph.now.order c.args.visited.now.from c.args.to flow c.requires.joint) within
+    (joint_apart c.args.graph.now.code c.args.graph.now.order c.args.visited.now.from c.args.to flow.order c.requires.joint)
     h among none insn there c.requires.joint c.requires.next c.requires.first
-    c.in_ok-carry.ensures.slots c.in_ok-carry.ensures.others c.in_ok-carry.ensures.from (c.in_ok-carry.ensures.met state (sym there))
+    c.in_ok-propagate_edges.ensures.slots c.in_ok-propagate_edges.ensures.others c.in_ok-propagate_edges.ensures.from (c.in_ok-propagate_edges.ensures.joined state (sym there))
     c.note.ensures.first c.note.ensures.following c.note.ensures.taken c.note.ensures.edges (free c)

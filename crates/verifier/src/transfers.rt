@@ -5,7 +5,7 @@ ghost use Rattle.machine_model.specs.Edges.{NotTaken, Taken};
 ghost use Rattle.value_ranges.specs.Refinements.{IsConditional, refined_by};
 ghost use Rattle.verifier.specs.Covers.{abs_at};
 ghost use Rattle.verifier.specs.Judged.{left_by};
-ghost use Rattle.verifier.specs.States.{passed, operand_at, refined_state};
+ghost use Rattle.verifier.specs.States.{transferred, operand_at, refined_state};
 
 use crate::state::State;
 use insn_codec::{Insn, Operand, Register};
@@ -22,12 +22,12 @@ fn refine_operands(state: &mut State, insn: &Insn, taken: bool, dst: Register, s
     state.set_operands(dst, src, left, right);
 }
 
-/// A state becomes what is known behind an instruction, on its edge for a jump that is taken or on
-/// another.
+/// The transfer function of an instruction: the state becomes what is known after it, on the edge of
+/// a jump that is taken or on another edge.
 #[inline(always)]
-pub(crate) fn pass(state: &mut State, insn: &Insn, taken: bool, left: &Abs)
+pub(crate) fn transfer(state: &mut State, insn: &Insn, taken: bool, left: &Abs)
     requires { left.now ≡ left_by insn.now state.old }
-    ensures { state.new ≡ passed insn.now (if taken then Taken else NotTaken) state.old }
+    ensures { state.new ≡ transferred insn.now (if taken then Taken else NotTaken) state.old }
 {
     match *insn {
         Insn::Alu { dst, .. }
