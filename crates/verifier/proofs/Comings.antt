@@ -9,9 +9,9 @@ use Rattle.flow_graph.specs.Cycles.{IsJoint}
 use Rattle.flow_graph.specs.Flow.{AreNext, IsOrder}
 use Rattle.flow_graph.specs.declared.graph.Next.{Next}
 use Rattle.flow_graph.specs.declared.graph.Next.TheVariants.{Zero, One, Two}
-use Rattle.verifier.specs.declared.rule.Rule.{Rule}
-use Rattle.verifier.specs.declared.state.State.{State}
-use Rattle.verifier.specs.States.{transferred, fault}
+use Rattle.instruction_rules.specs.declared.rule.Rule.{Rule}
+use Rattle.instruction_rules.specs.declared.state.State.{State}
+use Rattle.instruction_rules.specs.States.{transferred, fault}
 use Rattle.verifier.specs.InStates.{Subject, InState, Undefined, Reached, joined_in_state, if_leads_to, out_state, joined_edges, AreInStates, in_state}
 use Rattle.verifier.specs.Verdict.{in_state_of}
 use Rattle.verifier.specs.Merges.{is_kept}

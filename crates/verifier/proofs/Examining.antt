@@ -12,10 +12,10 @@ use Rattle.machine_model.proofs.Codes.{begins_within}
 use Rattle.flow_graph.specs.Cycles.{IsJoint}
 use Rattle.flow_graph.specs.Flow.{IsJoined, IsOrder, IsFlow}
 use Rattle.flow_graph.proofs.OrderLemmas.{joint_begins}
-use Rattle.verifier.specs.declared.rule.Rule.{Rule}
-use Rattle.verifier.specs.declared.state.State.{State}
+use Rattle.instruction_rules.specs.declared.rule.Rule.{Rule}
+use Rattle.instruction_rules.specs.declared.state.State.{State}
 use Rattle.verifier.specs.declared.states.Fault.{Fault}
-use Rattle.verifier.specs.States.{fault, transferred, entry_state}
+use Rattle.instruction_rules.specs.States.{fault, transferred, entry_state}
 use Rattle.verifier.specs.InStates.{Subject, InState, Unreached, Undefined, Reached, out_state, unless, edge_state, AreInStates, in_state}
 use Rattle.verifier.specs.Verdict.{IsAllowedAt, IsFaulty, IsFirstFaulty, IsTable, in_state_of}
 use Rattle.verifier.specs.Kept.{state_of, in_states}

@@ -20,13 +20,13 @@ use Rattle.flow_graph.specs.Program.{code_of}
 use Rattle.flow_graph.specs.Refusals.{Refuses as RefusesFlow}
 use Rattle.flow_graph.proofs.OneRefusal.{one_refusal as one_flow}
 use Rattle.helpers.specs.Table.{Table}
-use Rattle.verifier.specs.declared.state.State.{State}
+use Rattle.instruction_rules.specs.declared.state.State.{State}
 use Rattle.verifier.specs.declared.refusals.Refusal.{Refusal}
 use Rattle.verifier.specs.declared.refusals.Refusal.TheVariants.{NeedTooLarge, Codec, Flow, UnsetRead, OutOfStack, OutOfPart, BadKind, PointerRange, FramePointer, NoHelper, NoMemory}
-use Rattle.verifier.specs.declared.rule.Rule.{Rule}
-use Rattle.verifier.specs.declared.rule.Rule.TheVariants as rule
-use Rattle.verifier.specs.Rules.{refusal_at}
-use Rattle.verifier.specs.States.{fault}
+use Rattle.instruction_rules.specs.declared.rule.Rule.{Rule}
+use Rattle.instruction_rules.specs.declared.rule.Rule.TheVariants as rule
+use Rattle.verifier.specs.RefusalCodes.{refusal_at}
+use Rattle.instruction_rules.specs.States.{fault}
 use Rattle.verifier.specs.InStates.{Subject, InState, Reached, in_state}
 use Rattle.verifier.specs.Verdict.{IsFirstFaulty, IsFaulty, IsTable, IsAllowedAt}
 use Rattle.verifier.specs.Checked.{Checked}

@@ -7,9 +7,9 @@ use Rattle.machine_model.specs.Edges.{Code, Fact, Always, NotTaken, Taken, insn_
 use Rattle.machine_model.proofs.Codes.{begins_within}
 use Rattle.flow_graph.specs.Cycles.{IsJoint}
 use Rattle.flow_graph.proofs.OrderLemmas.{joint_begins}
-use Rattle.verifier.specs.declared.rule.Rule.{Rule}
-use Rattle.verifier.specs.declared.state.State.{State}
-use Rattle.verifier.specs.States.{transferred, fault}
+use Rattle.instruction_rules.specs.declared.rule.Rule.{Rule}
+use Rattle.instruction_rules.specs.declared.state.State.{State}
+use Rattle.instruction_rules.specs.States.{transferred, fault}
 use Rattle.verifier.specs.InStates.{Subject, InState, Unreached, Undefined, Reached, joined_in_state, unless, out_state, if_leads_to, edge_state, joined_edges, AreInStates, in_state}
 use Rattle.verifier.specs.Verdict.{in_state_of}
 use Rattle.verifier.specs.Sources.{IsNextSource, slots_left}

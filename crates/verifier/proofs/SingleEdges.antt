@@ -12,14 +12,14 @@ use Rattle.flow_graph.specs.Flow.{AreNext, IsFlow}
 use Rattle.flow_graph.specs.declared.graph.Next.{Next}
 use Rattle.flow_graph.specs.declared.graph.Next.TheVariants.{Zero, One, Two}
 use Rattle.flow_graph.proofs.OrderLemmas.{joint_begins}
-use Rattle.verifier.specs.declared.state.State.{State}
+use Rattle.instruction_rules.specs.declared.state.State.{State}
 use Rattle.verifier.specs.declared.kept.Kept.{Kept}
 use Rattle.verifier.specs.InStates.{Subject, InState, Unreached, Undefined, Reached, joined_in_state, out_state, edge_state, joined_edges, in_state}
 use Rattle.verifier.specs.Between.{IsKeptState, IsSingleWay, is_jump}
 use Rattle.verifier.specs.Propagation.{IsVisited}
 use Rattle.verifier.specs.Kept.{AreKeptStates, in_states}
 use Rattle.verifier.specs.Merges.{one_to, edges_from, edges_below, edges_into, is_kept}
-use Rattle.verifier.specs.States.{transferred, fault}
+use Rattle.instruction_rules.specs.States.{transferred, fault}
 use Rattle.verifier.specs.Verdict.{IsAllowedAt}
 use Rattle.verifier.proofs.Arrivals.{AreBehind, arrive_is, over_none, joined_over_none, joined_over_stops}
 use Rattle.verifier.proofs.Pulling.{sent_is, landed_at, arrives_joined}

@@ -11,9 +11,9 @@ use Rattle.value_ranges.specs.declared.abs.Abs.TheVariants.{Unset}
 use Rattle.value_ranges.specs.Covers.{Covers}
 use Rattle.value_ranges.specs.Joins.{joined}
 use Rattle.value_ranges.proofs.MergeLemmas.{joined_covers}
-use Rattle.verifier.specs.declared.state.State.{State}
-use Rattle.verifier.specs.Covers.{abs_at, IsWithin}
-use Rattle.verifier.specs.States.{entry_state, transferred, fault, of_registers, joined_state}
+use Rattle.instruction_rules.specs.declared.state.State.{State}
+use Rattle.instruction_rules.specs.Covers.{abs_at, IsWithin}
+use Rattle.instruction_rules.specs.States.{entry_state, transferred, fault, of_registers, joined_state}
 use Rattle.verifier.specs.InStates.{Subject, InState, Unreached, Undefined, Reached, joined_in_state, edge_state, joined_edges, in_state}
 use Rattle.verifier.specs.Verdict.{IsTable, in_state_of}
 use Rattle.verifier.proofs.Arrivals.{arrive_is, no_edge_back}

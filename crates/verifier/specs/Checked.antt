@@ -6,9 +6,9 @@ use Rattle.machine_model.specs.Paths.{AreCosts}
 use Rattle.machine_model.specs.Machine.{Program}
 use Rattle.flow_graph.specs.Faults.{fault_at}
 use Rattle.helpers.specs.Table.{Table, IsHelperTable, arity_in}
-use Rattle.verifier.specs.declared.state.State.{State}
-use Rattle.verifier.specs.Covers.{IsWithin}
-use Rattle.verifier.specs.States.{entry_state, transferred, fault}
+use Rattle.instruction_rules.specs.declared.state.State.{State}
+use Rattle.instruction_rules.specs.Covers.{IsWithin}
+use Rattle.instruction_rules.specs.States.{entry_state, transferred, fault}
 
 -- a program, the helpers that it may call, what is known of the registers ahead of each slot, and the costs
 pub record Checked : Type 0 where

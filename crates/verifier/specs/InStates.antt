@@ -3,9 +3,9 @@ use Rattle.std.specs.Prelude.{◌≡◌, ℕ, zero, suc, ◌==◌, ◌<◌, leng
 use Rattle.insn_codec.specs.declared.insn.Insn.{Insn}
 use Rattle.machine_model.specs.Edges.{Code, Fact, Always, NotTaken, Taken, insn_at, leads_at}
 use Rattle.helpers.specs.Table.{Table}
-use Rattle.verifier.specs.declared.state.State.{State}
-use Rattle.verifier.specs.declared.rule.Rule.{Rule}
-use Rattle.verifier.specs.States.{entry_state, transferred, fault, joined_state}
+use Rattle.instruction_rules.specs.declared.state.State.{State}
+use Rattle.instruction_rules.specs.declared.rule.Rule.{Rule}
+use Rattle.instruction_rules.specs.States.{entry_state, transferred, fault, joined_state}
 
 -- what is judged: a code, the bytes that its tasks need, and the helpers that it may call
 pub record Subject : Type 0 where

@@ -3,7 +3,7 @@ use Rattle.std.specs.Prelude.{◌≡◌, ℕ, ◌<◌, true, List, length, map, 
 use Rattle.std.specs.List.{range_with_len}
 use Rattle.helpers.specs.Table.{Table}
 use Rattle.machine_model.specs.Edges.{Code}
-use Rattle.verifier.specs.declared.state.State.{State}
+use Rattle.instruction_rules.specs.declared.state.State.{State}
 use Rattle.verifier.specs.declared.kept.Kept.{Kept}
 use Rattle.verifier.specs.InStates.{Subject, InState, Unreached, Undefined, Reached, in_state}
 use Rattle.verifier.specs.Checked.{Checked}

@@ -1,6 +1,3 @@
-pub mod Covers
-pub mod Rules
-pub mod States
 pub mod Checked
 pub mod Regions
 pub mod InStates
@@ -13,5 +10,3 @@ pub mod Between
 pub mod Sources
 pub mod RefusalCodes
 pub mod Refusals
-pub mod Joining
-pub mod Judged

@@ -3,9 +3,9 @@ use Rattle.std.specs.Prelude.{◌≡◌, ◌⊎◌, ℕ, ◌<◌, List, length, 
 use Rattle.insn_codec.specs.declared.insn.Insn.{Insn}
 use Rattle.machine_model.specs.Edges.{Fact, insn_at}
 use Rattle.flow_graph.specs.Cycles.{IsJoint}
-use Rattle.verifier.specs.declared.state.State.{State}
+use Rattle.instruction_rules.specs.declared.state.State.{State}
 use Rattle.verifier.specs.declared.states.Fault.{Fault}
-use Rattle.verifier.specs.States.{fault}
+use Rattle.instruction_rules.specs.States.{fault}
 use Rattle.verifier.specs.InStates.{Subject, Undefined, Reached, out_state, joined_edges, in_state}
 use Rattle.verifier.specs.Verdict.{IsAllowedAt, IsFaulty, in_state_of}
 use Rattle.verifier.specs.Merges.{is_kept}

@@ -4,7 +4,7 @@ use Rattle.insn_codec.specs.declared.insn.Insn.{Insn}
 use Rattle.machine_model.specs.Edges.{Begins, insn_at}
 use Rattle.predecoding.specs.declared.region.Region.{Region}
 use Rattle.predecoding.specs.declared.region.Region.TheVariants.{Stack}
-use Rattle.verifier.specs.declared.state.State.{State}
+use Rattle.instruction_rules.specs.declared.state.State.{State}
 use Rattle.verifier.specs.declared.states.Found.{Found}
 use Rattle.verifier.specs.declared.states.Survey.{Survey}
 use Rattle.verifier.specs.InStates.{Subject, Reached, in_state}

@@ -2,10 +2,10 @@
 use Rattle.std.specs.Prelude.{◌≡◌, ℕ, ◌<◌, List, length, slice_index_or, Option, Some, None}
 use Rattle.insn_codec.specs.declared.insn.Insn.{Insn}
 use Rattle.machine_model.specs.Edges.{insn_at}
-use Rattle.verifier.specs.declared.state.State.{State}
-use Rattle.verifier.specs.declared.rule.Rule.{Rule}
-use Rattle.verifier.specs.declared.rule.Rule.TheVariants as rule
-use Rattle.verifier.specs.States.{fault}
+use Rattle.instruction_rules.specs.declared.state.State.{State}
+use Rattle.instruction_rules.specs.declared.rule.Rule.{Rule}
+use Rattle.instruction_rules.specs.declared.rule.Rule.TheVariants as rule
+use Rattle.instruction_rules.specs.States.{fault}
 use Rattle.verifier.specs.declared.refusals.Refusal.{Refusal}
 use Rattle.verifier.specs.declared.refusals.Refusal.TheVariants.{UnsetRead, OutOfStack, OutOfPart, BadKind, PointerRange, FramePointer, NoHelper, NoMemory}
 use Rattle.verifier.specs.InStates.{Subject, InState, Unreached, Reached, in_state}

@@ -2,13 +2,12 @@
 
 ghost use Rattle.std.specs.Prelude.{◌≡◌, IfOk, if◌then◌else◌};
 ghost use Rattle.machine_model.specs.Edges.{NotTaken, Taken};
-ghost use Rattle.verifier.specs.Joining.{joined_into};
-ghost use Rattle.verifier.specs.Judged.{left_by};
-ghost use Rattle.verifier.specs.States.{joined_state, transferred};
+ghost use Rattle.instruction_rules.specs.Joining.{joined_into};
+ghost use Rattle.instruction_rules.specs.Judged.{left_by};
+ghost use Rattle.instruction_rules.specs.States.{joined_state, transferred};
 
-use crate::transfers::transfer;
-use crate::state::State;
 use insn_codec::Insn;
+use instruction_rules::{State, transfer};
 use refusal::NoMemory;
 use std::alloc::Global;
 use std::marker::Model;
@@ -21,7 +20,7 @@ pub(crate) struct Held {
 }
 
 impl Model for Held {
-    ghost use Rattle.verifier.specs.declared.state.State.{State};
+    ghost use Rattle.instruction_rules.specs.declared.state.State.{State};
 
     ghost Value = { State };
 

@@ -2,7 +2,7 @@ use Rattle.std.proofs.Common.{◌≡◌, ◌<◌, ◌∙◌, sym, ap, arith, len
 use Rattle.std.proofs.lemmas.List.{get_or_default}
 use Rattle.machine_model.specs.Edges.{insn_at}
 use Rattle.verifier.specs.Propagation.{IsAmong}
-use Rattle.verifier.specs.Judged.{left_by}
+use Rattle.instruction_rules.specs.Judged.{left_by}
 use Rattle.verifier.specs.Sources.{slots_left}
 use Rattle.verifier.specs.Survey.{subject_of}
 use Rattle.verifier.proofs.Options.{one_some}

@@ -1,12 +1,12 @@
 use Rattle.std.proofs.Common.{◌≡◌, ◌<◌, ◌∙◌, sym, ap, arith, length, ℕ, Some, None, inl, inr, slice_index, slice_index_or, subst}
 use Rattle.std.proofs.lemmas.List.{get_or_default}
 use Rattle.verifier.specs.InStates.{Undefined, in_state}
-use Rattle.verifier.specs.Judged.{left_by}
+use Rattle.instruction_rules.specs.Judged.{left_by}
 use Rattle.verifier.specs.Propagation.{IsVisited}
 use Rattle.verifier.specs.Survey.{subject_of}
 use Rattle.verifier.proofs.Arrivals.{arrive_is}
 use Rattle.verifier.proofs.Options.{one_some}
-use Rattle.verifier.proofs.StateLemmas.{refused_is, allowed_is}
+use Rattle.instruction_rules.proofs.StateLemmas.{refused_is, allowed_is}
 use Rattle.verifier.proofs.Comings.{come_passed}
 use Rattle.verifier.proofs.Examining.{stays_out, all_come, come_cleared, comes_there, nothing_there, blocked_by, blocked_at_fault, never, arrives_something}
 use Rattle.verifier.proofs.states.visit.Goals as goal
