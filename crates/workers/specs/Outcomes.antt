@@ -1,8 +1,8 @@
 -- What an outcome says of its ticket.
-use Rattle.std.specs.Prelude.{◌≡◌, ◌≤◌, List, length, map, slice_get, Bool, true, false, Some}
-use Rattle.machine_model.specs.Machine.{Entries}
+use Rattle.std.specs.Prelude.{◌≡◌, ◌<◌, ◌≤◌, ℕ, List, All, length, map, slice_get, Bool, true, false, Some}
+use Rattle.machine_model.specs.Machine.{Entries, Program, cost_at}
 use Rattle.machine_model.specs.Job.{entries_of}
-use Rattle.verifier.specs.Checked.{Checked, program_of, cost_at}
+use Rattle.verifier.specs.Checked.{Checked, program_of}
 use Rattle.credit_book.specs.declared.task.Ticket.{Ticket}
 use Rattle.credit_book.specs.declared.task.Outcome.{Outcome}
 use Rattle.task_trees.specs.Solo.{Asked, entering}
@@ -17,11 +17,17 @@ pub record IsUnrun (ticket : Ticket) (outcome : Outcome) : Type 0 where
   pub r0 : outcome.r0 ≡ 0
   pub part : outcome.part ≡ ticket.part
 
+-- What a task is given suffices for its program: credit from its cost to 2,147,483,647, and from its need to 65,536 bytes.
+pub record IsGiven (p : Program) (given : ℕ) (bytes : List ℕ) : Type 0 where
+  pub affords : cost_at p 0 ≤ given
+  pub limit : given ≤ 2147483647
+  pub fits : p.need ≤ length bytes
+  pub short : length bytes ≤ 65536
+  pub are_bytes : All (λ b. b < 256) bytes
+
 -- the credit and the part of the ticket's task suffice for this program
-pub record Suffices (p : Checked) (ticket : Ticket) : Type 0 where
-  pub affords : cost_at p 0 ≤ ticket.held
-  pub limit : ticket.held ≤ 2147483647
-  pub fits : p.need ≤ length ticket.part.bytes
+abbrev pub Suffices : Checked → Ticket → Type 0
+Suffices p ticket = IsGiven (program_of p) ticket.held ticket.part.bytes
 
 -- The ticket's task, by itself on this program, while the spawner went `through` what it asked for. The outcome has the place where the part begins.
 pub record IsRunBy (p : Checked) (entries : Entries) (ticket : Ticket) (through : List Asked → Type 0) (outcome : Outcome) : Type 0 where
