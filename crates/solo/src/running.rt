@@ -4,7 +4,7 @@ ghost use Rattle.std.specs.Prelude.{◌≡◌, ℕ, ◌≤◌};
 ghost use Rattle.machine_model.specs.Value.{Registers};
 ghost use Rattle.helpers.specs.Table.{job_table};
 ghost use Rattle.verifier.specs.Checked.{program_of};
-ghost use Rattle.interpreter.specs.Behind.{AreBehind, IsCovered, at_slot, state_of};
+ghost use Rattle.interpreter.specs.Representation.{RepresentsTask, IsCovered, at_slot, state_of};
 ghost use Rattle.interpreter.specs.Children.{MayHandOver};
 ghost use Rattle.solo.specs.Through.{GoesThrough, RunsAlone};
 
@@ -36,7 +36,7 @@ pub fn run_to_end<S: Spawner, L: Listener>(
     requires covered { IsCovered code.now (at_slot frame.old 0) part.old credit.old }
     requires children { (s : S) → S.entries s ≡ S.entries spawner.old
         → MayHandOver (S.entries spawner.old) credit.old.held (S.asks s) }
-    ensures alone { (registers : Registers) → AreBehind code.now (at_slot frame.old 0) registers →
+    ensures alone { (registers : Registers) → RepresentsTask code.now (at_slot frame.old 0) registers →
         RunsAlone (program_of code.now) (S.entries spawner.old)
         (state_of (at_slot frame.old 0) part.old credit.old registers)
         (λ asked. GoesThrough S.spawns part.old.base spawner.old asked spawner.new) result

@@ -1,7 +1,7 @@
 //! What workers note of the tasks that they ran, and whether a report says the same.
 
 ghost use Rattle.std.specs.Prelude.{◌≡◌, ◌↔◌, ◌+◌, ◌<◌, ℕ, All, IfOk, IfSome, IsTrue, None, Some, length, map, slice_get, vec_len};
-ghost use Rattle.machine_model.specs.Job.{entries_of};
+ghost use Rattle.machine_model.specs.JobState.{entries_of};
 ghost use Rattle.verifier.specs.Checked.{program_of};
 ghost use Rattle.interpreter.specs.Children.{MayHandOver};
 ghost use Rattle.job_core.specs.Admitted.{AreOwn};
