@@ -84,7 +84,7 @@ fn cause_of(
     let mut state = start_alone(credit, part);
     for _ in 0..64u8 {
         match effect(alloc, program, &[], state) {
-            Ok(StepOutcome::Goes(next)) => state = next,
+            Ok(StepOutcome::Continues(next)) => state = next,
             Ok(StepOutcome::Traps(cause)) => return Ok(cause),
             _ => return Err(Fail::new("no trap")),
         }

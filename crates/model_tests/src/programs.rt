@@ -153,7 +153,7 @@ fn trap_of(alloc: Global, programs: &[ReferenceProgram], bytes: &[u8]) -> Result
     let mut state = at_start(alloc, bytes)?;
     for _ in 0..128u8 {
         match effect(alloc, program, programs, state) {
-            Ok(StepOutcome::Goes(next)) => state = next,
+            Ok(StepOutcome::Continues(next)) => state = next,
             Ok(StepOutcome::Traps(cause)) => return Ok(cause),
             _ => return Err(Fail::new("no trap")),
         }

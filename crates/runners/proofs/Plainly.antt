@@ -6,7 +6,7 @@ use Rattle.serde_json.specs.Data.{Data}
 use Rattle.credit_book.specs.declared.book.Report.{Report}
 use Rattle.credit_book.specs.declared.board.Progress.{Progress}
 use Rattle.job_core.specs.declared.admission.ProgramBytes.{ProgramBytes}
-use Rattle.job_core.specs.Admitted.{Order}
+use Rattle.job_core.specs.Admitted.{AdmittedJob}
 use Rattle.accounts.specs.declared.jobs.JobEntry.{JobEntry}
 use Rattle.accounts.specs.declared.jobs.Standing.{Standing}
 use Rattle.accounts.specs.declared.jobs.Standing.TheVariants.{Open, Reported, Failed}
@@ -60,7 +60,7 @@ all_noted (held ∷ reports) desk =
 -- ---- what a runner holds, by its reports
 
 module _ {R : Type 0} (reports : R → List (ℕ × Report)) where
-  abbrev starts : R → ℕ → Order → Result (Unit {0}) ℕ → R → Type 0
+  abbrev starts : R → ℕ → AdmittedJob → Result (Unit {0}) ℕ → R → Type 0
   starts r number job outcome s = StartsInline (reports r) number job outcome (reports s)
 
   abbrev looks : R → ℕ → Progress → R → Type 0
