@@ -12,6 +12,8 @@ mod opened;
 #[cfg(test)]
 mod lane_tests;
 #[cfg(test)]
+mod passing_tests;
+#[cfg(test)]
 mod stealing_tests;
 #[cfg(test)]
 mod tally;
