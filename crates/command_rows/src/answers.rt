@@ -2,7 +2,6 @@
 
 ghost use Rattle.pool_performing.specs.Runs.{IsOver};
 
-use crate::row::Row;
 use command_line::{Command, command};
 use pool_performing::perform;
 use std::alloc::Global;
@@ -26,15 +25,15 @@ fn performed<R: Threads + Wait + Sync>(
     Ok(format!(in alloc; "{status} {}", text.trim_end())?)
 }
 
-/// The status of a row's command, a space, and what it printed; `2 ` where its words are wrong, and
-/// `serve` where they say that.
+/// The status of a row's command, a space, and what it printed; the status alone where its words are
+/// no command, and `serve` where they say that.
 pub fn answer<R: Threads + Wait + Sync>(
     rt: &R,
     alloc: Global,
-    row: &Row,
+    words: Vec<String>,
+    input: &str,
 ) -> anyhow::Result<String> {
-    let input = row.input.as_str();
-    match command(alloc, &row.words) {
+    match command(alloc, words) {
         Ok(Command::Assemble) => performed(rt, alloc, Command::Assemble, input),
         Ok(Command::Disassemble) => performed(rt, alloc, Command::Disassemble, input),
         Ok(Command::Verify { need }) => performed(rt, alloc, Command::Verify { need }, input),
@@ -47,6 +46,6 @@ pub fn answer<R: Threads + Wait + Sync>(
                 sessions,
             },
         ) => Ok(format!(in alloc; "serve {port} {workers} {sessions}")?),
-        Err(_) => Ok(String::from_str(alloc, "2 ")?),
+        Err(usage) => Ok(format!(in alloc; "{} ", usage.status())?),
     }
 }

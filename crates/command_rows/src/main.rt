@@ -7,7 +7,7 @@ mod answers;
 mod row;
 
 use answers::answer;
-use row::rows_of;
+use row::{Row, rows_of};
 use std::alloc::Global;
 use std::io::Write;
 use std::process::ExitCode;
@@ -25,14 +25,21 @@ fn print_differing<R: Threads + Wait + Sync, W: Write>(
 ) -> anyhow::Result<usize> {
     let mut count = 0usize;
     let rows = rows_of(alloc, text)?;
-    for row in &rows {
-        let found = answer(rt, alloc, row)?;
-        if found.as_str() != row.answer.as_str() {
+    let length = rows.len();
+    for row in rows {
+        let Row {
+            line,
+            words,
+            input,
+            answer: wanted,
+        } = row;
+        let found = answer(rt, alloc, words, &input)?;
+        if found.as_str() != wanted.as_str() {
             count = count.saturating_add(1);
-            writeln!(output, "{name}, line {}: {found}", row.line)?;
+            writeln!(output, "{name}, line {line}: {found}")?;
         }
     }
-    let told = rows.len().saturating_sub(count);
+    let told = length.saturating_sub(count);
     writeln!(output, "{name}: {told} rows agree")?;
     Ok(count)
 }

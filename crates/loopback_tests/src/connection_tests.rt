@@ -5,7 +5,7 @@ use std::alloc::Global;
 use std::net::{Ipv4Addr, Net, SocketAddr, TcpListener, TcpStream};
 use std::test::Fail;
 use std::{io, thread};
-use tcp_server::{ServeFault, serve_on};
+use tcp_server::{ServeFault, address_of, serve_on, status_of};
 
 const GRANT: &str = "{\"op\":\"grant\",\"tenant\":\"t\",\"amount\":100}";
 
@@ -164,5 +164,74 @@ fn tells_its_faults(rt: HostRuntime) -> Result<(), Fail> {
         format!(in alloc; "{}", ServeFault::Socket)?.as_str(),
         "a socket failed"
     );
+    Ok(())
+}
+
+// The client leaves a thousand replies unread, so that the connection is cut under the server.
+#[test]
+fn ends_with_3_where_a_connection_is_cut(rt: HostRuntime) -> Result<(), Fail> {
+    let alloc = rt.alloc();
+    let (listener, address) = listening(&rt)?;
+    let mut burst = Vec::new(alloc);
+    for _ in 0..1000u32 {
+        burst.extend_from_slice(&frames(alloc, &[ACCOUNT])?)?;
+    }
+    let (served, left) = thread::join(
+        &rt,
+        || serve_on(rt, alloc, &listener, 1, 1),
+        || leave(&rt, address, &burst),
+    );
+    left?;
+    assert!(rt; matches!(served, Err(ServeFault::Connection(_))));
+    assert_eq!(rt; status_of(served), 3);
+    assert_eq!(rt; status_of(Err(ServeFault::Socket)), 3);
+    assert_eq!(rt; status_of(Ok(())), 0);
+    Ok(())
+}
+
+// Whether the server of this port is reached at 127.0.0.1, and at another address of this machine.
+// Two connections are made at 127.0.0.1.
+fn reach<R: Net<Stream = TcpStream>>(
+    rt: &R,
+    alloc: Global,
+    port: u16,
+) -> io::Result<(Vec<u8>, bool)> {
+    let address = address_of(port);
+    let mut first = Client::connect(rt, address);
+    for _ in 0..100_000u32 {
+        if first.is_ok() {
+            break;
+        }
+        first = Client::connect(rt, address);
+    }
+    let first = first?;
+    let other = SocketAddr::from((Ipv4Addr::new(127, 0, 0, 2), port));
+    let is_open = TcpStream::connect(rt, other).is_ok();
+    drop(first);
+    let answer = exchange(rt, alloc, address, &frames(alloc, &[GRANT])?)?;
+    Ok((answer, is_open))
+}
+
+#[test]
+fn listens_on_one_address_alone(rt: HostRuntime) -> Result<(), Fail> {
+    let alloc = rt.alloc();
+    // a port that is free
+    let (listener, address) = listening(&rt)?;
+    let port = address.port();
+    drop(listener);
+    assert!(rt; address_of(port) == address);
+    let (served, reached) = thread::join(
+        &rt,
+        || tcp_server::serve(rt, alloc, port, 1, 2),
+        || reach(&rt, alloc, port),
+    );
+    let (answer, is_open) = reached?;
+    assert!(rt; served == Ok(()));
+    assert!(rt; !is_open);
+    let want = frames(
+        alloc,
+        &["{\"balance\":100,\"granted\":100,\"ok\":true,\"open\":0,\"spent\":0}"],
+    )?;
+    assert!(rt; answer.as_slice() == want.as_slice());
     Ok(())
 }

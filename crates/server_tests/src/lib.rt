@@ -11,8 +11,12 @@ mod cut_tests;
 #[cfg(test)]
 mod failing_tests;
 #[cfg(test)]
+mod performing_tests;
+#[cfg(test)]
 mod runner_tests;
 #[cfg(test)]
 mod stream_tests;
+#[cfg(test)]
+mod tap_tests;
 #[cfg(test)]
 mod texts;
