@@ -8,7 +8,10 @@ ghost use Rattle.value_ranges.specs.Refinements.{IsConditional};
 ghost use Rattle.value_ranges.specs.Tables.{IsSet};
 
 use anyhow::bail;
-use insn_codec::{Condition, Insn, LoadKind, Operand, Register, Width, decode};
+use insn_codec::{
+    AluOp, ByteOrder, Condition, EndSize, Insn, LoadKind, Operand, Register, SignExtension, Width,
+    decode,
+};
 use std::alloc::Global;
 use value_ranges::{
     Abs, Numbers, Range, Reach, SignedRange, alu, entry, immediate, join, loaded, refine,
@@ -87,8 +90,8 @@ fn text_of_numbers(alloc: Global, numbers: Numbers) -> anyhow::Result<String> {
     Ok(format!(in alloc; "{text},{}..{}", signed.lo(), signed.hi())?)
 }
 
-fn is_set(value: Abs) -> bool
-    ensures { IsTrue result → IsSet value }
+fn is_set(value: &Abs) -> bool
+    ensures { IsTrue result → IsSet value.now }
 {
     match value {
         Abs::Unset => false,
@@ -107,30 +110,82 @@ fn only_insn(alloc: Global, code: &[u8]) -> anyhow::Result<Insn> {
     }
 }
 
+/// An operator on two values, or the number of its fault.
+fn of_two(width: Width, op: AluOp, dst: &Abs, src: &Abs) -> Option<Result<Abs, u8>> {
+    if !is_set(dst) {
+        return None;
+    }
+    if !is_set(src) {
+        return None;
+    }
+    let insn = Insn::Alu {
+        width,
+        op,
+        dst: Register::new(1),
+        src: Operand::Reg(Register::new(3)),
+    };
+    Some(alu(&insn, *dst, *src))
+}
+
+/// A move of a value.
+fn of_copy(width: Width, src: &Abs) -> Option<Result<Abs, u8>> {
+    if !is_set(src) {
+        return None;
+    }
+    let insn = Insn::Mov {
+        width,
+        dst: Register::new(1),
+        src: Operand::Reg(Register::new(3)),
+    };
+    Some(alu(&insn, Abs::Unset, *src))
+}
+
+/// A move that extends the sign of a value.
+fn of_extension(extension: SignExtension, src: &Abs) -> Option<Result<Abs, u8>> {
+    if !is_set(src) {
+        return None;
+    }
+    let insn = Insn::MovSx {
+        extension,
+        dst: Register::new(1),
+        src: Register::new(3),
+    };
+    Some(alu(&insn, Abs::Unset, *src))
+}
+
+/// The negation of a value.
+fn of_negation(width: Width, dst: &Abs) -> Option<Result<Abs, u8>> {
+    if !is_set(dst) {
+        return None;
+    }
+    let insn = Insn::Neg {
+        width,
+        dst: Register::new(1),
+    };
+    Some(alu(&insn, *dst, Abs::Unset))
+}
+
+/// The bytes of a value in another order.
+fn of_order(order: ByteOrder, size: EndSize, dst: &Abs) -> Option<Result<Abs, u8>> {
+    if !is_set(dst) {
+        return None;
+    }
+    let insn = Insn::End {
+        order,
+        size,
+        dst: Register::new(1),
+    };
+    Some(alu(&insn, *dst, Abs::Unset))
+}
+
 /// What an instruction gives of two operands, or the number of its fault.
-fn given(insn: Insn, dst: Abs, src: Abs) -> Option<Result<Abs, u8>> {
+fn given(insn: &Insn, dst: &Abs, src: &Abs) -> Option<Result<Abs, u8>> {
     match insn {
-        Insn::Alu { .. } => {
-            if is_set(dst) && is_set(src) {
-                Some(alu(&insn, dst, src))
-            } else {
-                None
-            }
-        }
-        Insn::Mov { .. } | Insn::MovSx { .. } => {
-            if is_set(src) {
-                Some(alu(&insn, dst, src))
-            } else {
-                None
-            }
-        }
-        Insn::Neg { .. } | Insn::End { .. } => {
-            if is_set(dst) {
-                Some(alu(&insn, dst, src))
-            } else {
-                None
-            }
-        }
+        Insn::Alu { width, op, .. } => of_two(*width, *op, dst, src),
+        Insn::Mov { width, .. } => of_copy(*width, src),
+        Insn::MovSx { extension, .. } => of_extension(*extension, src),
+        Insn::Neg { width, .. } => of_negation(*width, dst),
+        Insn::End { order, size, .. } => of_order(*order, *size, dst),
         _ => None,
     }
 }
@@ -138,7 +193,7 @@ fn given(insn: Insn, dst: Abs, src: Abs) -> Option<Result<Abs, u8>> {
 /// What an instruction gives of two operands, as text.
 pub fn computed(alloc: Global, dst: &str, src: &str, code: &[u8]) -> anyhow::Result<String> {
     let insn = only_insn(alloc, code)?;
-    match given(insn, value_of(dst)?, value_of(src)?) {
+    match given(&insn, &value_of(dst)?, &value_of(src)?) {
         Some(Ok(value)) => text_of_value(alloc, value),
         Some(Err(number)) => Ok(format!(in alloc; "{number}")?),
         None => Ok(String::from_str(alloc, "no such question")?),
@@ -153,7 +208,7 @@ pub fn computed_unsigned(
     code: &[u8],
 ) -> anyhow::Result<String> {
     let insn = only_insn(alloc, code)?;
-    match given(insn, value_of(dst)?, value_of(src)?) {
+    match given(&insn, &value_of(dst)?, &value_of(src)?) {
         Some(Ok(Abs::Num(numbers))) => {
             let range = numbers.unsigned();
             Ok(format!(in alloc; "{}..{}", range.lo(), range.hi())?)
