@@ -12,7 +12,7 @@ import time
 TOP = os.path.dirname(os.path.dirname(os.path.abspath(__file__)))
 BPFJOBS = os.environ.get("BPFJOBS", os.path.join(TOP, "crates/bpfjobs/out/bpfjobs"))
 BPFRUN = os.environ.get("BPFRUN", os.path.join(TOP, "crates/bpfrun/out/bpfrun"))
-PATIENCE = 30
+PATIENCE = 60
 
 sys.path.insert(0, os.path.join(TOP, "bindings/python"))
 import telgovan  # noqa: E402  (the module stands in the folder that was just added)

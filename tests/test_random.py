@@ -4,10 +4,10 @@ the same end in both; and bytes that are no program are refused alike."""
 import random
 import unittest
 
-import telgovan
 from instructions import ARITHMETIC, CONDITIONS, Refused, decode
 from jobs import Program, run_alone
 from machine import Trap
+from programs import telgovan
 from rows import refusal
 
 # Registers that a program here uses as numbers, besides R0.

@@ -4,10 +4,9 @@ import os
 import tempfile
 import unittest
 
-import telgovan
 from instructions import Refused, decode
 from jobs import Job, Program, run_alone
-from programs import BPFRUN, Server, job_text, play, told
+from programs import BPFRUN, Server, job_text, play, told, telgovan
 from rows import code_of, fields, memory_of, refusal, rows, text_of
 
 WORD = (1 << 64) - 1

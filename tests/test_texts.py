@@ -4,17 +4,8 @@ import os
 import tempfile
 import unittest
 
-import telgovan
-from programs import BPFRUN, bpfjobs, told
-from rows import fields, raw, refusal
-
-RULES = {
-    11: "line {}: no instruction has this word",
-    12: "line {}: the operands are not those of the word",
-    13: "line {}: a number or a register is out of range",
-    1: "no instruction",
-    3: "more than 4096 slots",
-}
+from programs import BPFRUN, bpfjobs, told, telgovan
+from rows import REFUSALS, fields, raw, refusal
 
 
 def by_library(way, given):
@@ -75,7 +66,7 @@ class Texts(unittest.TestCase):
             self.assertEqual(quoted.rstrip("`"), raw(answer).decode().strip("`"))
             return
         number, _, line = answer.partition(" at ")
-        self.assertTrue(first.startswith(f"refused {number}: {RULES[int(number)].format(line)}"), first)
+        self.assertTrue(first.startswith(f"refused {number}: {REFUSALS[int(number)].format(line)}"), first)
 
     def test_the_limit_of_a_text(self):
         """4,096 slots, one more, and a faulty line behind them, which is told first."""

@@ -4,35 +4,11 @@ import os
 import tempfile
 import unittest
 
-import telgovan
-from programs import BPFRUN, Server, bpfjobs, job_text, told
-from rows import code_of, refusal, rows
+from programs import BPFRUN, Server, bpfjobs, job_text, told, telgovan
+from rows import REFUSALS, code_of, refusal, rows
 
 # Ends with 42: `mov64 r0, 42`, `exit`.
 ANSWERING = (0, bytes.fromhex("b70000002a0000009500000000000000"))
-
-RULES = {
-    1: "no instruction",
-    2: "the length is no multiple of 8",
-    3: "more than 4096 slots",
-    4: "unknown operation at slot {}",
-    5: "register over 10 at slot {}",
-    6: "unused field that is not zero at slot {}",
-    7: "half of a wide instruction at slot {}",
-    21: "jump out of the program at slot {}",
-    22: "jump into a wide instruction at slot {}",
-    23: "cycle through slot {}",
-    24: "nothing follows the instruction at slot {}",
-    25: "unreachable instruction at slot {}",
-    31: "read of an unset register at slot {}",
-    32: "access out of the stack at slot {}",
-    33: "access out of the part at slot {}",
-    34: "wrong kind of value at slot {}",
-    35: "pointer out of range at slot {}",
-    36: "write of r10 at slot {}",
-    37: "unknown helper at slot {}",
-    38: "need over 65536",
-}
 
 
 def by_library(need, code):
@@ -80,7 +56,7 @@ class Verdicts(unittest.TestCase):
             self.assertRegex(text, r"^r0 \d+\nspent \d+\n$")
             self.assertLessEqual(int(text.split()[3]), int(number[5:]))
         else:
-            wanted = f"refused {number}: {RULES[int(number)].format(slot)}\n"
+            wanted = f"refused {number}: {REFUSALS[int(number)].format(slot)}\n"
             self.assertEqual((status, text), (1, wanted))
 
     def test_at_admission(self):
