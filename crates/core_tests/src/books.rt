@@ -1,7 +1,7 @@
 //! A job of a root and its child, worked by hand: what the book answers, what the board tells, and
 //! what is left of both.
 
-use crate::scenarios::holds;
+use crate::scenarios::Findings;
 use anyhow::bail;
 use credit_book::{Board, Book, BookFault, Outcome, Post, Progress, Ticket};
 use helpers::{Part, SpawnRecord};
@@ -83,21 +83,21 @@ fn open(alloc: Global, post: Post) -> anyhow::Result<(Book, Ticket)> {
     Ok((book, root))
 }
 
-fn two_tasks_are_spent_and_returned(alloc: Global) -> anyhow::Result<()> {
+fn two_tasks_are_spent_and_returned(alloc: Global, findings: &mut Findings) -> anyhow::Result<()> {
     let (board, mut post, mut reader) = Board::open(alloc, 1, 34)?;
     let (seated, mut other) = post.seat()?;
     let seated: &Board = &seated;
-    holds(
+    findings.holds(
         seated.look(&mut other) == progress(0, 0, false),
         "two tasks are spent and returned (1)",
-    )?;
+    );
     let board: &Board = &board;
-    holds(
+    findings.holds(
         board.look(&mut reader) == progress(0, 0, false),
         "two tasks are spent and returned (2)",
-    )?;
+    );
     let (mut book, mut root, child) = family(alloc, post)?;
-    holds(
+    findings.holds(
         (
             child.number(),
             child.program(),
@@ -106,73 +106,73 @@ fn two_tasks_are_spent_and_returned(alloc: Global) -> anyhow::Result<()> {
             child.part().len(),
         ) == (1, 1, 10, 9, 4),
         "two tasks are spent and returned (3)",
-    )?;
-    holds(
+    );
+    findings.holds(
         end(&mut book, 7, 0, none(alloc)) == Err((51, 0)),
         "two tasks are spent and returned (4)",
-    )?;
-    holds(
+    );
+    findings.holds(
         end(&mut book, 0, 25, none(alloc)) == Err((52, 0)),
         "two tasks are spent and returned (5)",
-    )?;
+    );
     mark(&mut root, 6)?;
-    holds(
+    findings.holds(
         end(&mut book, 0, 24, root) == Ok(progress(24, 0, false)),
         "two tasks are spent and returned (6)",
-    )?;
-    holds(
+    );
+    findings.holds(
         board.look(&mut reader) == progress(24, 0, false),
         "two tasks are spent and returned (7)",
-    )?;
-    holds(
+    );
+    findings.holds(
         book.progress() == progress(24, 0, false),
         "two tasks are spent and returned (8)",
-    )?;
-    holds(
+    );
+    findings.holds(
         book.collected() == [0, 6, 6, 0, 0, 0, 0, 0].as_slice(),
         "two tasks are spent and returned (9)",
-    )?;
-    holds(
+    );
+    findings.holds(
         end(&mut book, 0, 24, none(alloc)) == Err((51, 0)),
         "two tasks are spent and returned (10)",
-    )?;
-    holds(
+    );
+    findings.holds(
         book.report().is_none(),
         "two tasks are spent and returned (11)",
-    )?;
+    );
     let Err(mut book) = book.close() else {
         bail!("the book is closed while a task is alive");
     };
     let mut part = child.into_part();
     mark(&mut part, 9)?;
-    holds(
+    findings.holds(
         end(&mut book, 1, 3, part) == Ok(progress(27, 7, true)),
         "two tasks are spent and returned (12)",
-    )?;
-    holds(
+    );
+    findings.holds(
         board.look(&mut reader) == progress(27, 7, true),
         "two tasks are spent and returned (13)",
-    )?;
+    );
     let mut other = board.another(&mut reader)?;
-    holds(
+    findings.holds(
         board.look(&mut other) == progress(27, 7, true),
         "two tasks are spent and returned (14)",
-    )?;
+    );
     let Ok(report) = book.close() else {
         bail!("the book isn't closed");
     };
-    holds(
+    findings.holds(
         (report.spent, report.returned) == (27, 7),
         "two tasks are spent and returned (15)",
-    )?;
-    holds(
+    );
+    findings.holds(
         report.buffer.as_slice() == [0, 6, 6, 0, 0, 9, 9, 0].as_slice(),
         "two tasks are spent and returned (16)",
-    )?;
+    );
     let [first, second] = report.tasks.as_slice() else {
         bail!("there aren't two tasks");
     };
-    holds(
+    findings.holds(
         (
             first.number,
             first.given,
@@ -181,8 +181,8 @@ fn two_tasks_are_spent_and_returned(alloc: Global) -> anyhow::Result<()> {
             first.ran,
         ) == (0, 34, 24, 0, true),
         "two tasks are spent and returned (17)",
-    )?;
-    holds(
+    );
+    findings.holds(
         (
             second.number,
             second.program,
@@ -192,25 +192,25 @@ fn two_tasks_are_spent_and_returned(alloc: Global) -> anyhow::Result<()> {
             second.rest,
         ) == (1, 1, 9, 10, 3, 7),
         "two tasks are spent and returned (18)",
-    )?;
+    );
     Ok(())
 }
 
-fn a_parked_task_is_claimed_once(alloc: Global) -> anyhow::Result<()> {
+fn a_parked_task_is_claimed_once(alloc: Global, findings: &mut Findings) -> anyhow::Result<()> {
     let (_board, post, _reader) = Board::open(alloc, 1, 34)?;
     let (mut book, _root, child) = family(alloc, post)?;
-    holds(
+    findings.holds(
         book.park(child).is_ok(),
         "a parked task is claimed once (1)",
-    )?;
-    holds(
+    );
+    findings.holds(
         end(&mut book, 1, 3, none(alloc)) == Err((51, 0)),
         "a parked task is claimed once (2)",
-    )?;
+    );
     let Some(child) = book.claim() else {
         bail!("nothing is parked");
     };
-    holds(
+    findings.holds(
         (
             child.number(),
             child.held(),
@@ -218,21 +218,24 @@ fn a_parked_task_is_claimed_once(alloc: Global) -> anyhow::Result<()> {
             child.part().len(),
         ) == (1, 10, 9, 4),
         "a parked task is claimed once (3)",
-    )?;
+    );
     match book.park(child) {
         Ok(()) => bail!("a task is parked twice"),
         Err(refused) => {
-            holds(
+            findings.holds(
                 (refused.fault.code(), refused.value.part().len()) == (51, 4),
                 "a parked task is claimed once (4)",
-            )?;
+            );
         }
     }
-    holds(book.claim().is_none(), "a parked task is claimed once (5)")?;
+    findings.holds(book.claim().is_none(), "a parked task is claimed once (5)");
     Ok(())
 }
 
-fn shares_are_more_than_nothing_and_less_than_all(alloc: Global) -> anyhow::Result<()> {
+fn shares_are_more_than_nothing_and_less_than_all(
+    alloc: Global,
+    findings: &mut Findings,
+) -> anyhow::Result<()> {
     let (_board, post, _reader) = Board::open(alloc, 1, 34)?;
     let (mut book, _root, _child) = family(alloc, post)?;
     for (parent, share, want) in [(0, 0, 53), (0, 24, 53), (0, 23, 0), (0, 1, 53), (7, 1, 51)] {
@@ -243,28 +246,28 @@ fn shares_are_more_than_nothing_and_less_than_all(alloc: Global) -> anyhow::Resu
             part: Part::whole(vec![in alloc; 5]?),
         };
         match book.spawn(parent, record) {
-            Ok(ticket) => holds(
+            Ok(ticket) => findings.holds(
                 (want, ticket.number()) == (0, 2),
                 "shares are more than nothing and less than all (1)",
-            )?,
+            ),
             Err(refused) => {
-                holds(
+                findings.holds(
                     (refused.fault.code(), refused.value.part.len()) == (want, 1),
                     "shares are more than nothing and less than all (2)",
-                )?;
+                );
             }
         }
     }
-    holds(
+    findings.holds(
         BookFault::NoMemory.code() == 99,
         "shares are more than nothing and less than all (3)",
-    )?;
+    );
     Ok(())
 }
 
 /// Goes through all of it.
-pub fn go_through(alloc: Global) -> anyhow::Result<()> {
-    two_tasks_are_spent_and_returned(alloc)?;
-    a_parked_task_is_claimed_once(alloc)?;
-    shares_are_more_than_nothing_and_less_than_all(alloc)
+pub fn go_through(alloc: Global, findings: &mut Findings) -> anyhow::Result<()> {
+    two_tasks_are_spent_and_returned(alloc, findings)?;
+    a_parked_task_is_claimed_once(alloc, findings)?;
+    shares_are_more_than_nothing_and_less_than_all(alloc, findings)
 }

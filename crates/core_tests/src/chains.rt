@@ -1,7 +1,7 @@
 //! Chains of tasks that hand their bytes on: what their parts take of memory has nothing to do with
 //! the credit.
 
-use crate::scenarios::holds;
+use crate::scenarios::Findings;
 use anyhow::bail;
 use assembler::assemble;
 use job_core::{Job, ProgramBytes, Totals, World, admit};
@@ -76,36 +76,40 @@ fn rooms(alloc: Global, kept: i32) -> anyhow::Result<(usize, u32)> {
     Ok((room, spent))
 }
 
-fn a_chain_that_hands_all_its_bytes_on_takes_them_once(alloc: Global) -> anyhow::Result<()> {
+fn a_chain_that_hands_all_its_bytes_on_takes_them_once(
+    alloc: Global,
+    findings: &mut Findings,
+) -> anyhow::Result<()> {
     let (room, spent) = rooms(alloc, 0)?;
-    holds(
+    findings.holds(
         spent == LINKS.wrapping_mul(COST.wrapping_add(1)),
         "a chain that hands all its bytes on takes them once (1)",
-    )?;
-    holds(
+    );
+    findings.holds(
         SIZE <= room && room <= 2 * SIZE,
         "a chain that hands all its bytes on takes them once (2)",
-    )?;
+    );
     Ok(())
 }
 
 fn a_chain_that_keeps_a_byte_each_takes_its_bytes_twice_at_most(
     alloc: Global,
+    findings: &mut Findings,
 ) -> anyhow::Result<()> {
     let (room, spent) = rooms(alloc, 8)?;
-    holds(
+    findings.holds(
         spent == LINKS.wrapping_mul(COST.wrapping_add(1)),
         "a chain that keeps a byte each takes its bytes twice at most (1)",
-    )?;
-    holds(
+    );
+    findings.holds(
         SIZE <= room && room <= 2 * SIZE,
         "a chain that keeps a byte each takes its bytes twice at most (2)",
-    )?;
+    );
     Ok(())
 }
 
 /// Goes through all of it.
-pub fn go_through(alloc: Global) -> anyhow::Result<()> {
-    a_chain_that_hands_all_its_bytes_on_takes_them_once(alloc)?;
-    a_chain_that_keeps_a_byte_each_takes_its_bytes_twice_at_most(alloc)
+pub fn go_through(alloc: Global, findings: &mut Findings) -> anyhow::Result<()> {
+    a_chain_that_hands_all_its_bytes_on_takes_them_once(alloc, findings)?;
+    a_chain_that_keeps_a_byte_each_takes_its_bytes_twice_at_most(alloc, findings)
 }

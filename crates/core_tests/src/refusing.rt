@@ -2,7 +2,7 @@
 
 ghost use Rattle.std.specs.Prelude.{◌≡◌, ◌==◌, if◌then◌else◌, Some, None};
 
-use crate::scenarios::holds;
+use crate::scenarios::Findings;
 use helpers::{Entry, HelperTable, Part, SpawnRecord, Spawner};
 use interpreter::{Credit, Frame, StepOut};
 use std::alloc::Global;
@@ -63,26 +63,26 @@ fn ended(alloc: Global, program: &Verified, held: u32) -> Option<(u64, u32, u32)
     None
 }
 
-fn answers_want_of_memory(alloc: Global) -> anyhow::Result<()> {
+fn answers_want_of_memory(alloc: Global, findings: &mut Findings) -> anyhow::Result<()> {
     // A share of 2 for program 0, no bytes, and the answer is R0.
     let code = hex::decode(
         alloc,
         "b701000000000000b702000002000000b703000000000000b70400000000000085000000010000009500000000000000",
     )?;
     let program = verify(alloc, 0, &code, &HelperTable::job())?;
-    holds(
+    findings.holds(
         ended(alloc, &program, 23) == Some((6, 21, 1)),
         "answers want of memory (1)",
-    )?;
+    );
     // One less than the share, what is used and the price of the exit.
-    holds(
+    findings.holds(
         ended(alloc, &program, 22) == Some((3, 21, 0)),
         "answers want of memory (2)",
-    )?;
+    );
     Ok(())
 }
 
 /// Goes through all of it.
-pub fn go_through(alloc: Global) -> anyhow::Result<()> {
-    answers_want_of_memory(alloc)
+pub fn go_through(alloc: Global, findings: &mut Findings) -> anyhow::Result<()> {
+    answers_want_of_memory(alloc, findings)
 }

@@ -1,6 +1,6 @@
 //! Programs that are set, refused and run in turn.
 
-use crate::scenarios::holds;
+use crate::scenarios::Findings;
 use assembler::assemble;
 use std::alloc::Global;
 use verifier::Refusal;
@@ -16,71 +16,74 @@ fn run(vm: &mut Vm, mem: &mut Vec<u8>, credit: u32) -> Result<u64, VmFault> {
 /// `mov64 r0, 42`, `exit`
 const FORTY_TWO: [u8; 16] = [0xb7, 0, 0, 0, 42, 0, 0, 0, 0x95, 0, 0, 0, 0, 0, 0, 0];
 
-fn start_without_a_program(alloc: Global) -> anyhow::Result<()> {
+fn start_without_a_program(alloc: Global, findings: &mut Findings) -> anyhow::Result<()> {
     let mut vm = Vm::new(alloc, None)?;
-    holds(!vm.has_program(), "start without a program (1)")?;
+    findings.holds(!vm.has_program(), "start without a program (1)");
     let mut mem = Vec::new(alloc);
-    holds(
+    findings.holds(
         run(&mut vm, &mut mem, 100) == Err(VmFault::NoProgram),
         "start without a program (2)",
-    )?;
+    );
     vm.set_program(alloc, 0, &FORTY_TWO)?;
-    holds(vm.has_program(), "start without a program (3)")?;
-    holds(
+    findings.holds(vm.has_program(), "start without a program (3)");
+    findings.holds(
         run(&mut vm, &mut mem, 100) == Ok(42),
         "start without a program (4)",
-    )?;
+    );
     Ok(())
 }
 
-fn start_with_a_program(alloc: Global) -> anyhow::Result<()> {
+fn start_with_a_program(alloc: Global, findings: &mut Findings) -> anyhow::Result<()> {
     let mut vm = Vm::new(alloc, Some((0, &FORTY_TWO)))?;
-    holds(vm.has_program(), "start with a program (1)")?;
+    findings.holds(vm.has_program(), "start with a program (1)");
     let mut mem = Vec::new(alloc);
-    holds(
+    findings.holds(
         run(&mut vm, &mut mem, 2) == Ok(42),
         "start with a program (2)",
-    )?;
-    holds(
+    );
+    findings.holds(
         run(&mut vm, &mut mem, 1)
             == Err(VmFault::CreditLow {
                 wanted: 2,
                 given: 1,
             }),
         "start with a program (3)",
-    )?;
+    );
     let refusal = Vm::new(alloc, Some((65537, &FORTY_TWO))).err();
-    holds(
+    findings.holds(
         refusal == Some(Refusal::NeedTooLarge),
         "start with a program (4)",
-    )?;
+    );
     Ok(())
 }
 
-fn keep_the_old_program_or_take_the_new(alloc: Global) -> anyhow::Result<()> {
+fn keep_the_old_program_or_take_the_new(
+    alloc: Global,
+    findings: &mut Findings,
+) -> anyhow::Result<()> {
     let mut vm = Vm::new(alloc, Some((0, &FORTY_TWO)))?;
     let mut mem = Vec::new(alloc);
     let refused = assemble(alloc, "call 6\nexit")?;
-    holds(
+    findings.holds(
         vm.set_program(alloc, 0, &refused) == Err(Refusal::NoHelper(0)),
         "keep the old program or take the new (1)",
-    )?;
-    holds(vm.has_program(), "keep the old program or take the new (2)")?;
-    holds(
+    );
+    findings.holds(vm.has_program(), "keep the old program or take the new (2)");
+    findings.holds(
         run(&mut vm, &mut mem, 2) == Ok(42),
         "keep the old program or take the new (3)",
-    )?;
+    );
     let accepted = assemble(alloc, "mov64 r0, 7\nexit")?;
     vm.set_program(alloc, 0, &accepted)?;
-    holds(
+    findings.holds(
         run(&mut vm, &mut mem, 2) == Ok(7),
         "keep the old program or take the new (4)",
-    )?;
+    );
     Ok(())
 }
 
 /// Each run has the memory that it is given, of whatever size.
-fn run_again(alloc: Global) -> anyhow::Result<()> {
+fn run_again(alloc: Global, findings: &mut Findings) -> anyhow::Result<()> {
     let program = assemble(alloc, "ldxb r3, [r1+0]\nmov64 r2, 2\ncall 4\ncall 3\nexit")?;
     let mut vm = Vm::new(alloc, Some((2, &program)))?;
     for (given, came, left) in [
@@ -89,29 +92,29 @@ fn run_again(alloc: Global) -> anyhow::Result<()> {
     ] {
         let mut mem = Vec::new(alloc);
         mem.extend_from_slice(&given)?;
-        holds(run(&mut vm, &mut mem, 99) == Ok(came), "run again (1)")?;
-        holds(mem.as_slice() == left.as_slice(), "run again (2)")?;
+        findings.holds(run(&mut vm, &mut mem, 99) == Ok(came), "run again (1)");
+        findings.holds(mem.as_slice() == left.as_slice(), "run again (2)");
     }
     let mut mem = vec![in alloc; 9; 2]?;
-    holds(run(&mut vm, &mut mem, 99) == Ok(2), "run again (3)")?;
-    holds(mem.as_slice() == [9, 9].as_slice(), "run again (4)")?;
+    findings.holds(run(&mut vm, &mut mem, 99) == Ok(2), "run again (3)");
+    findings.holds(mem.as_slice() == [9, 9].as_slice(), "run again (4)");
     mem.truncate(1);
-    holds(
+    findings.holds(
         run(&mut vm, &mut mem, 99)
             == Err(VmFault::MemoryShort {
                 wanted: 2,
                 given: 1,
             }),
         "run again (5)",
-    )?;
-    holds(mem.as_slice() == [9].as_slice(), "run again (6)")?;
+    );
+    findings.holds(mem.as_slice() == [9].as_slice(), "run again (6)");
     Ok(())
 }
 
 /// Goes through all of it.
-pub fn go_through(alloc: Global) -> anyhow::Result<()> {
-    start_without_a_program(alloc)?;
-    start_with_a_program(alloc)?;
-    keep_the_old_program_or_take_the_new(alloc)?;
-    run_again(alloc)
+pub fn go_through(alloc: Global, findings: &mut Findings) -> anyhow::Result<()> {
+    start_without_a_program(alloc, findings)?;
+    start_with_a_program(alloc, findings)?;
+    keep_the_old_program_or_take_the_new(alloc, findings)?;
+    run_again(alloc, findings)
 }
