@@ -1,14 +1,15 @@
 """Instructions as bytes, read off RFC 9669's tables: which there are, and why bytes are no program.
 
-This module, `machine` and `jobs` are a plain model of the machine of docs/profile.md. They share no line with the programs
-that the tests run, so that both may be compared.
+This module, `machine` and `jobs` are a plain model of the machine of docs/profile.md. They share no
+line with the programs that the tests run, so that both may be compared.
 """
 
 import struct
 from collections import namedtuple
 
-# A decoded instruction: the name of its operation without its width, the width in bits (the size of an access or of a byte
-# order), the numbers of its registers, its offset, its immediate number, and whether its second operand is the register.
+# A decoded instruction: the name of its operation without its width, the width in bits (the size of
+# an access or of a byte order), the numbers of its registers, its offset, its immediate number, and
+# whether its second operand is the register.
 Instruction = namedtuple("Instruction", "name width dst src offset imm by_register slots")
 
 SLOT = 8
@@ -16,12 +17,12 @@ MOST_SLOTS = 4096
 REGISTERS = 11
 
 ARITHMETIC = {
-    0x0: "add", 0x1: "sub", 0x2: "mul", 0x3: "div", 0x4: "or", 0x5: "and", 0x6: "lsh", 0x7: "rsh", 0x8: "neg", 0x9: "mod",
-    0xA: "xor", 0xB: "mov", 0xC: "arsh", 0xD: "end",
+    0x0: "add", 0x1: "sub", 0x2: "mul", 0x3: "div", 0x4: "or", 0x5: "and", 0x6: "lsh",
+    0x7: "rsh", 0x8: "neg", 0x9: "mod", 0xA: "xor", 0xB: "mov", 0xC: "arsh", 0xD: "end",
 }
 CONDITIONS = {
-    0x1: "jeq", 0x2: "jgt", 0x3: "jge", 0x4: "jset", 0x5: "jne", 0x6: "jsgt", 0x7: "jsge", 0xA: "jlt", 0xB: "jle", 0xC: "jslt",
-    0xD: "jsle",
+    0x1: "jeq", 0x2: "jgt", 0x3: "jge", 0x4: "jset", 0x5: "jne", 0x6: "jsgt", 0x7: "jsge",
+    0xA: "jlt", 0xB: "jle", 0xC: "jslt", 0xD: "jsle",
 }
 SIZES = {0x00: 32, 0x08: 16, 0x10: 8, 0x18: 64}
 

@@ -36,6 +36,11 @@ def job_text(programs, credit, buffer, **more):
     return json.dumps({"programs": listed, "credit": credit, "buffer": buffer.hex(), **more})
 
 
+def submit_text(programs, credit, buffer):
+    """The request of tenant `t` to run a job."""
+    return '{"op":"submit","tenant":"t",' + job_text(programs, credit, buffer)[1:]
+
+
 def play(programs, credit, buffer, schedule):
     """What a job comes to over a schedule, by `bpfjobs play`."""
     return json.loads(bpfjobs("play", given=job_text(programs, credit, buffer, schedule=list(schedule)))[1])
@@ -74,7 +79,8 @@ class Server:
     def __init__(self, sessions=1_000_000, workers=2, words=None, port=None):
         self.port = port or free_port()
         words = words or ["serve", "--port", self.port, "--workers", workers, "--sessions", sessions]
-        self.process = subprocess.Popen([BPFJOBS, *map(str, words)], stdin=subprocess.DEVNULL, stdout=subprocess.DEVNULL)
+        nothing = {"stdin": subprocess.DEVNULL, "stdout": subprocess.DEVNULL}
+        self.process = subprocess.Popen([BPFJOBS, *map(str, words)], **nothing)
 
     def __enter__(self):
         return self
@@ -108,7 +114,7 @@ class Server:
         return answer
 
     def exchange_past(self, pieces, answered, rest):
-        """Sends pieces, takes as many bytes as they are answered by, sends the rest, and gives all that was answered."""
+        """Sends pieces, takes their answer of so many bytes, sends the rest, and gives all that came."""
         with self.connect() as stream:
             for piece in pieces:
                 stream.sendall(piece)

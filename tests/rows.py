@@ -63,7 +63,7 @@ def rows(name):
 
 @functools.lru_cache(maxsize=None)
 def code_of(program):
-    """The bytes of a program: instructions with slashes between them, of which `4 * exit` is one four times, or hexadecimal."""
+    """The bytes of a program: lines with slashes between them (`4 * exit` is four), or hexadecimal."""
     parts = []
     for part in program.split("/"):
         times, star, line = part.partition("*")

@@ -1,4 +1,4 @@
-"""Rows of command lines: words, input or files, the status and what is printed. A slash between spaces ends a line."""
+"""Rows of command lines: words, input or files, the status and what is printed. ` / ` ends a line."""
 
 import os
 import tempfile
@@ -25,7 +25,7 @@ class Commands(unittest.TestCase):
                     self.assertEqual((ran[0], ran[1].rstrip()), (int(status), lines_of(output)))
 
     def check_served(self, words, wanted):
-        """It serves on the port, and ends once so many connections have, which are tried where they are few."""
+        """It serves on the port, and ends after so many connections, where these are few."""
         port, _workers, sessions = wanted
         with Server(words=words, port=port) as server:
             for _ in range(min(sessions, 3)):
@@ -41,7 +41,7 @@ class Commands(unittest.TestCase):
         self.assertIn("Usage: ", text)
 
     def test_bpfrun(self):
-        """The files are those that the words name: the program, as a text, as hexadecimal or as bytes, and the memory."""
+        """The words name the files: the program, as text, hexadecimal or bytes, and the memory."""
         with tempfile.TemporaryDirectory() as room:
             for place, (words, file, memory, status, output) in fields("trials.txt", 5):
                 words = words.split()
@@ -50,7 +50,8 @@ class Commands(unittest.TestCase):
                         self.check_help(BPFRUN, words)
                         continue
                     self.write(room, words, lines_of(file), memory)
-                    ran = told(BPFRUN, [os.path.join(room, word) if self.is_file(word, words) else word for word in words])
+                    paths = [os.path.join(room, word) if self.is_file(word, words) else word for word in words]
+                    ran = told(BPFRUN, paths)
                     self.assertEqual((ran[0], ran[1].rstrip()), (int(status), lines_of(output)))
 
     @staticmethod

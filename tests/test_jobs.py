@@ -4,7 +4,7 @@ import random
 import unittest
 
 from jobs import Job, Program
-from programs import Server, assemble, job_text, play
+from programs import Server, assemble, play, submit_text
 from rows import memory_of, programs_of, rows, schedule_of, text_of
 
 
@@ -19,8 +19,14 @@ def by_place(job):
     return f"spent {job.totals()['spent']} memory {text_of(job.bytes())}{told}"
 
 
+def without_numbers(ends):
+    """What is told of tasks, in an order that their numbers don't have a say in."""
+    return sorted(sorted((name, end[name]) for name in end if name != "number") for end in ends)
+
+
 # The words of a row, and what they say of a task.
-WORDS = {"program": "program", "on": "argument", "with": "given", "given": "given", "gives": "r0", "r0": "r0", "spent": "used", "rest": "rest"}
+WORDS = {"program": "program", "on": "argument", "with": "given", "given": "given"}
+WORDS |= {"gives": "r0", "r0": "r0", "spent": "used", "rest": "rest"}
 
 
 class Rows(unittest.TestCase):
@@ -65,23 +71,23 @@ class Rows(unittest.TestCase):
                 self.assertEqual(play(programs, credit, buffer, schedule_of(turns)), job.played())
 
     def test_on_threads(self):
-        """A server's threads run the jobs that come to an end, each to what the model comes to depth first."""
+        """A server's threads run each job to what the model comes to depth first."""
         with Server(workers=1) as server:
             for row in [*rows("jobs.txt"), *rows("trees.txt")]:
-                programs, credit, buffer = programs_of(row.program), int(row.question[1]), memory_of(row.question[2])
                 with self.subTest(row.place):
-                    self.check_threads(server, programs, credit, buffer, model_of(programs, credit, buffer).finish())
+                    credit, memory = row.question[1:3]
+                    self.check_threads(server, programs_of(row.program), int(credit), memory_of(memory))
 
-    def check_threads(self, server, programs, credit, buffer, job):
-        text = job_text(programs, credit, buffer)
-        _, reply = server.ask({"op": "grant", "tenant": "t", "amount": credit}, '{"op":"submit","tenant":"t",' + text[1:])
+    def check_threads(self, server, programs, credit, buffer):
+        job = model_of(programs, credit, buffer).finish()
+        grant = {"op": "grant", "tenant": "t", "amount": credit}
+        _, reply = server.ask(grant, submit_text(programs, credit, buffer))
         done = server.result(reply["job"])
         self.assertEqual(done["buffer"], job.bytes().hex())
         self.assertEqual((done["spent"], done["returned"]), (job.totals()["spent"], job.totals()["returned"]))
         self.assertEqual([task["number"] for task in done["tasks"]], list(range(len(job.tasks))))
         # tasks are numbered in order of birth, which depends on the threads
-        without = lambda ends: sorted(sorted((name, end[name]) for name in end if name != "number") for end in ends)
-        self.assertEqual(without(done["tasks"]), without(job.task_ends()))
+        self.assertEqual(without_numbers(done["tasks"]), without_numbers(job.task_ends()))
 
 
 class Chance(unittest.TestCase):
@@ -93,12 +99,13 @@ class Chance(unittest.TestCase):
     SHARES = [(300, 1200, 58), (90, 200, 12), (6, 40, 3)]
 
     def program(self, level):
-        """It notes its argument, spawns some children with random shares and cuts, and notes what it is answered."""
+        """It notes its argument, spawns some children, and notes what it is answered."""
         lines = ["mov64 r6, r1", "mov64 r7, r3", "stxb [r6+0], r7"]
         for _ in range(self.random.randint(1, self.MOST_CHILDREN) if level + 1 < self.LEVELS else 0):
             least, more, most_cut = self.SHARES[level]
             share, cut = least + self.random.randrange(more), 2 + self.random.randrange(most_cut)
-            lines += [f"mov64 r1, {level + 1}", f"mov64 r2, {share}", f"mov64 r3, {cut}", "mov64 r4, r7", f"add64 r4, {cut}", "call 1"]
+            lines += [f"mov64 r1, {level + 1}", f"mov64 r2, {share}", f"mov64 r3, {cut}"]
+            lines += ["mov64 r4, r7", f"add64 r4, {cut}", "call 1"]
             lines += ["add64 r7, r0", "mul64 r7, 5", "stxb [r6+1], r7"]
         return 2, assemble("\n".join([*lines, "mov64 r0, r7", "exit"]))
 
@@ -129,6 +136,9 @@ class Chance(unittest.TestCase):
 class Many(unittest.TestCase):
     """A job takes exactly the steps of its tasks' instructions, whatever their number."""
 
+    # how many children each task has, how many tasks there are, and what they take and spend
+    TREES = [(10, 111, 772, 2422), (100, 10101, 70702, 222202), (316, 100173, 701206, 2203786)]
+
     @staticmethod
     def spawning(program, share, count):
         """It spawns so many tasks of a program, each with the share."""
@@ -137,7 +147,7 @@ class Many(unittest.TestCase):
 
     def test_a_tree(self):
         """1 + n + n * n tasks; 5 n + 2 steps of the root and of each of n, and 2 of each of n * n."""
-        for count, tasks, steps, spent in [(10, 111, 772, 2422), (100, 10101, 70702, 222202), (316, 100173, 701206, 2203786)]:
+        for count, tasks, steps, spent in self.TREES:
             share = 22 * count + 2
             credit = count * (share + 20) + 2
             programs = [self.spawning(1, share, count), self.spawning(2, 2, count), self.spawning(2, 2, 0)]

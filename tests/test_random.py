@@ -1,5 +1,5 @@
-"""Pseudo-random programs by the library and by the model: what is accepted runs without a trap, for no more than its cost, to
-the same end in both; and bytes that are no program are refused alike."""
+"""Pseudo-random programs by the library and by the model: what is accepted runs without a trap, for
+no more than its cost, to the same end in both; and bytes that are no program are refused alike."""
 
 import random
 import unittest
@@ -27,7 +27,9 @@ class Writer:
         return f"r{self.random.choice(NUMBERS)}"
 
     def number(self):
-        return self.random.choice(CONSTANTS) if self.random.random() < 0.8 else self.random.randint(-(2**31), 2**31 - 1)
+        if self.random.random() < 0.8:
+            return self.random.choice(CONSTANTS)
+        return self.random.randint(-(2**31), 2**31 - 1)
 
     def operand(self):
         return self.register() if self.random.random() < 0.5 else str(self.number())
@@ -40,7 +42,8 @@ class Writer:
         if self.random.random() < 0.3:
             return f"neg{self.random.choice((32, 64))} {self.register()}"
         if self.random.random() < 0.5:
-            return f"{self.random.choice(('le', 'be', 'swap'))}{self.random.choice((16, 32, 64))} {self.register()}"
+            order, size = self.random.choice(("le", "be", "swap")), self.random.choice((16, 32, 64))
+            return f"{order}{size} {self.register()}"
         name = self.random.choice(("movsx8_32", "movsx16_32", "movsx8_64", "movsx16_64", "movsx32_64"))
         return f"{name} {self.register()}, {self.register()}"
 
@@ -68,8 +71,9 @@ class Writer:
         """A load at a place that a test, or a mask, keeps within the part."""
         mask = (1 << (need.bit_length() - 1)) - 1 if need else 0
         register = self.register()
-        lines = [f"and64 {register}, {mask}"] if self.random.random() < 0.7 else [f"mod64 {register}, {max(1, need)}"]
-        return [*lines, "mov64 r1, r9", f"add64 r1, {register}", f"ldxb {self.register()}, [r1+0]"]
+        is_masked = self.random.random() < 0.7
+        bound = f"and64 {register}, {mask}" if is_masked else f"mod64 {register}, {max(1, need)}"
+        return [bound, "mov64 r1, r9", f"add64 r1, {register}", f"ldxb {self.register()}, [r1+0]"]
 
     def called(self, need):
         """A call of a helper, and the registers that it unsets set anew."""
@@ -81,7 +85,8 @@ class Writer:
             count = self.random.randrange(65)
             stack = not need or self.random.random() < 0.5
             count = count if stack else min(count, need)
-            lines = ["mov64 r1, r10", f"add64 r1, -{self.random.randint(count, 512)}"] if stack else ["mov64 r1, r9"]
+            lines = ["mov64 r1, r10" if stack else "mov64 r1, r9"]
+            lines += [f"add64 r1, -{self.random.randint(count, 512)}"] if stack else []
             lines += [f"mov64 r2, {count}", f"mov64 r3, {self.number()}"]
         return [*lines, f"call {helper}", f"mov64 r2, {self.number()}", f"mov64 r3, {self.number()}"]
 
@@ -167,7 +172,7 @@ class Bytes(unittest.TestCase):
         return b"".join(slots)[: None if self.random.random() < 0.95 else -1]
 
     def test_bytes(self):
-        """What the model decodes is read as text and back, and what it refuses is refused for the same reason."""
+        """What the model decodes is read as text and back; what it refuses is refused alike."""
         self.random = random.Random(self.SEED)
         read = 0
         for number in range(self.COUNT):

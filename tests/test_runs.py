@@ -6,7 +6,7 @@ import unittest
 
 from instructions import Refused, decode
 from jobs import Job, Program, run_alone
-from programs import BPFRUN, Server, job_text, play, told, telgovan
+from programs import BPFRUN, Server, play, submit_text, telgovan, told
 from rows import code_of, fields, memory_of, refusal, rows, text_of
 
 WORD = (1 << 64) - 1
@@ -79,7 +79,8 @@ class Alone(unittest.TestCase):
             need, credit, *argument = map(int, row.question[1:-1])
             given = need, code_of(row.program), credit, memory_of(row.question[-1]), *argument
             with self.subTest(row.place):
-                for way in (by_library, by_bpfrun) if " at " in row.answer else (by_library, by_bpfrun, by_model):
+                ways = [by_library, by_bpfrun] + [by_model] * (" at " not in row.answer)
+                for way in ways:
                     found = way(*given)
                     if not with_argument and found.startswith("r0 "):
                         words = found.split()
@@ -119,8 +120,7 @@ class AsJobs(unittest.TestCase):
                 with self.subTest(place):
                     # the server's tenant can't pay more than it has
                     server.ask({"op": "grant", "tenant": "t", "amount": max(1, credit)})
-                    text = job_text([(len(memory), code)], credit, memory)
-                    (reply,) = server.ask('{"op":"submit","tenant":"t",' + text[1:])
+                    (reply,) = server.ask(submit_text([(len(memory), code)], credit, memory))
                     done = server.result(reply["job"])
                     (task,) = done["tasks"]
                     found = f"r0 {task['r0']} used {task['spent']} memory {done['buffer'] or '-'}"
@@ -132,7 +132,7 @@ class Operators(unittest.TestCase):
 
     @staticmethod
     def sources(words):
-        """Programs that end with what the operation gives: with two registers, and with a number where it has 32 bits."""
+        """Programs that end with what the operation gives, by registers and by a number of 32 bits."""
         name, *numbers = words
         loads = [f"lddw r{n}, {int(number, 16)}" for n, number in enumerate(numbers)]
         if len(numbers) == 1:
@@ -229,7 +229,8 @@ class Limits(unittest.TestCase):
     def test_a_comb_of_merges_needs_what_they_come_to(self):
         """Each jump leads over a move, and the two ways meet behind it: R0 is at last 0 to 2,046."""
         teeth = [f"jeq r3, {tooth}, +1\nmov64 r0, {tooth}" for tooth in range(1, 2047)]
-        code = telgovan.assemble("\n".join(["mov64 r0, 0", *teeth, "add64 r1, r0", "ldxb r0, [r1+0]", "exit"]))
+        lines = ["mov64 r0, 0", *teeth, "add64 r1, r0", "ldxb r0, [r1+0]", "exit"]
+        code = telgovan.assemble("\n".join(lines))
         self.assertEqual(telgovan.Program(2047, code).cost, 4096)
         with self.assertRaises(telgovan.Error) as caught:
             telgovan.Program(2046, code)
@@ -237,8 +238,8 @@ class Limits(unittest.TestCase):
 
 
 class Opcodes(unittest.TestCase):
-    """Opcodes that begin an instruction where all other fields are zero, by the library and by the model. 0x18 lacks its second
-    slot; a byte order has a width that isn't zero."""
+    """Opcodes that begin an instruction where all other fields are zero, by the library and by the
+    model. 0x18 lacks its second slot; a byte order has a width that isn't zero."""
 
     KNOWN = bytes.fromhex(
         "04142434445464748494a4b4c40c1c2c3c4c5c6c7c9cacbccc07172737475767778797a7b7c70f1f2f3f4f5f6f7f9fafbfcf"

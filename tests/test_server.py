@@ -1,4 +1,4 @@
-"""Requests and their replies over connections to `bpfjobs serve`: whole, in pieces, and cut at each of their bytes."""
+"""Requests and their replies over connections to `bpfjobs serve`: whole, in pieces, and cut."""
 
 import json
 import struct
@@ -58,8 +58,9 @@ def is_later(reply, wanted):
         return given.get("complete") is False
     # an account whose job's credit is open still
     sums = ("balance", "open", "spent")
-    is_account = all(name in given and name in asked for name in sums)
-    return is_account and given["granted"] == asked["granted"] and sum(given[name] for name in sums) == given["granted"]
+    if not all(name in given and name in asked for name in sums):
+        return False
+    return given["granted"] == asked["granted"] == sum(given[name] for name in sums)
 
 
 class Requests(unittest.TestCase):
@@ -133,7 +134,7 @@ class Streams(unittest.TestCase):
                 self.assertEqual(server.exchange(stream[:cut]), frame(NO_TENANT) * (cut // 33))
 
     def test_each_cut_of_a_job(self):
-        """Each frame that is whole is answered, nothing is answered to the rest, and the grants that are whole are there."""
+        """Each whole frame is answered, the rest isn't, and what was granted is there."""
         pairs = list(dialog("cut.txt"))
         stream = frames(request for request, _ in pairs)
         for cut in range(len(stream) + 1):
@@ -190,7 +191,7 @@ class Cuts(unittest.TestCase):
 
     @staticmethod
     def may_be(beginning, kind):
-        """No object or array is read ahead of its last bracket; any other beginning may be a value of its own."""
+        """No object or array is read ahead of its last bracket; another beginning may be a value."""
         begun = beginning.strip(b" \t\r\n")
         is_nested, is_closed = begun[:1] in (b"{", b"["), begun[-1:] in (b"}", b"]")
         return kind == 72 or is_closed or (kind == 73 and not is_nested)
@@ -214,7 +215,7 @@ class Connections(unittest.TestCase):
             self.assertEqual(server.status(), 0)
 
     def test_a_hundred(self):
-        """Two of three connections grant. The second is cut inside its next frame, and the third leaves while it is answered."""
+        """Two of three grant. The second is cut in its next frame, the third leaves while it is answered."""
         with Server(sessions=100) as server:
             for count in range(99):
                 if count % 3 == 0:

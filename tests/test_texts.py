@@ -4,7 +4,7 @@ import os
 import tempfile
 import unittest
 
-from programs import BPFRUN, bpfjobs, told, telgovan
+from programs import BPFRUN, bpfjobs, telgovan, told
 from rows import REFUSALS, fields, raw, refusal
 
 
@@ -51,7 +51,8 @@ class Texts(unittest.TestCase):
         with tempfile.TemporaryDirectory() as room:
             file = os.path.join(room, "program.bpf")
             for place, (way, given, answer) in fields("texts.txt", 3):
-                if way not in ("assemble", "quote") or (way == "assemble" and not answer[-5:].count(" at ") and answer != "1"):
+                is_refused = way == "assemble" and answer.partition(" at ")[0] in ("1", "11", "12", "13")
+                if not is_refused and way != "quote":
                     continue
                 with self.subTest(place):
                     with open(file, "wb") as out:

@@ -4,7 +4,7 @@ import os
 import tempfile
 import unittest
 
-from programs import BPFRUN, Server, bpfjobs, job_text, told, telgovan
+from programs import BPFRUN, Server, bpfjobs, submit_text, telgovan, told
 from rows import REFUSALS, code_of, refusal, rows
 
 # Ends with 42: `mov64 r0, 42`, `exit`.
@@ -26,7 +26,9 @@ def by_command(need, code):
 class Verdicts(unittest.TestCase):
     @classmethod
     def setUpClass(cls):
-        cls.rows = [(row.place, int(row.question[1]), code_of(row.program), row.answer) for row in rows("verdicts.txt")]
+        cls.rows = [
+            (row.place, int(row.question[1]), code_of(row.program), row.answer) for row in rows("verdicts.txt")
+        ]
 
     def test_by_the_library(self):
         for place, need, code, answer in self.rows:
@@ -39,7 +41,7 @@ class Verdicts(unittest.TestCase):
                 self.assertEqual(by_command(need, code), answer)
 
     def test_by_bpfrun(self):
-        """A program that is refused is refused with words; one that is accepted runs on as many zeros as it needs."""
+        """What is refused is refused with words; what is accepted runs on as many zeros as it needs."""
         with tempfile.TemporaryDirectory() as room:
             file = os.path.join(room, "program")
             for place, need, code, answer in self.rows:
@@ -67,16 +69,12 @@ class Verdicts(unittest.TestCase):
             for place, need, code, answer in self.rows:
                 for others in (0, 1, 15):
                     programs = [ANSWERING] * others + [(need, code)]
-                    requests.append(self.submit(programs))
+                    requests.append(submit_text(programs, 100, b""))
                     wanted.append((place, others, answer))
             replies = server.ask(*requests)
         for told_of, reply in zip(wanted[1:], replies[1:]):
             with self.subTest(told_of):
                 self.check_reply(reply, *told_of[1:])
-
-    @staticmethod
-    def submit(programs):
-        return '{"op":"submit","tenant":"t",' + job_text(programs, 100, bytes(0))[1:]
 
     def check_reply(self, reply, others, answer):
         if answer.startswith("cost"):
