@@ -73,6 +73,17 @@ def free_port():
         return probe.getsockname()[1]
 
 
+def may_listen(port):
+    """Whether this process may listen on a port, where nobody else does."""
+    with socket.socket() as probe:
+        probe.setsockopt(socket.SOL_SOCKET, socket.SO_REUSEADDR, 1)
+        try:
+            probe.bind(("127.0.0.1", port))
+        except OSError:
+            return False
+    return True
+
+
 class Server:
     """`bpfjobs serve`, until so many connections have ended."""
 
