@@ -13,6 +13,7 @@ TOP = os.path.dirname(os.path.dirname(os.path.abspath(__file__)))
 BPFJOBS = os.environ.get("BPFJOBS", os.path.join(TOP, "crates/bpfjobs/out/bpfjobs"))
 BPFRUN = os.environ.get("BPFRUN", os.path.join(TOP, "crates/bpfrun/out/bpfrun"))
 PATIENCE = 60
+SHORT = 10_000
 
 sys.path.insert(0, os.path.join(TOP, "bindings/python"))
 import telgovan  # noqa: E402  (the module stands in the folder that was just added)
@@ -116,12 +117,17 @@ class Server:
     def exchange(self, *pieces):
         """Sends pieces over a connection of their own, closes its side, and gives all that is answered."""
         with self.connect() as stream:
+            # what is short is taken by the system; behind more, the server waits until its answers are read
             sender = threading.Thread(target=_send, args=(stream, pieces))
-            sender.start()
+            if sum(map(len, pieces)) < SHORT:
+                sender.run()
+            else:
+                sender.start()
             answer = b""
             while part := stream.recv(1 << 20):
                 answer += part
-            sender.join()
+            if sender.is_alive():
+                sender.join()
         return answer
 
     def exchange_past(self, pieces, answered, rest):
