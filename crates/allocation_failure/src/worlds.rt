@@ -25,7 +25,7 @@ pub fn stepped(alloc: Global) -> Result<Vec<u64>, Stop> {
         world.step(alloc, number);
         adds_up(&world)?;
         looks.push(first_and_fifth(alloc, &world)?)?;
-        looks.push(length_of_place(&world, number)?)?;
+        looks.push(length_of_place(alloc, &world, number)?)?;
     }
     match world.close() {
         Ok(report) => {
@@ -69,9 +69,9 @@ fn first_and_fifth(alloc: Global, world: &World) -> Result<u64, Stop> {
 }
 
 /// How deep in the tree the task stands.
-fn length_of_place(world: &World, number: u32) -> Result<u64, Stop> {
+fn length_of_place(alloc: Global, world: &World, number: u32) -> Result<u64, Stop> {
     for _ in 0..2u8 {
-        match world.place(number) {
+        match world.place(alloc, number) {
             Ok(Some(place)) => return Ok(place.len() as u64),
             Ok(None) => return Ok(99),
             Err(_) => {}

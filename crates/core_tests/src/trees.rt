@@ -87,7 +87,7 @@ fn by_play(alloc: Global, tree: &Tree, schedule: &[u32]) -> anyhow::Result<Strin
     answer.spent = report.spent;
     answer.buffer.extend_from_slice(&report.buffer)?;
     for end in &report.tasks {
-        let Some(place) = world.place(end.number)? else {
+        let Some(place) = world.place(alloc, end.number)? else {
             bail!("a task without a place");
         };
         let place = place_text(alloc, &widened(alloc, &place)?)?;

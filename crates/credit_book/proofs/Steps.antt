@@ -13,7 +13,8 @@ use Rattle.credit_book.specs.declared.seats.View.{View}
 use Rattle.credit_book.specs.History.{word_of, IsHistoryOf, IsLegal}
 use Rattle.credit_book.specs.Rule.{writer, reader, opened, Fits, Kept, Tells, Looks}
 use Rattle.credit_book.proofs.Histories.{longer_history}
-use Rattle.credit_book.proofs.Prefixes.{prefix_self, prefix_trans}
+use Rattle.credit_book.specs.Quiet.{GrowsByEnd}
+use Rattle.credit_book.proofs.Prefixes.{prefix_self, prefix_trans, grown_prefix}
 
 off : false ≡ true → ⊥
 off e = true≢false (sym e)
@@ -54,9 +55,10 @@ module _ {S : Type 0} (o : Opening) (slots id : ℕ) (me : Me S View) (st : Step
       )
 
   -- the step of the writer that publishes a whole history
-  pub publishes : (now : List Event) (f : ℕ → ℕ) → me.0.writes ≡ true → IsLegal now → IsPrefix me.0.history now → f (word_of me.0.history) ≡ word_of now
+  pub publishes : (now : List Event) (f : ℕ → ℕ) → me.0.writes ≡ true → IsLegal now → GrowsByEnd me.0.history now → f (word_of me.0.history) ≡ word_of now
       → Allows (Kept o) slots id me 0 f (Tells now st me)
-  publishes now f writes legal longer becomes s kept homes at fits =
+  publishes now f writes legal grows becomes s kept homes at fits =
+      let longer = grown_prefix me.0.history now grows in
       let mine = (kept.4 id me.0 at).1 writes in
       let is : me.0.history ≡ kept.1 = mine.1 in
       let w = writer now in
@@ -75,7 +77,7 @@ module _ {S : Type 0} (o : Opening) (slots id : ℕ) (me : Me S View) (st : Step
               (prefix_trans u.history me.0.history now (subst (IsPrefix u.history) (sym is) theirs.0) longer, (λ t. absurd (apart ((theirs.1 t).0 ∙ sym mine.0)))))
               (prefix_self now, (λ _. (mine.0, refl))),
         ),
-        refl,
+        (refl, legal, grows),
       )
 
 -- a new reader has seen what the seat knows

@@ -1,7 +1,7 @@
 -- What contracts see of a book, and what its fields keep.
-use Rattle.std.specs.Prelude.{◌≡◌, ℕ, ◌<◌, ◌≤◌, true, List, [], ◌∷◌, ◌++◌, length}
+use Rattle.std.specs.Prelude.{◌≡◌, ℕ, ◌<◌, ◌≤◌, true, List, ◌++◌, length}
 use Rattle.credit_book.specs.declared.event.Event.{Event}
-use Rattle.credit_book.specs.declared.event.Event.TheVariants.{Open, Spawn, Park, Claim, End}
+use Rattle.credit_book.specs.declared.event.Event.TheVariants.{Spawn, End}
 use Rattle.credit_book.specs.declared.event.Standing.{Standing}
 use Rattle.credit_book.specs.declared.event.TaskEnd.{TaskEnd}
 use Rattle.credit_book.specs.declared.fault.BookFault.{BookFault}
@@ -13,6 +13,7 @@ use Rattle.credit_book.specs.declared.book.Report.{Report}
 use Rattle.helpers.specs.Piece.{Piece}
 use Rattle.credit_book.specs.Boards.{Sign}
 use Rattle.credit_book.specs.Buffers.{buffer_of}
+use Rattle.credit_book.specs.Quiet.{NoEnd}
 use Rattle.credit_book.specs.History.{May, table_of, IsHistoryOf, spent_in, returned_in, word_of, standing_at, is_fresh, may_work}
 
 -- the job's board, its history, the length of its buffer, and the tickets that are parked now, the first parked first
@@ -28,18 +29,6 @@ pub record IsBook (board : Sign) (history : List Event) (standings : List Standi
   pub table : table_of history ≡ record { standings = standings; tasks = tasks; queue = queue }
   pub spent_is : spent ≡ spent_in (table_of history)
   pub returned_is : returned ≡ returned_in (table_of history)
-
-abbrev pub IsQuiet : Event → Type 0
-IsQuiet (Open job issued) = Unit {0}
-IsQuiet (Spawn parent child program share arg base len) = Unit {0}
-IsQuiet (Park n) = Unit {0}
-IsQuiet (Claim n) = Unit {0}
-IsQuiet (End n used r0 ran base bytes) = ⊥
-
--- no end is among these
-abbrev pub NoEnd : List Event → Type 0
-NoEnd [] = Unit {0}
-NoEnd (e ∷ es) = IsQuiet e × NoEnd es
 
 -- the history begins with what is posted, which no end follows, and the word is that of the history
 abbrev pub IsPosted : List Event → List Event → Type 0

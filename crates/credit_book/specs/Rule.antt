@@ -9,6 +9,7 @@ use Rattle.credit_book.specs.declared.seats.Opening.{Opening}
 use Rattle.credit_book.specs.declared.seats.View.{View}
 use Rattle.credit_book.specs.declared.event.Event.TheVariants.{Open}
 use Rattle.credit_book.specs.History.{IsLegal, IsHistoryOf, word_of}
+use Rattle.credit_book.specs.Quiet.{GrowsByEnd}
 
 -- the writer knows the history
 abbrev pub writer : List Event → View
@@ -36,6 +37,6 @@ abbrev pub Looks : {S : Type 0} → Step S → Me S View → ℕ → Me S View �
 Looks s v found w =
     (seen : List Event) × (w ≡ (reader seen (v.0.looks + 1), v.1)) × IsPrefix v.0.history seen × IsLegal seen × (word_of seen ≡ found)
 
--- the writer knows this history
+-- the writer posts one end: it knows a legal history then that has grown by it
 abbrev pub Tells : {S : Type 0} → List Event → Step S → Me S View → ℕ → Me S View → Type 0
-Tells now s v found w = w ≡ (writer now, v.1)
+Tells now s v found w = (w ≡ (writer now, v.1)) × IsLegal now × GrowsByEnd v.0.history now

@@ -213,6 +213,7 @@ impl Writer {
 
 impl Writer {
     ghost use Rattle.credit_book.specs.History.{IsLegal};
+    ghost use Rattle.credit_book.specs.Quiet.{GrowsByEnd};
 
     /// An empty history.
     pub(crate) fn past(&self) -> Past
@@ -221,12 +222,12 @@ impl Writer {
         Past::new(&self.seat)
     }
 
-    /// Publishes a longer history, whose sums are those of the last one and these amounts, in one
-    /// step. `past` and `about` are for the proof of the caller alone, which picks the history by
-    /// them.
+    /// Publishes a history that has grown by an end, whose sums are those of the last one and these
+    /// amounts, in one step. `past` and `about` are for the proof alone: the caller's picks the
+    /// history by them.
     pub(crate) fn publish<J: Chronicle, T>(&mut self, past: &Past, about: &T, amount: u64)
         requires legal { IsLegal J.history }
-        requires longer { IsPrefix self.old.history J.history }
+        requires grows { GrowsByEnd self.old.history J.history }
         requires amount { word_of J.history ≡ word_of self.old.history + amount }
         ensures board { self.new.board ≡ self.old.board }
         ensures history { self.new.history ≡ J.history }

@@ -194,6 +194,9 @@ impl Book {
     pub fn open(alloc: Global, post: Post, root: Part) -> Result<(Book, Ticket), NoMemory>
         ensures book { IfOk result (λ r. (r.0.board ≡ post.board) × (r.0.history ≡ post.history)
             × (r.0.size ≡ length root.bytes) × (r.0.waiting ≡ [])) }
+        ensures opened { IfOk result (λ r. (r.0.history
+            ≡ Open post.board.job post.board.issued ∷ [])
+            × IsHistoryOf post.board.job post.board.issued r.0.history) }
         ensures ticket { IfOk result (λ r. r.1
             ≡ root_ticket post.board.job post.board.issued root) }
     {
@@ -236,14 +239,16 @@ impl Book {
 
     /// The number of the job.
     pub fn job(&self) -> u64
-        ensures { result ≡ self.now.board.job }
+        ensures job { result ≡ self.now.board.job }
+        ensures legal { IsHistoryOf self.now.board.job self.now.board.issued self.now.history }
     {
         self.writer.opening().job
     }
 
     /// The credit that was issued for it.
     pub fn issued(&self) -> u32
-        ensures { result ≡ self.now.board.issued }
+        ensures issued { result ≡ self.now.board.issued }
+        ensures legal { IsHistoryOf self.now.board.job self.now.board.issued self.now.history }
     {
         self.writer.opening().issued
     }
@@ -257,7 +262,8 @@ impl Book {
 
     /// What the tasks that ended have left in the job's buffer so far.
     pub fn collected(&self) -> &[u8]
-        ensures { result.now ≡ buffer_of self.now.size self.now.history }
+        ensures buffer { result.now ≡ buffer_of self.now.size self.now.history }
+        ensures legal { IsHistoryOf self.now.board.job self.now.board.issued self.now.history }
     {
         &self.report.buffer
     }
@@ -267,6 +273,7 @@ impl Book {
         ensures totals { (result.spent ≡ spent_in (table_of self.now.history))
             × (result.returned ≡ returned_in (table_of self.now.history)) }
         ensures complete { IsTrue result.complete ↔ IsComplete (table_of self.now.history) }
+        ensures legal { IsHistoryOf self.now.board.job self.now.board.issued self.now.history }
     {
         let complete = self.is_complete();
         Progress {
@@ -350,7 +357,8 @@ impl Book {
             × (self.new.history ≡ self.old.history ++ Claim t.number ∷ [])) }
         ensures legal { IfSome result
             (λ _. IsHistoryOf self.new.board.job self.new.board.issued self.new.history) }
-        ensures none { IfNone result ((self.old.waiting ≡ []) × (self.new ≡ self.old)) }
+        ensures none { IfNone result ((self.old.waiting ≡ [])
+            × ((table_of self.old.history).queue ≡ []) × (self.new ≡ self.old)) }
     {
         let ticket = self.parked.pop_front()?;
         let number = ticket.number as usize;

@@ -79,7 +79,7 @@ impl Chronicle for Brand {
     ghost history = { [] };
 }
 
-/// The step of the writer that publishes a whole history.
+/// The step of the writer that posts one end: it publishes a whole history that has grown by it.
 pub struct Publishes<J: Chronicle> {
     of: PhantomData<J>,
 }

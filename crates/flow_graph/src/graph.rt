@@ -36,7 +36,7 @@ impl Model for Graph {
 
 impl Graph {
     ghost use Rattle.machine_model.specs.Edges.{Begins};
-    ghost use Rattle.flow_graph.specs.Flow.{AreNext, IsFlow};
+    ghost use Rattle.flow_graph.specs.Flow.{AreNext, IsFlow, IsOrder};
 
     /// The graph of a code whose edges lead onward in an order.
     pub(crate) fn of(code: Vec<Option<Insn>>, order: Vec<u32>) -> Graph
@@ -72,7 +72,8 @@ impl Graph {
 
     /// The slots where instructions begin, each once, in an order in which all edges lead onward.
     pub fn order(&self) -> &[u32]
-        ensures { result.now ≡ self.now.order }
+        ensures order { result.now ≡ self.now.order }
+        ensures onward { IsOrder self.now.code self.now.order }
     {
         &self.order
     }

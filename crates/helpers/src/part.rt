@@ -183,13 +183,15 @@ impl Part {
         }
     }
 
-    /// Gives back the room that the bytes don't need, where it is as much again as they take, or
-    /// more.
+    /// Gives back the room that the bytes don't need, where that is more than they take. So the part
+    /// has room for at most twice its bytes then.
     pub fn shed_room(&mut self)
         ensures bytes { (self.new.base ≡ self.old.base) × (self.new.bytes ≡ self.old.bytes) }
         ensures room { self.new.room ≤ self.old.room }
+        ensures kept { self.old.room - length self.old.bytes ≤ length self.old.bytes
+            → self.new.room ≡ self.old.room }
     {
-        if self.bytes.len() < self.bytes.capacity() / 2 {
+        if self.bytes.len() < self.bytes.capacity() - self.bytes.len() {
             self.bytes.shrink_to_fit();
         }
     }

@@ -21,7 +21,7 @@ use Rattle.interpreter.specs.declared.frame.StepOut.{StepOut}
 use Rattle.interpreter.specs.declared.frame.StepOut.TheVariants.{Went, Ended}
 use Rattle.interpreter.specs.Behind.{AreBehind, IsCovered, state_of, Did}
 use Rattle.interpreter.specs.Children.{MayHandOver}
-use Rattle.interpreter.proofs.Steps.{price_some}
+use Rattle.machine_model.proofs.Pays.{price_some}
 use Rattle.helpers.specs.Piece.{Piece}
 use Rattle.credit_book.specs.declared.event.Event.{Event}
 use Rattle.credit_book.specs.declared.event.Event.TheVariants.{End}

@@ -1,13 +1,12 @@
 -- One task that runs for a while, as steps of the definition.
-use Rattle.std.proofs.Common.{◌≡◌, ℕ, zero, suc, List, [], ◌∷◌, ◌++◌, map, refl, sym, ◌∙◌, ap, subst, slice_get, replicate, Bool, Option, Some, None, option_and_then}
+use Rattle.std.proofs.Common.{◌≡◌, ℕ, zero, suc, List, [], ◌∷◌, map, refl, sym, ◌∙◌, ap, subst, slice_get, replicate, Bool, Option, Some, None, option_and_then}
 use Rattle.machine_model.specs.Machine.{Program}
 use Rattle.machine_model.specs.Job as job
 use Rattle.machine_model.specs.Job.{Job, Task, Member, Move, run, step, member_step, IsAlive}
 use Rattle.verifier.specs.Checked.{Checked, program_of}
-use Rattle.job_core.specs.declared.tasks.Stepped.{Stepped}
 use Rattle.job_core.specs.declared.tasks.Stepped.TheVariants as stepped
 use Rattle.job_core.specs.declared.live.Live.{Live}
-use Rattle.job_core.specs.Behind.{Kept, IsBehind, LeadsOn, Plays, Steps, StepAnswers}
+use Rattle.job_core.specs.Behind.{Kept, IsBehind, LeadsOn, Steps}
 use Rattle.job_core.specs.OneTask.{GoesAlone, stays, goes, RunsTask}
 use Rattle.job_core.proofs.Plays.{plays_none}
 use Rattle.job_core.proofs.Simulates.{live_at}

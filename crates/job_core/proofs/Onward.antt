@@ -10,7 +10,7 @@ use Rattle.machine_model.proofs.Costs.{cost_edge, price_le_cost}
 use Rattle.machine_model.proofs.FollowingLemmas.{follows_edge}
 use Rattle.machine_model.proofs.Places.{set_same, push_old}
 use Rattle.verifier.specs.Checked.{Checked, program_of, cost_at}
-use Rattle.interpreter.proofs.Steps.{price_some}
+use Rattle.machine_model.proofs.Pays.{price_some}
 use Rattle.job_core.specs.Behind.{Kept, IsBehind}
 
 -- there is one live task under a number

@@ -65,7 +65,7 @@ pub record IsRoot (programs : List ProgramBytes) (root : Checked) : Type 0 where
   pub all : AreAccepted programs accepted
   pub first : slice_get accepted 0 ≡ Some root
 
--- the one refusal of a job, but for want of memory
+-- the one refusal of a job, but for want of memory, which comes where the numbers are within their limits alone
 abbrev pub RefusesJob : List ProgramBytes → ℕ → List ℕ → AdmitFault → Type 0
 RefusesJob programs credit buffer NoPrograms = length programs ≡ 0
 RefusesJob programs credit buffer TooManyPrograms = 16 < length programs
@@ -76,7 +76,7 @@ RefusesJob programs credit buffer CreditLow =
     IsWithinLimits programs credit buffer × (root : Checked) × IsRoot programs root × (credit < cost_at root 0)
 RefusesJob programs credit buffer BufferShort =
     IsWithinLimits programs credit buffer × (root : Checked) × IsRoot programs root × (cost_at root 0 ≤ credit) × (length buffer < root.need)
-RefusesJob programs credit buffer NoMemory = Unit {0}
+RefusesJob programs credit buffer NoMemory = IsWithinLimits programs credit buffer
 
 -- the numbers of the refusals, and the slot that one tells
 abbrev pub number_of : AdmitFault → ℕ

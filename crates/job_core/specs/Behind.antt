@@ -2,12 +2,14 @@
 use Rattle.std.specs.Prelude.{◌≡◌, ◌↔◌, ℕ, ◌≤◌, List, ◌++◌, map, length, take, drop, slice_get, sum_by, Bool, true, false, Option, Some, None}
 use Rattle.machine_model.specs.declared.program.Entry.{Entry}
 use Rattle.machine_model.specs.Job as job
-use Rattle.machine_model.specs.Job.{Job, Task, Member, state_in, AreTiles, Move, step, run, entry_of, credit_of, spent_by, returned_by, IsAlive, IsComplete}
+use Rattle.machine_model.specs.Job.{Job, Task, Member, state_in, AreTiles, Move, start, step, run, entry_of, credit_of, spent_by, returned_by, IsAlive, IsComplete}
 use Rattle.machine_model.specs.Machine.{Program}
 use Rattle.verifier.specs.Checked.{Checked, program_of, IsVerified}
 use Rattle.interpreter.specs.Behind.{AreBehind, IsCovered, state_of}
 use Rattle.task_trees.specs.Families.{AreParents}
-use Rattle.job_core.specs.Admitted.{AreOwn}
+use Rattle.task_trees.specs.Answer.{HasAnswer, NoRefusals, RefuseSpawns, RootComes}
+use Rattle.task_trees.specs.Eval.{Finished}
+use Rattle.job_core.specs.Admitted.{AreOwn, Order}
 use Rattle.job_core.specs.declared.live.Live.{Live}
 use Rattle.credit_book.specs.declared.event.TaskEnd.{TaskEnd}
 use Rattle.job_core.specs.declared.tasks.Stepped.{Stepped}
@@ -133,6 +135,15 @@ pub record Plays (programs : List Checked) (j : Job) (schedule : List ℕ) (kept
   pub behind : IsBehind kept last
   pub always : (i : ℕ) → Reaches (map program_of programs) j (take i moves)
   pub complete : IsFinished kept ↔ IsComplete last
+
+-- The run over the schedule refuses nothing but spawns. Where it refuses none and its last job is complete, that
+-- has the answer of the job's root.
+pub record PlaysJob (order : Order) (schedule : List ℕ) (kept : Kept) : Type 0 where
+  pub plays : Plays order.programs (start order.credit order.buffer) schedule kept
+  pub refusals : RefuseSpawns (map program_of order.programs) (start order.credit order.buffer) plays.moves
+  pub answer : NoRefusals plays.moves → IsComplete plays.last → (fs : List Finished)
+      × RootComes (map program_of order.programs) order.credit order.buffer fs
+      × HasAnswer (length order.buffer) plays.last fs
 
 -- Every run to what was kept goes on along these numbers to what is kept.
 pub record LeadsOn (old : Kept) (numbers : List ℕ) (new : Kept) : Type 0 where

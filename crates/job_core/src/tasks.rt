@@ -36,6 +36,7 @@ impl Tasks {
         requires booked { IsBooked self.old }
         ensures steps { (j : Job) → IsBehind (kept_of self.old) j
             → Steps (kept_of self.old) j number result (kept_of self.new) }
+        ensures skipped { result ≡ Stepped.Skipped → kept_of self.new ≡ kept_of self.old }
         ensures programs { self.new.programs.items ≡ self.old.programs.items }
         ensures booked { IsBooked self.new }
     {
@@ -74,6 +75,7 @@ impl Tasks {
             → RunsTask (kept_of self.old) j number result.0 result.1 (kept_of self.new) }
         ensures idle { result.0 ≡ 0 → 0 < limit
             → IsIdle (kept_of self.old) number (kept_of self.new) }
+        ensures skipped { result.1 ≡ Stepped.Skipped → kept_of self.new ≡ kept_of self.old }
         ensures whole { result.1 ≡ Stepped.Went → result.0 ≡ limit }
         ensures most { result.0 ≤ limit }
         ensures few { result.0 ≤ 2147483647 }

@@ -82,10 +82,11 @@ impl World {
         })
     }
 
-    /// One instruction of a task, if it is alive.
+    /// One instruction of a task, if it is alive. Otherwise nothing changes.
     pub fn step(&mut self, alloc: Global, number: u32) -> Stepped
         ensures steps { (j : model.Job) → IsBehind self.old j
             → Steps self.old j number result self.new }
+        ensures skipped { result ≡ Stepped.Skipped → self.new ≡ self.old }
         ensures programs { self.new.programs ≡ self.old.programs }
     {
         self.tasks.step(alloc, number)
@@ -100,6 +101,7 @@ impl World {
     pub fn run(&mut self, alloc: Global, number: u32, limit: u32) -> (u32, Stepped)
         ensures runs { (j : model.Job) → IsBehind self.old j
             → RunsTask self.old j number result.0 result.1 self.new }
+        ensures skipped { result.1 ≡ Stepped.Skipped → self.new ≡ self.old }
         ensures whole { result.1 ≡ Stepped.Went → result.0 ≡ limit }
         ensures most { result.0 ≤ limit }
         ensures few { result.0 ≤ 2147483647 }
@@ -130,9 +132,11 @@ impl World {
         }
     }
 
-    /// How many tasks there are, those that have ended among them. Their numbers run from 0.
+    /// How many tasks there are, those that have ended among them. Their numbers run from 0. A job
+    /// stands behind every world, whatever was done with it.
     pub fn len(&self) -> u32
-        ensures { (j : model.Job) → IsBehind self.now j → result ≡ length j.tasks }
+        ensures count { (j : model.Job) → IsBehind self.now j → result ≡ length j.tasks }
+        ensures behind { (j : model.Job) × IsBehind self.now j }
     {
         self.tasks.ledger.book.count()
     }
@@ -140,7 +144,7 @@ impl World {
     /// Where a task, live or ended, stands in the tree of tasks: the root's place is the empty
     /// list, and that of another task is its parent's, followed by its number among that one's
     /// children, counted from 1. None where no task has this number.
-    pub fn place(&self, number: u32) -> Result<Option<Vec<u32>>, NoMemory>
+    pub fn place(&self, alloc: Global, number: u32) -> Result<Option<Vec<u32>>, NoMemory>
         ensures known { IfOk result (λ found. (j : model.Job) → IsBehind self.now j
             → (IsSome found ↔ number < length j.tasks)) }
         ensures value { IfOk result (λ found. (j : model.Job) → IsBehind self.now j
@@ -151,7 +155,7 @@ impl World {
         if number as usize > ledger.parents.len() {
             return Ok(None);
         }
-        Ok(Some(place_in(ledger.alloc, &ledger.parents, number)?))
+        Ok(Some(place_in(alloc, &ledger.parents, number)?))
     }
 
     /// For how many bytes the task's part has room, which is the memory that it takes. None where
@@ -228,21 +232,16 @@ impl World {
     }
 }
 
-ghost use Rattle.std.specs.Prelude.{map};
 ghost use Rattle.machine_model.specs.Job as model;
 ghost use Rattle.machine_model.specs.Job.{start};
-ghost use Rattle.verifier.specs.Checked.{program_of};
-ghost use Rattle.job_core.specs.Behind.{IsBehind, Plays};
-ghost use Rattle.task_trees.specs.Answer.{PlaysToAnswer};
+ghost use Rattle.job_core.specs.Behind.{IsBehind, Plays, PlaysJob};
 
 /// One instruction of each task of the schedule in turn.
 ///
 /// Where no spawn was refused and no task is alive, the buffer, the R0s by place and the credit
 /// spent are those that the root comes to with all that it spawns, whatever the schedule.
 pub fn play(alloc: Global, job: Job, schedule: &[u32]) -> Result<World, NoMemory>
-    ensures answer { IfOk result (λ world. (last : model.Job) × IsBehind world last
-        × PlaysToAnswer (map program_of job.programs) job.credit job.buffer schedule.now last) }
-    ensures run { IfOk result (λ world. Plays job.programs (start job.credit job.buffer) schedule.now world) }
+    ensures { IfOk result (λ world. PlaysJob job schedule.now world) }
 {
     let mut world = World::open(alloc, job)?;
     let mut rest = schedule;

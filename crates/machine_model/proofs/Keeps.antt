@@ -46,9 +46,9 @@ keeps_spawned s program share cut arg answer few =
     (λ _. refl)
 
 pub keeps_effect : (p : Program) (entries : Entries) (s : State) → Keeps s.held (effect p entries s)
-keeps_effect p entries s = effect_holds (Keeps s.held) p entries s (λ _. tt) (λ i amount there le. record {
+keeps_effect p entries s = effect_holds (Keeps s.held) p entries s (λ _. tt) (λ i amount there is_price le. record {
   traps = λ _. tt;
-  goes = λ next fact leads held size. held;
+  goes = λ next fact leads left. left.held;
   ends = λ r0. (le, refl);
   spawns = λ program share cut arg on. keeps_spawned (paid s amount) program share cut arg _ (λ z.
       let l = leaves (entries program) share cut s.held (s.used + amount) (cost_at p (s.slot + 1)) (length s.part) p.need z in

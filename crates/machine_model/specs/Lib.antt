@@ -4,6 +4,7 @@ pub mod Outcomes
 pub mod Edges
 pub mod Paths
 pub mod Memory
+pub mod Bytes
 pub mod Spawn
 pub mod Machine
 pub mod Job

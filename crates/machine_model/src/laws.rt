@@ -13,11 +13,14 @@ pub fn conserves_credit()
 {}
 
 /// The ranges of the tasks, live and ended, tile the buffer after each step from a job where they
-/// do.
+/// do, and the buffer is as long as before.
 pub fn keeps_tiling()
-    ensures { (programs : List Program) (j k : Job) (n : ℕ) (refuses : Bool)
+    ensures tiles { (programs : List Program) (j k : Job) (n : ℕ) (refuses : Bool)
         → step programs j n refuses ≡ Some k →
         AreTiles j.tasks (length j.buffer) → AreTiles k.tasks (length k.buffer) }
+    ensures size { (programs : List Program) (j k : Job) (n : ℕ) (refuses : Bool)
+        → step programs j n refuses ≡ Some k →
+        AreTiles j.tasks (length j.buffer) → length k.buffer ≡ length j.buffer }
 {}
 
 /// Where an instruction doesn't end its task, the task goes on at the end of one of the

@@ -123,14 +123,15 @@ owned_by buffer ms at n (Ended e) over inside there low high =
     )
 
 -- a complete job whose ended tasks are these has their answer
-pub answers : (j : Job) (fs : List Finished) → AreTiles j.tasks (length j.buffer) → IsComplete j →
-    IsPermutation (ended_in j.buffer j.tasks) fs → HasAnswer j fs
-answers j fs tiles over same = record {
-  buffer = joined_is j.buffer fs
+pub answers : (size : ℕ) (j : Job) (fs : List Finished) → length j.buffer ≡ size → AreTiles j.tasks (length j.buffer) → IsComplete j →
+    IsPermutation (ended_in j.buffer j.tasks) fs → HasAnswer size j fs
+answers size j fs long tiles over same = record {
+  long = long;
+  buffer = subst (λ (n : ℕ). j.buffer ≡ joined n fs) long (joined_is j.buffer fs
       (All-permutation (IsPiece j.buffer) (ended_in j.buffer j.tasks) fs same (pieces j.buffer j.tasks tiles.inside))
       (λ at lt. let o = tiles.owned at lt in
       let f = owned_by j.buffer j.tasks at o.number o.member over (tiles.inside o.number o.member o.there) o.there o.low o.high in
-      covers fs f.0 at (Contains-permutation (ended_in j.buffer j.tasks) fs f.0 same f.1) f.2);
+      covers fs f.0 at (Contains-permutation (ended_in j.buffer j.tasks) fs f.0 same f.1) f.2));
   spent = spent_ended j.buffer j.tasks over
       ∙ sym (sum_by-IsPermutation (λ (x : Finished). x.ending.spent) (ended_in j.buffer j.tasks) fs same);
   r0s = λ place r0. (
@@ -193,23 +194,6 @@ start_tiles m count base size = record {
   owned = λ at lt. record { number = 0; member = m; there = refl; low = omega (arith, base); high = omega (arith, base, size, lt) };
 }
 
-pub one_answer : (programs : List Program) (credit : ℕ) (buffer : List ℕ) (moves : List Move) (last : Job) →
-    run programs (start credit buffer) moves ≡ Some last → NoRefusals moves → IsComplete last →
-    (fs : List Finished) × RootComes programs credit buffer fs × HasAnswer last fs
-one_answer programs credit buffer moves last is refused over =
-    let both = run_back programs (start credit buffer) last moves (ended_in last.buffer last.tasks) is refused
-    (start_tiles (Live (root credit buffer)) (length buffer) refl refl)
-    (complete_comes programs last.buffer last.tasks over) in
-    let back = both.0 in
-    let c = back.comes in
-    let whole : take (length buffer) (drop 0 buffer) ≡ buffer = take-length buffer in
-    let alone : back.result ≡ c.0 = c.4 ∙ ap (λ (l : List Finished). c.0 ++ l) c.3 ∙ append-nil c.0 in (
-      back.result,
-      subst (λ (l : List Finished). RootComes programs credit buffer l) (sym alone)
-          (subst (λ (bytes : List ℕ). Eval programs (root credit buffer) bytes c.0) whole c.2),
-      answers last back.result both.1 over (IsPermutation-sym back.result (ended_in last.buffer last.tasks) back.same),
-    )
-
 -- a run keeps the length of the buffer
 tiled_run : (programs : List Program) (j k : Job) (moves : List Move) → run programs j moves ≡ Some k → AreTiles j.tasks (length j.buffer) →
     length k.buffer ≡ length j.buffer
@@ -224,6 +208,23 @@ long_run : (programs : List Program) (credit : ℕ) (buffer : List ℕ) (last : 
 long_run programs credit buffer last moves is =
     tiled_run programs (start credit buffer) last moves is (start_tiles (Live (root credit buffer)) (length buffer) refl refl)
 
+pub one_answer : (programs : List Program) (credit : ℕ) (buffer : List ℕ) (moves : List Move) (last : Job) →
+    run programs (start credit buffer) moves ≡ Some last → NoRefusals moves → IsComplete last →
+    (fs : List Finished) × RootComes programs credit buffer fs × HasAnswer (length buffer) last fs
+one_answer programs credit buffer moves last is refused over =
+    let both = run_back programs (start credit buffer) last moves (ended_in last.buffer last.tasks) is refused
+    (start_tiles (Live (root credit buffer)) (length buffer) refl refl)
+    (complete_comes programs last.buffer last.tasks over) in
+    let back = both.0 in
+    let c = back.comes in
+    let whole : take (length buffer) (drop 0 buffer) ≡ buffer = take-length buffer in
+    let alone : back.result ≡ c.0 = c.4 ∙ ap (λ (l : List Finished). c.0 ++ l) c.3 ∙ append-nil c.0 in (
+      back.result,
+      subst (λ (l : List Finished). RootComes programs credit buffer l) (sym alone)
+          (subst (λ (bytes : List ℕ). Eval programs (root credit buffer) bytes c.0) whole c.2),
+      answers (length buffer) last back.result (long_run programs credit buffer last moves is) both.1 over (IsPermutation-sym back.result (ended_in last.buffer last.tasks) back.same),
+    )
+
 -- two complete runs without refusals of one job
 pub runs_agree : (programs : List Program) (credit : ℕ) (buffer : List ℕ) (moves others : List Move) (last other : Job) →
     run programs (start credit buffer) moves ≡ Some last → NoRefusals moves → IsComplete last →
@@ -233,10 +234,8 @@ pub runs_agree : (programs : List Program) (credit : ℕ) (buffer : List ℕ) (m
 runs_agree programs credit buffer moves others last other is refused over is' refused' over' =
     let a = one_answer programs credit buffer moves last is refused over in
     let b = one_answer programs credit buffer others other is' refused' over' in
-    let same : a.0 ≡ b.0 = eval_once programs (root credit buffer) buffer a.0 b.0 a.1 b.1 in
-    let long : length last.buffer ≡ length other.buffer =
-    long_run programs credit buffer last moves is ∙ sym (long_run programs credit buffer other others is') in (
-      a.2.buffer ∙ ap (λ (i : ℕ). joined i a.0) long ∙ ap (joined (length other.buffer)) same ∙ sym b.2.buffer,
+    let same : a.0 ≡ b.0 = eval_once programs (root credit buffer) buffer a.0 b.0 a.1 b.1 in (
+      a.2.buffer ∙ ap (joined (length buffer)) same ∙ sym b.2.buffer,
       a.2.spent ∙ ap spent_in same ∙ sym b.2.spent,
       IsPermutation-trans (ended_in last.buffer last.tasks) a.0 (ended_in other.buffer other.tasks) a.2.tasks
           (subst (λ (l : List Finished). IsPermutation l (ended_in other.buffer other.tasks)) (sym same)

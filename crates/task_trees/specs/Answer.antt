@@ -36,10 +36,11 @@ pub record HasEndedAt (j : Job) (place : List ℕ) (r0 : ℕ) : Type 0 where
   pub there : ending.place ≡ place
   pub word : ending.r0 ≡ r0
 
--- The job's buffer, the credit that its ended tasks spent and their R0s by place are those of the finished tasks; and these are its
--- ended tasks, each once, in some order.
-pub record HasAnswer (j : Job) (fs : List Finished) : Type 0 where
-  pub buffer : j.buffer ≡ joined (length j.buffer) fs
+-- The job's buffer, which has so many bytes, the credit that its ended tasks spent and their R0s by place are
+-- those of the finished tasks; and these are its ended tasks, each once, in some order.
+pub record HasAnswer (size : ℕ) (j : Job) (fs : List Finished) : Type 0 where
+  pub buffer : j.buffer ≡ joined size fs
+  pub long : length j.buffer ≡ size
   pub spent : sum_by spent_by j.tasks ≡ spent_in fs
   pub r0s : (place : List ℕ) (r0 : ℕ) → HasEndedAt j place r0 ↔ EndsAt fs place r0
   pub tasks : IsPermutation (ended_in j.buffer j.tasks) fs
@@ -76,4 +77,5 @@ pub record PlaysToAnswer (programs : List Program) (credit : ℕ) (buffer : List
   pub numbers : map (λ (m : Move). m.number) moves ≡ schedule
   pub runs : run programs (start credit buffer) moves ≡ Some last
   pub refusals : RefuseSpawns programs (start credit buffer) moves
-  pub answer : NoRefusals moves → IsComplete last → (fs : List Finished) × RootComes programs credit buffer fs × HasAnswer last fs
+  pub answer : NoRefusals moves → IsComplete last → (fs : List Finished) × RootComes programs credit buffer fs
+      × HasAnswer (length buffer) last fs

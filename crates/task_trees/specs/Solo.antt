@@ -1,6 +1,7 @@
 -- What one task comes to by itself, whose spawns are answered from a list.
-use Rattle.std.specs.Prelude.{◌≡◌, ℕ, zero, suc, ◌⊎◌, List, [], ◌∷◌, length, replicate, slice_get, Bool, true, false, Some}
-use Rattle.machine_model.specs.Machine.{State, Program, Entries, Birth, Effect, Goes, Ends, Spawns, Calls, Traps, effect}
+use Rattle.std.specs.Prelude.{◌≡◌, ℕ, zero, suc, ◌≤◌, ◌⊎◌, List, [], ◌∷◌, length, replicate, slice_get, Bool, true, false, Some}
+use Rattle.machine_model.specs.Bytes.{AreBytes}
+use Rattle.machine_model.specs.Machine.{State, Program, Entries, Birth, Effect, Goes, Ends, Spawns, Calls, Traps, cost_at, effect}
 use Rattle.machine_model.specs.Job.{Ending, entries_of, entry_registers}
 
 -- A spawn that passed its tests: what it asked for, where in the task's part its bytes begin, and whether it was refused. Its answer
@@ -42,12 +43,23 @@ entering arg held bytes = record {
   used = 0;
 }
 
--- The ended task has the use and the R0 that it comes to by itself on its program, its argument and the credit that it was given, on some
--- part and under some answers, and left the bytes that it comes to.
+-- What a task is given suffices for its program: credit from its cost to 2,147,483,647, and from its need to
+-- 65,536 bytes.
+pub record IsGiven (p : Program) (given : ℕ) (bytes : List ℕ) : Type 0 where
+  pub affords : cost_at p 0 ≤ given
+  pub limit : given ≤ 2147483647
+  pub fits : p.need ≤ length bytes
+  pub short : length bytes ≤ 65536
+  pub are_bytes : AreBytes bytes
+
+-- The ended task has the use and the R0 that it comes to by itself on its program, its argument and the credit
+-- that it was given, on some part that suffices for the program and under some answers, and left the bytes that
+-- it comes to.
 pub record RanAlone (programs : List Program) (e : Ending) (left : List ℕ) : Type 0 where
   pub program : Program
   pub there : slice_get programs e.program ≡ Some program
   pub bytes : List ℕ
+  pub suffices : IsGiven program e.given bytes
   pub asked : List Asked
   pub last : State
   pub alone : Solo program (entries_of programs) (entering e.arg e.given bytes) asked e.r0 last

@@ -1,11 +1,11 @@
 //! The laws of a tree of tasks: whatever the schedule, it comes to one answer.
 
-ghost use Rattle.std.specs.Prelude.{◌≡◌, ℕ, List, [], length, map, take, drop, slice_get, sum_by, Bool, Some, false};
+ghost use Rattle.std.specs.Prelude.{◌≡◌, ◌↔◌, ℕ, List, [], length, map, take, drop, slice_get, sum_by, Bool, Some, false};
 ghost use Rattle.std.specs.List.Sorted.{IsPermutation};
 ghost use Rattle.machine_model.specs.Machine.{Entries, Program, State};
 ghost use Rattle.machine_model.specs.Job.{Ended, Ending, Job, Move, Task, start, step, run, AreTiles, IsComplete, spent_by};
 ghost use Rattle.task_trees.specs.Families.{AreParents, GrowBy, HavePlaces};
-ghost use Rattle.task_trees.specs.Solo.{Asked, RanAlone, Solo};
+ghost use Rattle.task_trees.specs.Solo.{Asked, IsGiven, RanAlone, Solo};
 ghost use Rattle.task_trees.specs.Eval.{Eval, Finished, JobComes, SoloThenChildren};
 ghost use Rattle.task_trees.specs.Answer.{HasAnswer, NoRefusals, PlaysToAnswer, RootComes, ended_in};
 
@@ -24,12 +24,12 @@ pub fn evaluates_once()
         Eval programs t bytes xs → Eval programs t bytes ys → xs ≡ ys }
 {}
 
-/// What a task comes to with all that it spawns is what it comes to by itself, its spawns all
-/// taken, and what each of its children comes to.
+/// What a task comes to with all that it spawns is exactly what it comes to by itself, its spawns
+/// all taken, and what each of its children comes to.
 pub fn evaluates_by_itself_first()
     ensures { (programs : List Program) (t : Task) (bytes : List ℕ) (fs : List Finished)
         → t.size ≡ length bytes →
-        Eval programs t bytes fs → SoloThenChildren programs t bytes fs }
+        Eval programs t bytes fs ↔ SoloThenChildren programs t bytes fs }
 {}
 
 /// A step whose spawn isn't refused leaves the ended tasks, joined with what the live ones come to,
@@ -51,7 +51,8 @@ pub fn one_answer()
     ensures { (programs : List Program) (credit : ℕ) (buffer : List ℕ) (moves : List Move)
         (last : Job) →
         run programs (start credit buffer) moves ≡ Some last → NoRefusals moves → IsComplete last →
-        (fs : List Finished) × RootComes programs credit buffer fs × HasAnswer last fs }
+        (fs : List Finished) × RootComes programs credit buffer fs
+        × HasAnswer (length buffer) last fs }
 {}
 
 /// Two complete runs of one job in which no spawn was refused have the same buffer, the same credit
@@ -92,11 +93,13 @@ pub fn plays_to_answer()
         PlaysToAnswer programs credit buffer (map (λ (m : Move). m.number) moves) last }
 {}
 
-/// Over every schedule, with refusals or without, each ended task has the use and the R0 that it
-/// comes to by itself on some part, under some answers.
+/// Where the credit and the buffer of a job suffice for its root: over every schedule, with refusals
+/// or without, each ended task has the use and the R0 that it comes to by itself, on some part that
+/// suffices for its program, under some answers.
 pub fn each_ran_alone()
-    ensures { (programs : List Program) (credit : ℕ) (buffer : List ℕ) (moves : List Move)
-        (last : Job) (n : ℕ) (e : Ending) →
+    ensures { (programs : List Program) (p : Program) (credit : ℕ) (buffer : List ℕ)
+        (moves : List Move) (last : Job) (n : ℕ) (e : Ending) →
+        slice_get programs 0 ≡ Some p → IsGiven p credit buffer →
         run programs (start credit buffer) moves ≡ Some last
         → slice_get last.tasks n ≡ Some (Ended e) →
         RanAlone programs e (take e.size (drop e.base last.buffer)) }

@@ -1,5 +1,5 @@
 -- Numbers of 64 bits of which two ranges are known: one of the numbers as they are, one of their signed readings.
-use Rattle.std.specs.Prelude.{ℕ, ℤ, pos, ◌-ℤ◌, neg_ℤ, ◌-◌, ◌^◌, nat_lt, nat_le, int_le, int_lt, ◌&&◌, ◌||◌, if◌then◌else◌, min, max, Option, Some, None}
+use Rattle.std.specs.Prelude.{ℕ, pos, ◌-ℤ◌, neg_ℤ, ◌-◌, ◌^◌, nat_lt, nat_le, int_le, int_lt, ◌&&◌, ◌||◌, if◌then◌else◌, min, max, Option, Some, None}
 use Rattle.std.specs.Int.{int_min, int_max}
 use Rattle.machine_model.specs.Operators.{signed, residue}
 use Rattle.value_ranges.specs.Interval.{Interval, interval, Within}

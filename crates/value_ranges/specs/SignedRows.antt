@@ -1,8 +1,8 @@
 -- What the operators give on signed numbers of two ranges.
-use Rattle.std.specs.Prelude.{ℕ, ℤ, pos, ◌+ℤ◌, ◌-ℤ◌, neg_ℤ, ◌%◌, ◌^◌, int_le, int_lt, ◌&&◌, if◌then◌else◌, Option, Some, None}
+use Rattle.std.specs.Prelude.{ℕ, pos, ◌+ℤ◌, ◌-ℤ◌, neg_ℤ, ◌%◌, ◌^◌, int_le, int_lt, ◌&&◌, if◌then◌else◌, Option, Some, None}
 use Rattle.std.specs.Int.{int_shr}
 use Rattle.insn_codec.specs.declared.insn.Width.{Width}
-use Rattle.insn_codec.specs.declared.insn.Width.TheVariants.{W32, W64}
+use Rattle.insn_codec.specs.declared.insn.Width.TheVariants.{W64}
 use Rattle.insn_codec.specs.declared.insn.AluOp.{AluOp}
 use Rattle.insn_codec.specs.declared.insn.AluOp.TheVariants.{Add, Sub, Arsh}
 use Rattle.value_ranges.specs.Interval.{Interval, is_single}

@@ -1,5 +1,5 @@
 -- What arrives at a slot that one edge leads to.
-use Rattle.std.proofs.Common.{◌≡◌, ◌⊎◌, ℕ, zero, suc, ◌+◌, ◌≤◌, ◌<◌, ◌≢◌, List, [], ◌∷◌, ◌++◌, length, reverse, slice_index, slice_get, slice_index_or, Some, None, Option, ap, sym, ◌∙◌, arith, refl, inl, inr, subst, Bool, true, false, not, ◌==◌, if◌then◌else◌}
+use Rattle.std.proofs.Common.{◌≡◌, ◌⊎◌, ℕ, zero, suc, ◌≤◌, ◌<◌, ◌≢◌, List, [], ◌∷◌, ◌++◌, length, reverse, slice_index, slice_index_or, Some, None, Option, ap, sym, ◌∙◌, arith, refl, inl, inr, subst, Bool, true, false, not, ◌==◌, if◌then◌else◌}
 use Rattle.std.proofs.lemmas.Bool.{cases_lt, cases_eq}
 use Rattle.std.proofs.lemmas.Bool.Decides.{nat_tests}
 use Rattle.std.proofs.lemmas.List.{reverse-append}
@@ -14,14 +14,14 @@ use Rattle.flow_graph.specs.declared.graph.Next.TheVariants.{Zero, One, Two}
 use Rattle.flow_graph.proofs.OrderLemmas.{joint_begins}
 use Rattle.verifier.specs.declared.state.State.{State}
 use Rattle.verifier.specs.declared.kept.Kept.{Kept}
-use Rattle.verifier.specs.Arrive.{Subject, Arrival, Nothing, Undefined, Comes, met, sent, landed, over, joined_over, arriving, arrive}
+use Rattle.verifier.specs.Arrive.{Subject, Arrival, Nothing, Undefined, Comes, met, sent, over, joined_over, arrive}
 use Rattle.verifier.specs.Between.{IsKeptState, IsSingleWay, is_jump}
 use Rattle.verifier.specs.Coming.{IsPassed}
 use Rattle.verifier.specs.Kept.{AreKept, arrived}
 use Rattle.verifier.specs.Merges.{one_to, edges_from, edges_below, edges_into, is_kept}
 use Rattle.verifier.specs.States.{passed, fault}
 use Rattle.verifier.specs.Verdict.{IsAllowedAt}
-use Rattle.verifier.proofs.Arrivals.{AreBehind, behind_place, arrive_is, over_none, joined_over_none, joined_over_stops}
+use Rattle.verifier.proofs.Arrivals.{AreBehind, arrive_is, over_none, joined_over_none, joined_over_stops}
 use Rattle.verifier.proofs.Pulling.{sent_is, landed_at, arrives_joined}
 use Rattle.verifier.proofs.Linking.{joint_zero, joint_one, joint_two}
 use Rattle.verifier.proofs.Options.{one_some}

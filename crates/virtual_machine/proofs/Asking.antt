@@ -18,9 +18,9 @@ asks_spawned : (p : Program) (s : State) (program share cut arg answer : ℕ) �
 asks_spawned p s program share cut arg answer = if_holds (Asks p s.part) (answer == 0) _ _ (λ _. tt) (λ _. tt)
 
 pub asks_effect : (p : Program) (entries : Entries) (s : State) → Asks p s.part (effect p entries s)
-asks_effect p entries s = effect_holds (Asks p s.part) p entries s (λ _. tt) (λ i amount there le. record {
+asks_effect p entries s = effect_holds (Asks p s.part) p entries s (λ _. tt) (λ i amount there is_price le. record {
   traps = λ _. tt;
-  goes = λ next fact leads held size. tt;
+  goes = λ next fact leads left. tt;
   ends = λ r0. tt;
   spawns = λ program share cut arg on. asks_spawned p (paid s amount) program share cut arg _;
   calls = λ helper arity arguments on is other. (refl, other, arity, is);

@@ -1,6 +1,6 @@
 -- What the functions of a caller may answer.
 use Rattle.std.specs.Prelude.{◌≡◌, ◌≢◌, ℕ, ◌-◌, nat_lt, List, [], ◌∷◌, Option, Some, None, slice_index_or, if◌then◌else◌}
-use Rattle.helpers.specs.Table.{Table}
+use Rattle.helpers.specs.Table.{Table, arity_in}
 use Rattle.virtual_machine.specs.declared.registered.Registered.{Registered}
 
 -- what a function may answer to five arguments
@@ -33,6 +33,10 @@ may_answer (Some f) arguments answer = answers f arguments answer
 -- there is a function of this id, which may answer so
 abbrev pub called : {X : Type 0} {g : _} → List (Option (Registered X g)) → ℕ → List ℕ → ℕ → Type 0
 called functions id arguments answer = (f : _) × (function_of functions id ≡ Some f) × answers f arguments answer
+
+-- the same helpers, with the same numbers of arguments
+abbrev pub AreSameHelpers : Table → Table → Type 0
+AreSameHelpers table other = (id : ℕ) → arity_in table id ≡ arity_in other id
 
 -- each helper that was added to the table has a function
 abbrev pub HaveFunctions : {R : Type 0} → Table → List (Option R) → Type 0

@@ -5,7 +5,7 @@ ghost use Rattle.helpers.specs.Table.{arity_in, job_table};
 ghost use Rattle.verifier.specs.Checked.{Checked};
 ghost use Rattle.verifier.specs.Refusals.{Refuses};
 ghost use Rattle.std.proofs.Props.{props};
-ghost use Rattle.virtual_machine.specs.Functions.{HaveFunctions, called, function_of};
+ghost use Rattle.virtual_machine.specs.Functions.{AreSameHelpers, HaveFunctions, called, function_of};
 ghost use Rattle.virtual_machine.specs.Executes.{Executes, ExecutesOn, IsUnrunnable, IsSet};
 ghost use Rattle.virtual_machine.specs.Registering.{IsRegistrable, IsUnregistrable};
 
@@ -27,8 +27,8 @@ pub struct Vm {
     program: Option<Verified>,
     helpers: HelperTable,
     functions: Functions,
-    /// The program was verified with these helpers.
-    ghost same: { (p : Checked) → program ≡ Some p → p.helpers ≡ helpers } by { Prim.hlevel props },
+    /// The program was verified with the same helpers.
+    ghost same: { (p : Checked) → program ≡ Some p → AreSameHelpers p.helpers helpers } by { Prim.hlevel props },
     /// Each helper that was registered has its function.
     ghost have: { HaveFunctions helpers functions.places.items },
 }
@@ -72,9 +72,10 @@ impl Vm {
         Ok(())
     }
 
-    /// Sets a program that was verified before, which asks that it was with the machine's helpers.
+    /// Sets a program that was verified before, which asks that it was with the machine's helpers: by
+    /// each id a helper with as many arguments, or none.
     pub fn set_verified(&mut self, program: Verified)
-        requires { program.helpers ≡ helpers_in self.old }
+        requires { AreSameHelpers program.helpers (helpers_in self.old) }
         ensures program { program_in self.new ≡ Some program }
         ensures helpers { (helpers_in self.new ≡ helpers_in self.old)
             × (functions_in self.new ≡ functions_in self.old) }

@@ -22,6 +22,6 @@ returns c =
 pub unreachable-requires : goal.unreachable-requires
 unreachable-requires c =
     let so_far = c.loop-number.invariant in
-    let count = c.len.ensures so_far.reached so_far.behind in
+    let count = c.len.ensures.count so_far.reached so_far.behind in
     let past : length so_far.reached.tasks ≤ c.loop-number.number = omega (arith, count, c.loop-number-test.false) in
     absurd (c.in-Err.ensures.world.1 so_far.reached so_far.behind (all_run c.args.job c.loop-number.number c.loop-number.world so_far past))

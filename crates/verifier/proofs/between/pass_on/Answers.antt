@@ -1,4 +1,3 @@
-use Rattle.std.proofs.Common.{◌∙◌, ap}
 use Rattle.verifier.specs.Survey.{subject_of}
 use Rattle.verifier.proofs.SingleEdges.{passes_on}
 use Rattle.verifier.proofs.between.pass_on.Goals as goal

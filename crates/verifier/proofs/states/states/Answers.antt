@@ -26,7 +26,7 @@ loop-place-init c =
 
 pub loop-place-preserved : goal.loop-place-preserved
 loop-place-preserved c =
-    let within : c.loop-place.place < length c.args.graph.now.order = rw c.order-place-end.ensures at c.loop-place-test.true in
+    let within : c.loop-place.place < length c.args.graph.now.order = rw c.order-place-end.ensures.order at c.loop-place-test.true in
     let long : length c.examine.new.states ≡ length c.loop-place.states.items = c.in_ok-fault.ensures.come.slots ∙ sym c.loop-place.invariant.come.slots in
     let regions_long : length c.examine.new.regions ≡ length c.loop-place.regions.items =
     rw c.deref_mut-in-loop-place.ensures.value at c.in_ok-fault.ensures.regions in
@@ -55,7 +55,7 @@ pub kept-requires-clause-there : goal.kept-requires-clause-there
 kept-requires-clause-there c =
     let flow = c.slots-slots.ensures.flow in
     let all : c.loop-place.place ≡ length c.args.graph.now.order =
-    rw c.order-place-end.ensures at (let e : c.loop-place.place ≡ length c.order-place-end.result.now = omega (arith, c.loop-place-test.false, c.loop-place.auto.place-end) in e) in
+    rw c.order-place-end.ensures.order at (let e : c.loop-place.place ≡ length c.order-place-end.result.now = omega (arith, c.loop-place-test.false, c.loop-place.auto.place-end) in e) in
     rw c.deref_mut-in-None-first.ensures.value
     (kept_there (record { need = c.args.need; helpers = c.args.helpers.now; code = c.args.graph.now.code }) c.args.graph.now.order c.loop-place.place c.loop-place.sources
     c.loop-place.states.items flow.joined flow.order all c.loop-place.invariant.come
@@ -66,7 +66,7 @@ pub returns-in-None-first : goal.returns-in-None-first
 returns-in-None-first c =
     let flow = c.slots-slots.ensures.flow in
     let all : c.loop-place.place ≡ length c.args.graph.now.order =
-    rw c.order-place-end.ensures at (let e : c.loop-place.place ≡ length c.order-place-end.result.now = omega (arith, c.loop-place-test.false, c.loop-place.auto.place-end) in e) in
+    rw c.order-place-end.ensures.order at (let e : c.loop-place.place ≡ length c.order-place-end.result.now = omega (arith, c.loop-place-test.false, c.loop-place.auto.place-end) in e) in
     record {
       table = all_passed (record { need = c.args.need; helpers = c.args.helpers.now; code = c.args.graph.now.code }) c.args.graph.now.order c.loop-place.place flow.joined flow.order
           (arrive_is (record { need = c.args.need; helpers = c.args.helpers.now; code = c.args.graph.now.code }) c.args.graph.now.order flow.joined flow.order flow.short) all
@@ -83,7 +83,7 @@ returns c =
     c.at.ensures.first (record { need = c.args.need; helpers = c.args.helpers.now; code = c.args.graph.now.code })
     (let flow = c.slots-slots.ensures.flow in
     let all : c.loop-place.place ≡ length c.args.graph.now.order =
-    rw c.order-place-end.ensures at (let e : c.loop-place.place ≡ length c.order-place-end.result.now = omega (arith, c.loop-place-test.false, c.loop-place.auto.place-end) in e) in
+    rw c.order-place-end.ensures.order at (let e : c.loop-place.place ≡ length c.order-place-end.result.now = omega (arith, c.loop-place-test.false, c.loop-place.auto.place-end) in e) in
     come_refused (record { need = c.args.need; helpers = c.args.helpers.now; code = c.args.graph.now.code }) c.args.graph.now.order c.in-Some-first.fault c.loop-place.place
     flow.order all
     (subst (λ (o : Option Fault). IsFirst (record { need = c.args.need; helpers = c.args.helpers.now; code = c.args.graph.now.code }) c.args.graph.now.order c.loop-place.place o)

@@ -8,7 +8,7 @@ returns-clause-report c =
     let closed = c.in-Ok.ensures in
     let book = c.args.self.book in
     let legal : IsHistoryOf c.args.job c.args.issued book.history =
-    subst (λ (j : ℕ). IsHistoryOf j c.args.issued book.history) (sym c.job.ensures ∙ c.if-job.false)
-    (subst (λ (i : ℕ). IsHistoryOf book.board.job i book.history) (sym c.issued.ensures ∙ c.if-issued.false) closed.legal) in
+    subst (λ (j : ℕ). IsHistoryOf j c.args.issued book.history) (sym c.job.ensures.job ∙ c.if-job.false)
+    (subst (λ (i : ℕ). IsHistoryOf book.board.job i book.history) (sym c.issued.ensures.issued ∙ c.if-issued.false) closed.legal) in
     final_of c.args.job c.args.issued c.args.size book.size book.history c.in-Ok.report legal (closed.variant.0 refl) closed.report
     (sym (ap length c.deref-bytes.ensures.value) ∙ c.if-bytes-size.false)
