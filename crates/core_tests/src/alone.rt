@@ -61,7 +61,7 @@ fn trap_of(
     let mut state = start;
     for _ in 0..STEPS {
         match effect(alloc, program, programs, state) {
-            Ok(StepOutcome::Goes(next)) => state = next,
+            Ok(StepOutcome::Continues(next)) => state = next,
             Ok(StepOutcome::Traps(cause)) => return name_of(alloc, cause),
             _ => break,
         }

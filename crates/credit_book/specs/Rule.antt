@@ -27,8 +27,8 @@ abbrev pub Fits : ℕ → List Event → ℕ → View → Type 0
 Fits seat history by v = IsPrefix v.history history × (v.writes ≡ true → (by ≡ seat) × (v.history ≡ history))
 
 -- between any two steps there is one legal history, of which the word has the sums
-abbrev pub Kept : {S : Type 0} → Opening → State S View → Type 0
-Kept o s =
+abbrev pub BoardRule : {S : Type 0} → Opening → State S View → Type 0
+BoardRule o s =
     (seat : ℕ) × (history : List Event) × IsHistoryOf o.job o.issued history × (s.words ≡ word_of history ∷ [])
     × ((by : ℕ) (v : View) → get_elem? s.views by ≡ some v → Fits seat history by v)
 

@@ -25,9 +25,9 @@ pub struct View {
 pub struct Ruled;
 
 impl TableRule<(), View, Opening> for Ruled {
-    ghost use Rattle.credit_book.specs.Rule.{Kept, opened};
+    ghost use Rattle.credit_book.specs.Rule.{BoardRule, opened};
 
-    ghost holds = { Kept };
+    ghost holds = { BoardRule };
 
     ghost first = { opened };
 }

@@ -9,7 +9,7 @@ use Rattle.verifier.specs.RefusalCodes.{number_of as number_of_program, slot_of 
 use Rattle.job_core.specs.declared.admission.ProgramBytes.{ProgramBytes}
 use Rattle.job_core.specs.declared.admission.AdmitFault.{AdmitFault}
 use Rattle.job_core.specs.declared.admission.AdmitFault.TheVariants.{NoPrograms, TooManyPrograms, TooLarge, Program, CreditLow, BufferShort, NoMemory}
-use Rattle.job_core.specs.Admitted.{Order}
+use Rattle.job_core.specs.Admitted.{AdmittedJob}
 
 -- the verifier accepts the program with this, for the helpers of a job
 abbrev pub Accepts : ProgramBytes → Checked → Type 0
@@ -38,7 +38,7 @@ pub record IsWithinLimits (programs : List ProgramBytes) (credit : ℕ) (buffer 
   pub small : length buffer ≤ 65536
 
 -- the job that is admitted: its programs are accepted, and its credit and buffer cover the root
-pub record IsAdmittedFrom (programs : List ProgramBytes) (credit : ℕ) (buffer : List ℕ) (order : Order) : Type 0 where
+pub record IsAdmittedFrom (programs : List ProgramBytes) (credit : ℕ) (buffer : List ℕ) (order : AdmittedJob) : Type 0 where
   pub limits : IsWithinLimits programs credit buffer
   pub accepted : AreAccepted programs order.programs
   pub same_credit : order.credit ≡ credit

@@ -4,7 +4,7 @@ use Rattle.helpers.specs.Table.{job_table}
 use Rattle.verifier.specs.Checked.{Checked, cost_at}
 
 -- a job's programs, credit and buffer
-pub record Order : Type 0 where
+pub record AdmittedJob : Type 0 where
   pub programs : List Checked
   pub credit : ℕ
   pub buffer : List ℕ
@@ -14,7 +14,7 @@ abbrev pub AreOwn : List Checked → Type 0
 AreOwn programs = (n : ℕ) (p : Checked) → slice_get programs n ≡ Some p → p.helpers ≡ job_table
 
 -- the limits are kept, the programs may call a job's helpers alone, and the credit and the buffer cover the root
-pub record IsAdmitted (order : Order) : Type 0 where
+pub record IsAdmitted (order : AdmittedJob) : Type 0 where
   pub few : length order.programs ≤ 16
   pub limit : order.credit ≤ 2147483647
   pub small : length order.buffer ≤ 65536

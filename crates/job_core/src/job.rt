@@ -12,9 +12,9 @@ pub struct Job {
 }
 
 impl Model for Job {
-    ghost use Rattle.job_core.specs.Admitted.{Order, IsAdmitted};
+    ghost use Rattle.job_core.specs.Admitted.{AdmittedJob, IsAdmitted};
 
-    ghost Value = { Order };
+    ghost Value = { AdmittedJob };
 
     ghost view = { λ j. record { programs = j.programs.items; credit = j.credit; buffer = j.buffer.items } };
 

@@ -1,11 +1,11 @@
 -- A program whose helpers are the machine's own never calls one of a caller's.
 use Rattle.std.proofs.Common.{◌≡◌, ℕ, ◌<◌, ◌≤◌, ◌==◌, arith, Some}
-use Rattle.machine_model.specs.Machine.{State, Program, Entries, Effect, Goes, Ends, Spawns, Calls, Traps, spawned, paid, effect}
+use Rattle.machine_model.specs.Machine.{State, Program, Entries, Effect, Continues, Ends, Spawns, Calls, Traps, spawned, paid, effect}
 use Rattle.machine_model.proofs.Effects.{if_holds, effect_holds}
 
 -- nobody but the machine is called
 abbrev pub IsOwn : Effect → Type 0
-IsOwn (Goes s) = Unit {0}
+IsOwn (Continues s) = Unit {0}
 IsOwn (Ends r0 s) = Unit {0}
 IsOwn (Spawns birth taken refused) = Unit {0}
 IsOwn (Calls helper arguments caller) = ⊥

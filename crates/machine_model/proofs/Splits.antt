@@ -3,15 +3,15 @@ use Rattle.std.proofs.Common.{◌≡◌, ℕ, ◌≤◌, ◌+◌, ◌-◌, lengt
 use Rattle.std.proofs.lemmas.List.{length-drop}
 use Rattle.std.proofs.lemmas.Bool.Decides.{nat_tests}
 use Rattle.machine_model.specs.declared.program.Entry.{Entry}
-use Rattle.machine_model.specs.Bytes.{AreBytes}
+use Rattle.machine_model.specs.Bytes.{AllBytes}
 use Rattle.machine_model.specs.Spawn.{answer_of}
-use Rattle.machine_model.specs.Machine.{State, Program, Entries, Effect, Goes, Ends, Spawns, Calls, Traps, spawned, paid, effect}
+use Rattle.machine_model.specs.Machine.{State, Program, Entries, Effect, Continues, Ends, Spawns, Calls, Traps, spawned, paid, effect}
 use Rattle.machine_model.proofs.Effects.{if_holds, effect_holds}
 use Rattle.machine_model.proofs.Keeps.{unless, leaves}
 
 -- what the effect leaves of the part, or hands on
 abbrev pub Splits : List ℕ → Effect → Type 0
-Splits part (Goes s) = length s.part ≡ length part
+Splits part (Continues s) = length s.part ≡ length part
 Splits part (Ends r0 s) = s.part ≡ part
 Splits part (Spawns birth taken refused) = (taken.part ++ birth.bytes ≡ part) × (refused.part ≡ part)
 Splits part (Calls helper arguments caller) = Unit {0}
@@ -32,7 +32,7 @@ splits_effect p entries s = effect_holds (Splits s.part) p entries s (λ _. tt) 
 
 -- what stands behind a spawn that passes its tests: a program whose cost and need the birth meets, and enough credit
 abbrev pub Births : Entries → ℕ → Effect → Type 0
-Births entries held (Goes s) = Unit {0}
+Births entries held (Continues s) = Unit {0}
 Births entries held (Ends r0 s) = Unit {0}
 Births entries held (Spawns birth taken refused) =
     (entry : Entry) × (entries birth.program ≡ Some entry) × (entry.cost ≤ birth.share) × (entry.need ≤ length birth.bytes) × (birth.share ≤ held)
@@ -74,7 +74,7 @@ births_effect p entries s = effect_holds (Births entries s.held) p entries s (λ
 
 -- a part of bytes stays one where the task goes on
 abbrev pub KeepsBytes : List ℕ → Effect → Type 0
-KeepsBytes part (Goes s) = AreBytes part → AreBytes s.part
+KeepsBytes part (Continues s) = AllBytes part → AllBytes s.part
 KeepsBytes part (Ends r0 s) = Unit {0}
 KeepsBytes part (Spawns birth taken refused) = Unit {0}
 KeepsBytes part (Calls helper arguments caller) = Unit {0}

@@ -2,5 +2,5 @@
 use Rattle.std.specs.Prelude.{ℕ, ◌<◌, List, All}
 
 -- each of these is a byte
-abbrev pub AreBytes : List ℕ → Type 0
-AreBytes bytes = All (λ b. b < 256) bytes
+abbrev pub AllBytes : List ℕ → Type 0
+AllBytes bytes = All (λ b. b < 256) bytes

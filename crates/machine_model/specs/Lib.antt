@@ -7,7 +7,7 @@ pub mod Memory
 pub mod Bytes
 pub mod Spawn
 pub mod Machine
-pub mod Job
+pub mod JobState
 pub mod Computing
 pub mod Alone
 pub mod Following

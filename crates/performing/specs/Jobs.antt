@@ -1,21 +1,21 @@
 -- What is printed of a job.
 use Rattle.std.specs.Prelude.{◌≡◌, ◌↔◌, ℕ, List, Bool, true, IsTrue, Option, Some, None, Ok, Err}
-use Rattle.machine_model.specs.Job.{Job, IsComplete, start}
+use Rattle.machine_model.specs.JobState.{JobState, IsComplete, start}
 use Rattle.sessions.specs.Answers.{ObjectAnswer}
 use Rattle.sessions.specs.Faults.{code_of}
 use Rattle.sessions.specs.Replies.{play_data}
 use Rattle.sessions.specs.declared.request.JobObject.{JobObject}
 use Rattle.job_core.specs.declared.totals.Totals.{Totals}
 use Rattle.job_core.specs.Admission.{IsAdmittedFrom, RefusesJob, number_of, place_of, slot_of}
-use Rattle.job_core.specs.Admitted.{Order}
+use Rattle.job_core.specs.Admitted.{AdmittedJob}
 use Rattle.job_core.specs.Answers.{AreTotals}
-use Rattle.job_core.specs.Behind.{Kept, Plays}
+use Rattle.job_core.specs.Representation.{WorldState, Plays}
 use Rattle.performing.specs.declared.declined.Declined.{Declined}
 use Rattle.performing.specs.declared.declined.Declined.TheVariants as declined
 use Rattle.performing.specs.Printed.{Prints, refusal_reply, reply_line}
 
 -- the input says a job, with a schedule where one is wanted, and it is admitted
-pub record IsOrdered (wants : Bool) (input : List ℕ) (order : Order) (schedule : List ℕ) : Type 0 where
+pub record IsOrdered (wants : Bool) (input : List ℕ) (order : AdmittedJob) (schedule : List ℕ) : Type 0 where
   pub object : JobObject
   pub read : ObjectAnswer wants (Ok object) input
   pub admitted : IsAdmittedFrom object.programs.items object.credit object.buffer.items order
@@ -32,7 +32,7 @@ declined_line (declined.Object fault) = refusal_reply (code_of fault) None None
 declined_line (declined.Job fault) = refusal_reply (number_of fault) (place_of fault) (slot_of fault)
 
 -- how far a job is
-pub record Tells (j : Job) (text : List ℕ) (status : ℕ) : Type 0 where
+pub record Tells (j : JobState) (text : List ℕ) (status : ℕ) : Type 0 where
   pub complete : Bool
   pub is_complete : IsTrue complete ↔ IsComplete j
   pub totals : Totals
@@ -41,6 +41,6 @@ pub record Tells (j : Job) (text : List ℕ) (status : ℕ) : Type 0 where
 
 -- a job's schedule leads to what is told, or there is no job, or no memory for it
 pub data IsPlayed (input text : List ℕ) (status : ℕ) : Type 0 where
-  played : (order : Order) (schedule : List ℕ) (kept : Kept) → IsOrdered true input order schedule → (plays : Plays order.programs (start order.credit order.buffer) schedule kept) → Tells plays.last text status → IsPlayed input text status
-  no_memory : (order : Order) (schedule : List ℕ) → IsOrdered true input order schedule → Prints text status (refusal_reply 99 None None) 1 → IsPlayed input text status
+  played : (order : AdmittedJob) (schedule : List ℕ) (kept : WorldState) → IsOrdered true input order schedule → (plays : Plays order.programs (start order.credit order.buffer) schedule kept) → Tells plays.last text status → IsPlayed input text status
+  no_memory : (order : AdmittedJob) (schedule : List ℕ) → IsOrdered true input order schedule → Prints text status (refusal_reply 99 None None) 1 → IsPlayed input text status
   no_job : (why : Declined) → IsDeclined true input why → Prints text status (declined_line why) 1 → IsPlayed input text status

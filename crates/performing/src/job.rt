@@ -1,8 +1,8 @@
 //! Jobs that are played by a schedule.
 
 ghost use Rattle.std.specs.Prelude.{◌≡◌, IfOk, None};
-ghost use Rattle.job_core.specs.Behind.{IsBehind};
-ghost use Rattle.machine_model.specs.Job as model;
+ghost use Rattle.job_core.specs.Representation.{RepresentsJob};
+ghost use Rattle.machine_model.specs.JobState as model;
 ghost use Rattle.performing.specs.Printed.{Prints, refusal_reply};
 ghost use Rattle.performing.specs.Jobs.{IsPlayed, Tells};
 
@@ -28,7 +28,7 @@ fn out_of_memory(alloc: Global) -> Result<Answer, NoMemory>
 
 // How far the job is.
 fn answer_world(alloc: Global, world: &World) -> Result<Answer, NoMemory>
-    ensures { IfOk result (λ answer. (j : model.Job) → IsBehind world.now j
+    ensures { IfOk result (λ answer. (j : model.JobState) → RepresentsJob world.now j
         → Tells j answer.text.items answer.status) }
 {
     let buffer = world.buffer(alloc)?;

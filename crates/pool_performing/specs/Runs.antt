@@ -1,7 +1,7 @@
 -- What is printed of a job that threads run, and what a command answers.
 use Rattle.std.specs.Prelude.{◌≤◌, ℕ, List, All, length, false, None}
 use Rattle.credit_book.specs.declared.book.Report.{Report}
-use Rattle.job_core.specs.Admitted.{Order}
+use Rattle.job_core.specs.Admitted.{AdmittedJob}
 use Rattle.sessions.specs.Replies.{result_data}
 use Rattle.workers.specs.declared.fault.PoolFault.{PoolFault}
 use Rattle.workers.specs.Final.{IsFinal}
@@ -16,8 +16,8 @@ use Rattle.performing.specs.Programs.{IsAssembled, IsDisassembled, IsVerified}
 
 -- the report of the job's complete history, each of whose tasks gives what it gives by itself; or no report, or no job
 pub data IsRun (input text : List ℕ) (status : ℕ) : Type 0 where
-  ran : (order : Order) (schedule : List ℕ) (report : Report) → IsOrdered false input order schedule → IsFinal 0 order.credit (length order.buffer) report → All (EndedAlone order.programs) report.tasks.items → Prints text status (reply_line (result_data report.buffer.items report.returned report.spent report.tasks.items)) 0 → IsRun input text status
-  failed : (order : Order) (schedule : List ℕ) (fault : PoolFault) → IsOrdered false input order schedule → Prints text status (refusal_reply (number_of fault) None None) 1 → IsRun input text status
+  ran : (order : AdmittedJob) (schedule : List ℕ) (report : Report) → IsOrdered false input order schedule → IsFinal 0 order.credit (length order.buffer) report → All (EndedAlone order.programs) report.tasks.items → Prints text status (reply_line (result_data report.buffer.items report.returned report.spent report.tasks.items)) 0 → IsRun input text status
+  failed : (order : AdmittedJob) (schedule : List ℕ) (fault : PoolFault) → IsOrdered false input order schedule → Prints text status (refusal_reply (number_of fault) None None) 1 → IsRun input text status
   no_job : (why : Declined) → IsDeclined false input why → Prints text status (declined_line why) 1 → IsRun input text status
 
 -- the command is over once it has answered; a job has 1 to 16 workers

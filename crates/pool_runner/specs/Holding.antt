@@ -5,16 +5,16 @@ use Rattle.credit_book.specs.Boards.{Sight}
 use Rattle.credit_book.specs.History.{IsHistoryOf, IsComplete, table_of, spent_in, returned_in}
 use Rattle.credit_book.specs.declared.board.Progress.{Progress}
 use Rattle.credit_book.specs.declared.event.Event.TheVariants.{Open}
-use Rattle.job_core.specs.Admitted.{Order}
+use Rattle.job_core.specs.Admitted.{AdmittedJob}
 
 -- its number, the job, and what was seen of its board so far
 pub record Held : Type 0 where
   pub number : ℕ
-  pub job : Order
+  pub job : AdmittedJob
   pub sight : Sight
 
 -- a job that was just started: nothing was seen of it but its opening
-pub record IsFresh (number : ℕ) (job : Order) (held : Held) : Type 0 where
+pub record IsFresh (number : ℕ) (job : AdmittedJob) (held : Held) : Type 0 where
   pub numbered : held.number ≡ number
   pub given : held.job ≡ job
   pub seen : held.sight.seen ≡ Open number job.credit ∷ []

@@ -5,7 +5,7 @@ use Rattle.std.specs.BTreeMap.{btree_map_len}
 use Rattle.std.specs.Ordering.{nat_cmp}
 use Rattle.slab.specs.Slab as slots
 use Rattle.credit_book.specs.declared.book.Report.{Report}
-use Rattle.job_core.specs.Admitted.{Order}
+use Rattle.job_core.specs.Admitted.{AdmittedJob}
 use Rattle.credit_book.specs.declared.board.Progress.{Progress}
 use Rattle.pool_runner.specs.declared.places.Places.{Places}
 use Rattle.pool_runner.specs.Endings.{IsEndOf}
@@ -30,7 +30,7 @@ pub record Stays (old new : Places) : Type 0 where
   pub count : count_of new ≡ count_of old
 
 -- one job more
-pub record Adds (old : Places) (number : ℕ) (job : Order) (new : Places) : Type 0 where
+pub record Adds (old : Places) (number : ℕ) (job : AdmittedJob) (new : Places) : Type 0 where
   pub held : Held
   pub was_none : held_at old number ≡ None
   pub fresh : IsFresh number job held
@@ -38,7 +38,7 @@ pub record Adds (old : Places) (number : ℕ) (job : Order) (new : Places) : Typ
   pub count : count_of new ≡ count_of old + 1
 
 -- a job is held, or the start is refused by 81 or 99
-abbrev pub Starts : Places → ℕ → Order → Result (Unit {0}) ℕ → Places → Type 0
+abbrev pub Starts : Places → ℕ → AdmittedJob → Result (Unit {0}) ℕ → Places → Type 0
 Starts old number job (Ok _) new = Adds old number job new
 Starts old number job (Err code) new = ((code ≡ 81) ⊎ (code ≡ 99)) × Stays old new
 

@@ -1,8 +1,8 @@
 -- Why an evaluation has no answer.
 use Rattle.std.proofs.Common.{◌≡◌, ◌⊎◌, inl, inr, ℕ, suc, List, [], ◌∷◌, ◌++◌, slice_get, sym, subst, false, Some, Contains}
 use Rattle.std.proofs.lemmas.List.Elements.{Contains-push_cases}
-use Rattle.machine_model.specs.Machine.{State, Program, Birth, Effect, Goes, Spawns, effect}
-use Rattle.machine_model.specs.Job.{Task, child_of, entries_of, with_state}
+use Rattle.machine_model.specs.Machine.{State, Program, Birth, Effect, Continues, Spawns, effect}
+use Rattle.machine_model.specs.JobState.{Task, child_of, entries_of, with_state}
 use Rattle.task_trees.specs.Eval.{parent_of, state_with}
 use Rattle.reference.specs.Records.{IsFarEffect, task_of}
 use Rattle.reference.specs.Evaluating.{GoesOnTo, ComesFarWithin, ComesFar}
@@ -17,10 +17,10 @@ module _ (programs : List Program) (t : Task) (bytes : List ℕ) (p : Program) (
     further : (n : ℕ) → GoesOnTo (ComesFarWithin programs n) t e → ComesFar programs t bytes
     further n on = (suc n, (p, there, inr (subst (λ (f : Effect). GoesOnTo (ComesFarWithin programs n) t f) (sym is) on)))
 
-  pub far_on : (s : State) (then : Pending) → effect p (entries_of programs) (state_with t bytes) ≡ Goes s → task_of then.task ≡ with_state t s →
+  pub far_on : (s : State) (then : Pending) → effect p (entries_of programs) (state_with t bytes) ≡ Continues s → task_of then.task ≡ with_state t s →
       then.bytes.items ≡ s.part → ComesFar programs (task_of then.task) then.bytes.items → ComesFar programs t bytes
   far_on s then is task same far =
-      further (Goes s) is far.0 (subst (λ bs. ComesFarWithin programs far.0 (with_state t s) bs) same
+      further (Continues s) is far.0 (subst (λ bs. ComesFarWithin programs far.0 (with_state t s) bs) same
       (subst (λ (u : Task). ComesFarWithin programs far.0 u then.bytes.items) task far.1))
 
   pub far_parent : (birth : Birth) (taken refused : State) (parent : Pending) →

@@ -2,8 +2,8 @@
 use Rattle.std.proofs.Common.{◌≡◌, ℕ, zero, suc, ◌+◌, ◌<◌, ◌≤◌, List, [], ◌∷◌, ◌++◌, map, reverse, sum_by, refl, sym, ◌∙◌, ap, subst, arith}
 use Rattle.std.proofs.lemmas.List.{reverse-append}
 use Rattle.std.proofs.lemmas.List.Sums.{sum_by-cons, sum_by-append, sum_by_push}
-use Rattle.machine_model.specs.Machine.{Program, Effect, Goes, Ends, Spawns, Calls, Traps, effect}
-use Rattle.machine_model.specs.Job.{Task, with_state, entries_of}
+use Rattle.machine_model.specs.Machine.{Program, Effect, Continues, Ends, Spawns, Calls, Traps, effect}
+use Rattle.machine_model.specs.JobState.{Task, with_state, entries_of}
 use Rattle.machine_model.proofs.Pays.{Pays, pays_effect}
 use Rattle.task_trees.specs.Answer.{spent_in}
 use Rattle.task_trees.specs.Eval.{Comes, EvalWithin, Finished, parent_of, state_with}
@@ -15,7 +15,7 @@ use Rattle.reference.specs.declared.evaluating.Pending.{Pending}
 -- what a task has used is spent in the end
 by_effect : (on : Task → List ℕ → List Finished → Type 0) → ((u : Task) (bytes : List ℕ) (fs : List Finished) → on u bytes fs → u.used ≤ spent_in fs) →
     (t : Task) (e : Effect) (fs : List Finished) → Pays t.used e → Comes on t fs e → t.used ≤ spent_in fs
-by_effect on ih t (Goes next) fs pays c = let later = ih (with_state t next) next.part fs c in omega (arith, later, pays)
+by_effect on ih t (Continues next) fs pays c = let later = ih (with_state t next) next.part fs c in omega (arith, later, pays)
 by_effect on ih t (Ends r0 last) fs pays c =
     let total : spent_in fs ≡ 0 + last.used = ap spent_in c in omega (arith, total, pays)
 by_effect on ih t (Spawns birth taken refused) fs pays c =

@@ -1,7 +1,7 @@
 -- What the tasks come to that are still to be evaluated.
 use Rattle.std.specs.Prelude.{◌≡◌, ◌⊎◌, ℕ, zero, suc, ◌+◌, List, [], ◌∷◌, ◌++◌, map, reverse, slice_get, false, Some, sum_by}
-use Rattle.machine_model.specs.Machine.{Program, Effect, Goes, Ends, Spawns, Calls, Traps, effect}
-use Rattle.machine_model.specs.Job.{Task, child_of, entries_of, with_state}
+use Rattle.machine_model.specs.Machine.{Program, Effect, Continues, Ends, Spawns, Calls, Traps, effect}
+use Rattle.machine_model.specs.JobState.{Task, child_of, entries_of, with_state}
 use Rattle.task_trees.specs.Eval.{Eval, Finished, parent_of, state_with}
 use Rattle.reference.specs.Records.{IsFarEffect, ended_of, task_of}
 use Rattle.reference.specs.declared.evaluating.FinishedTask.{FinishedTask}
@@ -30,7 +30,7 @@ used_so_far path done = sum_by (λ p. p.task.used) path + sum_by (λ f. f.ending
 
 -- after the effect one of the tasks that go on is such a one
 abbrev pub GoesOnTo : (Task → List ℕ → Type 0) → Task → Effect → Type 0
-GoesOnTo on t (Goes next) = on (with_state t next) next.part
+GoesOnTo on t (Continues next) = on (with_state t next) next.part
 GoesOnTo on t (Ends r0 last) = ⊥
 GoesOnTo on t (Spawns birth taken refused) = on (child_of t taken birth) birth.bytes ⊎ on (parent_of t taken) taken.part
 GoesOnTo on t (Calls helper arguments caller) = ⊥

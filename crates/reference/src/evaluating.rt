@@ -3,7 +3,7 @@
 
 ghost use Rattle.std.specs.Prelude.{◌≡◌, ◌↔◌, ◌<◌, ◌≤◌, List, Vec, ◌⊎◌, ◌∷◌, ◌++◌, [], map, Contains, true, false, Ok, Err};
 ghost use Rattle.std.specs.declared.alloc.Global.{Global};
-ghost use Rattle.machine_model.specs.Job.{with_state};
+ghost use Rattle.machine_model.specs.JobState.{with_state};
 ghost use Rattle.task_trees.specs.Answer.{RootComes, spent_in};
 ghost use Rattle.task_trees.specs.Eval.{Finished, root, state_with};
 ghost use Rattle.reference.specs.Records.{program_of, state_of, task_of};
@@ -110,7 +110,7 @@ fn advance(
     };
     let state = state_of(&task, bytes);
     match effect(alloc, program, programs, state)? {
-        StepOutcome::Goes(state) => path.push(with_state(task, state))?,
+        StepOutcome::Continues(state) => path.push(with_state(task, state))?,
         StepOutcome::Ends(r0, last) => {
             let ending = ending_of(alloc, &task, &last, r0)?;
             done.push(FinishedTask {

@@ -67,7 +67,7 @@ impl<'a> ByHand<'a> {
 
 impl Spawner for ByHand<'_> {
     ghost use Rattle.std.specs.Prelude.{◌≡◌, map};
-    ghost use Rattle.machine_model.specs.Job.{entries_of};
+    ghost use Rattle.machine_model.specs.JobState.{entries_of};
     ghost use Rattle.verifier.specs.Checked.{program_of};
 
     ghost entries = { λ hand. entries_of (map program_of hand.known.now.programs.items) };

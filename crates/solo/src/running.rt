@@ -5,7 +5,7 @@ ghost use Rattle.machine_model.specs.Value.{Registers};
 ghost use Rattle.helpers.specs.Table.{job_table};
 ghost use Rattle.helpers.specs.declared.spawner.SpawnRecord.{SpawnRecord};
 ghost use Rattle.verifier.specs.Checked.{program_of};
-ghost use Rattle.interpreter.specs.Behind.{AreBehind, IsCovered, at_slot, state_of};
+ghost use Rattle.interpreter.specs.Representation.{RepresentsTask, IsCovered, at_slot, state_of};
 ghost use Rattle.solo.specs.Through.{GoesThrough, RunsAlone};
 
 use crate::listening::Listener;
@@ -35,7 +35,7 @@ pub fn run_to_end<S: Spawner, L: Listener>(
     requires own { code.now.helpers ≡ job_table }
     requires covered { IsCovered code.now (at_slot frame.old 0) part.old credit.old }
     requires takes_any { (s : S) (child : SpawnRecord) → S.asks s child }
-    ensures alone { (registers : Registers) → AreBehind code.now (at_slot frame.old 0) registers →
+    ensures alone { (registers : Registers) → RepresentsTask code.now (at_slot frame.old 0) registers →
         RunsAlone (program_of code.now) (S.entries spawner.old)
         (state_of (at_slot frame.old 0) part.old credit.old registers)
         (λ asked. GoesThrough S.spawns part.old.base spawner.old asked spawner.new) result

@@ -8,7 +8,7 @@ use Rattle.std.proofs.lemmas.List.Elements.{All-nil, All-cons, All-head, All-tai
 use Rattle.std.proofs.lemmas.List.Sorted.{IsPermutation-refl, IsPermutation-sym, IsPermutation-trans, All-permutation, Contains-permutation, sum_by-IsPermutation}
 use Rattle.std.proofs.lemmas.List.Sums.{sum_by-cons}
 use Rattle.machine_model.specs.Machine.{Program}
-use Rattle.machine_model.specs.Job.{Job, Task, Member, Live, Ended, Ending, Move, start, step, run, base_of, size_of, spent_by, AreTiles, IsComplete}
+use Rattle.machine_model.specs.JobState.{JobState, Task, Member, Live, Ended, Ending, Move, start, step, run, base_of, size_of, spent_by, AreTiles, IsComplete}
 use Rattle.task_trees.specs.Eval.{Finished, Eval, MembersCome, JobComes, root}
 use Rattle.task_trees.specs.Answer.{RootComes, NoRefusals, ended_in, joined, spent_in, HasAnswer}
 use Rattle.machine_model.proofs.Tiles.{tiles_step}
@@ -123,7 +123,7 @@ owned_by buffer ms at n (Ended e) over inside there low high =
     )
 
 -- a complete job whose ended tasks are these has their answer
-pub answers : (size : ℕ) (j : Job) (fs : List Finished) → length j.buffer ≡ size → AreTiles j.tasks (length j.buffer) → IsComplete j →
+pub answers : (size : ℕ) (j : JobState) (fs : List Finished) → length j.buffer ≡ size → AreTiles j.tasks (length j.buffer) → IsComplete j →
     IsPermutation (ended_in j.buffer j.tasks) fs → HasAnswer size j fs
 answers size j fs long tiles over same = record {
   long = long;
@@ -151,22 +151,22 @@ answers size j fs long tiles over same = record {
 -- ---- a run
 
 -- what a run without refusals leads to comes from what its first job comes to
-record Back (programs : List Program) (j k : Job) (ys : List Finished) : Type 0 where
+record Back (programs : List Program) (j k : JobState) (ys : List Finished) : Type 0 where
   pub result : List Finished
   pub comes : JobComes programs j result
   pub same : IsPermutation result ys
 
 -- what a chain gives comes from a value in its middle
-middle : (o : Option Job) (f : Job → Option Job) (k : Job) → option_and_then f o ≡ Some k → (mid : Job) × (o ≡ Some mid) × (f mid ≡ Some k)
+middle : (o : Option JobState) (f : JobState → Option JobState) (k : JobState) → option_and_then f o ≡ Some k → (mid : JobState) × (o ≡ Some mid) × (f mid ≡ Some k)
 middle None f k is = cc
 middle (Some mid) f k is = (mid, refl, is)
 
-run_back : (programs : List Program) (j k : Job) (moves : List Move) (ys : List Finished) → run programs j moves ≡ Some k → NoRefusals moves →
+run_back : (programs : List Program) (j k : JobState) (moves : List Move) (ys : List Finished) → run programs j moves ≡ Some k → NoRefusals moves →
     AreTiles j.tasks (length j.buffer) → JobComes programs k ys → Back programs j k ys × AreTiles k.tasks (length k.buffer)
 run_back programs j k [] ys is refused tiles a =
     let e : k ≡ j = cc in (
-      record { result = ys; comes = subst (λ (i : Job). JobComes programs i ys) e a; same = IsPermutation-refl ys },
-      subst (λ (i : Job). AreTiles i.tasks (length i.buffer)) (sym e) tiles,
+      record { result = ys; comes = subst (λ (i : JobState). JobComes programs i ys) e a; same = IsPermutation-refl ys },
+      subst (λ (i : JobState). AreTiles i.tasks (length i.buffer)) (sym e) tiles,
     )
 run_back programs j k (m ∷ ms) ys is refused tiles a =
     let through = middle (step programs j m.number m.refuses) (λ mid. run programs mid ms) k is in
@@ -195,20 +195,20 @@ start_tiles m count base size = record {
 }
 
 -- a run keeps the length of the buffer
-tiled_run : (programs : List Program) (j k : Job) (moves : List Move) → run programs j moves ≡ Some k → AreTiles j.tasks (length j.buffer) →
+tiled_run : (programs : List Program) (j k : JobState) (moves : List Move) → run programs j moves ≡ Some k → AreTiles j.tasks (length j.buffer) →
     length k.buffer ≡ length j.buffer
-tiled_run programs j k [] is tiles = let e : k ≡ j = cc in ap (λ (i : Job). length i.buffer) e
+tiled_run programs j k [] is tiles = let e : k ≡ j = cc in ap (λ (i : JobState). length i.buffer) e
 tiled_run programs j k (m ∷ ms) is tiles =
     let through = middle (step programs j m.number m.refuses) (λ mid. run programs mid ms) k is in
     let tiled = tiles_step programs j through.0 m.number m.refuses through.1 tiles in
     tiled_run programs through.0 k ms through.2 (subst (λ (i : ℕ). AreTiles through.0.tasks i) (sym tiled.1) tiled.0) ∙ tiled.1
 
-long_run : (programs : List Program) (credit : ℕ) (buffer : List ℕ) (last : Job) (moves : List Move) →
+long_run : (programs : List Program) (credit : ℕ) (buffer : List ℕ) (last : JobState) (moves : List Move) →
     run programs (start credit buffer) moves ≡ Some last → length last.buffer ≡ length buffer
 long_run programs credit buffer last moves is =
     tiled_run programs (start credit buffer) last moves is (start_tiles (Live (root credit buffer)) (length buffer) refl refl)
 
-pub one_answer : (programs : List Program) (credit : ℕ) (buffer : List ℕ) (moves : List Move) (last : Job) →
+pub one_answer : (programs : List Program) (credit : ℕ) (buffer : List ℕ) (moves : List Move) (last : JobState) →
     run programs (start credit buffer) moves ≡ Some last → NoRefusals moves → IsComplete last →
     (fs : List Finished) × RootComes programs credit buffer fs × HasAnswer (length buffer) last fs
 one_answer programs credit buffer moves last is refused over =
@@ -226,7 +226,7 @@ one_answer programs credit buffer moves last is refused over =
     )
 
 -- two complete runs without refusals of one job
-pub runs_agree : (programs : List Program) (credit : ℕ) (buffer : List ℕ) (moves others : List Move) (last other : Job) →
+pub runs_agree : (programs : List Program) (credit : ℕ) (buffer : List ℕ) (moves others : List Move) (last other : JobState) →
     run programs (start credit buffer) moves ≡ Some last → NoRefusals moves → IsComplete last →
     run programs (start credit buffer) others ≡ Some other → NoRefusals others → IsComplete other →
     (last.buffer ≡ other.buffer) × (sum_by spent_by last.tasks ≡ sum_by spent_by other.tasks)

@@ -1,8 +1,8 @@
 -- What a task comes to with all that it spawns, each spawn taken.
 use Rattle.std.specs.Prelude.{◌≡◌, ℕ, zero, suc, ◌+◌, List, [], ◌∷◌, ◌++◌, length, take, drop, replicate, slice_get, false, Some}
-use Rattle.machine_model.specs.Machine.{State, Program, Effect, Goes, Ends, Spawns, Calls, Traps, effect}
-use Rattle.machine_model.specs.Job.{Task, Ending, Member, Live, Ended, Job, with_state, child_of, ending_of, entries_of, entry_registers}
-use Rattle.task_trees.specs.Solo.{Asked, Solo}
+use Rattle.machine_model.specs.Machine.{State, Program, Effect, Continues, Ends, Spawns, Calls, Traps, effect}
+use Rattle.machine_model.specs.JobState.{Task, Ending, Member, Live, Ended, JobState, with_state, child_of, ending_of, entries_of, entry_registers}
+use Rattle.task_trees.specs.Solo.{SpawnRequest, Solo}
 
 -- a task that ended, with the bytes of the range that it left
 pub record Finished : Type 0 where
@@ -20,7 +20,7 @@ parent_of t s = record (with_state t s) { children = suc t.children }
 -- What follows an effect on a task, where each spawn that passes its tests is taken. `on` says what a task whose range has these bytes
 -- comes to.
 abbrev pub Comes : (Task → List ℕ → List Finished → Type 0) → Task → List Finished → Effect → Type 0
-Comes on t result (Goes next) = on (with_state t next) next.part result
+Comes on t result (Continues next) = on (with_state t next) next.part result
 Comes on t result (Ends r0 last) = result ≡ record { ending = ending_of t last r0; bytes = last.part } ∷ []
 Comes on t result (Spawns birth taken refused) =
     (own child : List Finished) × on (parent_of t taken) taken.part own × on (child_of t taken birth) birth.bytes child × (result ≡ child ++ own)
@@ -40,7 +40,7 @@ abbrev pub Eval : List Program → Task → List ℕ → List Finished → Type 
 Eval programs t bytes result = (n : ℕ) × EvalWithin programs n t bytes result
 
 -- the child of a task that asked for this spawn and was given the number k
-abbrev pub child_at : Task → ℕ → Asked → Task
+abbrev pub child_at : Task → ℕ → SpawnRequest → Task
 child_at t k a = record {
   program = a.birth.program;
   arg = a.birth.arg;
@@ -57,7 +57,7 @@ child_at t k a = record {
 }
 
 -- what the children of a task come to, one after the other, where each spawn that it asks for is taken, and the first gets the number k
-abbrev pub ChildrenCome : List Program → Task → ℕ → List Asked → List Finished → Type 0
+abbrev pub ChildrenCome : List Program → Task → ℕ → List SpawnRequest → List Finished → Type 0
 ChildrenCome programs t k [] result = result ≡ []
 ChildrenCome programs t k (a ∷ later) result = (child others : List Finished) × (a.refused ≡ false)
     × Eval programs (child_at t k a) a.birth.bytes child × ChildrenCome programs t (suc k) later others × (result ≡ child ++ others)
@@ -66,7 +66,7 @@ ChildrenCome programs t k (a ∷ later) result = (child others : List Finished) 
 pub record SoloThenChildren (programs : List Program) (t : Task) (bytes : List ℕ) (result : List Finished) : Type 0 where
   pub program : Program
   pub there : slice_get programs t.program ≡ Some program
-  pub asked : List Asked
+  pub asked : List SpawnRequest
   pub r0 : ℕ
   pub last : State
   pub alone : Solo program (entries_of programs) (state_with t bytes) asked r0 last
@@ -85,7 +85,7 @@ MembersCome programs buffer (m ∷ ms) result =
     (own later : List Finished) × MemberComes programs buffer m own × MembersCome programs buffer ms later × (result ≡ own ++ later)
 
 -- the ended tasks of a job joined with what its live tasks come to, in the order of their numbers
-abbrev pub JobComes : List Program → Job → List Finished → Type 0
+abbrev pub JobComes : List Program → JobState → List Finished → Type 0
 JobComes programs j result = MembersCome programs j.buffer j.tasks result
 
 -- the root at its start

@@ -2,7 +2,7 @@
 use Rattle.std.specs.Prelude.{◌≡◌, ◌+◌, ℕ, List, [], Bool, true, Option, Result, Ok, Err}
 use Rattle.credit_book.specs.declared.book.Report.{Report}
 use Rattle.credit_book.specs.declared.board.Progress.{Progress}
-use Rattle.job_core.specs.Admitted.{Order}
+use Rattle.job_core.specs.Admitted.{AdmittedJob}
 use Rattle.accounts.specs.Ledgers.{Ledger}
 use Rattle.sessions.specs.Grammar.{Asked}
 use Rattle.streams.specs.Answering.{Answers}
@@ -11,7 +11,7 @@ use Rattle.tcp_server.specs.declared.fault.ServeFault.{ServeFault}
 use Rattle.tcp_server.specs.declared.fault.ServeFault.TheVariants.{Socket, Connection}
 
 -- what a desk and a runner answer to a frame
-abbrev pub answers_by : {R : Type 0} → (R → ℕ → Order → Result (Unit {0}) ℕ → R → Type 0) → (R → ℕ → Progress → R → Type 0) → (R → Option (ℕ × Result Report ℕ) → R → Type 0) → Ledger × R → Result Asked ℕ → List ℕ → Ledger × R → Type 0
+abbrev pub answers_by : {R : Type 0} → (R → ℕ → AdmittedJob → Result (Unit {0}) ℕ → R → Type 0) → (R → ℕ → Progress → R → Type 0) → (R → Option (ℕ × Result Report ℕ) → R → Type 0) → Ledger × R → Result Asked ℕ → List ℕ → Ledger × R → Type 0
 answers_by starts looks takes = λ s query reply t. Answers starts looks takes s.0 s.1 query reply t.0 t.1
 
 -- all that a connection gave was served, and what was written are its replies

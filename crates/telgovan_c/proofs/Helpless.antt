@@ -1,7 +1,7 @@
 -- A program runs alone in the same way where nobody answers as where no function is registered.
 use Rattle.std.specs.Prelude.{◌≡◌, ℕ, zero, suc, List, [], Option, None, if◌then◌else◌, nat_lt, Bool, true, false, slice_index_or, ◌-◌}
 use Rattle.std.proofs.Common.{refl}
-use Rattle.machine_model.specs.Machine.{State, Program, Effect, Goes, Ends, Spawns, Calls, Traps, effect}
+use Rattle.machine_model.specs.Machine.{State, Program, Effect, Continues, Ends, Spawns, Calls, Traps, effect}
 use Rattle.machine_model.specs.Alone.{MayAnswer, EndsWithin, Follows, no_entries}
 use Rattle.virtual_machine.specs.Executes.{ExecutesOn}
 use Rattle.virtual_machine.specs.Functions.{called}
@@ -20,7 +20,7 @@ nobody {X} {g} functions empty helper arguments answer (f, there, may) =
     absurd (cc (gone, rw empty at there))
 
 follows_unanswered : (may : MayAnswer) (none : (helper : ℕ) (arguments : List ℕ) (answer : ℕ) → may helper arguments answer → ⊥) (f g : State → Type 0) (more : (s : State) → f s → g s) (r0 : ℕ) (last : State) (e : Effect) → Follows may f r0 last e → Follows unanswered g r0 last e
-follows_unanswered may none f g more r0 last (Goes next) on = more next on
+follows_unanswered may none f g more r0 last (Continues next) on = more next on
 follows_unanswered may none f g more r0 last (Ends word state) on = on
 follows_unanswered may none f g more r0 last (Spawns birth taken refused) on = on
 follows_unanswered may none f g more r0 last (Calls helper arguments caller) on = absurd (none helper arguments on.0 on.1)

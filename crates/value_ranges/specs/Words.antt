@@ -8,7 +8,7 @@ use Rattle.value_ranges.specs.declared.abs.Abs.{Abs}
 use Rattle.value_ranges.specs.declared.abs.Abs.TheVariants.{Unset, Num, Stack, Part}
 use Rattle.machine_model.specs.Value as value
 use Rattle.machine_model.specs.Memory.{load_bytes, widened}
-use Rattle.machine_model.specs.Job.{entry_registers}
+use Rattle.machine_model.specs.JobState.{entry_registers}
 use Rattle.insn_codec.specs.declared.insn.LoadKind.{LoadKind}
 use Rattle.insn_codec.specs.declared.insn.LoadKind.TheVariants as kind
 

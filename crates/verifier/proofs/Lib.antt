@@ -1,5 +1,3 @@
-pub mod StateLemmas
-pub mod ArgumentLemmas
 pub mod Options
 pub mod Arrivals
 pub mod Beginning

@@ -20,14 +20,14 @@ use Rattle.flow_graph.specs.Program.{code_of}
 use Rattle.flow_graph.specs.Refusals.{Refuses as RefusesFlow}
 use Rattle.flow_graph.proofs.OneRefusal.{one_refusal as one_flow}
 use Rattle.helpers.specs.Table.{Table}
-use Rattle.verifier.specs.declared.state.State.{State}
+use Rattle.instruction_rules.specs.declared.state.State.{State}
 use Rattle.verifier.specs.declared.refusals.Refusal.{Refusal}
 use Rattle.verifier.specs.declared.refusals.Refusal.TheVariants.{NeedTooLarge, Codec, Flow, UnsetRead, OutOfStack, OutOfPart, BadKind, PointerRange, FramePointer, NoHelper, NoMemory}
-use Rattle.verifier.specs.declared.rule.Rule.{Rule}
-use Rattle.verifier.specs.declared.rule.Rule.TheVariants as rule
-use Rattle.verifier.specs.Rules.{refusal_at}
-use Rattle.verifier.specs.States.{fault}
-use Rattle.verifier.specs.Arrive.{Subject, Arrival, Comes, arrive}
+use Rattle.instruction_rules.specs.declared.rule.Rule.{Rule}
+use Rattle.instruction_rules.specs.declared.rule.Rule.TheVariants as rule
+use Rattle.instruction_rules.specs.Rules.{refusal_at}
+use Rattle.instruction_rules.specs.States.{fault}
+use Rattle.verifier.specs.InStates.{Subject, InState, Reached, in_state}
 use Rattle.verifier.specs.Verdict.{IsFirstFaulty, IsFaulty, IsTable, IsAllowedAt}
 use Rattle.verifier.specs.Checked.{Checked}
 use Rattle.verifier.specs.Refusals.{HasFlow, RefusesBytes, RefusesCode, Refuses, IsAccepted}
@@ -95,7 +95,7 @@ not_flow code flow.NoMemory h r = r
 
 -- ---- the first fault of the states
 
-one_arrival : (a : Arrival) (s t : State) → a ≡ Comes s → a ≡ Comes t → s ≡ t
+one_arrival : (a : InState) (s t : State) → a ≡ Reached s → a ≡ Reached t → s ≡ t
 one_arrival a s t x y = cc
 
 one_rule : (o : Option Rule) (m n : Rule) → o ≡ Some m → o ≡ Some n → m ≡ n
@@ -110,7 +110,7 @@ not_allowed p slot rule f allowed = some_none (fault p.need p.helpers f.insn f.s
 same_rule : (p : Subject) (slot : ℕ) (m n : Rule) → IsFaulty p slot m → IsFaulty p slot n → m ≡ n
 same_rule p slot m n x y =
     let insn : x.insn ≡ y.insn = one_some (insn_at p.code slot) x.insn y.insn x.there y.there in
-    let state : x.state ≡ y.state = one_arrival (arrive p slot) x.state y.state x.arrives y.arrives in
+    let state : x.state ≡ y.state = one_arrival (in_state p slot) x.state y.state x.arrives y.arrives in
     one_rule (fault p.need p.helpers y.insn y.state) m n
     (subst (λ (s : State). fault p.need p.helpers y.insn s ≡ Some m) state (subst (λ (i : Insn). fault p.need p.helpers i x.state ≡ Some m) insn x.applies)) y.applies
 

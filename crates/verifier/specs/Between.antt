@@ -2,7 +2,7 @@
 use Rattle.std.specs.Prelude.{◌≡◌, ◌≢◌, ℕ, ◌==◌, Bool, false, not, List, [], ◌∷◌, slice_get, Option, Some, None}
 use Rattle.machine_model.specs.Edges.{Code}
 use Rattle.flow_graph.specs.Cycles.{IsJoint}
-use Rattle.verifier.specs.declared.state.State.{State}
+use Rattle.instruction_rules.specs.declared.state.State.{State}
 use Rattle.verifier.specs.declared.kept.Kept.{Kept}
 use Rattle.verifier.specs.Merges.{is_kept}
 use Rattle.flow_graph.specs.declared.graph.Next.{Next}

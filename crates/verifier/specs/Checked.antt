@@ -6,9 +6,9 @@ use Rattle.machine_model.specs.Paths.{AreCosts}
 use Rattle.machine_model.specs.Machine.{Program}
 use Rattle.flow_graph.specs.Faults.{fault_at}
 use Rattle.helpers.specs.Table.{Table, IsHelperTable, arity_in}
-use Rattle.verifier.specs.declared.state.State.{State}
-use Rattle.verifier.specs.Covers.{IsWithin}
-use Rattle.verifier.specs.States.{entry_state, passed, fault}
+use Rattle.instruction_rules.specs.declared.state.State.{State}
+use Rattle.instruction_rules.specs.Covers.{IsWithin}
+use Rattle.instruction_rules.specs.States.{entry_state, transferred, fault}
 
 -- a program, the helpers that it may call, what is known of the registers ahead of each slot, and the costs
 pub record Checked : Type 0 where
@@ -31,7 +31,7 @@ cost_at p slot = slice_index p.costs slot
 pub record IsSoundAt (p : Checked) (slot : ℕ) (i : Insn) (state : State) : Type 0 where
   pub allowed : fault p.need p.helpers i state ≡ None
   pub covered : (fact : Fact) (next : ℕ) → IsEdge p.code slot fact next →
-      (outer : State) × (state_at p next ≡ Some outer) × IsWithin (passed i fact state) outer
+      (outer : State) × (state_at p next ≡ Some outer) × IsWithin (transferred i fact state) outer
   pub lands : (fact : Fact) (next : ℕ) → IsEdge p.code slot fact next → Begins p.code next
   pub faultless : fault_at p.code slot ≡ None
 

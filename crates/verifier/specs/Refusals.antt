@@ -15,7 +15,7 @@ use Rattle.machine_model.specs.Paths.{IsReached, AreCosts}
 use Rattle.helpers.specs.Table.{Table}
 use Rattle.verifier.specs.declared.refusals.Refusal.{Refusal}
 use Rattle.verifier.specs.declared.refusals.Refusal.TheVariants.{NeedTooLarge, Codec, Flow, NoMemory}
-use Rattle.verifier.specs.Arrive.{Subject}
+use Rattle.verifier.specs.InStates.{Subject}
 use Rattle.verifier.specs.Checked.{Checked}
 use Rattle.verifier.specs.Verdict.{IsTable, RefusesStates}
 

@@ -7,20 +7,20 @@ ghost use Rattle.verifier.specs.declared.refusals.Refusal.{Refusal};
 ghost use Rattle.verifier.specs.declared.refusals.Refusal.TheVariants.{NoMemory};
 ghost use Rattle.verifier.specs.Checked.{Checked};
 ghost use Rattle.verifier.specs.Refusals.{Refuses, IsAccepted};
-ghost use Rattle.verifier.specs.Arrive.{Subject, Arrival, IsArrive, arrive};
+ghost use Rattle.verifier.specs.InStates.{Subject, InState, AreInStates, in_state};
 
 /// Of a program that has a graph, `arrive` solves its equation: the entry state arrives at the
 /// first slot, and elsewhere the join over all edges arrives.
-pub fn arrivals_are_joined()
+pub fn in_states_are_joined()
     ensures { (p : Subject) (order : List ℕ) → IsFlow (record { code = p.code; order = order })
-        → IsArrive p (arrive p) }
+        → AreInStates p (in_state p) }
 {}
 
 /// And nothing else solves it.
-pub fn arrivals_are_unique()
-    ensures { (p : Subject) (order : List ℕ) (other : ℕ → Arrival)
-        → IsFlow (record { code = p.code; order = order }) → IsArrive p other →
-        (s : ℕ) → s < length p.code → other s ≡ arrive p s }
+pub fn in_states_are_unique()
+    ensures { (p : Subject) (order : List ℕ) (other : ℕ → InState)
+        → IsFlow (record { code = p.code; order = order }) → AreInStates p other →
+        (s : ℕ) → s < length p.code → other s ≡ in_state p s }
 {}
 
 /// A program has one refusal at most, but for want of memory.

@@ -7,7 +7,7 @@ mod calls;
 mod held;
 mod kept;
 mod laws;
-mod passing;
+mod transfers;
 mod refusals;
 mod regions;
 mod rule;
@@ -17,7 +17,7 @@ mod states;
 mod verification;
 mod verified;
 
-pub use laws::{arrivals_are_joined, arrivals_are_unique, nothing_refused, one_refusal};
+pub use laws::{in_states_are_joined, in_states_are_unique, nothing_refused, one_refusal};
 pub use refusals::Refusal;
 pub use rule::Rule;
 pub use state::State;

@@ -1,10 +1,10 @@
 -- What workers note of the tasks that they ran, and what a report says of them.
 use Rattle.std.specs.Prelude.{◌≡◌, List, Contains, map, slice_get, Bool, true, false, Option, Some, None, ℕ}
 use Rattle.machine_model.specs.Machine.{State}
-use Rattle.machine_model.specs.Job.{entries_of}
+use Rattle.machine_model.specs.JobState.{entries_of}
 use Rattle.verifier.specs.Checked.{Checked, program_of}
 use Rattle.credit_book.specs.declared.event.TaskEnd.{TaskEnd}
-use Rattle.task_trees.specs.Solo.{Asked, Solo, entering}
+use Rattle.task_trees.specs.Solo.{SpawnRequest, Solo, entering}
 use Rattle.workers.specs.declared.noting.Note.{Note}
 
 -- A task of this program, argument and credit gives this R0 and uses so much by itself, on some part, under some answers.
@@ -12,7 +12,7 @@ pub record GivesAlone (programs : List Checked) (number arg given r0 used : ℕ)
   pub program : Checked
   pub named : slice_get programs number ≡ Some program
   pub bytes : List ℕ
-  pub asked : List Asked
+  pub asked : List SpawnRequest
   pub last : State
   pub alone : Solo (program_of program) (entries_of (map program_of programs)) (entering arg given bytes) asked r0 last
   pub used_is : used ≡ last.used

@@ -226,7 +226,7 @@ impl<'a, 'b, R: Wait> Hands<'a, 'b, R> {
 
 impl<R: Wait> Spawner for Hands<'_, '_, R> {
     ghost use Rattle.std.specs.Prelude.{◌≡◌, map, MatchResult};
-    ghost use Rattle.machine_model.specs.Job.{entries_of};
+    ghost use Rattle.machine_model.specs.JobState.{entries_of};
     ghost use Rattle.verifier.specs.Checked.{program_of};
     ghost use Rattle.workers.specs.Handing.{IsHanded};
 

@@ -1,7 +1,7 @@
 //! What workers note of the tasks that they ran, and whether a report says the same.
 
 ghost use Rattle.std.specs.Prelude.{◌≡◌, All, Contains, IfOk, IfSome, IsTrue, map};
-ghost use Rattle.machine_model.specs.Job.{entries_of};
+ghost use Rattle.machine_model.specs.JobState.{entries_of};
 ghost use Rattle.helpers.specs.declared.spawner.SpawnRecord.{SpawnRecord};
 ghost use Rattle.verifier.specs.Checked.{program_of};
 ghost use Rattle.job_core.specs.Admitted.{AreOwn};

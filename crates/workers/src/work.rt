@@ -1,12 +1,12 @@
 //! One task, from its ticket to its outcome.
 
 ghost use Rattle.std.specs.Prelude.{◌≡◌, ◌≤◌, ◌^◌, ◌<◌, ◌↔◌, IsTrue, IsSome, length, map};
-ghost use Rattle.machine_model.specs.Job.{entries_of};
+ghost use Rattle.machine_model.specs.JobState.{entries_of};
 ghost use Rattle.helpers.specs.Table.{job_table};
 ghost use Rattle.helpers.specs.declared.spawner.SpawnRecord.{SpawnRecord};
 ghost use Rattle.verifier.specs.Checked.{program_of, IsVerified};
 ghost use Rattle.job_core.specs.Admitted.{AreOwn};
-ghost use Rattle.interpreter.specs.Behind.{zeroed};
+ghost use Rattle.interpreter.specs.Representation.{zeroed};
 ghost use Rattle.solo.specs.Through.{GoesThrough};
 ghost use Rattle.workers.specs.Outcomes.{IsOutcome, IsRunBy, Suffices};
 

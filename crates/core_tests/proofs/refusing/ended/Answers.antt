@@ -1,6 +1,6 @@
 use Rattle.std.proofs.Common.{◌≡◌, ◌≤◌, ◌<◌, ◌^◌, length, arith, rules, subst, ap, ◌∙◌}
 use Rattle.verifier.specs.Checked.{cost_at}
-use Rattle.interpreter.specs.Behind.{IsCovered, entry_frame}
+use Rattle.interpreter.specs.Representation.{IsCovered, entry_frame}
 use Rattle.interpreter.proofs.Enters.{covered_entry}
 use Rattle.core_tests.proofs.refusing.ended.Goals as goal
 

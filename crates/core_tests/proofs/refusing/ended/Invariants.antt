@@ -1,4 +1,4 @@
-use Rattle.interpreter.specs.Behind.{IsCovered}
+use Rattle.interpreter.specs.Representation.{IsCovered}
 use Rattle.core_tests.proofs.refusing.ended.Given as goal
 
 abbrev pub invariant-loop : goal.invariant-loop

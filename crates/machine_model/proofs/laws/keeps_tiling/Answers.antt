@@ -1,5 +1,5 @@
 use Rattle.std.proofs.Common.{ℕ, sym, subst}
-use Rattle.machine_model.specs.Job.{AreTiles}
+use Rattle.machine_model.specs.JobState.{AreTiles}
 use Rattle.machine_model.proofs.Tiles.{tiles_step}
 use Rattle.machine_model.proofs.laws.keeps_tiling.Goals as goal
 

@@ -1,8 +1,8 @@
 use Rattle.std.proofs.Common.{rules, ◌≡◌, ◌∙◌, inl, inr, subst, ap, sym, refl, arith, false, nat_lt, ℕ, length, map}
 use Rattle.std.proofs.lemmas.Option.{slice_get_read}
 use Rattle.std.proofs.lemmas.Result.{err_from_is_err_and}
-use Rattle.machine_model.specs.Job.{Ending, Task, entries_of, with_state}
-use Rattle.machine_model.specs.Machine.{Effect, State, effect, Goes, Ends, Spawns}
+use Rattle.machine_model.specs.JobState.{Ending, Task, entries_of, with_state}
+use Rattle.machine_model.specs.Machine.{Effect, State, effect, Continues, Ends, Spawns}
 use Rattle.reference.specs.Evaluating.{ComesFar}
 use Rattle.reference.specs.declared.evaluating.Pending.{Pending}
 use Rattle.reference.proofs.FarEvaluations.{far_here, far_on, far_parent, far_child, one_more}
@@ -35,15 +35,15 @@ returns-in-Calls-clause-traps c = λ _.
     (ap (effect (program_of c.in-Some.program.now) (entries_of (map program_of c.args.programs.now))) (sym c.state_of-state.ensures)
     ∙ sym c.in_ok-state.ensures.value ∙ ap effect_of c.in-Calls.is)
 
-pub returns-in_ok-push-in-Goes-clause-goes : goal.returns-in_ok-push-in-Goes-clause-goes
-returns-in_ok-push-in-Goes-clause-goes c = λ _.
+pub returns-in_ok-push-in-Continues-clause-goes : goal.returns-in_ok-push-in-Continues-clause-goes
+returns-in_ok-push-in-Continues-clause-goes c = λ _.
     let there = program_there c.args.programs.now c.args.next.task.program c.in-Some.program.now
     (slice_get_read c.args.programs.now (length c.args.programs.now) c.args.next.task.program c.in-Some.program.now refl c.in-Some.ensures.lookup.3.0 c.in-Some.ensures.lookup.1) in
     path_on (map program_of c.args.programs.now) c.args.done.now.items c.args.path.now.items c.args.next (program_of c.in-Some.program.now) there
-    (state_of c.in-Goes.state) c.with_state.result c.push.new.self.items
+    (state_of c.in-Continues.state) c.with_state.result c.push.new.self.items
     (ap (effect (program_of c.in-Some.program.now) (entries_of (map program_of c.args.programs.now))) (sym c.state_of-state.ensures)
-    ∙ sym c.in_ok-state.ensures.value ∙ ap effect_of c.in-Goes.is)
-    c.with_state.ensures.task c.with_state.ensures.bytes c.in_ok-push-in-Goes.ensures.items
+    ∙ sym c.in_ok-state.ensures.value ∙ ap effect_of c.in-Continues.is)
+    c.with_state.ensures.task c.with_state.ensures.bytes c.in_ok-push-in-Continues.ensures.items
 
 pub returns-in_ok-push-in-Ends-clause-goes : goal.returns-in_ok-push-in-Ends-clause-goes
 returns-in_ok-push-in-Ends-clause-goes c = λ _.
@@ -69,15 +69,15 @@ returns-in_ok-push-in-Spawns-2-clause-goes c = λ _.
     ∙ ap (λ (n : ℕ). let t : Task = record (with_state (task_of c.args.next.task) (state_of c.in-Spawns.taken)) { children = n } in t)
     (omega (arith, c.in-Some-checked_add.ensures.1))) c.with_state-in-Spawns.ensures.bytes c.in_ok-born-in-Spawns.ensures.value refl c.in_ok-push-in-Spawns.ensures.items c.in_ok-push-in-Spawns-2.ensures.items
 
-pub returns-in_ok-push-in-Goes-clause-spends : goal.returns-in_ok-push-in-Goes-clause-spends
-returns-in_ok-push-in-Goes-clause-spends c = λ _.
+pub returns-in_ok-push-in-Continues-clause-spends : goal.returns-in_ok-push-in-Continues-clause-spends
+returns-in_ok-push-in-Continues-clause-spends c = λ _.
     let pays = pays_as (program_of c.in-Some.program.now) (map program_of c.args.programs.now) (task_of c.args.next.task) c.args.next.bytes.items
-    (Goes (state_of c.in-Goes.state))
+    (Continues (state_of c.in-Continues.state))
     (ap (effect (program_of c.in-Some.program.now) (entries_of (map program_of c.args.programs.now))) (sym c.state_of-state.ensures)
-    ∙ sym c.in_ok-state.ensures.value ∙ ap effect_of c.in-Goes.is) in
+    ∙ sym c.in_ok-state.ensures.value ∙ ap effect_of c.in-Continues.is) in
     let used = ap (λ (t : Task). t.used) c.with_state.ensures.task in
     goes_spends c.args.path.now.items c.push.new.self.items c.args.done.now.items c.args.next c.with_state.result (omega (arith, pays, used))
-    c.in_ok-push-in-Goes.ensures.items
+    c.in_ok-push-in-Continues.ensures.items
 
 pub returns-in_ok-push-in-Ends-clause-spends : goal.returns-in_ok-push-in-Ends-clause-spends
 returns-in_ok-push-in-Ends-clause-spends c = λ _.
@@ -135,17 +135,17 @@ returns-in_err-born-in-Spawns-clause-far c = λ is.
     far_here (map program_of c.args.programs.now) (task_of c.args.next.task) c.args.next.bytes.items (program_of c.in-Some.program.now) there
     (inr (inr (subst (λ (e : Effect). BearsFar (task_of c.args.next.task) false e) (sym is) (inl far))))
 
-pub returns-in_ok-push-in-Goes-clause-onward : goal.returns-in_ok-push-in-Goes-clause-onward
-returns-in_ok-push-in-Goes-clause-onward c = λ _ q in_it.
+pub returns-in_ok-push-in-Continues-clause-onward : goal.returns-in_ok-push-in-Continues-clause-onward
+returns-in_ok-push-in-Continues-clause-onward c = λ _ q in_it.
     let there = program_there c.args.programs.now c.args.next.task.program c.in-Some.program.now
     (slice_get_read c.args.programs.now (length c.args.programs.now) c.args.next.task.program c.in-Some.program.now refl c.in-Some.ensures.lookup.3.0 c.in-Some.ensures.lookup.1) in
     one_more c.args.path.now.items c.push.new.self.items c.with_state.result q
     (λ (x : Pending). ComesFar (map program_of c.args.programs.now) (task_of x.task) x.bytes.items
     → ComesFar (map program_of c.args.programs.now) (task_of c.args.next.task) c.args.next.bytes.items)
-    c.in_ok-push-in-Goes.ensures.items
-    (far_on (map program_of c.args.programs.now) (task_of c.args.next.task) c.args.next.bytes.items (program_of c.in-Some.program.now) there (state_of c.in-Goes.state) c.with_state.result
+    c.in_ok-push-in-Continues.ensures.items
+    (far_on (map program_of c.args.programs.now) (task_of c.args.next.task) c.args.next.bytes.items (program_of c.in-Some.program.now) there (state_of c.in-Continues.state) c.with_state.result
     (ap (effect (program_of c.in-Some.program.now) (entries_of (map program_of c.args.programs.now))) (sym c.state_of-state.ensures)
-    ∙ sym c.in_ok-state.ensures.value ∙ ap effect_of c.in-Goes.is) c.with_state.ensures.task c.with_state.ensures.bytes) in_it
+    ∙ sym c.in_ok-state.ensures.value ∙ ap effect_of c.in-Continues.is) c.with_state.ensures.task c.with_state.ensures.bytes) in_it
 
 pub returns-in_ok-push-in-Spawns-2-clause-onward : goal.returns-in_ok-push-in-Spawns-2-clause-onward
 returns-in_ok-push-in-Spawns-2-clause-onward c = λ _ q in_it.

@@ -2,7 +2,7 @@ use Rattle.std.proofs.Common.{◌≡◌, ◌∙◌, ◌++◌, ◌∷◌, arith, 
 use Rattle.std.proofs.lemmas.List.{nil_from_length}
 use Rattle.std.proofs.lemmas.List.Elements.{Contains-append_left, Contains-push}
 use Rattle.std.proofs.lemmas.Result.{err_from_is_err_and}
-use Rattle.machine_model.specs.Job.{Task}
+use Rattle.machine_model.specs.JobState.{Task}
 use Rattle.task_trees.specs.Eval.{root}
 use Rattle.std.specs.declared.alloc.Global.{Global}
 use Rattle.task_trees.specs.Answer.{RootComes}

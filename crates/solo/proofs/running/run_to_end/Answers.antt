@@ -1,5 +1,5 @@
 use Rattle.std.proofs.Common.{◌∙◌, refl, arith}
-use Rattle.interpreter.specs.Behind.{at_slot, state_of}
+use Rattle.interpreter.specs.Representation.{at_slot, state_of}
 use Rattle.interpreter.specs.Stretch.{spent_on}
 use Rattle.solo.specs.Through.{GoesThrough}
 use Rattle.solo.proofs.OwnTable.{own_table}

@@ -1,6 +1,6 @@
 use Rattle.std.proofs.Common.{◌≡◌, ◌-◌}
 use Rattle.machine_model.specs.Value.{Registers}
-use Rattle.interpreter.specs.Behind.{AreBehind, IsCovered, at_slot, state_of}
+use Rattle.interpreter.specs.Representation.{RepresentsTask, IsCovered, at_slot, state_of}
 use Rattle.solo.specs.Through.{GoesThrough}
 use Rattle.solo.proofs.SoloRunning.{IsUnderWay}
 use Rattle.solo.proofs.running.run_to_end.Given as goal
@@ -10,7 +10,7 @@ invariant-loop-next g l = record {
   covered : IsCovered l.code (at_slot l.frame l.slot) l.part l.credit;
   base : l.part.base ≡ l.fn.part.base;
   entries : g.S.Spawner.entries l.spawner ≡ g.S.Spawner.entries l.fn.spawner;
-  way : (registers : Registers) → AreBehind l.code (at_slot l.fn.frame 0) registers →
+  way : (registers : Registers) → RepresentsTask l.code (at_slot l.fn.frame 0) registers →
       IsUnderWay l.code (g.S.Spawner.entries l.fn.spawner) (state_of (at_slot l.fn.frame 0) l.fn.part l.fn.credit registers)
       (λ asked. GoesThrough g.S.Spawner.spawns l.fn.part.base l.fn.spawner asked l.spawner)
       (at_slot l.frame l.slot) l.part l.credit;

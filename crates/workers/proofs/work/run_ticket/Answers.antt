@@ -1,6 +1,6 @@
 use Rattle.std.proofs.Common.{◌≡◌, ◌∙◌, ◌≤◌, ◌<◌, ◌^◌, ap, arith, length, refl}
 use Rattle.helpers.specs.Piece.{Piece}
-use Rattle.interpreter.specs.Behind.{entry_frame}
+use Rattle.interpreter.specs.Representation.{entry_frame}
 use Rattle.interpreter.specs.declared.credit.Credit.{Credit}
 use Rattle.solo.specs.Through.{GoesThrough}
 use Rattle.workers.proofs.Runs.{covered_of, alone_of}

@@ -2,7 +2,7 @@ use Rattle.std.proofs.Common.{◌≡◌, ◌<◌, ◌+◌, ◌∙◌, suc, refl,
 use Rattle.std.proofs.lemmas.Option.{get_or_from_slice_get, slice_get_read, slice_get_within}
 use Rattle.std.proofs.lemmas.List.{get_or-replicate, length-replicate, set-set, take-replicate}
 use Rattle.verifier.specs.Checked.{Checked}
-use Rattle.interpreter.specs.Behind.{IsCovered}
+use Rattle.interpreter.specs.Representation.{IsCovered}
 use Rattle.job_core.specs.Keeping.{kept_of}
 use Rattle.job_core.proofs.Simulates.{live_at, skipped, unknown}
 use Rattle.job_core.specs.declared.tasks.Stepped.TheVariants as stepped
