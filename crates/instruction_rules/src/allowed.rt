@@ -15,6 +15,7 @@ use crate::rule::Rule;
 use crate::state::State;
 use helpers::HelperTable;
 use insn_codec::{Insn, LoadKind, Register, Size};
+use machine_model::memory::{load_bytes, store_bytes};
 use value_ranges::{Abs, Reach, compute, loaded};
 
 /// The fault of a register that is read unset.
@@ -101,30 +102,6 @@ pub(crate) fn access_fault(need: u32, abs: Abs, offset: i16, count: u64) -> Opti
     }
 }
 
-/// How many bytes a store writes.
-fn store_bytes(size: Size) -> u64
-    ensures { result ≡ store_bytes size }
-{
-    match size {
-        Size::Byte => 1,
-        Size::Half => 2,
-        Size::Word => 4,
-        Size::Double => 8,
-    }
-}
-
-/// How many bytes a load reads.
-fn load_bytes(kind: LoadKind) -> u64
-    ensures { result ≡ load_bytes kind }
-{
-    match kind {
-        LoadKind::Byte | LoadKind::SignedByte => 1,
-        LoadKind::Half | LoadKind::SignedHalf => 2,
-        LoadKind::Word | LoadKind::SignedWord => 4,
-        LoadKind::Double => 8,
-    }
-}
-
 /// What an instruction leaves in its destination, unless it is refused.
 fn unless_refused(fault: Option<Rule>, left: Abs) -> Result<Abs, Rule>
     ensures { result ≡ judged fault left }
@@ -171,7 +148,7 @@ fn load(need: u32, base: Abs, offset: i16, kind: LoadKind, to: Register) -> Resu
         ≡ judged (first (access_fault need base offset (load_bytes kind)) (write_fault to))
         (loaded kind) }
 {
-    match access_fault(need, base, offset, load_bytes(kind)) {
+    match access_fault(need, base, offset, load_bytes(kind) as u64) {
         Some(rule) => Err(rule),
         None => leave_in(to, loaded(kind)),
     }
@@ -181,7 +158,7 @@ fn load(need: u32, base: Abs, offset: i16, kind: LoadKind, to: Register) -> Resu
 fn store(need: u32, base: Abs, offset: i16, size: Size) -> Result<Abs, Rule>
     ensures { result ≡ judged (access_fault need base offset (store_bytes size)) Abs.Unset }
 {
-    nothing_unless_refused(access_fault(need, base, offset, store_bytes(size)))
+    nothing_unless_refused(access_fault(need, base, offset, store_bytes(size) as u64))
 }
 
 /// A store of a register leaves nothing, if it is allowed.
@@ -195,7 +172,7 @@ fn store_register(need: u32, base: Abs, offset: i16, size: Size, src: Abs) -> Re
     if let Some(rule) = unset_fault(&src) {
         return Err(rule);
     }
-    match access_fault(need, base, offset, store_bytes(size)) {
+    match access_fault(need, base, offset, store_bytes(size) as u64) {
         Some(rule) => Err(rule),
         None => nothing_unless_refused(number_fault(&src)),
     }
@@ -300,12 +277,7 @@ fn call(need: u32, helpers: &HelperTable, state: &State, helper: u32) -> Result<
 /// What the instruction leaves in its destination, or the rule of the lowest number that it breaks
 /// where the registers are so.
 #[inline(always)]
-pub(crate) fn judge(
-    need: u32,
-    helpers: &HelperTable,
-    insn: &Insn,
-    state: &State,
-) -> Result<Abs, Rule>
+pub fn judge(need: u32, helpers: &HelperTable, insn: &Insn, state: &State) -> Result<Abs, Rule>
     ensures { result
         ≡ judged (fault need helpers.now insn.now state.now) (left_by insn.now state.now) }
 {

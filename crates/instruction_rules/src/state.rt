@@ -17,7 +17,7 @@ pub struct State {
 
 impl State {
     /// What is known at a task's start, in a program that needs so many bytes.
-    pub(crate) fn entry(need: u32) -> State
+    pub fn entry(need: u32) -> State
         requires { need ≤ 65536 }
         ensures { result ≡ entry_state need }
     {
@@ -56,7 +56,7 @@ impl State {
     }
 
     /// What is known of the operand: an imm is one number.
-    pub(crate) fn operand(&self, operand: &Operand) -> Abs
+    pub fn operand(&self, operand: &Operand) -> Abs
         ensures { result ≡ operand_at self.now operand.now }
     {
         match *operand {
@@ -66,14 +66,14 @@ impl State {
     }
 
     /// One register changes.
-    pub(crate) fn set(&mut self, register: Register, abs: Abs)
+    pub fn set(&mut self, register: Register, abs: Abs)
         ensures { self.new ≡ with_abs self.old register abs }
     {
         self.registers[register.number() as usize] = abs;
     }
 
     /// The operands of a conditional jump change, where they are registers.
-    pub(crate) fn set_operands(&mut self, dst: Register, src: &Operand, left: Abs, right: Abs)
+    pub fn set_operands(&mut self, dst: Register, src: &Operand, left: Abs, right: Abs)
         ensures { self.new ≡ refined_state self.old dst src.now (left, right) }
     {
         self.set(dst, left);
@@ -84,7 +84,7 @@ impl State {
 
     /// A call leaves its answer, and the arguments unset.
     #[tactic(auto, using(crate::proofs::StateLemmas::called))]
-    pub(crate) fn set_answer(&mut self, answer: Abs)
+    pub fn set_answer(&mut self, answer: Abs)
         ensures { self.new ≡ called_state self.old answer }
     {
         self.registers[0] = answer;
@@ -104,7 +104,7 @@ impl State {
     }
 
     /// Another way leads here.
-    pub(crate) fn join(&mut self, other: &State)
+    pub fn join(&mut self, other: &State)
         ensures { self.new ≡ joined_state self.old other.now }
     {
         for number in 0u8..11 {

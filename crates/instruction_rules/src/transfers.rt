@@ -22,10 +22,10 @@ fn refine_operands(state: &mut State, insn: &Insn, taken: bool, dst: Register, s
     state.set_operands(dst, src, left, right);
 }
 
-/// A state becomes what is known behind an instruction, on its edge for a jump that is taken or on
-/// another.
+/// The transfer function of an instruction: the state becomes what is known after it, on the edge of
+/// a jump that is taken or on another edge.
 #[inline(always)]
-pub(crate) fn transfer(state: &mut State, insn: &Insn, taken: bool, left: &Abs)
+pub fn transfer(state: &mut State, insn: &Insn, taken: bool, left: &Abs)
     requires { left.now ≡ left_by insn.now state.old }
     ensures { state.new ≡ transferred insn.now (if taken then Taken else NotTaken) state.old }
 {

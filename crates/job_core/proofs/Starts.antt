@@ -155,12 +155,6 @@ pub entries_all : (programs : List Checked) (i : ℕ) (entries : List Entry) →
 entries_all programs i entries e are =
     subst (λ ps. AreEntries ps entries) (ap (λ n. take n programs) e ∙ take-length programs) are
 
-pub entry_is : (p : Checked) (cost need : ℕ) → cost ≡ cost_at p 0 → need ≡ p.need →
-    let entry : Entry = record { cost = cost; need = need } in entry ≡ entry_of (program_of p)
-entry_is p cost need e f =
-    ap (λ c. let entry : Entry = record { cost = c; need = need } in entry) e
-    ∙ ap (λ n. let entry : Entry = record { cost = cost_at p 0; need = n } in entry) f
-
 take_past : {X : Type 0} (xs : List X) (i : ℕ) → length xs ≤ i → take i xs ≡ xs
 take_past [] zero le = refl
 take_past [] (suc i) le = refl

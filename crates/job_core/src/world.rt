@@ -11,7 +11,7 @@ use crate::room::room_of;
 use crate::tasks::{Stepped, Tasks};
 use crate::totals::{Totals, used_by_live};
 use credit_book::{Board, Book, Report};
-use helpers::{Entry, Part};
+use helpers::Part;
 use refusal::NoMemory;
 use std::alloc::Global;
 use std::marker::Model;
@@ -56,11 +56,7 @@ impl World {
         } = job;
         let mut entries = Vec::new(alloc);
         for program in &programs {
-            let need = program.need();
-            entries.push(Entry {
-                cost: program.cost_at(0),
-                need,
-            })?;
+            entries.push(program.entry())?;
         }
         let (_, post, _) = Board::open(alloc, 0, credit)?;
         let (book, ticket) = Book::open(alloc, post, Part::whole(buffer))?;

@@ -25,7 +25,7 @@ use Rattle.verifier.specs.declared.refusals.Refusal.{Refusal}
 use Rattle.verifier.specs.declared.refusals.Refusal.TheVariants.{NeedTooLarge, Codec, Flow, UnsetRead, OutOfStack, OutOfPart, BadKind, PointerRange, FramePointer, NoHelper, NoMemory}
 use Rattle.instruction_rules.specs.declared.rule.Rule.{Rule}
 use Rattle.instruction_rules.specs.declared.rule.Rule.TheVariants as rule
-use Rattle.instruction_rules.specs.Rules.{refusal_at}
+use Rattle.verifier.specs.RefusalCodes.{refusal_at}
 use Rattle.instruction_rules.specs.States.{fault}
 use Rattle.verifier.specs.InStates.{Subject, InState, Reached, in_state}
 use Rattle.verifier.specs.Verdict.{IsFirstFaulty, IsFaulty, IsTable, IsAllowedAt}

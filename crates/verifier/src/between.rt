@@ -12,10 +12,9 @@ ghost use Rattle.verifier.specs.Survey.{subject_of};
 ghost use Rattle.verifier.specs.Verdict.{IsAllowedAt};
 
 use crate::kept::Kept;
-use instruction_rules::transfer;
-use instruction_rules::State;
-use crate::states::{Visited, Survey, visit_again};
+use crate::states::{Survey, Visited, visit_again};
 use flow_graph::{Graph, Next};
+use instruction_rules::{State, transfer};
 use refusal::NoMemory;
 use std::alloc::Global;
 

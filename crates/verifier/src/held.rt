@@ -6,9 +6,8 @@ ghost use Rattle.instruction_rules.specs.Joining.{joined_into};
 ghost use Rattle.instruction_rules.specs.Judged.{left_by};
 ghost use Rattle.instruction_rules.specs.States.{joined_state, transferred};
 
-use instruction_rules::transfer;
-use instruction_rules::State;
 use insn_codec::Insn;
+use instruction_rules::{State, transfer};
 use refusal::NoMemory;
 use std::alloc::Global;
 use std::marker::Model;
@@ -54,8 +53,8 @@ impl Held {
         transfer(&mut self.state, insn, taken, left);
     }
 
-    /// The state comes to a place, besides what came before. The box that is needed no longer
-    /// serves a later copy.
+    /// Joins the state into the one at a place. A box that is no longer needed is reused for the next
+    /// copy.
     #[inline(always)]
     pub(crate) fn join_into(self, place: &mut Option<Held>, boxes: &mut Boxes)
         ensures { place.new ≡ joined_into place.old self }

@@ -1,4 +1,5 @@
-//! What arrives at each slot, along a program's order.
+//! The in-state of each slot: a dataflow analysis that visits a program's instructions in an order in
+//! which each edge leads to a later place.
 
 ghost use Rattle.std.specs.Prelude.{◌≡◌, ◌≢◌, ℕ, ◌+◌, ◌<◌, ◌≤◌, length, slice_index, slice_index_or, suc, Option, Some, None, true, IfOk, OnOk, MatchResult, if◌then◌else◌};
 ghost use Rattle.machine_model.specs.Edges.{Begins, insn_at, leads_at, Always, NotTaken, Taken};
@@ -17,17 +18,15 @@ ghost use Rattle.verifier.specs.Merges.{is_kept};
 ghost use Rattle.verifier.specs.Sources.{IsLinked, IsNextSource};
 ghost use Rattle.verifier.specs.Survey.{subject_of, IsRegionThere, IsSurveyed};
 
-use instruction_rules::judge;
 use crate::held::{Boxes, Held};
 use crate::kept::Kept;
 use crate::refusals::Refusal;
 use crate::regions::region_there;
-use instruction_rules::Rule;
 use crate::sources::Sources;
-use instruction_rules::State;
 use flow_graph::{Graph, Next};
 use helpers::HelperTable;
 use insn_codec::Insn;
+use instruction_rules::{Rule, State, judge};
 use predecoding::Region;
 use refusal::NoMemory;
 use std::alloc::Global;
@@ -48,7 +47,7 @@ pub(crate) struct Survey<'a> {
     pub(crate) graph: &'a Graph,
 }
 
-/// An instruction that is passed: its slot, where it leads, and what it leaves in its destination.
+/// An instruction that was visited: its slot, where it leads, and what it leaves in its destination.
 #[derive(Clone, Copy)]
 pub(crate) struct Visited<'a> {
     pub(crate) from: u32,
@@ -57,7 +56,7 @@ pub(crate) struct Visited<'a> {
     pub(crate) left: Abs,
 }
 
-/// The state at a place, which stays there if it is needed further.
+/// The state at a place: a copy if the place keeps it, else the state itself.
 #[inline(always)]
 fn take_or_copy(
     boxes: &mut Boxes,
@@ -76,8 +75,8 @@ fn take_or_copy(
     }
 }
 
-/// What the instruction at a slot passes on along one edge comes to another slot, besides what came
-/// before. Its state stays if it is needed further.
+/// Joins the state that leaves a visited instruction along one edge into the in-state of `to`. The
+/// visited slot keeps its own state if `keep`.
 fn propagate_edge(
     boxes: &mut Boxes,
     states: &mut [Option<Held>],
@@ -96,7 +95,7 @@ fn propagate_edge(
         → slice_index_or states.new s None ≡ slice_index_or states.old s None) }
     ensures from { OnOk result (slice_index_or states.new visited.now.from None
         ≡ if keep then slice_index_or states.old visited.now.from None else None) }
-    ensures joined_in_state { OnOk result ((state : State)
+    ensures joined { OnOk result ((state : State)
         → Some state ≡ slice_index_or states.old visited.now.from None →
         in_state_of (slice_index_or states.new to None)
         ≡ joined_in_state (in_state_of (slice_index_or states.old to None))
@@ -110,7 +109,7 @@ fn propagate_edge(
     Ok(())
 }
 
-/// What the instruction at a slot passes on comes to another slot along each edge that leads there.
+/// Joins what leaves a visited instruction along each edge to `to` into the in-state of `to`.
 #[inline(always)]
 fn propagate_edges(
     boxes: &mut Boxes,
@@ -133,7 +132,7 @@ fn propagate_edges(
         → slice_index_or states.new s None ≡ slice_index_or states.old s None) }
     ensures from { OnOk result (slice_index_or states.new visited.now.from None
         ≡ if keep then slice_index_or states.old visited.now.from None else None) }
-    ensures joined_in_state { OnOk result ((state : State)
+    ensures joined { OnOk result ((state : State)
         → Some state ≡ slice_index_or states.old visited.now.from None →
         in_state_of (slice_index_or states.new to None)
         ≡ joined_in_state (joined_in_state (joined_in_state (in_state_of (slice_index_or states.old to None))
@@ -160,8 +159,8 @@ fn propagate_edges(
     }
 }
 
-/// What the instruction at a slot passes on comes to another slot, which takes it next. The state
-/// at the first stays as long as it is needed.
+/// Propagates from a visited slot to `to`, whose next source it is. The visited slot keeps its state
+/// as long as another slot needs it.
 #[inline(always)]
 fn propagate_to(
     boxes: &mut Boxes,
@@ -218,7 +217,7 @@ fn slot_at(graph: &Graph, place: usize) -> u32
     graph.order()[place]
 }
 
-/// An instruction that is passed with this state.
+/// The visit of an instruction with this in-state.
 pub(crate) fn visit_again<'a>(survey: &Survey<'a>, from: u32, state: &State) -> Visited<'a>
     requires { IsVisited (subject_of survey.now) from state.now }
     ensures from { result.from ≡ from }
@@ -241,7 +240,7 @@ pub(crate) fn visit_again<'a>(survey: &Survey<'a>, from: u32, state: &State) -> 
     }
 }
 
-/// What came to the slot at a place out of turn comes there in turn, as far as it is there.
+/// Propagates to the slot at a place from those of its sources that were visited, lowest first.
 #[inline(always)]
 fn propagate_waiting(
     boxes: &mut Boxes,
@@ -274,7 +273,7 @@ fn propagate_waiting(
     Ok(())
 }
 
-/// What the instruction at a slot passes on comes to a slot that it leads to, if it is its turn.
+/// Propagates from a visited slot to `to`, if it is the next source of `to`.
 #[inline(always)]
 fn propagate_in_turn(
     boxes: &mut Boxes,
@@ -315,8 +314,7 @@ fn propagate_in_turn(
     }
 }
 
-/// What the instruction at a slot passes on comes to the slots that it leads to, where it is its
-/// turn.
+/// Propagates from a visited slot to each slot that it leads to and whose next source it is.
 #[inline(always)]
 fn propagate(
     boxes: &mut Boxes,
@@ -355,8 +353,8 @@ fn propagate(
     }
 }
 
-/// What arrives at the slot at a place comes there, and its instruction is judged and passes it on.
-/// Tells its fault, if it has one of its own, and notes the region of its access.
+/// Visits the slot at a place: judges its instruction by its in-state, and propagates from there.
+/// Tells the instruction's fault if it has one, and notes the region of its access.
 #[inline(always)]
 fn visit(
     boxes: &mut Boxes,

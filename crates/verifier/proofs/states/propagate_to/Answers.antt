@@ -44,5 +44,5 @@ returns-clause-propagated c = λ need helpers n state h among none insn there.
     (joint_past c.args.graph.now.code c.args.graph.now.order c.args.visited.now.from c.args.to flow c.requires.joint) within
     (joint_apart c.args.graph.now.code c.args.graph.now.order c.args.visited.now.from c.args.to flow.order c.requires.joint)
     h among none insn there c.requires.joint c.requires.next c.requires.first
-    c.in_ok-propagate_edges.ensures.slots c.in_ok-propagate_edges.ensures.others c.in_ok-propagate_edges.ensures.from (c.in_ok-propagate_edges.ensures.joined_in_state state (sym there))
+    c.in_ok-propagate_edges.ensures.slots c.in_ok-propagate_edges.ensures.others c.in_ok-propagate_edges.ensures.from (c.in_ok-propagate_edges.ensures.joined state (sym there))
     c.note.ensures.first c.note.ensures.following c.note.ensures.taken c.note.ensures.edges (free c)

@@ -4,7 +4,7 @@ use Rattle.credit_book.specs.Boards.{Sign}
 use Rattle.machine_model.specs.JobState.{start}
 use Rattle.job_core.specs.Admitted.{AdmittedJob}
 use Rattle.job_core.proofs.Ledgers.{cost_some}
-use Rattle.job_core.proofs.Starts.{entries_none, entries_more, entries_past, entries_long, entry_is, opened}
+use Rattle.job_core.proofs.Starts.{entries_none, entries_more, entries_past, entries_long, opened}
 use Rattle.job_core.proofs.world.World.open.Goals as goal
 
 pub loop-program-init : goal.loop-program-init
@@ -14,11 +14,11 @@ pub loop-program-preserved : goal.loop-program-preserved
 loop-program-preserved c =
     rw (c.in_ok-push.ensures.items)
     (entries_more c.deref-program-items.result.now c.loop-program.program-index c.loop-program.entries.items c.program-item.result _
-    c.loop-program-test.true c.program-item.is c.need-need.ensures.verified
+    c.loop-program-test.true c.program-item.is c.entry.ensures.verified
     (c.job.invariant.own c.loop-program.program-index c.program-item.result
     (ap (λ ps. slice_get ps c.loop-program.program-index) (sym c.deref-program-items.ensures.value)
     ∙ slice_get_read c.deref-program-items.result.now (length c.deref-program-items.result.now) c.loop-program.program-index c.program-item.result refl c.loop-program-test.true c.program-item.is))
-    (entry_is c.program-item.result c.cost_at.result c.need-need.result c.cost_at.ensures c.need-need.ensures.need) c.loop-program.invariant)
+    c.entry.ensures.entry c.loop-program.invariant)
 
 pub invariant_of-result : goal.invariant_of-result
 invariant_of-result c =
