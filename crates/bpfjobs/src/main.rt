@@ -3,12 +3,12 @@
 #![tactic(auto)]
 
 ghost use Rattle.command_line.specs.Commands.{IsInRange};
-ghost use Rattle.pool_performing.specs.Runs.{IsOver};
+ghost use Rattle.performing.specs.Performing.{IsAlone};
+ghost use Rattle.std.specs.Prelude.{◌≤◌};
 
 mod serving;
 
 use command_line::{Command, Usage, command};
-use pool_performing::perform;
 use serving::serve;
 use std::alloc::Global;
 use std::env::Env;
@@ -19,8 +19,8 @@ use std::thread::Threads;
 use std::{env, io};
 use streams::Tap;
 
-// The status where the words are wrong.
-const USAGE: u8 = 2;
+// The status where the words can't be read.
+const UNREAD: u8 = 2;
 
 // The status where input, output or a socket fails.
 const FAILED: u8 = 3;
@@ -36,22 +36,33 @@ fn words<R: Env + AllocGlobal>(rt: &R) -> io::Result<Vec<String>> {
 
 // Prints why the words are no command, or the help that they ask for, and gives the status.
 fn explained<R: Print + Eprint>(rt: &R, usage: Usage) -> u8 {
-    match usage {
-        Usage::Refused(error) => {
-            let _ = error.print(rt);
-            if error.use_stderr() { USAGE } else { 0 }
-        }
-        Usage::NoMemory => FAILED,
+    if let Usage::Refused(error) = &usage {
+        let _ = error.print(rt);
     }
+    usage.status()
 }
 
-// Reads the input, prints the answer of a command that is over then, and gives the status.
-fn answer<R: Input + Print + Threads + Wait + Sync>(rt: &R, alloc: Global, command: Command) -> u8
-    requires { IsOver command }
+// Reads the input, prints the answer of a command that needs no thread, and gives the status. It
+// returns if the input and the output do.
+fn answer<R: Input + Print>(rt: &R, alloc: Global, command: Command) -> u8
+    requires { IsAlone command }
 {
     let mut reader = Tap::new(rt.reader());
     let mut writer = Tap::new(io::writer(rt));
-    match perform(rt, alloc, command, &mut reader, &mut writer) {
+    match performing::perform(alloc, command, &mut reader, &mut writer) {
+        Ok(status) => status,
+        Err(_) => FAILED,
+    }
+}
+
+// The same for a job that so many threads run, for which it waits.
+fn run<R: Input + Print + Threads + Wait + Sync>(rt: &R, alloc: Global, workers: u32) -> u8
+    requires { (1 ≤ workers) × (workers ≤ 16) }
+{
+    let mut reader = Tap::new(rt.reader());
+    let mut writer = Tap::new(io::writer(rt));
+    let command = Command::Run { workers };
+    match pool_performing::perform(rt, alloc, command, &mut reader, &mut writer) {
         Ok(status) => status,
         Err(_) => FAILED,
     }
@@ -70,7 +81,7 @@ where
             workers,
             sessions,
         } => serve(rt, alloc, port, workers, sessions),
-        Command::Run { workers } => answer(&rt, alloc, Command::Run { workers }),
+        Command::Run { workers } => run(&rt, alloc, workers),
         Command::Verify { need } => answer(&rt, alloc, Command::Verify { need }),
         Command::Assemble => answer(&rt, alloc, Command::Assemble),
         Command::Disassemble => answer(&rt, alloc, Command::Disassemble),
@@ -80,9 +91,9 @@ where
 
 fn main(rt: HostRuntime) -> ExitCode {
     let Ok(words) = words(&rt) else {
-        return ExitCode::from(FAILED);
+        return ExitCode::from(UNREAD);
     };
-    let status = match command(rt.alloc(), &words) {
+    let status = match command(rt.alloc(), words) {
         Ok(command) => act(rt, rt.alloc(), command),
         Err(usage) => explained(&rt, usage),
     };

@@ -15,8 +15,8 @@ use streams::Tap;
 use trial::{Asked, answer, form_of};
 use trial_line::{Request, request};
 
-// The status where the words are wrong.
-const USAGE: u8 = 2;
+// The status where the words can't be read.
+const UNREAD: u8 = 2;
 
 // The status where input or output fails, or there is no memory.
 const FAILED: u8 = 3;
@@ -32,13 +32,10 @@ fn words<R: Env + AllocGlobal>(rt: &R) -> io::Result<Vec<String>> {
 
 // Prints why the words are no request, or the help that they ask for, and gives the status.
 fn explained<R: Print + Eprint>(rt: &R, usage: Usage) -> u8 {
-    match usage {
-        Usage::Refused(error) => {
-            let _ = error.print(rt);
-            if error.use_stderr() { USAGE } else { 0 }
-        }
-        Usage::NoMemory => FAILED,
+    if let Usage::Refused(error) = &usage {
+        let _ = error.print(rt);
     }
+    usage.status()
 }
 
 // The bytes of a file; none, and a line that tells why, where it can't be read.
@@ -100,7 +97,7 @@ fn act<R: Files + Print + Eprint + AllocGlobal>(rt: &R, request: &Request<'_>) -
 
 fn main(rt: HostRuntime) -> ExitCode {
     let Ok(words) = words(&rt) else {
-        return ExitCode::from(FAILED);
+        return ExitCode::from(UNREAD);
     };
     let status = match request(rt.alloc(), &words) {
         Ok(request) => act(&rt, &request),

@@ -4,6 +4,8 @@ use Rattle.std.specs.Prelude.{pos}
 use Rattle.clap.specs.Facts.{unwrap_or_range}
 use Rattle.clap.specs.Walk.{Row, Rule, Text, action_of, nothing_held, rows_after}
 use Rattle.clap.specs.Simple.{App, Shape, argument_words, built, built_leaf, filled, help_shape, inherited, is_simple, marked_built, new_app, with_leaf_noted, subcommand_of, with_index}
+use Rattle.clap.specs.Kinds.{HasKind}
+use Rattle.clap.specs.declared.error.Error.{Error}
 use Rattle.clap.specs.Faults.{fault_of, is_simple_and_free, level_fault}
 use Rattle.clap.specs.declared.builder.action.ArgAction.TheVariants as action
 use Rattle.clap.specs.declared.builder.value_parser.ValueParser.TheVariants as vp
@@ -99,3 +101,7 @@ module _ (words : List Text) (a : App) (is : a ≡ bpfjobs_app) (none : fault_of
 
   pub entered_says : (name : Text) (rows : List Row) → subcommand_of a words ≡ Some (name, rows) → SaysCommand name rows
   entered_says name rows found = subst (On (λ p. SaysCommand p.0 p.1)) found said.1
+
+-- an error of this program's is one of its line's
+pub of_kind : (words : List Text) (a : App) (e : Error) → a ≡ bpfjobs_app → HasKind (fault_of a words) e → HasKind (fault_of bpfjobs_app words) e
+of_kind words a e is has = subst (λ b. HasKind (fault_of b words) e) is has

@@ -1,8 +1,9 @@
 -- The command that a subcommand and its matches are.
-use Rattle.std.specs.Prelude.{◌≡◌, ℕ, ◌≤◌, List, codes, Some, true}
+use Rattle.std.specs.Prelude.{◌≡◌, ◌⊎◌, ℕ, ◌≤◌, List, codes, Some, true}
 use Rattle.std.specs.Str.Parse.{IsNumeral, digits_value, without_leading_plus}
-use Rattle.clap.specs.Words.{Row, Text, kind_of, one_of, takes}
-use Rattle.clap.specs.declared.error.kind.ErrorKind.TheVariants.{OutOfMemory}
+use Rattle.clap.specs.Faults.{fault_of}
+use Rattle.clap.specs.Words.{HasKind, Row, Text, kind_of, one_of, takes}
+use Rattle.clap.specs.declared.error.kind.ErrorKind.TheVariants.{DisplayHelp, DisplayVersion, OutOfMemory}
 use Rattle.command_line.specs.declared.commands.Command.{Command}
 use Rattle.command_line.specs.declared.commands.Command.TheVariants.{Assemble, Disassemble, Verify, Play, Run, Serve}
 use Rattle.command_line.specs.declared.commands.Usage.{Usage}
@@ -42,7 +43,13 @@ IsInRange (Run workers) = (1 ≤ workers) × (workers ≤ 16)
 IsInRange (Serve port workers sessions) =
     (1 ≤ port) × (port ≤ 65535) × (1 ≤ workers) × (workers ≤ 16) × (1 ≤ sessions) × (sessions ≤ 1000000)
 
--- words that clap takes are refused for want of memory alone
+-- Words that clap takes are refused for want of memory alone. Any others are refused for that, or for a fault that clap finds in them.
 abbrev pub IsUsage : Usage → List Text → Type 0
-IsUsage (usage.Refused error) words = takes bpfjobs_app words ≡ true → kind_of error ≡ OutOfMemory
+IsUsage (usage.Refused error) words =
+    (takes bpfjobs_app words ≡ true → kind_of error ≡ OutOfMemory) × HasKind (fault_of bpfjobs_app words) error
 IsUsage usage.NoMemory words = Unit {0}
+
+-- the words ask for help, or for the version: that is no mistake
+abbrev pub AsksHelp : Usage → Type 0
+AsksHelp (usage.Refused error) = (kind_of error ≡ DisplayHelp) ⊎ (kind_of error ≡ DisplayVersion)
+AsksHelp usage.NoMemory = ⊥

@@ -38,6 +38,32 @@ pub enum Usage {
     NoMemory,
 }
 
+// The status where the words are wrong, or can't be read.
+const MISTAKEN: u8 = 2;
+
+impl Usage {
+    ghost use Rattle.std.specs.Prelude.{◌≡◌};
+    ghost use Rattle.command_line.specs.Commands.{AsksHelp};
+
+    /// The status that the program ends with: 0 where help was asked for, which clap prints on
+    /// standard output, and else 2, also for want of memory.
+    pub fn status(&self) -> u8
+        ensures help { AsksHelp self.now → result ≡ 0 }
+        ensures mistake { (AsksHelp self.now → ⊥) → result ≡ 2 }
+    {
+        match self {
+            Usage::Refused(error) => {
+                if error.use_stderr() {
+                    MISTAKEN
+                } else {
+                    0
+                }
+            }
+            Usage::NoMemory => MISTAKEN,
+        }
+    }
+}
+
 impl From<AllocError> for Usage {
     ghost use Rattle.std.specs.Prelude.{◌≡◌};
     ghost use Rattle.command_line.specs.declared.commands.Usage.TheVariants as usage;

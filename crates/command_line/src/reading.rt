@@ -52,10 +52,8 @@ fn command_of(name: &str, matches: &ArgMatches<'_>) -> Command
     }
 }
 
-/// The command that the words say, of which the first is the program's name: the subcommand and its
-/// numbers are those that clap's matches of the words give. Words that clap takes are refused only
-/// for want of memory.
-pub fn command(alloc: Global, words: &[String]) -> Result<Command, Usage>
+// The command that the words say.
+fn command_in(alloc: Global, words: &[String]) -> Result<Command, Usage>
     ensures ok { IfOk result (λ command. (name : Text) × (rows : List Row)
         × (subcommand_of bpfjobs_app (map string_bytes words.now) ≡ Some (name, rows))
         × IsCommandOf name rows command) }
@@ -70,4 +68,17 @@ pub fn command(alloc: Global, words: &[String]) -> Result<Command, Usage>
         Some((name, inner)) => Ok(command_of(name, inner)),
         None => unreachable!(),
     }
+}
+
+/// The command that the words say, of which the first is the program's name: the subcommand and its
+/// numbers are those that clap's matches of the words give. Words that clap takes are refused only
+/// for want of memory.
+pub fn command(alloc: Global, words: Vec<String>) -> Result<Command, Usage>
+    ensures ok { IfOk result (λ command. (name : Text) × (rows : List Row)
+        × (subcommand_of bpfjobs_app (map string_bytes words.items) ≡ Some (name, rows))
+        × IsCommandOf name rows command) }
+    ensures range { IfOk result (λ command. IsInRange command) }
+    ensures err { IfErr result (λ usage. IsUsage usage (map string_bytes words.items)) }
+{
+    command_in(alloc, &words)
 }

@@ -1,6 +1,6 @@
 //! The bytes that a task owns.
 
-ghost use Rattle.std.specs.Prelude.{◌≡◌, ℕ, ◌+◌, ◌-◌, ◌*◌, ◌^◌, ◌<◌, ◌≤◌, [], ◌++◌, length, take, drop, replicate, sum, vec_capacity, IfOk, OnErr};
+ghost use Rattle.std.specs.Prelude.{◌≡◌, ℕ, ◌+◌, ◌-◌, ◌*◌, ◌^◌, ◌<◌, ◌≤◌, [], ◌++◌, All, length, take, drop, replicate, sum, vec_capacity, IfOk, OnErr};
 ghost use Rattle.helpers.specs.Piece.{Piece, joined_room};
 ghost use Rattle.machine_model.specs.Memory.{bytes_at, little_bytes, little_number, load_bytes, store_bytes, widened, written};
 
@@ -51,8 +51,10 @@ impl Part {
     pub fn len(&self) -> usize
         ensures len { result ≡ length self.now.bytes }
         ensures small { self.now.base + length self.now.bytes ≤ 65536 }
+        ensures bytes { All (λ b. b < 256) self.now.bytes }
     {
-        self.bytes.len()
+        let bytes: &[u8] = &self.bytes;
+        bytes.len()
     }
 
     /// What a load gives at a place in it.

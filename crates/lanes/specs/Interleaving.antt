@@ -1,5 +1,5 @@
 -- The rule of a lane, over the tickets in it, first one first, and over what each caller has moved.
-use Rattle.std.specs.Prelude.{◌≡◌, ℕ, ◌≤◌, ◌==◌, if◌then◌else◌, List, [], ◌∷◌, ◌++◌, map, length}
+use Rattle.std.specs.Prelude.{◌≡◌, ℕ, ◌<◌, ◌≤◌, ◌==◌, if◌then◌else◌, List, [], ◌∷◌, ◌++◌, map, length}
 use mathlib.Core.Option.{some}
 use lib.ListN.{get_elem?}
 use Rattle.credit_book.specs.declared.task.Ticket.{Ticket}
@@ -41,3 +41,39 @@ pub record Interleaved (items : List Ticket) (views : List Moves) : Type 0 where
   pub whole : owner.pushed ≡ map (λ e. e.1) order ++ map task_of items
   pub each : (caller : ℕ) (v : Moves) → get_elem? views caller ≡ some v → v.taken ≡ taken_by caller order
   pub nobody_else : (caller : ℕ) → length views ≤ caller → taken_by caller order ≡ []
+
+-- At one moment, of the tickets in the lane and of what each caller has moved the rule holds, and this caller has moved this.
+pub record HasMoved (caller : ℕ) (v : Moves) : Type 0 where
+  pub items : List Ticket
+  pub views : List Moves
+  pub rule : Interleaved items views
+  pub here : get_elem? views caller ≡ some v
+
+-- the same at a moment when no ticket stands in the lane
+pub record FoundNone (caller : ℕ) (v : Moves) : Type 0 where
+  pub views : List Moves
+  pub rule : Interleaved [] views
+  pub here : get_elem? views caller ≡ some v
+
+-- the owner has put these behind those in the lane, in this order, and moved nothing else
+pub record OwnerPut (old : Moves) (tickets : List Ticket) (new : Moves) : Type 0 where
+  pub moved : new ≡ with_pushed old tickets
+  pub stands : HasMoved 0 new
+
+-- the owner has taken these, which stood in front in this order, and moved nothing else
+pub record OwnerTook (old : Moves) (tickets : List Ticket) (new : Moves) : Type 0 where
+  pub moved : new ≡ with_taken old tickets
+  pub stands : HasMoved 0 new
+
+-- so has a thief, whichever caller it is
+pub record ThiefTook (old : Moves) (tickets : List Ticket) (new : Moves) : Type 0 where
+  pub moved : new ≡ with_taken old tickets
+  pub caller : ℕ
+  pub stands : HasMoved caller new
+
+-- A thief took the ticket at the front of a lane, and those behind it, fewer than so many, came over into its own lane in their order.
+pub record StealsSome (most : ℕ) (lane own : Moves) (ticket : Ticket) (lane_after own_after : Moves) : Type 0 where
+  pub more : List Ticket
+  pub few : length more < most
+  pub left : ThiefTook lane (ticket ∷ more) lane_after
+  pub came : OwnerPut own more own_after

@@ -23,20 +23,33 @@ impl Protocol<Ticket, Moves> for InOrder {
     ghost guest = { newcomer };
 }
 
-struct Pushed;
+/// What a push tells its lane's owner.
+struct Put;
 
-impl Outcome<Ticket, Moves> for Pushed {
-    ghost use Rattle.lanes.specs.Interleaving.{with_pushed};
+impl Outcome<Ticket, Moves> for Put {
+    ghost use Rattle.lanes.specs.Interleaving.{OwnerPut};
 
-    ghost then = { λ v xs w. w ≡ with_pushed v xs };
+    ghost then = { OwnerPut };
 }
 
-struct Taken;
+/// What a pop tells its lane's owner: also that there was none, where there was none.
+struct Took;
 
-impl Outcome<Ticket, Moves> for Taken {
-    ghost use Rattle.lanes.specs.Interleaving.{with_taken};
+impl Outcome<Ticket, Moves> for Took {
+    ghost use Rattle.lanes.specs.Interleaving.{OwnerTook, FoundNone};
 
-    ghost then = { λ v xs w. w ≡ with_taken v xs };
+    ghost then = { OwnerTook };
+
+    ghost empty = { FoundNone 0 };
+}
+
+/// What a steal tells its thief.
+struct Stole;
+
+impl Outcome<Ticket, Moves> for Stole {
+    ghost use Rattle.lanes.specs.Interleaving.{ThiefTook};
+
+    ghost then = { ThiefTook };
 }
 
 type Ready = Worker<Ticket, Global, Moves, InOrder>;
@@ -87,8 +100,8 @@ pub enum Stolen {
 
 impl Lane {
     ghost use Rattle.std.specs.Prelude.{MatchResult, MatchOption, [], ◌∷◌, IfOk};
-    ghost use Rattle.crossbeam_deque.specs.Handles.{worker_view, view, stealer_deque, IsPassOf};
-    ghost use Rattle.lanes.specs.Interleaving.{with_pushed, with_taken, newcomer};
+    ghost use Rattle.crossbeam_deque.specs.Handles.{worker_view, worker_deque, view, stealer_deque, IsPassOf};
+    ghost use Rattle.lanes.specs.Interleaving.{newcomer, FoundNone, OwnerPut, OwnerTook};
     ghost use Rattle.lanes.specs.Passes.{moves, IsOwner, IsThiefOf, IsNewThief};
 
     /// A lane with no ticket.
@@ -138,28 +151,35 @@ impl Lane {
 
     /// Puts a ticket at the back, or gives it back where there is no room for it.
     pub(crate) fn put(&mut self, ticket: Ticket) -> Result<(), Ticket>
-        ensures { MatchResult result (λ _. worker_view self.new.ready
-            ≡ with_pushed (worker_view self.old.ready) (ticket ∷ []))
+        ensures same { worker_deque self.new.ready ≡ worker_deque self.old.ready }
+        ensures moved { MatchResult result
+            (λ _. OwnerPut (worker_view self.old.ready) (ticket ∷ []) (worker_view self.new.ready))
             (λ back. (back ≡ ticket) × (worker_view self.new.ready ≡ worker_view self.old.ready)) }
     {
-        self.ready.push_as::<Pushed>(ticket)
+        self.ready.push_as::<Put>(ticket)
     }
 
-    /// The ticket at the front.
+    /// The ticket at the front. `None`: there was none at one moment of the call.
     pub(crate) fn next(&mut self) -> Option<Ticket>
-        ensures { MatchOption result (worker_view self.new.ready ≡ worker_view self.old.ready)
-            (λ ticket. worker_view self.new.ready
-            ≡ with_taken (worker_view self.old.ready) (ticket ∷ [])) }
+        ensures same { worker_deque self.new.ready ≡ worker_deque self.old.ready }
+        ensures moved { MatchOption result
+            ((worker_view self.new.ready ≡ worker_view self.old.ready)
+            × FoundNone 0 (worker_view self.old.ready))
+            (λ ticket. OwnerTook (worker_view self.old.ready) (ticket ∷ [])
+            (worker_view self.new.ready)) }
     {
-        self.ready.pop_as::<Taken>()
+        self.ready.pop_as::<Took>()
     }
 
     /// Puts a ticket at the back. The ticket comes back where there is no room for it.
+    ///
+    /// A ticket that was put in stands in the lane's order of pushing, of which each caller has
+    /// taken its own: `each_once_in_order` says what that means.
     pub fn push(&mut self, pass: &mut Pass, ticket: Ticket) -> Result<(), Ticket>
         requires { IsOwner self.old pass.old }
         ensures pass { IsOwner self.new pass.new }
-        ensures moved { MatchResult result (λ _. moves pass.new
-            ≡ with_pushed (moves pass.old) (ticket ∷ []))
+        ensures moved { MatchResult result
+            (λ _. OwnerPut (moves pass.old) (ticket ∷ []) (moves pass.new))
             (λ back. (back ≡ ticket) × (moves pass.new ≡ moves pass.old)) }
     {
         let pushed = self.put(ticket);
@@ -167,12 +187,14 @@ impl Lane {
         pushed
     }
 
-    /// Takes the ticket at the front.
+    /// Takes the ticket at the front, which was pushed, and which no other caller takes. `None`: the
+    /// lane had no ticket at one moment of the call.
     pub fn take(&mut self, pass: &mut Pass) -> Option<Ticket>
         requires { IsOwner self.old pass.old }
         ensures pass { IsOwner self.new pass.new }
-        ensures moved { MatchOption result (moves pass.new ≡ moves pass.old)
-            (λ ticket. moves pass.new ≡ with_taken (moves pass.old) (ticket ∷ [])) }
+        ensures moved { MatchOption result
+            ((moves pass.new ≡ moves pass.old) × FoundNone 0 (moves pass.old))
+            (λ ticket. OwnerTook (moves pass.old) (ticket ∷ []) (moves pass.new)) }
     {
         let taken = self.next();
         pass.seen = Snapshot::of(&self.ready);
@@ -181,18 +203,18 @@ impl Lane {
 }
 
 impl Thief {
-    ghost use Rattle.std.specs.Prelude.{[], ◌∷◌, List};
-    ghost use Rattle.credit_book.specs.declared.task.Ticket.{Ticket};
-    ghost use Rattle.crossbeam_deque.specs.Handles.{view, worker_view, stealer_deque, IsPassOf};
-    ghost use Rattle.lanes.specs.Interleaving.{with_pushed, with_taken};
+    ghost use Rattle.std.specs.Prelude.{[], ◌∷◌};
+    ghost use Rattle.crossbeam_deque.specs.Handles.{view, worker_view, worker_deque, stealer_deque, IsPassOf};
+    ghost use Rattle.lanes.specs.Interleaving.{StealsSome, ThiefTook};
     ghost use Rattle.lanes.specs.Passes.{moves, IsGuest, MatchStolen};
 
-    /// Takes the ticket at the front of another worker's lane.
+    /// Takes the ticket at the front of another worker's lane, which its owner has pushed, and which
+    /// no other caller takes.
     pub fn steal(&mut self, pass: &mut Pass) -> Stolen
         requires { IsGuest self.old pass.old }
         ensures pass { IsGuest self.new pass.new }
         ensures moved { MatchStolen result (moves pass.new ≡ moves pass.old)
-            (λ ticket. moves pass.new ≡ with_taken (moves pass.old) (ticket ∷ [])) }
+            (λ ticket. ThiefTook (moves pass.old) (ticket ∷ []) (moves pass.new)) }
     {
         self.steal_on(&mut pass.seat)
     }
@@ -202,28 +224,30 @@ impl Thief {
         requires { IsPassOf (stealer_deque self.old.reach) seat.old }
         ensures pass { IsPassOf (stealer_deque self.new.reach) seat.new }
         ensures moved { MatchStolen result (view seat.new ≡ view seat.old)
-            (λ ticket. view seat.new ≡ with_taken (view seat.old) (ticket ∷ [])) }
+            (λ ticket. ThiefTook (view seat.old) (ticket ∷ []) (view seat.new)) }
     {
-        match self.reach.steal_as::<Taken>(seat) {
+        match self.reach.steal_as::<Stole>(seat) {
             Steal::Success(ticket) => Stolen::Got(ticket),
             Steal::Empty => Stolen::Empty,
             Steal::Retry => Stolen::Retry,
         }
     }
 
-    /// The ticket at the front, for a bare seat. Some of those behind it go into the thief's own
-    /// lane, in order.
+    /// The ticket at the front, for a bare seat. Some of those behind it, seven at most, go into the
+    /// thief's own lane, in order.
     pub(crate) fn steal_some(&mut self, seat: &mut Seat, own: &mut Lane) -> Stolen
         requires { IsPassOf (stealer_deque self.old.reach) seat.old }
+        ensures same { (stealer_deque self.new.reach ≡ stealer_deque self.old.reach)
+            × (worker_deque own.new.ready ≡ worker_deque own.old.ready) }
         ensures pass { IsPassOf (stealer_deque self.new.reach) seat.new }
         ensures moved { MatchStolen result
             ((view seat.new ≡ view seat.old) × (worker_view own.new.ready ≡ worker_view own.old.ready))
-            (λ ticket. (more : List Ticket) × (view seat.new ≡ with_taken (view seat.old) (ticket ∷ more))
-            × (worker_view own.new.ready ≡ with_pushed (worker_view own.old.ready) more)) }
+            (λ ticket. StealsSome 8 (view seat.old) (worker_view own.old.ready) ticket
+            (view seat.new) (worker_view own.new.ready)) }
     {
         match self
             .reach
-            .steal_batch_and_pop_as::<Global, Moves, InOrder, Taken, Pushed>(
+            .steal_batch_and_pop_as::<Global, Moves, InOrder, Stole, Put>(
                 seat,
                 &mut own.ready,
                 MOST_AT_ONCE,

@@ -1,5 +1,7 @@
 -- What a command answers, and what is left where an end fails.
-use Rattle.std.specs.Prelude.{◌≡◌, ℕ, List, ◌++◌, take}
+use Rattle.std.specs.Prelude.{◌≡◌, ◌≤◌, ◌<◌, ◌⊎◌, ◌-◌, ◌^◌, ℕ, List, ◌++◌, length, take}
+use Rattle.streams.specs.declared.fault.StreamFault.{StreamFault}
+use Rattle.streams.specs.declared.fault.StreamFault.TheVariants.{ReadFailed, WriteFailed, NoMemory}
 use Rattle.command_line.specs.declared.commands.Command.{Command}
 use Rattle.command_line.specs.declared.commands.Command.TheVariants.{Assemble, Disassemble, Verify, Play, Run, Serve}
 use Rattle.performing.specs.Jobs.{IsPlayed}
@@ -23,7 +25,14 @@ IsAnswer Play input text status = IsPlayed input text status
 IsAnswer (Run workers) input text status = ⊥
 IsAnswer (Serve port workers sessions) input text status = ⊥
 
--- nothing was written, or a beginning of the answer
-pub data IsCutShort (answers : List ℕ → ℕ → Type 0) (before : List ℕ) (after : List ℕ) : Type 0 where
-  nothing : after ≡ before → IsCutShort answers before after
-  beginning : (text : List ℕ) (status n : ℕ) → answers text status → after ≡ before ++ take n text → IsCutShort answers before after
+-- What is left where a command is given up by this. Where the reader failed, or there was no memory, nothing is written; where the writer failed
+-- all input was read, and of the answer a part is written, but not all of it.
+abbrev pub IsGivenUpBy : StreamFault → (List ℕ → ℕ → Type 0) → Type 0 → List ℕ → List ℕ → Type 0
+IsGivenUpBy ReadFailed answers over before after = after ≡ before
+IsGivenUpBy WriteFailed answers over before after =
+    over × (text : List ℕ) × (status : ℕ) × answers text status × (n : ℕ) × (n < length text) × (after ≡ before ++ take n text)
+IsGivenUpBy NoMemory answers over before after = after ≡ before
+
+-- the reader is over, or has given so many bytes
+abbrev pub IsAllRead : Type 0 → List ℕ → Type 0
+IsAllRead over input = over ⊎ (2 ^ 64 - 1 ≤ length input)

@@ -1,7 +1,7 @@
 //! A command from a source to a sink.
 
-ghost use Rattle.std.specs.Prelude.{◌≡◌, ◌≢◌, ◌⊎◌, ◌≤◌, ◌++◌, ◌-◌, ◌^◌, ℕ, List, true, false, take, length, OnOk, OnErr, IfOk, Err};
-ghost use Rattle.performing.specs.Performing.{IsAlone, IsAnswer, IsCutShort};
+ghost use Rattle.std.specs.Prelude.{◌≡◌, ◌≢◌, ◌<◌, ◌++◌, ℕ, List, true, false, take, length, is_err, OnOk, OnErr, IfOk, IfErr, Err};
+ghost use Rattle.performing.specs.Performing.{IsAllRead, IsAlone, IsAnswer, IsGivenUpBy};
 
 use crate::answer::Answer;
 use crate::code::{answer_assemble, answer_disassemble, answer_verify};
@@ -18,12 +18,13 @@ const PIECE_LEN: usize = 4096;
 pub fn read_all<R: Source>(alloc: Global, reader: &mut R) -> Result<Vec<u8>, StreamFault>
     requires { R.has_failed reader.old ≡ false }
     ensures told { IfOk result (λ bytes. R.told reader.new ≡ R.told reader.old ++ bytes.items) }
-    ensures over { IfOk result (λ bytes. (R.is_over reader.new ≡ true)
-        ⊎ (2 ^ 64 - 1 ≤ length bytes.items)) }
+    ensures over { IfOk result
+        (λ bytes. IsAllRead (R.is_over reader.new ≡ true) bytes.items) }
     ensures well { OnOk result (R.has_failed reader.new ≡ false) }
     ensures stopped { OnErr result ((input : List ℕ)
         × (R.told reader.new ≡ R.told reader.old ++ input)) }
     ensures read_failed { result ≡ Err StreamFault.ReadFailed → R.has_failed reader.new ≡ true }
+    ensures no_memory { result ≡ Err StreamFault.NoMemory → R.has_failed reader.new ≡ false }
     ensures no_other { result ≢ Err StreamFault.WriteFailed }
 {
     let mut bytes = Vec::new(alloc);
@@ -43,16 +44,16 @@ pub fn read_all<R: Source>(alloc: Global, reader: &mut R) -> Result<Vec<u8>, Str
     Ok(bytes)
 }
 
-/// Writes an answer, and gives its status.
+/// Writes an answer, and gives its status. It is refused where the writer fails, by 84: of the
+/// answer a beginning is written then, and not all.
 pub fn tell<W: Sink>(writer: &mut W, answer: &Answer) -> Result<u8, StreamFault>
     requires { W.has_failed writer.old ≡ false }
     ensures status { IfOk result (λ status. status ≡ answer.now.status) }
     ensures ok { OnOk result (W.told writer.new ≡ W.told writer.old ++ answer.now.text.items) }
-    ensures err { OnErr result ((n : ℕ)
+    ensures err { IfErr result (λ fault. (fault ≡ StreamFault.WriteFailed)
+        × (n : ℕ) × (n < length answer.now.text.items)
         × (W.told writer.new ≡ W.told writer.old ++ take n answer.now.text.items)) }
-    ensures well { OnOk result (W.has_failed writer.new ≡ false) }
-    ensures write_failed { result ≡ Err StreamFault.WriteFailed → W.has_failed writer.new ≡ true }
-    ensures no_other { result ≢ Err StreamFault.ReadFailed }
+    ensures failed { W.has_failed writer.new ≡ is_err result }
 {
     match write_all(writer, &answer.text) {
         Ok(()) => Ok(answer.status),
@@ -77,8 +78,9 @@ pub fn answer_to(alloc: Global, command: Command, input: &[u8]) -> Result<Answer
 /// Reads the whole input, writes the answer of a command that needs no thread, and gives the
 /// status: 0 answered, 1 refused.
 ///
-/// 83 where the reader failed, 84 where the writer failed, and 99 where the input or the answer
-/// found no memory. What was written is then a beginning of the answer, or nothing.
+/// 83 where the reader failed, and 99 where the input or the answer found no memory and neither end
+/// has failed: nothing is written. 84 where the writer failed, once all input was read: of the
+/// answer a beginning is written, and not all.
 pub fn perform<R: Source, W: Sink>(
     alloc: Global,
     command: Command,
@@ -90,13 +92,16 @@ pub fn perform<R: Source, W: Sink>(
     requires sink { W.has_failed writer.old ≡ false }
     ensures done { IfOk result (λ status. (input text : List ℕ)
         × (R.told reader.new ≡ R.told reader.old ++ input)
-        × ((R.is_over reader.new ≡ true) ⊎ (2 ^ 64 - 1 ≤ length input))
+        × IsAllRead (R.is_over reader.new ≡ true) input
         × IsAnswer command input text status × (W.told writer.new ≡ W.told writer.old ++ text)) }
-    ensures stopped { OnErr result ((input : List ℕ)
+    ensures stopped { IfErr result (λ fault. (input : List ℕ)
         × (R.told reader.new ≡ R.told reader.old ++ input)
-        × IsCutShort (IsAnswer command input) (W.told writer.old) (W.told writer.new)) }
+        × IsGivenUpBy fault (IsAnswer command input) (IsAllRead (R.is_over reader.new ≡ true) input)
+        (W.told writer.old) (W.told writer.new)) }
     ensures read_failed { result ≡ Err StreamFault.ReadFailed → R.has_failed reader.new ≡ true }
     ensures write_failed { result ≡ Err StreamFault.WriteFailed → W.has_failed writer.new ≡ true }
+    ensures no_memory { result ≡ Err StreamFault.NoMemory → (R.has_failed reader.new ≡ false)
+        × (W.has_failed writer.new ≡ false) }
     ensures well { OnOk result ((R.has_failed reader.new ≡ false)
         × (W.has_failed writer.new ≡ false)) }
 {

@@ -32,6 +32,16 @@ fn trim(text: &[u8]) -> &[u8]
     &text[..end]
 }
 
+// Why there are no bytes: for want of memory only where that was refused.
+fn why(error: FromHexError) -> Unread
+    ensures { (result ≡ unread.NoMemory) ↔ (error ≡ FromHexError.OutOfMemory) }
+{
+    match error {
+        FromHexError::OutOfMemory => Unread::NoMemory,
+        _ => Unread::NotHexadecimal,
+    }
+}
+
 /// The bytes, by digits in either case. Blanks and line ends behind them are dropped.
 pub fn read_hexadecimal(alloc: Global, text: &[u8]) -> Result<Vec<u8>, Unread>
     ensures ok { IfOk result (λ bytes. IsHexadecimal text.now bytes.items) }
@@ -39,7 +49,6 @@ pub fn read_hexadecimal(alloc: Global, text: &[u8]) -> Result<Vec<u8>, Unread>
 {
     match hex::decode(alloc, trim(text)) {
         Ok(bytes) => Ok(bytes),
-        Err(FromHexError::OutOfMemory) => Err(Unread::NoMemory),
-        Err(_) => Err(Unread::NotHexadecimal),
+        Err(error) => Err(why(error)),
     }
 }

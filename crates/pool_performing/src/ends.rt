@@ -1,7 +1,7 @@
 //! A command from a source to a sink.
 
-ghost use Rattle.std.specs.Prelude.{◌≡◌, ◌⊎◌, ◌≤◌, ◌++◌, ◌-◌, ◌^◌, ℕ, List, true, false, length, OnOk, OnErr, IfOk, Err};
-ghost use Rattle.performing.specs.Performing.{IsCutShort};
+ghost use Rattle.std.specs.Prelude.{◌≡◌, ◌++◌, ℕ, List, true, false, OnOk, IfOk, IfErr, Err};
+ghost use Rattle.performing.specs.Performing.{IsAllRead, IsGivenUpBy};
 ghost use Rattle.pool_performing.specs.Runs.{IsOver, IsAnswer};
 
 use crate::run::answer_run;
@@ -36,8 +36,9 @@ fn answer_of<T: Threads + Wait + Sync>(
 /// Reads the whole input, writes the answer of any command but `serve`, and gives the status: 0
 /// answered, 1 refused. A `run` waits for its threads.
 ///
-/// 83 where the reader failed, 84 where the writer failed, and 99 where the input or the answer
-/// found no memory. What was written is then a beginning of the answer, or nothing.
+/// 83 where the reader failed, and 99 where the input or the answer found no memory and neither end
+/// has failed: nothing is written. 84 where the writer failed, once all input was read: of the
+/// answer a beginning is written, and not all.
 pub fn perform<T: Threads + Wait + Sync, R: Source, W: Sink>(
     rt: &T,
     alloc: Global,
@@ -50,13 +51,16 @@ pub fn perform<T: Threads + Wait + Sync, R: Source, W: Sink>(
     requires sink { W.has_failed writer.old ≡ false }
     ensures done { IfOk result (λ status. (input text : List ℕ)
         × (R.told reader.new ≡ R.told reader.old ++ input)
-        × ((R.is_over reader.new ≡ true) ⊎ (2 ^ 64 - 1 ≤ length input))
+        × IsAllRead (R.is_over reader.new ≡ true) input
         × IsAnswer command input text status × (W.told writer.new ≡ W.told writer.old ++ text)) }
-    ensures stopped { OnErr result ((input : List ℕ)
+    ensures stopped { IfErr result (λ fault. (input : List ℕ)
         × (R.told reader.new ≡ R.told reader.old ++ input)
-        × IsCutShort (IsAnswer command input) (W.told writer.old) (W.told writer.new)) }
+        × IsGivenUpBy fault (IsAnswer command input) (IsAllRead (R.is_over reader.new ≡ true) input)
+        (W.told writer.old) (W.told writer.new)) }
     ensures read_failed { result ≡ Err StreamFault.ReadFailed → R.has_failed reader.new ≡ true }
     ensures write_failed { result ≡ Err StreamFault.WriteFailed → W.has_failed writer.new ≡ true }
+    ensures no_memory { result ≡ Err StreamFault.NoMemory → (R.has_failed reader.new ≡ false)
+        × (W.has_failed writer.new ≡ false) }
     ensures well { OnOk result ((R.has_failed reader.new ≡ false)
         × (W.has_failed writer.new ≡ false)) }
 {

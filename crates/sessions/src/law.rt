@@ -1,7 +1,8 @@
 //! What holds of the frames of every stream.
 
 ghost use Rattle.std.specs.Prelude.{◌≡◌, ◌≤◌, ◌++◌, ℕ, List, length};
-ghost use Rattle.sessions.specs.Frames.{AreBytes, Heard, IsStreamOf, framed, front, longest_payload, whole};
+ghost use Rattle.std.specs.List.{flat_map};
+ghost use Rattle.sessions.specs.Frames.{AreBytes, AreShort, Framing, HasNoFrame, Heard, IsStreamOf, framed, frames_of, front, longest_payload, whole};
 
 /// Pieces make no difference: in whatever order a session is fed and asked, all that it was fed is
 /// the frames of the payloads that it gave, in order and each once, and then what it has still to
@@ -11,4 +12,19 @@ pub fn frames_of_all_pieces()
         → Heard fed payloads left → IsStreamOf fed payloads left }
     ensures cut { (payload more : List ℕ) → length payload ≤ longest_payload
         → front (framed payload ++ more) ≡ whole payload more }
+{}
+
+/// Which payloads the frames of a list of bytes are, and which bytes are behind them: what a
+/// session gave of the bytes, once no whole frame stands first in what it has still to cut. Joined
+/// again they are the bytes, and payloads that are written as frames are read as the same.
+pub fn frames_of_bytes()
+    ensures heard { (fed : List ℕ) (payloads : List (List ℕ)) (left : List ℕ)
+        → Heard fed payloads left → HasNoFrame (front left)
+        → frames_of fed ≡ record { payloads = payloads; rest = left } }
+    ensures none_left { (bytes : List ℕ) → HasNoFrame (front (frames_of bytes).rest) }
+    ensures joined { (bytes : List ℕ) → AreBytes bytes
+        → IsStreamOf bytes (frames_of bytes).payloads (frames_of bytes).rest }
+    ensures written { (payloads : List (List ℕ)) (rest : List ℕ) → AreShort payloads
+        → HasNoFrame (front rest) → frames_of (flat_map framed payloads ++ rest)
+        ≡ record { payloads = payloads; rest = rest } }
 {}

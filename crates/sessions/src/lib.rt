@@ -7,7 +7,7 @@ mod law;
 mod session;
 
 pub use fault::SessionFault;
-pub use law::frames_of_all_pieces;
+pub use law::{frames_of_all_pieces, frames_of_bytes};
 pub use session::Session;
 
 // what its frames ask

@@ -3,9 +3,9 @@
 ghost use Rattle.std.specs.Prelude.{◌≡◌, ℕ, ◌≤◌};
 ghost use Rattle.machine_model.specs.Value.{Registers};
 ghost use Rattle.helpers.specs.Table.{job_table};
-ghost use Rattle.helpers.specs.declared.spawner.SpawnRecord.{SpawnRecord};
 ghost use Rattle.verifier.specs.Checked.{program_of};
 ghost use Rattle.interpreter.specs.Representation.{RepresentsTask, IsCovered, at_slot, state_of};
+ghost use Rattle.interpreter.specs.Children.{MayHandOver};
 ghost use Rattle.solo.specs.Through.{GoesThrough, RunsAlone};
 
 use crate::listening::Listener;
@@ -22,7 +22,7 @@ const STRETCH: usize = 256;
 /// spawner answered one after the other. The listener is told of each stretch.
 ///
 /// The call asks for a program that may call a job's helpers alone, and for a spawner that takes
-/// any record.
+/// each child which a task with so much credit may hand over, whatever it has taken before.
 pub fn run_to_end<S: Spawner, L: Listener>(
     alloc: Global,
     frame: &mut Frame,
@@ -34,7 +34,8 @@ pub fn run_to_end<S: Spawner, L: Listener>(
 ) -> u64
     requires own { code.now.helpers ≡ job_table }
     requires covered { IsCovered code.now (at_slot frame.old 0) part.old credit.old }
-    requires takes_any { (s : S) (child : SpawnRecord) → S.asks s child }
+    requires children { (s : S) → S.entries s ≡ S.entries spawner.old
+        → MayHandOver (S.entries spawner.old) credit.old.held (S.asks s) }
     ensures alone { (registers : Registers) → RepresentsTask code.now (at_slot frame.old 0) registers →
         RunsAlone (program_of code.now) (S.entries spawner.old)
         (state_of (at_slot frame.old 0) part.old credit.old registers)

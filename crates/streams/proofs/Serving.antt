@@ -5,7 +5,9 @@ use Rattle.sessions.specs.Grammar.{Asked}
 use Rattle.sessions.specs.Answers.{Hears}
 use Rattle.sessions.proofs.Fronts.{front_stable}
 use Rattle.streams.specs.Serves.{Serves, none_yet, one_more}
-use Rattle.streams.specs.Stops.{EndsWith, IsServed, IsStopped, StopsAt, between, within_reply, within_last, too_large_reply}
+use Rattle.streams.specs.declared.fault.StreamFault.{StreamFault}
+use Rattle.streams.specs.declared.fault.StreamFault.TheVariants.{ReadFailed, WriteFailed, NoMemory}
+use Rattle.streams.specs.Stops.{EndsWith, IsCutOff, IsLastUnwritten, IsReadOut, IsServed, IsStarved, IsStoppedBy, IsUnwritten, StopsAt, ahead_of_reply, between, within_reply, within_last, too_large_reply}
 
 -- more bytes change nothing of what was answered
 pub serves_more : {S : Type 0} (answers : S → Result Asked ℕ → List ℕ → S → Type 0) (start : S) (bytes written more : List ℕ) (count : ℕ) (s : S) (left out : List ℕ) → Serves answers start bytes written count s left out → Serves answers start (bytes ++ more) written count s (left ++ more) out
@@ -34,24 +36,50 @@ serves_on answers start bytes written first s left out second t left1 out1 earli
     (one_more (first + before) u left2 out2 payload rest reply query after (serves_on answers start bytes written first s left out before u left2 out2 earlier served) stands heard answer)
 
 -- what stops within the bytes that are left stops within all of them
-pub stops_on : {S : Type 0} (answers : S → Result Asked ℕ → List ℕ → S → Type 0) (start : S) (bytes written : List ℕ) (first : ℕ) (s : S) (left out : List ℕ) (t : S) (out1 : List ℕ) → Serves answers start bytes written first s left out → IsStopped answers s left out t out1 → IsStopped answers start bytes written t out1
-stops_on answers start bytes written first s left out t out1 earlier (between count u left1 out2 served) =
+read_out_on : {S : Type 0} (answers : S → Result Asked ℕ → List ℕ → S → Type 0) (start : S) (bytes written : List ℕ) (first : ℕ) (s : S) (left out : List ℕ) (t : S) (out1 : List ℕ) → Serves answers start bytes written first s left out → IsReadOut answers s left out t out1 → IsReadOut answers start bytes written t out1
+read_out_on answers start bytes written first s left out t out1 earlier stop = record {
+  count = first + stop.count;
+  left = stop.left;
+  frames = serves_on answers start bytes written first s left out stop.count t stop.left out1 earlier stop.frames;
+  waits = stop.waits;
+}
+
+cut_off_on : {S : Type 0} (answers : S → Result Asked ℕ → List ℕ → S → Type 0) (start : S) (bytes written : List ℕ) (first : ℕ) (s : S) (left out : List ℕ) (t : S) (out1 : List ℕ) → Serves answers start bytes written first s left out → IsCutOff answers s left out t out1 → IsCutOff answers start bytes written t out1
+cut_off_on answers start bytes written first s left out t out1 earlier (within_reply count u left1 out2 payload rest reply query v n less served stands heard answer) =
+    within_reply (first + count) u left1 out2 payload rest reply query v n less (serves_on answers start bytes written first s left out count u left1 out2 earlier served) stands heard answer
+cut_off_on answers start bytes written first s left out t out1 earlier (within_last count u left1 out2 n less served stands) =
+    within_last (first + count) u left1 out2 n less (serves_on answers start bytes written first s left out count u left1 out2 earlier served) stands
+
+starved_on : {S : Type 0} (answers : S → Result Asked ℕ → List ℕ → S → Type 0) (start : S) (bytes written : List ℕ) (first : ℕ) (s : S) (left out : List ℕ) (t : S) (out1 : List ℕ) → Serves answers start bytes written first s left out → IsStarved answers s left out t out1 → IsStarved answers start bytes written t out1
+starved_on answers start bytes written first s left out t out1 earlier (between count u left1 out2 served) =
     between (first + count) u left1 out2 (serves_on answers start bytes written first s left out count u left1 out2 earlier served)
-stops_on answers start bytes written first s left out t out1 earlier (within_reply count u left1 out2 payload rest reply query v n served stands heard answer) =
-    within_reply (first + count) u left1 out2 payload rest reply query v n (serves_on answers start bytes written first s left out count u left1 out2 earlier served) stands heard answer
-stops_on answers start bytes written first s left out t out1 earlier (within_last count u left1 out2 n served stands) =
-    within_last (first + count) u left1 out2 n (serves_on answers start bytes written first s left out count u left1 out2 earlier served) stands
+starved_on answers start bytes written first s left out t out1 earlier (ahead_of_reply count u left1 out2 payload rest reply query v served stands heard answer) =
+    ahead_of_reply (first + count) u left1 out2 payload rest reply query v (serves_on answers start bytes written first s left out count u left1 out2 earlier served) stands heard answer
 
--- a reply of which a beginning is written
-pub stops_within : {S : Type 0} (answers : S → Result Asked ℕ → List ℕ → S → Type 0) (start : S) (bytes written : List ℕ) (count : ℕ) (s : S) (left out payload rest reply : List ℕ) (query : Result Asked ℕ) (t : S) (n : ℕ) (out1 : List ℕ) → Serves answers start bytes written count s left out → front left ≡ whole payload rest → Hears payload query → answers s query reply t → out1 ≡ out ++ take n reply → IsStopped answers start bytes written t out1
-stops_within answers start bytes written count s left out payload rest reply query t n out1 served first heard answer is =
-    let P : List ℕ → Type 0 = λ o. IsStopped answers start bytes written t o in
-    subst P (sym is) (within_reply count s left out payload rest reply query t n served first heard answer)
+pub stops_on : {S : Type 0} (fault : StreamFault) (answers : S → Result Asked ℕ → List ℕ → S → Type 0) (start : S) (bytes written : List ℕ) (first : ℕ) (s : S) (left out : List ℕ) (t : S) (out1 : List ℕ) → Serves answers start bytes written first s left out → IsStoppedBy fault answers s left out t out1 → IsStoppedBy fault answers start bytes written t out1
+stops_on ReadFailed answers start bytes written first s left out t out1 earlier stop = read_out_on answers start bytes written first s left out t out1 earlier stop
+stops_on WriteFailed answers start bytes written first s left out t out1 earlier stop = cut_off_on answers start bytes written first s left out t out1 earlier stop
+stops_on NoMemory answers start bytes written first s left out t out1 earlier stop = starved_on answers start bytes written first s left out t out1 earlier stop
 
-pub stops_at_last : {S : Type 0} (answers : S → Result Asked ℕ → List ℕ → S → Type 0) (start : S) (bytes written : List ℕ) (count : ℕ) (s : S) (left out : List ℕ) (n : ℕ) (out1 : List ℕ) → Serves answers start bytes written count s left out → front left ≡ too_large → out1 ≡ out ++ take n too_large_reply → IsStopped answers start bytes written s out1
-stops_at_last answers start bytes written count s left out n out1 served first is =
-    let P : List ℕ → Type 0 = λ o. IsStopped answers start bytes written s o in
-    subst P (sym is) (within_last count s left out n served first)
+-- a reply that isn't written whole
+pub stops_within : {S : Type 0} (fault : StreamFault) (answers : S → Result Asked ℕ → List ℕ → S → Type 0) (start : S) (bytes written : List ℕ) (count : ℕ) (s : S) (left out payload rest : List ℕ) (query : Result Asked ℕ) (t : S) (out1 : List ℕ) → Serves answers start bytes written count s left out → front left ≡ whole payload rest → Hears payload query → IsUnwritten fault answers s query out t out1 → IsStoppedBy fault answers start bytes written t out1
+stops_within ReadFailed answers start bytes written count s left out payload rest query t out1 served first heard why = absurd why
+stops_within WriteFailed answers start bytes written count s left out payload rest query t out1 served first heard why =
+    let P : List ℕ → Type 0 = λ o. IsCutOff answers start bytes written t o in
+    subst P (sym why.4) (within_reply count s left out payload rest why.0 query t why.1 why.2 served first heard why.3)
+stops_within NoMemory answers start bytes written count s left out payload rest query t out1 served first heard why =
+    let P : List ℕ → Type 0 = λ o. IsStarved answers start bytes written t o in
+    subst P (sym why.2) (ahead_of_reply count s left out payload rest why.0 query t served first heard why.1)
+
+-- the last 71, that isn't written whole
+pub stops_at_last : {S : Type 0} (fault : StreamFault) (answers : S → Result Asked ℕ → List ℕ → S → Type 0) (start : S) (bytes written : List ℕ) (count : ℕ) (s : S) (left out out1 : List ℕ) → Serves answers start bytes written count s left out → front left ≡ too_large → IsLastUnwritten fault out out1 → IsStoppedBy fault answers start bytes written s out1
+stops_at_last ReadFailed answers start bytes written count s left out out1 served first why = absurd why
+stops_at_last WriteFailed answers start bytes written count s left out out1 served first why =
+    let P : List ℕ → Type 0 = λ o. IsCutOff answers start bytes written s o in
+    subst P (sym why.2) (within_last count s left out why.0 why.1 served first)
+stops_at_last NoMemory answers start bytes written count s left out out1 served first why =
+    let P : List ℕ → Type 0 = λ o. IsStarved answers start bytes written s o in
+    subst P (sym why) (between count s left out served)
 
 -- a number that stays at its greatest
 pub counted_on : (first second number : ℕ) → number ≡ min (min first (2 ^ 64 - 1) + second) (2 ^ 64 - 1) → number ≡ min (first + second) (2 ^ 64 - 1)

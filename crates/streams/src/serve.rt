@@ -4,7 +4,7 @@ ghost use Rattle.std.specs.Prelude.{◌≡◌, ◌≢◌, ◌<◌, ◌++◌, ◌
 ghost use Rattle.sessions.specs.Frames.{front, partial, too_large};
 ghost use Rattle.sessions.specs.Session.{unread, ended_by};
 ghost use Rattle.streams.specs.Serves.{Serves};
-ghost use Rattle.streams.specs.Stops.{IsServed, IsStopped, too_large_reply};
+ghost use Rattle.streams.specs.Stops.{IsLastUnwritten, IsServed, IsStoppedBy, IsUnwritten, too_large_reply};
 ghost use Rattle.streams.specs.Hearing.{HearsFront, query_of};
 
 use crate::ends::{Sink, Source, write_all};
@@ -54,9 +54,8 @@ fn answer_one<W: Sink, D, H: Handler<D>>(
     ensures ok { OnOk result ((reply : List ℕ)
         × H.answers (desk.old, handler.old) (query_of request) reply (desk.new, handler.new)
         × (W.told writer.new ≡ W.told writer.old ++ reply)) }
-    ensures err { OnErr result ((reply : List ℕ) × (n : ℕ)
-        × H.answers (desk.old, handler.old) (query_of request) reply (desk.new, handler.new)
-        × (W.told writer.new ≡ W.told writer.old ++ take n reply)) }
+    ensures err { IfErr result (λ fault. IsUnwritten fault H.answers (desk.old, handler.old)
+        (query_of request) (W.told writer.old) (desk.new, handler.new) (W.told writer.new)) }
     ensures well { OnOk result (W.has_failed writer.new ≡ false) }
     ensures write_failed { result ≡ Err StreamFault.WriteFailed → W.has_failed writer.new ≡ true }
     ensures no_memory { result ≡ Err StreamFault.NoMemory → W.has_failed writer.new ≡ false }
@@ -89,9 +88,8 @@ fn answer_frames<W: Sink, D, H: Handler<D>>(
         × (number.new ≡ min (number.old + count) (2 ^ 64 - 1))) }
     ensures left { IfOk result (λ goes_on. front (unread session.new)
         ≡ (if goes_on then partial else too_large)) }
-    ensures stopped { OnErr result
-        (IsStopped H.answers (desk.old, handler.old) (unread session.old) (W.told writer.old)
-        (desk.new, handler.new) (W.told writer.new)) }
+    ensures stopped { IfErr result (λ fault. IsStoppedBy fault H.answers (desk.old, handler.old)
+        (unread session.old) (W.told writer.old) (desk.new, handler.new) (W.told writer.new)) }
     ensures well { OnOk result (W.has_failed writer.new ≡ false) }
     ensures goes_on { IfOk result (λ goes_on. IsTrue goes_on → ended_by session.new ≡ None) }
     ensures write_failed { result ≡ Err StreamFault.WriteFailed → W.has_failed writer.new ≡ true }
@@ -132,8 +130,9 @@ fn take_piece<W: Sink, D, H: Handler<D>>(
         × (number.new ≡ min (number.old + count) (2 ^ 64 - 1))) }
     ensures left { IfOk result (λ goes_on. front (unread session.new)
         ≡ (if goes_on then partial else too_large)) }
-    ensures stopped { OnErr result (IsStopped H.answers (desk.old, handler.old) (unread session.old
-        ++ piece.now) (W.told writer.old) (desk.new, handler.new) (W.told writer.new)) }
+    ensures stopped { IfErr result (λ fault. IsStoppedBy fault H.answers (desk.old, handler.old)
+        (unread session.old ++ piece.now) (W.told writer.old) (desk.new, handler.new)
+        (W.told writer.new)) }
     ensures well { OnOk result (W.has_failed writer.new ≡ false) }
     ensures goes_on { IfOk result (λ goes_on. IsTrue goes_on → ended_by session.new ≡ None) }
     ensures write_failed { result ≡ Err StreamFault.WriteFailed → W.has_failed writer.new ≡ true }
@@ -150,8 +149,8 @@ fn take_piece<W: Sink, D, H: Handler<D>>(
 fn refuse_length<W: Sink>(alloc: Global, writer: &mut W) -> Result<(), StreamFault>
     requires { W.has_failed writer.old ≡ false }
     ensures ok { OnOk result (W.told writer.new ≡ W.told writer.old ++ too_large_reply) }
-    ensures err { OnErr result ((n : ℕ)
-        × (W.told writer.new ≡ W.told writer.old ++ take n too_large_reply)) }
+    ensures err { IfErr result (λ fault. IsLastUnwritten fault (W.told writer.old)
+        (W.told writer.new)) }
     ensures well { OnOk result (W.has_failed writer.new ≡ false) }
     ensures write_failed { result ≡ Err StreamFault.WriteFailed → W.has_failed writer.new ≡ true }
     ensures no_memory { result ≡ Err StreamFault.NoMemory → W.has_failed writer.new ≡ false }
@@ -179,9 +178,10 @@ fn refuse_length<W: Sink>(alloc: Global, writer: &mut W) -> Result<(), StreamFau
 /// last frame that is cut short is answered by nothing. A length over the limit is answered 71,
 /// once, which isn't counted, and nothing more is read.
 ///
-/// 83 where the reader failed, 84 where the writer failed, and 99 where a piece, a frame or a reply
-/// found no memory, and neither has failed. What was written is then a beginning of the replies,
-/// and the desk is that after the requests that were read so far.
+/// 83 where the reader failed: every frame that it gave whole is answered, by its whole reply. 84
+/// where the writer failed: within a reply, or within the last 71. 99 where a piece, a frame or a
+/// reply found no memory, and neither has failed: what was written are whole replies. The desk is
+/// that after the requests that were heard.
 pub fn serve_stream<R: Source, W: Sink, D, H: Handler<D>>(
     alloc: Global,
     reader: &mut R,
@@ -197,8 +197,9 @@ pub fn serve_stream<R: Source, W: Sink, D, H: Handler<D>>(
         × (R.told reader.new ≡ R.told reader.old ++ all)
         × IsServed H.answers (desk.old, handler.old) all (W.told writer.old) (R.is_over reader.new
         ≡ true) (desk.new, handler.new) number (W.told writer.new)) }
-    ensures stopped { OnErr result ((all : List ℕ) × (R.told reader.new ≡ R.told reader.old ++ all)
-        × IsStopped H.answers (desk.old, handler.old) all (W.told writer.old)
+    ensures stopped { IfErr result (λ fault. (all : List ℕ)
+        × (R.told reader.new ≡ R.told reader.old ++ all)
+        × IsStoppedBy fault H.answers (desk.old, handler.old) all (W.told writer.old)
         (desk.new, handler.new) (W.told writer.new)) }
     ensures read_failed { result ≡ Err StreamFault.ReadFailed → R.has_failed reader.new ≡ true }
     ensures write_failed { result ≡ Err StreamFault.WriteFailed → W.has_failed writer.new ≡ true }

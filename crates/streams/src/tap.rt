@@ -7,7 +7,8 @@ use traces::Told;
 /// A reader or a writer, with what went through it.
 ///
 /// Its read fails where that of the reader gives an error, its write where that of the writer gives
-/// an error or takes no byte of a piece that isn't empty. Neither is tried again.
+/// an error or takes no byte of a piece that isn't empty. Neither is tried again. What goes through
+/// it leaves the reader, or comes to the writer, where it is known what these have.
 #[derive(Drop)]
 pub struct Tap<T> {
     inner: T,
@@ -49,6 +50,8 @@ impl<T: Read> Source for Tap<T> {
 
     ghost is_over = { λ t. t.is_over };
 
+    ghost left = { λ t. T.remaining t.inner };
+
     fn read(&mut self, piece: &mut [u8]) -> Result<usize, Failed> {
         match self.inner.read(piece) {
             Ok(count) => {
@@ -68,6 +71,8 @@ impl<T: Write> Sink for Tap<T> {
     ghost told = { λ t. t.told.bytes };
 
     ghost has_failed = { λ t. t.has_failed };
+
+    ghost holds = { λ t. T.contents t.inner };
 
     fn write(&mut self, piece: &[u8]) -> Result<usize, Failed> {
         let count = match self.inner.write(piece) {

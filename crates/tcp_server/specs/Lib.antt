@@ -1,1 +1,4 @@
+pub mod Addresses
+pub mod Passages
+pub mod Serving
 pub mod Visits

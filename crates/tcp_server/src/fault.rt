@@ -1,6 +1,6 @@
 //! Why a server didn't serve all that it was to.
 
-ghost use Rattle.std.specs.Prelude.{◌≡◌};
+ghost use Rattle.std.specs.Prelude.{◌≡◌, OnOk, OnErr};
 
 use streams::StreamFault;
 use thiserror::Error;
@@ -22,5 +22,16 @@ impl ServeFault {
         ensures { result ≡ 3 }
     {
         3
+    }
+}
+
+/// The status that a program ends with whose server came to this.
+pub fn status_of(outcome: Result<(), ServeFault>) -> u8
+    ensures served { OnOk outcome (result ≡ 0) }
+    ensures failed { OnErr outcome (result ≡ 3) }
+{
+    match outcome {
+        Ok(()) => 0,
+        Err(fault) => fault.status(),
     }
 }

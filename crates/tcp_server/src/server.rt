@@ -2,13 +2,16 @@
 
 ghost use Rattle.std.specs.Prelude.{◌≤◌, IfSome};
 ghost use Rattle.pool_runner.specs.Starting.{IsStarted};
+ghost use Rattle.tcp_server.specs.Serving.{IsServing, IsServingPort};
 
+use crate::address::address_of;
 use crate::connections::serve_connections;
 use crate::fault::ServeFault;
+use crate::listener::Listener;
 use accounts::Desk;
 use pool_runner::{Errand, JobThread, PoolRunner, start_thread};
 use std::alloc::Global;
-use std::net::{Ipv4Addr, Net, OpenListener, SocketAddr, TcpListener, TcpStream};
+use std::net::{Net, TcpListener, TcpStream};
 use std::sync::Wait;
 use std::thread::Threads;
 
@@ -18,11 +21,15 @@ use std::thread::Threads;
 ///
 /// A connection that could not be taken, or that was given up by 83, 84 or 99, counts as served,
 /// and the next is taken with the same desk. The first such fault is answered at the end.
-pub fn serve_on<
-    R: Threads + Wait + Copy + Send + Sync + Drop + 'static,
-    L: OpenListener<Stream = TcpStream>,
->(rt: R, alloc: Global, listener: &L, workers: u32, sessions: u32) -> Result<(), ServeFault>
+pub fn serve_on<R: Threads + Wait + Copy + Send + Sync + Drop + 'static, L: Listener + Drop>(
+    rt: R,
+    alloc: Global,
+    mut listener: L,
+    workers: u32,
+    sessions: u32,
+) -> Result<(), ServeFault>
     requires { (1 ≤ workers) × (workers ≤ 16) }
+    ensures { IsServing L.opens L.fails L.notes listener sessions result }
 {
     let starter = move |errand: Errand| -> Option<JobThread>
         requires { (1 ≤ workers) × (workers ≤ 16) }
@@ -30,7 +37,7 @@ pub fn serve_on<
     { start_thread(rt, errand, workers) };
     let mut runner = PoolRunner::new(rt, alloc, starter);
     let mut desk = Desk::new(alloc);
-    let served = serve_connections(alloc, listener, &mut desk, &mut runner, sessions);
+    let served = serve_connections(alloc, &mut listener, &mut desk, &mut runner, sessions);
     runner.join_all();
     served
 }
@@ -45,9 +52,9 @@ pub fn serve<R: Net<Stream = TcpStream> + Threads + Wait + Copy + Send + Sync + 
     sessions: u32,
 ) -> Result<(), ServeFault>
     requires { (1 ≤ workers) × (workers ≤ 16) }
+    ensures { IsServingPort sessions result }
 {
-    let address = SocketAddr::from((Ipv4Addr::LOCALHOST, port));
-    let Ok(listener) = TcpListener::bind(&rt, address) else {
+    let Ok(listener) = TcpListener::bind(&rt, address_of(port)) else {
         return Err(ServeFault::Socket);
     };
     serve_on(rt, alloc, &listener, workers, sessions)

@@ -2,7 +2,8 @@
 use Rattle.std.proofs.Common.{◌≡◌, ◌⊎◌, ℕ, Bool, codes, true, false, refl, sym, subst, inl, inr, arith, List, [], Option, Some, None, true≢false}
 use Rattle.clap.specs.Walk.{Row, Rule, Text, first_of, nothing_held, one_of, rows_after}
 use Rattle.clap.specs.Simple.{App, Shape, argument_words, built, filled, is_simple, matches_of, names_of, with_index}
-use Rattle.clap.specs.Kinds.{Kinds}
+use Rattle.clap.specs.Kinds.{HasKind, Kinds}
+use Rattle.clap.specs.declared.error.Error.{Error}
 use Rattle.clap.specs.Faults.{fault_of, is_simple_and_free, level_fault}
 use Rattle.clap.proofs.OnLiterals.{clap_on_literals}
 use Rattle.command_line.specs.Commands.{IsNumberIn}
@@ -69,3 +70,7 @@ says_request words none = says (argument_words bpfrun_app words) _ _ none
 
 pub line_says : (words : List Text) (a : App) → a ≡ bpfrun_app → fault_of a words ≡ [] → SaysRequest (matches_of a words)
 line_says words a is none = subst (λ b. fault_of b words ≡ [] → SaysRequest (matches_of b words)) (sym is) (says_request words) none
+
+-- an error of this program's is one of its line's
+pub of_kind : (words : List Text) (a : App) (e : Error) → a ≡ bpfrun_app → HasKind (fault_of a words) e → HasKind (fault_of bpfrun_app words) e
+of_kind words a e is has = subst (λ b. HasKind (fault_of b words) e) is has

@@ -1,6 +1,7 @@
 -- The request that a program's matches are.
 use Rattle.std.specs.Prelude.{◌≡◌, ◌↔◌, ℕ, IsTrue, List, codes, Option, Some, None, option_map, true}
-use Rattle.clap.specs.Words.{Row, Text, first_of, kind_of, one_of, takes}
+use Rattle.clap.specs.Faults.{fault_of}
+use Rattle.clap.specs.Words.{HasKind, Row, Text, first_of, kind_of, one_of, takes}
 use Rattle.clap.specs.declared.error.kind.ErrorKind.TheVariants.{OutOfMemory}
 use Rattle.command_line.specs.Commands.{IsNumberIn}
 use Rattle.command_line.specs.declared.commands.Usage.{Usage}
@@ -29,7 +30,8 @@ pub record SaysRequest (rows : List Row) : Type 0 where
   pub credit : (number : ℕ) × IsNumberIn rows (codes "credit") 0 2147483647 number
   pub arg : (number : ℕ) × IsNumberIn rows (codes "arg") 0 18446744073709551615 number
 
--- words that clap takes are refused for want of memory alone
+-- Words that clap takes are refused for want of memory alone. Any others are refused for that, or for a fault that clap finds in them.
 abbrev pub IsUsage : Usage → List Text → Type 0
-IsUsage (usage.Refused error) words = takes bpfrun_app words ≡ true → kind_of error ≡ OutOfMemory
+IsUsage (usage.Refused error) words =
+    (takes bpfrun_app words ≡ true → kind_of error ≡ OutOfMemory) × HasKind (fault_of bpfrun_app words) error
 IsUsage usage.NoMemory words = Unit {0}

@@ -27,6 +27,7 @@ noted_of programs ticket through outcome program arg given e f g run = rw (e, f,
   program = run.program;
   named = run.named;
   bytes = ticket.part.bytes;
+  suffices = run.suffices;
   asked = run.run.alone.asked;
   last = run.run.alone.last;
   alone = run.run.alone.alone;

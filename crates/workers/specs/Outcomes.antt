@@ -1,11 +1,11 @@
 -- What an outcome says of its ticket.
-use Rattle.std.specs.Prelude.{◌≡◌, ◌≤◌, List, length, map, slice_get, Bool, true, false, Some}
+use Rattle.std.specs.Prelude.{◌≡◌, List, length, map, slice_get, Bool, true, false, Some}
 use Rattle.machine_model.specs.Machine.{Entries}
 use Rattle.machine_model.specs.JobState.{entries_of}
-use Rattle.verifier.specs.Checked.{Checked, program_of, cost_at}
+use Rattle.verifier.specs.Checked.{Checked, program_of}
 use Rattle.credit_book.specs.declared.task.Ticket.{Ticket}
 use Rattle.credit_book.specs.declared.task.Outcome.{Outcome}
-use Rattle.task_trees.specs.Solo.{SpawnRequest, entering}
+use Rattle.task_trees.specs.Solo.{SpawnRequest, IsGiven, entering}
 use Rattle.solo.specs.Through.{RunsAlone}
 
 -- the ticket's task wasn't run
@@ -18,10 +18,8 @@ pub record IsUnrun (ticket : Ticket) (outcome : Outcome) : Type 0 where
   pub part : outcome.part ≡ ticket.part
 
 -- the credit and the part of the ticket's task suffice for this program
-pub record Suffices (p : Checked) (ticket : Ticket) : Type 0 where
-  pub affords : cost_at p 0 ≤ ticket.held
-  pub limit : ticket.held ≤ 2147483647
-  pub fits : p.need ≤ length ticket.part.bytes
+abbrev pub Suffices : Checked → Ticket → Type 0
+Suffices p ticket = IsGiven (program_of p) ticket.held ticket.part.bytes
 
 -- The ticket's task, by itself on this program, while the spawner went `through` what it asked for. The outcome has the place where the part begins.
 pub record IsRunBy (p : Checked) (entries : Entries) (ticket : Ticket) (through : List SpawnRequest → Type 0) (outcome : Outcome) : Type 0 where

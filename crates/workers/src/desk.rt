@@ -1,7 +1,7 @@
 //! What lies under the lock of a job: its book, and whether this has refused an end.
 
 ghost use Rattle.std.specs.Prelude.{◌≡◌, ◌∷◌, [], IfOk, IfErr, IsTrue, ◌↔◌, length, false, reverse};
-ghost use Rattle.credit_book.specs.Books.{IsSpawnFault, ticket_of, spawn_event};
+ghost use Rattle.credit_book.specs.Books.{IsReport, IsSpawnFault, ticket_of, spawn_event};
 ghost use Rattle.credit_book.specs.declared.fault.BookFault.{BookFault};
 ghost use Rattle.credit_book.specs.History.{IsComplete, table_of};
 ghost use Rattle.workers.specs.AtDesk.{AreEnded, HasMore, IsEnded, IsFoundAt, IsParked};
@@ -107,10 +107,14 @@ impl Desk {
         !self.has_refused
     }
 
-    /// The report of a job with this number, this credit and this many bytes, once no task is
-    /// alive: 82 where the book has refused an end, a task is alive, or the job is another.
+    /// The report of the desk's own book, which is that of a job with this number, this credit and
+    /// this many bytes, once no task is alive: 82 where the book has refused an end, a task is alive, or the job is another.
     pub fn close(self, job: u64, issued: u32, size: usize) -> Result<Report, PoolFault>
         ensures report { IfOk result (λ report. IsFinal job issued size report) }
+        ensures accepted { IfOk result (λ _. self.has_refused ≡ false) }
+        ensures own { IfOk result
+            (λ report. IsReport self.book.size self.book.history report
+            × (self.book.board.job ≡ job) × (self.book.board.issued ≡ issued)) }
         ensures refused { IfErr result (λ fault. (fault ≡ BookRefused)
             × (self.has_refused ≡ false → self.book.board.job ≡ job →
             self.book.board.issued ≡ issued → self.book.size ≡ size

@@ -96,9 +96,11 @@ pub(crate) struct Hands<'a, 'b, R> {
 }
 
 impl<'a, 'b, R: Wait> Hands<'a, 'b, R> {
-    ghost use Rattle.std.specs.Prelude.{◌⊎◌, []};
+    ghost use Rattle.std.specs.Prelude.{◌⊎◌, ◌↔◌, [], false, reverse, IfErr, IfOk, IsTrue};
+    ghost use Rattle.workers.specs.declared.desk.Desk.{Desk};
     ghost use Rattle.workers.specs.declared.desk.Found.TheVariants.{Nothing};
-    ghost use Rattle.workers.specs.Handing.{IsHeldBack, IsKept};
+    ghost use Rattle.workers.specs.AtDesk.{AreEnded, IsEnded};
+    ghost use Rattle.workers.specs.Handing.{Finds, IsHandedAt, IsHeldBack, IsKeptBeside};
 
     /// A worker that runs no task yet. It holds no outcome back where there is no memory for that.
     pub fn new(
@@ -145,6 +147,7 @@ impl<'a, 'b, R: Wait> Hands<'a, 'b, R> {
     /// and where there is none, the book is told of all that has ended here.
     pub fn find(&mut self) -> Found
         ensures shared { self.new.shared ≡ self.old.shared }
+        ensures found { Finds self.old.lanes result self.new.lanes self.new.turn }
         ensures kept { (self.new.ended.items ≡ self.old.ended.items) ⊎ (self.new.ended.items ≡ []) }
         ensures told { result ≡ Nothing → self.new.ended.items ≡ [] }
     {
@@ -164,12 +167,12 @@ impl<'a, 'b, R: Wait> Hands<'a, 'b, R> {
     /// The ticket that was parked first, once the book knows of all that has ended here. A worker
     /// that has nothing to tell doesn't wait for the desk: those that have would have to wake it.
     fn claim(&mut self) -> Found
-        ensures shared { self.new.shared ≡ self.old.shared }
+        ensures shared { (self.new.shared ≡ self.old.shared) × (self.new.lanes ≡ self.old.lanes) }
         ensures told { self.new.ended.items ≡ [] }
     {
         if !self.ended.is_empty() {
             let mut desk = self.desk();
-            desk.end_all(&mut self.ended);
+            self.tell(&mut desk);
             return desk.claim();
         }
         match self.desk_if_free() {
@@ -178,30 +181,63 @@ impl<'a, 'b, R: Wait> Hands<'a, 'b, R> {
         }
     }
 
+    /// Tells the book at the desk of all that has ended here, in the order in which it ended.
+    /// Whether it has refused no end so far.
+    fn tell(&mut self, desk: &mut Desk) -> bool
+        ensures same { (self.new.shared ≡ self.old.shared) × (self.new.lanes ≡ self.old.lanes)
+            × (self.new.turn ≡ self.old.turn) }
+        ensures refused { IsTrue result ↔ (desk.new.has_refused ≡ false) }
+        ensures ended { AreEnded desk.old (reverse self.old.ended.items) desk.new }
+        ensures all { self.new.ended.items ≡ [] }
+    {
+        desk.end_all(&mut self.ended)
+    }
+
     /// Tells the book of all that has ended here. Whether it has refused no end so far, as far as
     /// this worker knows.
     fn end_held_back(&mut self) -> bool
-        ensures shared { self.new.shared ≡ self.old.shared }
+        ensures same { (self.new.shared ≡ self.old.shared) × (self.new.lanes ≡ self.old.lanes)
+            × (self.new.turn ≡ self.old.turn) }
         ensures told { self.new.ended.items ≡ [] }
     {
-        self.ended.is_empty() || self.desk().end_all(&mut self.ended)
+        if self.ended.is_empty() {
+            return true;
+        }
+        let mut desk = self.desk();
+        self.tell(&mut desk)
     }
 
     /// The same, where nobody is at the desk. Otherwise all stays held back.
     fn end_if_free(&mut self) -> bool
-        ensures shared { self.new.shared ≡ self.old.shared }
+        ensures same { (self.new.shared ≡ self.old.shared) × (self.new.lanes ≡ self.old.lanes)
+            × (self.new.turn ≡ self.old.turn) }
         ensures told { (self.new.ended.items ≡ self.old.ended.items) ⊎ (self.new.ended.items ≡ []) }
     {
         match self.desk_if_free() {
-            Some(mut desk) => desk.end_all(&mut self.ended),
+            Some(mut desk) => self.tell(&mut desk),
             None => true,
         }
+    }
+
+    /// Tells the book at the desk of all that has ended here, and then of this. Whether it has
+    /// refused no end so far.
+    fn tell_with(&mut self, desk: &mut Desk, outcome: Outcome) -> bool
+        ensures same { (self.new.shared ≡ self.old.shared) × (self.new.lanes ≡ self.old.lanes)
+            × (self.new.turn ≡ self.old.turn) }
+        ensures refused { IsTrue result ↔ (desk.new.has_refused ≡ false) }
+        ensures ended { (between : Desk) × AreEnded desk.old (reverse self.old.ended.items) between
+            × IsEnded between outcome desk.new }
+        ensures all { self.new.ended.items ≡ [] }
+    {
+        self.tell(desk);
+        desk.end(outcome)
     }
 
     /// Ends a task, or holds its outcome back where there is room for it. Whether the book has
     /// refused no end so far, as far as this worker knows.
     pub fn end(&mut self, outcome: Outcome) -> bool
-        ensures shared { self.new.shared ≡ self.old.shared }
+        ensures same { (self.new.shared ≡ self.old.shared) × (self.new.lanes ≡ self.old.lanes)
+            × (self.new.turn ≡ self.old.turn) }
         ensures told { IsHeldBack self.old.ended.items outcome self.new.ended.items }
     {
         if self.ended.len() < self.ended.capacity() {
@@ -209,17 +245,35 @@ impl<'a, 'b, R: Wait> Hands<'a, 'b, R> {
             return self.ended.len() < FEW_HELD_BACK || self.end_if_free();
         }
         let mut desk = self.desk();
-        desk.end_all(&mut self.ended);
-        desk.end(outcome)
+        self.tell_with(&mut desk, outcome)
     }
 
     /// Puts a new task's ticket into its own lane, or parks it where there is no room for it.
     fn keep(&mut self, desk: &mut Desk, ticket: Ticket)
-        ensures { (self.new.shared ≡ self.old.shared) × (self.new.turn ≡ self.old.turn)
-            × (self.new.ended ≡ self.old.ended) × IsKept self.old.lanes ticket self.new.lanes }
+        ensures same { (self.new.shared ≡ self.old.shared) × (self.new.turn ≡ self.old.turn)
+            × (self.new.ended ≡ self.old.ended) }
+        ensures kept { IsKeptBeside self.old.lanes desk.old ticket self.new.lanes desk.new }
     {
         if let Err(back) = self.lanes.push(ticket) {
             desk.park(back);
+        }
+    }
+
+    /// Spawns a child of the task whose turn it is, at the desk, and keeps its ticket.
+    fn hand(&mut self, desk: &mut Desk, child: SpawnRecord) -> Result<(), SpawnRecord>
+        ensures same { (self.new.shared ≡ self.old.shared) × (self.new.turn ≡ self.old.turn)
+            × (self.new.ended ≡ self.old.ended) }
+        ensures handed { IfOk result (λ _. IsHandedAt self.old.turn child self.old.lanes desk.old
+            self.new.lanes desk.new) }
+        ensures back { IfErr result
+            (λ back. (back ≡ child) × (self.new ≡ self.old) × (desk.new ≡ desk.old)) }
+    {
+        match desk.spawn(self.turn, child) {
+            Ok(ticket) => {
+                self.keep(desk, ticket);
+                Ok(())
+            }
+            Err(back) => Err(back),
         }
     }
 }
@@ -244,13 +298,7 @@ impl<R: Wait> Spawner for Hands<'_, '_, R> {
 
     fn spawn(&mut self, child: SpawnRecord) -> Result<(), SpawnRecord> {
         let mut desk = self.desk();
-        let spawned = match desk.spawn(self.turn, child) {
-            Ok(ticket) => {
-                self.keep(&mut desk, ticket);
-                Ok(())
-            }
-            Err(back) => Err(back),
-        };
+        let spawned = self.hand(&mut desk, child);
         self.stay.go_on(desk);
         spawned
     }

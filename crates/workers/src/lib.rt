@@ -7,7 +7,7 @@ mod outcome;
 mod work;
 
 pub use gate::{Gate, OpenGate};
-pub use outcome::unrun_outcome;
+pub use outcome::unrun;
 pub use work::{entry_in, work_one};
 
 // what lies under the job's lock
@@ -24,3 +24,6 @@ mod stay;
 mod watch;
 
 pub use pool::run_job;
+
+// the deque of one worker, for whoever runs tasks in threads of their own
+pub use lanes::{Lane, Pass, Stolen, Thief, lane};

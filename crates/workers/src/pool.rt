@@ -1,6 +1,7 @@
 //! The threads of a pool, each of which runs tasks of the job until no task is alive.
 
 ghost use Rattle.std.specs.Prelude.{◌≡◌, ◌≤◌, All, IfOk, IfSome, length};
+ghost use Rattle.std.specs.List.{flat_map};
 ghost use Rattle.workers.specs.Final.{IsFinal};
 ghost use Rattle.workers.specs.Noted.{NotedAlone, EndedAlone};
 
@@ -140,7 +141,8 @@ fn run_all<'s, E: 's, R: Threads + Wait + Sync, G: Gate + Sync>(
 /// The notes of all workers, one after the other, each of a run of one of the programs.
 fn gather(alloc: Global, shared: &Shared, lists: &[Vec<Note>]) -> Result<Vec<Note>, NoMemory>
     requires { All (λ notes. All (NotedAlone shared.now.programs.items) notes.items) lists.now }
-    ensures { IfOk result (λ notes. All (NotedAlone shared.now.programs.items) notes.items) }
+    ensures all { IfOk result (λ notes. notes.items ≡ flat_map (λ list. list.items) lists.now) }
+    ensures alone { IfOk result (λ notes. All (NotedAlone shared.now.programs.items) notes.items) }
 {
     let _ = shared;
     let mut notes = Vec::new(alloc);

@@ -10,13 +10,17 @@ pub loop-next-init : goal.loop-next-init
 loop-next-init g c = record {
   covered = c.requires.covered;
   base = refl;
+  holds = omega arith;
   entries = refl;
   way = λ registers stands. enters _ _ _ _ _ _ registers stands refl;
 }
 
 pub run_at-ran-requires-clause-children : goal.run_at-ran-requires-clause-children
 run_at-ran-requires-clause-children g c =
-    record { each = λ child entry is cost share. c.requires.takes_any c.loop-next.spawner child }
+    let inv = c.loop-next.invariant in
+    let holds = inv.holds in
+    let asked = c.requires.children c.loop-next.spawner inv.entries in
+    record { each = λ child entry is cost share. asked.each child entry (rw (← inv.entries) is) cost (omega (arith, holds, share)) }
 
 pub loop-next-preserved : goal.loop-next-preserved
 loop-next-preserved g c =
@@ -26,6 +30,7 @@ loop-next-preserved g c =
     record {
       covered = c.run_at-ran.ensures.covered c.in-At.next c.in-At.is;
       base = same;
+      holds = (let less = c.run_at-ran.ensures.holds in let before = inv.holds in omega (arith, less, before));
       entries = c.run_at-ran.ensures.entries ∙ inv.entries;
       way = λ registers stands.
           let w = stretch_on c.args.code.now (g.S.Spawner.entries c.args.spawner.now)

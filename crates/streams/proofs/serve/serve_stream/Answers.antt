@@ -24,34 +24,36 @@ reads-init g c =
 
 pub returns-in-Err-clause-stopped : goal.returns-in-Err-clause-stopped
 returns-in-Err-clause-stopped g c =
-    let before = c.reads.invariant.served in
-    (before.0, c.in-Err.ensures.err ∙ before.2, between before.1 _ (unread c.reads.session) _ before.3)
+    let before = c.reads.invariant.served in (
+      before.0,
+      c.in-Err.ensures.err ∙ before.2,
+      record { count = before.1; left = unread c.reads.session; frames = before.3; waits = c.reads.invariant.left },
+    )
 
 pub returns-in_err-goes_on-clause-stopped : goal.returns-in_err-goes_on-clause-stopped
 returns-in_err-goes_on-clause-stopped g c =
     let before = c.reads.invariant.served in
     let piece = take c.in-Ok.count c.read.new.piece in
     let p = err_from_is_err_and c.from_residual.result c.from_residual.ensures.1 in
-    rw p.1 (
+    rw p.1 (rw p.2 (
       before.0 ++ piece,
       c.in-Ok.ensures.bytes ∙ ap (λ xs. xs ++ piece) before.2 ∙ append_assoc (g.R.Source.told c.args.reader.now) before.0 piece,
-      stops_on g.H.Handler.answers _ _ _ before.1 _ _ _ _ _ (serves_more g.H.Handler.answers _ _ _ piece _ _ _ _ before.3) c.in_err-goes_on.ensures.stopped,
-    )
+      stops_on _ g.H.Handler.answers _ _ _ before.1 _ _ _ _ _ (serves_more g.H.Handler.answers _ _ _ piece _ _ _ _ before.3) c.in_err-goes_on.ensures.stopped,
+    ))
 
 pub returns-in_err-refuse_length-clause-stopped : goal.returns-in_err-refuse_length-clause-stopped
 returns-in_err-refuse_length-clause-stopped g c =
     let before = c.reads.invariant.served in
     let piece = take c.in-Ok.count c.read.new.piece in
     let next = c.in_ok-goes_on.ensures.served in
-    let last = c.in_err-refuse_length.ensures.err in
     let p = err_from_is_err_and c.from_residual-in_err-refuse_length.result c.from_residual-in_err-refuse_length.ensures.1 in
-    rw p.1 (
+    rw p.1 (rw p.2 (
       before.0 ++ piece,
       c.in-Ok.ensures.bytes ∙ ap (λ xs. xs ++ piece) before.2 ∙ append_assoc (g.R.Source.told c.args.reader.now) before.0 piece,
-      stops_at_last g.H.Handler.answers _ _ _ (before.1 + next.0) _ (unread c.take_piece.new.session) _ last.0 _
+      stops_at_last _ g.H.Handler.answers _ _ _ (before.1 + next.0) _ (unread c.take_piece.new.session) _ _
           (serves_on g.H.Handler.answers _ _ _ _ _ _ _ _ _ _ _ (serves_more g.H.Handler.answers _ _ _ piece _ _ _ _ before.3) next.1)
-          (search rules) last.1,
-    )
+          (search rules) c.in_err-refuse_length.ensures.err,
+    ))
 
 pub returns-then-not-goes_on-clause-served : goal.returns-then-not-goes_on-clause-served
 returns-then-not-goes_on-clause-served g c =

@@ -7,7 +7,7 @@ loop-done-init g c = (omega arith, c.requires, none_yet)
 
 pub loop-done-preserved : goal.loop-done-preserved
 loop-done-preserved g c =
-    let next = one_more c.loop-done.done (c.loop-done.desk, c.loop-done.runner) c.loop-done.outcome c.serve_next-served.result
+    let next = one_more c.loop-done.done c.loop-done.listener (c.loop-done.desk, c.loop-done.runner) c.loop-done.outcome c.serve_next-served.result c.serve_next-served.new.listener
     (c.serve_next-served.new.desk, c.serve_next-served.new.runner) c.loop-done.invariant.2 c.serve_next-served.ensures.visit in (
       omega (arith, c.loop-done-test.true),
       c.serve_next-served.ensures.ready,

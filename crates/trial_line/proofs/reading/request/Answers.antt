@@ -1,7 +1,7 @@
 use Rattle.std.proofs.Common.{ap, subst, map, string_bytes, sym, ◌∙◌}
 use Rattle.clap.specs.Words.{is_simple, is_simple_and_free, matches_of, takes}
 use Rattle.trial_line.specs.Requests.{IsRequestOf, SaysRequest}
-use Rattle.trial_line.proofs.LineLemmas.{is_plain, line_says, plain}
+use Rattle.trial_line.proofs.LineLemmas.{is_plain, line_says, of_kind, plain}
 use Rattle.trial_line.proofs.reading.request.Goals as goal
 
 pub request_of-requires : goal.request_of-requires
@@ -17,4 +17,7 @@ returns-in-Ok-clause-ok c =
     subst (λ rows. IsRequestOf rows c.request_of.result) rows c.request_of.ensures.parts
 
 pub returns-in-Err-clause-err : goal.returns-in-Err-clause-err
-returns-in-Err-clause-err c = λ taken. c.in-Err.ensures.passes (ap (λ a. takes a (map string_bytes c.args.words.now)) c.in_ok-bpfrun.ensures ∙ taken)
+returns-in-Err-clause-err c = (
+  λ taken. c.in-Err.ensures.passes (ap (λ a. takes a (map string_bytes c.args.words.now)) c.in_ok-bpfrun.ensures ∙ taken),
+  of_kind (map string_bytes c.args.words.now) _ c.in-Err.error c.in_ok-bpfrun.ensures (c.in-Err.ensures.kinds (ap is_simple_and_free c.in_ok-bpfrun.ensures ∙ plain)),
+)

@@ -1,9 +1,9 @@
 use Rattle.std.proofs.Common.{ap, sym, map, string_bytes, is_some, true, true≢false, ◌≡◌, ◌∙◌}
 use Rattle.clap.specs.Words.{found_of, is_simple, is_simple_and_free, rows_of, subcommand_of, subcommand_rows_of, takes}
 use Rattle.clap.proofs.TakesLemmas.{some_rows}
-use Rattle.command_line.proofs.LineLemmas.{entered_says, is_entered, is_plain, plain}
+use Rattle.command_line.proofs.LineLemmas.{entered_says, is_entered, is_plain, of_kind, plain}
 use Rattle.command_line.proofs.NumberLemmas.{pair_of, named}
-use Rattle.command_line.proofs.reading.command.Goals as goal
+use Rattle.command_line.proofs.reading.command_in.Goals as goal
 
 pub command_of-requires : goal.command_of-requires
 command_of-requires c =
@@ -31,4 +31,7 @@ returns-clause-ok c =
     )
 
 pub returns-in-Err-clause-err : goal.returns-in-Err-clause-err
-returns-in-Err-clause-err c = λ taken. c.in-Err.ensures.passes (ap (λ a. takes a (map string_bytes c.args.words.now)) c.in_ok-bpfjobs.ensures ∙ taken)
+returns-in-Err-clause-err c = (
+  λ taken. c.in-Err.ensures.passes (ap (λ a. takes a (map string_bytes c.args.words.now)) c.in_ok-bpfjobs.ensures ∙ taken),
+  of_kind (map string_bytes c.args.words.now) _ c.in-Err.error c.in_ok-bpfjobs.ensures (c.in-Err.ensures.kinds (ap is_simple_and_free c.in_ok-bpfjobs.ensures ∙ plain)),
+)
