@@ -120,7 +120,7 @@ pub record IsSummed (jobs : List JobEntry) (name : List ℕ) (sums : Sums) : Typ
   pub limit : sums.granted ≤ most_granted
 
 -- each tenant's sums are right, and each job is a tenant's
-pub record IsKept (sums : List ℕ → Option Sums) (jobs : List JobEntry) : Type 0 where
+pub record IsBalanced (sums : List ℕ → Option Sums) (jobs : List JobEntry) : Type 0 where
   pub each : (name : List ℕ) (s : Sums) → sums name ≡ Some s → IsSummed jobs name s
   pub owned : (n : ℕ) (entry : JobEntry) → slice_get jobs n ≡ Some entry → (s : Sums) × (sums (string_bytes entry.tenant) ≡ Some s)
 

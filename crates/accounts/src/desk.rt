@@ -23,13 +23,13 @@ pub struct Desk {
 
 impl Model for Desk {
     ghost use Rattle.std.specs.BTreeMap as tree;
-    ghost use Rattle.accounts.specs.Ledgers.{Ledger, IsKept, ledger_of};
+    ghost use Rattle.accounts.specs.Ledgers.{Ledger, IsBalanced, ledger_of};
 
     ghost Value = { Ledger };
 
     ghost view = { λ d. ledger_of d.tenants d.jobs.items };
 
-    ghost invariant = { λ d. IsKept (tree.get_by_text d.tenants) d.jobs.items };
+    ghost invariant = { λ d. IsBalanced (tree.get_by_text d.tenants) d.jobs.items };
 }
 
 impl Desk {

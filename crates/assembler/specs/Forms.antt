@@ -18,28 +18,28 @@ abbrev pub IsNumeral : List ℕ → Type 0
 IsNumeral ds = (n : ℕ) × IsNumber ds n
 
 -- this byte, and a numeral after it
-abbrev pub IsMarked : ℕ → List ℕ → Type 0
-IsMarked c ts = (ds : List ℕ) × (ts ≡ c ∷ ds) × IsNumeral ds
+abbrev pub IsPrefixed : ℕ → List ℕ → Type 0
+IsPrefixed c ts = (ds : List ℕ) × (ts ≡ c ∷ ds) × IsNumeral ds
 
 -- a minus and a numeral, but not `-0`
 abbrev pub IsNegative : List ℕ → Type 0
-IsNegative ts = IsMarked 45 ts × (ts ≢ 45 ∷ 48 ∷ [])
+IsNegative ts = IsPrefixed 45 ts × (ts ≢ 45 ∷ 48 ∷ [])
 
 abbrev pub IsNumberForm : List ℕ → Type 0
 IsNumberForm ts = IsNumeral ts ⊎ IsNegative ts
 
 abbrev pub IsOffsetForm : List ℕ → Type 0
-IsOffsetForm ts = IsMarked 43 ts ⊎ IsNegative ts
+IsOffsetForm ts = IsPrefixed 43 ts ⊎ IsNegative ts
 
 -- a register and an offset between brackets
 abbrev pub IsMemoryForm : List ℕ → Type 0
-IsMemoryForm ts = (base offset : List ℕ) × (ts ≡ codes "[" ++ (base ++ (offset ++ codes "]"))) × IsMarked 114 base × IsOffsetForm offset
+IsMemoryForm ts = (base offset : List ℕ) × (ts ≡ codes "[" ++ (base ++ (offset ++ codes "]"))) × IsPrefixed 114 base × IsOffsetForm offset
 
 abbrev pub IsOfForm : Form → List ℕ → Type 0
-IsOfForm Register ts = IsMarked 114 ts
+IsOfForm Register ts = IsPrefixed 114 ts
 IsOfForm Number ts = IsNumberForm ts
 IsOfForm Offset ts = IsOffsetForm ts
-IsOfForm Source ts = IsMarked 114 ts ⊎ IsNumberForm ts
+IsOfForm Source ts = IsPrefixed 114 ts ⊎ IsNumberForm ts
 IsOfForm Memory ts = IsMemoryForm ts
 
 -- two texts with a comma and a space between them

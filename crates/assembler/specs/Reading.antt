@@ -56,8 +56,8 @@ IsOffset z = FitsSigned w16 z
 abbrev pub IsImm : ℤ → Type 0
 IsImm z = FitsSigned w32 z
 
-abbrev pub IsValue : ℕ → Type 0
-IsValue n = n < 2 ^ 64
+abbrev pub IsUnsigned64 : ℕ → Type 0
+IsUnsigned64 n = n < 2 ^ 64
 
 abbrev pub place_text : ℕ × ℤ → List ℕ
 place_text m = memory_text m.0 m.1

@@ -3,7 +3,7 @@
 #![tactic(auto)]
 
 ghost use Rattle.command_line.specs.Commands.{IsInRange};
-ghost use Rattle.performing.specs.Performing.{IsAlone};
+ghost use Rattle.performing.specs.Performing.{NeedsNoThread};
 ghost use Rattle.std.specs.Prelude.{◌≤◌};
 
 mod serving;
@@ -45,7 +45,7 @@ fn explained<R: Print + Eprint>(rt: &R, usage: Usage) -> u8 {
 // Reads the input, prints the answer of a command that needs no thread, and gives the status. It
 // returns if the input and the output do.
 fn answer<R: Input + Print>(rt: &R, alloc: Global, command: Command) -> u8
-    requires { IsAlone command }
+    requires { NeedsNoThread command }
 {
     let mut reader = Tap::new(rt.reader());
     let mut writer = Tap::new(io::writer(rt));

@@ -4,14 +4,14 @@ use Rattle.std.specs.Prelude.{slice_get}
 use Rattle.credit_book.specs.declared.event.Event.{Event}
 use Rattle.credit_book.specs.declared.event.Event.TheVariants.{Open, Spawn, Park, Claim, End}
 use Rattle.credit_book.specs.declared.event.TaskEnd.{TaskEnd}
-use Rattle.credit_book.specs.History.{Table, standing_at, task_at, no_tasks, May, after, new_task, table_from, table_of, IsLegalFrom, IsHistoryOf, IsComplete, spent_in, returned_in}
+use Rattle.credit_book.specs.History.{TaskTable, standing_at, task_at, no_tasks, May, after, new_task, table_from, table_of, IsLegalFrom, IsHistoryOf, IsComplete, spent_in, returned_in}
 use Rattle.credit_book.proofs.Sound.{IsSound, sound-after, sound_of, at_set, at_end, alive_from-work, within, held_from-complete}
 
 -- each task has the number of its place
-abbrev AreNumbered : Table → Type 0
+abbrev AreNumbered : TaskTable → Type 0
 AreNumbered t = (k : ℕ) → k < length t.tasks → (task_at t k).number ≡ k
 
-numbered_after : (issued : ℕ) (t : Table) (e : Event) → IsSound issued t → May t e → AreNumbered t → AreNumbered (after t e)
+numbered_after : (issued : ℕ) (t : TaskTable) (e : Event) → IsSound issued t → May t e → AreNumbered t → AreNumbered (after t e)
 numbered_after issued t (Open job credit) sound may are = absurd (let h = sound.some in omega (arith, ap length may.0))
 numbered_after issued t (Spawn parent child program share arg base len) sound may are = λ k lt.
     at_end (λ (e : TaskEnd). e.number ≡ k) t.tasks k (new_task child program arg share) _
@@ -24,7 +24,7 @@ numbered_after issued t (End n used r0 ran base bytes) sound may are = λ k lt.
     at_set (λ (e : TaskEnd). e.number ≡ k) t.tasks n k _ _ there (λ e. are n there ∙ sym e)
     (λ ne. are k (subst (λ (l : ℕ). k < l) (length-set t.tasks n _) lt))
 
-numbered_from : (issued : ℕ) (t : Table) (es : List Event) → IsSound issued t → AreNumbered t → IsLegalFrom t es → AreNumbered (table_from t es)
+numbered_from : (issued : ℕ) (t : TaskTable) (es : List Event) → IsSound issued t → AreNumbered t → IsLegalFrom t es → AreNumbered (table_from t es)
 numbered_from issued t [] sound are legal = are
 numbered_from issued t (e ∷ es) sound are legal =
     numbered_from issued (after t e) es (sound-after issued t e sound legal.0) (numbered_after issued t e sound legal.0 are) legal.1

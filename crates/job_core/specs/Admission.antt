@@ -4,7 +4,7 @@ use Rattle.helpers.specs.Table.{job_table}
 use Rattle.verifier.specs.declared.refusals.Refusal.{Refusal}
 use Rattle.verifier.specs.declared.refusals.Refusal.TheVariants as program
 use Rattle.verifier.specs.Checked.{Checked, cost_at}
-use Rattle.verifier.specs.Refusals.{IsAccepted, Refuses}
+use Rattle.verifier.specs.Refusals.{IsAccepted, RefusesProgram}
 use Rattle.verifier.specs.RefusalCodes.{number_of as number_of_program, slot_of as slot_of_program}
 use Rattle.job_core.specs.declared.admission.ProgramBytes.{ProgramBytes}
 use Rattle.job_core.specs.declared.admission.AdmitFault.{AdmitFault}
@@ -18,7 +18,7 @@ Accepts p v = IsAccepted p.need p.code.items job_table v
 -- the verifier has this refusal of the program
 abbrev pub RefusesProgram : ProgramBytes → Refusal → Type 0
 RefusesProgram p program.NoMemory = ⊥
-RefusesProgram p refusal = Refuses p.need p.code.items job_table refusal
+RefusesProgram p refusal = RefusesProgram p.need p.code.items job_table refusal
 
 -- the refusal of the program of this number that the verifier refuses
 abbrev pub fault_of : ℕ → Refusal → AdmitFault
@@ -54,10 +54,10 @@ pub record IsFirstRefused (programs : List ProgramBytes) (index : ℕ) (refusal 
   pub earlier : (n : ℕ) (p : ProgramBytes) → n < index → slice_get programs n ≡ Some p → (v : Checked) × Accepts p v
 
 -- what there is to tell of programs of which one isn't accepted
-abbrev pub IsFirstFault : List ProgramBytes → AdmitFault → Type 0
-IsFirstFault programs (Program index refusal) = IsFirstRefused programs index refusal
-IsFirstFault programs NoMemory = Unit {0}
-IsFirstFault programs fault = ⊥
+abbrev pub IsProgramFault : List ProgramBytes → AdmitFault → Type 0
+IsProgramFault programs (Program index refusal) = IsFirstRefused programs index refusal
+IsProgramFault programs NoMemory = Unit {0}
+IsProgramFault programs fault = ⊥
 
 -- each program is accepted, and the root is this one
 pub record IsRoot (programs : List ProgramBytes) (root : Checked) : Type 0 where

@@ -20,6 +20,6 @@ pub record RunsTask (old : WorldState) (j : JobState) (n count : ℕ) (came_to :
   pub answers : StepAnswers came_to j n last
 
 -- the task isn't alive, so nothing changes
-pub record IsIdle (old : WorldState) (n : ℕ) (new : WorldState) : Type 0 where
+pub record IsSkipped (old : WorldState) (n : ℕ) (new : WorldState) : Type 0 where
   pub same : new ≡ old
   pub skips : (j : JobState) → RepresentsJob old j → Steps old j n Skipped old

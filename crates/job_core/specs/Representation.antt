@@ -70,13 +70,13 @@ pub record IsLive (kept : WorldState) (buffer : List ℕ) (n : ℕ) (t : Task) :
   pub is : IsTaskOf checked buffer live t
 
 -- the number's task has ended, and its bytes are collected
-pub record HasEnded (kept : WorldState) (buffer : List ℕ) (n : ℕ) (e : job.Ending) : Type 0 where
+pub record IsCollected (kept : WorldState) (buffer : List ℕ) (n : ℕ) (e : job.Ending) : Type 0 where
   pub gone : slice_get kept.lives n ≡ Some None
   pub bytes : take e.size (drop e.base buffer) ≡ take e.size (drop e.base kept.collected)
 
 abbrev pub IsMemberOf : WorldState → List ℕ → ℕ → Member → Type 0
 IsMemberOf kept buffer n (job.Live t) = IsLive kept buffer n t
-IsMemberOf kept buffer n (job.Ended e) = HasEnded kept buffer n e
+IsMemberOf kept buffer n (job.Ended e) = IsCollected kept buffer n e
 
 -- each task is kept under its number, and nothing else is
 pub record RepresentsTasks (kept : WorldState) (j : JobState) : Type 0 where

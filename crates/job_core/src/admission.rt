@@ -2,7 +2,7 @@
 
 ghost use Rattle.std.specs.Prelude.{◌≡◌, ◌≤◌, length, IfOk, IfErr};
 ghost use Rattle.job_core.specs.Admitted.{AreOwn};
-ghost use Rattle.job_core.specs.Admission.{AreAccepted, IsAdmittedFrom, IsFirstFault, RefusesJob, fault_of, number_of, place_of, slot_of};
+ghost use Rattle.job_core.specs.Admission.{AreAccepted, IsAdmittedFrom, IsProgramFault, RefusesJob, fault_of, number_of, place_of, slot_of};
 
 use crate::job::Job;
 use helpers::HelperTable;
@@ -130,7 +130,7 @@ fn verify_each(alloc: Global, programs: &[ProgramBytes]) -> Result<Vec<Verified>
     requires { length programs.now ≤ 16 }
     ensures accepted { IfOk result (λ accepted. AreAccepted programs.now accepted.items) }
     ensures own { IfOk result (λ accepted. AreOwn accepted.items) }
-    ensures refused { IfErr result (λ fault. IsFirstFault programs.now fault) }
+    ensures refused { IfErr result (λ fault. IsProgramFault programs.now fault) }
 {
     let helpers = HelperTable::job();
     let mut accepted = Vec::new(alloc);

@@ -27,7 +27,7 @@ pub enum Stepped {
 impl Tasks {
     ghost use Rattle.machine_model.specs.JobState.{JobState};
     ghost use Rattle.job_core.specs.Representation.{RepresentsJob, Steps, LeadsOn};
-    ghost use Rattle.job_core.specs.OneTask.{IsIdle, RunsTask};
+    ghost use Rattle.job_core.specs.OneTask.{IsSkipped, RunsTask};
     ghost use Rattle.job_core.specs.Keeping.{kept_of, IsBooked};
 
     /// One instruction of a task, if it is alive.
@@ -74,7 +74,7 @@ impl Tasks {
         ensures runs { (j : JobState) → RepresentsJob (kept_of self.old) j
             → RunsTask (kept_of self.old) j number result.0 result.1 (kept_of self.new) }
         ensures idle { result.0 ≡ 0 → 0 < limit
-            → IsIdle (kept_of self.old) number (kept_of self.new) }
+            → IsSkipped (kept_of self.old) number (kept_of self.new) }
         ensures skipped { result.1 ≡ Stepped.Skipped → kept_of self.new ≡ kept_of self.old }
         ensures whole { result.1 ≡ Stepped.Went → result.0 ≡ limit }
         ensures most { result.0 ≤ limit }

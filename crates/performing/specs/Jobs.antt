@@ -32,7 +32,7 @@ declined_line (declined.Object fault) = refusal_reply (code_of fault) None None
 declined_line (declined.Job fault) = refusal_reply (number_of fault) (place_of fault) (slot_of fault)
 
 -- how far a job is
-pub record Tells (j : JobState) (text : List ℕ) (status : ℕ) : Type 0 where
+pub record PrintsProgress (j : JobState) (text : List ℕ) (status : ℕ) : Type 0 where
   pub complete : Bool
   pub is_complete : IsTrue complete ↔ IsComplete j
   pub totals : Totals
@@ -40,7 +40,7 @@ pub record Tells (j : JobState) (text : List ℕ) (status : ℕ) : Type 0 where
   pub line : Prints text status (reply_line (play_data j.buffer complete totals.held totals.returned totals.spent totals.used)) 0
 
 -- a job's schedule leads to what is told, or there is no job, or no memory for it
-pub data IsPlayed (input text : List ℕ) (status : ℕ) : Type 0 where
-  played : (order : AdmittedJob) (schedule : List ℕ) (kept : WorldState) → IsOrdered true input order schedule → (plays : Plays order.programs (start order.credit order.buffer) schedule kept) → Tells plays.last text status → IsPlayed input text status
-  no_memory : (order : AdmittedJob) (schedule : List ℕ) → IsOrdered true input order schedule → Prints text status (refusal_reply 99 None None) 1 → IsPlayed input text status
-  no_job : (why : Declined) → IsDeclined true input why → Prints text status (declined_line why) 1 → IsPlayed input text status
+pub data PrintsPlay (input text : List ℕ) (status : ℕ) : Type 0 where
+  played : (order : AdmittedJob) (schedule : List ℕ) (kept : WorldState) → IsOrdered true input order schedule → (plays : Plays order.programs (start order.credit order.buffer) schedule kept) → PrintsProgress plays.last text status → PrintsPlay input text status
+  no_memory : (order : AdmittedJob) (schedule : List ℕ) → IsOrdered true input order schedule → Prints text status (refusal_reply 99 None None) 1 → PrintsPlay input text status
+  no_job : (why : Declined) → IsDeclined true input why → Prints text status (declined_line why) 1 → PrintsPlay input text status

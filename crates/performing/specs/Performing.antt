@@ -4,24 +4,24 @@ use Rattle.streams.specs.declared.fault.StreamFault.{StreamFault}
 use Rattle.streams.specs.declared.fault.StreamFault.TheVariants.{ReadFailed, WriteFailed, NoMemory}
 use Rattle.command_line.specs.declared.commands.Command.{Command}
 use Rattle.command_line.specs.declared.commands.Command.TheVariants.{Assemble, Disassemble, Verify, Play, Run, Serve}
-use Rattle.performing.specs.Jobs.{IsPlayed}
-use Rattle.performing.specs.Programs.{IsAssembled, IsDisassembled, IsVerified}
+use Rattle.performing.specs.Jobs.{PrintsPlay}
+use Rattle.performing.specs.Programs.{PrintsAssembly, PrintsListing, PrintsVerdict}
 
 -- the command needs no thread
-abbrev pub IsAlone : Command → Type 0
-IsAlone Assemble = Unit {0}
-IsAlone Disassemble = Unit {0}
-IsAlone (Verify need) = Unit {0}
-IsAlone Play = Unit {0}
-IsAlone (Run workers) = ⊥
-IsAlone (Serve port workers sessions) = ⊥
+abbrev pub NeedsNoThread : Command → Type 0
+NeedsNoThread Assemble = Unit {0}
+NeedsNoThread Disassemble = Unit {0}
+NeedsNoThread (Verify need) = Unit {0}
+NeedsNoThread Play = Unit {0}
+NeedsNoThread (Run workers) = ⊥
+NeedsNoThread (Serve port workers sessions) = ⊥
 
 -- the text and the status that a command answers to its input
 abbrev pub IsAnswer : Command → List ℕ → List ℕ → ℕ → Type 0
-IsAnswer Assemble input text status = IsAssembled input text status
-IsAnswer Disassemble input text status = IsDisassembled input text status
-IsAnswer (Verify need) input text status = IsVerified need input text status
-IsAnswer Play input text status = IsPlayed input text status
+IsAnswer Assemble input text status = PrintsAssembly input text status
+IsAnswer Disassemble input text status = PrintsListing input text status
+IsAnswer (Verify need) input text status = PrintsVerdict need input text status
+IsAnswer Play input text status = PrintsPlay input text status
 IsAnswer (Run workers) input text status = ⊥
 IsAnswer (Serve port workers sessions) input text status = ⊥
 

@@ -3,7 +3,7 @@
 ghost use Rattle.std.specs.Prelude.{◌≡◌, ◌∷◌, ◌++◌, [], IfOk};
 ghost use Rattle.hex.specs.Hex.{encode_lower};
 ghost use Rattle.performing.specs.Printed.{Prints, accepted_line};
-ghost use Rattle.performing.specs.Programs.{IsAssembled, IsDisassembled, IsVerified};
+ghost use Rattle.performing.specs.Programs.{PrintsAssembly, PrintsListing, PrintsVerdict};
 
 use crate::answer::{Answer, answer_refusal};
 use crate::hexadecimal::{Unread, read_hexadecimal};
@@ -43,7 +43,7 @@ fn in_hexadecimal(alloc: Global, bytes: &[u8]) -> Result<Answer, NoMemory>
 /// The bytes of the program that a source text says, in hexadecimal; or the refusal and its line.
 /// 73 where the input is no UTF-8.
 pub fn answer_assemble(alloc: Global, source: &[u8]) -> Result<Answer, NoMemory>
-    ensures { IfOk result (λ answer. IsAssembled source.now answer.text.items answer.status) }
+    ensures { IfOk result (λ answer. PrintsAssembly source.now answer.text.items answer.status) }
 {
     let text = match str::from_utf8(source) {
         Ok(text) => text,
@@ -58,7 +58,7 @@ pub fn answer_assemble(alloc: Global, source: &[u8]) -> Result<Answer, NoMemory>
 /// The lines of the program that the input writes in hexadecimal; or the refusal and its slot. 73
 /// where it isn't hexadecimal.
 pub fn answer_disassemble(alloc: Global, input: &[u8]) -> Result<Answer, NoMemory>
-    ensures { IfOk result (λ answer. IsDisassembled input.now answer.text.items answer.status) }
+    ensures { IfOk result (λ answer. PrintsListing input.now answer.text.items answer.status) }
 {
     let bytes = match read_hexadecimal(alloc, input) {
         Ok(bytes) => bytes,
@@ -88,7 +88,7 @@ fn answer_cost(alloc: Global, cost: u32) -> Result<Answer, NoMemory>
 /// The cost of the program that the input writes in hexadecimal, which calls the helpers of a job
 /// and needs so many bytes; or the refusal and its slot. 73 where the input isn't hexadecimal.
 pub fn answer_verify(alloc: Global, need: u32, input: &[u8]) -> Result<Answer, NoMemory>
-    ensures { IfOk result (λ answer. IsVerified need input.now answer.text.items answer.status) }
+    ensures { IfOk result (λ answer. PrintsVerdict need input.now answer.text.items answer.status) }
 {
     let code = match read_hexadecimal(alloc, input) {
         Ok(code) => code,

@@ -1,7 +1,7 @@
 //! A command from a source to a sink.
 
 ghost use Rattle.std.specs.Prelude.{◌≡◌, ◌≢◌, ◌<◌, ◌++◌, ℕ, List, true, false, take, length, is_err, OnOk, OnErr, IfOk, IfErr, Err};
-ghost use Rattle.performing.specs.Performing.{IsAllRead, IsAlone, IsAnswer, IsGivenUpBy};
+ghost use Rattle.performing.specs.Performing.{IsAllRead, NeedsNoThread, IsAnswer, IsGivenUpBy};
 
 use crate::answer::Answer;
 use crate::code::{answer_assemble, answer_disassemble, answer_verify};
@@ -17,12 +17,12 @@ const PIECE_LEN: usize = 4096;
 /// All that the reader gives, in pieces of at most 4,096 bytes, at most `2^64 - 1` of them.
 pub fn read_all<R: Source>(alloc: Global, reader: &mut R) -> Result<Vec<u8>, StreamFault>
     requires { R.has_failed reader.old ≡ false }
-    ensures told { IfOk result (λ bytes. R.told reader.new ≡ R.told reader.old ++ bytes.items) }
+    ensures told { IfOk result (λ bytes. R.transcript reader.new ≡ R.transcript reader.old ++ bytes.items) }
     ensures over { IfOk result
         (λ bytes. IsAllRead (R.is_over reader.new ≡ true) bytes.items) }
     ensures well { OnOk result (R.has_failed reader.new ≡ false) }
     ensures stopped { OnErr result ((input : List ℕ)
-        × (R.told reader.new ≡ R.told reader.old ++ input)) }
+        × (R.transcript reader.new ≡ R.transcript reader.old ++ input)) }
     ensures read_failed { result ≡ Err StreamFault.ReadFailed → R.has_failed reader.new ≡ true }
     ensures no_memory { result ≡ Err StreamFault.NoMemory → R.has_failed reader.new ≡ false }
     ensures no_other { result ≢ Err StreamFault.WriteFailed }
@@ -49,10 +49,10 @@ pub fn read_all<R: Source>(alloc: Global, reader: &mut R) -> Result<Vec<u8>, Str
 pub fn tell<W: Sink>(writer: &mut W, answer: &Answer) -> Result<u8, StreamFault>
     requires { W.has_failed writer.old ≡ false }
     ensures status { IfOk result (λ status. status ≡ answer.now.status) }
-    ensures ok { OnOk result (W.told writer.new ≡ W.told writer.old ++ answer.now.text.items) }
+    ensures ok { OnOk result (W.transcript writer.new ≡ W.transcript writer.old ++ answer.now.text.items) }
     ensures err { IfErr result (λ fault. (fault ≡ StreamFault.WriteFailed)
         × (n : ℕ) × (n < length answer.now.text.items)
-        × (W.told writer.new ≡ W.told writer.old ++ take n answer.now.text.items)) }
+        × (W.transcript writer.new ≡ W.transcript writer.old ++ take n answer.now.text.items)) }
     ensures failed { W.has_failed writer.new ≡ is_err result }
 {
     match write_all(writer, &answer.text) {
@@ -63,7 +63,7 @@ pub fn tell<W: Sink>(writer: &mut W, answer: &Answer) -> Result<u8, StreamFault>
 
 /// What is answered to the input, by a command that needs no thread.
 pub fn answer_to(alloc: Global, command: Command, input: &[u8]) -> Result<Answer, NoMemory>
-    requires { IsAlone command }
+    requires { NeedsNoThread command }
     ensures { IfOk result (λ answer. IsAnswer command input.now answer.text.items answer.status) }
 {
     match command {
@@ -87,17 +87,17 @@ pub fn perform<R: Source, W: Sink>(
     reader: &mut R,
     writer: &mut W,
 ) -> Result<u8, StreamFault>
-    requires alone { IsAlone command }
+    requires alone { NeedsNoThread command }
     requires source { R.has_failed reader.old ≡ false }
     requires sink { W.has_failed writer.old ≡ false }
     ensures done { IfOk result (λ status. (input text : List ℕ)
-        × (R.told reader.new ≡ R.told reader.old ++ input)
+        × (R.transcript reader.new ≡ R.transcript reader.old ++ input)
         × IsAllRead (R.is_over reader.new ≡ true) input
-        × IsAnswer command input text status × (W.told writer.new ≡ W.told writer.old ++ text)) }
+        × IsAnswer command input text status × (W.transcript writer.new ≡ W.transcript writer.old ++ text)) }
     ensures stopped { IfErr result (λ fault. (input : List ℕ)
-        × (R.told reader.new ≡ R.told reader.old ++ input)
+        × (R.transcript reader.new ≡ R.transcript reader.old ++ input)
         × IsGivenUpBy fault (IsAnswer command input) (IsAllRead (R.is_over reader.new ≡ true) input)
-        (W.told writer.old) (W.told writer.new)) }
+        (W.transcript writer.old) (W.transcript writer.new)) }
     ensures read_failed { result ≡ Err StreamFault.ReadFailed → R.has_failed reader.new ≡ true }
     ensures write_failed { result ≡ Err StreamFault.WriteFailed → W.has_failed writer.new ≡ true }
     ensures no_memory { result ≡ Err StreamFault.NoMemory → (R.has_failed reader.new ≡ false)

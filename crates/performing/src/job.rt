@@ -4,7 +4,7 @@ ghost use Rattle.std.specs.Prelude.{◌≡◌, IfOk, None};
 ghost use Rattle.job_core.specs.Representation.{RepresentsJob};
 ghost use Rattle.machine_model.specs.JobState as model;
 ghost use Rattle.performing.specs.Printed.{Prints, refusal_reply};
-ghost use Rattle.performing.specs.Jobs.{IsPlayed, Tells};
+ghost use Rattle.performing.specs.Jobs.{PrintsPlay, PrintsProgress};
 
 use crate::answer::{Answer, answer_reply};
 use crate::declined::read_job;
@@ -29,7 +29,7 @@ fn out_of_memory(alloc: Global) -> Result<Answer, NoMemory>
 // How far the job is.
 fn answer_world(alloc: Global, world: &World) -> Result<Answer, NoMemory>
     ensures { IfOk result (λ answer. (j : model.JobState) → RepresentsJob world.now j
-        → Tells j answer.text.items answer.status) }
+        → PrintsProgress j answer.text.items answer.status) }
 {
     let buffer = world.buffer(alloc)?;
     let totals = world.totals();
@@ -47,7 +47,7 @@ fn answer_world(alloc: Global, world: &World) -> Result<Answer, NoMemory>
 /// How far the job that the input says comes by its schedule, as the reply; or the refusal as a
 /// reply.
 pub fn answer_play(alloc: Global, input: &[u8]) -> Result<Answer, NoMemory>
-    ensures { IfOk result (λ answer. IsPlayed input.now answer.text.items answer.status) }
+    ensures { IfOk result (λ answer. PrintsPlay input.now answer.text.items answer.status) }
 {
     let (job, schedule) = match read_job(alloc, input, true) {
         Ok(order) => order,

@@ -2,7 +2,7 @@
 
 ghost use Rattle.std.specs.Prelude.{◌≡◌, ◌++◌, ℕ, List, true, false, OnOk, IfOk, IfErr, Err};
 ghost use Rattle.performing.specs.Performing.{IsAllRead, IsGivenUpBy};
-ghost use Rattle.pool_performing.specs.Runs.{IsOver, IsAnswer};
+ghost use Rattle.pool_performing.specs.Runs.{IsOver, IsPoolAnswer};
 
 use crate::run::answer_run;
 use command_line::Command;
@@ -21,7 +21,7 @@ fn answer_of<T: Threads + Wait + Sync>(
     input: &[u8],
 ) -> Result<Answer, NoMemory>
     requires { IsOver command }
-    ensures { IfOk result (λ answer. IsAnswer command input.now answer.text.items answer.status) }
+    ensures { IfOk result (λ answer. IsPoolAnswer command input.now answer.text.items answer.status) }
 {
     match command {
         Command::Run { workers } => answer_run(rt, alloc, workers, input),
@@ -50,13 +50,13 @@ pub fn perform<T: Threads + Wait + Sync, R: Source, W: Sink>(
     requires source { R.has_failed reader.old ≡ false }
     requires sink { W.has_failed writer.old ≡ false }
     ensures done { IfOk result (λ status. (input text : List ℕ)
-        × (R.told reader.new ≡ R.told reader.old ++ input)
+        × (R.transcript reader.new ≡ R.transcript reader.old ++ input)
         × IsAllRead (R.is_over reader.new ≡ true) input
-        × IsAnswer command input text status × (W.told writer.new ≡ W.told writer.old ++ text)) }
+        × IsPoolAnswer command input text status × (W.transcript writer.new ≡ W.transcript writer.old ++ text)) }
     ensures stopped { IfErr result (λ fault. (input : List ℕ)
-        × (R.told reader.new ≡ R.told reader.old ++ input)
-        × IsGivenUpBy fault (IsAnswer command input) (IsAllRead (R.is_over reader.new ≡ true) input)
-        (W.told writer.old) (W.told writer.new)) }
+        × (R.transcript reader.new ≡ R.transcript reader.old ++ input)
+        × IsGivenUpBy fault (IsPoolAnswer command input) (IsAllRead (R.is_over reader.new ≡ true) input)
+        (W.transcript writer.old) (W.transcript writer.new)) }
     ensures read_failed { result ≡ Err StreamFault.ReadFailed → R.has_failed reader.new ≡ true }
     ensures write_failed { result ≡ Err StreamFault.WriteFailed → W.has_failed writer.new ≡ true }
     ensures no_memory { result ≡ Err StreamFault.NoMemory → (R.has_failed reader.new ≡ false)

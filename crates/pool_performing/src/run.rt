@@ -3,7 +3,7 @@
 ghost use Rattle.std.specs.Prelude.{◌≡◌, ◌≤◌, IfOk, None};
 ghost use Rattle.performing.specs.Printed.{Prints, refusal_reply, reply_line};
 ghost use Rattle.sessions.specs.Replies.{result_data};
-ghost use Rattle.pool_performing.specs.Runs.{IsRun};
+ghost use Rattle.pool_performing.specs.Runs.{PrintsRun};
 
 use credit_book::Report;
 use performing::{Answer, answer_reply, read_job};
@@ -55,7 +55,7 @@ pub fn answer_run<R: Threads + Wait + Sync>(
     input: &[u8],
 ) -> Result<Answer, NoMemory>
     requires { (1 ≤ workers) × (workers ≤ 16) }
-    ensures { IfOk result (λ answer. IsRun input.now answer.text.items answer.status) }
+    ensures { IfOk result (λ answer. PrintsRun input.now answer.text.items answer.status) }
 {
     let (job, _) = match read_job(alloc, input, false) {
         Ok(order) => order,

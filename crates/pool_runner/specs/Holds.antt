@@ -25,7 +25,7 @@ pub record Changes (old : Places) (number : ℕ) (held : Option Held) (new : Pla
   pub others : (n : ℕ) → n ≢ number → held_at new n ≡ held_at old n
 
 -- all are as they were
-pub record Stays (old new : Places) : Type 0 where
+pub record IsUnchanged (old new : Places) : Type 0 where
   pub each : (n : ℕ) → held_at new n ≡ held_at old n
   pub count : count_of new ≡ count_of old
 
@@ -40,7 +40,7 @@ pub record Adds (old : Places) (number : ℕ) (job : AdmittedJob) (new : Places)
 -- a job is held, or the start is refused by 81 or 99
 abbrev pub Starts : Places → ℕ → AdmittedJob → Result (Unit {0}) ℕ → Places → Type 0
 Starts old number job (Ok _) new = Adds old number job new
-Starts old number job (Err code) new = ((code ≡ 81) ⊎ (code ≡ 99)) × Stays old new
+Starts old number job (Err code) new = ((code ≡ 81) ⊎ (code ≡ 99)) × IsUnchanged old new
 
 -- a job is seen
 pub record Sees (old : Places) (number : ℕ) (held : Held) (told : Progress) (new : Places) : Type 0 where
@@ -52,10 +52,10 @@ pub record Sees (old : Places) (number : ℕ) (held : Held) (told : Progress) (n
 -- what is told of what is held under the number
 unfoldable pub looks_at : Places → ℕ → Option Held → Progress → Places → Type 0
 looks_at old number (Some held) told new = Sees old number held told new
-looks_at old number None told new = (told ≡ record { spent = 0; returned = 0; complete = false }) × Stays old new
+looks_at old number None told new = (told ≡ record { spent = 0; returned = 0; complete = false }) × IsUnchanged old new
 
-abbrev pub Looks : Places → ℕ → Progress → Places → Type 0
-Looks old number told new = looks_at old number (held_at old number) told new
+abbrev pub TellsProgress : Places → ℕ → Progress → Places → Type 0
+TellsProgress old number told new = looks_at old number (held_at old number) told new
 
 -- one job fewer, with what it came to
 pub record Gives (old : Places) (number : ℕ) (outcome : Result Report ℕ) (new : Places) : Type 0 where
@@ -65,6 +65,6 @@ pub record Gives (old : Places) (number : ℕ) (outcome : Result Report ℕ) (ne
   pub changes : Changes old number None new
   pub count : count_of new + 1 ≡ count_of old
 
-abbrev pub Takes : Places → Option (ℕ × Result Report ℕ) → Places → Type 0
-Takes old (Some taken) new = Gives old taken.0 taken.1 new
-Takes old None new = Stays old new
+abbrev pub TakesReport : Places → Option (ℕ × Result Report ℕ) → Places → Type 0
+TakesReport old (Some taken) new = Gives old taken.0 taken.1 new
+TakesReport old None new = IsUnchanged old new

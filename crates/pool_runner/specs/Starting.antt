@@ -3,12 +3,12 @@ use Rattle.std.specs.Prelude.{◌≡◌, ℕ, Option, Some, Result}
 use Rattle.std.specs.declared.thread.PromisedHandle.{PromisedHandle}
 use Rattle.credit_book.specs.declared.book.Report.{Report}
 use Rattle.pool_runner.specs.declared.ending.EndOf.{EndOf}
-use Rattle.pool_runner.specs.declared.errand.Errand.{Errand}
+use Rattle.pool_runner.specs.declared.job_request.JobRequest.{JobRequest}
 
 -- the thread promises the end of the errand's own job, under its own number
-abbrev pub IsStarted : Errand → PromisedHandle (Result Report ℕ) EndOf → Type 0
+abbrev pub IsStarted : JobRequest → PromisedHandle (Result Report ℕ) EndOf → Type 0
 IsStarted errand thread = (thread.promise.number ≡ errand.number) × (thread.promise.job.value ≡ errand.job)
 
 -- so does each thread that may come of an errand
-abbrev pub StartsOwn : (Errand → Option (PromisedHandle (Result Report ℕ) EndOf) → Type 0) → Type 0
-StartsOwn may_start = (errand : Errand) (thread : PromisedHandle (Result Report ℕ) EndOf) → may_start errand (Some thread) → IsStarted errand thread
+abbrev pub StartsOwn : (JobRequest → Option (PromisedHandle (Result Report ℕ) EndOf) → Type 0) → Type 0
+StartsOwn may_start = (errand : JobRequest) (thread : PromisedHandle (Result Report ℕ) EndOf) → may_start errand (Some thread) → IsStarted errand thread

@@ -3,12 +3,12 @@
 
 // one job: ahead of its thread, in it, and after it
 mod ending;
-mod errand;
+mod job_request;
 mod running;
 mod starting;
 
 pub use ending::{EndOf, JobThread};
-pub use errand::Errand;
+pub use job_request::JobRequest;
 pub use starting::start_thread;
 
 // all jobs

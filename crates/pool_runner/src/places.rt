@@ -8,7 +8,7 @@ ghost use Rattle.slab.specs.Slab as slots;
 ghost use Rattle.pool_runner.specs.Holding.{AreKept, IsSeen};
 
 use crate::ending::JobThread;
-use crate::errand::Errand;
+use crate::job_request::JobRequest;
 use crate::keys::{forget, key_of, note};
 use crate::running::{Running, begin};
 use credit_book::{Progress, Report};
@@ -61,7 +61,7 @@ fn finished<R: Wait>(
 
 impl Places {
     ghost use Rattle.std.specs.Prelude.{◌≡◌, ℕ, None};
-    ghost use Rattle.pool_runner.specs.Holds.{held_at, count_of, Starts, Looks, Takes};
+    ghost use Rattle.pool_runner.specs.Holds.{held_at, count_of, Starts, TellsProgress, TakesReport};
     ghost use Rattle.pool_runner.specs.Starting.{StartsOwn};
 
     /// Places that nothing has.
@@ -77,7 +77,7 @@ impl Places {
 
     /// Starts a job, whose places are made ahead of its thread and given up where the start is
     /// refused: by 99, or by 81 where no thread could be started, or a job of this number is held.
-    pub fn start<F: Fn(Errand) -> Option<JobThread>>(
+    pub fn start<F: Fn(JobRequest) -> Option<JobThread>>(
         &mut self,
         alloc: Global,
         starter: &F,
@@ -113,7 +113,7 @@ impl Places {
     /// What the board of the job tells now; 0, 0 and not complete where the job isn't held.
     #[tactic(auto, unfolding(crate::specs::Holds::looks_at))]
     pub fn look(&mut self, number: u64) -> Progress
-        ensures { Looks self.old number result self.new }
+        ensures { TellsProgress self.old number result self.new }
     {
         let Some(key) = key_of(&self.keys, number) else {
             return Progress {
@@ -128,7 +128,7 @@ impl Places {
     /// The finished job of lowest number and what it came to. It isn't held any more, and its
     /// thread has ended.
     pub fn take<R: Wait + Threads>(&mut self, rt: &R) -> Option<(u64, Result<Report, u8>)>
-        ensures { Takes self.old result self.new }
+        ensures { TakesReport self.old result self.new }
     {
         let (number, key) = finished(&self.jobs, &self.keys, rt)?;
         forget(&mut self.keys, number);

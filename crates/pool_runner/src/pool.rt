@@ -1,7 +1,7 @@
 //! A runner that runs each job in a thread of its own.
 
 use crate::ending::JobThread;
-use crate::errand::Errand;
+use crate::job_request::JobRequest;
 use crate::places::Places;
 use credit_book::{Progress, Report};
 use job_core::Job;
@@ -17,13 +17,13 @@ use streams::Runner;
 /// promise the end of the errand's own job. That a thread is ever run, or a job ever finished, is
 /// nowhere claimed.
 #[derive(Drop)]
-pub struct PoolRunner<R, F: Fn(Errand) -> Option<JobThread>> {
+pub struct PoolRunner<R, F: Fn(JobRequest) -> Option<JobThread>> {
     rt: R,
     starter: F,
     places: Places,
 }
 
-impl<R: Drop, F: Fn(Errand) -> Option<JobThread> + Drop> PoolRunner<R, F> {
+impl<R: Drop, F: Fn(JobRequest) -> Option<JobThread> + Drop> PoolRunner<R, F> {
     ghost use Rattle.std.specs.Prelude.{◌≡◌, ℕ, None};
     ghost use Rattle.pool_runner.specs.Holds.{held_at};
 
@@ -40,7 +40,7 @@ impl<R: Drop, F: Fn(Errand) -> Option<JobThread> + Drop> PoolRunner<R, F> {
     }
 }
 
-impl<R: Threads + Drop, F: Fn(Errand) -> Option<JobThread> + Drop> PoolRunner<R, F> {
+impl<R: Threads + Drop, F: Fn(JobRequest) -> Option<JobThread> + Drop> PoolRunner<R, F> {
     /// Waits for the threads of all jobs.
     pub fn join_all(self) {
         let PoolRunner {
@@ -52,9 +52,9 @@ impl<R: Threads + Drop, F: Fn(Errand) -> Option<JobThread> + Drop> PoolRunner<R,
     }
 }
 
-impl<R: Threads + Wait + Drop, F: Fn(Errand) -> Option<JobThread> + Drop> Runner
+impl<R: Threads + Wait + Drop, F: Fn(JobRequest) -> Option<JobThread> + Drop> Runner
     for PoolRunner<R, F> {
-    ghost use Rattle.pool_runner.specs.Holds.{count_of, Starts, Looks, Takes};
+    ghost use Rattle.pool_runner.specs.Holds.{count_of, Starts, TellsProgress, TakesReport};
     ghost use Rattle.pool_runner.specs.Starting.{StartsOwn};
 
     ghost held = { λ p. count_of p.places };
@@ -63,9 +63,9 @@ impl<R: Threads + Wait + Drop, F: Fn(Errand) -> Option<JobThread> + Drop> Runner
 
     ghost starts = { λ p number order result q. Starts p.places number order result q.places };
 
-    ghost looks = { λ p number progress q. Looks p.places number progress q.places };
+    ghost looks = { λ p number progress q. TellsProgress p.places number progress q.places };
 
-    ghost takes = { λ p result q. Takes p.places result q.places };
+    ghost takes = { λ p result q. TakesReport p.places result q.places };
 
     fn start(&mut self, alloc: Global, number: u64, job: Job) -> Result<(), u8> {
         self.places.start(alloc, &self.starter, number, job)

@@ -6,7 +6,7 @@ ghost use Rattle.pool_runner.specs.Holding.{IsFresh, IsSeen};
 ghost use Rattle.pool_runner.specs.Starting.{StartsOwn};
 
 use crate::ending::JobThread;
-use crate::errand::Errand;
+use crate::job_request::JobRequest;
 use credit_book::{Board, Progress, Reader, Report};
 use job_core::Job;
 use std::alloc::Global;
@@ -37,7 +37,7 @@ impl Model for Running {
 
 /// Starts the thread of a job by `starter`, once all that it needs is made: 99 where a growth was
 /// refused, and 81 where no thread could be started.
-pub(crate) fn begin<F: Fn(Errand) -> Option<JobThread>>(
+pub(crate) fn begin<F: Fn(JobRequest) -> Option<JobThread>>(
     alloc: Global,
     starter: &F,
     number: u64,
@@ -57,7 +57,7 @@ pub(crate) fn begin<F: Fn(Errand) -> Option<JobThread>>(
     let Ok(for_thread) = Arc::try_clone(&is_done) else {
         return Err(99);
     };
-    let errand = Errand {
+    let errand = JobRequest {
         alloc,
         number,
         job,

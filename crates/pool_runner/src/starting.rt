@@ -5,7 +5,7 @@ ghost use Rattle.pool_runner.specs.Endings.{IsEndOf};
 ghost use Rattle.pool_runner.specs.Starting.{IsStarted};
 
 use crate::ending::{EndOf, JobThread};
-use crate::errand::Errand;
+use crate::job_request::JobRequest;
 use credit_book::Report;
 use std::snapshot::Snapshot;
 use std::sync::Wait;
@@ -16,7 +16,7 @@ use std::thread::Threads;
 /// `None`: no thread could be started.
 pub fn start_thread<R: Threads + Wait + Copy + Send + Sync + 'static>(
     rt: R,
-    errand: Errand,
+    errand: JobRequest,
     workers: u32,
 ) -> Option<JobThread>
     requires { (1 ≤ workers) × (workers ≤ 16) }

@@ -25,7 +25,7 @@ use Rattle.streams.specs.Serves as serving
 use Rattle.streams.specs.Stops.{EndsWith, IsServed, StopsAt, too_large_reply}
 use Rattle.streams.proofs.Answered.{opened}
 use Rattle.runners.specs.Played.{IsPlayed, StartsInline, TakesInline}
-use Rattle.runners.specs.LedgerReplies.{AreNoted, ComesTo, LedgerReplies, PlaysJob, PlaysNone, RepliesTo, Tells, WritesReplies, none_yet, one_more, unseen}
+use Rattle.runners.specs.LedgerReplies.{AreNoted, ComesTo, LedgerReplies, TakesAndPlays, PlaysNone, RepliesTo, Tells, WritesReplies, none_yet, one_more, unseen}
 
 -- ---- each report can be noted
 
@@ -90,7 +90,7 @@ module _ {R : Type 0} (reports : R → List (ℕ × Report)) where
     same_ledger is = subst (λ held. AreNoted after held ledger) (ap reports is ∙ none) noted
 
     plain_job : (name : List ℕ) (programs : List ProgramBytes) (credit : ℕ) (buffer : List ℕ) (told : Data) → (t : TakesJob starts desk runner name programs credit buffer told after left) →
-        (x : Result (Unit {0}) ℕ) → t.outcome ≡ x → PlaysJob desk name programs credit buffer told ledger
+        (x : Result (Unit {0}) ℕ) → t.outcome ≡ x → TakesAndPlays desk name programs credit buffer told ledger
     plain_job name programs credit buffer told t (Ok u) is =
         let played = subst (λ o. starts runner (length t.mid.jobs) t.job o left) is t.starts_job in
         let settles = subst (λ o. Settles t.mid (length t.mid.jobs) o after) is t.settles in
@@ -125,7 +125,7 @@ module _ {R : Type 0} (reports : R → List (ℕ × Report)) where
         }
 
     plain_submit : (name : List ℕ) (programs : List ProgramBytes) (credit : ℕ) (buffer : List ℕ) (told : Data) → Submits starts desk runner name programs credit buffer told after left →
-        PlaysJob desk name programs credit buffer told ledger ⊎ PlaysNone desk name programs credit buffer told ledger
+        TakesAndPlays desk name programs credit buffer told ledger ⊎ PlaysNone desk name programs credit buffer told ledger
     plain_submit name programs credit buffer told (inl t) = inl (plain_job name programs credit buffer told t t.outcome refl)
     plain_submit name programs credit buffer told (inr t) = inr (record { fault = t.fault; why = t.why; same = same_ledger t.same_runner ∙ t.same; tells = t.tells })
 

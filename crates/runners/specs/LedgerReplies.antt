@@ -19,15 +19,15 @@ use Rattle.streams.specs.Stops.{EndsWith, StopsAt}
 use Rattle.runners.specs.Played.{IsPlayed}
 
 -- what a job that is submitted comes to: the report of its run, in which the live task of lowest number is always the next; or no run, for want of memory
-abbrev pub ComesTo : core.Order → Result Report ℕ → Type 0
+abbrev pub ComesTo : core.AdmittedJob → Result Report ℕ → Type 0
 ComesTo job (Ok report) = IsPlayed job report
 ComesTo job (Err code) = code ≡ 99
 
 -- a job is taken and played, and is over under its number, which is told
-pub record PlaysJob (desk : Ledger) (name : List ℕ) (programs : List ProgramBytes) (credit : ℕ) (buffer : List ℕ) (told : Data) (after : Ledger) : Type 0 where
+pub record TakesAndPlays (desk : Ledger) (name : List ℕ) (programs : List ProgramBytes) (credit : ℕ) (buffer : List ℕ) (told : Data) (after : Ledger) : Type 0 where
   pub mid : Ledger
   pub takes : Takes desk name credit mid
-  pub job : core.Order
+  pub job : core.AdmittedJob
   pub admitted : IsAdmittedFrom programs credit buffer job
   pub outcome : Result Report ℕ
   pub comes : ComesTo job outcome
@@ -52,7 +52,7 @@ Tells desk (Ok (grant name amount)) told after = Grants desk name amount told af
 Tells desk (Ok (account name)) told after = (told ≡ account_told (account_at desk name)) × (after ≡ desk)
 Tells desk (Ok (submit name order)) told after =
     (programs : List ProgramBytes) × (map program_asked programs ≡ order.programs)
-    × (PlaysJob desk name programs order.credit order.buffer told after ⊎ PlaysNone desk name programs order.credit order.buffer told after)
+    × (TakesAndPlays desk name programs order.credit order.buffer told after ⊎ PlaysNone desk name programs order.credit order.buffer told after)
 Tells desk (Ok (status number)) told after = (told ≡ progress_told (progress_at desk number unseen)) × (after ≡ desk)
 Tells desk (Ok (result number)) told after = (told ≡ report_told (report_at desk number)) × (after ≡ desk)
 

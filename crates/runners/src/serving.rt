@@ -21,10 +21,10 @@ pub fn serve_inline<R: Source, W: Sink>(
     requires source { R.has_failed reader.old ≡ false }
     requires sink { W.has_failed writer.old ≡ false }
     ensures replies { IfOk result (λ number. (all : List ℕ)
-        × (R.told reader.new ≡ R.told reader.old ++ all)
-        × WritesReplies desk.old runner.old.finished.entries all (W.told writer.old)
+        × (R.transcript reader.new ≡ R.transcript reader.old ++ all)
+        × WritesReplies desk.old runner.old.finished.entries all (W.transcript writer.old)
         (R.is_over reader.new ≡ true) desk.new runner.new.finished.entries number
-        (W.told writer.new)) }
+        (W.transcript writer.new)) }
 {
     serve_stream(alloc, reader, writer, desk, runner)
 }

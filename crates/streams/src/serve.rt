@@ -53,9 +53,9 @@ fn answer_one<W: Sink, D, H: Handler<D>>(
     ensures ready { H.ready handler.new }
     ensures ok { OnOk result ((reply : List ℕ)
         × H.answers (desk.old, handler.old) (query_of request) reply (desk.new, handler.new)
-        × (W.told writer.new ≡ W.told writer.old ++ reply)) }
+        × (W.transcript writer.new ≡ W.transcript writer.old ++ reply)) }
     ensures err { IfErr result (λ fault. IsUnwritten fault H.answers (desk.old, handler.old)
-        (query_of request) (W.told writer.old) (desk.new, handler.new) (W.told writer.new)) }
+        (query_of request) (W.transcript writer.old) (desk.new, handler.new) (W.transcript writer.new)) }
     ensures well { OnOk result (W.has_failed writer.new ≡ false) }
     ensures write_failed { result ≡ Err StreamFault.WriteFailed → W.has_failed writer.new ≡ true }
     ensures no_memory { result ≡ Err StreamFault.NoMemory → W.has_failed writer.new ≡ false }
@@ -83,13 +83,13 @@ fn answer_frames<W: Sink, D, H: Handler<D>>(
     requires ready { H.ready handler.old }
     ensures ready { H.ready handler.new }
     ensures served { IfOk result (λ _. (count : ℕ)
-        × Serves H.answers (desk.old, handler.old) (unread session.old) (W.told writer.old)
-        count (desk.new, handler.new) (unread session.new) (W.told writer.new)
+        × Serves H.answers (desk.old, handler.old) (unread session.old) (W.transcript writer.old)
+        count (desk.new, handler.new) (unread session.new) (W.transcript writer.new)
         × (number.new ≡ min (number.old + count) (2 ^ 64 - 1))) }
     ensures left { IfOk result (λ goes_on. front (unread session.new)
         ≡ (if goes_on then partial else too_large)) }
     ensures stopped { IfErr result (λ fault. IsStoppedBy fault H.answers (desk.old, handler.old)
-        (unread session.old) (W.told writer.old) (desk.new, handler.new) (W.told writer.new)) }
+        (unread session.old) (W.transcript writer.old) (desk.new, handler.new) (W.transcript writer.new)) }
     ensures well { OnOk result (W.has_failed writer.new ≡ false) }
     ensures goes_on { IfOk result (λ goes_on. IsTrue goes_on → ended_by session.new ≡ None) }
     ensures write_failed { result ≡ Err StreamFault.WriteFailed → W.has_failed writer.new ≡ true }
@@ -125,14 +125,14 @@ fn take_piece<W: Sink, D, H: Handler<D>>(
     ensures ready { H.ready handler.new }
     ensures served { IfOk result (λ _. (count : ℕ)
         × Serves H.answers (desk.old, handler.old) (unread session.old
-        ++ piece.now) (W.told writer.old) count (desk.new, handler.new) (unread session.new)
-        (W.told writer.new)
+        ++ piece.now) (W.transcript writer.old) count (desk.new, handler.new) (unread session.new)
+        (W.transcript writer.new)
         × (number.new ≡ min (number.old + count) (2 ^ 64 - 1))) }
     ensures left { IfOk result (λ goes_on. front (unread session.new)
         ≡ (if goes_on then partial else too_large)) }
     ensures stopped { IfErr result (λ fault. IsStoppedBy fault H.answers (desk.old, handler.old)
-        (unread session.old ++ piece.now) (W.told writer.old) (desk.new, handler.new)
-        (W.told writer.new)) }
+        (unread session.old ++ piece.now) (W.transcript writer.old) (desk.new, handler.new)
+        (W.transcript writer.new)) }
     ensures well { OnOk result (W.has_failed writer.new ≡ false) }
     ensures goes_on { IfOk result (λ goes_on. IsTrue goes_on → ended_by session.new ≡ None) }
     ensures write_failed { result ≡ Err StreamFault.WriteFailed → W.has_failed writer.new ≡ true }
@@ -148,9 +148,9 @@ fn take_piece<W: Sink, D, H: Handler<D>>(
 // Answers a length over the limit.
 fn refuse_length<W: Sink>(alloc: Global, writer: &mut W) -> Result<(), StreamFault>
     requires { W.has_failed writer.old ≡ false }
-    ensures ok { OnOk result (W.told writer.new ≡ W.told writer.old ++ too_large_reply) }
-    ensures err { IfErr result (λ fault. IsLastUnwritten fault (W.told writer.old)
-        (W.told writer.new)) }
+    ensures ok { OnOk result (W.transcript writer.new ≡ W.transcript writer.old ++ too_large_reply) }
+    ensures err { IfErr result (λ fault. IsLastUnwritten fault (W.transcript writer.old)
+        (W.transcript writer.new)) }
     ensures well { OnOk result (W.has_failed writer.new ≡ false) }
     ensures write_failed { result ≡ Err StreamFault.WriteFailed → W.has_failed writer.new ≡ true }
     ensures no_memory { result ≡ Err StreamFault.NoMemory → W.has_failed writer.new ≡ false }
@@ -194,13 +194,13 @@ pub fn serve_stream<R: Source, W: Sink, D, H: Handler<D>>(
     requires ready { H.ready handler.old }
     ensures ready { H.ready handler.new }
     ensures served { IfOk result (λ number. (all : List ℕ)
-        × (R.told reader.new ≡ R.told reader.old ++ all)
-        × IsServed H.answers (desk.old, handler.old) all (W.told writer.old) (R.is_over reader.new
-        ≡ true) (desk.new, handler.new) number (W.told writer.new)) }
+        × (R.transcript reader.new ≡ R.transcript reader.old ++ all)
+        × IsServed H.answers (desk.old, handler.old) all (W.transcript writer.old) (R.is_over reader.new
+        ≡ true) (desk.new, handler.new) number (W.transcript writer.new)) }
     ensures stopped { IfErr result (λ fault. (all : List ℕ)
-        × (R.told reader.new ≡ R.told reader.old ++ all)
-        × IsStoppedBy fault H.answers (desk.old, handler.old) all (W.told writer.old)
-        (desk.new, handler.new) (W.told writer.new)) }
+        × (R.transcript reader.new ≡ R.transcript reader.old ++ all)
+        × IsStoppedBy fault H.answers (desk.old, handler.old) all (W.transcript writer.old)
+        (desk.new, handler.new) (W.transcript writer.new)) }
     ensures read_failed { result ≡ Err StreamFault.ReadFailed → R.has_failed reader.new ≡ true }
     ensures write_failed { result ≡ Err StreamFault.WriteFailed → W.has_failed writer.new ≡ true }
     ensures no_memory { result ≡ Err StreamFault.NoMemory → (R.has_failed reader.new ≡ false)

@@ -2,7 +2,7 @@
 
 use crate::{Failed, Sink, Source};
 use std::io::{Read, Write};
-use traces::Told;
+use traces::Transcript;
 
 /// A reader or a writer, with what went through it.
 ///
@@ -12,7 +12,7 @@ use traces::Told;
 #[derive(Drop)]
 pub struct Tap<T> {
     inner: T,
-    told: Told,
+    transcript: Transcript,
     has_failed: bool,
     is_over: bool,
 }
@@ -23,12 +23,12 @@ impl<T: Drop> Tap<T> {
     /// An end that nothing went through.
     pub fn new(inner: T) -> Tap<T>
         ensures inner { result.inner ≡ inner }
-        ensures told { result.told.bytes ≡ [] }
+        ensures told { result.transcript.bytes ≡ [] }
         ensures well { result.has_failed ≡ false }
     {
         Tap {
             inner,
-            told: Told::new(),
+            transcript: Transcript::new(),
             has_failed: false,
             is_over: false,
         }
@@ -44,7 +44,7 @@ impl<T: Drop> Tap<T> {
 }
 
 impl<T: Read> Source for Tap<T> {
-    ghost told = { λ t. t.told.bytes };
+    ghost transcript = { λ t. t.transcript.bytes };
 
     ghost has_failed = { λ t. t.has_failed };
 
@@ -55,7 +55,7 @@ impl<T: Read> Source for Tap<T> {
     fn read(&mut self, piece: &mut [u8]) -> Result<usize, Failed> {
         match self.inner.read(piece) {
             Ok(count) => {
-                self.told = self.told.then(&piece[..count]);
+                self.transcript = self.transcript.then(&piece[..count]);
                 self.is_over = count == 0;
                 Ok(count)
             }
@@ -68,7 +68,7 @@ impl<T: Read> Source for Tap<T> {
 }
 
 impl<T: Write> Sink for Tap<T> {
-    ghost told = { λ t. t.told.bytes };
+    ghost transcript = { λ t. t.transcript.bytes };
 
     ghost has_failed = { λ t. t.has_failed };
 
@@ -86,7 +86,7 @@ impl<T: Write> Sink for Tap<T> {
             self.has_failed = true;
             return Err(Failed);
         }
-        self.told = self.told.then(&piece[..count]);
+        self.transcript = self.transcript.then(&piece[..count]);
         Ok(count)
     }
 }

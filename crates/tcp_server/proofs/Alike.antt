@@ -17,8 +17,8 @@ use Rattle.streams.specs.declared.fault.StreamFault.{StreamFault}
 use Rattle.streams.specs.declared.fault.StreamFault.TheVariants.{ReadFailed, WriteFailed, NoMemory}
 use Rattle.tcp_server.specs.declared.fault.ServeFault.{ServeFault}
 use Rattle.pool_runner.specs.declared.places.Places.{Places}
-use Rattle.pool_runner.specs.Holds.{Starts, Looks, Takes}
-use Rattle.tcp_server.specs.Serving.{IsServing, Noted, Steps, new_desk}
+use Rattle.pool_runner.specs.Holds.{Starts, TellsProgress, TakesReport}
+use Rattle.tcp_server.specs.Serving.{IsServing, Noted, AnyStep, new_desk}
 use Rattle.tcp_server.specs.Visits.{IsThrough, Passage, Visit, Visits, answers_by, none_yet, not_taken, one_more, taken}
 
 -- ---- a desk and a runner, and that desk with what the runner comes to
@@ -148,22 +148,22 @@ module _ {S T : Type 0} (g : S → T) (answers : S → Result Asked ℕ → List
 
 -- the runner's own state is forgotten, but for the jobs that it holds
 pub pool_visits : {L R : Type 0} (f : R → Places) (opens fails : L → L → Type 0) (notes : L → Passage → L → Type 0) (l : L) (s : Ledger × R) (n : ℕ) (m : L) (t : Ledger × R) (outcome : Result (Unit {0}) ServeFault) →
-    Visits opens fails notes (answers_by (λ r number order result q. Starts (f r) number order result (f q)) (λ r number progress q. Looks (f r) number progress (f q)) (λ r result q. Takes (f r) result (f q))) l s n m t outcome →
-    Visits opens fails notes (answers_by Starts Looks Takes) l (beside f s) n m (beside f t) outcome
+    Visits opens fails notes (answers_by (λ r number order result q. Starts (f r) number order result (f q)) (λ r number progress q. TellsProgress (f r) number progress (f q)) (λ r result q. TakesReport (f r) result (f q))) l s n m t outcome →
+    Visits opens fails notes (answers_by Starts TellsProgress TakesReport) l (beside f s) n m (beside f t) outcome
 pool_visits f opens fails notes l s n m t outcome visits =
-    visits_alike (beside f) _ (answers_by Starts Looks Takes)
-    (answers_alike f _ _ _ Starts Looks Takes (λ r n o x s h. h) (λ r n p s h. h) (λ r x s h. h))
+    visits_alike (beside f) _ (answers_by Starts TellsProgress TakesReport)
+    (answers_alike f _ _ _ Starts TellsProgress TakesReport (λ r n o x s h. h) (λ r n p s h. h) (λ r x s h. h))
     (λ k. k) opens fails notes opens fails notes (λ a b h. h) (λ a b h. h) (λ a p b h. h) l s n m t outcome visits
 
 -- and so is a listener of which nothing is known
 pub any_listener : {L : Type 0} (listener : L) (sessions : ℕ) (outcome : Result (Unit {0}) ServeFault) → IsServing {L = L} (λ _ _. Unit {0}) (λ _ _. Unit {0}) (λ _ _ _. Unit {0}) listener sessions outcome →
-    IsServing Steps Steps Noted tt sessions outcome
+    IsServing AnyStep AnyStep Noted tt sessions outcome
 any_listener {L} listener sessions outcome serving = record {
   first = serving.first;
   none = serving.none;
   last = tt;
   end = serving.end;
-  visits = visits_alike (λ (s : Ledger × Places). s) (answers_by Starts Looks Takes) (answers_by Starts Looks Takes) (λ s q r t h. h)
-      (λ (l : L). tt) (λ _ _. Unit {0}) (λ _ _. Unit {0}) (λ _ _ _. Unit {0}) Steps Steps Noted (λ a b h. tt) (λ a b h. tt) (λ a p b h. tt)
+  visits = visits_alike (λ (s : Ledger × Places). s) (answers_by Starts TellsProgress TakesReport) (answers_by Starts TellsProgress TakesReport) (λ s q r t h. h)
+      (λ (l : L). tt) (λ _ _. Unit {0}) (λ _ _. Unit {0}) (λ _ _ _. Unit {0}) AnyStep AnyStep Noted (λ a b h. tt) (λ a b h. tt) (λ a p b h. tt)
       listener (new_desk, serving.first) sessions serving.last serving.end outcome serving.visits;
 }

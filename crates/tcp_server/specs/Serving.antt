@@ -2,7 +2,7 @@
 use Rattle.std.specs.Prelude.{◌≡◌, ◌⊎◌, ℕ, [], None, Result, Err}
 use Rattle.accounts.specs.Ledgers.{Ledger}
 use Rattle.pool_runner.specs.declared.places.Places.{Places}
-use Rattle.pool_runner.specs.Holds.{held_at, Starts, Looks, Takes}
+use Rattle.pool_runner.specs.Holds.{held_at, Starts, TellsProgress, TakesReport}
 use Rattle.tcp_server.specs.declared.fault.ServeFault.{ServeFault}
 use Rattle.tcp_server.specs.declared.fault.ServeFault.TheVariants.{Socket}
 use Rattle.tcp_server.specs.Visits.{Passage, Visits, answers_by}
@@ -17,15 +17,15 @@ pub record IsServing {L : Type 0} (opens fails : L → L → Type 0) (notes : L 
   pub none : (n : ℕ) → held_at first n ≡ None
   pub last : L
   pub end : Ledger × Places
-  pub visits : Visits opens fails notes (answers_by Starts Looks Takes) listener (new_desk, first) sessions last end outcome
+  pub visits : Visits opens fails notes (answers_by Starts TellsProgress TakesReport) listener (new_desk, first) sessions last end outcome
 
 -- any step of a listener of which nothing is known
-abbrev pub Steps : Unit {0} → Unit {0} → Type 0
-Steps old new = Unit {0}
+abbrev pub AnyStep : Unit {0} → Unit {0} → Type 0
+AnyStep old new = Unit {0}
 
 abbrev pub Noted : Unit {0} → Passage → Unit {0} → Type 0
 Noted old passage new = Unit {0}
 
 -- so many connections that came, or the port can't be listened on
 abbrev pub IsServingPort : ℕ → Result (Unit {0}) ServeFault → Type 0
-IsServingPort sessions outcome = IsServing Steps Steps Noted tt sessions outcome ⊎ (outcome ≡ Err Socket)
+IsServingPort sessions outcome = IsServing AnyStep AnyStep Noted tt sessions outcome ⊎ (outcome ≡ Err Socket)

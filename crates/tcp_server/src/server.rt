@@ -9,7 +9,7 @@ use crate::connections::serve_connections;
 use crate::fault::ServeFault;
 use crate::listener::Listener;
 use accounts::Desk;
-use pool_runner::{Errand, JobThread, PoolRunner, start_thread};
+use pool_runner::{JobRequest, JobThread, PoolRunner, start_thread};
 use std::alloc::Global;
 use std::net::{Net, TcpListener, TcpStream};
 use std::sync::Wait;
@@ -31,7 +31,7 @@ pub fn serve_on<R: Threads + Wait + Copy + Send + Sync + Drop + 'static, L: List
     requires { (1 ≤ workers) × (workers ≤ 16) }
     ensures { IsServing L.opens L.fails L.notes listener sessions result }
 {
-    let starter = move |errand: Errand| -> Option<JobThread>
+    let starter = move |errand: JobRequest| -> Option<JobThread>
         requires { (1 ≤ workers) × (workers ≤ 16) }
         ensures { IfSome result (λ thread. IsStarted errand thread) }
     { start_thread(rt, errand, workers) };

@@ -4,7 +4,7 @@ ghost use Rattle.std.specs.Prelude.{◌≡◌, [], length, Some};
 ghost use Rattle.helpers.specs.Table.{job_table};
 ghost use Rattle.verifier.specs.Checked.{Checked};
 ghost use Rattle.virtual_machine.specs.Holding.{functions_in, program_in};
-ghost use Rattle.telgovan_c.specs.Runs.{IsBurst, IsOutcome, IsRun, IsSingle, RunInTurn, refused_run};
+ghost use Rattle.telgovan_c.specs.Runs.{IsBurst, IsRunOutcome, RunsInPlace, IsSingle, RunInTurn, refused_run};
 
 use crate::verdicts::{Verdict, accepted_verdict, refused_verdict};
 use helpers::HelperTable;
@@ -57,7 +57,7 @@ fn refused_run(number: u32) -> RunOutcome
 fn run_on(vm: &mut Vm, bytes: &mut [u8], argument: u64, credit: u32) -> RunOutcome
     requires functions { functions_in vm.old ≡ [] }
     ensures outcome { (p : Checked) → program_in vm.old ≡ Some p
-        → IsOutcome p argument credit bytes.old bytes.new result }
+        → IsRunOutcome p argument credit bytes.old bytes.new result }
     ensures kept { (program_in vm.new ≡ program_in vm.old)
         × (functions_in vm.new ≡ functions_in vm.old) }
 {
@@ -78,7 +78,7 @@ fn run_on(vm: &mut Vm, bytes: &mut [u8], argument: u64, credit: u32) -> RunOutco
 fn run_at(vm: &mut Vm, memory: &mut [u8], run: &Run, credit: u32) -> RunOutcome
     requires functions { functions_in vm.old ≡ [] }
     ensures run { (p : Checked) → program_in vm.old ≡ Some p
-        → IsRun p credit memory.old memory.new run.now result }
+        → RunsInPlace p credit memory.old memory.new run.now result }
     ensures kept { (program_in vm.new ≡ program_in vm.old)
         × (functions_in vm.new ≡ functions_in vm.old) }
 {
@@ -115,7 +115,7 @@ fn run_single(
     credit: u32,
 ) -> RunOutcome
     requires job { program.helpers ≡ job_table }
-    ensures { IsOutcome program argument credit memory.old memory.new result }
+    ensures { IsRunOutcome program argument credit memory.old memory.new result }
 {
     let mut vm = match Vm::new(alloc, None) {
         Ok(vm) => vm,

@@ -1,6 +1,6 @@
 //! Bytes that exist in proofs alone: what went through a reader or a writer, which nobody keeps.
 #![tactic(auto)]
 
-mod told;
+mod transcript;
 
-pub use told::Told;
+pub use transcript::Transcript;

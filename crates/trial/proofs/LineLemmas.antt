@@ -3,7 +3,7 @@ use Rattle.std.proofs.Common.{◌≡◌, ℕ, ◌+◌, Bool, true, false, List, 
 use Rattle.std.specs.Prelude.{◌==◌, if◌then◌else◌}
 use Rattle.std.specs.List.{slice_split}
 use Rattle.std.proofs.lemmas.List.{append-nil}
-use Rattle.disassembler.specs.Cut.{IsFree, BeginsWith}
+use Rattle.disassembler.specs.Cut.{IsFree, StopsAtOnce}
 use Rattle.assembler.specs.Source.{is_line_feed, numbered, stripped}
 use Rattle.assembler.proofs.SourceLines.{cut_at, left_of}
 use Rattle.trial.specs.Places.{said}
@@ -13,7 +13,7 @@ by_test true x more = refl
 by_test false x more = refl
 
 -- one line more
-pub more : (lines done found : List (ℕ × List ℕ)) (n : ℕ) (rest line tail : List ℕ) → rest ≡ line ++ tail → IsFree 10 10 line → BeginsWith 10 10 tail → lines ≡ done ++ numbered n (slice_split is_line_feed rest) → found ≡ done ++ said n (stripped line) → lines ≡ found ++ numbered (n + 1) (left_of tail)
+pub more : (lines done found : List (ℕ × List ℕ)) (n : ℕ) (rest line tail : List ℕ) → rest ≡ line ++ tail → IsFree 10 10 line → StopsAtOnce 10 10 tail → lines ≡ done ++ numbered n (slice_split is_line_feed rest) → found ≡ done ++ said n (stripped line) → lines ≡ found ++ numbered (n + 1) (left_of tail)
 more lines done found n rest line tail e f b h is =
     let parts : slice_split is_line_feed rest ≡ line ∷ left_of tail = ap (slice_split is_line_feed) e ∙ cut_at line tail f b in
     h ∙ (ap (λ (l : List (List ℕ)). done ++ numbered n l) parts

@@ -3,7 +3,7 @@ use Rattle.std.specs.Prelude.{◌≡◌, ◌≢◌, ℕ, min, List, length, [], 
 use Rattle.std.proofs.Math.ListN.{replicate}
 use Rattle.helpers.specs.Table.{job_table}
 use Rattle.verifier.specs.declared.refusals.Refusal.{Refusal}
-use Rattle.verifier.specs.Refusals.{Refuses}
+use Rattle.verifier.specs.Refusals.{RefusesProgram}
 use Rattle.performing.specs.Printed.{Prints}
 use Rattle.trial.specs.declared.answering.Asked.{Asked}
 use Rattle.trial.specs.declared.fault.Fault.{Fault}
@@ -11,9 +11,9 @@ use Rattle.trial.specs.declared.fault.Fault.TheVariants as fault
 use Rattle.trial.specs.declared.form.Form.{Form}
 use Rattle.trial.specs.declared.lines.Line.{Line}
 use Rattle.trial.specs.Forms.{IsRead, IsUnread}
-use Rattle.trial.specs.Places.{IsPlace, IsQuote, told}
+use Rattle.trial.specs.Places.{IsFaultPlace, IsQuote, told}
 use Rattle.trial.specs.Printed.{IsRefusalText, ran_text}
-use Rattle.trial.specs.Runs.{IsRun, IsStopped}
+use Rattle.trial.specs.Runs.{IsProgramRun, IsStopped}
 
 -- how many bytes of its part a program needs: what is said, or else all of its memory
 abbrev pub need_of : Option ℕ → Option (List ℕ) → ℕ
@@ -31,27 +31,27 @@ abbrev pub shown : Bool → List ℕ → Option (List ℕ)
 shown is_shown left = if is_shown then Some left else None
 
 -- The lines of the refusal, with what it quotes and the place that it is about.
-pub record IsDeclined (form : Form) (input code : List ℕ) (why : Fault) (text : List ℕ) (status : ℕ) : Type 0 where
+pub record PrintsRefusal (form : Form) (input code : List ℕ) (why : Fault) (text : List ℕ) (status : ℕ) : Type 0 where
   pub lasting : why ≢ fault.NoMemory
   pub quote : Option (List ℕ)
   pub quotes : IsQuote why input quote
   pub place : Option Line
-  pub about : IsPlace form why input code place
+  pub about : IsFaultPlace form why input code place
   pub lines : IsRefusalText why quote (option_map told place) text
   pub one : status ≡ 1
 
 -- The verifier's refusal is told, or explained.
 pub data IsRejected (asked : Asked) (need : ℕ) (input code : List ℕ) (why : Refusal) (text : List ℕ) (status : ℕ) : Type 0 where
-  declined : IsDeclined asked.form input code (fault.Program why) text status → IsRejected asked need input code why text status
-  explained : asked.explains ≡ true → (other : Refusal) → Refuses need code job_table other → status ≡ 1 → IsRejected asked need input code why text status
+  declined : PrintsRefusal asked.form input code (fault.Program why) text status → IsRejected asked need input code why text status
+  explained : asked.explains ≡ true → (other : Refusal) → RefusesProgram need code job_table other → status ≡ 1 → IsRejected asked need input code why text status
 
 -- A program of these bytes that needs so much, on this memory, and what its run leaves of it.
 pub data IsJudged (asked : Asked) (need : ℕ) (input code old left : List ℕ) (is_shown : Bool) (text : List ℕ) (status : ℕ) : Type 0 where
-  ran : (r0 used : ℕ) → IsRun need code asked.arg asked.credit old r0 used left → Prints text status (ran_text r0 used (shown is_shown left)) 0 → IsJudged asked need input code old left is_shown text status
+  ran : (r0 used : ℕ) → IsProgramRun need code asked.arg asked.credit old r0 used left → Prints text status (ran_text r0 used (shown is_shown left)) 0 → IsJudged asked need input code old left is_shown text status
   rejected : (why : Refusal) → IsStopped need code asked.credit old (fault.Program why) → left ≡ old → IsRejected asked need input code why text status → IsJudged asked need input code old left is_shown text status
-  stopped : (why : Fault) → IsStopped need code asked.credit old why → left ≡ old → IsDeclined asked.form input code why text status → IsJudged asked need input code old left is_shown text status
+  stopped : (why : Fault) → IsStopped need code asked.credit old why → left ≡ old → PrintsRefusal asked.form input code why text status → IsJudged asked need input code old left is_shown text status
 
 -- What is answered to a program as its file has it.
 pub data IsTried (asked : Asked) (need : ℕ) (input old left : List ℕ) (is_shown : Bool) (text : List ℕ) (status : ℕ) : Type 0 where
   judged : (code : List ℕ) → IsRead asked.form input code → IsJudged asked need input code old left is_shown text status → IsTried asked need input old left is_shown text status
-  unread : (why : Fault) → IsUnread asked.form input why → left ≡ old → IsDeclined asked.form input [] why text status → IsTried asked need input old left is_shown text status
+  unread : (why : Fault) → IsUnread asked.form input why → left ≡ old → PrintsRefusal asked.form input [] why text status → IsTried asked need input old left is_shown text status

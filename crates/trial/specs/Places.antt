@@ -37,9 +37,9 @@ pub data IsAtSlot (slot : ℕ) (code : List ℕ) (lines : List (ℕ × List ℕ)
   between : (placed : List Placed) → IsProgram placed code → IsIndex slot placed None → place ≡ None → IsAtSlot slot code lines place
   no_program : (why : CodecFault) → IsRefusal why code → place ≡ None → IsAtSlot slot code lines place
 
-abbrev pub IsAtLine : Option ℕ → List (ℕ × List ℕ) → Option Line → Type 0
-IsAtLine None lines place = place ≡ None
-IsAtLine (Some number) lines place = IsNumbered number lines place
+abbrev pub IsLineOf : Option ℕ → List (ℕ × List ℕ) → Option Line → Type 0
+IsLineOf None lines place = place ≡ None
+IsLineOf (Some number) lines place = IsNumbered number lines place
 
 abbrev pub IsAtInsn : Option ℕ → List ℕ → List (ℕ × List ℕ) → Option Line → Type 0
 IsAtInsn None code lines place = place ≡ None
@@ -49,7 +49,7 @@ IsAtInsn (Some slot) code lines place = IsAtSlot slot code lines place
 abbrev pub IsTextPlace : Fault → List ℕ → List ℕ → Option Line → Type 0
 IsTextPlace fault.NotText input code place = place ≡ None
 IsTextPlace fault.NotHexadecimal input code place = place ≡ None
-IsTextPlace (fault.Text why) input code place = IsAtLine (line_of why) (source_lines input) place
+IsTextPlace (fault.Text why) input code place = IsLineOf (line_of why) (source_lines input) place
 IsTextPlace fault.MemoryTooLarge input code place = place ≡ None
 IsTextPlace (fault.Program why) input code place = IsAtInsn (slot_of why) code (source_lines input) place
 IsTextPlace (fault.CreditLow wanted given) input code place = place ≡ None
@@ -57,10 +57,10 @@ IsTextPlace (fault.MemoryShort wanted given) input code place = place ≡ None
 IsTextPlace fault.NoMemory input code place = place ≡ None
 
 -- no other file has lines
-abbrev pub IsPlace : Form → Fault → List ℕ → List ℕ → Option Line → Type 0
-IsPlace Text why input code place = IsTextPlace why input code place
-IsPlace Hexadecimal why input code place = place ≡ None
-IsPlace Bytes why input code place = place ≡ None
+abbrev pub IsFaultPlace : Form → Fault → List ℕ → List ℕ → Option Line → Type 0
+IsFaultPlace Text why input code place = IsTextPlace why input code place
+IsFaultPlace Hexadecimal why input code place = place ≡ None
+IsFaultPlace Bytes why input code place = place ≡ None
 
 -- what a refusal quotes of a source text, which is UTF-8
 abbrev pub IsQuote : Fault → List ℕ → Option (List ℕ) → Type 0

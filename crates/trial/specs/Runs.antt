@@ -5,7 +5,7 @@ use Rattle.machine_model.specs.Alone.{MayAnswer}
 use Rattle.verifier.specs.declared.refusals.Refusal.{Refusal}
 use Rattle.verifier.specs.declared.refusals.Refusal.TheVariants as refusal
 use Rattle.verifier.specs.Checked.{Checked, cost_at}
-use Rattle.verifier.specs.Refusals.{IsAccepted, Refuses}
+use Rattle.verifier.specs.Refusals.{IsAccepted, RefusesProgram}
 use Rattle.virtual_machine.specs.Executes.{ExecutesOn}
 use Rattle.trial.specs.declared.fault.Fault.{Fault}
 use Rattle.trial.specs.declared.fault.Fault.TheVariants as fault
@@ -15,7 +15,7 @@ abbrev pub unanswered : MayAnswer
 unanswered helper arguments answer = ⊥
 
 -- the program is accepted, and runs with R0 and what it used of the credit, and leaves these bytes
-pub record IsRun (need : ℕ) (code : List ℕ) (arg credit : ℕ) (old : List ℕ) (r0 used : ℕ) (left : List ℕ) : Type 0 where
+pub record IsProgramRun (need : ℕ) (code : List ℕ) (arg credit : ℕ) (old : List ℕ) (r0 used : ℕ) (left : List ℕ) : Type 0 where
   pub small : length old ≤ 65536
   pub program : Checked
   pub accepted : IsAccepted need code job_table program
@@ -33,7 +33,7 @@ IsStopped need code credit memory fault.NotText = ⊥
 IsStopped need code credit memory fault.NotHexadecimal = ⊥
 IsStopped need code credit memory (fault.Text why) = ⊥
 IsStopped need code credit memory fault.MemoryTooLarge = 65536 < length memory
-IsStopped need code credit memory (fault.Program why) = (length memory ≤ 65536) × Refuses need code job_table why × (why ≢ refusal.NoMemory)
+IsStopped need code credit memory (fault.Program why) = (length memory ≤ 65536) × RefusesProgram need code job_table why × (why ≢ refusal.NoMemory)
 IsStopped need code credit memory (fault.CreditLow wanted given) =
     (length memory ≤ 65536) × IsShort need code (λ p. (credit < cost_at p 0) × (wanted ≡ cost_at p 0) × (given ≡ credit))
 IsStopped need code credit memory (fault.MemoryShort wanted given) =

@@ -2,8 +2,8 @@
 
 ghost use Rattle.std.specs.Prelude.{◌≡◌, ◌≢◌, ◌≤◌, List, ℕ, Bool, option_map, is_some, true, IfOk, IfSome};
 ghost use Rattle.helpers.specs.Table.{job_table};
-ghost use Rattle.verifier.specs.Refusals.{Refuses};
-ghost use Rattle.trial.specs.Answered.{IsDeclined, IsJudged, IsRejected, IsTried, need_of, part_of};
+ghost use Rattle.verifier.specs.Refusals.{RefusesProgram};
+ghost use Rattle.trial.specs.Answered.{PrintsRefusal, IsJudged, IsRejected, IsTried, need_of, part_of};
 ghost use Rattle.trial.specs.declared.fault.Fault.TheVariants as fault_variant;
 
 use crate::fault::Fault;
@@ -57,7 +57,7 @@ fn explain_refusal(
     code: &[u8],
 ) -> Result<Option<Answer>, NoMemory>
     ensures { IfOk result (λ told. IfSome told (λ answer. ((why : Refusal)
-        × Refuses need code.now job_table why) × (answer.status ≡ 1))) }
+        × RefusesProgram need code.now job_table why) × (answer.status ≡ 1))) }
 {
     let source = match form {
         Form::Text => str::from_utf8(input).ok(),
@@ -82,7 +82,7 @@ fn print_refusal(
 ) -> Result<Answer, NoMemory>
     requires { fault.now ≢ fault_variant.NoMemory }
     ensures { IfOk result
-        (λ answer. IsDeclined form input.now code.now fault.now answer.text.items answer.status) }
+        (λ answer. PrintsRefusal form input.now code.now fault.now answer.text.items answer.status) }
 {
     let place = place_of(alloc, form, input, code, fault)?;
     tell_refusal(alloc, fault, quote_of(input, fault), place)

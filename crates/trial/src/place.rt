@@ -2,7 +2,7 @@
 
 ghost use Rattle.std.specs.Prelude.{◌≡◌, option_map, slice_get, IfOk};
 ghost use Rattle.assembler.specs.Source.{source_lines};
-ghost use Rattle.trial.specs.Places.{IsAtSlot, IsIndex, IsNumbered, IsPlace, IsQuote};
+ghost use Rattle.trial.specs.Places.{IsAtSlot, IsIndex, IsNumbered, IsFaultPlace, IsQuote};
 
 use crate::fault::Fault;
 use crate::form::Form;
@@ -75,7 +75,7 @@ pub fn place_of<'a>(
     code: &[u8],
     fault: &Fault,
 ) -> Result<Option<Line<'a>>, NoMemory>
-    ensures { IfOk result (λ place. IsPlace form fault.now input.now code.now place) }
+    ensures { IfOk result (λ place. IsFaultPlace form fault.now input.now code.now place) }
 {
     match form {
         Form::Text => match fault {

@@ -1,7 +1,7 @@
 //! The verdict on a program, and its run by itself.
 
 ghost use Rattle.std.specs.Prelude.{◌≡◌, ◌≤◌, MatchResult};
-ghost use Rattle.trial.specs.Runs.{IsRun, IsStopped};
+ghost use Rattle.trial.specs.Runs.{IsProgramRun, IsStopped};
 
 use crate::fault::Fault;
 use std::alloc::Global;
@@ -28,7 +28,7 @@ pub fn run(
 ) -> Result<Executed, Fault>
     requires limit { credit ≤ 2147483647 }
     ensures { MatchResult result
-        (λ done. IsRun need code.now arg credit memory.old done.r0 done.used memory.new)
+        (λ done. IsProgramRun need code.now arg credit memory.old done.r0 done.used memory.new)
         (λ fault. IsStopped need code.now credit memory.old fault × (memory.new ≡ memory.old)) }
 {
     if memory.len() > MAX_PART {

@@ -31,7 +31,7 @@ pub record SaysRequest (rows : List Row) : Type 0 where
   pub arg : (number : ℕ) × IsNumberIn rows (codes "arg") 0 18446744073709551615 number
 
 -- Words that clap takes are refused for want of memory alone. Any others are refused for that, or for a fault that clap finds in them.
-abbrev pub IsUsage : Usage → List Text → Type 0
-IsUsage (usage.Refused error) words =
+abbrev pub IsBpfrunUsage : Usage → List Text → Type 0
+IsBpfrunUsage (usage.Refused error) words =
     (takes bpfrun_app words ≡ true → kind_of error ≡ OutOfMemory) × HasKind (fault_of bpfrun_app words) error
-IsUsage usage.NoMemory words = Unit {0}
+IsBpfrunUsage usage.NoMemory words = Unit {0}

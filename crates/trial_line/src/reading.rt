@@ -4,7 +4,7 @@ ghost use Rattle.std.specs.Prelude.{◌≡◌, ◌↔◌, ◌≤◌, ℕ, map, c
 ghost use Rattle.clap.specs.Words.{Text, first_of, found_of, matches_of, rows_of};
 ghost use Rattle.command_line.specs.Commands.{IsNumberIn};
 ghost use Rattle.trial_line.specs.Program.{bpfrun_app};
-ghost use Rattle.trial_line.specs.Requests.{IsMaybeNumber, IsRequestOf, IsUsage, SaysRequest};
+ghost use Rattle.trial_line.specs.Requests.{IsMaybeNumber, IsRequestOf, IsBpfrunUsage, SaysRequest};
 
 use crate::asked::Request;
 use crate::program::bpfrun;
@@ -78,7 +78,7 @@ pub fn request<'a>(alloc: Global, words: &'a [String]) -> Result<Request<'a>, Us
     ensures ok { IfOk result
         (λ request. IsRequestOf (matches_of bpfrun_app (map string_bytes words.now)) request) }
     ensures limit { IfOk result (λ request. request.credit ≤ 2147483647) }
-    ensures err { IfErr result (λ usage. IsUsage usage (map string_bytes words.now)) }
+    ensures err { IfErr result (λ usage. IsBpfrunUsage usage (map string_bytes words.now)) }
 {
     match bpfrun(alloc)?.try_get_matches_from(words) {
         Ok(matches) => Ok(request_of(&matches)),

@@ -17,7 +17,7 @@ use Rattle.flow_graph.specs.declared.fault.FlowFault.{FlowFault}
 use Rattle.flow_graph.specs.declared.fault.FlowFault.TheVariants as flow
 use Rattle.flow_graph.specs.Faults.{fault_at}
 use Rattle.flow_graph.specs.Program.{code_of}
-use Rattle.flow_graph.specs.Refusals.{Refuses as RefusesFlow}
+use Rattle.flow_graph.specs.Refusals.{RefusesProgram as RefusesFlow}
 use Rattle.flow_graph.proofs.OneRefusal.{one_refusal as one_flow}
 use Rattle.helpers.specs.Table.{Table}
 use Rattle.instruction_rules.specs.declared.state.State.{State}
@@ -30,7 +30,7 @@ use Rattle.instruction_rules.specs.States.{fault}
 use Rattle.verifier.specs.InStates.{Subject, InState, Reached, in_state}
 use Rattle.verifier.specs.Verdict.{IsFirstFaulty, IsFaulty, IsTable, IsAllowedAt}
 use Rattle.verifier.specs.Checked.{Checked}
-use Rattle.verifier.specs.Refusals.{HasFlow, RefusesBytes, RefusesCode, Refuses, IsAccepted}
+use Rattle.verifier.specs.Refusals.{HasFlow, RefusesBytes, RefusesCode, RefusesProgram, IsAccepted}
 use Rattle.verifier.proofs.Options.{one_some}
 
 -- ---- bytes spell one program
@@ -154,7 +154,7 @@ abbrev IsOfKind : ℕ → List ℕ → Table → Refusal → Type 0
 IsOfKind need bytes helpers f =
     ((65536 < need) × (f ≡ NeedTooLarge)) ⊎ (OfCodec need bytes f ⊎ (OfFlow need bytes f ⊎ OfStates need bytes helpers f))
 
-kind_of : (need : ℕ) (bytes : List ℕ) (helpers : Table) (f : Refusal) → Refuses need bytes helpers f → f ≢ NoMemory → IsOfKind need bytes helpers f
+kind_of : (need : ℕ) (bytes : List ℕ) (helpers : Table) (f : Refusal) → RefusesProgram need bytes helpers f → f ≢ NoMemory → IsOfKind need bytes helpers f
 kind_of need bytes helpers NeedTooLarge r ne = inl (r, refl)
 kind_of need bytes helpers (Codec fault) r ne = inr (inl (record { small = r.0; fault = fault; refuses = r.1; is = refl }))
 kind_of need bytes helpers (Flow fault) r ne =
@@ -260,7 +260,7 @@ flow_states need bytes helpers f g x y =
     not_flow (code_of y.placed) x.fault y.flow (subst (λ (p : List Placed). RefusesCode (code_of p) x.fault) same x.refuses)
 
 -- two refusals of one program are one, but for want of memory
-pub one_refusal : (need : ℕ) (bytes : List ℕ) (helpers : Table) (f g : Refusal) → Refuses need bytes helpers f → Refuses need bytes helpers g →
+pub one_refusal : (need : ℕ) (bytes : List ℕ) (helpers : Table) (f g : Refusal) → RefusesProgram need bytes helpers f → RefusesProgram need bytes helpers g →
     f ≢ NoMemory → g ≢ NoMemory → f ≡ g
 one_refusal need bytes helpers f g r q fne gne = by_kind (kind_of need bytes helpers f r fne) (kind_of need bytes helpers g q gne)
   where
@@ -301,7 +301,7 @@ subjects m n s t c d x y z = cc
 
 -- a program that is accepted is refused for want of memory alone
 pub nothing_refused : (need : ℕ) (bytes : List ℕ) (helpers : Table) (v : Checked) (f : Refusal) → IsAccepted need bytes helpers v →
-    Refuses need bytes helpers f → f ≡ NoMemory
+    RefusesProgram need bytes helpers f → f ≡ NoMemory
 nothing_refused need bytes helpers v f a r = elim (memory_or f) [
   | inl e ↦ e
   | inr ne ↦ absurd (by_kind (kind_of need bytes helpers f r ne))

@@ -9,7 +9,7 @@ use Rattle.flow_graph.specs.declared.fault.FlowFault.TheVariants as flow
 use Rattle.flow_graph.specs.Cycles.{IsOnCycle}
 use Rattle.flow_graph.specs.Faults.{fault_at}
 use Rattle.flow_graph.specs.Program.{code_of}
-use Rattle.flow_graph.specs.Refusals.{Refuses as RefusesFlow}
+use Rattle.flow_graph.specs.Refusals.{RefusesProgram as RefusesFlow}
 use Rattle.machine_model.specs.Edges.{Code, Begins}
 use Rattle.machine_model.specs.Paths.{IsReached, AreCosts}
 use Rattle.helpers.specs.Table.{Table}
@@ -52,11 +52,11 @@ pub record RefusesDecoded (need : ℕ) (bytes : List ℕ) (helpers : Table) (ref
   pub refused : RefusesPlaced need placed helpers refusal
 
 -- the one refusal of a program, but for want of memory
-abbrev pub Refuses : ℕ → List ℕ → Table → Refusal → Type 0
-Refuses need bytes helpers NeedTooLarge = 65536 < need
-Refuses need bytes helpers (Codec fault) = (need ≤ 65536) × RefusesBytes bytes fault
-Refuses need bytes helpers NoMemory = Unit {0}
-Refuses need bytes helpers refusal = RefusesDecoded need bytes helpers refusal
+abbrev pub RefusesProgram : ℕ → List ℕ → Table → Refusal → Type 0
+RefusesProgram need bytes helpers NeedTooLarge = 65536 < need
+RefusesProgram need bytes helpers (Codec fault) = (need ≤ 65536) × RefusesBytes bytes fault
+RefusesProgram need bytes helpers NoMemory = Unit {0}
+RefusesProgram need bytes helpers refusal = RefusesDecoded need bytes helpers refusal
 
 -- the bytes spell the program, which is allowed, and the states and costs are those of its definition
 pub record IsAccepted (need : ℕ) (bytes : List ℕ) (helpers : Table) (v : Checked) : Type 0 where

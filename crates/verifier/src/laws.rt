@@ -6,7 +6,7 @@ ghost use Rattle.helpers.specs.Table.{Table};
 ghost use Rattle.verifier.specs.declared.refusals.Refusal.{Refusal};
 ghost use Rattle.verifier.specs.declared.refusals.Refusal.TheVariants.{NoMemory};
 ghost use Rattle.verifier.specs.Checked.{Checked};
-ghost use Rattle.verifier.specs.Refusals.{Refuses, IsAccepted};
+ghost use Rattle.verifier.specs.Refusals.{RefusesProgram, IsAccepted};
 ghost use Rattle.verifier.specs.InStates.{Subject, InState, AreInStates, in_state};
 
 /// Of a program that has a graph, `arrive` solves its equation: the entry state arrives at the
@@ -26,7 +26,7 @@ pub fn in_states_are_unique()
 /// A program has one refusal at most, but for want of memory.
 pub fn one_refusal()
     ensures { (need : ℕ) (bytes : List ℕ) (helpers : Table) (f g : Refusal)
-        → Refuses need bytes helpers f → Refuses need bytes helpers g
+        → RefusesProgram need bytes helpers f → RefusesProgram need bytes helpers g
         → f ≢ NoMemory → g ≢ NoMemory → f ≡ g }
 {}
 
@@ -34,5 +34,5 @@ pub fn one_refusal()
 pub fn nothing_refused()
     ensures { (need : ℕ) (bytes : List ℕ) (helpers : Table) (v : Checked) (f : Refusal)
         → IsAccepted need bytes helpers v
-        → Refuses need bytes helpers f → f ≡ NoMemory }
+        → RefusesProgram need bytes helpers f → f ≡ NoMemory }
 {}

@@ -1,7 +1,7 @@
 //! Which programs are accepted.
 
 ghost use Rattle.std.specs.Prelude.{◌≤◌, ◌↔◌, IsTrue, MatchResult};
-ghost use Rattle.verifier.specs.Refusals.{Refuses, IsAccepted};
+ghost use Rattle.verifier.specs.Refusals.{RefusesProgram, IsAccepted};
 
 use crate::refusals::Refusal;
 use crate::regions::predecoded;
@@ -33,7 +33,7 @@ pub fn verify(
     helpers: &HelperTable,
 ) -> Result<Verified, Refusal>
     ensures { MatchResult result (λ verified. IsAccepted need code.now helpers.now verified)
-        (λ refusal. Refuses need code.now helpers.now refusal) }
+        (λ refusal. RefusesProgram need code.now helpers.now refusal) }
 {
     if !is_small(need) {
         return Err(Refusal::NeedTooLarge);

@@ -50,5 +50,5 @@ IsUnrunnable program credit len (MemoryShort wanted given) =
 IsUnrunnable program credit len NoMemory = ⊥
 
 -- the program is that of the bytes, verified with these helpers
-abbrev pub IsSet : ℕ → List ℕ → Table → Option Checked → Type 0
-IsSet need bytes helpers program = (p : Checked) × (program ≡ Some p) × IsAccepted need bytes helpers p
+abbrev pub IsProgramOf : ℕ → List ℕ → Table → Option Checked → Type 0
+IsProgramOf need bytes helpers program = (p : Checked) × (program ≡ Some p) × IsAccepted need bytes helpers p

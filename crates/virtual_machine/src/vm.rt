@@ -3,10 +3,10 @@
 ghost use Rattle.std.specs.Prelude.{◌≡◌, ◌≢◌, ◌↔◌, ℕ, ◌==◌, ◌≤◌, ◌<◌, [], length, if◌then◌else◌, IsTrue, IsSome, IfOk, OnOk, OnErr, None, Some, MatchOption, MatchResult, option_map, IfErr};
 ghost use Rattle.helpers.specs.Table.{arity_in, job_table};
 ghost use Rattle.verifier.specs.Checked.{Checked};
-ghost use Rattle.verifier.specs.Refusals.{Refuses};
+ghost use Rattle.verifier.specs.Refusals.{RefusesProgram};
 ghost use Rattle.std.proofs.Props.{props};
 ghost use Rattle.virtual_machine.specs.Functions.{AreSameHelpers, HaveFunctions, called, function_of};
-ghost use Rattle.virtual_machine.specs.Executes.{Executes, ExecutesOn, IsUnrunnable, IsSet};
+ghost use Rattle.virtual_machine.specs.Executes.{Executes, ExecutesOn, IsUnrunnable, IsProgramOf};
 ghost use Rattle.virtual_machine.specs.Registering.{IsRegistrable, IsUnregistrable};
 
 use crate::alone::run_alone;
@@ -41,9 +41,9 @@ impl Vm {
     pub fn new(alloc: Global, program: Option<(u32, &[u8])>) -> Result<Vm, Refusal>
         ensures program { MatchResult result
             (λ vm. MatchOption program.entry (program_in vm
-            ≡ None) (λ given. IsSet given.0 given.1.now job_table (program_in vm)))
+            ≡ None) (λ given. IsProgramOf given.0 given.1.now job_table (program_in vm)))
             (λ refusal. MatchOption program.entry ⊥
-            (λ given. Refuses given.0 given.1.now job_table refusal)) }
+            (λ given. RefusesProgram given.0 given.1.now job_table refusal)) }
         ensures helpers { IfOk result (λ vm. (helpers_in vm ≡ job_table) × (functions_in vm ≡ [])) }
     {
         let helpers = HelperTable::job();
@@ -62,8 +62,8 @@ impl Vm {
     /// refused, by the refusals of [`Refusal`], the program that was set stays.
     pub fn set_program(&mut self, alloc: Global, need: u32, code: &[u8]) -> Result<(), Refusal>
         ensures program { MatchResult result
-            (λ _. IsSet need code.now (helpers_in self.old) (program_in self.new))
-            (λ refusal. Refuses need code.now (helpers_in self.old) refusal
+            (λ _. IsProgramOf need code.now (helpers_in self.old) (program_in self.new))
+            (λ refusal. RefusesProgram need code.now (helpers_in self.old) refusal
             × (program_in self.new ≡ program_in self.old)) }
         ensures helpers { (helpers_in self.new ≡ helpers_in self.old)
             × (functions_in self.new ≡ functions_in self.old) }

@@ -7,9 +7,9 @@ use Rattle.credit_book.specs.Books.{spawn_event, ticket_of}
 use Rattle.credit_book.specs.History.{table_of}
 use Rattle.lanes.specs.Sharing.{IsIdle, IsTaken, Moved, Puts}
 use Rattle.workers.specs.AtDesk.{HasMore, IsParked}
-use Rattle.workers.specs.declared.desk.Desk.{Desk}
-use Rattle.workers.specs.declared.desk.Found.{Found}
-use Rattle.workers.specs.declared.desk.Found.TheVariants.{Ready, Nothing, Refusal}
+use Rattle.workers.specs.declared.locked_book.LockedBook.{LockedBook}
+use Rattle.workers.specs.declared.locked_book.Found.{Found}
+use Rattle.workers.specs.declared.locked_book.Found.TheVariants.{Ready, Nothing, Refusal}
 
 -- The ticket is of a lane, or was parked where the worker's own lane had none. It is the task whose turn it is. Where the book has
 -- refused an end a ticket may have been taken, which nobody runs any more.
@@ -29,13 +29,13 @@ pub record IsHanded (old : Moved) (child : SpawnRecord) (new : Moved) : Type 0 w
   pub kept : IsKept old (ticket_of job number child) new
 
 -- into the worker's own lane, and the desk is as it was; or it is parked at the desk, and the lanes are as they were
-abbrev pub IsKeptBeside : Moved → Desk → Ticket → Moved → Desk → Type 0
+abbrev pub IsKeptBeside : Moved → LockedBook → Ticket → Moved → LockedBook → Type 0
 IsKeptBeside lanes desk ticket lanes_after desk_after =
     (Puts lanes (ticket ∷ []) lanes_after × (desk_after ≡ desk)) ⊎ ((lanes_after ≡ lanes) × IsParked desk ticket desk_after)
 
 -- The book at the desk has this child, whose parent is the task whose turn it is. Its ticket is kept.
-pub record IsHandedAt (turn : ℕ) (child : SpawnRecord) (lanes : Moved) (desk : Desk) (lanes_after : Moved) (desk_after : Desk) : Type 0 where
-  pub spawned : Desk
+pub record IsHandedAt (turn : ℕ) (child : SpawnRecord) (lanes : Moved) (desk : LockedBook) (lanes_after : Moved) (desk_after : LockedBook) : Type 0 where
+  pub spawned : LockedBook
   pub refused : spawned.has_refused ≡ desk.has_refused
   pub waiting : spawned.book.waiting ≡ desk.book.waiting
   pub event : HasMore desk.book (spawn_event turn (length (table_of desk.book.history).standings) child) spawned.book

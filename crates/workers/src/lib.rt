@@ -11,16 +11,16 @@ pub use outcome::unrun;
 pub use work::{entry_in, work_one};
 
 // what lies under the job's lock
-mod desk;
+mod locked_book;
 mod fault;
 mod noting;
 
 pub use fault::PoolFault;
 
 // the threads
-mod hands;
+mod worker;
 mod pool;
-mod stay;
+mod held_lock;
 mod watch;
 
 pub use pool::run_job;

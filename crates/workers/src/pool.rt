@@ -5,12 +5,12 @@ ghost use Rattle.std.specs.List.{flat_map};
 ghost use Rattle.workers.specs.Final.{IsFinal};
 ghost use Rattle.workers.specs.Noted.{NotedAlone, EndedAlone};
 
-use crate::desk::{Desk, Found};
+use crate::locked_book::{LockedBook, Found};
 use crate::fault::PoolFault;
 use crate::gate::{Gate, Heard};
-use crate::hands::{Hands, Shared};
+use crate::worker::{Worker, Shared};
 use crate::noting::{Note, agrees, run_noted};
-use crate::stay::Stay;
+use crate::held_lock::HeldLock;
 use crate::watch::Watch;
 use credit_book::{Book, Post, Report};
 use crossbeam_utils::CachePadded;
@@ -26,7 +26,7 @@ use task_arena::Frames;
 
 /// A worker ahead of its thread: its view of how far the job is, and its lanes.
 #[derive(Drop)]
-struct Worker {
+struct Station {
     watch: Watch,
     lanes: Lanes,
 }
@@ -37,21 +37,21 @@ fn work<'s, R: Wait, G: Gate>(
     rt: &'s R,
     shared: &'s Shared,
     gate: &'s G,
-    worker: Worker,
+    worker: Station,
     alloc: Global,
 ) -> Vec<Note>
     ensures { All (NotedAlone shared.now.programs.items) result.items }
 {
-    let Worker { watch, lanes } = worker;
+    let Station { watch, lanes } = worker;
     let mut watch = watch;
     let mut notes = Vec::new(alloc);
     let mut frames = Frames::new(alloc);
-    let stay = Stay::away();
+    let stay = HeldLock::away();
     let heard = Heard {
         gate,
         listener: &stay,
     };
-    let mut hands = Hands::new(rt, alloc, shared, &stay, lanes);
+    let mut hands = Worker::new(rt, alloc, shared, &stay, lanes);
     for _ in rt.forever() {
         match hands.find() {
             Found::Ready(ticket) => {
@@ -97,7 +97,7 @@ fn start<'s, E: 's, R: Threads + Wait + Sync, G: Gate + Sync>(
     scope: &Scope<'s, E>,
     shared: &'s Shared,
     gate: &'s G,
-    worker: Worker,
+    worker: Station,
     alloc: Global,
 ) -> Option<Started<'s>>
     ensures { IfSome result (λ thread. thread.promise.0.now ≡ shared.now) }
@@ -117,7 +117,7 @@ fn run_all<'s, E: 's, R: Threads + Wait + Sync, G: Gate + Sync>(
     scope: &Scope<'s, E>,
     shared: &'s Shared,
     gate: &'s G,
-    workers: Vec<Worker>,
+    workers: Vec<Station>,
     alloc: Global,
 ) -> Result<Vec<Vec<Note>>, PoolFault>
     ensures { IfOk result
@@ -153,14 +153,14 @@ fn gather(alloc: Global, shared: &Shared, lists: &[Vec<Note>]) -> Result<Vec<Not
 }
 
 /// So many workers: each has its own watch over the post's board, and its own lane.
-fn open_workers(alloc: Global, post: &mut Post, count: u32) -> Result<Vec<Worker>, NoMemory>
+fn open_workers(alloc: Global, post: &mut Post, count: u32) -> Result<Vec<Station>, NoMemory>
     requires { count ≤ 16 }
     ensures { post.new ≡ post.old }
 {
     let mut workers = Vec::new(alloc);
     for lanes in lanes_between(alloc, count)? {
         let watch = Watch::over(post)?;
-        workers.push(Worker { watch, lanes })?;
+        workers.push(Station { watch, lanes })?;
     }
     Ok(workers)
 }
@@ -170,7 +170,7 @@ fn run_in_threads<R: Threads + Wait + Sync, G: Gate + Sync>(
     rt: &R,
     alloc: Global,
     shared: &Shared,
-    workers: Vec<Worker>,
+    workers: Vec<Station>,
     gate: &G,
 ) -> Result<Vec<Note>, PoolFault>
     ensures { IfOk result (λ notes. All (NotedAlone shared.now.programs.items) notes.items) }
@@ -220,7 +220,7 @@ pub fn run_job<R: Threads + Wait + Sync, G: Gate + Sync>(
     let number = book.job();
     let shared = Shared {
         programs,
-        desk: CachePadded::new(Mutex::new(CachePadded::new(Desk::open(book, root)))),
+        desk: CachePadded::new(Mutex::new(CachePadded::new(LockedBook::open(book, root)))),
     };
     let notes = run_in_threads(rt, alloc, &shared, crew, gate)?;
     let Shared { programs: _, desk } = shared;

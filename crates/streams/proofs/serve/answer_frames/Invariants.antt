@@ -5,7 +5,7 @@ use Rattle.streams.proofs.serve.answer_frames.Given as goal
 
 abbrev pub invariant-frames : goal.invariant-frames
 invariant-frames g l = record {
-  served : (count : ℕ) × Serves g.H.Handler.answers (l.fn.desk, l.fn.handler) (unread l.fn.session) (g.W.Sink.told l.fn.writer) count (l.desk, l.handler) (unread l.session) (g.W.Sink.told l.writer)
+  served : (count : ℕ) × Serves g.H.Handler.answers (l.fn.desk, l.fn.handler) (unread l.fn.session) (g.W.Sink.transcript l.fn.writer) count (l.desk, l.handler) (unread l.session) (g.W.Sink.transcript l.writer)
       × (l.number ≡ min (l.fn.number + count) (2 ^ 64 - 1));
   well : ended_by l.session ≡ None;
   sink : g.W.Sink.has_failed l.writer ≡ false;

@@ -12,7 +12,7 @@ use workers::{OpenGate, run_job};
 
 /// A job that waits for its thread, with the post of its board.
 #[derive(Drop)]
-pub struct Errand {
+pub struct JobRequest {
     pub(crate) alloc: Global,
     pub(crate) number: u64,
     pub(crate) job: Job,
@@ -22,14 +22,14 @@ pub struct Errand {
     ghost credit: { post.board.issued ≡ job.credit },
 }
 
-impl Errand {
+impl JobRequest {
     /// Runs the job on so many workers, 1 to 16, and says under its lock that it is done. What it
     /// came to.
     pub(crate) fn run<R: Threads + Wait + Sync>(self, rt: &R, workers: u32) -> Result<Report, u8>
         requires { (1 ≤ workers) × (workers ≤ 16) }
         ensures { IsEndOf self.number self.job result }
     {
-        let Errand {
+        let JobRequest {
             alloc,
             number: _,
             job,

@@ -4,8 +4,8 @@ ghost use Rattle.std.specs.Prelude.{◌≡◌, ◌≤◌, vec_len};
 ghost use Rattle.std.proofs.Props.{props};
 ghost use Rattle.job_core.specs.Admitted.{AreOwn};
 
-use crate::desk::{Desk, Found};
-use crate::stay::Stay;
+use crate::locked_book::{LockedBook, Found};
+use crate::held_lock::HeldLock;
 use crate::work::entry_in;
 use credit_book::{Outcome, Ticket};
 use crossbeam_utils::CachePadded;
@@ -44,7 +44,7 @@ const PATIENCE: u32 = 100;
 #[derive(Drop)]
 pub(crate) struct Shared {
     pub programs: Vec<Verified>,
-    pub desk: CachePadded<Mutex<CachePadded<Desk>>>,
+    pub desk: CachePadded<Mutex<CachePadded<LockedBook>>>,
     ghost few: { vec_len programs ≤ 16 },
     ghost own: { AreOwn programs.items } by { Prim.hlevel props },
 }
@@ -60,7 +60,7 @@ impl Shared {
 }
 
 /// The desk, for one worker alone until it lets go of this.
-pub(crate) type AtDesk<'a> = MutexGuard<'a, CachePadded<Desk>>;
+pub(crate) type AtDesk<'a> = MutexGuard<'a, CachePadded<LockedBook>>;
 
 /// Waits ahead of another try: longer each time, up to a bound.
 fn wait_a_while(turn: u32) {
@@ -86,19 +86,19 @@ fn take_desk<'a, R: Wait>(rt: &R, shared: &'a Shared) -> AtDesk<'a> {
 /// A worker's lanes, the number of the task that it runs, whose children go to its own lane, and
 /// what it ran that the book hasn't been told of.
 #[derive(Drop)]
-pub(crate) struct Hands<'a, 'b, R> {
+pub(crate) struct Worker<'a, 'b, R> {
     rt: &'a R,
     pub shared: &'a Shared,
-    stay: &'b Stay<'a>,
+    stay: &'b HeldLock<'a>,
     lanes: Lanes,
     turn: u32,
     ended: Vec<Outcome>,
 }
 
-impl<'a, 'b, R: Wait> Hands<'a, 'b, R> {
+impl<'a, 'b, R: Wait> Worker<'a, 'b, R> {
     ghost use Rattle.std.specs.Prelude.{◌⊎◌, ◌↔◌, [], false, reverse, IfErr, IfOk, IsTrue};
-    ghost use Rattle.workers.specs.declared.desk.Desk.{Desk};
-    ghost use Rattle.workers.specs.declared.desk.Found.TheVariants.{Nothing};
+    ghost use Rattle.workers.specs.declared.locked_book.LockedBook.{LockedBook};
+    ghost use Rattle.workers.specs.declared.locked_book.Found.TheVariants.{Nothing};
     ghost use Rattle.workers.specs.AtDesk.{AreEnded, IsEnded};
     ghost use Rattle.workers.specs.Handing.{Finds, IsHandedAt, IsHeldBack, IsKeptBeside};
 
@@ -107,16 +107,16 @@ impl<'a, 'b, R: Wait> Hands<'a, 'b, R> {
         rt: &'a R,
         alloc: Global,
         shared: &'a Shared,
-        stay: &'b Stay<'a>,
+        stay: &'b HeldLock<'a>,
         lanes: Lanes,
-    ) -> Hands<'a, 'b, R>
+    ) -> Worker<'a, 'b, R>
         ensures { result.shared.now ≡ shared.now }
     {
         let ended = match Vec::with_capacity(alloc, MOST_HELD_BACK) {
             Ok(ended) => ended,
             Err(_) => Vec::new(alloc),
         };
-        Hands {
+        Worker {
             rt,
             shared,
             stay,
@@ -183,7 +183,7 @@ impl<'a, 'b, R: Wait> Hands<'a, 'b, R> {
 
     /// Tells the book at the desk of all that has ended here, in the order in which it ended.
     /// Whether it has refused no end so far.
-    fn tell(&mut self, desk: &mut Desk) -> bool
+    fn tell(&mut self, desk: &mut LockedBook) -> bool
         ensures same { (self.new.shared ≡ self.old.shared) × (self.new.lanes ≡ self.old.lanes)
             × (self.new.turn ≡ self.old.turn) }
         ensures refused { IsTrue result ↔ (desk.new.has_refused ≡ false) }
@@ -221,11 +221,11 @@ impl<'a, 'b, R: Wait> Hands<'a, 'b, R> {
 
     /// Tells the book at the desk of all that has ended here, and then of this. Whether it has
     /// refused no end so far.
-    fn tell_with(&mut self, desk: &mut Desk, outcome: Outcome) -> bool
+    fn tell_with(&mut self, desk: &mut LockedBook, outcome: Outcome) -> bool
         ensures same { (self.new.shared ≡ self.old.shared) × (self.new.lanes ≡ self.old.lanes)
             × (self.new.turn ≡ self.old.turn) }
         ensures refused { IsTrue result ↔ (desk.new.has_refused ≡ false) }
-        ensures ended { (between : Desk) × AreEnded desk.old (reverse self.old.ended.items) between
+        ensures ended { (between : LockedBook) × AreEnded desk.old (reverse self.old.ended.items) between
             × IsEnded between outcome desk.new }
         ensures all { self.new.ended.items ≡ [] }
     {
@@ -249,7 +249,7 @@ impl<'a, 'b, R: Wait> Hands<'a, 'b, R> {
     }
 
     /// Puts a new task's ticket into its own lane, or parks it where there is no room for it.
-    fn keep(&mut self, desk: &mut Desk, ticket: Ticket)
+    fn keep(&mut self, desk: &mut LockedBook, ticket: Ticket)
         ensures same { (self.new.shared ≡ self.old.shared) × (self.new.turn ≡ self.old.turn)
             × (self.new.ended ≡ self.old.ended) }
         ensures kept { IsKeptBeside self.old.lanes desk.old ticket self.new.lanes desk.new }
@@ -260,7 +260,7 @@ impl<'a, 'b, R: Wait> Hands<'a, 'b, R> {
     }
 
     /// Spawns a child of the task whose turn it is, at the desk, and keeps its ticket.
-    fn hand(&mut self, desk: &mut Desk, child: SpawnRecord) -> Result<(), SpawnRecord>
+    fn hand(&mut self, desk: &mut LockedBook, child: SpawnRecord) -> Result<(), SpawnRecord>
         ensures same { (self.new.shared ≡ self.old.shared) × (self.new.turn ≡ self.old.turn)
             × (self.new.ended ≡ self.old.ended) }
         ensures handed { IfOk result (λ _. IsHandedAt self.old.turn child self.old.lanes desk.old
@@ -278,7 +278,7 @@ impl<'a, 'b, R: Wait> Hands<'a, 'b, R> {
     }
 }
 
-impl<R: Wait> Spawner for Hands<'_, '_, R> {
+impl<R: Wait> Spawner for Worker<'_, '_, R> {
     ghost use Rattle.std.specs.Prelude.{◌≡◌, map, MatchResult};
     ghost use Rattle.machine_model.specs.JobState.{entries_of};
     ghost use Rattle.verifier.specs.Checked.{program_of};

@@ -8,26 +8,26 @@ use std::marker::Model;
 
 /// The bytes that went through so far. It takes no room.
 #[derive(Drop)]
-pub struct Told {
+pub struct Transcript {
     ghost bytes: { List ℕ } by { coded_list coded_ℕ },
 }
 
-impl Model for Told {
+impl Model for Transcript {
     ghost also_owns = { λ _. ftrue };
 }
 
-impl Told {
+impl Transcript {
     /// No byte yet.
-    pub fn new() -> Told
+    pub fn new() -> Transcript
         ensures { result.bytes ≡ [] }
     {
-        Told {}
+        Transcript {}
     }
 
     /// These, and then the bytes of a piece.
-    pub fn then(&self, _piece: &[u8]) -> Told
+    pub fn then(&self, _piece: &[u8]) -> Transcript
         ensures { result.bytes ≡ self.now.bytes ++ _piece.now }
     {
-        Told {}
+        Transcript {}
     }
 }

@@ -14,7 +14,7 @@ use helpers::SpawnRecord;
 
 /// The book of a job, and whether it has refused an end.
 #[derive(Drop)]
-pub(crate) struct Desk {
+pub(crate) struct LockedBook {
     book: Book,
     has_refused: bool,
 }
@@ -30,12 +30,12 @@ pub(crate) enum Found {
     Refusal,
 }
 
-impl Desk {
+impl LockedBook {
     /// The desk of a book that was just opened, whose root's ticket is parked.
-    pub fn open(book: Book, root: Ticket) -> Desk
+    pub fn open(book: Book, root: Ticket) -> LockedBook
         ensures { IsParked (record { book = book; has_refused = false }) root result }
     {
-        let mut desk = Desk {
+        let mut desk = LockedBook {
             book,
             has_refused: false,
         };
@@ -120,7 +120,7 @@ impl Desk {
             self.book.board.issued ≡ issued → self.book.size ≡ size
             → IsComplete (table_of self.book.history) → ⊥)) }
     {
-        let Desk { book, has_refused } = self;
+        let LockedBook { book, has_refused } = self;
         if has_refused || book.job() != job || book.issued() != issued {
             return Err(PoolFault::BookRefused);
         }

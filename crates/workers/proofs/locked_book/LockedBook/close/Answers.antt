@@ -1,7 +1,7 @@
 use Rattle.std.proofs.Common.{ℕ, ◌∙◌, refl, sym, subst, ap, length}
 use Rattle.credit_book.specs.History.{IsHistoryOf}
 use Rattle.workers.proofs.Endings.{final_of}
-use Rattle.workers.proofs.desk.Desk.close.Goals as goal
+use Rattle.workers.proofs.locked_book.LockedBook.close.Goals as goal
 
 pub returns-clause-report : goal.returns-clause-report
 returns-clause-report c =

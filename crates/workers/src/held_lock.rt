@@ -1,6 +1,6 @@
 //! A worker's stay at the desk, from one spawn of a task to the next.
 
-use crate::hands::AtDesk;
+use crate::worker::AtDesk;
 use solo::Listener;
 use std::cell::RefCell;
 
@@ -15,14 +15,14 @@ struct Visit<'a> {
 /// worker that let go of the desk in between would wait for it again at each. So it stays, and leaves
 /// once a stretch of the task has gone by without a spawn, at its end at the latest.
 #[derive(Drop)]
-pub(crate) struct Stay<'a> {
+pub(crate) struct HeldLock<'a> {
     visit: RefCell<Option<Visit<'a>>>,
 }
 
-impl<'a> Stay<'a> {
+impl<'a> HeldLock<'a> {
     /// The worker is away from the desk.
-    pub fn away() -> Stay<'a> {
-        Stay {
+    pub fn away() -> HeldLock<'a> {
+        HeldLock {
             visit: RefCell::new(None),
         }
     }
@@ -48,7 +48,7 @@ impl<'a> Stay<'a> {
     }
 }
 
-impl Listener for Stay<'_> {
+impl Listener for HeldLock<'_> {
     /// Leaves the desk, unless the task spawned a child in this stretch.
     fn pause(&self) {
         if let Ok(Some(visit)) = self.visit.try_replace(None)
