@@ -5,10 +5,9 @@ use crate::hearing::replied;
 use crate::stop::{Stop, holds};
 use crate::tree::{CREDIT, buffer, programs, told};
 use accounts::{Account, Desk};
-use job_core::{Job, ProgramBytes};
-use runners::{InlineRunner, play_lowest};
+use job_core::{Job, ProgramBytes, play_lowest};
 use std::alloc::Global;
-use streams::{StreamFault, Tap, serve_stream};
+use streams::{InlineRunner, StreamFault, Tap, serve_stream};
 
 /// More tenants than a node of the tree of tenants holds.
 const TENANTS: [&str; 13] = [

@@ -4,7 +4,7 @@ use crate::stop::{Stop, holds};
 use crate::tree::{CREDIT, job, told};
 use credit_book::{Board, Progress, Report};
 use job_core::Job;
-use pool_runner::{JobRequest, JobThread, PoolRunner, start_thread};
+use job_server::{JobRequest, JobThread, PoolRunner, start_thread};
 use std::alloc::Global;
 use std::sync::Wait;
 use std::thread::Threads;
@@ -107,7 +107,9 @@ pub fn run_by_runner<R>(rt: R, alloc: Global) -> Result<Vec<u64>, Stop>
 where
     R: Threads + Wait + Copy + Send + Sync + Drop + 'static,
 {
-    let starter = move |errand: JobRequest| -> Option<JobThread> { start_thread(rt, errand, WORKERS) };
+    let starter = move |errand: JobRequest| -> Option<JobThread> {
+        start_thread(rt, errand, WORKERS)
+    };
     let mut runner = PoolRunner::new(rt, alloc, starter);
     let mut given = None;
     if let Err(stop) = start(alloc, &mut runner) {

@@ -2,13 +2,13 @@
 //! tells its commands.
 #![tactic(auto)]
 
-ghost use Rattle.command_line.specs.Commands.{IsInRange};
-ghost use Rattle.performing.specs.Performing.{NeedsNoThread};
+ghost use Rattle.bpfjobs_cli.specs.Commands.{IsInRange};
+ghost use Rattle.bpfjobs_cli.specs.Performing.{NeedsNoThread};
 ghost use Rattle.std.specs.Prelude.{◌≤◌};
 
 mod serving;
 
-use command_line::{Command, Usage, command};
+use bpfjobs_cli::{Command, Usage, command};
 use serving::serve;
 use std::alloc::Global;
 use std::env::Env;
@@ -49,7 +49,7 @@ fn answer<R: Input + Print>(rt: &R, alloc: Global, command: Command) -> u8
 {
     let mut reader = Tap::new(rt.reader());
     let mut writer = Tap::new(io::writer(rt));
-    match performing::perform(alloc, command, &mut reader, &mut writer) {
+    match bpfjobs_cli::perform(alloc, command, &mut reader, &mut writer) {
         Ok(status) => status,
         Err(_) => FAILED,
     }
@@ -62,7 +62,7 @@ fn run<R: Input + Print + Threads + Wait + Sync>(rt: &R, alloc: Global, workers:
     let mut reader = Tap::new(rt.reader());
     let mut writer = Tap::new(io::writer(rt));
     let command = Command::Run { workers };
-    match pool_performing::perform(rt, alloc, command, &mut reader, &mut writer) {
+    match job_server::perform(rt, alloc, command, &mut reader, &mut writer) {
         Ok(status) => status,
         Err(_) => FAILED,
     }

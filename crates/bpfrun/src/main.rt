@@ -4,16 +4,14 @@
 
 ghost use Rattle.std.specs.Prelude.{◌≤◌};
 
-use command_line::Usage;
-use performing::{Answer, tell};
+use bpfjobs_cli::{Answer, Usage, tell};
+use bpfrun_core::{Asked, Request, answer, form_of, request};
 use std::alloc::Global;
 use std::env::Env;
 use std::process::ExitCode;
 use std::rt::Files;
 use std::{env, fs, io};
 use streams::Tap;
-use trial::{Asked, answer, form_of};
-use trial_line::{Request, request};
 
 // The status where the words can't be read.
 const UNREAD: u8 = 2;

@@ -2,8 +2,7 @@
 
 use accounts::{Desk, DeskFault};
 use credit_book::{Progress, Report};
-use job_core::ProgramBytes;
-use runners::play_lowest;
+use job_core::{ProgramBytes, play_lowest};
 use std::alloc::Global;
 use std::test::Fail;
 

@@ -2,8 +2,7 @@
 //! called so often.
 
 use std::alloc::Global;
-use streams::{Failed, Sink, Source};
-use traces::Transcript;
+use streams::{Failed, Sink, Source, Transcript};
 
 /// More calls than a test makes.
 pub(crate) const ALWAYS: u64 = u64::MAX;

@@ -1,10 +1,10 @@
 //! What a server tells where it serves no more, and the words that start one.
 
-use command_line::{Command, command};
+use bpfjobs_cli::{Command, command};
+use job_server::ServeFault;
 use std::alloc::Global;
 use std::test::Fail;
 use streams::StreamFault;
-use tcp_server::ServeFault;
 
 #[test]
 fn tells_its_faults(rt: HostRuntime) -> Result<(), Fail> {

@@ -7,11 +7,10 @@ use crate::tally::Tally;
 use crate::tickets::Tickets;
 use lanes::{Lane, Pass, Stolen, Thief, lane};
 use std::alloc::Global;
-use std::hint;
 use std::sync::Wait;
 use std::test::Fail;
-use std::thread;
 use std::thread::{Scope, Threads};
+use std::{hint, thread};
 
 /// How many tickets are pushed.
 const TICKETS: u32 = 50_000;
@@ -107,11 +106,14 @@ fn start<'s, E: 's, R: Threads + Wait + Sync>(
     thief: Thief,
     pass: Pass,
     tally: &'s Tally,
-) requires { IsGuest thief pass }
+)
+    requires { IsGuest thief pass }
 {
-    let started = scope.spawn(move || requires { IsGuest thief pass } {
-        steals(rt, thief, pass, tally)
-    });
+    let started = scope.spawn(
+        move ||
+            requires { IsGuest thief pass }
+        { steals(rt, thief, pass, tally) },
+    );
     if started.is_err() {
         tally.fail();
     }
@@ -144,9 +146,13 @@ fn shared_out<R: Threads + Wait + Sync>(rt: &R, alloc: Global) -> Result<bool, F
     let tally = Tally::new(alloc, 50_001)?;
     let seen = &tally;
     let (own, pass, thieves) = lane(alloc, 3)?;
-    let pushed = thread::scope(thread::scope_env(), rt, |scope| -> Result<(), Fail>
-        requires { IsOwner own pass × All (λ g. IsGuest g.0 g.1) thieves.items }
-    { run_all(rt, scope, alloc, own, pass, thieves, seen) });
+    let pushed = thread::scope(
+        thread::scope_env(),
+        rt,
+        |scope| -> Result<(), Fail>
+            requires { IsOwner own pass × All (λ g. IsGuest g.0 g.1) thieves.items }
+        { run_all(rt, scope, alloc, own, pass, thieves, seen) },
+    );
     pushed?;
     Ok(tally.is_whole())
 }

@@ -2,7 +2,7 @@
 //! where the output does, a beginning of the answer.
 
 use crate::ends::{ALWAYS, Given, Taken};
-use command_line::Command;
+use bpfjobs_cli::Command;
 use std::alloc::Global;
 use std::test::Fail;
 use streams::StreamFault;
@@ -31,7 +31,7 @@ fn verdict(alloc: Global, reads: u64, writes: u64) -> Came {
     let mut reader = Given::new(PROGRAM.as_bytes(), 10, reads);
     let mut writer = Taken::new(alloc, 5, writes);
     let command = Command::Verify { need: 0 };
-    let answer = performing::perform(alloc, command, &mut reader, &mut writer);
+    let answer = bpfjobs_cli::perform(alloc, command, &mut reader, &mut writer);
     Came {
         answer,
         written: writer.bytes,
@@ -73,17 +73,11 @@ fn writes_a_beginning_where_the_output_fails(rt: HostRuntime) -> Result<(), Fail
 #[test]
 fn fails_where_an_end_of_a_run_fails(rt: HostRuntime) -> Result<(), Fail> {
     let alloc = rt.alloc();
-    for (reads, writes) in [
-        (0, ALWAYS),
-        (5, ALWAYS),
-        (ALWAYS, 0),
-        (ALWAYS, 2),
-        (6, 3),
-    ] {
+    for (reads, writes) in [(0, ALWAYS), (5, ALWAYS), (ALWAYS, 0), (ALWAYS, 2), (6, 3)] {
         let mut reader = Given::new(JOB.as_bytes(), 20, reads);
         let mut writer = Taken::new(alloc, 50, writes);
         let command = Command::Run { workers: 1 };
-        let answer = pool_performing::perform(&rt, alloc, command, &mut reader, &mut writer);
+        let answer = job_server::perform(&rt, alloc, command, &mut reader, &mut writer);
         let want = if reads < 6 {
             Err(StreamFault::ReadFailed)
         } else if writes < 3 {
@@ -92,7 +86,11 @@ fn fails_where_an_end_of_a_run_fails(rt: HostRuntime) -> Result<(), Fail> {
             Ok(0)
         };
         assert!(rt; answer == want, "{reads} reads, {writes} writes");
-        let length = if reads < 6 { 0 } else { (50 * writes.min(3)).min(RESULT.len() as u64) };
+        let length = if reads < 6 {
+            0
+        } else {
+            (50 * writes.min(3)).min(RESULT.len() as u64)
+        };
         assert_eq!(rt; writer.bytes.len() as u64, length);
         assert!(rt; RESULT.as_bytes().starts_with(&writer.bytes));
     }

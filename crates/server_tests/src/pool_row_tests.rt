@@ -2,7 +2,7 @@
 
 use credit_book::Progress;
 use job_core::{Job, ProgramBytes, admit};
-use pool_runner::{JobRequest, PoolRunner, start_thread};
+use job_server::{JobRequest, PoolRunner, start_thread};
 use std::alloc::Global;
 use std::test::Fail;
 use streams::Runner;

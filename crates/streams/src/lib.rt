@@ -25,3 +25,15 @@ mod runner;
 
 pub use finished::pass_finished;
 pub use runner::Runner;
+
+// what went through an end of a stream, in proofs alone
+mod transcript;
+
+pub use transcript::Transcript;
+
+// a runner that plays each job at its start
+mod inline_runner;
+mod inline_serving;
+
+pub use inline_runner::InlineRunner;
+pub use inline_serving::serve_inline;

@@ -1,8 +1,7 @@
 //! A source or a sink of a std reader or writer.
 
-use crate::{Failed, Sink, Source};
+use crate::{Failed, Sink, Source, Transcript};
 use std::io::{Read, Write};
-use traces::Transcript;
 
 /// A reader or a writer, with what went through it.
 ///

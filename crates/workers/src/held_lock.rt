@@ -1,8 +1,8 @@
 //! A worker's stay at the desk, from one spawn of a task to the next.
 
 use crate::worker::AtDesk;
-use solo::Listener;
 use std::cell::RefCell;
+use task_run::Listener;
 
 /// A stay, and whether the task has spawned since the last stretch of it ended.
 #[derive(Drop)]

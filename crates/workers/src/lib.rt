@@ -11,17 +11,17 @@ pub use outcome::unrun;
 pub use work::{entry_in, work_one};
 
 // what lies under the job's lock
-mod locked_book;
 mod fault;
+mod locked_book;
 mod noting;
 
 pub use fault::PoolFault;
 
 // the threads
-mod worker;
-mod pool;
 mod held_lock;
+mod pool;
 mod watch;
+mod worker;
 
 pub use pool::run_job;
 

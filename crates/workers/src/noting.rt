@@ -5,7 +5,7 @@ ghost use Rattle.machine_model.specs.JobState.{entries_of};
 ghost use Rattle.verifier.specs.Checked.{program_of};
 ghost use Rattle.interpreter.specs.Children.{MayHandOver};
 ghost use Rattle.job_core.specs.Admitted.{AreOwn};
-ghost use Rattle.solo.specs.Through.{GoesThrough};
+ghost use Rattle.task_run.specs.Through.{GoesThrough};
 ghost use Rattle.workers.specs.Noted.{Agrees, AreNumbered, AreOnce, IsNoted, NotedAlone, noted_by};
 ghost use Rattle.workers.specs.Outcomes.{IsOutcome};
 ghost use Rattle.workers.specs.Placed.{AreNotedAt, ArePlaced, note_at_place};
@@ -16,9 +16,9 @@ use crate::work::work_heard;
 use credit_book::{Outcome, TaskEnd, Ticket};
 use helpers::Spawner;
 use refusal::NoMemory;
-use solo::Listener;
 use std::alloc::Global;
 use task_arena::Frames;
+use task_run::Listener;
 use verifier::Verified;
 
 /// What a worker notes of a task that it ran.

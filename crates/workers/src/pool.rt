@@ -5,13 +5,13 @@ ghost use Rattle.std.specs.List.{flat_map};
 ghost use Rattle.workers.specs.Final.{IsFinal};
 ghost use Rattle.workers.specs.Noted.{NotedAlone, EndedAlone};
 
-use crate::locked_book::{LockedBook, Found};
 use crate::fault::PoolFault;
 use crate::gate::{Gate, Heard};
-use crate::worker::{Worker, Shared};
-use crate::noting::{Note, agrees, run_noted};
 use crate::held_lock::HeldLock;
+use crate::locked_book::{Found, LockedBook};
+use crate::noting::{Note, agrees, run_noted};
 use crate::watch::Watch;
+use crate::worker::{Shared, Worker};
 use credit_book::{Book, Post, Report};
 use crossbeam_utils::CachePadded;
 use helpers::Part;

@@ -7,7 +7,7 @@ ghost use Rattle.verifier.specs.Checked.{program_of, IsVerified};
 ghost use Rattle.job_core.specs.Admitted.{AreOwn};
 ghost use Rattle.interpreter.specs.Representation.{zeroed};
 ghost use Rattle.interpreter.specs.Children.{MayHandOver};
-ghost use Rattle.solo.specs.Through.{GoesThrough};
+ghost use Rattle.task_run.specs.Through.{GoesThrough};
 ghost use Rattle.workers.specs.Outcomes.{IsOutcome, IsRunBy, Suffices};
 
 use crate::gate::{Gate, Heard};
@@ -15,9 +15,9 @@ use crate::outcome::unrun;
 use credit_book::{Outcome, Ticket};
 use helpers::{Entry, Spawner};
 use interpreter::{Credit, Frame};
-use solo::{Listener, Nobody, run_to_end};
 use std::alloc::Global;
 use task_arena::Frames;
+use task_run::{Listener, Nobody, run_to_end};
 use verifier::Verified;
 
 /// What a spawn has to know of the program of this number, if the list has it. The call asks for at

@@ -4,8 +4,8 @@ ghost use Rattle.std.specs.Prelude.{◌≡◌, ◌≤◌, vec_len};
 ghost use Rattle.std.proofs.Props.{props};
 ghost use Rattle.job_core.specs.Admitted.{AreOwn};
 
-use crate::locked_book::{LockedBook, Found};
 use crate::held_lock::HeldLock;
+use crate::locked_book::{Found, LockedBook};
 use crate::work::entry_in;
 use credit_book::{Outcome, Ticket};
 use crossbeam_utils::CachePadded;
