@@ -7,6 +7,7 @@
 //! makes up to MOST requests more, one of which is refused where none was before.
 #![tactic(auto)]
 
+mod arenas;
 mod desks;
 mod frames;
 mod hearing;
@@ -25,8 +26,8 @@ use std::sync::Wait;
 use std::thread::Threads;
 use stop::Stop;
 
-const NAMES: [&str; 8] = [
-    "played", "stepped", "heard", "replied", "desk", "stream", "workers", "runner",
+const NAMES: [&str; 9] = [
+    "played", "stepped", "heard", "replied", "desk", "stream", "frames", "workers", "runner",
 ];
 
 /// One turn of a scenario.
@@ -41,6 +42,7 @@ where
         "replied" => desks::answered(alloc),
         "desk" => desks::kept(alloc),
         "stream" => desks::served(alloc),
+        "frames" => arenas::placed(alloc),
         "workers" => pools::run_by_two(&rt, alloc),
         "runner" => pools::run_by_runner(rt, alloc),
         _ => Err(Stop::Differs("no such scenario")),

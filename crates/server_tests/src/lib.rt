@@ -36,7 +36,7 @@ mod opened;
 
 // lanes, without a pool
 #[cfg(test)]
-mod lane_tests;
+mod order_tests;
 #[cfg(test)]
 mod passing_tests;
 #[cfg(test)]

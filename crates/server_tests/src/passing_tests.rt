@@ -7,31 +7,44 @@ use crate::tally::Tally;
 use crate::tickets::Tickets;
 use lanes::{Lane, Pass, Stolen, Thief, lane};
 use std::alloc::Global;
+use std::marker::Model;
 use std::sync::Wait;
+use std::sync::atomic::{AtomicBool, Ordering};
 use std::test::Fail;
-use std::thread::{Scope, Threads};
+use std::thread::{JoinHandle, Scope, Threads};
 use std::{hint, thread};
 
 /// How many tickets are pushed.
 const TICKETS: u32 = 50_000;
 
-/// Marks what it steals until all was pushed and the lane is empty. It comes in the order of
-/// pushing.
-fn steals<R: Wait>(rt: &R, thief: Thief, pass: Pass, tally: &Tally)
-    requires { IsGuest thief pass }
-{
+/// A thief beside its pass.
+#[derive(Drop)]
+struct Seated {
+    thief: Thief,
+    pass: Pass,
+}
+
+impl Model for Seated {
+    ghost use Rattle.lanes.specs.Passes.{IsGuest};
+
+    ghost Value = { Unit {0} };
+
+    ghost view = { λ _. tt };
+
+    ghost invariant = { λ s. IsGuest s.thief s.pass };
+}
+
+/// Steals until all was pushed and the lane is empty. The numbers of what it stole, in order.
+fn steals<R: Wait>(rt: &R, alloc: Global, seated: Seated, is_over: &AtomicBool) -> Vec<u32> {
+    let Seated { thief, pass } = seated;
     let mut thief = thief;
     let mut pass = pass;
-    let mut last = 0;
+    let mut seen = Vec::new(alloc);
     for _ in rt.forever() {
-        let was_over = tally.is_over();
+        let was_over = is_over.load(Ordering::SeqCst);
         match thief.steal(&mut pass) {
             Stolen::Got(ticket) => {
-                let number = tally.see(&ticket);
-                if number <= last {
-                    tally.fail();
-                }
-                last = number;
+                let _ = seen.push(ticket.number());
             }
             Stolen::Empty => {
                 if was_over {
@@ -42,16 +55,17 @@ fn steals<R: Wait>(rt: &R, thief: Thief, pass: Pass, tally: &Tally)
             Stolen::Retry => hint::spin_loop(),
         }
     }
+    seen
 }
 
-/// Takes a ticket and marks it. Whether there was one.
-fn takes(lane: &mut Lane, pass: &mut Pass, tally: &Tally) -> bool
+/// Takes a ticket and notes its number. Whether there was one.
+fn takes(lane: &mut Lane, pass: &mut Pass, seen: &mut Vec<u32>) -> bool
     requires { IsOwner lane.old pass.old }
     ensures { IsOwner lane.new pass.new }
 {
     match lane.take(pass) {
         Some(ticket) => {
-            tally.see(&ticket);
+            let _ = seen.push(ticket.number());
             true
         }
         None => false,
@@ -65,7 +79,7 @@ fn pushes_one(
     pass: &mut Pass,
     tickets: &mut Tickets,
     turn: u32,
-    tally: &Tally,
+    seen: &mut Vec<u32>,
 ) -> Result<(), Fail>
     requires { IsOwner lane.old pass.old }
     ensures { IsOwner lane.new pass.new }
@@ -75,51 +89,43 @@ fn pushes_one(
         return Err(Fail::new("a push is refused"));
     }
     if turn % 8 == 0 {
-        takes(lane, pass, tally);
+        takes(lane, pass, seen);
     }
     Ok(())
 }
 
-/// Pushes all tickets, and then takes what is left.
-fn pushes(alloc: Global, lane: Lane, pass: Pass, tally: &Tally) -> Result<(), Fail>
+/// Pushes all tickets, and then takes what is left. The numbers of what it took, in order.
+fn pushes(alloc: Global, lane: Lane, pass: Pass, is_over: &AtomicBool) -> Result<Vec<u32>, Fail>
     requires { IsOwner lane pass }
 {
     let mut lane = lane;
     let mut pass = pass;
+    let mut seen = Vec::new(alloc);
     let mut tickets = Tickets::open(alloc)?;
     for turn in 0..TICKETS {
-        pushes_one(alloc, &mut lane, &mut pass, &mut tickets, turn, tally)?;
+        pushes_one(alloc, &mut lane, &mut pass, &mut tickets, turn, &mut seen)?;
     }
-    tally.end();
+    is_over.store(true, Ordering::SeqCst);
     for _ in 0..TICKETS {
-        if !takes(&mut lane, &mut pass, tally) {
+        if !takes(&mut lane, &mut pass, &mut seen) {
             break;
         }
     }
-    Ok(())
+    Ok(seen)
 }
 
-/// Starts the thread of a thief.
+/// Starts the thread of a thief, if it can be started.
 fn start<'s, E: 's, R: Threads + Wait + Sync>(
     rt: &'s R,
     scope: &Scope<'s, E>,
-    thief: Thief,
-    pass: Pass,
-    tally: &'s Tally,
-)
-    requires { IsGuest thief pass }
-{
-    let started = scope.spawn(
-        move ||
-            requires { IsGuest thief pass }
-        { steals(rt, thief, pass, tally) },
-    );
-    if started.is_err() {
-        tally.fail();
-    }
+    alloc: Global,
+    seated: Seated,
+    is_over: &'s AtomicBool,
+) -> Option<JoinHandle<Vec<u32>>> {
+    scope.spawn(move || steals(rt, alloc, seated, is_over)).ok()
 }
 
-/// Starts the thieves, and owns the lane meanwhile.
+/// Starts the thieves, and owns the lane meanwhile. Marks what each of them has taken.
 fn run_all<'s, E: 's, R: Threads + Wait + Sync>(
     rt: &'s R,
     scope: &Scope<'s, E>,
@@ -127,31 +133,44 @@ fn run_all<'s, E: 's, R: Threads + Wait + Sync>(
     lane: Lane,
     pass: Pass,
     thieves: Vec<(Thief, Pass)>,
-    tally: &'s Tally,
+    is_over: &'s AtomicBool,
+    tally: &Tally,
 ) -> Result<(), Fail>
     requires owner { IsOwner lane pass }
     requires thieves { All (λ g. IsGuest g.0 g.1) thieves.items }
 {
     let mut thieves = thieves;
-    while let Some((thief, seat)) = thieves.pop() {
-        start(rt, scope, thief, seat, tally);
+    let mut started = Vec::new(alloc);
+    while let Some(pair) = thieves.pop() {
+        let (thief, pass) = pair;
+        started.push(start(rt, scope, alloc, Seated { thief, pass }, is_over))?;
     }
-    let pushed = pushes(alloc, lane, pass, tally);
-    tally.end();
-    pushed
+    let pushed = pushes(alloc, lane, pass, is_over);
+    is_over.store(true, Ordering::SeqCst);
+    tally.mark_rising(&pushed?);
+    for thread in started {
+        match thread {
+            Some(thread) => tally.mark_rising(&thread.join(rt)),
+            None => tally.fail(),
+        }
+    }
+    Ok(())
 }
 
-/// Lets an owner and three thieves have the tickets. Whether each was seen once.
+/// Lets an owner and three thieves have the tickets. Whether each was taken once, and each of them
+/// took them in the order of pushing.
 fn shared_out<R: Threads + Wait + Sync>(rt: &R, alloc: Global) -> Result<bool, Fail> {
     let tally = Tally::new(alloc, 50_001)?;
     let seen = &tally;
+    let over = AtomicBool::new(false);
+    let is_over = &over;
     let (own, pass, thieves) = lane(alloc, 3)?;
     let pushed = thread::scope(
         thread::scope_env(),
         rt,
         |scope| -> Result<(), Fail>
             requires { IsOwner own pass × All (λ g. IsGuest g.0 g.1) thieves.items }
-        { run_all(rt, scope, alloc, own, pass, thieves, seen) },
+        { run_all(rt, scope, alloc, own, pass, thieves, is_over, seen) },
     );
     pushed?;
     Ok(tally.is_whole())

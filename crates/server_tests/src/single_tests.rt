@@ -7,7 +7,7 @@ use credit_book::Report;
 use std::alloc::Global;
 use std::test::Fail;
 use task_arena::Frames;
-use workers::unrun_outcome;
+use workers::unrun;
 
 /// Runs the root of a job without children on the frames, and tells its R0, what it used, and
 /// whether it ran.
@@ -47,7 +47,7 @@ fn family(alloc: Global, runs_root: bool, runs_child: bool) -> Result<Report, Fa
     let outcome = if runs_root {
         hand.run(alloc, root, &mut frames)
     } else {
-        unrun_outcome(root)
+        unrun(root)
     };
     if !hand.end(outcome) {
         return Err(Fail::new("the root's end is refused"));
@@ -56,7 +56,7 @@ fn family(alloc: Global, runs_root: bool, runs_child: bool) -> Result<Report, Fa
         let outcome = if runs_child {
             hand.run(alloc, child, &mut frames)
         } else {
-            unrun_outcome(child)
+            unrun(child)
         };
         if !hand.end(outcome) {
             return Err(Fail::new("the child's end is refused"));

@@ -31,13 +31,30 @@ impl Tally {
     /// Marks a ticket. Its number.
     pub fn see(&self, ticket: &Ticket) -> u32 {
         let number = ticket.number();
+        self.mark(number);
+        number
+    }
+
+    /// Marks the ticket of this number.
+    pub fn mark(&self, number: u32) {
         match self.marks.get(number as usize) {
             Some(mark) => {
                 let _ = mark.fetch_add(1, Ordering::SeqCst);
             }
             None => self.fail(),
         }
-        number
+    }
+
+    /// Marks the tickets of these numbers, which have to rise.
+    pub fn mark_rising(&self, numbers: &[u32]) {
+        let mut last = 0;
+        for number in numbers {
+            if *number <= last {
+                self.fail();
+            }
+            self.mark(*number);
+            last = *number;
+        }
     }
 
     /// Says that all tickets were pushed.

@@ -2,7 +2,7 @@ use Rattle.lanes.specs.declared.ends.Pass.{Pass}
 use Rattle.lanes.specs.declared.ends.Thief.{Thief}
 use Rattle.lanes.specs.Passes.{IsNewThief}
 use Rattle.server_tests.proofs.LastOnes.{of_last}
-use Rattle.server_tests.proofs.lane_tests.owner_and_thief_take_in_the_order_of_pushing.Goals as goal
+use Rattle.server_tests.proofs.order_tests.owner_and_thief_take_in_the_order_of_pushing.Goals as goal
 
 pub stolen-requires : goal.stolen-requires
 stolen-requires g c =
