@@ -130,7 +130,7 @@ fn hands_on_what_goes_through(rt: HostRuntime) -> Result<(), Fail> {
     let mut writer = Tap::new(Vec::new(alloc));
     assert!(rt; writer.write(b"abc") == Ok(3));
     assert!(rt; writer.write(b"") == Ok(0));
-    assert!(rt; writer.into_inner().as_slice() == b"abc");
+    assert!(rt; writer.into_inner().as_slice() == b"abc".as_slice());
     let mut full = Tap::new(Filling {
         bytes: Vec::new(alloc),
         calls: 0,
