@@ -118,7 +118,7 @@ fn by_world(alloc: Global, tree: &Tree, turns: &[(u32, bool)]) -> anyhow::Result
     };
     let mut text = text_of(alloc, &report.buffer)?;
     for end in &report.tasks {
-        let place = match world.place(end.number)? {
+        let place = match world.place(alloc, end.number)? {
             Some(place) => place_text(alloc, &widened(alloc, &place)?)?,
             None => String::from_str(alloc, "nowhere")?,
         };
