@@ -43,7 +43,8 @@ IsInRange (Run workers) = (1 ≤ workers) × (workers ≤ 16)
 IsInRange (Serve port workers sessions) =
     (1 ≤ port) × (port ≤ 65535) × (1 ≤ workers) × (workers ≤ 16) × (1 ≤ sessions) × (sessions ≤ 1000000)
 
--- Words that clap takes are refused for want of memory alone. Any others are refused for that, or for a fault that clap finds in them.
+-- Words that clap takes are refused for want of memory alone. Any others are refused for that, or
+-- for a fault that clap finds in them.
 abbrev pub IsUsage : Usage → List Text → Type 0
 IsUsage (usage.Refused error) words =
     (takes bpfjobs_app words ≡ true → kind_of error ≡ OutOfMemory) × HasKind (fault_of bpfjobs_app words) error

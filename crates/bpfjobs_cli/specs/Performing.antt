@@ -25,8 +25,9 @@ IsAnswer Play input text status = PrintsPlay input text status
 IsAnswer (Run workers) input text status = ⊥
 IsAnswer (Serve port workers sessions) input text status = ⊥
 
--- What is left where a command is given up by this. Where the reader failed, or there was no memory, nothing is written; where the writer failed
--- all input was read, and of the answer a part is written, but not all of it.
+-- What is left where a command is given up by this. Where the reader failed, or there was no
+-- memory, nothing is written; where the writer failed all input was read, and of the answer a part
+-- is written, but not all of it.
 abbrev pub IsGivenUpBy : StreamFault → (List ℕ → ℕ → Type 0) → Type 0 → List ℕ → List ℕ → Type 0
 IsGivenUpBy ReadFailed answers over before after = after ≡ before
 IsGivenUpBy WriteFailed answers over before after =

@@ -30,7 +30,8 @@ pub record SaysRequest (rows : List Row) : Type 0 where
   pub credit : (number : ℕ) × IsNumberIn rows (codes "credit") 0 2147483647 number
   pub arg : (number : ℕ) × IsNumberIn rows (codes "arg") 0 18446744073709551615 number
 
--- Words that clap takes are refused for want of memory alone. Any others are refused for that, or for a fault that clap finds in them.
+-- Words that clap takes are refused for want of memory alone. Any others are refused for that, or
+-- for a fault that clap finds in them.
 abbrev pub IsBpfrunUsage : Usage → List Text → Type 0
 IsBpfrunUsage (usage.Refused error) words =
     (takes bpfrun_app words ≡ true → kind_of error ≡ OutOfMemory) × HasKind (fault_of bpfrun_app words) error

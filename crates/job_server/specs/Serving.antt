@@ -11,7 +11,8 @@ use Rattle.job_server.specs.Visits.{Passage, Visits, answers_by}
 abbrev pub new_desk : Ledger
 new_desk = record { grants = []; jobs = [] }
 
--- So many connections of the listener are visited, the first on a new desk and with no job held. Jobs run on pools.
+-- So many connections of the listener are visited, the first on a new desk and with no job held.
+-- Jobs run on pools.
 pub record IsServing {L : Type 0} (opens fails : L → L → Type 0) (notes : L → Passage → L → Type 0) (listener : L) (sessions : ℕ) (outcome : Result (Unit {0}) ServeFault) : Type 0 where
   pub first : Places
   pub none : (n : ℕ) → held_at first n ≡ None

@@ -1,5 +1,6 @@
 -- A desk and a runner that plays each job at its start answer as the plain ledger does.
-use Rattle.std.proofs.Common.{◌≡◌, ◌⊎◌, ◌-◌, ◌^◌, ℕ, suc, min, arith, length-append, List, [], ◌∷◌, ◌++◌, length, map, refl, sym, ap, ◌∙◌, subst, inl, inr, false, Option, Some, None, Result, Ok, Err, append_assoc}
+use Rattle.std.proofs.Common.{◌≡◌, ◌⊎◌, ◌-◌, ◌^◌, ℕ, suc, min, arith, length-append, List, [], ◌∷◌, ◌++◌, length, map, refl, sym, ap, ◌∙◌, subst, inl, inr, false, Option, Some, None, Result, Ok, Err, append_assoc, append-nil, drop, take}
+use Rattle.std.proofs.lemmas.List.{take-append-drop}
 use Rattle.std.specs.Ordering.{nat_cmp}
 use Rattle.std.specs.BTreeMap.{insert_entry}
 use Rattle.serde_json.specs.Data.{Data}
@@ -16,17 +17,19 @@ use Rattle.sessions.specs.Frames.{Front, HasNoFrame, front, frames_of, partial, 
 use Rattle.sessions.specs.Grammar.{Asked, grant, account, submit, status, result}
 use Rattle.sessions.specs.Answers.{Hears}
 use Rattle.sessions.specs.Replies.{frame_of, reply_data}
-use Rattle.sessions.proofs.Framings.{Cuts, cuts_are, cuts_one, none_cut}
+use Rattle.sessions.proofs.Framings.{Cuts, cuts_are, cuts_one, frames_are_cut, none_cut, one_cut}
 use Rattle.streams.specs.Passing.{Notes, Passes, Taken}
 use Rattle.streams.specs.Passing as passing
 use Rattle.streams.specs.Answering.{Answers, Grants, GrantsNone, Replies, Settles, Submits, TakesJob, progress_told}
 use Rattle.streams.specs.Serves.{Serves}
 use Rattle.streams.specs.Serves as serving
-use Rattle.streams.specs.Stops.{EndsWith, IsServed, StopsAt, too_large_reply}
+use Rattle.streams.specs.Stops.{EndsWith, IsServed, IsStoppedBy, StopsAt, ahead_of_reply, between, too_large_reply, within_last, within_reply}
+use Rattle.streams.specs.declared.fault.StreamFault.{StreamFault}
+use Rattle.streams.specs.declared.fault.StreamFault.TheVariants.{ReadFailed, WriteFailed, NoMemory}
 use Rattle.streams.proofs.Answered.{opened}
 use Rattle.streams.specs.Inline.{StartsInline, TakesInline}
 use Rattle.job_core.specs.PlaysLowest.{IsPlayed}
-use Rattle.streams.specs.LedgerReplies.{AreNoted, ComesTo, LedgerReplies, TakesAndPlays, PlaysNone, RepliesTo, Tells, WritesReplies, none_yet, one_more, unseen}
+use Rattle.streams.specs.LedgerReplies.{AreNoted, BeginsReplies, ComesTo, LedgerReplies, TakesAndPlays, PlaysNone, RepliesTo, Tells, WritesReplies, none_yet, one_more, unseen}
 
 -- ---- each report can be noted
 
@@ -57,6 +60,12 @@ all_noted (held ∷ reports) desk =
     let first = note_at desk held.0 held.1 (job_at desk.jobs held.0) refl in
     let later = all_noted reports first.0 in
     (later.0, (first.0, first.1, later.1))
+
+-- frames that are cut, and then others
+cuts_then : (bytes : List ℕ) (payloads : List (List ℕ)) (left : List ℕ) (further : List (List ℕ)) (rest : List ℕ) → Cuts bytes payloads left → Cuts left further rest → Cuts bytes (payloads ++ further) rest
+cuts_then _ _ _ further rest (none_cut bytes) then_cuts = then_cuts
+cuts_then _ _ _ further rest (one_cut bytes payload more payloads left first cuts) then_cuts =
+    one_cut bytes payload more (payloads ++ further) rest first (cuts_then more payloads left further rest cuts then_cuts)
 
 -- ---- what a runner holds, by its reports
 
@@ -216,3 +225,94 @@ module _ {R : Type 0} (reports : R → List (ℕ × Report)) where
         counts = served.counts ∙ ap (λ n. min n (2 ^ 64 - 1)) (sym p.counts ∙ ap (λ f. length f.payloads) (sym cut));
         stops = subst (λ f. StopsAt (front f.rest) over bytes) (sym cut) served.stops;
       }
+
+  -- ---- where it is given up
+
+  -- the frames that are cut are the first ones
+  first_of : (bytes : List ℕ) (payloads : List (List ℕ)) (left : List ℕ) → Cuts bytes payloads left → frames_of bytes ≡ record { payloads = payloads ++ (frames_of left).payloads; rest = (frames_of left).rest }
+  first_of bytes payloads left cuts =
+      cuts_are bytes (payloads ++ (frames_of left).payloads) (frames_of left).rest (cuts_then bytes payloads left (frames_of left).payloads (frames_of left).rest cuts (frames_are_cut left).cuts) (frames_are_cut left).none
+
+  -- so many frames are answered, and this part of what follows is written
+  begun : (start : Ledger × R) (bytes before : List ℕ) (count : ℕ) (end : Ledger × R) (left out : List ℕ) → Serves answers start bytes before count end left out →
+      BeginsReplies start.0 (reports start.1) bytes before end.0 (reports end.1) out
+  begun start bytes before count end left out served =
+      let last = all_noted (reports end.1) end.0 in
+      let p = plain start bytes before count end left out last.0 served last.1 in
+      record {
+        start = p.first;
+        noted = p.noted;
+        last = last.0;
+        noted_last = last.1;
+        payloads = p.payloads;
+        further = (frames_of left).payloads;
+        first = ap (λ f. f.payloads) (first_of bytes p.payloads left p.cuts);
+        text = p.text;
+        replies = p.replies;
+        part = p.text;
+        written = p.written;
+        begins = ([], inl (append-nil p.text));
+      }
+
+  -- of the next reply a part is written
+  begun_reply : (start : Ledger × R) (bytes before : List ℕ) (count : ℕ) (s : Ledger × R) (left out payload rest reply : List ℕ) (query : Result Asked ℕ) (end : Ledger × R) (n : ℕ) → Serves answers start bytes before count s left out →
+      front left ≡ whole payload rest → Hears payload query → answers s query reply end → BeginsReplies start.0 (reports start.1) bytes before end.0 (reports end.1) (out ++ take n reply)
+  begun_reply start bytes before count s left out payload rest reply query end n served stands heard answer =
+      let last = all_noted (reports end.1) end.0 in
+      let passed = passes_noted s.0 answer.mid s.1 answer.rest answer.passed in
+      let p = plain start bytes before count s left out answer.mid served passed.0 in
+      let told = plain_reply answer.mid end.0 last.0 answer.rest end.1 passed.1 last.1 query (reply_data answer.told) answer.replies in
+      record {
+        start = p.first;
+        noted = p.noted;
+        last = last.0;
+        noted_last = last.1;
+        payloads = p.payloads ++ payload ∷ [];
+        further = (frames_of rest).payloads;
+        first = ap (λ f. f.payloads) (first_of bytes (p.payloads ++ payload ∷ []) rest (cuts_one bytes p.payloads left payload rest p.cuts stands));
+        text = p.text ++ frame_of answer.told;
+        replies = one_more p.payloads p.text answer.mid payload query answer.told last.0 p.replies heard told;
+        part = p.text ++ take n reply;
+        written = ap (λ xs. xs ++ take n reply) p.written ∙ append_assoc before p.text (take n reply);
+        begins = (drop n reply, inl (append_assoc p.text (take n reply) (drop n reply) ∙ ap (λ xs. p.text ++ xs) (take-append-drop n reply ∙ answer.frame)));
+      }
+
+  -- of the last 71 a part is written
+  begun_last : (start : Ledger × R) (bytes before : List ℕ) (count : ℕ) (end : Ledger × R) (left out : List ℕ) (n : ℕ) → Serves answers start bytes before count end left out → front left ≡ too_large →
+      BeginsReplies start.0 (reports start.1) bytes before end.0 (reports end.1) (out ++ take n too_large_reply)
+  begun_last start bytes before count end left out n served stands =
+      let last = all_noted (reports end.1) end.0 in
+      let p = plain start bytes before count end left out last.0 served last.1 in
+      let cut = cuts_are bytes p.payloads left p.cuts (subst HasNoFrame (sym stands) tt) in
+      record {
+        start = p.first;
+        noted = p.noted;
+        last = last.0;
+        noted_last = last.1;
+        payloads = p.payloads;
+        further = [];
+        first = ap (λ f. f.payloads) cut ∙ sym (append-nil p.payloads);
+        text = p.text;
+        replies = p.replies;
+        part = p.text ++ take n too_large_reply;
+        written = ap (λ xs. xs ++ take n too_large_reply) p.written ∙ append_assoc before p.text (take n too_large_reply);
+        begins = (
+          drop n too_large_reply,
+          inr (
+            ap (λ f. front f.rest) cut ∙ stands,
+            refl,
+            append_assoc p.text (take n too_large_reply) (drop n too_large_reply) ∙ ap (λ xs. p.text ++ xs) (take-append-drop n too_large_reply),
+          ),
+        );
+      }
+
+  pub begins_replies : (fault : StreamFault) (start : Ledger × R) (bytes before : List ℕ) (end : Ledger × R) (after : List ℕ) → IsStoppedBy fault answers start bytes before end after →
+      BeginsReplies start.0 (reports start.1) bytes before end.0 (reports end.1) after
+  begins_replies ReadFailed start bytes before end after stop = begun start bytes before stop.count end stop.left after stop.frames
+  begins_replies WriteFailed start bytes before end after (within_reply count s left out payload rest reply query t n less served stands heard answer) =
+      begun_reply start bytes before count s left out payload rest reply query t n served stands heard answer
+  begins_replies WriteFailed start bytes before end after (within_last count s left out n less served stands) = begun_last start bytes before count s left out n served stands
+  begins_replies NoMemory start bytes before end after (between count s left out served) = begun start bytes before count s left out served
+  begins_replies NoMemory start bytes before end after (ahead_of_reply count s left out payload rest reply query t served stands heard answer) =
+      subst (λ o. BeginsReplies start.0 (reports start.1) bytes before t.0 (reports t.1) o) (append-nil out)
+      (begun_reply start bytes before count s left out payload rest reply query t 0 served stands heard answer)

@@ -20,13 +20,15 @@ EndsWith (whole payload rest) out written = ⊥
 EndsWith partial out written = written ≡ out
 EndsWith too_large out written = written ≡ out ++ too_large_reply
 
--- why nothing more is read: the reader is over, or has given so many bytes; or a length over the limit came
+-- why nothing more is read: the reader is over, or has given so many bytes; or a length over the
+-- limit came
 abbrev pub StopsAt : Front → Type 0 → List ℕ → Type 0
 StopsAt (whole payload rest) over bytes = ⊥
 StopsAt partial over bytes = over ⊎ (2 ^ 64 - 1 ≤ length bytes)
 StopsAt too_large over bytes = Unit {0}
 
--- Every frame of the bytes is answered, and the number is that of the frames. `over` says that the reader has no more.
+-- Every frame of the bytes is answered, and the number is that of the frames. `over` says that the
+-- reader has no more.
 pub record IsServed {S : Type 0} (answers : S → Result Asked ℕ → List ℕ → S → Type 0) (start : S) (bytes before : List ℕ) (over : Type 0) (end : S) (number : ℕ) (after : List ℕ) : Type 0 where
   pub count : ℕ
   pub left : List ℕ
@@ -36,21 +38,22 @@ pub record IsServed {S : Type 0} (answers : S → Result Asked ℕ → List ℕ 
   pub last : EndsWith (front left) out after
   pub stops : StopsAt (front left) over bytes
 
--- The reader failed: every frame that is whole in the bytes is answered, and what was written are the whole replies.
+-- The reader failed: every frame that is whole in the bytes is answered, and what was written are
+-- the whole replies.
 pub record IsReadOut {S : Type 0} (answers : S → Result Asked ℕ → List ℕ → S → Type 0) (start : S) (bytes before : List ℕ) (end : S) (after : List ℕ) : Type 0 where
   pub count : ℕ
   pub left : List ℕ
   pub frames : Serves answers start bytes before count end left after
   pub waits : front left ≡ partial
 
--- The writer failed: frames are answered up to some frame, and of the next reply a part is written, but
--- not all of it. The state is that after the frames that were heard.
+-- The writer failed: frames are answered up to some frame, and of the next reply a part is written,
+-- but not all of it. The state is that after the frames that were heard.
 pub data IsCutOff {S : Type 0} (answers : S → Result Asked ℕ → List ℕ → S → Type 0) (start : S) (bytes before : List ℕ) : S → List ℕ → Type 0 where
   within_reply : (count : ℕ) (s : S) (left out payload rest reply : List ℕ) (query : Result Asked ℕ) (t : S) (n : ℕ) → n < length reply → Serves answers start bytes before count s left out → front left ≡ whole payload rest → Hears payload query → answers s query reply t → IsCutOff answers start bytes before t (out ++ take n reply)
   within_last : (count : ℕ) (s : S) (left out : List ℕ) (n : ℕ) → n < length too_large_reply → Serves answers start bytes before count s left out → front left ≡ too_large → IsCutOff answers start bytes before s (out ++ take n too_large_reply)
 
--- There was no memory: frames are answered up to some frame, by whole replies, and of the next reply,
--- if its frame was heard, nothing is written.
+-- There was no memory: frames are answered up to some frame, by whole replies, and of the next
+-- reply, if its frame was heard, nothing is written.
 pub data IsStarved {S : Type 0} (answers : S → Result Asked ℕ → List ℕ → S → Type 0) (start : S) (bytes before : List ℕ) : S → List ℕ → Type 0 where
   between : (count : ℕ) (s : S) (left out : List ℕ) → Serves answers start bytes before count s left out → IsStarved answers start bytes before s out
   ahead_of_reply : (count : ℕ) (s : S) (left out payload rest reply : List ℕ) (query : Result Asked ℕ) (t : S) → Serves answers start bytes before count s left out → front left ≡ whole payload rest → Hears payload query → answers s query reply t → IsStarved answers start bytes before t out
