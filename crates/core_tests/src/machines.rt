@@ -10,7 +10,7 @@ use helpers::HelperTable;
 use insn_codec::decode;
 use reference::{ReferenceProgram, run_alone};
 use std::alloc::Global;
-use verifier::verify;
+use verifier::{Refusal, verify};
 use virtual_machine::Vm;
 
 /// A program as the reference takes it.
@@ -42,12 +42,45 @@ fn helpers_of(alloc: Global, words: &[&str]) -> anyhow::Result<HelperTable> {
     Ok(helpers)
 }
 
-/// The cost of a program that may call these helpers, or its refusal.
-pub fn verdict(alloc: Global, need: &str, added: &[&str], code: &[u8]) -> anyhow::Result<String> {
-    let helpers = helpers_of(alloc, added)?;
-    match verify(alloc, need.parse::<u32>()?, code, &helpers) {
+/// `mov64 r0, 42`, `exit`
+const ANSWERING: [u8; 16] = [0xb7, 0, 0, 0, 42, 0, 0, 0, 0x95, 0, 0, 0, 0, 0, 0, 0];
+
+/// Whether a machine with these helpers, which has a program, refuses another for this reason and
+/// keeps its own.
+fn keeps_its_program(
+    alloc: Global,
+    words: &[&str],
+    need: u32,
+    code: &[u8],
+    refusal: &Refusal,
+) -> anyhow::Result<bool> {
+    let mut vm = Vm::new(alloc, None)?;
+    for word in words {
+        let (id, arity) = word.split_once('/').unwrap_or((word, "0"));
+        vm.try_register_helper(alloc, id.parse::<u32>()?, arity.parse::<u32>()?, added)?;
+    }
+    vm.set_program(alloc, 0, &ANSWERING)?;
+    let is_told = match vm.set_program(alloc, need, code) {
+        Ok(()) => false,
+        Err(told) => told == *refusal,
+    };
+    let mut memory = [0; 1];
+    Ok(is_told && vm.execute_program(&mut memory, 2)? == 42)
+}
+
+/// The cost of a program that may call these helpers, or its refusal, where a machine that has a
+/// program refuses it alike.
+pub fn verdict(alloc: Global, need: &str, words: &[&str], code: &[u8]) -> anyhow::Result<String> {
+    let helpers = helpers_of(alloc, words)?;
+    let need = need.parse::<u32>()?;
+    match verify(alloc, need, code, &helpers) {
         Ok(verified) => Ok(format!(in alloc; "cost {}", verified.cost())?),
-        Err(refusal) => refused(alloc, refusal.code(), refusal.slot()),
+        Err(refusal) => {
+            if !keeps_its_program(alloc, words, need, code, &refusal)? {
+                return Ok(format!(in alloc; "{refusal}, and another by a machine")?);
+            }
+            refused(alloc, refusal.code(), refusal.slot())
+        }
     }
 }
 

@@ -190,31 +190,33 @@ fn given(insn: &Insn, dst: &Abs, src: &Abs) -> Option<Result<Abs, u8>> {
     }
 }
 
-/// What an instruction gives of two operands, as text.
-pub fn computed(alloc: Global, dst: &str, src: &str, code: &[u8]) -> anyhow::Result<String> {
-    let insn = only_insn(alloc, code)?;
-    match given(&insn, &value_of(dst)?, &value_of(src)?) {
+/// The text of what an instruction gives.
+fn text_of_given(alloc: Global, given: Option<Result<Abs, u8>>) -> anyhow::Result<String> {
+    match given {
         Some(Ok(value)) => text_of_value(alloc, value),
         Some(Err(number)) => Ok(format!(in alloc; "{number}")?),
         None => Ok(String::from_str(alloc, "no such question")?),
     }
 }
 
-/// The same of the unsigned range alone.
+/// What an instruction gives of two operands, as text.
+pub fn computed(alloc: Global, dst: &str, src: &str, code: &[u8]) -> anyhow::Result<String> {
+    // for the proof
+    let _operand: Option<Operand> = None;
+    let insn = only_insn(alloc, code)?;
+    text_of_given(alloc, given(&insn, &value_of(dst)?, &value_of(src)?))
+}
+
+/// The unsigned range of what is written of a value.
 pub fn computed_unsigned(
     alloc: Global,
     dst: &str,
     src: &str,
     code: &[u8],
 ) -> anyhow::Result<String> {
-    let insn = only_insn(alloc, code)?;
-    match given(&insn, &value_of(dst)?, &value_of(src)?) {
-        Some(Ok(Abs::Num(numbers))) => {
-            let range = numbers.unsigned();
-            Ok(format!(in alloc; "{}..{}", range.lo(), range.hi())?)
-        }
-        _ => Ok(String::from_str(alloc, "no numbers")?),
-    }
+    let text = computed(alloc, dst, src, code)?;
+    let (unsigned, _) = text.as_str().split_once(',').unwrap_or((text.as_str(), ""));
+    Ok(String::from_str(alloc, unsigned)?)
 }
 
 /// A jump on a condition.
@@ -267,6 +269,8 @@ pub fn met(alloc: Global, first: &str, second: &str) -> anyhow::Result<String> {
 
 /// What a load gives.
 pub fn of_load(alloc: Global, code: &[u8]) -> anyhow::Result<String> {
+    // for the proof
+    let _operand: Option<Operand> = None;
     let kind: LoadKind = match only_insn(alloc, code)? {
         Insn::Load { kind, .. } => kind,
         _ => bail!("no load"),

@@ -80,11 +80,22 @@ pub struct Thief {
     ghost fifo: { stealer_flavor reach ≡ 0 },
 }
 
-/// What a caller has moved. The owner's shows its worker, and a thief's its seat.
+/// What a caller has moved. The owner's is a `Pass<Owning>`, and a thief's a `Pass<Stealing>`.
 #[derive(Drop)]
-pub struct Pass {
-    owns: bool,
+pub struct Pass<K> {
+    knows: K,
+}
+
+/// What an owner's pass knows: its worker. A type that held a worker's snapshot beside a seat would
+/// find no proof that it may cross to a thread.
+#[derive(Drop)]
+pub struct Owning {
     seen: Snapshot<Ready>,
+}
+
+/// What a thief's pass knows: its seat.
+#[derive(Drop)]
+pub struct Stealing {
     seat: Seat,
 }
 
@@ -102,7 +113,7 @@ impl Lane {
     ghost use Rattle.std.specs.Prelude.{MatchResult, MatchOption, [], ◌∷◌, IfOk};
     ghost use Rattle.crossbeam_deque.specs.Handles.{worker_view, worker_deque, view, stealer_deque, IsPassOf};
     ghost use Rattle.lanes.specs.Interleaving.{newcomer, FoundNone, OwnerPut, OwnerTook};
-    ghost use Rattle.lanes.specs.Passes.{moves, IsOwner, IsThiefOf, IsNewThief};
+    ghost use Rattle.lanes.specs.Passes.{moves_of, IsOwner, IsThiefOf, IsNewThief};
 
     /// A lane with no ticket.
     pub(crate) fn empty(alloc: Global) -> Result<Lane, NoMemory>
@@ -113,17 +124,14 @@ impl Lane {
         })
     }
 
-    /// The pass of the owner of a new lane. The owner's seat stays unused.
-    pub(crate) fn owner(&self) -> Result<Pass, NoMemory>
-        ensures { IfOk result (λ p. IsOwner self.now p × (moves p ≡ worker_view self.now.ready)) }
+    /// The pass of its owner.
+    pub(crate) fn owner(&self) -> Pass<Owning>
+        ensures { IsOwner self.now result × (moves_of result ≡ worker_view self.now.ready) }
     {
-        let seat = self.ready.stealer()?.pass();
         let seen = Snapshot::of(&self.ready);
-        Ok(Pass {
-            owns: true,
-            seen,
-            seat,
-        })
+        Pass {
+            knows: Owning { seen },
+        }
     }
 
     /// A thief of this lane, and a bare seat of its own.
@@ -137,14 +145,12 @@ impl Lane {
     }
 
     /// A thief of this lane, and its pass.
-    pub(crate) fn thief(&self) -> Result<(Thief, Pass), NoMemory>
+    pub(crate) fn thief(&self) -> Result<(Thief, Pass<Stealing>), NoMemory>
         ensures { IfOk result (λ g. IsNewThief self.now g.0 g.1) }
     {
         let (thief, seat) = self.way()?;
         let pass = Pass {
-            owns: false,
-            seen: Snapshot::of(&self.ready),
-            seat,
+            knows: Stealing { seat },
         };
         Ok((thief, pass))
     }
@@ -175,29 +181,29 @@ impl Lane {
     ///
     /// A ticket that was put in stands in the lane's order of pushing, of which each caller has
     /// taken its own: `each_once_in_order` says what that means.
-    pub fn push(&mut self, pass: &mut Pass, ticket: Ticket) -> Result<(), Ticket>
+    pub fn push(&mut self, pass: &mut Pass<Owning>, ticket: Ticket) -> Result<(), Ticket>
         requires { IsOwner self.old pass.old }
         ensures pass { IsOwner self.new pass.new }
         ensures moved { MatchResult result
-            (λ _. OwnerPut (moves pass.old) (ticket ∷ []) (moves pass.new))
-            (λ back. (back ≡ ticket) × (moves pass.new ≡ moves pass.old)) }
+            (λ _. OwnerPut (moves_of pass.old) (ticket ∷ []) (moves_of pass.new))
+            (λ back. (back ≡ ticket) × (moves_of pass.new ≡ moves_of pass.old)) }
     {
         let pushed = self.put(ticket);
-        pass.seen = Snapshot::of(&self.ready);
+        pass.knows.seen = Snapshot::of(&self.ready);
         pushed
     }
 
     /// Takes the ticket at the front, which was pushed, and which no other caller takes. `None`: the
     /// lane had no ticket at one moment of the call.
-    pub fn take(&mut self, pass: &mut Pass) -> Option<Ticket>
+    pub fn take(&mut self, pass: &mut Pass<Owning>) -> Option<Ticket>
         requires { IsOwner self.old pass.old }
         ensures pass { IsOwner self.new pass.new }
         ensures moved { MatchOption result
-            ((moves pass.new ≡ moves pass.old) × FoundNone 0 (moves pass.old))
-            (λ ticket. OwnerTook (moves pass.old) (ticket ∷ []) (moves pass.new)) }
+            ((moves_of pass.new ≡ moves_of pass.old) × FoundNone 0 (moves_of pass.old))
+            (λ ticket. OwnerTook (moves_of pass.old) (ticket ∷ []) (moves_of pass.new)) }
     {
         let taken = self.next();
-        pass.seen = Snapshot::of(&self.ready);
+        pass.knows.seen = Snapshot::of(&self.ready);
         taken
     }
 }
@@ -210,13 +216,13 @@ impl Thief {
 
     /// Takes the ticket at the front of another worker's lane, which its owner has pushed, and which
     /// no other caller takes.
-    pub fn steal(&mut self, pass: &mut Pass) -> Stolen
+    pub fn steal(&mut self, pass: &mut Pass<Stealing>) -> Stolen
         requires { IsGuest self.old pass.old }
         ensures pass { IsGuest self.new pass.new }
         ensures moved { MatchStolen result (moves pass.new ≡ moves pass.old)
             (λ ticket. ThiefTook (moves pass.old) (ticket ∷ []) (moves pass.new)) }
     {
-        self.steal_on(&mut pass.seat)
+        self.steal_on(&mut pass.knows.seat)
     }
 
     /// The ticket at the front, for a bare seat.

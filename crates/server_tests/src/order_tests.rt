@@ -3,12 +3,17 @@
 ghost use Rattle.lanes.specs.Passes.{IsOwner, IsGuest};
 
 use crate::tickets::{Tickets, number_of};
-use lanes::{Lane, Pass, Stolen, Thief, lane, lanes_between};
+use lanes::{Lane, Owning, Pass, Stealing, Stolen, Thief, lane, lanes_between};
 use std::alloc::Global;
 use std::test::Fail;
 
 /// Puts the next ticket into the lane.
-fn put(alloc: Global, tickets: &mut Tickets, lane: &mut Lane, pass: &mut Pass) -> Result<(), Fail>
+fn put(
+    alloc: Global,
+    tickets: &mut Tickets,
+    lane: &mut Lane,
+    pass: &mut Pass<Owning>,
+) -> Result<(), Fail>
     requires { IsOwner lane.old pass.old }
     ensures { IsOwner lane.new pass.new }
 {
@@ -20,7 +25,7 @@ fn put(alloc: Global, tickets: &mut Tickets, lane: &mut Lane, pass: &mut Pass) -
 }
 
 /// The number of what a thief is given, or why it is given nothing.
-fn stolen(thief: &mut Thief, pass: &mut Pass) -> Result<u32, &'static str>
+fn stolen(thief: &mut Thief, pass: &mut Pass<Stealing>) -> Result<u32, &'static str>
     requires { IsGuest thief.old pass.old }
     ensures { IsGuest thief.new pass.new }
 {

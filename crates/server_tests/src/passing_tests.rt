@@ -5,7 +5,7 @@ ghost use Rattle.lanes.specs.Passes.{IsOwner, IsGuest};
 
 use crate::tally::Tally;
 use crate::tickets::Tickets;
-use lanes::{Lane, Pass, Stolen, Thief, lane};
+use lanes::{Lane, Owning, Pass, Stealing, Stolen, Thief, lane};
 use std::alloc::Global;
 use std::marker::Model;
 use std::sync::Wait;
@@ -21,7 +21,7 @@ const TICKETS: u32 = 50_000;
 #[derive(Drop)]
 struct Seated {
     thief: Thief,
-    pass: Pass,
+    pass: Pass<Stealing>,
 }
 
 impl Model for Seated {
@@ -59,7 +59,7 @@ fn steals<R: Wait>(rt: &R, alloc: Global, seated: Seated, is_over: &AtomicBool) 
 }
 
 /// Takes a ticket and notes its number. Whether there was one.
-fn takes(lane: &mut Lane, pass: &mut Pass, seen: &mut Vec<u32>) -> bool
+fn takes(lane: &mut Lane, pass: &mut Pass<Owning>, seen: &mut Vec<u32>) -> bool
     requires { IsOwner lane.old pass.old }
     ensures { IsOwner lane.new pass.new }
 {
@@ -76,7 +76,7 @@ fn takes(lane: &mut Lane, pass: &mut Pass, seen: &mut Vec<u32>) -> bool
 fn pushes_one(
     alloc: Global,
     lane: &mut Lane,
-    pass: &mut Pass,
+    pass: &mut Pass<Owning>,
     tickets: &mut Tickets,
     turn: u32,
     seen: &mut Vec<u32>,
@@ -95,7 +95,12 @@ fn pushes_one(
 }
 
 /// Pushes all tickets, and then takes what is left. The numbers of what it took, in order.
-fn pushes(alloc: Global, lane: Lane, pass: Pass, is_over: &AtomicBool) -> Result<Vec<u32>, Fail>
+fn pushes(
+    alloc: Global,
+    lane: Lane,
+    pass: Pass<Owning>,
+    is_over: &AtomicBool,
+) -> Result<Vec<u32>, Fail>
     requires { IsOwner lane pass }
 {
     let mut lane = lane;
@@ -131,8 +136,8 @@ fn run_all<'s, E: 's, R: Threads + Wait + Sync>(
     scope: &Scope<'s, E>,
     alloc: Global,
     lane: Lane,
-    pass: Pass,
-    thieves: Vec<(Thief, Pass)>,
+    pass: Pass<Owning>,
+    thieves: Vec<(Thief, Pass<Stealing>)>,
     is_over: &'s AtomicBool,
     tally: &Tally,
 ) -> Result<(), Fail>

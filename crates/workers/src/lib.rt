@@ -26,4 +26,4 @@ mod worker;
 pub use pool::run_job;
 
 // the deque of one worker, for whoever runs tasks in threads of their own
-pub use lanes::{Lane, Pass, Stolen, Thief, lane};
+pub use lanes::{Lane, Owning, Pass, Stealing, Stolen, Thief, lane};
