@@ -27,7 +27,9 @@ class Verdicts(unittest.TestCase):
     @classmethod
     def setUpClass(cls):
         cls.rows = [
-            (row.place, int(row.question[1]), code_of(row.program), row.answer) for row in rows("verdicts.txt")
+            (row.place, int(row.question[1]), code_of(row.program), row.answer)
+            for name in ("verdicts.txt", "holes.txt")
+            for row in rows(name)
         ]
 
     def test_by_the_library(self):
