@@ -5,7 +5,7 @@ use Rattle.credit_book.specs.declared.event.Event.{Event}
 use Rattle.credit_book.specs.History.{IsLegal, IsHistoryOf, IsComplete, table_of, spent_in, returned_in, word_of}
 use Rattle.std.proofs.Common.{false}
 use mathlib.Core.Option.{none}
-use Rattle.atomic_table.specs.TaskTable.{Me, step}
+use Rattle.atomic_table.specs.Table.{Me, step}
 use Rattle.credit_book.specs.declared.seats.View.{View}
 use Rattle.credit_book.specs.Rule.{Looks}
 use Rattle.credit_book.proofs.Sound.{sound_of, complete_from-held, held_from-complete}

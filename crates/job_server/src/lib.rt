@@ -1,5 +1,11 @@
-//! A server of jobs: everything that needs a thread or a socket. The types of `streams` are handed on.
+//! A server of jobs: everything that needs a thread or a socket. It hands on the types of `streams`.
 #![tactic(auto)]
+
+// the streams that it answers, and what runs their jobs
+pub use streams::{
+    Failed, Handler, InlineRunner, Runner, Sink, Source, StreamFault, Tap, pass_finished,
+    serve_stream,
+};
 
 // one job: ahead of its thread, in it, and after it
 mod ending;

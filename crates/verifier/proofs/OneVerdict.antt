@@ -17,7 +17,7 @@ use Rattle.flow_graph.specs.declared.fault.FlowFault.{FlowFault}
 use Rattle.flow_graph.specs.declared.fault.FlowFault.TheVariants as flow
 use Rattle.flow_graph.specs.Faults.{fault_at}
 use Rattle.flow_graph.specs.Program.{code_of}
-use Rattle.flow_graph.specs.Refusals.{RefusesProgram as RefusesFlow}
+use Rattle.flow_graph.specs.Refusals.{Refuses as RefusesFlow}
 use Rattle.flow_graph.proofs.OneRefusal.{one_refusal as one_flow}
 use Rattle.helpers.specs.Table.{Table}
 use Rattle.instruction_rules.specs.declared.state.State.{State}

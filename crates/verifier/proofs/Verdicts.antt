@@ -11,7 +11,7 @@ use Rattle.flow_graph.specs.declared.fault.FlowFault.TheVariants as flow
 use Rattle.flow_graph.specs.Flow.{Flow as ProgramFlow, IsFlow}
 use Rattle.flow_graph.proofs.OrderLemmas.{no_cycle}
 use Rattle.flow_graph.specs.Program.{code_of}
-use Rattle.flow_graph.specs.Refusals.{RefusesProgram as RefusesFlow, IsBuilt}
+use Rattle.flow_graph.specs.Refusals.{Refuses as RefusesFlow, IsBuilt}
 use Rattle.helpers.specs.Table.{Table, IsHelperTable}
 use Rattle.verifier.specs.declared.refusals.Refusal.{Refusal}
 use Rattle.verifier.specs.declared.refusals.Refusal.TheVariants.{NeedTooLarge, Codec, Flow, UnsetRead, OutOfStack, OutOfPart, BadKind, PointerRange, FramePointer, NoHelper, NoMemory}

@@ -9,7 +9,7 @@ use Rattle.flow_graph.specs.declared.fault.FlowFault.TheVariants as flow
 use Rattle.flow_graph.specs.Cycles.{IsOnCycle}
 use Rattle.flow_graph.specs.Faults.{fault_at}
 use Rattle.flow_graph.specs.Program.{code_of}
-use Rattle.flow_graph.specs.Refusals.{RefusesProgram as RefusesFlow}
+use Rattle.flow_graph.specs.Refusals.{Refuses as RefusesFlow}
 use Rattle.machine_model.specs.Edges.{Code, Begins}
 use Rattle.machine_model.specs.Paths.{IsReached, AreCosts}
 use Rattle.helpers.specs.Table.{Table}
