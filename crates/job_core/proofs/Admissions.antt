@@ -11,7 +11,7 @@ use Rattle.verifier.specs.Refusals.{RefusesProgram}
 use Rattle.job_core.specs.declared.admission.ProgramBytes.{ProgramBytes}
 use Rattle.job_core.specs.Admitted.{AreOwn}
 use Rattle.job_core.proofs.Simulates.{some_within}
-use Rattle.job_core.specs.Admission.{Accepts, RefusesProgram, AreAccepted, IsFirstRefused, IsProgramFault, fault_of}
+use Rattle.job_core.specs.Admission.{Accepts, IsRefusedProgram, AreAccepted, IsFirstRefused, IsProgramFault, fault_of}
 
 -- the first of the programs are accepted, so many
 pub record AreAcceptedTo (programs : List ProgramBytes) (count : ℕ) (accepted : List Checked) : Type 0 where
@@ -41,7 +41,7 @@ pub accepted_all : (programs : List ProgramBytes) (count : ℕ) (accepted : List
 accepted_all programs count accepted so_far all = record { count = so_far.many ∙ all; each = so_far.each }
 
 first_refused : (programs : List ProgramBytes) (count : ℕ) (accepted : List Checked) (p : ProgramBytes) (refusal : Refusal) →
-    AreAcceptedTo programs count accepted → slice_get programs count ≡ Some p → RefusesProgram p refusal →
+    AreAcceptedTo programs count accepted → slice_get programs count ≡ Some p → IsRefusedProgram p refusal →
     IsFirstRefused programs count refusal
 first_refused programs count accepted p refusal so_far is refuses = record {
   refused = (p, is, refuses);

@@ -16,9 +16,9 @@ abbrev pub Accepts : ProgramBytes → Checked → Type 0
 Accepts p v = IsAccepted p.need p.code.items job_table v
 
 -- the verifier has this refusal of the program
-abbrev pub RefusesProgram : ProgramBytes → Refusal → Type 0
-RefusesProgram p program.NoMemory = ⊥
-RefusesProgram p refusal = RefusesProgram p.need p.code.items job_table refusal
+abbrev pub IsRefusedProgram : ProgramBytes → Refusal → Type 0
+IsRefusedProgram p program.NoMemory = ⊥
+IsRefusedProgram p refusal = RefusesProgram p.need p.code.items job_table refusal
 
 -- the refusal of the program of this number that the verifier refuses
 abbrev pub fault_of : ℕ → Refusal → AdmitFault
@@ -50,7 +50,7 @@ pub record IsAdmittedFrom (programs : List ProgramBytes) (credit : ℕ) (buffer 
 
 -- the first program that the verifier refuses, with its refusal
 pub record IsFirstRefused (programs : List ProgramBytes) (index : ℕ) (refusal : Refusal) : Type 0 where
-  pub refused : (p : ProgramBytes) × (slice_get programs index ≡ Some p) × RefusesProgram p refusal
+  pub refused : (p : ProgramBytes) × (slice_get programs index ≡ Some p) × IsRefusedProgram p refusal
   pub earlier : (n : ℕ) (p : ProgramBytes) → n < index → slice_get programs n ≡ Some p → (v : Checked) × Accepts p v
 
 -- what there is to tell of programs of which one isn't accepted

@@ -2,7 +2,7 @@ use Rattle.std.proofs.Common.{◌≡◌, ◌∙◌, subst, arith, rules}
 use Rattle.std.proofs.lemmas.Option.{slice_get_within, get_or_from_slice_get}
 use Rattle.verifier.specs.Checked.{Checked, IsVerified}
 use Rattle.job_core.proofs.Ledgers.{cost_some}
-use Rattle.job_core.proofs.job.JobState.board.Goals as goal
+use Rattle.job_core.proofs.job.Job.board.Goals as goal
 
 pub index-requires : goal.index-requires
 index-requires c =
