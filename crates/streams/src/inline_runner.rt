@@ -2,7 +2,7 @@
 
 use crate::Runner;
 use credit_book::{Progress, Report};
-use job_core::Job;
+use job_core::{Job, play_lowest};
 use refusal::NoMemory;
 use std::alloc::Global;
 use std::collections::BTreeMap;
