@@ -110,7 +110,8 @@ impl Desk {
     ) -> Result<(u64, Job), SubmitFault>
         ensures taken { OnOk result (Takes self.old tenant.now credit self.new) }
         ensures number { IfOk result (λ taken. taken.0 ≡ length self.new.jobs) }
-        ensures admitted { IfOk result (λ taken. IsAdmittedFrom programs.now credit buffer.items taken.1) }
+        ensures admitted { IfOk result (λ taken.
+            IsAdmittedFrom programs.now credit buffer.items taken.1) }
         ensures refused { IfErr result
             (λ e. RefusesSubmit self.old tenant.now programs.now credit buffer.items e) }
         ensures unchanged { OnErr result (self.new ≡ self.old) }

@@ -1,5 +1,5 @@
--- The forms that the text table gives the operands of each word, whatever their numbers: what is of its word's form, and is no
--- instruction's line, has a number or a register out of range.
+-- The forms that the text table gives the operands of each word, whatever their numbers: what is of
+-- its word's form, and is no instruction's line, has a number or a register out of range.
 use Rattle.std.specs.Prelude.{◌≡◌, ◌≢◌, ◌⊎◌, ℕ, List, [], ◌∷◌, ◌++◌, codes}
 use Rattle.insn_codec.specs.declared.insn.Insn.{Insn}
 use Rattle.insn_codec.specs.Spelling.{IsInsn}
@@ -33,7 +33,8 @@ IsOffsetForm ts = IsPrefixed 43 ts ⊎ IsNegative ts
 
 -- a register and an offset between brackets
 abbrev pub IsMemoryForm : List ℕ → Type 0
-IsMemoryForm ts = (base offset : List ℕ) × (ts ≡ codes "[" ++ (base ++ (offset ++ codes "]"))) × IsPrefixed 114 base × IsOffsetForm offset
+IsMemoryForm ts = (base offset : List ℕ) × (ts ≡ codes "[" ++ (base ++ (offset ++ codes "]")))
+    × IsPrefixed 114 base × IsOffsetForm offset
 
 abbrev pub IsOfForm : Form → List ℕ → Type 0
 IsOfForm Register ts = IsPrefixed 114 ts
@@ -51,7 +52,8 @@ abbrev pub IsTailOf : Operands → List ℕ → Type 0
 IsTailOf Zero tail = tail ≡ []
 IsTailOf (One f) tail = (ts : List ℕ) × (tail ≡ 32 ∷ ts) × IsOfForm f ts
 IsTailOf (Two f g) tail = (ts : List ℕ) × (tail ≡ 32 ∷ ts) × IsPair (IsOfForm f) (IsOfForm g) ts
-IsTailOf (Three f g h) tail = (ts : List ℕ) × (tail ≡ 32 ∷ ts) × IsPair (IsOfForm f) (IsPair (IsOfForm g) (IsOfForm h)) ts
+IsTailOf (Three f g h) tail =
+    (ts : List ℕ) × (tail ≡ 32 ∷ ts) × IsPair (IsOfForm f) (IsPair (IsOfForm g) (IsOfForm h)) ts
 
 abbrev pub operands_of : Word → Operands
 operands_of (word.Alu width op) = Two Register Source
@@ -90,4 +92,5 @@ abbrev pub IsBadOperand : List ℕ → Type 0
 IsBadOperand line = (w : Word) × BeginsWithWord w line × (HasForm w line → ⊥)
 
 abbrev pub IsOutOfRange : List ℕ → Type 0
-IsOutOfRange line = (w : Word) × HasForm w line × ((insn : Insn) → IsInsn insn → line ≢ line_text insn)
+IsOutOfRange line = (w : Word) × HasForm w line × ((insn : Insn) → IsInsn insn
+    → line ≢ line_text insn)

@@ -15,7 +15,8 @@ use Rattle.bpfjobs_cli.specs.declared.declined.Declined.TheVariants as declined
 use Rattle.bpfjobs_cli.specs.Printed.{Prints, refusal_reply, reply_line}
 
 -- the input says a job, with a schedule where one is wanted, and it is admitted
-pub record IsOrdered (wants : Bool) (input : List ℕ) (order : AdmittedJob) (schedule : List ℕ) : Type 0 where
+pub record IsOrdered (wants : Bool) (input : List ℕ) (order : AdmittedJob) (schedule : List ℕ) :
+    Type 0 where
   pub object : JobObject
   pub read : ObjectAnswer wants (Ok object) input
   pub admitted : IsAdmittedFrom object.programs.items object.credit object.buffer.items order
@@ -25,11 +26,13 @@ pub record IsOrdered (wants : Bool) (input : List ℕ) (order : AdmittedJob) (sc
 abbrev pub IsDeclined : Bool → List ℕ → Declined → Type 0
 IsDeclined wants input (declined.Object fault) = ObjectAnswer wants (Err fault) input
 IsDeclined wants input (declined.Job fault) =
-    (object : JobObject) × ObjectAnswer wants (Ok object) input × RefusesJob object.programs.items object.credit object.buffer.items fault
+    (object : JobObject) × ObjectAnswer wants (Ok object) input
+        × RefusesJob object.programs.items object.credit object.buffer.items fault
 
 abbrev pub declined_line : Declined → List ℕ
 declined_line (declined.Object fault) = refusal_reply (code_of fault) None None
-declined_line (declined.Job fault) = refusal_reply (number_of fault) (place_of fault) (slot_of fault)
+declined_line (declined.Job fault) =
+    refusal_reply (number_of fault) (place_of fault) (slot_of fault)
 
 -- how far a job is
 pub record PrintsProgress (j : JobState) (text : List ℕ) (status : ℕ) : Type 0 where
@@ -37,10 +40,17 @@ pub record PrintsProgress (j : JobState) (text : List ℕ) (status : ℕ) : Type
   pub is_complete : IsTrue complete ↔ IsComplete j
   pub totals : Totals
   pub are_totals : AreTotals totals j
-  pub line : Prints text status (reply_line (play_data j.buffer complete totals.held totals.returned totals.spent totals.used)) 0
+  pub line : Prints text status
+      (reply_line
+      (play_data j.buffer complete totals.held totals.returned totals.spent totals.used)) 0
 
 -- a job's schedule leads to what is told, or there is no job, or no memory for it
 pub data PrintsPlay (input text : List ℕ) (status : ℕ) : Type 0 where
-  played : (order : AdmittedJob) (schedule : List ℕ) (kept : WorldState) → IsOrdered true input order schedule → (plays : Plays order.programs (start order.credit order.buffer) schedule kept) → PrintsProgress plays.last text status → PrintsPlay input text status
-  no_memory : (order : AdmittedJob) (schedule : List ℕ) → IsOrdered true input order schedule → Prints text status (refusal_reply 99 None None) 1 → PrintsPlay input text status
-  no_job : (why : Declined) → IsDeclined true input why → Prints text status (declined_line why) 1 → PrintsPlay input text status
+  played : (order : AdmittedJob) (schedule : List ℕ) (kept : WorldState)
+      → IsOrdered true input order schedule
+      → (plays : Plays order.programs (start order.credit order.buffer) schedule kept)
+      → PrintsProgress plays.last text status → PrintsPlay input text status
+  no_memory : (order : AdmittedJob) (schedule : List ℕ) → IsOrdered true input order schedule
+      → Prints text status (refusal_reply 99 None None) 1 → PrintsPlay input text status
+  no_job : (why : Declined) → IsDeclined true input why → Prints text status (declined_line why) 1
+      → PrintsPlay input text status

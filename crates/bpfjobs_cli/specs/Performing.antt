@@ -31,7 +31,8 @@ IsAnswer (Serve port workers sessions) input text status = ⊥
 abbrev pub IsGivenUpBy : StreamFault → (List ℕ → ℕ → Type 0) → Type 0 → List ℕ → List ℕ → Type 0
 IsGivenUpBy ReadFailed answers over before after = after ≡ before
 IsGivenUpBy WriteFailed answers over before after =
-    over × (text : List ℕ) × (status : ℕ) × answers text status × (n : ℕ) × (n < length text) × (after ≡ before ++ take n text)
+    over × (text : List ℕ) × (status : ℕ) × answers text status × (n : ℕ) × (n < length text)
+        × (after ≡ before ++ take n text)
 IsGivenUpBy NoMemory answers over before after = after ≡ before
 
 -- the reader is over, or has given so many bytes

@@ -12,7 +12,8 @@ Prints text status line number = (text ≡ line) × (status ≡ number)
 -- `refused N`, or `refused N at K`
 abbrev pub refusal_line : ℕ → Option ℕ → List ℕ
 refusal_line number None = codes "refused " ++ (decimal number ++ codes "\n")
-refusal_line number (Some place) = codes "refused " ++ (decimal number ++ (codes " at " ++ (decimal place ++ codes "\n")))
+refusal_line number (Some place) =
+    codes "refused " ++ (decimal number ++ (codes " at " ++ (decimal place ++ codes "\n")))
 
 -- `accepted cost C`
 abbrev pub accepted_line : ℕ → List ℕ

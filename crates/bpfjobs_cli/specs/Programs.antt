@@ -20,18 +20,36 @@ use Rattle.bpfjobs_cli.specs.Printed.{Prints, accepted_line, refusal_line}
 
 -- of a source text
 pub data PrintsAssembly (source text : List ℕ) (status : ℕ) : Type 0 where
-  assembled : (bytes : List ℕ) (insns : List Insn) → IsUtf8 source → IsAssembly bytes insns (source_lines source) → Prints text status (encode_lower bytes ++ 10 ∷ []) 0 → PrintsAssembly source text status
-  refused : (fault : TextFault) → IsUtf8 source → IsTextRefusal fault (source_lines source) → Prints text status (refusal_line (text_number fault) (line_of fault)) 1 → PrintsAssembly source text status
-  no_text : (IsUtf8 source → ⊥) → Prints text status (refusal_line 73 None) 1 → PrintsAssembly source text status
+  assembled : (bytes : List ℕ) (insns : List Insn) → IsUtf8 source
+      → IsAssembly bytes insns (source_lines source)
+      → Prints text status (encode_lower bytes ++ 10 ∷ []) 0 → PrintsAssembly source text status
+  refused : (fault : TextFault) → IsUtf8 source → IsTextRefusal fault (source_lines source)
+      → Prints text status (refusal_line (text_number fault) (line_of fault)) 1
+      → PrintsAssembly source text status
+  no_text : (IsUtf8 source → ⊥) → Prints text status (refusal_line 73 None) 1
+      → PrintsAssembly source text status
 
 -- of bytes in hexadecimal, as lines
 pub data PrintsListing (input text : List ℕ) (status : ℕ) : Type 0 where
-  listed : (bytes listing : List ℕ) (insns : List Insn) → IsHexadecimal input bytes → IsListing listing bytes insns → Prints text status listing 0 → PrintsListing input text status
-  refused : (bytes : List ℕ) (fault : CodecFault) → IsHexadecimal input bytes → IsRefusal fault bytes → Prints text status (refusal_line (codec_number fault) (codec_slot fault)) 1 → PrintsListing input text status
-  no_hexadecimal : IsNoHexadecimal input → Prints text status (refusal_line 73 None) 1 → PrintsListing input text status
+  listed : (bytes listing : List ℕ) (insns : List Insn) → IsHexadecimal input bytes
+      → IsListing listing bytes insns → Prints text status listing 0
+      → PrintsListing input text status
+  refused : (bytes : List ℕ) (fault : CodecFault) → IsHexadecimal input bytes
+      → IsRefusal fault bytes
+      → Prints text status (refusal_line (codec_number fault) (codec_slot fault)) 1
+      → PrintsListing input text status
+  no_hexadecimal : IsNoHexadecimal input → Prints text status (refusal_line 73 None) 1
+      → PrintsListing input text status
 
 -- the verdict on bytes in hexadecimal
 pub data PrintsVerdict (need : ℕ) (input text : List ℕ) (status : ℕ) : Type 0 where
-  accepted : (bytes : List ℕ) (program : Checked) → IsHexadecimal input bytes → IsAccepted need bytes job_table program → Prints text status (accepted_line (cost_at program 0)) 0 → PrintsVerdict need input text status
-  refused : (bytes : List ℕ) (refusal : Refusal) → IsHexadecimal input bytes → RefusesProgram need bytes job_table refusal → Prints text status (refusal_line (number_of refusal) (slot_of refusal)) 1 → PrintsVerdict need input text status
-  no_hexadecimal : IsNoHexadecimal input → Prints text status (refusal_line 73 None) 1 → PrintsVerdict need input text status
+  accepted : (bytes : List ℕ) (program : Checked) → IsHexadecimal input bytes
+      → IsAccepted need bytes job_table program
+      → Prints text status (accepted_line (cost_at program 0)) 0
+      → PrintsVerdict need input text status
+  refused : (bytes : List ℕ) (refusal : Refusal) → IsHexadecimal input bytes
+      → RefusesProgram need bytes job_table refusal
+      → Prints text status (refusal_line (number_of refusal) (slot_of refusal)) 1
+      → PrintsVerdict need input text status
+  no_hexadecimal : IsNoHexadecimal input → Prints text status (refusal_line 73 None) 1
+      → PrintsVerdict need input text status

@@ -76,7 +76,8 @@ pub fn answer_disassemble(alloc: Global, input: &[u8]) -> Result<Answer, NoMemor
 
 // The line of a program that is accepted.
 fn answer_cost(alloc: Global, cost: u32) -> Result<Answer, NoMemory>
-    ensures { IfOk result (λ answer. Prints answer.text.items answer.status (accepted_line cost) 0) }
+    ensures { IfOk result (λ answer.
+        Prints answer.text.items answer.status (accepted_line cost) 0) }
 {
     let line = format!(in alloc; "accepted cost {cost}\n")?;
     Ok(Answer {

@@ -17,7 +17,8 @@ const PIECE_LEN: usize = 4096;
 /// All that the reader gives, in pieces of at most 4,096 bytes, at most `2^64 - 1` of them.
 pub fn read_all<R: Source>(alloc: Global, reader: &mut R) -> Result<Vec<u8>, StreamFault>
     requires { R.has_failed reader.old ≡ false }
-    ensures told { IfOk result (λ bytes. R.transcript reader.new ≡ R.transcript reader.old ++ bytes.items) }
+    ensures told { IfOk result (λ bytes. R.transcript reader.new ≡ R.transcript reader.old
+        ++ bytes.items) }
     ensures over { IfOk result
         (λ bytes. IsAllRead (R.is_over reader.new ≡ true) bytes.items) }
     ensures well { OnOk result (R.has_failed reader.new ≡ false) }
@@ -49,7 +50,8 @@ pub fn read_all<R: Source>(alloc: Global, reader: &mut R) -> Result<Vec<u8>, Str
 pub fn tell<W: Sink>(writer: &mut W, answer: &Answer) -> Result<u8, StreamFault>
     requires { W.has_failed writer.old ≡ false }
     ensures status { IfOk result (λ status. status ≡ answer.now.status) }
-    ensures ok { OnOk result (W.transcript writer.new ≡ W.transcript writer.old ++ answer.now.text.items) }
+    ensures ok { OnOk result (W.transcript writer.new ≡ W.transcript writer.old
+        ++ answer.now.text.items) }
     ensures err { IfErr result (λ fault. (fault ≡ StreamFault.WriteFailed)
         × (n : ℕ) × (n < length answer.now.text.items)
         × (W.transcript writer.new ≡ W.transcript writer.old ++ take n answer.now.text.items)) }
@@ -93,7 +95,8 @@ pub fn perform<R: Source, W: Sink>(
     ensures done { IfOk result (λ status. (input text : List ℕ)
         × (R.transcript reader.new ≡ R.transcript reader.old ++ input)
         × IsAllRead (R.is_over reader.new ≡ true) input
-        × IsAnswer command input text status × (W.transcript writer.new ≡ W.transcript writer.old ++ text)) }
+        × IsAnswer command input text status
+            × (W.transcript writer.new ≡ W.transcript writer.old ++ text)) }
     ensures stopped { IfErr result (λ fault. (input : List ℕ)
         × (R.transcript reader.new ≡ R.transcript reader.old ++ input)
         × IsGivenUpBy fault (IsAnswer command input) (IsAllRead (R.is_over reader.new ≡ true) input)

@@ -1,5 +1,5 @@
-//! The command line of `bpfjobs`, and its commands that need no thread: from the words and the bytes of
-//! the input to the text of the answer and the status.
+//! The command line of `bpfjobs`, and its commands that need no thread: from the words and the
+//! bytes of the input to the text of the answer and the status.
 #![tactic(auto)]
 
 mod commands;

@@ -14,11 +14,13 @@ use Rattle.bpfrun_core.specs.declared.form.Form.TheVariants.{Text, Hexadecimal, 
 
 -- the form that the end of a path tells
 abbrev pub form_of : List ℕ → Form
-form_of path = if ends_with eqb path (codes ".bpf") then Text else (if ends_with eqb path (codes ".hex") then Hexadecimal else Bytes)
+form_of path = if ends_with eqb path (codes ".bpf") then Text
+    else (if ends_with eqb path (codes ".hex") then Hexadecimal else Bytes)
 
 -- the bytes are those that the file says
 abbrev pub IsRead : Form → List ℕ → List ℕ → Type 0
-IsRead Text input bytes = IsUtf8 input × ((insns : List Insn) × IsAssembly bytes insns (source_lines input))
+IsRead Text input bytes =
+    IsUtf8 input × ((insns : List Insn) × IsAssembly bytes insns (source_lines input))
 IsRead Hexadecimal input bytes = IsHexadecimal input bytes
 IsRead Bytes input bytes = bytes ≡ input
 
@@ -26,7 +28,8 @@ IsRead Bytes input bytes = bytes ≡ input
 abbrev pub IsUnread : Form → List ℕ → Fault → Type 0
 IsUnread form input fault.NotText = (form ≡ Text) × (IsUtf8 input → ⊥)
 IsUnread form input fault.NotHexadecimal = (form ≡ Hexadecimal) × IsNoHexadecimal input
-IsUnread form input (fault.Text why) = (form ≡ Text) × IsUtf8 input × IsTextRefusal why (source_lines input) × (why ≢ text_fault.NoMemory)
+IsUnread form input (fault.Text why) = (form ≡ Text) × IsUtf8 input
+    × IsTextRefusal why (source_lines input) × (why ≢ text_fault.NoMemory)
 IsUnread form input fault.MemoryTooLarge = ⊥
 IsUnread form input (fault.Program why) = ⊥
 IsUnread form input (fault.CreditLow wanted given) = ⊥

@@ -24,7 +24,8 @@ said number text = if length text == 0 then [] else (number, text) ∷ []
 
 -- the line of this number
 abbrev pub IsNumbered : ℕ → List (ℕ × List ℕ) → Option Line → Type 0
-IsNumbered number lines place = option_map told place ≡ option_map (λ text. (number, text)) (line_numbered number lines)
+IsNumbered number lines place =
+    option_map told place ≡ option_map (λ text. (number, text)) (line_numbered number lines)
 
 -- the number of the instruction at this slot
 abbrev pub IsIndex : ℕ → List Placed → Option ℕ → Type 0
@@ -32,10 +33,14 @@ IsIndex slot placed None = (k : ℕ) (p : Placed) → slice_get placed k ≡ Som
 IsIndex slot placed (Some k) = (p : Placed) × (slice_get placed k ≡ Some p) × (p.slot ≡ slot)
 
 -- the line of the instruction at this slot, where the bytes are a program and it has one there
-pub data IsAtSlot (slot : ℕ) (code : List ℕ) (lines : List (ℕ × List ℕ)) (place : Option Line) : Type 0 where
-  there : (placed : List Placed) (k : ℕ) → IsProgram placed code → IsIndex slot placed (Some k) → option_map told place ≡ slice_get lines k → IsAtSlot slot code lines place
-  between : (placed : List Placed) → IsProgram placed code → IsIndex slot placed None → place ≡ None → IsAtSlot slot code lines place
-  no_program : (why : CodecFault) → IsRefusal why code → place ≡ None → IsAtSlot slot code lines place
+pub data IsAtSlot (slot : ℕ) (code : List ℕ) (lines : List (ℕ × List ℕ)) (place : Option Line) :
+    Type 0 where
+  there : (placed : List Placed) (k : ℕ) → IsProgram placed code → IsIndex slot placed (Some k)
+      → option_map told place ≡ slice_get lines k → IsAtSlot slot code lines place
+  between : (placed : List Placed) → IsProgram placed code → IsIndex slot placed None → place ≡ None
+      → IsAtSlot slot code lines place
+  no_program : (why : CodecFault) → IsRefusal why code → place ≡ None
+      → IsAtSlot slot code lines place
 
 abbrev pub IsLineOf : Option ℕ → List (ℕ × List ℕ) → Option Line → Type 0
 IsLineOf None lines place = place ≡ None
@@ -51,7 +56,8 @@ IsTextPlace fault.NotText input code place = place ≡ None
 IsTextPlace fault.NotHexadecimal input code place = place ≡ None
 IsTextPlace (fault.Text why) input code place = IsLineOf (line_of why) (source_lines input) place
 IsTextPlace fault.MemoryTooLarge input code place = place ≡ None
-IsTextPlace (fault.Program why) input code place = IsAtInsn (slot_of why) code (source_lines input) place
+IsTextPlace (fault.Program why) input code place =
+    IsAtInsn (slot_of why) code (source_lines input) place
 IsTextPlace (fault.CreditLow wanted given) input code place = place ≡ None
 IsTextPlace (fault.MemoryShort wanted given) input code place = place ≡ None
 IsTextPlace fault.NoMemory input code place = place ≡ None

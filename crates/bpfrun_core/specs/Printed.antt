@@ -12,7 +12,8 @@ memory_line (Some bytes) = codes "memory " ++ (encode_lower bytes ++ codes "\n")
 
 -- `r0 R` and `spent N`, a line each
 abbrev pub run_lines : ℕ → ℕ → List ℕ
-run_lines r0 used = codes "r0 " ++ (decimal r0 ++ (codes "\nspent " ++ (decimal used ++ codes "\n")))
+run_lines r0 used = codes "r0 "
+    ++ (decimal r0 ++ (codes "\nspent " ++ (decimal used ++ codes "\n")))
 
 abbrev pub ran_text : ℕ → ℕ → Option (List ℕ) → List ℕ
 ran_text r0 used shown = run_lines r0 used ++ memory_line shown
@@ -28,9 +29,12 @@ quote_text None = []
 quote_text (Some part) = codes ": `" ++ (part ++ codes "`")
 
 abbrev pub refused_line : ℕ → List ℕ → Option (List ℕ) → List ℕ
-refused_line number words quote = codes "refused " ++ (decimal number ++ (codes ": " ++ (words ++ (quote_text quote ++ codes "\n"))))
+refused_line number words quote =
+    codes "refused "
+    ++ (decimal number ++ (codes ": " ++ (words ++ (quote_text quote ++ codes "\n"))))
 
 -- `refused N: ` with words and what is quoted, and the line
-pub record IsRefusalText (fault : Fault) (quote : Option (List ℕ)) (place : Option (ℕ × List ℕ)) (text : List ℕ) : Type 0 where
+pub record IsRefusalText (fault : Fault) (quote : Option (List ℕ)) (place : Option (ℕ × List ℕ))
+    (text : List ℕ) : Type 0 where
   pub words : List ℕ
   pub same : text ≡ refused_line (number_of fault) words quote ++ place_line place

@@ -15,7 +15,8 @@ abbrev pub unanswered : MayAnswer
 unanswered helper arguments answer = ⊥
 
 -- the program is accepted, and runs with R0 and what it used of the credit, and leaves these bytes
-pub record IsProgramRun (need : ℕ) (code : List ℕ) (arg credit : ℕ) (old : List ℕ) (r0 used : ℕ) (left : List ℕ) : Type 0 where
+pub record IsProgramRun (need : ℕ) (code : List ℕ) (arg credit : ℕ) (old : List ℕ) (r0 used : ℕ)
+    (left : List ℕ) : Type 0 where
   pub small : length old ≤ 65536
   pub program : Checked
   pub accepted : IsAccepted need code job_table program
@@ -33,9 +34,12 @@ IsStopped need code credit memory fault.NotText = ⊥
 IsStopped need code credit memory fault.NotHexadecimal = ⊥
 IsStopped need code credit memory (fault.Text why) = ⊥
 IsStopped need code credit memory fault.MemoryTooLarge = 65536 < length memory
-IsStopped need code credit memory (fault.Program why) = (length memory ≤ 65536) × RefusesProgram need code job_table why × (why ≢ refusal.NoMemory)
+IsStopped need code credit memory (fault.Program why) =
+    (length memory ≤ 65536) × RefusesProgram need code job_table why × (why ≢ refusal.NoMemory)
 IsStopped need code credit memory (fault.CreditLow wanted given) =
-    (length memory ≤ 65536) × IsShort need code (λ p. (credit < cost_at p 0) × (wanted ≡ cost_at p 0) × (given ≡ credit))
+    (length memory ≤ 65536) × IsShort need code (λ p. (credit < cost_at p 0)
+        × (wanted ≡ cost_at p 0) × (given ≡ credit))
 IsStopped need code credit memory (fault.MemoryShort wanted given) =
-    (length memory ≤ 65536) × IsShort need code (λ p. (cost_at p 0 ≤ credit) × (length memory < p.need) × (wanted ≡ p.need) × (given ≡ length memory))
+    (length memory ≤ 65536) × IsShort need code (λ p. (cost_at p 0 ≤ credit)
+        × (length memory < p.need) × (wanted ≡ p.need) × (given ≡ length memory))
 IsStopped need code credit memory fault.NoMemory = Unit {0}

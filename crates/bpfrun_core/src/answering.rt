@@ -82,7 +82,8 @@ fn print_refusal(
 ) -> Result<Answer, NoMemory>
     requires { fault.now ≢ fault_variant.NoMemory }
     ensures { IfOk result
-        (λ answer. PrintsRefusal form input.now code.now fault.now answer.text.items answer.status) }
+        (λ answer. PrintsRefusal form input.now code.now fault.now answer.text.items
+            answer.status) }
 {
     let place = place_of(alloc, form, input, code, fault)?;
     tell_refusal(alloc, fault, quote_of(input, fault), place)

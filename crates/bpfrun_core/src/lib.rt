@@ -1,5 +1,5 @@
-//! One program tried: how its file is read, whether it is accepted, and what its run by itself comes
-//! to; with the command line of `bpfrun`.
+//! One program tried: how its file is read, whether it is accepted, and what its run by itself
+//! comes to; with the command line of `bpfrun`.
 #![tactic(auto)]
 
 // the program's bytes, and their run

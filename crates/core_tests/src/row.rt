@@ -92,8 +92,8 @@ pub fn programs_of(alloc: Global, text: &str) -> anyhow::Result<Vec<ProgramBytes
     Ok(programs)
 }
 
-/// Numbers of tasks, each as often as it is told: `0*5` is task 0 five times. Behind a number with a
-/// `!` a spawn is refused.
+/// Numbers of tasks, each as often as it is told: `0*5` is task 0 five times. Behind a number with
+/// a `!` a spawn is refused.
 pub fn turns_of(alloc: Global, turns: &[&str]) -> anyhow::Result<Vec<(u32, bool)>> {
     let mut numbers = Vec::new(alloc);
     for turn in turns {

@@ -34,9 +34,11 @@ impl Model for Board {
 
     ghost Value = { Sign };
 
-    ghost view = { λ b. record { table = b.table.shared.table_id; job = b.opening.job; issued = b.opening.issued } };
+    ghost view = { λ b. record { table = b.table.shared.table_id; job = b.opening.job;
+        issued = b.opening.issued } };
 
-    ghost invariant = { λ b. (b.table.shared.table_id.words ≡ 1) × (b.table.shared.key ≡ b.opening) };
+    ghost invariant = { λ b. (b.table.shared.table_id.words ≡ 1)
+        × (b.table.shared.key ≡ b.opening) };
 }
 
 /// What one thread has seen of a board.
@@ -53,9 +55,11 @@ impl Model for Reader {
 
     ghost Value = { Sight };
 
-    ghost view = { λ r. record { board = record { table = r.seat.table_id; job = r.opening.job; issued = r.opening.issued }; seen = r.seat.me.0.history; looks = r.seat.me.0.looks } };
+    ghost view = { λ r. record { board = record { table = r.seat.table_id; job = r.opening.job;
+        issued = r.opening.issued }; seen = r.seat.me.0.history; looks = r.seat.me.0.looks } };
 
-    ghost invariant = { λ r. (r.seat.me.0.writes ≡ false) × IsHistoryOf r.opening.job r.opening.issued r.seat.me.0.history };
+    ghost invariant = { λ r. (r.seat.me.0.writes ≡ false)
+        × IsHistoryOf r.opening.job r.opening.issued r.seat.me.0.history };
 }
 
 /// The seat that alone writes the board of a job.
@@ -75,7 +79,9 @@ impl Model for Writer {
 
     ghost view = { λ p. record { board = arc_value p.board; history = p.seat.me.0.history } };
 
-    ghost invariant = { λ p. (p.seat.table_id ≡ (arc_value p.board).table) × (p.seat.me.0.writes ≡ true) × IsHistoryOf (arc_value p.board).job (arc_value p.board).issued p.seat.me.0.history };
+    ghost invariant = { λ p. (p.seat.table_id ≡ (arc_value p.board).table)
+        × (p.seat.me.0.writes ≡ true)
+        × IsHistoryOf (arc_value p.board).job (arc_value p.board).issued p.seat.me.0.history };
 }
 
 /// The right to open the book of a job: its board has the opening alone.
@@ -93,7 +99,8 @@ impl Model for Post {
 
     ghost view = { λ p. p.writer };
 
-    ghost invariant = { λ p. p.writer.history ≡ Open p.writer.board.job p.writer.board.issued ∷ [] };
+    ghost invariant = { λ p. p.writer.history ≡ Open p.writer.board.job p.writer.board.issued
+        ∷ [] };
 }
 
 impl Post {

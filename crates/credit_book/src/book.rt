@@ -44,9 +44,13 @@ impl Model for Book {
 
     ghost Value = { Account };
 
-    ghost view = { λ b. record { board = b.writer.board; history = b.past; size = length b.report.buffer.items; waiting = b.parked.items } };
+    ghost view = { λ b. record { board = b.writer.board; history = b.past;
+        size = length b.report.buffer.items; waiting = b.parked.items } };
 
-    ghost invariant = { λ b. IsBook b.writer.board b.past b.standings.items b.report.tasks.items (map (λ t. t.number) b.parked.items) b.report.spent b.report.returned × (length b.standings.items ≤ deque_capacity b.parked) × IsPosted b.writer.history b.past × IsCollected b.report.buffer.items b.past };
+    ghost invariant = { λ b. IsBook b.writer.board b.past b.standings.items b.report.tasks.items
+        (map (λ t. t.number) b.parked.items) b.report.spent b.report.returned
+        × (length b.standings.items ≤ deque_capacity b.parked) × IsPosted b.writer.history b.past
+        × IsCollected b.report.buffer.items b.past };
 }
 
 impl Stage {
@@ -309,7 +313,8 @@ impl Book {
     pub fn close(self) -> Result<Report, Book>
         ensures variant { IsOk result ↔ IsComplete (table_of self.history) }
         ensures report { IfOk result (λ r. IsReport self.size self.history r) }
-        ensures legal { IfOk result (λ _. IsHistoryOf self.board.job self.board.issued self.history) }
+        ensures legal { IfOk result (λ _.
+            IsHistoryOf self.board.job self.board.issued self.history) }
         ensures same { IfErr result (λ b. b ≡ self) }
     {
         if !self.is_complete() {

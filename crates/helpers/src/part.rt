@@ -24,7 +24,8 @@ impl Model for Part {
 
     ghost Value = { Piece };
 
-    ghost view = { λ p. record { base = p.base; bytes = p.bytes.items; room = vec_capacity p.bytes } };
+    ghost view = { λ p. record { base = p.base; bytes = p.bytes.items;
+        room = vec_capacity p.bytes } };
 
     ghost invariant = { λ p. p.base + length p.bytes.items ≤ 65536 };
 }
@@ -185,8 +186,8 @@ impl Part {
         }
     }
 
-    /// Gives back the room that the bytes don't need, where that is more than they take. So the part
-    /// has room for at most twice its bytes then.
+    /// Gives back the room that the bytes don't need, where that is more than they take. So the
+    /// part has room for at most twice its bytes then.
     pub fn shed_room(&mut self)
         ensures bytes { (self.new.base ≡ self.old.base) × (self.new.bytes ≡ self.old.bytes) }
         ensures room { self.new.room ≤ self.old.room }

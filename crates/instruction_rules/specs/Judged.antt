@@ -1,4 +1,5 @@
--- Used by private contracts and proofs alone: what an instruction that is allowed leaves in its destination.
+-- Used by private contracts and proofs alone: what an instruction that is allowed leaves in its
+-- destination.
 use Rattle.std.specs.Prelude.{Option, Some, None, Result, Ok, Err}
 use Rattle.insn_codec.specs.declared.insn.Insn.{Insn}
 use Rattle.insn_codec.specs.declared.insn.Insn.TheVariants.{Alu, Mov, MovSx, Neg, End, LoadWide, Load, Call}
@@ -13,11 +14,15 @@ use Rattle.instruction_rules.specs.States.{operand_at, or_unset, answer_range}
 
 -- nothing is known where it has none
 abbrev pub left_by : Insn → State → Abs
-left_by (Alu w op dst src) state = or_unset (value_table (Alu w op dst src) (abs_at state dst) (operand_at state src))
-left_by (Mov w dst src) state = or_unset (value_table (Mov w dst src) (abs_at state dst) (operand_at state src))
-left_by (MovSx e dst src) state = or_unset (value_table (MovSx e dst src) (abs_at state dst) (abs_at state src))
+left_by (Alu w op dst src) state =
+    or_unset (value_table (Alu w op dst src) (abs_at state dst) (operand_at state src))
+left_by (Mov w dst src) state =
+    or_unset (value_table (Mov w dst src) (abs_at state dst) (operand_at state src))
+left_by (MovSx e dst src) state =
+    or_unset (value_table (MovSx e dst src) (abs_at state dst) (abs_at state src))
 left_by (Neg w dst) state = or_unset (value_table (Neg w dst) (abs_at state dst) (abs_at state dst))
-left_by (End order size dst) state = or_unset (value_table (End order size dst) (abs_at state dst) (abs_at state dst))
+left_by (End order size dst) state =
+    or_unset (value_table (End order size dst) (abs_at state dst) (abs_at state dst))
 left_by (LoadWide dst value) state = single_value value
 left_by (Load kind dst base offset) state = loaded kind
 left_by (Call helper) state = answer_range helper

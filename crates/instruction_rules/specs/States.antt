@@ -1,5 +1,5 @@
--- What is known of the registers ahead of an instruction: at the entry, and along each edge; and what the instruction
--- has to find known.
+-- What is known of the registers ahead of an instruction: at the entry, and along each edge; and
+-- what the instruction has to find known.
 use Rattle.std.specs.Prelude.{ℕ, nat_lt, zero, suc, ◌==◌, List, [], ◌∷◌, drop, slice_set, Bool, true, false, Option, Some, None, Result, Ok, Err, ℤ, pos, ◌+ℤ◌, int_lt, ◌||◌, if◌then◌else◌}
 use Rattle.insn_codec.specs.declared.insn.Operand.{Operand}
 use Rattle.insn_codec.specs.declared.insn.Operand.TheVariants.{Imm, Reg}
@@ -29,7 +29,8 @@ with_abs state to a = record { registers = slice_set state.registers to a }
 -- what the registers hold at a task's start
 abbrev pub entry_state : ℕ → State
 entry_state need = record {
-  registers = entry need 0 ∷ entry need 1 ∷ entry need 2 ∷ entry need 3 ∷ entry need 4 ∷ entry need 5
+  registers = entry need 0 ∷ entry need 1 ∷ entry need 2 ∷ entry need 3 ∷ entry need 4
+      ∷ entry need 5
       ∷ entry need 6 ∷ entry need 7 ∷ entry need 8 ∷ entry need 9 ∷ entry need 10 ∷ [];
 }
 
@@ -81,15 +82,25 @@ refined_state state dst src refined = with_operand (with_abs state dst refined.0
 
 -- what is known on the edge with this fact
 abbrev pub transferred : Insn → Fact → State → State
-transferred (Alu w op dst src) fact state = with_abs state dst (or_unset (value_table (Alu w op dst src) (abs_at state dst) (operand_at state src)))
-transferred (Mov w dst src) fact state = with_abs state dst (or_unset (value_table (Mov w dst src) (abs_at state dst) (operand_at state src)))
-transferred (MovSx e dst src) fact state = with_abs state dst (or_unset (value_table (MovSx e dst src) (abs_at state dst) (abs_at state src)))
-transferred (Neg w dst) fact state = with_abs state dst (or_unset (value_table (Neg w dst) (abs_at state dst) (abs_at state dst)))
-transferred (End order size dst) fact state = with_abs state dst (or_unset (value_table (End order size dst) (abs_at state dst) (abs_at state dst)))
+transferred (Alu w op dst src) fact state =
+    with_abs state dst
+    (or_unset (value_table (Alu w op dst src) (abs_at state dst) (operand_at state src)))
+transferred (Mov w dst src) fact state =
+    with_abs state dst
+    (or_unset (value_table (Mov w dst src) (abs_at state dst) (operand_at state src)))
+transferred (MovSx e dst src) fact state =
+    with_abs state dst
+    (or_unset (value_table (MovSx e dst src) (abs_at state dst) (abs_at state src)))
+transferred (Neg w dst) fact state =
+    with_abs state dst (or_unset (value_table (Neg w dst) (abs_at state dst) (abs_at state dst)))
+transferred (End order size dst) fact state =
+    with_abs state dst
+    (or_unset (value_table (End order size dst) (abs_at state dst) (abs_at state dst)))
 transferred (LoadWide dst value) fact state = with_abs state dst (single_value value)
 transferred (Load kind dst base offset) fact state = with_abs state dst (loaded kind)
 transferred (JumpIf w c dst src offset) fact state =
-    refined_state state dst src (refined_by (JumpIf w c dst src offset) (is_taken fact) (abs_at state dst) (operand_at state src))
+    refined_state state dst src (refined_by (JumpIf w c dst src offset) (is_taken fact)
+        (abs_at state dst) (operand_at state src))
 transferred (Call helper) fact state = called_state state (answer_range helper)
 transferred i fact state = state
 
@@ -111,12 +122,15 @@ number_fault Unset = Some UnsetRead
 number_fault (Num r) = None
 number_fault a = Some BadKind
 
--- the fault of so many bytes at a position, moved by an offset, of which some may lie outside a region of that size
+-- the fault of so many bytes at a position, moved by an offset, of which some may lie outside a
+-- region of that size
 abbrev pub region_fault : Rule → ℕ → Span → ℤ → ℕ → Option Rule
 region_fault rule size reach offset count =
-    if int_lt (reach.lo +ℤ offset) (pos 0) || int_lt (pos size) (reach.hi +ℤ offset +ℤ pos count) then Some rule else None
+    if int_lt (reach.lo +ℤ offset) (pos 0) || int_lt (pos size) (reach.hi +ℤ offset +ℤ pos count)
+        then Some rule else None
 
--- the fault of an access of so many bytes, which may leave the stack or a part of that need, or whose address is none
+-- the fault of an access of so many bytes, which may leave the stack or a part of that need, or
+-- whose address is none
 abbrev pub access_fault : ℕ → Abs → ℤ → ℕ → Option Rule
 access_fault need Unset offset count = Some UnsetRead
 access_fault need (Num r) offset count = Some BadKind
@@ -134,14 +148,17 @@ write_fault dst = if dst == 10 then Some FramePointer else None
 -- the fault of an argument that is unset, of the registers from R1 on
 abbrev pub unset_arguments : State → ℕ → Option Rule
 unset_arguments state zero = None
-unset_arguments state (suc count) = first (unset_arguments state count) (unset_fault (abs_at state (suc count)))
+unset_arguments state (suc count) =
+    first (unset_arguments state count) (unset_fault (abs_at state (suc count)))
 
 -- the fault of an argument that has no number, of the registers from R1 on
 abbrev pub number_arguments : State → ℕ → Option Rule
 number_arguments state zero = None
-number_arguments state (suc count) = first (number_arguments state count) (number_fault (abs_at state (suc count)))
+number_arguments state (suc count) =
+    first (number_arguments state count) (number_fault (abs_at state (suc count)))
 
--- the fault of the bytes at a pointer, of which some may lie outside where they are as many as a length tells
+-- the fault of the bytes at a pointer, of which some may lie outside where they are as many as a
+-- length tells
 abbrev pub span_fault : ℕ → Abs → Abs → Option Rule
 span_fault need pointer (Num len) = access_fault need pointer (pos 0) (greatest len)
 span_fault need pointer Unset = Some UnsetRead
@@ -155,42 +172,53 @@ length_fault Unset = Some UnsetRead
 length_fault (Stack reach) = Some BadKind
 length_fault (Part reach) = Some BadKind
 
--- the fault of an argument that isn't of its helper's kind: `fill` and `sum` take a pointer and a length, and `fill` a number besides; the others take numbers
+-- the fault of an argument that isn't of its helper's kind: `fill` and `sum` take a pointer and a
+-- length, and `fill` a number besides; the others take numbers
 abbrev pub kind_fault : ℕ → State → ℕ → ℕ → Option Rule
 kind_fault need state helper arity =
-    if helper == 4 then first (span_fault need (abs_at state 1) (abs_at state 2)) (first (length_fault (abs_at state 2)) (number_fault (abs_at state 3))) else
-    if helper == 5 then first (span_fault need (abs_at state 1) (abs_at state 2)) (length_fault (abs_at state 2)) else
+    if helper == 4 then first (span_fault need (abs_at state 1) (abs_at state 2))
+        (first (length_fault (abs_at state 2)) (number_fault (abs_at state 3))) else
+    if helper == 5 then first (span_fault need (abs_at state 1) (abs_at state 2))
+        (length_fault (abs_at state 2)) else
     number_arguments state arity
 
 -- the fault of a call: its helper isn't in the table, or an argument is unset or of another kind
 abbrev pub call_fault : ℕ → State → ℕ → Option ℕ → Option Rule
 call_fault need state helper None = Some NoHelper
-call_fault need state helper (Some arity) = first (unset_arguments state arity) (kind_fault need state helper arity)
+call_fault need state helper (Some arity) =
+    first (unset_arguments state arity) (kind_fault need state helper arity)
 
 -- the rule of the lowest number that the instruction breaks where the registers are so
 abbrev pub fault : ℕ → Table → Insn → State → Option Rule
 fault need helpers (Alu w op dst src) state =
     first (unset_fault (abs_at state dst)) (first (unset_fault (operand_at state src))
-    (first (table_fault (value_table (Alu w op dst src) (abs_at state dst) (operand_at state src))) (write_fault dst)))
+    (first (table_fault (value_table (Alu w op dst src) (abs_at state dst) (operand_at state src)))
+        (write_fault dst)))
 fault need helpers (Mov w dst src) state =
     first (unset_fault (operand_at state src))
-    (first (table_fault (value_table (Mov w dst src) (abs_at state dst) (operand_at state src))) (write_fault dst))
+    (first (table_fault (value_table (Mov w dst src) (abs_at state dst) (operand_at state src)))
+        (write_fault dst))
 fault need helpers (MovSx e dst src) state =
     first (unset_fault (abs_at state src))
-    (first (table_fault (value_table (MovSx e dst src) (abs_at state dst) (abs_at state src))) (write_fault dst))
+    (first (table_fault (value_table (MovSx e dst src) (abs_at state dst) (abs_at state src)))
+        (write_fault dst))
 fault need helpers (Neg w dst) state =
     first (unset_fault (abs_at state dst))
-    (first (table_fault (value_table (Neg w dst) (abs_at state dst) (abs_at state dst))) (write_fault dst))
+    (first (table_fault (value_table (Neg w dst) (abs_at state dst) (abs_at state dst)))
+        (write_fault dst))
 fault need helpers (End order size dst) state =
     first (unset_fault (abs_at state dst))
-    (first (table_fault (value_table (End order size dst) (abs_at state dst) (abs_at state dst))) (write_fault dst))
+    (first (table_fault (value_table (End order size dst) (abs_at state dst) (abs_at state dst)))
+        (write_fault dst))
 fault need helpers (LoadWide dst value) state = write_fault dst
 fault need helpers (Load kind dst base offset) state =
     first (access_fault need (abs_at state base) offset (load_bytes kind)) (write_fault dst)
-fault need helpers (Store size base offset imm) state = access_fault need (abs_at state base) offset (store_bytes size)
+fault need helpers (Store size base offset imm) state =
+    access_fault need (abs_at state base) offset (store_bytes size)
 fault need helpers (StoreRegister size base offset src) state =
     first (unset_fault (abs_at state base)) (first (unset_fault (abs_at state src))
-    (first (access_fault need (abs_at state base) offset (store_bytes size)) (number_fault (abs_at state src))))
+    (first (access_fault need (abs_at state base) offset (store_bytes size))
+        (number_fault (abs_at state src))))
 fault need helpers (Jump offset) state = None
 fault need helpers (Jump32 offset) state = None
 fault need helpers (JumpIf w c dst src offset) state =

@@ -1,5 +1,5 @@
-//! What a verifier knows of the registers ahead of one instruction, what the instruction has to find
-//! known, and what is known after it along each of its edges.
+//! What a verifier knows of the registers ahead of one instruction, what the instruction has to
+//! find known, and what is known after it along each of its edges.
 #![tactic(auto)]
 
 mod allowed;

@@ -22,8 +22,8 @@ fn refine_operands(state: &mut State, insn: &Insn, taken: bool, dst: Register, s
     state.set_operands(dst, src, left, right);
 }
 
-/// The transfer function of an instruction: the state becomes what is known after it, on the edge of
-/// a jump that is taken or on another edge.
+/// The transfer function of an instruction: the state becomes what is known after it, on the edge
+/// of a jump that is taken or on another edge.
 #[inline(always)]
 pub fn transfer(state: &mut State, insn: &Insn, taken: bool, left: &Abs)
     requires { left.now ≡ left_by insn.now state.old }

@@ -13,7 +13,8 @@ pub record AdmittedJob : Type 0 where
 abbrev pub AreOwn : List Checked → Type 0
 AreOwn programs = (n : ℕ) (p : Checked) → slice_get programs n ≡ Some p → p.helpers ≡ job_table
 
--- the limits are kept, the programs may call a job's helpers alone, and the credit and the buffer cover the root
+-- the limits are kept, the programs may call a job's helpers alone, and the credit and the buffer
+-- cover the root
 pub record IsAdmitted (order : AdmittedJob) : Type 0 where
   pub few : length order.programs ≤ 16
   pub limit : order.credit ≤ 2147483647

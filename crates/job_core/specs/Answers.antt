@@ -18,4 +18,5 @@ pub record IsReportOf (report : Report) (j : JobState) : Type 0 where
   pub returned : report.returned ≡ sum_by returned_by j.tasks
   pub buffer : report.buffer.items ≡ j.buffer
   pub count : length report.tasks.items ≡ length j.tasks
-  pub tasks : (n : ℕ) (m : Member) → slice_get j.tasks n ≡ Some m → slice_get report.tasks.items n ≡ Some (end_of n m)
+  pub tasks : (n : ℕ) (m : Member) → slice_get j.tasks n ≡ Some m
+      → slice_get report.tasks.items n ≡ Some (end_of n m)

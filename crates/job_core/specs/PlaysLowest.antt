@@ -12,10 +12,12 @@ pub record IsLowest (j : JobState) (n : ℕ) : Type 0 where
   pub alive : IsAlive j n
   pub lowest : (k : ℕ) → k < n → IsAlive j k → ⊥
 
--- Steps lead from one job to another, each of the live task of lowest number, for some choice of spawns that are refused.
+-- Steps lead from one job to another, each of the live task of lowest number, for some choice of
+-- spawns that are refused.
 pub data GoesLowest (programs : List Program) (first : JobState) : JobState → Type 0 where
   none_yet : GoesLowest programs first first
-  one_more : (j k : JobState) (n : ℕ) (refuses : Bool) → GoesLowest programs first j → IsLowest j n → step programs j n refuses ≡ Some k → GoesLowest programs first k
+  one_more : (j k : JobState) (n : ℕ) (refuses : Bool) → GoesLowest programs first j → IsLowest j n
+      → step programs j n refuses ≡ Some k → GoesLowest programs first k
 
 -- They lead from the job's start to its end, of which this is the report.
 pub record IsPlayed (order : AdmittedJob) (report : Report) : Type 0 where

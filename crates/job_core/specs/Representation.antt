@@ -15,9 +15,10 @@ use Rattle.credit_book.specs.declared.event.TaskEnd.{TaskEnd}
 use Rattle.job_core.specs.declared.tasks.Stepped.{Stepped}
 use Rattle.job_core.specs.declared.tasks.Stepped.TheVariants.{Skipped, Went, Ended}
 
--- What a world keeps: the programs, what a spawn has to know of each, the live tasks by number, what the report says of each task,
--- the parent of each task after the root, the bytes of ended parts where they lie in the buffer, the credit that ended tasks spent and
--- returned, and what was issued.
+-- What a world keeps: the programs, what a spawn has to know of each, the live tasks by number,
+-- what the report says of each task, the parent of each task after the root, the bytes of ended
+-- parts where they lie in the buffer, the credit that ended tasks spent and returned, and what was
+-- issued.
 pub record WorldState : Type 0 where
   pub programs : List Checked
   pub entries : List Entry
@@ -83,7 +84,8 @@ pub record RepresentsTasks (kept : WorldState) (j : JobState) : Type 0 where
   pub lives : length kept.lives ≡ length j.tasks
   pub ends : length kept.ends ≡ length j.tasks
   pub each : (n : ℕ) (m : Member) → slice_get j.tasks n ≡ Some m → IsMemberOf kept j.buffer n m
-  pub each_end : (n : ℕ) (m : Member) → slice_get j.tasks n ≡ Some m → slice_get kept.ends n ≡ Some (end_of n m)
+  pub each_end : (n : ℕ) (m : Member) → slice_get j.tasks n ≡ Some m
+      → slice_get kept.ends n ≡ Some (end_of n m)
   pub spent : kept.spent ≡ sum_by spent_by j.tasks
   pub returned : kept.returned ≡ sum_by returned_by j.tasks
 
@@ -107,12 +109,14 @@ pub record RepresentsJob (kept : WorldState) (j : JobState) : Type 0 where
 abbrev pub StepAnswers : Stepped → JobState → ℕ → JobState → Type 0
 StepAnswers Skipped j n k = (IsAlive j n → ⊥) × (k ≡ j)
 StepAnswers Went j n k = IsAlive j n × IsAlive k n
-StepAnswers (Ended r0) j n k = IsAlive j n × ((e : job.Ending) × (slice_get k.tasks n ≡ Some (job.Ended e)) × (e.r0 ≡ r0))
+StepAnswers (Ended r0) j n k =
+    IsAlive j n × ((e : job.Ending) × (slice_get k.tasks n ≡ Some (job.Ended e)) × (e.r0 ≡ r0))
 
 -- the next job behind, if a spawn here is refused or not
 abbrev pub Steps : WorldState → JobState → ℕ → Stepped → WorldState → Type 0
 Steps old j n out new =
-    (refuses : Bool) × (k : JobState) × (step (map program_of old.programs) j n refuses ≡ Some k) × RepresentsJob new k × StepAnswers out j n k
+    (refuses : Bool) × (k : JobState) × (step (map program_of old.programs) j n refuses ≡ Some k)
+        × RepresentsJob new k × StepAnswers out j n k
 
 -- the moves lead to a job with the credit that was issued
 pub record Reaches (programs : List Program) (j : JobState) (moves : List Move) : Type 0 where
@@ -124,9 +128,11 @@ pub record Reaches (programs : List Program) (j : JobState) (moves : List Move) 
 abbrev pub IsFinished : WorldState → Type 0
 IsFinished kept = (n : ℕ) (live : Live) → slice_get kept.lives n ≡ Some (Some live) → ⊥
 
--- A run over the schedule, for some choice of refusals, leads from the job to one behind what is kept, which has these programs. Each of
--- its beginnings keeps the credit, and no live task is kept exactly if the last job is complete.
-pub record Plays (programs : List Checked) (j : JobState) (schedule : List ℕ) (kept : WorldState) : Type 0 where
+-- A run over the schedule, for some choice of refusals, leads from the job to one behind what is
+-- kept, which has these programs. Each of its beginnings keeps the credit, and no live task is kept
+-- exactly if the last job is complete.
+pub record Plays (programs : List Checked) (j : JobState) (schedule : List ℕ) (kept : WorldState) :
+    Type 0 where
   pub same_programs : kept.programs ≡ programs
   pub moves : List Move
   pub numbers : map (λ (m : Move). m.number) moves ≡ schedule
@@ -136,11 +142,12 @@ pub record Plays (programs : List Checked) (j : JobState) (schedule : List ℕ) 
   pub always : (i : ℕ) → Reaches (map program_of programs) j (take i moves)
   pub complete : IsFinished kept ↔ IsComplete last
 
--- The run over the schedule refuses nothing but spawns. Where it refuses none and its last job is complete, that
--- has the answer of the job's root.
+-- The run over the schedule refuses nothing but spawns. Where it refuses none and its last job is
+-- complete, that has the answer of the job's root.
 pub record PlaysJob (order : AdmittedJob) (schedule : List ℕ) (kept : WorldState) : Type 0 where
   pub plays : Plays order.programs (start order.credit order.buffer) schedule kept
-  pub refusals : RefuseSpawns (map program_of order.programs) (start order.credit order.buffer) plays.moves
+  pub refusals : RefuseSpawns (map program_of order.programs) (start order.credit order.buffer)
+      plays.moves
   pub answer : NoRefusals plays.moves → IsComplete plays.last → (fs : List Finished)
       × RootComes (map program_of order.programs) order.credit order.buffer fs
       × HasAnswer (length order.buffer) plays.last fs
@@ -148,4 +155,5 @@ pub record PlaysJob (order : AdmittedJob) (schedule : List ℕ) (kept : WorldSta
 -- Every run to what was kept goes on along these numbers to what is kept.
 pub record LeadsOn (old : WorldState) (numbers : List ℕ) (new : WorldState) : Type 0 where
   pub programs : new.programs ≡ old.programs
-  pub plays : (j : JobState) (schedule : List ℕ) → Plays old.programs j schedule old → Plays old.programs j (schedule ++ numbers) new
+  pub plays : (j : JobState) (schedule : List ℕ) → Plays old.programs j schedule old
+      → Plays old.programs j (schedule ++ numbers) new

@@ -152,9 +152,11 @@ impl Live {
         limit: usize,
         spawner: &mut S,
     ) -> Ran
-        requires covered { IsCovered code.now (at_slot self.old.frame slot) self.old.part self.old.credit }
+        requires covered { IsCovered code.now (at_slot self.old.frame slot) self.old.part
+            self.old.credit }
         requires some { 0 < limit }
-        requires children { MayHandOver (S.entries spawner.old) self.old.credit.held (S.asks spawner.old) }
+        requires children { MayHandOver (S.entries spawner.old) self.old.credit.held
+            (S.asks spawner.old) }
         ensures ran { stretch.Ran code.now self.old.credit limit result.count
             (at_slot self.old.frame slot) self.old.part (λ frame part credit.
             StepEffectForAll code.now (S.entries spawner.old) frame part credit

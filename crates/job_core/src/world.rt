@@ -31,7 +31,8 @@ impl Model for World {
 
     ghost view = { λ w. kept_of w.tasks };
 
-    ghost invariant = { λ w. (j : JobState) × RepresentsJob (kept_of w.tasks) j × IsBooked w.tasks };
+    ghost invariant = { λ w. (j : JobState) × RepresentsJob (kept_of w.tasks) j
+        × IsBooked w.tasks };
 }
 
 impl World {
@@ -120,7 +121,8 @@ impl World {
 
     /// Whether the task is alive.
     pub fn live(&self, number: u32) -> bool
-        ensures { (j : model.JobState) → RepresentsJob self.now j → (IsTrue result ↔ IsAlive j number) }
+        ensures { (j : model.JobState) → RepresentsJob self.now j
+            → (IsTrue result ↔ IsAlive j number) }
     {
         match self.tasks.ledger.lives.get(number as usize) {
             Some(live) => live.is_some(),
@@ -201,7 +203,8 @@ impl World {
 
     /// The report, where no task is alive.
     pub fn report(&self) -> Option<&Report>
-        ensures some { (j : model.JobState) → RepresentsJob self.now j → (IsSome result ↔ IsComplete j) }
+        ensures some { (j : model.JobState) → RepresentsJob self.now j
+            → (IsSome result ↔ IsComplete j) }
         ensures value { (j : model.JobState) → RepresentsJob self.now j
             → IfSome result (λ report. IsReportOf report.now j) }
     {
@@ -210,7 +213,8 @@ impl World {
 
     /// Gives the report up where no task is alive, and else the world back as it was.
     pub fn close(self) -> Result<Report, World>
-        ensures report { IfOk result (λ report. (j : model.JobState) → RepresentsJob self j → IsComplete j
+        ensures report { IfOk result (λ report. (j : model.JobState) → RepresentsJob self j
+            → IsComplete j
             × IsReportOf report j) }
         ensures world { IfErr result (λ world. (world ≡ self)
             × ((j : model.JobState) → RepresentsJob self j → IsComplete j → ⊥)) }
@@ -251,6 +255,7 @@ ghost use Rattle.job_core.specs.Representation.{WorldState};
 
 /// What a world keeps leaves one buffer to every job behind what it keeps.
 pub fn keeps_one_buffer()
-    ensures { (kept : WorldState) (j k : model.JobState) → RepresentsJob kept j → RepresentsJob kept k
+    ensures { (kept : WorldState) (j k : model.JobState) → RepresentsJob kept j
+        → RepresentsJob kept k
         → j.buffer ≡ k.buffer }
 {}

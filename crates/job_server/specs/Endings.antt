@@ -7,7 +7,8 @@ use Rattle.workers.specs.PoolFaultCodes.{number_of}
 use Rattle.workers.specs.Final.{IsFinal}
 use Rattle.workers.specs.Noted.{EndedAlone}
 
--- the report of a whole run of this job under this number, each of whose tasks gives what it gives by itself
+-- the report of a whole run of this job under this number, each of whose tasks gives what it gives
+-- by itself
 pub record IsRun (number : ℕ) (job : AdmittedJob) (report : Report) : Type 0 where
   pub final : IsFinal number job.credit (length job.buffer) report
   pub alone : All (EndedAlone job.programs) report.tasks.items

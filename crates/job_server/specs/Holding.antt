@@ -20,7 +20,8 @@ pub record IsFresh (number : ℕ) (job : AdmittedJob) (held : Held) : Type 0 whe
   pub seen : held.sight.seen ≡ Open number job.credit ∷ []
   pub looks : held.sight.looks ≡ 0
 
--- One look more: its totals are those of the history that is then seen, a legal one of this job that begins with all that was seen before.
+-- One look more: its totals are those of the history that is then seen, a legal one of this job
+-- that begins with all that was seen before.
 pub record IsSeen (old : Held) (told : Progress) (new : Held) : Type 0 where
   pub number : new.number ≡ old.number
   pub job : new.job ≡ old.job
@@ -33,7 +34,8 @@ pub record IsSeen (old : Held) (told : Progress) (new : Held) : Type 0 where
 
 -- each key that a number has is that of the job of this number
 abbrev pub AreKept : (ℕ → Option ℕ) → (ℕ → Option Held) → Type 0
-AreKept keys jobs = (n key : ℕ) → keys n ≡ Some key → option_map (λ held. held.number) (jobs key) ≡ Some n
+AreKept keys jobs = (n key : ℕ) → keys n ≡ Some key
+    → option_map (λ held. held.number) (jobs key) ≡ Some n
 
 -- the job of a number, by its key
 abbrev pub job_by : (ℕ → Option Held) → Option ℕ → Option Held

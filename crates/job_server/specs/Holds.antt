@@ -43,7 +43,8 @@ Starts old number job (Ok _) new = Adds old number job new
 Starts old number job (Err code) new = ((code ≡ 81) ⊎ (code ≡ 99)) × IsUnchanged old new
 
 -- a job is seen
-pub record Sees (old : Places) (number : ℕ) (held : Held) (told : Progress) (new : Places) : Type 0 where
+pub record Sees (old : Places) (number : ℕ) (held : Held) (told : Progress) (new : Places) :
+    Type 0 where
   pub later : Held
   pub seen : IsSeen held told later
   pub changes : Changes old number (Some later) new
@@ -52,13 +53,15 @@ pub record Sees (old : Places) (number : ℕ) (held : Held) (told : Progress) (n
 -- what is told of what is held under the number
 unfoldable pub looks_at : Places → ℕ → Option Held → Progress → Places → Type 0
 looks_at old number (Some held) told new = Sees old number held told new
-looks_at old number None told new = (told ≡ record { spent = 0; returned = 0; complete = false }) × IsUnchanged old new
+looks_at old number None told new = (told ≡ record { spent = 0; returned = 0; complete = false })
+    × IsUnchanged old new
 
 abbrev pub TellsProgress : Places → ℕ → Progress → Places → Type 0
 TellsProgress old number told new = looks_at old number (held_at old number) told new
 
 -- one job fewer, with what it came to
-pub record Gives (old : Places) (number : ℕ) (outcome : Result Report ℕ) (new : Places) : Type 0 where
+pub record Gives (old : Places) (number : ℕ) (outcome : Result Report ℕ) (new : Places) :
+    Type 0 where
   pub held : Held
   pub was : held_at old number ≡ Some held
   pub end : IsEndOf number held.job outcome

@@ -14,11 +14,21 @@ use Rattle.bpfjobs_cli.specs.Jobs.{IsDeclined, IsOrdered, PrintsPlay, declined_l
 use Rattle.bpfjobs_cli.specs.Printed.{Prints, refusal_reply, reply_line}
 use Rattle.bpfjobs_cli.specs.Programs.{PrintsAssembly, PrintsListing, PrintsVerdict}
 
--- the report of the job's complete history, each of whose tasks gives what it gives by itself; or no report, or no job
+-- the report of the job's complete history, each of whose tasks gives what it gives by itself; or
+-- no report, or no job
 pub data PrintsRun (input text : List ℕ) (status : ℕ) : Type 0 where
-  ran : (order : AdmittedJob) (schedule : List ℕ) (report : Report) → IsOrdered false input order schedule → IsFinal 0 order.credit (length order.buffer) report → All (EndedAlone order.programs) report.tasks.items → Prints text status (reply_line (result_data report.buffer.items report.returned report.spent report.tasks.items)) 0 → PrintsRun input text status
-  failed : (order : AdmittedJob) (schedule : List ℕ) (fault : PoolFault) → IsOrdered false input order schedule → Prints text status (refusal_reply (number_of fault) None None) 1 → PrintsRun input text status
-  no_job : (why : Declined) → IsDeclined false input why → Prints text status (declined_line why) 1 → PrintsRun input text status
+  ran : (order : AdmittedJob) (schedule : List ℕ) (report : Report)
+      → IsOrdered false input order schedule → IsFinal 0 order.credit (length order.buffer) report
+      → All (EndedAlone order.programs) report.tasks.items
+      → Prints text status
+      (reply_line (result_data report.buffer.items report.returned report.spent report.tasks.items))
+      0 → PrintsRun input text status
+  failed : (order : AdmittedJob) (schedule : List ℕ) (fault : PoolFault)
+      → IsOrdered false input order schedule
+      → Prints text status (refusal_reply (number_of fault) None None) 1
+      → PrintsRun input text status
+  no_job : (why : Declined) → IsDeclined false input why → Prints text status (declined_line why) 1
+      → PrintsRun input text status
 
 -- the command is over once it has answered; a job has 1 to 16 workers
 abbrev pub IsOver : Command → Type 0

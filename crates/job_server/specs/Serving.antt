@@ -13,12 +13,14 @@ new_desk = record { grants = []; jobs = [] }
 
 -- So many connections of the listener are visited, the first on a new desk and with no job held.
 -- Jobs run on pools.
-pub record IsServing {L : Type 0} (opens fails : L → L → Type 0) (notes : L → Passage → L → Type 0) (listener : L) (sessions : ℕ) (outcome : Result (Unit {0}) ServeFault) : Type 0 where
+pub record IsServing {L : Type 0} (opens fails : L → L → Type 0) (notes : L → Passage → L
+    → Type 0) (listener : L) (sessions : ℕ) (outcome : Result (Unit {0}) ServeFault) : Type 0 where
   pub first : Places
   pub none : (n : ℕ) → held_at first n ≡ None
   pub last : L
   pub end : Ledger × Places
-  pub visits : Visits opens fails notes (answers_by Starts TellsProgress TakesReport) listener (new_desk, first) sessions last end outcome
+  pub visits : Visits opens fails notes (answers_by Starts TellsProgress TakesReport) listener
+      (new_desk, first) sessions last end outcome
 
 -- any step of a listener of which nothing is known
 abbrev pub AnyStep : Unit {0} → Unit {0} → Type 0
@@ -29,4 +31,5 @@ Noted old passage new = Unit {0}
 
 -- so many connections that came, or the port can't be listened on
 abbrev pub IsServingPort : ℕ → Result (Unit {0}) ServeFault → Type 0
-IsServingPort sessions outcome = IsServing AnyStep AnyStep Noted tt sessions outcome ⊎ (outcome ≡ Err Socket)
+IsServingPort sessions outcome = IsServing AnyStep AnyStep Noted tt sessions outcome
+    ⊎ (outcome ≡ Err Socket)

@@ -7,8 +7,11 @@ use Rattle.job_server.specs.declared.job_request.JobRequest.{JobRequest}
 
 -- the thread promises the end of the errand's own job, under its own number
 abbrev pub IsStarted : JobRequest → PromisedHandle (Result Report ℕ) EndOf → Type 0
-IsStarted errand thread = (thread.promise.number ≡ errand.number) × (thread.promise.job.value ≡ errand.job)
+IsStarted errand thread =
+    (thread.promise.number ≡ errand.number) × (thread.promise.job.value ≡ errand.job)
 
 -- so does each thread that may come of an errand
-abbrev pub StartsOwn : (JobRequest → Option (PromisedHandle (Result Report ℕ) EndOf) → Type 0) → Type 0
-StartsOwn may_start = (errand : JobRequest) (thread : PromisedHandle (Result Report ℕ) EndOf) → may_start errand (Some thread) → IsStarted errand thread
+abbrev pub StartsOwn : (JobRequest → Option (PromisedHandle (Result Report ℕ) EndOf) → Type 0)
+    → Type 0
+StartsOwn may_start = (errand : JobRequest) (thread : PromisedHandle (Result Report ℕ) EndOf)
+    → may_start errand (Some thread) → IsStarted errand thread

@@ -20,7 +20,8 @@ fn answer_of<T: Threads + Wait + Sync>(
     input: &[u8],
 ) -> Result<Answer, NoMemory>
     requires { IsOver command }
-    ensures { IfOk result (λ answer. IsPoolAnswer command input.now answer.text.items answer.status) }
+    ensures { IfOk result (λ answer.
+        IsPoolAnswer command input.now answer.text.items answer.status) }
 {
     match command {
         Command::Run { workers } => answer_run(rt, alloc, workers, input),
@@ -51,10 +52,12 @@ pub fn perform<T: Threads + Wait + Sync, R: Source, W: Sink>(
     ensures done { IfOk result (λ status. (input text : List ℕ)
         × (R.transcript reader.new ≡ R.transcript reader.old ++ input)
         × IsAllRead (R.is_over reader.new ≡ true) input
-        × IsPoolAnswer command input text status × (W.transcript writer.new ≡ W.transcript writer.old ++ text)) }
+        × IsPoolAnswer command input text status
+            × (W.transcript writer.new ≡ W.transcript writer.old ++ text)) }
     ensures stopped { IfErr result (λ fault. (input : List ℕ)
         × (R.transcript reader.new ≡ R.transcript reader.old ++ input)
-        × IsGivenUpBy fault (IsPoolAnswer command input) (IsAllRead (R.is_over reader.new ≡ true) input)
+        × IsGivenUpBy fault (IsPoolAnswer command input)
+            (IsAllRead (R.is_over reader.new ≡ true) input)
         (W.transcript writer.old) (W.transcript writer.new)) }
     ensures read_failed { result ≡ Err StreamFault.ReadFailed → R.has_failed reader.new ≡ true }
     ensures write_failed { result ≡ Err StreamFault.WriteFailed → W.has_failed writer.new ≡ true }

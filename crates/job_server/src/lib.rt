@@ -1,4 +1,5 @@
-//! A server of jobs: everything that needs a thread or a socket. It hands on the types of `streams`.
+//! A server of jobs: everything that needs a thread or a socket. It hands on the types of
+//! `streams`.
 #![tactic(auto)]
 
 // the streams that it answers, and what runs their jobs

@@ -30,9 +30,12 @@ impl Model for Running {
 
     ghost Value = { Held };
 
-    ghost view = { λ r. record { number = r.thread.promise.number; job = r.thread.promise.job.value; sight = r.reader } };
+    ghost view = { λ r. record { number = r.thread.promise.number; job = r.thread.promise.job.value;
+        sight = r.reader } };
 
-    ghost invariant = { λ r. (r.reader.board ≡ arc_value r.board) × (r.reader.board.job ≡ r.thread.promise.number) × (r.reader.board.issued ≡ r.thread.promise.job.value.credit) };
+    ghost invariant = { λ r. (r.reader.board ≡ arc_value r.board)
+        × (r.reader.board.job ≡ r.thread.promise.number)
+        × (r.reader.board.issued ≡ r.thread.promise.job.value.credit) };
 }
 
 /// Starts the thread of a job by `starter`, once all that it needs is made: 99 where a growth was

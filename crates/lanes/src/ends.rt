@@ -193,8 +193,8 @@ impl Lane {
         pushed
     }
 
-    /// Takes the ticket at the front, which was pushed, and which no other caller takes. `None`: the
-    /// lane had no ticket at one moment of the call.
+    /// Takes the ticket at the front, which was pushed, and which no other caller takes. `None`:
+    /// the lane had no ticket at one moment of the call.
     pub fn take(&mut self, pass: &mut Pass<Owning>) -> Option<Ticket>
         requires { IsOwner self.old pass.old }
         ensures pass { IsOwner self.new pass.new }
@@ -214,8 +214,8 @@ impl Thief {
     ghost use Rattle.lanes.specs.Interleaving.{StealsSome, ThiefTook};
     ghost use Rattle.lanes.specs.Passes.{moves, IsGuest, MatchStolen};
 
-    /// Takes the ticket at the front of another worker's lane, which its owner has pushed, and which
-    /// no other caller takes.
+    /// Takes the ticket at the front of another worker's lane, which its owner has pushed, and
+    /// which no other caller takes.
     pub fn steal(&mut self, pass: &mut Pass<Stealing>) -> Stolen
         requires { IsGuest self.old pass.old }
         ensures pass { IsGuest self.new pass.new }
@@ -239,15 +239,16 @@ impl Thief {
         }
     }
 
-    /// The ticket at the front, for a bare seat. Some of those behind it, seven at most, go into the
-    /// thief's own lane, in order.
+    /// The ticket at the front, for a bare seat. Some of those behind it, seven at most, go into
+    /// the thief's own lane, in order.
     pub(crate) fn steal_some(&mut self, seat: &mut Seat, own: &mut Lane) -> Stolen
         requires { IsPassOf (stealer_deque self.old.reach) seat.old }
         ensures same { (stealer_deque self.new.reach ≡ stealer_deque self.old.reach)
             × (worker_deque own.new.ready ≡ worker_deque own.old.ready) }
         ensures pass { IsPassOf (stealer_deque self.new.reach) seat.new }
         ensures moved { MatchStolen result
-            ((view seat.new ≡ view seat.old) × (worker_view own.new.ready ≡ worker_view own.old.ready))
+            ((view seat.new ≡ view seat.old)
+                × (worker_view own.new.ready ≡ worker_view own.old.ready))
             (λ ticket. StealsSome 8 (view seat.old) (worker_view own.old.ready) ticket
             (view seat.new) (worker_view own.new.ready)) }
     {

@@ -14,7 +14,8 @@ use std::marker::Model;
 /// another has taken a ticket.
 const TRIES: u32 = 100;
 
-/// A thief beside what it knows. Contracts see which lane it leads into, and what it has moved there.
+/// A thief beside what it knows. Contracts see which lane it leads into, and what it has moved
+/// there.
 #[derive(Drop)]
 pub(crate) struct Way {
     thief: Thief,
@@ -84,7 +85,8 @@ impl Way {
 pub(crate) fn first_stolen(ways: &mut Vec<Way>, own: &mut Lane) -> Option<Ticket>
     ensures same { worker_deque own.new.ready ≡ worker_deque own.old.ready }
     ensures moved { MatchOption result
-        ((ways.new.items ≡ ways.old.items) × (worker_view own.new.ready ≡ worker_view own.old.ready))
+        ((ways.new.items ≡ ways.old.items)
+            × (worker_view own.new.ready ≡ worker_view own.old.ready))
         (λ ticket. StealsFirst 8 ways.old.items (worker_view own.old.ready) ticket
         ways.new.items (worker_view own.new.ready)) }
 {

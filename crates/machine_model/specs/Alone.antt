@@ -34,7 +34,8 @@ Follows may on r0 last (Traps trap) = ⊥
 -- within so many steps the task ends with R0, in a last state
 abbrev pub EndsWithin : Program → MayAnswer → ℕ → State → ℕ → State → Type 0
 EndsWithin p may r0 last zero s = ⊥
-EndsWithin p may r0 last (suc n) s = Follows may (EndsWithin p may r0 last n) r0 last (effect p no_entries s)
+EndsWithin p may r0 last (suc n) s =
+    Follows may (EndsWithin p may r0 last n) r0 last (effect p no_entries s)
 
 -- the task ends with R0, in a last state
 abbrev pub EndsAlone : Program → MayAnswer → State → ℕ → State → Type 0

@@ -13,12 +13,14 @@ finished_of f = record { ending = ended_of f.ending; bytes = f.bytes.items }
 -- what these tasks come to, one after the other
 abbrev pub AllCome : List Program → List Pending → List Finished → Type 0
 AllCome programs [] result = result ≡ []
-AllCome programs (p ∷ ps) result = (own later : List Finished) × Eval programs (task_of p.task) p.bytes.items own
+AllCome programs (p ∷ ps) result =
+    (own later : List Finished) × Eval programs (task_of p.task) p.bytes.items own
     × AllCome programs ps later × (result ≡ own ++ later)
 
 -- the tasks that are done, and then what these come to
 abbrev pub DoneThen : List Program → List FinishedTask → List Pending → List Finished → Type 0
-DoneThen programs done ps result = (rest : List Finished) × AllCome programs ps rest × (result ≡ map finished_of done ++ rest)
+DoneThen programs done ps result =
+    (rest : List Finished) × AllCome programs ps rest × (result ≡ map finished_of done ++ rest)
 
 -- the tasks that are done, and then what the tasks of a path come to, of which the last comes first
 abbrev pub PathComes : List Program → List Pending → List FinishedTask → List Finished → Type 0
@@ -32,12 +34,13 @@ used_so_far path done = sum_by (λ p. p.task.used) path + sum_by (λ f. f.ending
 abbrev pub GoesOnTo : (Task → List ℕ → Type 0) → Task → Effect → Type 0
 GoesOnTo on t (Continues next) = on (with_state t next) next.part
 GoesOnTo on t (Ends r0 last) = ⊥
-GoesOnTo on t (Spawns birth taken refused) = on (child_of t taken birth) birth.bytes ⊎ on (parent_of t taken) taken.part
+GoesOnTo on t (Spawns birth taken refused) =
+    on (child_of t taken birth) birth.bytes ⊎ on (parent_of t taken) taken.part
 GoesOnTo on t (Calls helper arguments caller) = ⊥
 GoesOnTo on t (Traps trap) = ⊥
 
--- within so many instructions of its own and of its ancestors', the task, or one that comes of it, comes to an
--- effect that is more than the reference has
+-- within so many instructions of its own and of its ancestors', the task, or one that comes of it,
+-- comes to an effect that is more than the reference has
 abbrev pub ComesFarWithin : List Program → ℕ → Task → List ℕ → Type 0
 ComesFarWithin programs zero t bytes = ⊥
 ComesFarWithin programs (suc n) t bytes = (p : Program) × (slice_get programs t.program ≡ Some p)

@@ -70,7 +70,8 @@ trap_of cause.OverSpent = OverSpent
 abbrev pub effect_of : StepOutcome → Effect
 effect_of (outcome.Continues next) = Continues (state_of next)
 effect_of (outcome.Ends r0 last) = Ends r0 (state_of last)
-effect_of (outcome.Spawns child taken refused) = Spawns (birth_from child) (state_of taken) (state_of refused)
+effect_of (outcome.Spawns child taken refused) =
+    Spawns (birth_from child) (state_of taken) (state_of refused)
 effect_of (outcome.Calls helper arguments caller) = Calls helper arguments (state_of caller)
 effect_of (outcome.Traps trap) = Traps (trap_of trap)
 
@@ -182,7 +183,8 @@ born_of None = []
 
 -- the job after a change of task n
 abbrev pub changed_by : JobState → ℕ → Change → JobState
-changed_by j n c = record { buffer = c.buffer.items; tasks = slice_set j.tasks n (member_of c.member) ++ born_of c.born }
+changed_by j n c = record { buffer = c.buffer.items;
+    tasks = slice_set j.tasks n (member_of c.member) ++ born_of c.born }
 
 -- nothing after a trap
 abbrev pub when : Bool → JobState → Option JobState
@@ -201,7 +203,8 @@ abbrev pub Stays : MayAnswer → (State → Type 0) → Effect → Type 0
 Stays may on (Continues next) = on next
 Stays may on (Ends r0 last) = ⊥
 Stays may on (Spawns birth taken refused) = ⊥
-Stays may on (Calls helper arguments caller) = (answer : ℕ) × may helper arguments answer × on (answered caller answer)
+Stays may on (Calls helper arguments caller) =
+    (answer : ℕ) × may helper arguments answer × on (answered caller answer)
 Stays may on (Traps trap) = Unit {0}
 
 -- with some answers, the task doesn't end within so many steps
@@ -211,7 +214,8 @@ StaysFor p may (suc n) s = Stays may (StaysFor p may n) (effect p no_entries s)
 
 -- a helper gives the same answer to the same arguments
 abbrev pub HasOneAnswer : MayAnswer → Type 0
-HasOneAnswer may = (helper : ℕ) (arguments : List ℕ) (a b : ℕ) → may helper arguments a → may helper arguments b → a ≡ b
+HasOneAnswer may = (helper : ℕ) (arguments : List ℕ) (a b : ℕ) → may helper arguments a
+    → may helper arguments b → a ≡ b
 
 -- the task doesn't end within so many steps, whatever is answered
 abbrev pub NeverEnds : Program → MayAnswer → ℕ → State → Type 0
@@ -223,19 +227,23 @@ FarOn may on (Continues next) = on next
 FarOn may on (Ends r0 last) = ⊥
 FarOn may on (Spawns birth taken refused) = ⊥
 FarOn may on (Calls helper arguments caller) =
-    (4294967296 ≤ caller.slot) ⊎ ((answer : ℕ) × may helper arguments answer × on (answered caller answer))
+    (4294967296 ≤ caller.slot)
+        ⊎ ((answer : ℕ) × may helper arguments answer × on (answered caller answer))
 FarOn may on (Traps trap) = ⊥
 
 -- within so many steps a task that runs alone may get to more than the reference has
 abbrev pub FarWithin : Program → MayAnswer → ℕ → State → Type 0
 FarWithin p may zero s = ⊥
 FarWithin p may (suc n) s =
-    (4294967296 ≤ s.slot) ⊎ (GoesFar (effect p no_entries s) ⊎ FarOn may (FarWithin p may n) (effect p no_entries s))
+    (4294967296 ≤ s.slot)
+        ⊎ (GoesFar (effect p no_entries s) ⊎ FarOn may (FarWithin p may n) (effect p no_entries s))
 
--- a child's base, or its number among its parent's children, is more than the reference has, and the spawn isn't refused
+-- a child's base, or its number among its parent's children, is more than the reference has, and
+-- the spawn isn't refused
 abbrev pub BearsFar : Task → Bool → Effect → Type 0
 BearsFar t true e = ⊥
-BearsFar t false (Spawns birth taken refused) = (2 ^ 64 ≤ t.base + length taken.part) ⊎ (2 ^ 64 ≤ t.children + 1)
+BearsFar t false (Spawns birth taken refused) =
+    (2 ^ 64 ≤ t.base + length taken.part) ⊎ (2 ^ 64 ≤ t.children + 1)
 BearsFar t false e = ⊥
 
 -- the effect on a task is more than the reference has
@@ -243,7 +251,8 @@ abbrev pub IsFarEffect : Task → Bool → Effect → Type 0
 IsFarEffect t refuses e = (4294967296 ≤ t.slot) ⊎ (GoesFar e ⊎ BearsFar t refuses e)
 
 -- a step of the number is one of a live task, and its effect is more than the reference has
-pub record IsFarStep (programs : List Program) (j : JobState) (n : ℕ) (refuses : Bool) : Type 0 where
+pub record IsFarStep (programs : List Program) (j : JobState) (n : ℕ) (refuses : Bool) :
+    Type 0 where
   pub task : Task
   pub alive : slice_get j.tasks n ≡ Some (Live task)
   pub program : Program

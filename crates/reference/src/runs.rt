@@ -217,7 +217,8 @@ fn end_task(
     last: &Running,
     r0: u64,
 ) -> Result<Change, Unanswered>
-    ensures value { IfOk result (λ c. (j : JobState) (n : ℕ) → j.buffer ≡ buffer.now → (refuses : Bool) →
+    ensures value { IfOk result (λ c. (j : JobState) (n : ℕ) → j.buffer ≡ buffer.now
+        → (refuses : Bool) →
         Some (changed_by j n c)
         ≡ applied j n (task_of task.now) refuses (Ends r0 (state_of last.now))) }
     ensures memory { (error : Unanswered) → result ≡ Err error → error ≡ unanswered.NoMemory }

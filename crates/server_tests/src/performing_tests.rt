@@ -1,5 +1,5 @@
-//! Commands whose input or output fails, at each call: where the input fails nothing is written, and
-//! where the output does, a beginning of the answer.
+//! Commands whose input or output fails, at each call: where the input fails nothing is written,
+//! and where the output does, a beginning of the answer.
 
 use crate::ends::{ALWAYS, Given, Taken};
 use bpfjobs_cli::Command;
@@ -68,8 +68,8 @@ fn writes_a_beginning_where_the_output_fails(rt: HostRuntime) -> Result<(), Fail
     Ok(())
 }
 
-// The same of a job on a thread, whose input is 90 bytes, in five pieces, and whose answer is 120, in
-// three.
+// The same of a job on a thread, whose input is 90 bytes, in five pieces, and whose answer is 120,
+// in three.
 #[test]
 fn fails_where_an_end_of_a_run_fails(rt: HostRuntime) -> Result<(), Fail> {
     let alloc = rt.alloc();

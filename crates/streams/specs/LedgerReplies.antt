@@ -26,7 +26,8 @@ ComesTo job (Ok report) = IsPlayed job report
 ComesTo job (Err code) = code ≡ 99
 
 -- a job is taken and played, and is over under its number, which is told
-pub record TakesAndPlays (desk : Ledger) (name : List ℕ) (programs : List ProgramBytes) (credit : ℕ) (buffer : List ℕ) (told : Data) (after : Ledger) : Type 0 where
+pub record TakesAndPlays (desk : Ledger) (name : List ℕ) (programs : List ProgramBytes) (credit : ℕ)
+    (buffer : List ℕ) (told : Data) (after : Ledger) : Type 0 where
   pub mid : Ledger
   pub takes : Takes desk name credit mid
   pub job : core.AdmittedJob
@@ -37,7 +38,8 @@ pub record TakesAndPlays (desk : Ledger) (name : List ℕ) (programs : List Prog
   pub tells : told ≡ submit_data (length mid.jobs)
 
 -- or it isn't taken, and nothing changes
-pub record PlaysNone (desk : Ledger) (name : List ℕ) (programs : List ProgramBytes) (credit : ℕ) (buffer : List ℕ) (told : Data) (after : Ledger) : Type 0 where
+pub record PlaysNone (desk : Ledger) (name : List ℕ) (programs : List ProgramBytes) (credit : ℕ)
+    (buffer : List ℕ) (told : Data) (after : Ledger) : Type 0 where
   pub fault : SubmitFault
   pub why : RefusesSubmit desk name programs credit buffer fault
   pub same : after ≡ desk
@@ -50,19 +52,27 @@ unseen = record { spent = 0; returned = 0; complete = false }
 -- what is told to what a frame asks, or to the number of its refusal, and the ledger after it
 unfoldable pub Tells : Ledger → Result Asked ℕ → Data → Ledger → Type 0
 Tells desk (Err code) told after = (told ≡ refused code) × (after ≡ desk)
-Tells desk (Ok (grant name amount)) told after = Grants desk name amount told after ⊎ GrantsNone desk name amount told after
-Tells desk (Ok (account name)) told after = (told ≡ account_told (account_at desk name)) × (after ≡ desk)
+Tells desk (Ok (grant name amount)) told after =
+    Grants desk name amount told after ⊎ GrantsNone desk name amount told after
+Tells desk (Ok (account name)) told after =
+    (told ≡ account_told (account_at desk name)) × (after ≡ desk)
 Tells desk (Ok (submit name order)) told after =
     (programs : List ProgramBytes) × (map program_asked programs ≡ order.programs)
-    × (TakesAndPlays desk name programs order.credit order.buffer told after ⊎ PlaysNone desk name programs order.credit order.buffer told after)
-Tells desk (Ok (status number)) told after = (told ≡ progress_told (progress_at desk number unseen)) × (after ≡ desk)
-Tells desk (Ok (result number)) told after = (told ≡ report_told (report_at desk number)) × (after ≡ desk)
+    × (TakesAndPlays desk name programs order.credit order.buffer told after
+        ⊎ PlaysNone desk name programs order.credit order.buffer told after)
+Tells desk (Ok (status number)) told after =
+    (told ≡ progress_told (progress_at desk number unseen)) × (after ≡ desk)
+Tells desk (Ok (result number)) told after =
+    (told ≡ report_told (report_at desk number)) × (after ≡ desk)
 
 -- The payloads are answered one after the other, from a ledger to another, and these are the frames
 -- of the replies, joined.
 pub data RepliesTo (start : Ledger) : List (List ℕ) → List ℕ → Ledger → Type 0 where
   none_yet : RepliesTo start [] [] start
-  one_more : (payloads : List (List ℕ)) (text : List ℕ) (desk : Ledger) (payload : List ℕ) (query : Result Asked ℕ) (told : Reply) (after : Ledger) → RepliesTo start payloads text desk → Hears payload query → Tells desk query (reply_data told) after → RepliesTo start (payloads ++ payload ∷ []) (text ++ frame_of told) after
+  one_more : (payloads : List (List ℕ)) (text : List ℕ) (desk : Ledger) (payload : List ℕ)
+      (query : Result Asked ℕ) (told : Reply) (after : Ledger) → RepliesTo start payloads text desk
+      → Hears payload query → Tells desk query (reply_data told) after
+      → RepliesTo start (payloads ++ payload ∷ []) (text ++ frame_of told) after
 
 -- The replies to all frames of the bytes, and one 71 behind them where a length over the limit
 -- comes next.
@@ -76,12 +86,15 @@ pub record LedgerReplies (start : Ledger) (bytes text : List ℕ) (end : Ledger)
 -- the reports that a runner holds are noted, in order of number
 abbrev pub AreNoted : Ledger → List (ℕ × Report) → Ledger → Type 0
 AreNoted desk [] ledger = ledger ≡ desk
-AreNoted desk (held ∷ reports) ledger = (next : Ledger) × Notes desk held.0 (Ok held.1) next × AreNoted next reports ledger
+AreNoted desk (held ∷ reports) ledger =
+    (next : Ledger) × Notes desk held.0 (Ok held.1) next × AreNoted next reports ledger
 
 -- From a desk and reports to others the bytes are answered, and what was written are the replies
 -- over their ledgers. The number is that of the frames, and nothing more is read for a reason;
 -- `over` says that the reader has no more.
-pub record WritesReplies (desk : Ledger) (held : List (ℕ × Report)) (bytes before : List ℕ) (over : Type 0) (end : Ledger) (left : List (ℕ × Report)) (number : ℕ) (after : List ℕ) : Type 0 where
+pub record WritesReplies (desk : Ledger) (held : List (ℕ × Report)) (bytes before : List ℕ)
+    (over : Type 0) (end : Ledger) (left : List (ℕ × Report)) (number : ℕ) (after : List ℕ) :
+    Type 0 where
   pub start : Ledger
   pub noted : AreNoted desk held start
   pub last : Ledger
@@ -97,11 +110,13 @@ pub record WritesReplies (desk : Ledger) (held : List (ℕ × Report)) (bytes be
 abbrev pub Begins : List ℕ → List (List ℕ) → List ℕ → List ℕ → Type 0
 Begins bytes further text part =
     (more : List ℕ) × ((part ++ more ≡ text)
-    ⊎ ((front (frames_of bytes).rest ≡ too_large) × (further ≡ []) × (part ++ more ≡ text ++ too_large_reply)))
+    ⊎ ((front (frames_of bytes).rest ≡ too_large) × (further ≡ [])
+        × (part ++ more ≡ text ++ too_large_reply)))
 
 -- From a desk and reports to others the first payloads of the bytes are answered, and what was
 -- written is a beginning of the replies over their ledgers.
-pub record BeginsReplies (desk : Ledger) (held : List (ℕ × Report)) (bytes before : List ℕ) (end : Ledger) (left : List (ℕ × Report)) (after : List ℕ) : Type 0 where
+pub record BeginsReplies (desk : Ledger) (held : List (ℕ × Report)) (bytes before : List ℕ)
+    (end : Ledger) (left : List (ℕ × Report)) (after : List ℕ) : Type 0 where
   pub start : Ledger
   pub noted : AreNoted desk held start
   pub last : Ledger

@@ -25,7 +25,8 @@ pub trait Source {
     fn read(&mut self, piece: &mut [u8]) -> Result<usize, Failed>
         requires { has_failed self.old ≡ false }
         ensures count { IfOk result (λ n. n ≤ length piece.old) }
-        ensures bytes { IfOk result (λ n. transcript self.new ≡ transcript self.old ++ take n piece.new) }
+        ensures bytes { IfOk result (λ n. transcript self.new ≡ transcript self.old
+            ++ take n piece.new) }
         ensures over { IfOk result (λ n. is_over self.new ≡ nat_eq n 0) }
         ensures gives { ReadConsumes (left self.old) (left self.new) result piece.new }
         ensures err { OnErr result (transcript self.new ≡ transcript self.old) }
@@ -49,7 +50,8 @@ pub trait Sink {
         requires { has_failed self.old ≡ false }
         ensures count { IfOk result (λ n. n ≤ length piece.now) }
         ensures some { IfOk result (λ n. 0 < length piece.now → 0 < n) }
-        ensures bytes { IfOk result (λ n. transcript self.new ≡ transcript self.old ++ take n piece.now) }
+        ensures bytes { IfOk result (λ n. transcript self.new ≡ transcript self.old
+            ++ take n piece.now) }
         ensures keeps { WriteAppends (holds self.old) (holds self.new) result piece.now }
         ensures err { OnErr result (transcript self.new ≡ transcript self.old) }
         ensures failed { has_failed self.new ≡ is_err result };

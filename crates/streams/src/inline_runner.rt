@@ -37,9 +37,12 @@ impl Runner for InlineRunner {
 
     ghost ready = { λ _. Unit {0} };
 
-    ghost starts = { λ r number job result s. StartsInline r.finished.entries number job result s.finished.entries };
+    ghost starts = { λ r number job result s.
+        StartsInline r.finished.entries number job result s.finished.entries };
 
-    ghost looks = { λ r _ progress s. (progress ≡ record { spent = 0; returned = 0; complete = false }) × (s.finished.entries ≡ r.finished.entries) };
+    ghost looks = { λ r _ progress s.
+        (progress ≡ record { spent = 0; returned = 0; complete = false })
+        × (s.finished.entries ≡ r.finished.entries) };
 
     ghost takes = { λ r result s. TakesInline r.finished.entries result s.finished.entries };
 

@@ -27,7 +27,8 @@ enum Heard {
 
 fn hear(alloc: Global, session: &mut Session) -> Result<Heard, NoMemory>
     requires { ended_by session.old ≡ None }
-    ensures heard { IfOk result (λ heard. HearsFront heard (unread session.old) (unread session.new)) }
+    ensures heard { IfOk result (λ heard.
+        HearsFront heard (unread session.old) (unread session.new)) }
     ensures well { IfOk result (λ heard. heard ≢ Heard.TooLarge → ended_by session.new ≡ None) }
 {
     match session.next_request(alloc) {
@@ -148,7 +149,8 @@ fn take_piece<W: Sink, D, H: Handler<D>>(
 // Answers a length over the limit.
 fn refuse_length<W: Sink>(alloc: Global, writer: &mut W) -> Result<(), StreamFault>
     requires { W.has_failed writer.old ≡ false }
-    ensures ok { OnOk result (W.transcript writer.new ≡ W.transcript writer.old ++ too_large_reply) }
+    ensures ok { OnOk result (W.transcript writer.new ≡ W.transcript writer.old
+        ++ too_large_reply) }
     ensures err { IfErr result (λ fault. IsLastUnwritten fault (W.transcript writer.old)
         (W.transcript writer.new)) }
     ensures well { OnOk result (W.has_failed writer.new ≡ false) }
@@ -195,7 +197,8 @@ pub fn serve_stream<R: Source, W: Sink, D, H: Handler<D>>(
     ensures ready { H.ready handler.new }
     ensures served { IfOk result (λ number. (all : List ℕ)
         × (R.transcript reader.new ≡ R.transcript reader.old ++ all)
-        × IsServed H.answers (desk.old, handler.old) all (W.transcript writer.old) (R.is_over reader.new
+        × IsServed H.answers (desk.old, handler.old) all (W.transcript writer.old)
+            (R.is_over reader.new
         ≡ true) (desk.new, handler.new) number (W.transcript writer.new)) }
     ensures stopped { IfErr result (λ fault. (all : List ℕ)
         × (R.transcript reader.new ≡ R.transcript reader.old ++ all)

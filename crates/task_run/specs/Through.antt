@@ -9,8 +9,10 @@ abbrev pub if_refused : Bool → Type 0 → Type 0 → Type 0
 if_refused true took refused = refused
 if_refused false took refused = took
 
-module _ {S : Type 0} (spawns : S → SpawnRecord → Result (Unit {0}) SpawnRecord → S → Type 0) (base : ℕ) where
-  -- The spawner took this spawn, or it refused it, or wasn't called since there was no memory for the child's bytes.
+module _ {S : Type 0} (spawns : S → SpawnRecord → Result (Unit {0}) SpawnRecord → S
+    → Type 0) (base : ℕ) where
+  -- The spawner took this spawn, or it refused it, or wasn't called since there was no memory for
+  -- the child's bytes.
   abbrev pub Replied : S → SpawnRequest → S → Type 0
   Replied old a new =
       if_refused a.refused (Took a.birth (base + a.at) (λ child reply. spawns old child reply new))
@@ -21,8 +23,10 @@ module _ {S : Type 0} (spawns : S → SpawnRecord → Result (Unit {0}) SpawnRec
   GoesThrough old [] new = new ≡ old
   GoesThrough old (a ∷ later) new = (mid : S) × Replied old a mid × GoesThrough mid later new
 
--- A task by itself came to this end: what is left of its part, what it used and R0, while the spawner went `through` what it asked for.
-pub record RunsAlone (p : Program) (entries : Entries) (s : State) (through : List SpawnRequest → Type 0) (r0 used : ℕ) (bytes : List ℕ) : Type 0 where
+-- A task by itself came to this end: what is left of its part, what it used and R0, while the
+-- spawner went `through` what it asked for.
+pub record RunsAlone (p : Program) (entries : Entries) (s : State) (through : List SpawnRequest
+    → Type 0) (r0 used : ℕ) (bytes : List ℕ) : Type 0 where
   pub asked : List SpawnRequest
   pub last : State
   pub alone : Solo p entries s asked r0 last

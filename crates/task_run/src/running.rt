@@ -36,7 +36,8 @@ pub fn run_to_end<S: Spawner, L: Listener>(
     requires covered { IsCovered code.now (at_slot frame.old 0) part.old credit.old }
     requires children { (s : S) → S.entries s ≡ S.entries spawner.old
         → MayHandOver (S.entries spawner.old) credit.old.held (S.asks s) }
-    ensures alone { (registers : Registers) → RepresentsTask code.now (at_slot frame.old 0) registers →
+    ensures alone { (registers : Registers)
+        → RepresentsTask code.now (at_slot frame.old 0) registers →
         RunsAlone (program_of code.now) (S.entries spawner.old)
         (state_of (at_slot frame.old 0) part.old credit.old registers)
         (λ asked. GoesThrough S.spawns part.old.base spawner.old asked spawner.new) result

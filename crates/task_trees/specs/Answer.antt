@@ -10,7 +10,8 @@ use Rattle.task_trees.specs.Eval.{Finished, Eval, root}
 abbrev pub ended_in : List ℕ → List Member → List Finished
 ended_in buffer [] = []
 ended_in buffer (Live t ∷ ms) = ended_in buffer ms
-ended_in buffer (Ended e ∷ ms) = record { ending = e; bytes = take e.size (drop e.base buffer) } ∷ ended_in buffer ms
+ended_in buffer (Ended e ∷ ms) =
+    record { ending = e; bytes = take e.size (drop e.base buffer) } ∷ ended_in buffer ms
 
 -- the bytes that these tasks left, each at its base, in a buffer of this length
 abbrev pub joined : ℕ → List Finished → List ℕ
@@ -36,8 +37,8 @@ pub record HasEndedAt (j : JobState) (place : List ℕ) (r0 : ℕ) : Type 0 wher
   pub there : ending.place ≡ place
   pub word : ending.r0 ≡ r0
 
--- The job's buffer, which has so many bytes, the credit that its ended tasks spent and their R0s by place are
--- those of the finished tasks; and these are its ended tasks, each once, in some order.
+-- The job's buffer, which has so many bytes, the credit that its ended tasks spent and their R0s by
+-- place are those of the finished tasks; and these are its ended tasks, each once, in some order.
 pub record HasAnswer (size : ℕ) (j : JobState) (fs : List Finished) : Type 0 where
   pub buffer : j.buffer ≡ joined size fs
   pub long : length j.buffer ≡ size
@@ -62,7 +63,8 @@ pub record IsSpawn (programs : List Program) (j : JobState) (n : ℕ) : Type 0 w
   pub birth : Birth
   pub taken : State
   pub refused : State
-  pub is : effect program (entries_of programs) (state_in j.buffer task) ≡ Spawns birth taken refused
+  pub is : effect program (entries_of programs) (state_in j.buffer task) ≡ Spawns birth taken
+      refused
 
 -- a move that refuses is at such a step: what it refuses is a spawn
 abbrev pub RefuseSpawns : List Program → JobState → List Move → Type 0
@@ -70,12 +72,14 @@ RefuseSpawns programs j [] = Unit {0}
 RefuseSpawns programs j (m ∷ ms) = (m.refuses ≡ true → IsSpawn programs j m.number)
     × ((k : JobState) → step programs j m.number m.refuses ≡ Some k → RefuseSpawns programs k ms)
 
--- The moves over this schedule lead from the root to the job, and refuse nothing but spawns. Where they refuse none and the job is
--- complete, it has the answer of its root.
-pub record PlaysToAnswer (programs : List Program) (credit : ℕ) (buffer : List ℕ) (schedule : List ℕ) (last : JobState) : Type 0 where
+-- The moves over this schedule lead from the root to the job, and refuse nothing but spawns. Where
+-- they refuse none and the job is complete, it has the answer of its root.
+pub record PlaysToAnswer (programs : List Program) (credit : ℕ) (buffer : List ℕ)
+    (schedule : List ℕ) (last : JobState) : Type 0 where
   pub moves : List Move
   pub numbers : map (λ (m : Move). m.number) moves ≡ schedule
   pub runs : run programs (start credit buffer) moves ≡ Some last
   pub refusals : RefuseSpawns programs (start credit buffer) moves
-  pub answer : NoRefusals moves → IsComplete last → (fs : List Finished) × RootComes programs credit buffer fs
+  pub answer : NoRefusals moves → IsComplete last → (fs : List Finished)
+      × RootComes programs credit buffer fs
       × HasAnswer (length buffer) last fs

@@ -11,7 +11,8 @@ ghost use Rattle.task_trees.specs.Answer.{HasAnswer, NoRefusals, PlaysToAnswer, 
 
 /// A task by itself, whose spawns are answered alike, comes to one end.
 pub fn runs_once_alone()
-    ensures { (p : Program) (entries : Entries) (s : State) (asked others : List SpawnRequest) (r0 r0' : ℕ)
+    ensures { (p : Program) (entries : Entries) (s : State) (asked others : List SpawnRequest)
+        (r0 r0' : ℕ)
         (last last' : State) →
         Solo p entries s asked r0 last → Solo p entries s others r0' last' →
         map (λ (a : SpawnRequest). a.refused) asked ≡ map (λ (a : SpawnRequest). a.refused) others →
@@ -72,7 +73,8 @@ pub fn schedules_agree()
 pub fn keeps_parents()
     ensures start { (credit : ℕ) (buffer : List ℕ)
         → let j : JobState = start credit buffer in AreParents [] j.tasks }
-    ensures step { (programs : List Program) (j k : JobState) (n : ℕ) (refuses : Bool) (parents : List ℕ) →
+    ensures step { (programs : List Program) (j k : JobState) (n : ℕ) (refuses : Bool)
+        (parents : List ℕ) →
         step programs j n refuses ≡ Some k → AreParents parents j.tasks →
         (parents' : List ℕ) × GrowBy n j k parents parents' × AreParents parents' k.tasks }
 {}
@@ -93,9 +95,9 @@ pub fn plays_to_answer()
         PlaysToAnswer programs credit buffer (map (λ (m : Move). m.number) moves) last }
 {}
 
-/// Where the credit and the buffer of a job suffice for its root: over every schedule, with refusals
-/// or without, each ended task has the use and the R0 that it comes to by itself, on some part that
-/// suffices for its program, under some answers.
+/// Where the credit and the buffer of a job suffice for its root: over every schedule, with
+/// refusals or without, each ended task has the use and the R0 that it comes to by itself, on some
+/// part that suffices for its program, under some answers.
 pub fn each_ran_alone()
     ensures { (programs : List Program) (p : Program) (credit : ℕ) (buffer : List ℕ)
         (moves : List Move) (last : JobState) (n : ℕ) (e : Ending) →

@@ -128,7 +128,8 @@ fn run_single(
 // Runs such a program on each piece in turn.
 fn run_burst(alloc: Global, program: Verified, memory: &mut [u8], runs: &mut [Run], credit: u32)
     requires job { program.helpers ≡ job_table }
-    ensures runs { RunInTurn program credit memory.old runs.old runs.new (length runs.old) memory.new }
+    ensures runs { RunInTurn program credit memory.old runs.old runs.new
+        (length runs.old) memory.new }
     ensures length { length runs.new ≡ length runs.old }
 {
     let mut vm = match Vm::new(alloc, None) {
@@ -192,7 +193,8 @@ pub extern "C" fn telgovan_burst(
     runs: &mut [Run],
     verdict: &mut Verdict,
 ) -> u32
-    ensures runs { IsBurst need code.now credit memory.old memory.new runs.old runs.new verdict.new }
+    ensures runs { IsBurst need code.now credit memory.old memory.new runs.old runs.new
+        verdict.new }
     ensures status { result ≡ verdict.new.status }
 {
     *verdict = burst(alloc, need, code, memory, runs, credit);

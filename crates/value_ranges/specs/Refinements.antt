@@ -67,7 +67,8 @@ tells AtMost b = true
 
 -- the two ranges of numbers that stand so
 abbrev pub narrowed : Relation → Interval → Interval → Interval × Interval
-narrowed Same a b = (interval (max a.lo b.lo) (min a.hi b.hi), interval (max a.lo b.lo) (min a.hi b.hi))
+narrowed Same a b = (interval (max a.lo b.lo) (min a.hi b.hi),
+    interval (max a.lo b.lo) (min a.hi b.hi))
 narrowed Above a b = (interval (max a.lo (b.lo + 1)) a.hi, interval b.lo (min b.hi (a.hi - 1)))
 narrowed AtLeast a b = (interval (max a.lo b.lo) a.hi, interval b.lo (min b.hi a.hi))
 narrowed Below a b = (interval a.lo (min a.hi (b.hi - 1)), interval (max b.lo (a.lo + 1)) b.hi)
@@ -138,9 +139,11 @@ is_whole W64 a b = true
 is_whole W32 a b = nat_lt a.unsigned.hi (2 ^ 32) && nat_lt b.unsigned.hi (2 ^ 32)
 
 -- what the two are where they stand so, as numbers or as signed readings
-abbrev pub refined_ranges : Option Relation → Option Relation → Ranges → Ranges → Option (Ranges × Ranges)
+abbrev pub refined_ranges : Option Relation → Option Relation → Ranges → Ranges
+    → Option (Ranges × Ranges)
 refined_ranges (Some f) g a b = with_unsigned a b (narrowed_pair f a.unsigned b.unsigned)
-refined_ranges None (Some g) a b = with_signed a b (signed_pair (signed_narrowed g a.signed b.signed))
+refined_ranges None (Some g) a b =
+    with_signed a b (signed_pair (signed_narrowed g a.signed b.signed))
 refined_ranges None None a b = None
 
 abbrev pub refined_pair : Bool → Ranges → Ranges → Option (Ranges × Ranges) → Abs × Abs
@@ -151,7 +154,8 @@ refined_pair source a b (Some r) = (Num r.0, Num (if source then r.1 else b))
 abbrev pub refined_by : Insn → Bool → Abs → Abs → Abs × Abs
 refined_by (JumpIf w t d s o) taken (Num a) (Num b) =
     if is_other d s && is_whole w a (compared s w b)
-    then refined_pair (is_register s) a b (refined_ranges (relation_of t taken) (signed_relation_of w t taken) a (compared s w b))
+    then refined_pair (is_register s) a b
+        (refined_ranges (relation_of t taken) (signed_relation_of w t taken) a (compared s w b))
     else (Num a, Num b)
 refined_by i taken a b = (a, b)
 
@@ -161,7 +165,8 @@ IsConditional _ = ⊥
 
 -- whether the jump goes the way of the edge, on two numbers
 abbrev pub GoesAlong : Insn → Bool → Value → Value → Type 0
-GoesAlong (JumpIf w t d s o) taken (value.Num x) (value.Num y) = holds t (bits_of w) (x % 2 ^ bits_of w) (y % 2 ^ bits_of w) ≡ taken
+GoesAlong (JumpIf w t d s o) taken (value.Num x) (value.Num y) =
+    holds t (bits_of w) (x % 2 ^ bits_of w) (y % 2 ^ bits_of w) ≡ taken
 GoesAlong i taken x y = Unit {0}
 
 -- the pair still covers what the operands can be on the edge

@@ -11,7 +11,8 @@ use Rattle.value_ranges.specs.Span.{Span, span}
 
 -- where it lies within 64 signed bits
 abbrev pub fitting : Span → Option Span
-fitting s = if int_le (neg_ℤ (pos (2 ^ 63))) s.lo && int_lt s.hi (pos (2 ^ 63)) then Some s else None
+fitting s = if int_le (neg_ℤ (pos (2 ^ 63))) s.lo && int_lt s.hi (pos (2 ^ 63)) then Some s
+    else None
 
 abbrev pub signed_sum : Span → Span → Span
 signed_sum a b = span (a.lo +ℤ b.lo) (a.hi +ℤ b.hi)

@@ -50,4 +50,5 @@ entry need r =
 -- whatever part and argument a task starts with, a covers the register
 abbrev pub CoversEntry : ℕ → ℕ → Abs → Type 0
 CoversEntry need r a =
-    (size arg : ℕ) → need ≤ size → size ≤ 65536 → arg < 2 ^ 64 → Covers a (entry_registers size arg r)
+    (size arg : ℕ) → need ≤ size → size ≤ 65536 → arg < 2 ^ 64
+        → Covers a (entry_registers size arg r)

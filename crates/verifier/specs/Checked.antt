@@ -10,7 +10,8 @@ use Rattle.instruction_rules.specs.declared.state.State.{State}
 use Rattle.instruction_rules.specs.Covers.{IsWithin}
 use Rattle.instruction_rules.specs.States.{entry_state, transferred, fault}
 
--- a program, the helpers that it may call, what is known of the registers ahead of each slot, and the costs
+-- a program, the helpers that it may call, what is known of the registers ahead of each slot, and
+-- the costs
 pub record Checked : Type 0 where
   pub need : ℕ
   pub helpers : Table
@@ -19,7 +20,8 @@ pub record Checked : Type 0 where
   pub costs : List ℕ
 
 abbrev pub program_of : Checked → Program
-program_of p = record { need = p.need; code = p.code; costs = p.costs; registered = arity_in p.helpers }
+program_of p = record { need = p.need; code = p.code; costs = p.costs;
+    registered = arity_in p.helpers }
 
 abbrev pub state_at : Checked → ℕ → Option State
 state_at p slot = slice_index_or p.states slot None
@@ -27,7 +29,8 @@ state_at p slot = slice_index_or p.states slot None
 abbrev pub cost_at : Checked → ℕ → ℕ
 cost_at p slot = slice_index p.costs slot
 
--- The instruction is allowed where the registers are so, and what it leaves is covered at the end of each edge, which leads to an instruction.
+-- The instruction is allowed where the registers are so, and what it leaves is covered at the end
+-- of each edge, which leads to an instruction.
 pub record IsSoundAt (p : Checked) (slot : ℕ) (i : Insn) (state : State) : Type 0 where
   pub allowed : fault p.need p.helpers i state ≡ None
   pub covered : (fact : Fact) (next : ℕ) → IsEdge p.code slot fact next →
@@ -41,6 +44,7 @@ pub record IsVerified (p : Checked) : Type 0 where
   pub starts : Begins p.code 0
   pub few : length p.code ≤ 4096
   pub entry : (outer : State) × (state_at p 0 ≡ Some outer) × IsWithin (entry_state p.need) outer
-  pub each : (slot : ℕ) (i : Insn) (state : State) → insn_at p.code slot ≡ Some i → state_at p slot ≡ Some state → IsSoundAt p slot i state
+  pub each : (slot : ℕ) (i : Insn) (state : State) → insn_at p.code slot ≡ Some i
+      → state_at p slot ≡ Some state → IsSoundAt p slot i state
   pub costs : AreCosts p.code p.costs
   pub known : IsHelperTable p.helpers

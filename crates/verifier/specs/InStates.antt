@@ -13,8 +13,8 @@ pub record Subject : Type 0 where
   pub helpers : Table
   pub code : Code
 
--- What comes to a slot: nothing, where no edge leads there; something undefined, where an instruction ahead isn't
--- allowed; or a state.
+-- What comes to a slot: nothing, where no edge leads there; something undefined, where an
+-- instruction ahead isn't allowed; or a state.
 pub data InState : Type 0 where
   Unreached : InState
   Undefined : InState
@@ -33,7 +33,8 @@ unless (Some rule) state = Undefined
 
 -- what passes from an instruction to its edge with this fact, if it is allowed
 abbrev pub out_state : Subject → Option Insn → Fact → InState → InState
-out_state p (Some i) fact (Reached state) = unless (fault p.need p.helpers i state) (transferred i fact state)
+out_state p (Some i) fact (Reached state) =
+    unless (fault p.need p.helpers i state) (transferred i fact state)
 out_state p o fact a = a
 
 abbrev pub if_leads_to : Option ℕ → ℕ → InState → InState
@@ -42,13 +43,16 @@ if_leads_to (Some t) s a = if t == s then a else Unreached
 
 -- what passes the edge from slot k to s with this fact
 abbrev pub edge_state : Subject → (ℕ → InState) → ℕ → ℕ → Fact → InState
-edge_state p in_state s k fact = if_leads_to (leads_at p.code k fact) s (out_state p (insn_at p.code k) fact (in_state k))
+edge_state p in_state s k fact =
+    if_leads_to (leads_at p.code k fact) s (out_state p (insn_at p.code k) fact (in_state k))
 
 -- the join over all edges to s from the slots below n
 abbrev pub joined_edges : Subject → (ℕ → InState) → ℕ → ℕ → InState
 joined_edges p in_state s zero = Unreached
 joined_edges p in_state s (suc k) =
-    joined_in_state (joined_in_state (joined_in_state (joined_edges p in_state s k) (edge_state p in_state s k Always)) (edge_state p in_state s k NotTaken)) (edge_state p in_state s k Taken)
+    joined_in_state (joined_in_state (joined_in_state (joined_edges p in_state s k)
+        (edge_state p in_state s k Always)) (edge_state p in_state s k NotTaken))
+        (edge_state p in_state s k Taken)
 
 -- at the first slot the entry state arrives, elsewhere the join over all edges from slots below n
 abbrev pub in_state_by : Subject → (ℕ → InState) → ℕ → ℕ → InState
@@ -57,7 +61,8 @@ in_state_by p in_state (suc s) n = joined_edges p in_state (suc s) n
 
 -- this is what arrives at each slot
 abbrev pub AreInStates : Subject → (ℕ → InState) → Type 0
-AreInStates p in_state = (s : ℕ) → s < length p.code → in_state s ≡ in_state_by p in_state s (length p.code)
+AreInStates p in_state =
+    (s : ℕ) → s < length p.code → in_state s ≡ in_state_by p in_state s (length p.code)
 
 -- the same by paths of at most n slots
 abbrev pub in_state_within : Subject → ℕ → ℕ → InState

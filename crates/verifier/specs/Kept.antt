@@ -21,8 +21,10 @@ in_states p = map (λ s. state_of (in_state p s)) (range_with_len 0 (length p.co
 -- these are the states of the slots below n that are kept
 pub record AreKeptStates (p : Subject) (kept : List Kept) (n : ℕ) : Type 0 where
   pub count : length kept ≡ kept_below p.code n
-  pub each : (k : ℕ) (one : Kept) → slice_get kept k ≡ Some one → in_state p one.slot ≡ Reached one.state
-  pub found : (s : ℕ) → s < n → is_kept p.code s ≡ true → (k : ℕ) × (one : Kept) × (slice_get kept k ≡ Some one) × (one.slot ≡ s)
+  pub each : (k : ℕ) (one : Kept) → slice_get kept k ≡ Some one
+      → in_state p one.slot ≡ Reached one.state
+  pub found : (s : ℕ) → s < n → is_kept p.code s ≡ true → (k : ℕ) × (one : Kept)
+      × (slice_get kept k ≡ Some one) × (one.slot ≡ s)
 
 abbrev pub subject : ℕ → Table → Code → Subject
 subject need helpers code = record { need = need; helpers = helpers; code = code }

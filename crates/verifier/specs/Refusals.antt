@@ -19,7 +19,8 @@ use Rattle.verifier.specs.InStates.{Subject}
 use Rattle.verifier.specs.Checked.{Checked}
 use Rattle.verifier.specs.Verdict.{IsTable, RefusesStates}
 
--- each edge of the code leads to an instruction, no path leads back to its slot, and each instruction is reached
+-- each edge of the code leads to an instruction, no path leads back to its slot, and each
+-- instruction is reached
 pub record HasFlow (code : Code) : Type 0 where
   pub faultless : (slot : ℕ) → fault_at code slot ≡ None
   pub acyclic : (slot : ℕ) → IsOnCycle code slot → ⊥
@@ -43,9 +44,11 @@ pub record RefusesSubject (p : Subject) (refusal : Refusal) : Type 0 where
 -- the refusal of a program that was decoded
 abbrev pub RefusesPlaced : ℕ → List Placed → Table → Refusal → Type 0
 RefusesPlaced need placed helpers (Flow fault) = RefusesCode (code_of placed) fault
-RefusesPlaced need placed helpers refusal = RefusesSubject (record { need = need; helpers = helpers; code = code_of placed }) refusal
+RefusesPlaced need placed helpers refusal =
+    RefusesSubject (record { need = need; helpers = helpers; code = code_of placed }) refusal
 
-pub record RefusesDecoded (need : ℕ) (bytes : List ℕ) (helpers : Table) (refusal : Refusal) : Type 0 where
+pub record RefusesDecoded (need : ℕ) (bytes : List ℕ) (helpers : Table) (refusal : Refusal) :
+    Type 0 where
   pub small : need ≤ 65536
   pub placed : List Placed
   pub decoded : IsProgram placed bytes
@@ -58,7 +61,8 @@ RefusesProgram need bytes helpers (Codec fault) = (need ≤ 65536) × RefusesByt
 RefusesProgram need bytes helpers NoMemory = Unit {0}
 RefusesProgram need bytes helpers refusal = RefusesDecoded need bytes helpers refusal
 
--- the bytes spell the program, which is allowed, and the states and costs are those of its definition
+-- the bytes spell the program, which is allowed, and the states and costs are those of its
+-- definition
 pub record IsAccepted (need : ℕ) (bytes : List ℕ) (helpers : Table) (v : Checked) : Type 0 where
   pub same_need : v.need ≡ need
   pub small : need ≤ 65536

@@ -12,10 +12,12 @@ use Rattle.verifier.specs.InStates.{Subject, InState, Unreached, Reached, in_sta
 
 -- where a state arrives at the slot, its instruction is allowed
 abbrev pub IsAllowedAt : Subject → ℕ → Type 0
-IsAllowedAt p slot = (i : Insn) (state : State) → insn_at p.code slot ≡ Some i → in_state p slot ≡ Reached state →
+IsAllowedAt p slot = (i : Insn) (state : State) → insn_at p.code slot ≡ Some i
+    → in_state p slot ≡ Reached state →
     fault p.need p.helpers i state ≡ None
 
--- a state arrives at the slot, and this is the rule of the lowest number that its instruction breaks there
+-- a state arrives at the slot, and this is the rule of the lowest number that its instruction
+-- breaks there
 pub record IsFaulty (p : Subject) (slot : ℕ) (rule : Rule) : Type 0 where
   pub insn : Insn
   pub state : State

@@ -93,7 +93,8 @@ pub(crate) fn state_between(
     slot: u32,
 ) -> Result<Option<State>, NoMemory>
     requires slot { slot < length survey.now.graph.now.code }
-    requires kept { AreKeptStates (subject_of survey.now) kept.now (length survey.now.graph.now.code) }
+    requires kept { AreKeptStates (subject_of survey.now) kept.now
+        (length survey.now.graph.now.code) }
     requires allowed { (s : ℕ) → IsAllowedAt (subject_of survey.now) s }
     ensures { IfOk result (λ state. state ≡ state_of (in_state (subject_of survey.now) slot)) }
 {

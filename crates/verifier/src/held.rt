@@ -53,8 +53,8 @@ impl Held {
         transfer(&mut self.state, insn, taken, left);
     }
 
-    /// Joins the state into the one at a place. A box that is no longer needed is reused for the next
-    /// copy.
+    /// Joins the state into the one at a place. A box that is no longer needed is reused for the
+    /// next copy.
     #[inline(always)]
     pub(crate) fn join_into(self, place: &mut Option<Held>, boxes: &mut Boxes)
         ensures { place.new ≡ joined_into place.old self }

@@ -1,5 +1,5 @@
-//! The in-state of each slot: a dataflow analysis that visits a program's instructions in an order in
-//! which each edge leads to a later place.
+//! The in-state of each slot: a dataflow analysis that visits a program's instructions in an order
+//! in which each edge leads to a later place.
 
 ghost use Rattle.std.specs.Prelude.{◌≡◌, ◌≢◌, ℕ, ◌+◌, ◌<◌, ◌≤◌, length, slice_index, slice_index_or, suc, Option, Some, None, true, IfOk, OnOk, MatchResult, if◌then◌else◌};
 ghost use Rattle.machine_model.specs.Edges.{Begins, insn_at, leads_at, Always, NotTaken, Taken};
@@ -47,7 +47,8 @@ pub(crate) struct Survey<'a> {
     pub(crate) graph: &'a Graph,
 }
 
-/// An instruction that was visited: its slot, where it leads, and what it leaves in its destination.
+/// An instruction that was visited: its slot, where it leads, and what it leaves in its
+/// destination.
 #[derive(Clone, Copy)]
 pub(crate) struct Visited<'a> {
     pub(crate) from: u32,
@@ -135,7 +136,8 @@ fn propagate_edges(
     ensures joined { OnOk result ((state : State)
         → Some state ≡ slice_index_or states.old visited.now.from None →
         in_state_of (slice_index_or states.new to None)
-        ≡ joined_in_state (joined_in_state (joined_in_state (in_state_of (slice_index_or states.old to None))
+        ≡ joined_in_state (joined_in_state
+            (joined_in_state (in_state_of (slice_index_or states.old to None))
         (if_leads_to (leads_at graph.now.code visited.now.from Always) to
         (Reached (transferred visited.now.insn.now Always state))))
         (if_leads_to (leads_at graph.now.code visited.now.from NotTaken) to
@@ -159,8 +161,8 @@ fn propagate_edges(
     }
 }
 
-/// Propagates from a visited slot to `to`, whose next source it is. The visited slot keeps its state
-/// as long as another slot needs it.
+/// Propagates from a visited slot to `to`, whose next source it is. The visited slot keeps its
+/// state as long as another slot needs it.
 #[inline(always)]
 fn propagate_to(
     boxes: &mut Boxes,
@@ -250,7 +252,8 @@ fn propagate_waiting(
     place: usize,
 ) -> Result<(), NoMemory>
     requires place { place < length survey.now.graph.now.order }
-    requires propagated { HasPropagated (subject_of survey.now) survey.now.graph.now.order place sources.old
+    requires propagated { HasPropagated (subject_of survey.now) survey.now.graph.now.order place
+        sources.old
         states.old }
     ensures propagated { OnOk result
         (HasPropagated (subject_of survey.now) survey.now.graph.now.order place sources.new
@@ -365,7 +368,8 @@ fn visit(
     place: usize,
 ) -> Result<Option<Fault>, NoMemory>
     requires place { place < length survey.now.graph.now.order }
-    requires propagated { HasPropagated (subject_of survey.now) survey.now.graph.now.order place sources.old
+    requires propagated { HasPropagated (subject_of survey.now) survey.now.graph.now.order place
+        sources.old
         states.old }
     requires regions { length regions.old ≡ length survey.now.graph.now.code }
     ensures propagated { OnOk result
@@ -467,7 +471,8 @@ fn kept(
         (state : State) × (slice_index_or states.old s None ≡ Some state)
         × (in_state (subject_of survey.now) s ≡ Reached state) }
     ensures { IfOk result
-        (λ kept. AreKeptStates (subject_of survey.now) kept.items (length survey.now.graph.now.code)) }
+        (λ kept. AreKeptStates (subject_of survey.now) kept.items
+            (length survey.now.graph.now.code)) }
 {
     let slots = survey.graph.slots();
     let mut kept = Vec::new(alloc);

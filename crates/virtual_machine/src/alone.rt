@@ -24,7 +24,8 @@ pub fn run_alone(
     requires small { length bytes.old ≤ 65536 }
     requires cost { cost_at code.now 0 ≤ credit }
     requires limit { credit ≤ 2147483647 }
-    ensures runs { RunsOn code.now (called functions.old.places.items) arg credit bytes.old result.r0
+    ensures runs { RunsOn code.now (called functions.old.places.items) arg credit bytes.old
+        result.r0
         result.used bytes.new }
     ensures functions { functions.new ≡ functions.old }
 {

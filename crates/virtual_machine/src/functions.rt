@@ -79,7 +79,8 @@ impl Spawner for Functions {
 
     ghost spawns = { λ s child reply s'. (s' ≡ s) × (reply ≡ Err child) };
 
-    ghost calls = { λ s id arguments answer s'. (s' ≡ s) × may_answer (function_of s.places.items id) arguments answer };
+    ghost calls = { λ s id arguments answer s'. (s' ≡ s)
+        × may_answer (function_of s.places.items id) arguments answer };
 
     fn entry(&self, _program: u64) -> Option<Entry> {
         None

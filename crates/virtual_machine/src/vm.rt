@@ -28,7 +28,8 @@ pub struct Vm {
     helpers: HelperTable,
     functions: Functions,
     /// The program was verified with the same helpers.
-    ghost same: { (p : Checked) → program ≡ Some p → AreSameHelpers p.helpers helpers } by { Prim.hlevel props },
+    ghost same: { (p : Checked) → program ≡ Some p
+        → AreSameHelpers p.helpers helpers } by { Prim.hlevel props },
     /// Each helper that was registered has its function.
     ghost have: { HaveFunctions helpers functions.places.items },
 }
@@ -72,8 +73,8 @@ impl Vm {
         Ok(())
     }
 
-    /// Sets a program that was verified before, which asks that it was with the machine's helpers: by
-    /// each id a helper with as many arguments, or none.
+    /// Sets a program that was verified before, which asks that it was with the machine's helpers:
+    /// by each id a helper with as many arguments, or none.
     pub fn set_verified(&mut self, program: Verified)
         requires { AreSameHelpers program.helpers (helpers_in self.old) }
         ensures program { program_in self.new ≡ Some program }
@@ -149,7 +150,8 @@ impl Vm {
     ) -> Result<(), RegisterFault>
         requires callable { Function.IsAlwaysCallable function }
         ensures may { OnOk result (IsRegistrable id arity (program_in self.old)) }
-        ensures may_not { IfErr result (λ fault. IsUnregistrable id arity (program_in self.old) fault) }
+        ensures may_not { IfErr result (λ fault.
+            IsUnregistrable id arity (program_in self.old) fault) }
         ensures arity { OnOk result ((other : ℕ) →
             arity_in (helpers_in self.new) other
             ≡ (if other == id then Some arity else arity_in (helpers_in self.old) other)) }

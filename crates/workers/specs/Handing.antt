@@ -11,14 +11,17 @@ use Rattle.workers.specs.declared.locked_book.LockedBook.{LockedBook}
 use Rattle.workers.specs.declared.locked_book.Found.{Found}
 use Rattle.workers.specs.declared.locked_book.Found.TheVariants.{Ready, Nothing, Refusal}
 
--- The ticket is of a lane, or was parked where the worker's own lane had none. It is the task whose turn it is. Where the book has
--- refused an end a ticket may have been taken, which nobody runs any more.
+-- The ticket is of a lane, or was parked where the worker's own lane had none. It is the task whose
+-- turn it is. Where the book has refused an end a ticket may have been taken, which nobody runs any
+-- more.
 abbrev pub Finds : Moved → Found → Moved → ℕ → Type 0
-Finds old (Ready ticket) new turn = (turn ≡ ticket.number) × (IsTaken old ticket new ⊎ IsIdle old new)
+Finds old (Ready ticket) new turn =
+    (turn ≡ ticket.number) × (IsTaken old ticket new ⊎ IsIdle old new)
 Finds old Nothing new turn = IsIdle old new
 Finds old Refusal new turn = IsIdle old new ⊎ ((ticket : Ticket) × IsTaken old ticket new)
 
--- into the worker's own lane, or, where there was no room for it, elsewhere; no lane lost anything by it
+-- into the worker's own lane, or, where there was no room for it, elsewhere; no lane lost anything
+-- by it
 abbrev pub IsKept : Moved → Ticket → Moved → Type 0
 IsKept old ticket new = Puts old (ticket ∷ []) new ⊎ (new ≡ old)
 
@@ -28,18 +31,25 @@ pub record IsHanded (old : Moved) (child : SpawnRecord) (new : Moved) : Type 0 w
   pub number : ℕ
   pub kept : IsKept old (ticket_of job number child) new
 
--- into the worker's own lane, and the desk is as it was; or it is parked at the desk, and the lanes are as they were
+-- into the worker's own lane, and the desk is as it was; or it is parked at the desk, and the lanes
+-- are as they were
 abbrev pub IsKeptBeside : Moved → LockedBook → Ticket → Moved → LockedBook → Type 0
 IsKeptBeside lanes desk ticket lanes_after desk_after =
-    (Puts lanes (ticket ∷ []) lanes_after × (desk_after ≡ desk)) ⊎ ((lanes_after ≡ lanes) × IsParked desk ticket desk_after)
+    (Puts lanes (ticket ∷ []) lanes_after × (desk_after ≡ desk))
+        ⊎ ((lanes_after ≡ lanes) × IsParked desk ticket desk_after)
 
--- The book at the desk has this child, whose parent is the task whose turn it is. Its ticket is kept.
-pub record IsHandedAt (turn : ℕ) (child : SpawnRecord) (lanes : Moved) (desk : LockedBook) (lanes_after : Moved) (desk_after : LockedBook) : Type 0 where
+-- The book at the desk has this child, whose parent is the task whose turn it is. Its ticket is
+-- kept.
+pub record IsHandedAt (turn : ℕ) (child : SpawnRecord) (lanes : Moved) (desk : LockedBook)
+    (lanes_after : Moved) (desk_after : LockedBook) : Type 0 where
   pub spawned : LockedBook
   pub refused : spawned.has_refused ≡ desk.has_refused
   pub waiting : spawned.book.waiting ≡ desk.book.waiting
-  pub event : HasMore desk.book (spawn_event turn (length (table_of desk.book.history).standings) child) spawned.book
-  pub kept : IsKeptBeside lanes spawned (ticket_of desk.book.board.job (length (table_of desk.book.history).standings) child) lanes_after desk_after
+  pub event : HasMore desk.book
+      (spawn_event turn (length (table_of desk.book.history).standings) child) spawned.book
+  pub kept : IsKeptBeside lanes spawned
+      (ticket_of desk.book.board.job (length (table_of desk.book.history).standings) child)
+      lanes_after desk_after
 
 -- behind those that are held back, or to the book, with all of them
 abbrev pub IsHeldBack : List Outcome → Outcome → List Outcome → Type 0

@@ -9,8 +9,8 @@ use Rattle.credit_book.specs.declared.task.Ticket.{Ticket}
 use Rattle.task_trees.specs.Solo.{SpawnRequest, IsGiven, Solo, entering}
 use Rattle.workers.specs.declared.noting.Note.{Note}
 
--- A task of this program, argument and credit gives this R0 and uses so much by itself, on some part that suffices for the program and
--- under some answers.
+-- A task of this program, argument and credit gives this R0 and uses so much by itself, on some
+-- part that suffices for the program and under some answers.
 pub record GivesAlone (programs : List Checked) (number arg given r0 used : ℕ) : Type 0 where
   pub program : Checked
   pub named : slice_get programs number ≡ Some program
@@ -18,7 +18,8 @@ pub record GivesAlone (programs : List Checked) (number arg given r0 used : ℕ)
   pub suffices : IsGiven (program_of program) given bytes
   pub asked : List SpawnRequest
   pub last : State
-  pub alone : Solo (program_of program) (entries_of (map program_of programs)) (entering arg given bytes) asked r0 last
+  pub alone : Solo (program_of program) (entries_of (map program_of programs))
+      (entering arg given bytes) asked r0 last
   pub used_is : used ≡ last.used
 
 abbrev pub NotedAlone : List Checked → Note → Type 0
@@ -81,9 +82,11 @@ AreNumbered ends = (n : ℕ) (end : TaskEnd) → slice_get ends n ≡ Some end �
 
 -- no two notes have one number
 abbrev pub AreOnce : List Note → Type 0
-AreOnce notes = (i j : ℕ) (a b : Note) → slice_get notes i ≡ Some a → slice_get notes j ≡ Some b → a.number ≡ b.number → i ≡ j
+AreOnce notes = (i j : ℕ) (a b : Note) → slice_get notes i ≡ Some a → slice_get notes j ≡ Some b
+    → a.number ≡ b.number → i ≡ j
 
--- The notes and the report say the same: each task that ran has a note, each note is of one that ran, and no number is noted twice. What wasn't run spent nothing.
+-- The notes and the report say the same: each task that ran has a note, each note is of one that
+-- ran, and no number is noted twice. What wasn't run spent nothing.
 pub record Agrees (notes : List Note) (ends : List TaskEnd) : Type 0 where
   pub ended : All (EndedAs notes) ends
   pub noted : All (λ note. (end : TaskEnd) × Contains ends end × IsNoteOf note end) notes

@@ -12,8 +12,8 @@ struct Visit<'a> {
 }
 
 /// Whether a worker is at the desk. A task that spawns many children spawns them in a row, and a
-/// worker that let go of the desk in between would wait for it again at each. So it stays, and leaves
-/// once a stretch of the task has gone by without a spawn, at its end at the latest.
+/// worker that let go of the desk in between would wait for it again at each. So it stays, and
+/// leaves once a stretch of the task has gone by without a spawn, at its end at the latest.
 #[derive(Drop)]
 pub(crate) struct HeldLock<'a> {
     visit: RefCell<Option<Visit<'a>>>,

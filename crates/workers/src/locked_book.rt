@@ -108,7 +108,8 @@ impl LockedBook {
     }
 
     /// The report of the desk's own book, which is that of a job with this number, this credit and
-    /// this many bytes, once no task is alive: 82 where the book has refused an end, a task is alive, or the job is another.
+    /// this many bytes, once no task is alive: 82 where the book has refused an end, a task is
+    /// alive, or the job is another.
     pub fn close(self, job: u64, issued: u32, size: usize) -> Result<Report, PoolFault>
         ensures report { IfOk result (λ report. IsFinal job issued size report) }
         ensures accepted { IfOk result (λ _. self.has_refused ≡ false) }

@@ -120,8 +120,8 @@ pub(crate) fn agrees(alloc: Global, ends: &[TaskEnd], notes: &[Note]) -> Result<
     }
 }
 
-/// Runs the ticket's task, and notes how it ended. The task isn't run where there is no room for the
-/// note.
+/// Runs the ticket's task, and notes how it ended. The task isn't run where there is no room for
+/// the note.
 pub(crate) fn run_noted<S: Spawner, G: Gate + Listener>(
     alloc: Global,
     ticket: Ticket,

@@ -209,7 +209,8 @@ pub fn run_job<R: Threads + Wait + Sync, G: Gate + Sync>(
 ) -> Result<Report, PoolFault>
     requires workers { (1 ≤ workers) × (workers ≤ 16) }
     requires post { post.board.issued ≡ job.credit }
-    ensures report { IfOk result (λ report. IsFinal post.board.job job.credit (length job.buffer) report) }
+    ensures report { IfOk result (λ report.
+        IsFinal post.board.job job.credit (length job.buffer) report) }
     ensures alone { IfOk result (λ report. All (EndedAlone job.programs) report.tasks.items) }
 {
     let mut post = post;

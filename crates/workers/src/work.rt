@@ -83,8 +83,8 @@ fn run_ticket<'c, 's, 'g, S: Spawner, G: Gate + Listener>(
     (outcome, spawner)
 }
 
-/// Runs the ticket's task to its end, by itself, on a frame of zeros, or not at all. The gate is told
-/// how it goes on as well.
+/// Runs the ticket's task to its end, by itself, on a frame of zeros, or not at all. The gate is
+/// told how it goes on as well.
 ///
 /// The task isn't run where no frame can be had, or where the list has no program of its number,
 /// its credit is under the program's cost or over 2,147,483,647, or its part is shorter than the

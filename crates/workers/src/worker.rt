@@ -225,7 +225,8 @@ impl<'a, 'b, R: Wait> Worker<'a, 'b, R> {
         ensures same { (self.new.shared ≡ self.old.shared) × (self.new.lanes ≡ self.old.lanes)
             × (self.new.turn ≡ self.old.turn) }
         ensures refused { IsTrue result ↔ (desk.new.has_refused ≡ false) }
-        ensures ended { (between : LockedBook) × AreEnded desk.old (reverse self.old.ended.items) between
+        ensures ended { (between : LockedBook)
+            × AreEnded desk.old (reverse self.old.ended.items) between
             × IsEnded between outcome desk.new }
         ensures all { self.new.ended.items ≡ [] }
     {
@@ -288,7 +289,9 @@ impl<R: Wait> Spawner for Worker<'_, '_, R> {
 
     ghost asks = { λ hands child. Unit {0} };
 
-    ghost spawns = { λ old child reply new. MatchResult reply (λ _. IsHanded old.lanes child new.lanes × (new.shared ≡ old.shared) × (new.turn ≡ old.turn) × (new.ended ≡ old.ended)) (λ _. new ≡ old) };
+    ghost spawns = { λ old child reply new.
+        MatchResult reply (λ _. IsHanded old.lanes child new.lanes × (new.shared ≡ old.shared)
+        × (new.turn ≡ old.turn) × (new.ended ≡ old.ended)) (λ _. new ≡ old) };
 
     ghost calls = { λ old helper arguments answer new. (answer ≡ 0) × (new ≡ old) };
 
