@@ -1,6 +1,7 @@
 -- How a source text is read, and what a refusal says.
 use Rattle.std.specs.Prelude.{◌≡◌, ℕ, ◌+◌, ◌*◌, ◌<◌, ◌==◌, Bool, ◌||◌, List, [], ◌∷◌, ◌++◌, length, map, reverse, Option, Some, None, if◌then◌else◌}
 use Rattle.std.specs.List.{slice_split, AllByRecursion}
+use Rattle.insn_codec.specs.Limits.{max_slots}
 use Rattle.insn_codec.specs.declared.insn.Insn.{Insn}
 use Rattle.insn_codec.specs.Spelling.{IsInsn, spellings, IsWhole}
 use Rattle.disassembler.specs.Line.{line_text}
@@ -67,7 +68,7 @@ IsTextRefusal (fault.BadOperand n) lines = IsAtLine n lines IsBadOperand
 IsTextRefusal (fault.NumberRange n) lines = IsAtLine n lines IsOutOfRange
 IsTextRefusal fault.Empty lines = lines ≡ []
 IsTextRefusal fault.TooLong lines =
-    (insns : List Insn) × AreLinesOf insns lines × (8 * 4096 < length (spellings insns))
+    (insns : List Insn) × AreLinesOf insns lines × (8 * max_slots < length (spellings insns))
 IsTextRefusal fault.NoMemory lines = 0 < length lines
 
 -- ---- one line more

@@ -3,6 +3,7 @@
 #![tactic(auto)]
 
 ghost use Rattle.std.specs.Prelude.{◌≤◌};
+ghost use Rattle.machine_model.specs.Limits.{max_credit};
 
 use bpfjobs_cli::{Answer, Usage, tell};
 use bpfrun_core::{Asked, Request, answer, form_of, request};
@@ -62,7 +63,7 @@ fn tried<R: Files + Print + Eprint + AllocGlobal>(
     request: &Request<'_>,
     memory: Option<Vec<u8>>,
 ) -> u8
-    requires { request.now.credit ≤ 2147483647 }
+    requires { request.now.credit ≤ max_credit }
 {
     let Some(input) = contents(rt, request.file) else {
         return FAILED;
@@ -82,7 +83,7 @@ fn tried<R: Files + Print + Eprint + AllocGlobal>(
 
 // Does what the words ask for, and gives the status.
 fn act<R: Files + Print + Eprint + AllocGlobal>(rt: &R, request: &Request<'_>) -> u8
-    requires { request.now.credit ≤ 2147483647 }
+    requires { request.now.credit ≤ max_credit }
 {
     let Some(path) = request.memory else {
         return tried(rt, request, None);

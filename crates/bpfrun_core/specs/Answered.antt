@@ -1,6 +1,7 @@
 -- What is answered to a program.
 use Rattle.std.specs.Prelude.{◌≡◌, ◌≢◌, ℕ, min, List, length, [], Bool, true, Option, Some, None, option_map, if◌then◌else◌}
 use Rattle.std.proofs.Math.ListN.{replicate}
+use Rattle.machine_model.specs.Limits.{max_part}
 use Rattle.helpers.specs.Table.{job_table}
 use Rattle.verifier.specs.declared.refusals.Refusal.{Refusal}
 use Rattle.verifier.specs.Refusals.{RefusesProgram}
@@ -18,13 +19,13 @@ use Rattle.bpfrun_core.specs.Runs.{IsProgramRun, IsStopped}
 -- how many bytes of its part a program needs: what is said, or else all of its memory
 abbrev pub need_of : Option ℕ → Option (List ℕ) → ℕ
 need_of (Some need) memory = need
-need_of None (Some bytes) = min (length bytes) 65536
+need_of None (Some bytes) = min (length bytes) max_part
 need_of None None = 0
 
 -- its memory, or else as many zeros as it needs
 abbrev pub part_of : Option ℕ → Option (List ℕ) → List ℕ
 part_of need (Some bytes) = bytes
-part_of need None = replicate (min (need_of need None) 65536) 0
+part_of need None = replicate (min (need_of need None) max_part) 0
 
 -- a memory that is shown
 abbrev pub shown : Bool → List ℕ → Option (List ℕ)

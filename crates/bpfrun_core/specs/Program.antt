@@ -1,5 +1,6 @@
 -- The program's command line, in clap's plain words.
 use Rattle.std.specs.Prelude.{[], ◌∷◌, codes, pos, Some, true}
+use Rattle.machine_model.specs.Limits.{max_credit}
 use Rattle.clap.specs.Words.{App, Rule, new_app, new_rule, with_rule}
 use Rattle.clap.specs.declared.builder.action.ArgAction.TheVariants.{SetTrue}
 use Rattle.clap.specs.declared.builder.value_parser.ValueParser.TheVariants as vp
@@ -13,7 +14,7 @@ need_rule = record (new_rule (codes "need")) { long = Some (codes "need"); value
 
 abbrev pub credit_rule : Rule
 credit_rule = record (new_rule (codes "credit")) { long = Some (codes "credit"); value_names = 1;
-    defaults = codes "2147483647" ∷ []; parser = Some (vp.Signed (pos 0) (pos 2147483647)) }
+    defaults = codes "2147483647" ∷ []; parser = Some (vp.Signed (pos 0) (pos max_credit)) }
 
 abbrev pub arg_rule : Rule
 arg_rule = record (new_rule (codes "arg")) { long = Some (codes "arg"); value_names = 1;

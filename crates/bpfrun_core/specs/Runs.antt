@@ -1,5 +1,6 @@
 -- What a program comes to on a memory: its run by itself, or why it doesn't run.
 use Rattle.std.specs.Prelude.{◌≡◌, ◌≢◌, ℕ, ◌<◌, ◌≤◌, List, length, Some}
+use Rattle.machine_model.specs.Limits.{max_part}
 use Rattle.helpers.specs.Table.{job_table}
 use Rattle.machine_model.specs.Alone.{MayAnswer}
 use Rattle.verifier.specs.declared.refusals.Refusal.{Refusal}
@@ -17,7 +18,7 @@ unanswered helper arguments answer = ⊥
 -- the program is accepted, and runs with R0 and what it used of the credit, and leaves these bytes
 pub record IsProgramRun (need : ℕ) (code : List ℕ) (arg credit : ℕ) (old : List ℕ) (r0 used : ℕ)
     (left : List ℕ) : Type 0 where
-  pub small : length old ≤ 65536
+  pub small : length old ≤ max_part
   pub program : Checked
   pub accepted : IsAccepted need code job_table program
   pub runs : ExecutesOn (Some program) unanswered arg credit old r0 used left
@@ -33,13 +34,13 @@ abbrev pub IsStopped : ℕ → List ℕ → ℕ → List ℕ → Fault → Type 
 IsStopped need code credit memory fault.NotText = ⊥
 IsStopped need code credit memory fault.NotHexadecimal = ⊥
 IsStopped need code credit memory (fault.Text why) = ⊥
-IsStopped need code credit memory fault.MemoryTooLarge = 65536 < length memory
+IsStopped need code credit memory fault.MemoryTooLarge = max_part < length memory
 IsStopped need code credit memory (fault.Program why) =
-    (length memory ≤ 65536) × RefusesProgram need code job_table why × (why ≢ refusal.NoMemory)
+    (length memory ≤ max_part) × RefusesProgram need code job_table why × (why ≢ refusal.NoMemory)
 IsStopped need code credit memory (fault.CreditLow wanted given) =
-    (length memory ≤ 65536) × IsShort need code (λ p. (credit < cost_at p 0)
+    (length memory ≤ max_part) × IsShort need code (λ p. (credit < cost_at p 0)
         × (wanted ≡ cost_at p 0) × (given ≡ credit))
 IsStopped need code credit memory (fault.MemoryShort wanted given) =
-    (length memory ≤ 65536) × IsShort need code (λ p. (cost_at p 0 ≤ credit)
+    (length memory ≤ max_part) × IsShort need code (λ p. (cost_at p 0 ≤ credit)
         × (length memory < p.need) × (wanted ≡ p.need) × (given ≡ length memory))
 IsStopped need code credit memory fault.NoMemory = Unit {0}

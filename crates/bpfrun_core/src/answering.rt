@@ -5,6 +5,7 @@ ghost use Rattle.helpers.specs.Table.{job_table};
 ghost use Rattle.verifier.specs.Refusals.{RefusesProgram};
 ghost use Rattle.bpfrun_core.specs.Answered.{PrintsRefusal, IsJudged, IsRejected, IsTried, need_of, part_of};
 ghost use Rattle.bpfrun_core.specs.declared.fault.Fault.TheVariants as fault_variant;
+ghost use Rattle.machine_model.specs.Limits.{max_credit};
 
 use crate::fault::Fault;
 use crate::form::Form;
@@ -15,12 +16,10 @@ use crate::telling::{tell_refusal, tell_run};
 use bpfjobs_cli::Answer;
 use explain::explain;
 use helpers::HelperTable;
+use machine_model::MAX_PART;
 use refusal::NoMemory;
 use std::alloc::Global;
 use verifier::Refusal;
-
-// The most bytes that a program may need.
-const MAX_NEED: usize = 65536;
 
 /// How a program is tried.
 #[derive(Clone, Copy, Debug, PartialEq, Eq)]
@@ -42,7 +41,7 @@ fn need_of(need: Option<u32>, memory: Option<&[u8]>) -> u32
     match need {
         Some(need) => need,
         None => match memory {
-            Some(memory) => memory.len().min(MAX_NEED) as u32,
+            Some(memory) => memory.len().min(MAX_PART) as u32,
             None => 0,
         },
     }
@@ -120,7 +119,7 @@ fn answer_code(
     memory: &mut [u8],
     is_shown: bool,
 ) -> Result<Answer, NoMemory>
-    requires limit { asked.now.credit ≤ 2147483647 }
+    requires limit { asked.now.credit ≤ max_credit }
     ensures { IfOk result
         (λ answer. IsJudged asked.now need input.now code.now memory.old memory.new is_shown
         answer.text.items answer.status) }
@@ -143,7 +142,7 @@ fn answer_input(
     memory: &mut [u8],
     is_shown: bool,
 ) -> Result<Answer, NoMemory>
-    requires limit { asked.now.credit ≤ 2147483647 }
+    requires limit { asked.now.credit ≤ max_credit }
     ensures { IfOk result
         (λ answer. IsTried asked.now need input.now memory.old memory.new is_shown
         answer.text.items answer.status) }
@@ -164,7 +163,7 @@ pub fn answer(
     input: &[u8],
     memory: Option<Vec<u8>>,
 ) -> Result<Answer, NoMemory>
-    requires limit { asked.now.credit ≤ 2147483647 }
+    requires limit { asked.now.credit ≤ max_credit }
     ensures { IfOk result (λ answer. (left : List ℕ)
         × IsTried asked.now (need_of asked.now.need (option_map (λ m. m.items) memory))
         input.now
@@ -178,7 +177,7 @@ pub fn answer(
         }
         None => {
             let need = need_of(asked.need, None);
-            let mut zeros = vec![in alloc; 0u8; (need as usize).min(MAX_NEED)]?;
+            let mut zeros = vec![in alloc; 0u8; (need as usize).min(MAX_PART)]?;
             answer_input(alloc, asked, need, input, &mut zeros, false)
         }
     }

@@ -2,14 +2,13 @@
 
 ghost use Rattle.std.specs.Prelude.{◌≡◌, ◌≤◌, MatchResult};
 ghost use Rattle.bpfrun_core.specs.Runs.{IsProgramRun, IsStopped};
+ghost use Rattle.machine_model.specs.Limits.{max_credit};
 
 use crate::fault::Fault;
+use machine_model::MAX_PART;
 use std::alloc::Global;
 use verifier::Refusal;
 use virtual_machine::{Executed, Vm, VmFault};
-
-// The most bytes that a part has.
-const MAX_PART: usize = 65536;
 
 /// Verifies a program of this need, with the helpers of a job, and runs it by itself with the
 /// memory as its part. The answer is R0 and what was used of the credit; the memory is as the run
@@ -26,7 +25,7 @@ pub fn run(
     arg: u64,
     credit: u32,
 ) -> Result<Executed, Fault>
-    requires limit { credit ≤ 2147483647 }
+    requires limit { credit ≤ max_credit }
     ensures { MatchResult result
         (λ done. IsProgramRun need code.now arg credit memory.old done.r0 done.used memory.new)
         (λ fault. IsStopped need code.now credit memory.old fault × (memory.new ≡ memory.old)) }

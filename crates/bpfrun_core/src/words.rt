@@ -5,11 +5,13 @@ ghost use Rattle.clap.specs.Words.{Text, first_of, found_of, matches_of, rows_of
 ghost use Rattle.bpfjobs_cli.specs.Commands.{IsNumberIn};
 ghost use Rattle.bpfrun_core.specs.Program.{bpfrun_app};
 ghost use Rattle.bpfrun_core.specs.Requests.{IsMaybeNumber, IsRequestOf, IsBpfrunUsage, SaysRequest};
+ghost use Rattle.machine_model.specs.Limits.{max_credit};
 
 use crate::asked::Request;
 use crate::program::bpfrun;
 use bpfjobs_cli::Usage;
 use clap::ArgMatches;
+use machine_model::MAX_CREDIT;
 use std::alloc::Global;
 
 // The number of an argument that has one, up to high.
@@ -59,13 +61,13 @@ fn flag(matches: &ArgMatches<'_>, id: &str) -> bool
 fn request_of<'a>(matches: &ArgMatches<'a>) -> Request<'a>
     requires { SaysRequest (rows_of (found_of matches.now)) }
     ensures parts { IsRequestOf (rows_of (found_of matches.now)) result }
-    ensures limit { result.credit ≤ 2147483647 }
+    ensures limit { result.credit ≤ max_credit }
 {
     Request {
         file: file(matches),
         memory: matches.get_str("memory"),
         need: need(matches),
-        credit: number(matches, "credit", 2147483647) as u32,
+        credit: number(matches, "credit", u64::from(MAX_CREDIT)) as u32,
         arg: number(matches, "arg", u64::MAX),
         explains: flag(matches, "explain"),
     }
@@ -77,7 +79,7 @@ fn request_of<'a>(matches: &ArgMatches<'a>) -> Request<'a>
 pub fn request<'a>(alloc: Global, words: &'a [String]) -> Result<Request<'a>, Usage>
     ensures ok { IfOk result
         (λ request. IsRequestOf (matches_of bpfrun_app (map string_bytes words.now)) request) }
-    ensures limit { IfOk result (λ request. request.credit ≤ 2147483647) }
+    ensures limit { IfOk result (λ request. request.credit ≤ max_credit) }
     ensures err { IfErr result (λ usage. IsBpfrunUsage usage (map string_bytes words.now)) }
 {
     match bpfrun(alloc)?.try_get_matches_from(words) {

@@ -4,6 +4,7 @@ ghost use Rattle.std.specs.Arc.{arc_value};
 ghost use mathlib.Core.List.{IsPrefix};
 ghost use Rattle.credit_book.specs.declared.event.Event.TheVariants.{Open};
 ghost use Rattle.credit_book.specs.History.{IsHistoryOf, IsComplete, table_of, spent_in, returned_in, word_of};
+ghost use Rattle.machine_model.specs.Limits.{max_credit};
 
 use crate::past::Past;
 use crate::seats::{Chronicle, Opening, Publishes, Ruled, Sees, Tells, View};
@@ -156,7 +157,7 @@ impl Board {
         job: u64,
         issued: u32,
     ) -> Result<(Arc<Board>, Post, Reader), NoMemory>
-        requires { (1 ≤ issued) × (issued ≤ 2147483647) }
+        requires { (1 ≤ issued) × (issued ≤ max_credit) }
         ensures board { IfOk result (λ r. ((arc_value r.0).job ≡ job)
             × ((arc_value r.0).issued ≡ issued)) }
         ensures post { IfOk result (λ r. (r.1.board ≡ arc_value r.0)

@@ -40,7 +40,7 @@ impl Model for Book {
     ghost use Rattle.std.specs.Prelude.{map, length, ◌≤◌};
     ghost use Rattle.std.specs.VecDeque.{deque_capacity};
     ghost use Rattle.credit_book.specs.Books.{Account, IsBook, IsPosted};
-    ghost use Rattle.credit_book.specs.Buffers.{IsCollected};
+    ghost use Rattle.credit_book.specs.Buffers.{IsLeftBuffer};
 
     ghost Value = { Account };
 
@@ -50,7 +50,7 @@ impl Model for Book {
     ghost invariant = { λ b. IsBook b.writer.board b.past b.standings.items b.report.tasks.items
         (map (λ t. t.number) b.parked.items) b.report.spent b.report.returned
         × (length b.standings.items ≤ deque_capacity b.parked) × IsPosted b.writer.history b.past
-        × IsCollected b.report.buffer.items b.past };
+        × IsLeftBuffer b.report.buffer.items b.past };
 }
 
 impl Stage {

@@ -1,5 +1,6 @@
 -- What a graph keeps of its program.
 use Rattle.std.specs.Prelude.{◌≡◌, ℕ, ◌+◌, ◌≤◌, ◌<◌, List, length, slice_index, Some, None, IsSome}
+use Rattle.insn_codec.specs.Limits.{max_slots}
 use Rattle.insn_codec.specs.declared.insn.Insn.TheVariants.{Exit}
 use Rattle.machine_model.specs.Edges.{Code, Fact, Always, NotTaken, Taken, IsEdge, Begins, insn_at, leads_at, target}
 use Rattle.machine_model.specs.Paths.{IsReached}
@@ -18,7 +19,7 @@ pub record Flow : Type 0 where
 pub record IsJoined (code : Code) : Type 0 where
   pub starts : 0 < length code
   pub opens : Begins code 0
-  pub few : length code ≤ 4096
+  pub few : length code ≤ max_slots
   pub faultless : (slot : ℕ) → fault_at code slot ≡ None
   pub lands : (p : ℕ) (fact : Fact) (s : ℕ) → IsEdge code p fact s → (s < length code)
       × Begins code s

@@ -90,6 +90,7 @@ impl Graph {
 ghost use Rattle.std.specs.Prelude.{◌↔◌, IsTrue};
 ghost use Rattle.machine_model.specs.Edges.{Begins};
 ghost use Rattle.flow_graph.specs.Flow.{AreNext, IsJoined, IsNext, HasTarget};
+ghost use Rattle.insn_codec.specs.Limits.{max_slots};
 
 /// The instruction that begins at the slot.
 fn insn_at(code: &[Option<Insn>], slot: u32) -> Option<&Insn>
@@ -114,7 +115,7 @@ pub(crate) fn begins_at(code: &[Option<Insn>], slot: u32) -> bool
 /// The slots that an instruction leads to which goes on in this way.
 #[inline(always)]
 fn next_after(onward: Onward, slot: u32) -> Next
-    requires slot { slot < 4096 }
+    requires slot { slot < max_slots }
     requires target { HasTarget onward slot }
     ensures { IsNext onward slot result }
 {

@@ -2,6 +2,7 @@
 use Rattle.std.specs.Prelude.{◌≡◌, ◌≢◌, ◌⊎◌, ℕ, ◌+◌, ◌*◌, ◌/◌, ◌%◌, ◌<◌, ◌≤◌, ◌^◌, List, [], ◌∷◌, ◌++◌, length, drop, map, unwrap_or, FitsSigned}
 use Rattle.std.specs.List.{flat_map, AllByRecursion}
 use Rattle.std.specs.Int.{w16, w32, cast_unsigned}
+use Rattle.insn_codec.specs.Limits.{max_slots}
 use Rattle.insn_codec.specs.declared.slot.Slot.{Slot}
 use Rattle.insn_codec.specs.declared.insn.Operand.{Operand}
 use Rattle.insn_codec.specs.declared.insn.Operand.TheVariants as operand
@@ -158,12 +159,12 @@ IsAt slot bytes P = (before : List Insn) × (rest : List ℕ) × StandsAt slot b
 pub record IsWhole (bytes : List ℕ) : Type 0 where
   pub some : 0 < length bytes
   pub even : length bytes % 8 ≡ 0
-  pub short : length bytes ≤ 8 * 4096
+  pub short : length bytes ≤ 8 * max_slots
 
 abbrev pub IsRefusal : CodecFault → List ℕ → Type 0
 IsRefusal fault.Empty bytes = bytes ≡ []
 IsRefusal fault.Ragged bytes = length bytes % 8 ≢ 0
-IsRefusal fault.TooLong bytes = (length bytes % 8 ≡ 0) × (8 * 4096 < length bytes)
+IsRefusal fault.TooLong bytes = (length bytes % 8 ≡ 0) × (8 * max_slots < length bytes)
 IsRefusal (fault.UnknownOp slot) bytes =
     IsWhole bytes × IsAt slot bytes (λ rest. IsUnknown (slot_at rest))
 IsRefusal (fault.BadRegister slot) bytes =
@@ -184,6 +185,6 @@ pub record IsProgram (placed : List Placed) (bytes : List ℕ) : Type 0 where
 -- why a list of instructions has no bytes
 abbrev pub IsUnspelled : CodecFault → List Insn → Type 0
 IsUnspelled fault.Empty insns = insns ≡ []
-IsUnspelled fault.TooLong insns = 8 * 4096 < length (spellings insns)
+IsUnspelled fault.TooLong insns = 8 * max_slots < length (spellings insns)
 IsUnspelled fault.NoMemory insns = IsWhole (spellings insns)
 IsUnspelled fault insns = ⊥

@@ -1,6 +1,7 @@
 -- What is known of the registers ahead of an instruction: at the entry, and along each edge; and
 -- what the instruction has to find known.
 use Rattle.std.specs.Prelude.{ℕ, nat_lt, zero, suc, ◌==◌, List, [], ◌∷◌, drop, slice_set, Bool, true, false, Option, Some, None, Result, Ok, Err, ℤ, pos, ◌+ℤ◌, int_lt, ◌||◌, if◌then◌else◌}
+use Rattle.machine_model.specs.Limits.{max_credit, max_part}
 use Rattle.insn_codec.specs.declared.insn.Operand.{Operand}
 use Rattle.insn_codec.specs.declared.insn.Operand.TheVariants.{Imm, Reg}
 use Rattle.insn_codec.specs.declared.insn.Insn.{Insn}
@@ -63,8 +64,8 @@ called_state state answer = record {
 abbrev pub answer_range : ℕ → Abs
 answer_range helper =
     if helper == 1 then between 0 6 else
-    if helper == 2 then between 0 2147483647 else
-    if helper == 3 then between 0 65536 else
+    if helper == 2 then between 0 max_credit else
+    if helper == 3 then between 0 max_part else
     if helper == 4 then between 0 0 else
     if helper == 5 then between 0 130560 else any_number
 

@@ -16,6 +16,7 @@ use crate::state::State;
 use helpers::HelperTable;
 use insn_codec::{Insn, LoadKind, Register, Size};
 use machine_model::memory::{load_bytes, store_bytes};
+use machine_model::{MAX_CREDIT, MAX_PART};
 use value_ranges::{Abs, Reach, compute, loaded};
 
 /// The fault of a register that is read unset.
@@ -254,8 +255,8 @@ fn answer_range(helper: u32) -> Abs
 {
     match helper {
         1 => Abs::between(0, 6),
-        2 => Abs::between(0, 2_147_483_647),
-        3 => Abs::between(0, 65_536),
+        2 => Abs::between(0, u64::from(MAX_CREDIT)),
+        3 => Abs::between(0, MAX_PART as u64),
         4 => Abs::between(0, 0),
         5 => Abs::between(0, 130_560),
         _ => Abs::any_number(),

@@ -5,6 +5,7 @@ ghost use Rattle.value_ranges.specs.Joins.{joined};
 ghost use Rattle.instruction_rules.specs.Covers.{abs_at};
 ghost use Rattle.instruction_rules.specs.Joining.{joined_to};
 ghost use Rattle.instruction_rules.specs.States.{entry_state, joined_state, operand_at, refined_state, with_abs, called_state};
+ghost use Rattle.machine_model.specs.Limits.{max_part};
 
 use insn_codec::{Operand, Register};
 use value_ranges::{Abs, entry, immediate, join_into};
@@ -18,7 +19,7 @@ pub struct State {
 impl State {
     /// What is known at a task's start, in a program that needs so many bytes.
     pub fn entry(need: u32) -> State
-        requires { need ≤ 65536 }
+        requires { need ≤ max_part }
         ensures { result ≡ entry_state need }
     {
         State {

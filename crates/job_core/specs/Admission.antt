@@ -1,5 +1,6 @@
 -- When a job is admitted, and when each refusal comes.
 use Rattle.std.specs.Prelude.{◌≡◌, ◌⊎◌, ℕ, ◌≤◌, ◌<◌, List, length, slice_get, Option, Some, None}
+use Rattle.machine_model.specs.Limits.{max_credit, max_part}
 use Rattle.helpers.specs.Table.{job_table}
 use Rattle.verifier.specs.declared.refusals.Refusal.{Refusal}
 use Rattle.verifier.specs.declared.refusals.Refusal.TheVariants as program
@@ -36,8 +37,8 @@ pub record IsWithinLimits (programs : List ProgramBytes) (credit : ℕ) (buffer 
     Type 0 where
   pub some : 1 ≤ length programs
   pub few : length programs ≤ 16
-  pub limit : credit ≤ 2147483647
-  pub small : length buffer ≤ 65536
+  pub limit : credit ≤ max_credit
+  pub small : length buffer ≤ max_part
 
 -- the job that is admitted: its programs are accepted, and its credit and buffer cover the root
 pub record IsAdmittedFrom (programs : List ProgramBytes) (credit : ℕ) (buffer : List ℕ)
@@ -78,7 +79,7 @@ RefusesJob programs credit buffer NoPrograms = length programs ≡ 0
 RefusesJob programs credit buffer TooManyPrograms = 16 < length programs
 RefusesJob programs credit buffer TooLarge =
     (1 ≤ length programs) × (length programs ≤ 16)
-        × ((2147483647 < credit) ⊎ (65536 < length buffer))
+        × ((max_credit < credit) ⊎ (max_part < length buffer))
 RefusesJob programs credit buffer (Program index refusal) =
     IsWithinLimits programs credit buffer × IsFirstRefused programs index refusal
 RefusesJob programs credit buffer CreditLow =

@@ -1,5 +1,6 @@
 -- Which jobs stand behind the tasks that a world keeps.
 use Rattle.std.specs.Prelude.{◌≡◌, ◌↔◌, ℕ, ◌≤◌, List, ◌++◌, map, length, take, drop, slice_get, sum_by, Bool, true, false, Option, Some, None}
+use Rattle.machine_model.specs.Limits.{max_credit}
 use Rattle.machine_model.specs.declared.program.Entry.{Entry}
 use Rattle.machine_model.specs.JobState as job
 use Rattle.machine_model.specs.JobState.{JobState, Task, Member, state_in, AreTiles, Move, start, step, run, entry_of, credit_of, spent_by, returned_by, IsAlive, IsComplete}
@@ -103,7 +104,7 @@ pub record RepresentsJob (kept : WorldState) (j : JobState) : Type 0 where
   pub parents : AreParents kept.parents j.tasks
   pub size : length kept.collected ≡ length j.buffer
   pub credit : credit_of j ≡ kept.issued
-  pub limit : kept.issued ≤ 2147483647
+  pub limit : kept.issued ≤ max_credit
 
 -- what a step of a number is answered, from one job to the next
 abbrev pub StepAnswers : Stepped → JobState → ℕ → JobState → Type 0

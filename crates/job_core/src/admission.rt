@@ -6,6 +6,7 @@ ghost use Rattle.job_core.specs.Admission.{AreAccepted, IsAdmittedFrom, IsProgra
 
 use crate::job::Job;
 use helpers::HelperTable;
+use machine_model::{MAX_CREDIT, MAX_PART};
 use refusal::NoMemory;
 use std::alloc::{AllocError, AllocFailed, Global};
 use thiserror::Error;
@@ -162,7 +163,7 @@ pub fn admit(
     if programs.len() > 16 {
         return Err(AdmitFault::TooManyPrograms);
     }
-    if credit > 2_147_483_647 || buffer.len() > 65_536 {
+    if credit > MAX_CREDIT || buffer.len() > MAX_PART {
         return Err(AdmitFault::TooLarge);
     }
     let programs = verify_each(alloc, programs)?;

@@ -29,6 +29,7 @@ impl Tasks {
     ghost use Rattle.job_core.specs.Representation.{RepresentsJob, Steps, LeadsOn};
     ghost use Rattle.job_core.specs.OneTask.{IsSkipped, RunsTask};
     ghost use Rattle.job_core.specs.Keeping.{kept_of, IsBooked};
+    ghost use Rattle.machine_model.specs.Limits.{max_credit};
 
     /// One instruction of a task, if it is alive.
     pub fn step(&mut self, alloc: Global, number: u32) -> Stepped
@@ -78,7 +79,7 @@ impl Tasks {
         ensures skipped { result.1 ≡ Stepped.Skipped → kept_of self.new ≡ kept_of self.old }
         ensures whole { result.1 ≡ Stepped.Went → result.0 ≡ limit }
         ensures most { result.0 ≤ limit }
-        ensures few { result.0 ≤ 2147483647 }
+        ensures few { result.0 ≤ max_credit }
         ensures booked { IsBooked self.new }
     {
         let Tasks { programs, ledger } = self;

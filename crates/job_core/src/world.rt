@@ -44,6 +44,7 @@ impl World {
     ghost use Rattle.job_core.specs.Answers.{AreTotals, IsReportOf};
     ghost use Rattle.job_core.specs.OneTask.{RunsTask};
     ghost use Rattle.job_core.specs.Rooms.{room_at};
+    ghost use Rattle.machine_model.specs.Limits.{max_credit};
 
     /// The job at its start: the root alone, with all the credit and the whole buffer.
     pub fn open(alloc: Global, job: Job) -> Result<World, NoMemory>
@@ -101,7 +102,7 @@ impl World {
         ensures skipped { result.1 ≡ Stepped.Skipped → self.new ≡ self.old }
         ensures whole { result.1 ≡ Stepped.Went → result.0 ≡ limit }
         ensures most { result.0 ≤ limit }
-        ensures few { result.0 ≤ 2147483647 }
+        ensures few { result.0 ≤ max_credit }
         ensures programs { self.new.programs ≡ self.old.programs }
     {
         let (count, came_to) = self.tasks.run_task(alloc, number, limit as usize);

@@ -11,3 +11,4 @@ pub mod JobState
 pub mod Computing
 pub mod Alone
 pub mod Following
+pub mod Limits

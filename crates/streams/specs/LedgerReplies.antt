@@ -107,8 +107,8 @@ pub record WritesReplies (desk : Ledger) (held : List (ℕ × Report)) (bytes be
 
 -- bytes begin a text: the replies to some payloads, or those to all of them and one 71 behind them,
 -- where a length over the limit comes next
-abbrev pub Begins : List ℕ → List (List ℕ) → List ℕ → List ℕ → Type 0
-Begins bytes further text part =
+abbrev pub BeginsWith : List ℕ → List (List ℕ) → List ℕ → List ℕ → Type 0
+BeginsWith bytes further text part =
     (more : List ℕ) × ((part ++ more ≡ text)
     ⊎ ((front (frames_of bytes).rest ≡ too_large) × (further ≡ [])
         × (part ++ more ≡ text ++ too_large_reply)))
@@ -128,4 +128,4 @@ pub record BeginsReplies (desk : Ledger) (held : List (ℕ × Report)) (bytes be
   pub replies : RepliesTo start payloads text last
   pub part : List ℕ
   pub written : after ≡ before ++ part
-  pub begins : Begins bytes further text part
+  pub begins : BeginsWith bytes further text part

@@ -1,5 +1,6 @@
 -- What one task comes to by itself, whose spawns are answered from a list.
 use Rattle.std.specs.Prelude.{◌≡◌, ℕ, zero, suc, ◌≤◌, ◌⊎◌, List, [], ◌∷◌, length, replicate, slice_get, Bool, true, false, Some}
+use Rattle.machine_model.specs.Limits.{max_credit, max_part}
 use Rattle.machine_model.specs.Bytes.{AllBytes}
 use Rattle.machine_model.specs.Machine.{State, Program, Entries, Birth, Effect, Continues, Ends, Spawns, Calls, Traps, cost_at, effect}
 use Rattle.machine_model.specs.JobState.{Ending, entries_of, entry_registers}
@@ -51,9 +52,9 @@ entering arg held bytes = record {
 -- its need to 65,536 bytes.
 pub record IsGiven (p : Program) (given : ℕ) (bytes : List ℕ) : Type 0 where
   pub affords : cost_at p 0 ≤ given
-  pub limit : given ≤ 2147483647
+  pub limit : given ≤ max_credit
   pub fits : p.need ≤ length bytes
-  pub short : length bytes ≤ 65536
+  pub short : length bytes ≤ max_part
   pub are_bytes : AllBytes bytes
 
 -- The ended task has the use and the R0 that it comes to by itself on its program, its argument and

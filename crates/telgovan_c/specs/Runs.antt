@@ -1,5 +1,6 @@
 -- Runs over the caller's memory, as C sees them.
 use Rattle.std.specs.Prelude.{◌≡◌, ℕ, zero, suc, ◌+◌, ◌<◌, ◌≤◌, ◌⊎◌, List, ◌++◌, length, take, drop, slice_range, slice_get, Some}
+use Rattle.machine_model.specs.Limits.{max_credit, max_part}
 use Rattle.helpers.specs.Table.{job_table}
 use Rattle.machine_model.specs.Alone.{MayAnswer}
 use Rattle.verifier.specs.declared.refusals.Refusal.{Refusal}
@@ -25,12 +26,12 @@ refused_run number = record { r0 = 0; status = number; used = 0 }
 -- single program, else its run by itself.
 pub data IsRunOutcome (p : Checked) (argument credit : ℕ) (old new : List ℕ) (told : RunOutcome) :
     Type 0 where
-  over_limit : ((2147483647 < credit) ⊎ (65536 < length old)) → new ≡ old → told ≡ refused_run 65
+  over_limit : ((max_credit < credit) ⊎ (max_part < length old)) → new ≡ old → told ≡ refused_run 65
       → IsRunOutcome p argument credit old new told
-  refused : credit ≤ 2147483647 → length old ≤ 65536 → (fault : VmFault)
+  refused : credit ≤ max_credit → length old ≤ max_part → (fault : VmFault)
       → IsUnrunnable (Some p) credit (length old) fault → new ≡ old
       → told ≡ refused_run (code_of_fault fault) → IsRunOutcome p argument credit old new told
-  ran : credit ≤ 2147483647 → length old ≤ 65536 → (r0 used : ℕ)
+  ran : credit ≤ max_credit → length old ≤ max_part → (r0 used : ℕ)
       → ExecutesOn (Some p) unanswered argument credit old r0 used new
       → told ≡ record { r0 = r0; status = 0; used = used }
       → IsRunOutcome p argument credit old new told

@@ -8,6 +8,7 @@ ghost use Rattle.telgovan_c.specs.Runs.{IsBurst, IsRunOutcome, RunsInPlace, IsSi
 
 use crate::verdicts::{Verdict, accepted_verdict, refused_verdict};
 use helpers::HelperTable;
+use machine_model::{MAX_CREDIT, MAX_PART};
 use std::alloc::Global;
 use verifier::{Verified, verify};
 use virtual_machine::Vm;
@@ -16,10 +17,6 @@ use virtual_machine::Vm;
 const OVER_LIMIT: u32 = 65;
 // The memory is shorter than what is asked of it.
 const MEMORY_SHORT: u32 = 43;
-
-const MAX_CREDIT: u32 = 2147483647;
-
-const MAX_PART: usize = 65536;
 
 /// What a run came to: `status` is 0 where the program ran, with R0 and what it used of the credit.
 /// Otherwise `status` is the number of the refusal, and the memory is as it was.

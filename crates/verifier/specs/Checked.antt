@@ -1,5 +1,7 @@
 -- What a verified program is.
 use Rattle.std.specs.Prelude.{◌≡◌, ℕ, ◌≤◌, List, length, slice_index, slice_index_or, Option, Some, None}
+use Rattle.machine_model.specs.Limits.{max_part}
+use Rattle.insn_codec.specs.Limits.{max_slots}
 use Rattle.insn_codec.specs.declared.insn.Insn.{Insn}
 use Rattle.machine_model.specs.Edges.{Code, Fact, IsEdge, Begins, insn_at}
 use Rattle.machine_model.specs.Paths.{AreCosts}
@@ -40,9 +42,9 @@ pub record IsSoundAt (p : Checked) (slot : ℕ) (i : Insn) (state : State) : Typ
 
 -- The states cover the entry and every edge, and the costs are those of the code.
 pub record IsVerified (p : Checked) : Type 0 where
-  pub need : p.need ≤ 65536
+  pub need : p.need ≤ max_part
   pub starts : Begins p.code 0
-  pub few : length p.code ≤ 4096
+  pub few : length p.code ≤ max_slots
   pub entry : (outer : State) × (state_at p 0 ≡ Some outer) × IsWithin (entry_state p.need) outer
   pub each : (slot : ℕ) (i : Insn) (state : State) → insn_at p.code slot ≡ Some i
       → state_at p slot ≡ Some state → IsSoundAt p slot i state

@@ -1,5 +1,6 @@
 -- When each refusal comes, and what holds of a program that is accepted.
 use Rattle.std.specs.Prelude.{◌≡◌, ℕ, ◌≤◌, ◌<◌, List, None}
+use Rattle.machine_model.specs.Limits.{max_part}
 use Rattle.insn_codec.specs.declared.insn.Placed.{Placed}
 use Rattle.insn_codec.specs.declared.fault.CodecFault.{CodecFault}
 use Rattle.insn_codec.specs.declared.fault.CodecFault.TheVariants as codec
@@ -49,15 +50,15 @@ RefusesPlaced need placed helpers refusal =
 
 pub record RefusesDecoded (need : ℕ) (bytes : List ℕ) (helpers : Table) (refusal : Refusal) :
     Type 0 where
-  pub small : need ≤ 65536
+  pub small : need ≤ max_part
   pub placed : List Placed
   pub decoded : IsProgram placed bytes
   pub refused : RefusesPlaced need placed helpers refusal
 
 -- the one refusal of a program, but for want of memory
 abbrev pub RefusesProgram : ℕ → List ℕ → Table → Refusal → Type 0
-RefusesProgram need bytes helpers NeedTooLarge = 65536 < need
-RefusesProgram need bytes helpers (Codec fault) = (need ≤ 65536) × RefusesBytes bytes fault
+RefusesProgram need bytes helpers NeedTooLarge = max_part < need
+RefusesProgram need bytes helpers (Codec fault) = (need ≤ max_part) × RefusesBytes bytes fault
 RefusesProgram need bytes helpers NoMemory = Unit {0}
 RefusesProgram need bytes helpers refusal = RefusesDecoded need bytes helpers refusal
 
@@ -65,7 +66,7 @@ RefusesProgram need bytes helpers refusal = RefusesDecoded need bytes helpers re
 -- definition
 pub record IsAccepted (need : ℕ) (bytes : List ℕ) (helpers : Table) (v : Checked) : Type 0 where
   pub same_need : v.need ≡ need
-  pub small : need ≤ 65536
+  pub small : need ≤ max_part
   pub same_helpers : v.helpers ≡ helpers
   pub decoded : (placed : List Placed) × IsProgram placed bytes × (v.code ≡ code_of placed)
   pub flow : HasFlow v.code

@@ -17,6 +17,7 @@ ghost use Rattle.verifier.specs.Kept.{AreKeptStates};
 ghost use Rattle.verifier.specs.Merges.{is_kept};
 ghost use Rattle.verifier.specs.Sources.{IsLinked, IsNextSource};
 ghost use Rattle.verifier.specs.Survey.{subject_of, IsRegionThere, IsSurveyed};
+ghost use Rattle.machine_model.specs.Limits.{max_part};
 
 use crate::held::{Boxes, Held};
 use crate::kept::Kept;
@@ -432,7 +433,7 @@ fn earlier(first: Option<Fault>, fault: Fault) -> Fault
 
 /// A place for the state at each slot, with the entry state at the first.
 fn places(alloc: Global, need: u32, slots: u32) -> Result<Vec<Option<Held>>, NoMemory>
-    requires need { need ≤ 65536 }
+    requires need { need ≤ max_part }
     requires slots { 0 < slots }
     ensures slots { IfOk result (λ states. length states.items ≡ slots) }
     ensures first { IfOk result (λ states. slice_index_or states.items 0 None
@@ -495,7 +496,7 @@ pub(crate) fn states(
     helpers: &HelperTable,
     graph: &Graph,
 ) -> Result<Found, Refusal>
-    requires need { need ≤ 65536 }
+    requires need { need ≤ max_part }
     ensures { MatchResult result
         (λ found. IsSurveyed
         (record { need = need; helpers = helpers.now; code = graph.now.code }) found)

@@ -36,6 +36,7 @@ pub struct Vm {
 
 impl Vm {
     ghost use Rattle.virtual_machine.specs.Holding.{program_in, helpers_in, functions_in};
+    ghost use Rattle.machine_model.specs.Limits.{max_part, max_credit};
 
     /// A machine with the program of this need and code, if they are given, and with the helpers of
     /// a job. The program's refusal is [`Refusal`]'s.
@@ -187,8 +188,8 @@ impl Vm {
     /// and this credit, and gives R0 and what it used of the credit. Otherwise it is
     /// [`Vm::execute_program`].
     pub fn execute(&mut self, mem: &mut [u8], arg: u64, credit: u32) -> Result<Executed, VmFault>
-        requires small { length mem.old ≤ 65536 }
-        requires limit { credit ≤ 2147483647 }
+        requires small { length mem.old ≤ max_part }
+        requires limit { credit ≤ max_credit }
         ensures runs { MatchResult result
             (λ done. ExecutesOn (program_in self.old) (called (functions_in self.old)) arg credit
             mem.old done.r0 done.used mem.new)
@@ -225,8 +226,8 @@ impl Vm {
     /// the credit is under the program's cost, 43 the memory is shorter than the program's need.
     /// The run takes no memory of its own, so that 99 never comes.
     pub fn execute_program(&mut self, mem: &mut [u8], credit: u32) -> Result<u64, VmFault>
-        requires small { length mem.old ≤ 65536 }
-        requires limit { credit ≤ 2147483647 }
+        requires small { length mem.old ≤ max_part }
+        requires limit { credit ≤ max_credit }
         ensures runs { MatchResult result
             (λ r0. Executes (program_in self.old) (called (functions_in self.old)) credit mem.old r0
             mem.new)

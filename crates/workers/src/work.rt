@@ -15,6 +15,7 @@ use crate::outcome::unrun;
 use credit_book::{Outcome, Ticket};
 use helpers::{Entry, Spawner};
 use interpreter::{Credit, Frame};
+use machine_model::MAX_CREDIT;
 use std::alloc::Global;
 use task_arena::Frames;
 use task_run::{Listener, Nobody, run_to_end};
@@ -41,7 +42,7 @@ fn suffices(code: &Verified, ticket: &Ticket) -> bool
     ensures verified { IsVerified code.now }
 {
     let need = code.need() as usize;
-    code.cost() <= ticket.held() && ticket.held() <= 2_147_483_647 && need <= ticket.part().len()
+    code.cost() <= ticket.held() && ticket.held() <= MAX_CREDIT && need <= ticket.part().len()
 }
 
 /// Runs the ticket's task on a frame of zeros, and hands the spawner back.
