@@ -88,7 +88,7 @@ RefusesSubmit old name programs credit buffer submit.BalanceLow =
     (balance : ℕ) × HasBalance old name balance × (balance < credit)
 RefusesSubmit old name programs credit buffer (submit.Admit why) =
     (balance : ℕ) × HasBalance old name balance × (credit ≤ balance)
-        × RefusesJob programs credit buffer why
+    × RefusesJob programs credit buffer why
 
 -- an open job is over
 pub record Finishes (old : Ledger) (number : ℕ) (outcome : Result Report ℕ) (new : Ledger) :

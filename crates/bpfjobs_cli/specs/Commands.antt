@@ -30,7 +30,7 @@ IsCommandOf name rows (Run workers) =
 IsCommandOf name rows (Serve port workers sessions) =
     (name ≡ codes "serve") × IsNumberIn rows (codes "port") 1 65535 port
     × IsNumberIn rows (codes "workers") 1 16 workers
-        × IsNumberIn rows (codes "sessions") 1 1000000 sessions
+    × IsNumberIn rows (codes "sessions") 1 1000000 sessions
 
 -- they are those of a command
 abbrev pub SaysCommand : Text → List Row → Type 0
@@ -45,14 +45,14 @@ IsInRange Play = Unit {0}
 IsInRange (Run workers) = (1 ≤ workers) × (workers ≤ 16)
 IsInRange (Serve port workers sessions) =
     (1 ≤ port) × (port ≤ 65535) × (1 ≤ workers) × (workers ≤ 16) × (1 ≤ sessions)
-        × (sessions ≤ 1000000)
+    × (sessions ≤ 1000000)
 
 -- Words that clap takes are refused for want of memory alone. Any others are refused for that, or
 -- for a fault that clap finds in them.
 abbrev pub IsUsage : Usage → List Text → Type 0
 IsUsage (usage.Refused error) words =
     (takes bpfjobs_app words ≡ true → kind_of error ≡ OutOfMemory)
-        × HasKind (fault_of bpfjobs_app words) error
+    × HasKind (fault_of bpfjobs_app words) error
 IsUsage usage.NoMemory words = Unit {0}
 
 -- the words ask for help, or for the version: that is no mistake

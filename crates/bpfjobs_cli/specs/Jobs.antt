@@ -27,7 +27,7 @@ abbrev pub IsDeclined : Bool → List ℕ → Declined → Type 0
 IsDeclined wants input (declined.Object fault) = ObjectAnswer wants (Err fault) input
 IsDeclined wants input (declined.Job fault) =
     (object : JobObject) × ObjectAnswer wants (Ok object) input
-        × RefusesJob object.programs.items object.credit object.buffer.items fault
+    × RefusesJob object.programs.items object.credit object.buffer.items fault
 
 abbrev pub declined_line : Declined → List ℕ
 declined_line (declined.Object fault) = refusal_reply (code_of fault) None None

@@ -32,7 +32,7 @@ abbrev pub IsGivenUpBy : StreamFault → (List ℕ → ℕ → Type 0) → Type 
 IsGivenUpBy ReadFailed answers over before after = after ≡ before
 IsGivenUpBy WriteFailed answers over before after =
     over × (text : List ℕ) × (status : ℕ) × answers text status × (n : ℕ) × (n < length text)
-        × (after ≡ before ++ take n text)
+    × (after ≡ before ++ take n text)
 IsGivenUpBy NoMemory answers over before after = after ≡ before
 
 -- the reader is over, or has given so many bytes

@@ -96,7 +96,7 @@ pub fn perform<R: Source, W: Sink>(
         × (R.transcript reader.new ≡ R.transcript reader.old ++ input)
         × IsAllRead (R.is_over reader.new ≡ true) input
         × IsAnswer command input text status
-            × (W.transcript writer.new ≡ W.transcript writer.old ++ text)) }
+        × (W.transcript writer.new ≡ W.transcript writer.old ++ text)) }
     ensures stopped { IfErr result (λ fault. (input : List ℕ)
         × (R.transcript reader.new ≡ R.transcript reader.old ++ input)
         × IsGivenUpBy fault (IsAnswer command input) (IsAllRead (R.is_over reader.new ≡ true) input)

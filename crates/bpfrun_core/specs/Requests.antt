@@ -36,5 +36,5 @@ pub record SaysRequest (rows : List Row) : Type 0 where
 abbrev pub IsBpfrunUsage : Usage → List Text → Type 0
 IsBpfrunUsage (usage.Refused error) words =
     (takes bpfrun_app words ≡ true → kind_of error ≡ OutOfMemory)
-        × HasKind (fault_of bpfrun_app words) error
+    × HasKind (fault_of bpfrun_app words) error
 IsBpfrunUsage usage.NoMemory words = Unit {0}

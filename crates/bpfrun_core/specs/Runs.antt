@@ -39,8 +39,8 @@ IsStopped need code credit memory (fault.Program why) =
     (length memory ≤ max_part) × RefusesProgram need code job_table why × (why ≢ refusal.NoMemory)
 IsStopped need code credit memory (fault.CreditLow wanted given) =
     (length memory ≤ max_part) × IsShort need code (λ p. (credit < cost_at p 0)
-        × (wanted ≡ cost_at p 0) × (given ≡ credit))
+    × (wanted ≡ cost_at p 0) × (given ≡ credit))
 IsStopped need code credit memory (fault.MemoryShort wanted given) =
     (length memory ≤ max_part) × IsShort need code (λ p. (cost_at p 0 ≤ credit)
-        × (length memory < p.need) × (wanted ≡ p.need) × (given ≡ length memory))
+    × (length memory < p.need) × (wanted ≡ p.need) × (given ≡ length memory))
 IsStopped need code credit memory fault.NoMemory = Unit {0}

@@ -82,7 +82,7 @@ fn print_refusal(
     requires { fault.now ≢ fault_variant.NoMemory }
     ensures { IfOk result
         (λ answer. PrintsRefusal form input.now code.now fault.now answer.text.items
-            answer.status) }
+        answer.status) }
 {
     let place = place_of(alloc, form, input, code, fault)?;
     tell_refusal(alloc, fault, quote_of(input, fault), place)

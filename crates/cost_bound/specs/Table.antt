@@ -10,6 +10,6 @@ pub record AreCostsFrom (flow : Flow) (table : List ℕ) (from : ℕ) : Type 0 w
   pub slots : length table ≡ length flow.code
   pub each : (place : ℕ) → from ≤ place → place < length flow.order →
       IsCost flow.code (slice_index flow.order place)
-          (slice_index table (slice_index flow.order place))
+      (slice_index table (slice_index flow.order place))
   pub few : (place : ℕ) → from ≤ place → place < length flow.order →
       slice_index table (slice_index flow.order place) + 32 * place ≤ 32 * length flow.order

@@ -62,13 +62,19 @@ IsSpawnFault a parent r Stranger =
 IsSpawnFault a parent r OverSpent = ⊥
 IsSpawnFault a parent r CreditLow =
     (may_work (standing_at (table_of a.history) parent).stage ≡ true)
-        × (1 ≤ r.share → (standing_at (table_of a.history) parent).held ≤ r.share)
+    × (1 ≤ r.share → (standing_at (table_of a.history) parent).held ≤ r.share)
 IsSpawnFault a parent r NoMemory =
     May (table_of a.history) (spawn_event parent (length (table_of a.history).standings) r)
 
 abbrev pub ticket_of : ℕ → ℕ → SpawnRecord → Ticket
-ticket_of job number r = record { job = job; number = number; program = r.program; held = r.share;
-    arg = r.arg; part = r.part }
+ticket_of job number r = record {
+  job = job;
+  number = number;
+  program = r.program;
+  held = r.share;
+  arg = r.arg;
+  part = r.part;
+}
 
 abbrev pub IsParkFault : Account → Ticket → BookFault → Type 0
 IsParkFault a t Stranger =

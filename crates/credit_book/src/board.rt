@@ -35,8 +35,11 @@ impl Model for Board {
 
     ghost Value = { Sign };
 
-    ghost view = { λ b. record { table = b.table.shared.table_id; job = b.opening.job;
-        issued = b.opening.issued } };
+    ghost view = { λ b. record {
+      table = b.table.shared.table_id;
+      job = b.opening.job;
+      issued = b.opening.issued;
+    } };
 
     ghost invariant = { λ b. (b.table.shared.table_id.words ≡ 1)
         × (b.table.shared.key ≡ b.opening) };
@@ -56,8 +59,15 @@ impl Model for Reader {
 
     ghost Value = { Sight };
 
-    ghost view = { λ r. record { board = record { table = r.seat.table_id; job = r.opening.job;
-        issued = r.opening.issued }; seen = r.seat.me.0.history; looks = r.seat.me.0.looks } };
+    ghost view = { λ r. record {
+      board = record {
+        table = r.seat.table_id;
+        job = r.opening.job;
+        issued = r.opening.issued;
+      };
+      seen = r.seat.me.0.history;
+      looks = r.seat.me.0.looks;
+    } };
 
     ghost invariant = { λ r. (r.seat.me.0.writes ≡ false)
         × IsHistoryOf r.opening.job r.opening.issued r.seat.me.0.history };

@@ -44,8 +44,12 @@ impl Model for Book {
 
     ghost Value = { Account };
 
-    ghost view = { λ b. record { board = b.writer.board; history = b.past;
-        size = length b.report.buffer.items; waiting = b.parked.items } };
+    ghost view = { λ b. record {
+      board = b.writer.board;
+      history = b.past;
+      size = length b.report.buffer.items;
+      waiting = b.parked.items;
+    } };
 
     ghost invariant = { λ b. IsBook b.writer.board b.past b.standings.items b.report.tasks.items
         (map (λ t. t.number) b.parked.items) b.report.spent b.report.returned

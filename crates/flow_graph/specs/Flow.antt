@@ -51,10 +51,10 @@ AreNext code slot Zero =
     (insn_at code slot ≡ Some Exit) × ((fact : Fact) → leads_at code slot fact ≡ None)
 AreNext code slot (One to) =
     IsEdge code slot Always to × (leads_at code slot NotTaken ≡ None)
-        × (leads_at code slot Taken ≡ None)
+    × (leads_at code slot Taken ≡ None)
 AreNext code slot (Two following to) =
     (leads_at code slot Always ≡ None) × IsEdge code slot NotTaken following
-        × IsEdge code slot Taken to
+    × IsEdge code slot Taken to
 
 -- a jump of this kind has a target that isn't below 0
 abbrev pub HasTarget : Onward → ℕ → Type 0

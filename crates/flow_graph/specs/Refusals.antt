@@ -18,7 +18,7 @@ Refuses code (FallsOff slot) = IsFirstFault code slot (FallsOff slot)
 Refuses code (Cycle slot) = ((s : ℕ) → fault_at code s ≡ None) × IsFirstOnCycle code slot
 Refuses code (Unreachable slot) =
     ((s : ℕ) → fault_at code s ≡ None) × ((s : ℕ) → IsOnCycle code s → ⊥)
-        × IsFirstUnreached code slot
+    × IsFirstUnreached code slot
 Refuses code NoMemory = Unit {0}
 
 pub record IsBuilt (code : Code) (graph : Flow) : Type 0 where

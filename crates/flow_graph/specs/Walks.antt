@@ -64,7 +64,7 @@ pub record AreClear (code : Code) (marks : List Mark) : Type 0 where
 abbrev pub HasEnded : Code → List Mark → Walked → Type 0
 HasEnded code marks (All walk) =
     IsWalk code walk.marks.items walk.path.items walk.done.items × (walk.path.items ≡ [])
-        × IsFurther marks walk.marks.items
+    × IsFurther marks walk.marks.items
 HasEnded code marks (Cycle found slot) = AreClear code found.items × IsOnCycle code slot
 
 -- at its end the walk has met the slot

@@ -26,8 +26,11 @@ impl Model for Part {
 
     ghost Value = { Piece };
 
-    ghost view = { λ p. record { base = p.base; bytes = p.bytes.items;
-        room = vec_capacity p.bytes } };
+    ghost view = { λ p. record {
+      base = p.base;
+      bytes = p.bytes.items;
+      room = vec_capacity p.bytes;
+    } };
 
     ghost invariant = { λ p. p.base + length p.bytes.items ≤ max_part };
 }

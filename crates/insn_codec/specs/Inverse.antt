@@ -31,13 +31,13 @@ alu_op_at code offset =
     if code == 1 then Some Sub else (
     if code == 2 then Some Mul else (
     if code == 3 then (if offset == 0 then Some Div else (if offset == 1 then Some Sdiv else None))
-        else (
+    else (
     if code == 4 then Some Or else (
     if code == 5 then Some And else (
     if code == 6 then Some Lsh else (
     if code == 7 then Some Rsh else (
     if code == 9 then (if offset == 0 then Some Mod else (if offset == 1 then Some Smod else None))
-        else (
+    else (
     if code == 10 then Some Xor else (
     if code == 12 then Some Arsh else None))))))))))
 
@@ -132,7 +132,7 @@ jump_at width s = jump_row width s (condition_at (s.opcode / 16))
 unfoldable pub operation_at : Slot → Option Operation
 operation_at s =
     if s.opcode % 8 == 0 then (if (s.opcode == 0x18) && (s.src == 0) then Some LoadWide else None)
-        else (
+    else (
     if s.opcode % 8 == 1 then option_map Load (load_at (s.opcode / 8)) else (
     if s.opcode % 8 == 2 then option_map Store (size_at (s.opcode / 8)) else (
     if s.opcode % 8 == 3 then option_map StoreRegister (size_at (s.opcode / 8)) else (

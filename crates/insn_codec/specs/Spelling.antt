@@ -139,7 +139,7 @@ abbrev pub HasUnused : Slot → List ℕ → Type 0
 HasUnused s after =
     (op : Operation) × IsRow op s × RegistersAreNamed (uses_of op) s
     × ((UnusedAreZero (uses_of op) s → ⊥)
-        ⊎ ((op ≡ row.LoadWide) × (0 < length after) × ((imm : ℕ) → slot_at after ≢ half imm)))
+    ⊎ ((op ≡ row.LoadWide) × (0 < length after) × ((imm : ℕ) → slot_at after ≢ half imm)))
 
 abbrev pub IsHalfWide : Slot → List ℕ → Type 0
 IsHalfWide s after = IsClean row.LoadWide s × (after ≡ [])

@@ -101,7 +101,7 @@ transferred (LoadWide dst value) fact state = with_abs state dst (single_value v
 transferred (Load kind dst base offset) fact state = with_abs state dst (loaded kind)
 transferred (JumpIf w c dst src offset) fact state =
     refined_state state dst src (refined_by (JumpIf w c dst src offset) (is_taken fact)
-        (abs_at state dst) (operand_at state src))
+    (abs_at state dst) (operand_at state src))
 transferred (Call helper) fact state = called_state state (answer_range helper)
 transferred i fact state = state
 
@@ -128,7 +128,7 @@ number_fault a = Some BadKind
 abbrev pub region_fault : Rule → ℕ → Span → ℤ → ℕ → Option Rule
 region_fault rule size reach offset count =
     if int_lt (reach.lo +ℤ offset) (pos 0) || int_lt (pos size) (reach.hi +ℤ offset +ℤ pos count)
-        then Some rule else None
+    then Some rule else None
 
 -- the fault of an access of so many bytes, which may leave the stack or a part of that need, or
 -- whose address is none
@@ -178,9 +178,9 @@ length_fault (Part reach) = Some BadKind
 abbrev pub kind_fault : ℕ → State → ℕ → ℕ → Option Rule
 kind_fault need state helper arity =
     if helper == 4 then first (span_fault need (abs_at state 1) (abs_at state 2))
-        (first (length_fault (abs_at state 2)) (number_fault (abs_at state 3))) else
+    (first (length_fault (abs_at state 2)) (number_fault (abs_at state 3))) else
     if helper == 5 then first (span_fault need (abs_at state 1) (abs_at state 2))
-        (length_fault (abs_at state 2)) else
+    (length_fault (abs_at state 2)) else
     number_arguments state arity
 
 -- the fault of a call: its helper isn't in the table, or an argument is unset or of another kind
@@ -194,23 +194,23 @@ abbrev pub fault : ℕ → Table → Insn → State → Option Rule
 fault need helpers (Alu w op dst src) state =
     first (unset_fault (abs_at state dst)) (first (unset_fault (operand_at state src))
     (first (table_fault (value_table (Alu w op dst src) (abs_at state dst) (operand_at state src)))
-        (write_fault dst)))
+    (write_fault dst)))
 fault need helpers (Mov w dst src) state =
     first (unset_fault (operand_at state src))
     (first (table_fault (value_table (Mov w dst src) (abs_at state dst) (operand_at state src)))
-        (write_fault dst))
+    (write_fault dst))
 fault need helpers (MovSx e dst src) state =
     first (unset_fault (abs_at state src))
     (first (table_fault (value_table (MovSx e dst src) (abs_at state dst) (abs_at state src)))
-        (write_fault dst))
+    (write_fault dst))
 fault need helpers (Neg w dst) state =
     first (unset_fault (abs_at state dst))
     (first (table_fault (value_table (Neg w dst) (abs_at state dst) (abs_at state dst)))
-        (write_fault dst))
+    (write_fault dst))
 fault need helpers (End order size dst) state =
     first (unset_fault (abs_at state dst))
     (first (table_fault (value_table (End order size dst) (abs_at state dst) (abs_at state dst)))
-        (write_fault dst))
+    (write_fault dst))
 fault need helpers (LoadWide dst value) state = write_fault dst
 fault need helpers (Load kind dst base offset) state =
     first (access_fault need (abs_at state base) offset (load_bytes kind)) (write_fault dst)
@@ -219,7 +219,7 @@ fault need helpers (Store size base offset imm) state =
 fault need helpers (StoreRegister size base offset src) state =
     first (unset_fault (abs_at state base)) (first (unset_fault (abs_at state src))
     (first (access_fault need (abs_at state base) offset (store_bytes size))
-        (number_fault (abs_at state src))))
+    (number_fault (abs_at state src))))
 fault need helpers (Jump offset) state = None
 fault need helpers (Jump32 offset) state = None
 fault need helpers (JumpIf w c dst src offset) state =

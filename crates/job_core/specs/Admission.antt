@@ -79,15 +79,15 @@ RefusesJob programs credit buffer NoPrograms = length programs ≡ 0
 RefusesJob programs credit buffer TooManyPrograms = 16 < length programs
 RefusesJob programs credit buffer TooLarge =
     (1 ≤ length programs) × (length programs ≤ 16)
-        × ((max_credit < credit) ⊎ (max_part < length buffer))
+    × ((max_credit < credit) ⊎ (max_part < length buffer))
 RefusesJob programs credit buffer (Program index refusal) =
     IsWithinLimits programs credit buffer × IsFirstRefused programs index refusal
 RefusesJob programs credit buffer CreditLow =
     IsWithinLimits programs credit buffer × (root : Checked) × IsRoot programs root
-        × (credit < cost_at root 0)
+    × (credit < cost_at root 0)
 RefusesJob programs credit buffer BufferShort =
     IsWithinLimits programs credit buffer × (root : Checked) × IsRoot programs root
-        × (cost_at root 0 ≤ credit) × (length buffer < root.need)
+    × (cost_at root 0 ≤ credit) × (length buffer < root.need)
 RefusesJob programs credit buffer NoMemory = IsWithinLimits programs credit buffer
 
 -- the numbers of the refusals, and the slot that one tells

@@ -117,7 +117,7 @@ StepAnswers (Ended r0) j n k =
 abbrev pub Steps : WorldState → JobState → ℕ → Stepped → WorldState → Type 0
 Steps old j n out new =
     (refuses : Bool) × (k : JobState) × (step (map program_of old.programs) j n refuses ≡ Some k)
-        × RepresentsJob new k × StepAnswers out j n k
+    × RepresentsJob new k × StepAnswers out j n k
 
 -- the moves lead to a job with the credit that was issued
 pub record Reaches (programs : List Program) (j : JobState) (moves : List Move) : Type 0 where

@@ -70,7 +70,7 @@ impl Spawner for Ledger {
         × (new.turn ≡ old.turn)
         × (new.book.board ≡ old.book.board) × (new.book.size ≡ old.book.size)
         × Enters old.turn old.lives.items old.parents.items old.book.history child reply
-            new.lives.items new.parents.items new.book.history };
+        new.lives.items new.parents.items new.book.history };
 
     ghost calls = { λ old helper arguments answer new. (answer ≡ 0) × (new ≡ old) };
 

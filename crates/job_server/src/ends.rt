@@ -53,11 +53,11 @@ pub fn perform<T: Threads + Wait + Sync, R: Source, W: Sink>(
         × (R.transcript reader.new ≡ R.transcript reader.old ++ input)
         × IsAllRead (R.is_over reader.new ≡ true) input
         × IsPoolAnswer command input text status
-            × (W.transcript writer.new ≡ W.transcript writer.old ++ text)) }
+        × (W.transcript writer.new ≡ W.transcript writer.old ++ text)) }
     ensures stopped { IfErr result (λ fault. (input : List ℕ)
         × (R.transcript reader.new ≡ R.transcript reader.old ++ input)
         × IsGivenUpBy fault (IsPoolAnswer command input)
-            (IsAllRead (R.is_over reader.new ≡ true) input)
+        (IsAllRead (R.is_over reader.new ≡ true) input)
         (W.transcript writer.old) (W.transcript writer.new)) }
     ensures read_failed { result ≡ Err StreamFault.ReadFailed → R.has_failed reader.new ≡ true }
     ensures write_failed { result ≡ Err StreamFault.WriteFailed → W.has_failed writer.new ≡ true }

@@ -30,8 +30,11 @@ impl Model for Running {
 
     ghost Value = { Held };
 
-    ghost view = { λ r. record { number = r.thread.promise.number; job = r.thread.promise.job.value;
-        sight = r.reader } };
+    ghost view = { λ r. record {
+      number = r.thread.promise.number;
+      job = r.thread.promise.job.value;
+      sight = r.reader;
+    } };
 
     ghost invariant = { λ r. (r.reader.board ≡ arc_value r.board)
         × (r.reader.board.job ≡ r.thread.promise.number)

@@ -248,7 +248,7 @@ impl Thief {
         ensures pass { IsPassOf (stealer_deque self.new.reach) seat.new }
         ensures moved { MatchStolen result
             ((view seat.new ≡ view seat.old)
-                × (worker_view own.new.ready ≡ worker_view own.old.ready))
+            × (worker_view own.new.ready ≡ worker_view own.old.ready))
             (λ ticket. StealsSome 8 (view seat.old) (worker_view own.old.ready) ticket
             (view seat.new) (worker_view own.new.ready)) }
     {

@@ -24,8 +24,13 @@ impl Model for Lanes {
 
     ghost Value = { Moved };
 
-    ghost view = { λ l. record { own = record { lane = (worker_deque l.own.ready).0;
-        moved = worker_view l.own.ready }; others = l.ways.items } };
+    ghost view = { λ l. record {
+      own = record {
+        lane = (worker_deque l.own.ready).0;
+        moved = worker_view l.own.ready;
+      };
+      others = l.ways.items;
+    } };
 }
 
 impl Lanes {

@@ -86,7 +86,7 @@ pub(crate) fn first_stolen(ways: &mut Vec<Way>, own: &mut Lane) -> Option<Ticket
     ensures same { worker_deque own.new.ready ≡ worker_deque own.old.ready }
     ensures moved { MatchOption result
         ((ways.new.items ≡ ways.old.items)
-            × (worker_view own.new.ready ≡ worker_view own.old.ready))
+        × (worker_view own.new.ready ≡ worker_view own.old.ready))
         (λ ticket. StealsFirst 8 ways.old.items (worker_view own.old.ready) ticket
         ways.new.items (worker_view own.new.ready)) }
 {

@@ -183,8 +183,10 @@ born_of None = []
 
 -- the job after a change of task n
 abbrev pub changed_by : JobState → ℕ → Change → JobState
-changed_by j n c = record { buffer = c.buffer.items;
-    tasks = slice_set j.tasks n (member_of c.member) ++ born_of c.born }
+changed_by j n c = record {
+  buffer = c.buffer.items;
+  tasks = slice_set j.tasks n (member_of c.member) ++ born_of c.born;
+}
 
 -- nothing after a trap
 abbrev pub when : Bool → JobState → Option JobState
@@ -228,7 +230,7 @@ FarOn may on (Ends r0 last) = ⊥
 FarOn may on (Spawns birth taken refused) = ⊥
 FarOn may on (Calls helper arguments caller) =
     (4294967296 ≤ caller.slot)
-        ⊎ ((answer : ℕ) × may helper arguments answer × on (answered caller answer))
+    ⊎ ((answer : ℕ) × may helper arguments answer × on (answered caller answer))
 FarOn may on (Traps trap) = ⊥
 
 -- within so many steps a task that runs alone may get to more than the reference has
@@ -236,7 +238,7 @@ abbrev pub FarWithin : Program → MayAnswer → ℕ → State → Type 0
 FarWithin p may zero s = ⊥
 FarWithin p may (suc n) s =
     (4294967296 ≤ s.slot)
-        ⊎ (GoesFar (effect p no_entries s) ⊎ FarOn may (FarWithin p may n) (effect p no_entries s))
+    ⊎ (GoesFar (effect p no_entries s) ⊎ FarOn may (FarWithin p may n) (effect p no_entries s))
 
 -- a child's base, or its number among its parent's children, is more than the reference has, and
 -- the spawn isn't refused

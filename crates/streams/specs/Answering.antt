@@ -97,7 +97,7 @@ abbrev pub Submits : {R : Type 0} → (R → ℕ → core.AdmittedJob → Result
     → Ledger → R → List ℕ → List ProgramBytes → ℕ → List ℕ → Data → Ledger → R → Type 0
 Submits starts desk runner name programs credit buffer told after left =
     TakesJob starts desk runner name programs credit buffer told after left
-        ⊎ TakesNone desk runner name programs credit buffer told after left
+    ⊎ TakesNone desk runner name programs credit buffer told after left
 
 -- What is told to what a frame asks, or to the number of its refusal, and the desk and the runner
 -- after it. An open job's status is what the runner's look tells.
@@ -115,7 +115,7 @@ Replies starts looks desk runner (Ok (submit name order)) told after left =
     × Submits starts desk runner name programs order.credit order.buffer told after left
 Replies starts looks desk runner (Ok (status number)) told after left =
     (seen : Progress) × looks runner number seen left
-        × (told ≡ progress_told (progress_at desk number seen)) × (after ≡ desk)
+    × (told ≡ progress_told (progress_at desk number seen)) × (after ≡ desk)
 Replies starts looks desk runner (Ok (result number)) told after left =
     (told ≡ report_told (report_at desk number)) × (after ≡ desk) × (left ≡ runner)
 

@@ -59,7 +59,7 @@ Tells desk (Ok (account name)) told after =
 Tells desk (Ok (submit name order)) told after =
     (programs : List ProgramBytes) × (map program_asked programs ≡ order.programs)
     × (TakesAndPlays desk name programs order.credit order.buffer told after
-        ⊎ PlaysNone desk name programs order.credit order.buffer told after)
+    ⊎ PlaysNone desk name programs order.credit order.buffer told after)
 Tells desk (Ok (status number)) told after =
     (told ≡ progress_told (progress_at desk number unseen)) × (after ≡ desk)
 Tells desk (Ok (result number)) told after =
@@ -111,7 +111,7 @@ abbrev pub BeginsWith : List ℕ → List (List ℕ) → List ℕ → List ℕ �
 BeginsWith bytes further text part =
     (more : List ℕ) × ((part ++ more ≡ text)
     ⊎ ((front (frames_of bytes).rest ≡ too_large) × (further ≡ [])
-        × (part ++ more ≡ text ++ too_large_reply)))
+    × (part ++ more ≡ text ++ too_large_reply)))
 
 -- From a desk and reports to others the first payloads of the bytes are answered, and what was
 -- written is a beginning of the replies over their ledgers.

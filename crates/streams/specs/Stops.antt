@@ -88,7 +88,7 @@ abbrev pub IsUnwritten : {S : Type 0} → StreamFault → (S → Result Asked �
 IsUnwritten ReadFailed answers s query before t after = ⊥
 IsUnwritten WriteFailed answers s query before t after =
     (reply : List ℕ) × (n : ℕ) × (n < length reply) × answers s query reply t
-        × (after ≡ before ++ take n reply)
+    × (after ≡ before ++ take n reply)
 IsUnwritten NoMemory answers s query before t after =
     (reply : List ℕ) × answers s query reply t × (after ≡ before)
 

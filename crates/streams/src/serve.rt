@@ -198,7 +198,7 @@ pub fn serve_stream<R: Source, W: Sink, D, H: Handler<D>>(
     ensures served { IfOk result (λ number. (all : List ℕ)
         × (R.transcript reader.new ≡ R.transcript reader.old ++ all)
         × IsServed H.answers (desk.old, handler.old) all (W.transcript writer.old)
-            (R.is_over reader.new
+        (R.is_over reader.new
         ≡ true) (desk.new, handler.new) number (W.transcript writer.new)) }
     ensures stopped { IfErr result (λ fault. (all : List ℕ)
         × (R.transcript reader.new ≡ R.transcript reader.old ++ all)

@@ -11,8 +11,14 @@ pub record Finished : Type 0 where
 
 -- the state of a task whose range has these bytes
 abbrev pub state_with : Task → List ℕ → State
-state_with t bytes = record { slot = t.slot; registers = t.registers; stack = t.stack; part = bytes;
-    held = t.held; used = t.used }
+state_with t bytes = record {
+  slot = t.slot;
+  registers = t.registers;
+  stack = t.stack;
+  part = bytes;
+  held = t.held;
+  used = t.used;
+}
 
 -- a task that goes on from this state after a spawn that was taken
 abbrev pub parent_of : Task → State → Task
@@ -26,7 +32,7 @@ Comes on t result (Ends r0 last) =
     result ≡ record { ending = ending_of t last r0; bytes = last.part } ∷ []
 Comes on t result (Spawns birth taken refused) =
     (own child : List Finished) × on (parent_of t taken) taken.part own
-        × on (child_of t taken birth) birth.bytes child × (result ≡ child ++ own)
+    × on (child_of t taken birth) birth.bytes child × (result ≡ child ++ own)
 Comes on t result (Calls helper arguments caller) = ⊥
 Comes on t result (Traps trap) = ⊥
 
@@ -67,7 +73,7 @@ abbrev pub ChildrenCome : List Program → Task → ℕ → List SpawnRequest �
 ChildrenCome programs t k [] result = result ≡ []
 ChildrenCome programs t k (a ∷ later) result = (child others : List Finished) × (a.refused ≡ false)
     × Eval programs (child_at t k a) a.birth.bytes child
-        × ChildrenCome programs t (suc k) later others × (result ≡ child ++ others)
+    × ChildrenCome programs t (suc k) later others × (result ≡ child ++ others)
 
 -- A task by itself, from its present state on, all its spawns taken; then each of its children,
 -- numbered from those that it has.
@@ -81,8 +87,10 @@ pub record SoloThenChildren (programs : List Program) (t : Task) (bytes : List �
   pub alone : Solo program (entries_of programs) (state_with t bytes) asked r0 last
   pub children : List Finished
   pub come : ChildrenCome programs t (suc t.children) asked children
-  pub is : result ≡ children ++ record { ending = ending_of (with_state t last) last r0;
-      bytes = last.part } ∷ []
+  pub is : result ≡ children ++ record {
+    ending = ending_of (with_state t last) last r0;
+    bytes = last.part;
+  } ∷ []
 
 -- what a member comes to: an ended task stays as it is, and a live one is evaluated
 abbrev pub MemberComes : List Program → List ℕ → Member → List Finished → Type 0
@@ -95,7 +103,7 @@ abbrev pub MembersCome : List Program → List ℕ → List Member → List Fini
 MembersCome programs buffer [] result = result ≡ []
 MembersCome programs buffer (m ∷ ms) result =
     (own later : List Finished) × MemberComes programs buffer m own
-        × MembersCome programs buffer ms later × (result ≡ own ++ later)
+    × MembersCome programs buffer ms later × (result ≡ own ++ later)
 
 -- the ended tasks of a job joined with what its live tasks come to, in the order of their numbers
 abbrev pub JobComes : List Program → JobState → List Finished → Type 0

@@ -20,9 +20,9 @@ Proceeds on asked r0 last (Continues next) = on asked next
 Proceeds on asked r0 last (Ends word state) = (asked ≡ []) × (word ≡ r0) × (state ≡ last)
 Proceeds on asked r0 last (Spawns birth taken refused) = (later : List SpawnRequest) × (
     ((asked ≡ record { birth = birth; at = length taken.part; refused = false } ∷ later)
-        × on later taken)
+    × on later taken)
     ⊎ ((asked ≡ record { birth = birth; at = length taken.part; refused = true } ∷ later)
-        × on later refused))
+    × on later refused))
 Proceeds on asked r0 last (Calls helper arguments caller) = ⊥
 Proceeds on asked r0 last (Traps trap) = ⊥
 

@@ -65,7 +65,7 @@ abbrev pub RunInTurn : Checked → ℕ → List ℕ → List Run → List Run �
 RunInTurn p credit old asked told zero new = new ≡ old
 RunInTurn p credit old asked told (suc n) new =
     (before : List ℕ) × RunInTurn p credit old asked told n before
-        × IsTurn p credit before new asked told n
+    × IsTurn p credit before new asked told n
 
 -- a program verified once and run on each piece in turn; or refused, where nothing changes
 pub data IsBurst (need : ℕ) (code : List ℕ) (credit : ℕ) (old new : List ℕ) (asked told : List Run)

@@ -47,7 +47,7 @@ abbrev pub cut_unsigned : Ranges → Ranges
 cut_unsigned n =
     if int_le (pos 0) n.signed.lo || int_lt n.signed.hi (pos 0)
     then ranges (interval (max n.unsigned.lo (residue 64 n.signed.lo))
-        (min n.unsigned.hi (residue 64 n.signed.hi))) n.signed
+    (min n.unsigned.hi (residue 64 n.signed.hi))) n.signed
     else n
 
 -- each range cut to what the other one tells

@@ -67,8 +67,10 @@ tells AtMost b = true
 
 -- the two ranges of numbers that stand so
 abbrev pub narrowed : Relation → Interval → Interval → Interval × Interval
-narrowed Same a b = (interval (max a.lo b.lo) (min a.hi b.hi),
-    interval (max a.lo b.lo) (min a.hi b.hi))
+narrowed Same a b = (
+  interval (max a.lo b.lo) (min a.hi b.hi),
+  interval (max a.lo b.lo) (min a.hi b.hi),
+)
 narrowed Above a b = (interval (max a.lo (b.lo + 1)) a.hi, interval b.lo (min b.hi (a.hi - 1)))
 narrowed AtLeast a b = (interval (max a.lo b.lo) a.hi, interval b.lo (min b.hi a.hi))
 narrowed Below a b = (interval a.lo (min a.hi (b.hi - 1)), interval (max b.lo (a.lo + 1)) b.hi)
@@ -155,7 +157,7 @@ abbrev pub refined_by : Insn → Bool → Abs → Abs → Abs × Abs
 refined_by (JumpIf w t d s o) taken (Num a) (Num b) =
     if is_other d s && is_whole w a (compared s w b)
     then refined_pair (is_register s) a b
-        (refined_ranges (relation_of t taken) (signed_relation_of w t taken) a (compared s w b))
+    (refined_ranges (relation_of t taken) (signed_relation_of w t taken) a (compared s w b))
     else (Num a, Num b)
 refined_by i taken a b = (a, b)
 

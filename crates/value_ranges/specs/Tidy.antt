@@ -19,9 +19,9 @@ pub record IsTidy (n : Ranges) : Type 0 where
       × (n.signed.hi ≤ℤ pos n.unsigned.hi)
   pub upper_half : 2 ^ 63 ≤ n.unsigned.lo →
       ((pos n.unsigned.lo -ℤ pos (2 ^ 64)) ≤ℤ n.signed.lo)
-          × (n.signed.hi ≤ℤ (pos n.unsigned.hi -ℤ pos (2 ^ 64)))
+      × (n.signed.hi ≤ℤ (pos n.unsigned.hi -ℤ pos (2 ^ 64)))
   pub positive : pos 0 ≤ℤ n.signed.lo → (n.signed.lo ≤ℤ pos n.unsigned.lo)
       × (pos n.unsigned.hi ≤ℤ n.signed.hi)
   pub negative : n.signed.hi <ℤ pos 0 →
       (n.signed.lo ≤ℤ (pos n.unsigned.lo -ℤ pos (2 ^ 64)))
-          × ((pos n.unsigned.hi -ℤ pos (2 ^ 64)) ≤ℤ n.signed.hi)
+      × ((pos n.unsigned.hi -ℤ pos (2 ^ 64)) ≤ℤ n.signed.hi)

@@ -52,4 +52,4 @@ entry need r =
 abbrev pub CoversEntry : ℕ → ℕ → Abs → Type 0
 CoversEntry need r a =
     (size arg : ℕ) → need ≤ size → size ≤ max_part → arg < 2 ^ 64
-        → Covers a (entry_registers size arg r)
+    → Covers a (entry_registers size arg r)

@@ -22,8 +22,12 @@ pub record Checked : Type 0 where
   pub costs : List ℕ
 
 abbrev pub program_of : Checked → Program
-program_of p = record { need = p.need; code = p.code; costs = p.costs;
-    registered = arity_in p.helpers }
+program_of p = record {
+  need = p.need;
+  code = p.code;
+  costs = p.costs;
+  registered = arity_in p.helpers;
+}
 
 abbrev pub state_at : Checked → ℕ → Option State
 state_at p slot = slice_index_or p.states slot None

@@ -51,8 +51,8 @@ abbrev pub joined_edges : Subject → (ℕ → InState) → ℕ → ℕ → InSt
 joined_edges p in_state s zero = Unreached
 joined_edges p in_state s (suc k) =
     joined_in_state (joined_in_state (joined_in_state (joined_edges p in_state s k)
-        (edge_state p in_state s k Always)) (edge_state p in_state s k NotTaken))
-        (edge_state p in_state s k Taken)
+    (edge_state p in_state s k Always)) (edge_state p in_state s k NotTaken))
+    (edge_state p in_state s k Taken)
 
 -- at the first slot the entry state arrives, elsewhere the join over all edges from slots below n
 abbrev pub in_state_by : Subject → (ℕ → InState) → ℕ → ℕ → InState

@@ -45,14 +45,14 @@ HasPropagatedAll p firsts slot =
 abbrev pub IsStillStored : Subject → List (Option ℕ) → ℕ → State → Option State → Type 0
 IsStillStored p firsts slot in_states state =
     (state ≡ Some in_states)
-        ⊎ ((state ≡ None) × (is_kept p.code slot ≡ false) × HasPropagatedAll p firsts slot)
+    ⊎ ((state ≡ None) × (is_kept p.code slot ≡ false) × HasPropagatedAll p firsts slot)
 
 -- what is there of a slot whose instruction has been examined
 abbrev pub IsProcessed : Subject → List (Option ℕ) → ℕ → Option State → Type 0
 IsProcessed p firsts slot state =
     (IsBlocked p slot × (state ≡ None))
-        ⊎ ((in_states : State) × IsVisited p slot in_states
-        × IsStillStored p firsts slot in_states state)
+    ⊎ ((in_states : State) × IsVisited p slot in_states
+    × IsStillStored p firsts slot in_states state)
 
 -- the slot is at one of the first n places
 pub record IsAmong (order : List ℕ) (n : ℕ) (slot : ℕ) : Type 0 where

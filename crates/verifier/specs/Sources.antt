@@ -28,7 +28,7 @@ link_of links Zero p s = None
 link_of links (One to) p s = slice_index_or links.following p None
 link_of links (Two following to) p s =
     if following == s then slice_index_or links.following p None
-        else slice_index_or links.taken p None
+    else slice_index_or links.taken p None
 
 -- the slots from n on are linked, and their edges counted
 pub record AreLinked (code : Code) (links : Links) (n : ℕ) : Type 0 where

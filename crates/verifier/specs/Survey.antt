@@ -13,8 +13,11 @@ use Rattle.verifier.specs.Regions.{accessed}
 use Rattle.verifier.specs.Verdict.{IsTable}
 
 abbrev pub subject_of : Survey → Subject
-subject_of survey = record { need = survey.need; helpers = survey.helpers.now;
-    code = survey.graph.now.code }
+subject_of survey = record {
+  need = survey.need;
+  helpers = survey.helpers.now;
+  code = survey.graph.now.code;
+}
 
 -- the region is that of the access at the slot, if there is one
 abbrev pub IsRegionThere : Subject → ℕ → Region → Type 0

@@ -32,8 +32,12 @@ impl Model for Sources {
 
     ghost Value = { Links };
 
-    ghost view = { λ t. record { first = t.first.items; following = t.following.items;
-        taken = t.taken.items; edges = t.edges.items } };
+    ghost view = { λ t. record {
+      first = t.first.items;
+      following = t.following.items;
+      taken = t.taken.items;
+      edges = t.edges.items;
+    } };
 }
 
 impl Sources {

@@ -138,7 +138,7 @@ fn propagate_edges(
         → Some state ≡ slice_index_or states.old visited.now.from None →
         in_state_of (slice_index_or states.new to None)
         ≡ joined_in_state (joined_in_state
-            (joined_in_state (in_state_of (slice_index_or states.old to None))
+        (joined_in_state (in_state_of (slice_index_or states.old to None))
         (if_leads_to (leads_at graph.now.code visited.now.from Always) to
         (Reached (transferred visited.now.insn.now Always state))))
         (if_leads_to (leads_at graph.now.code visited.now.from NotTaken) to
@@ -473,7 +473,7 @@ fn kept(
         × (in_state (subject_of survey.now) s ≡ Reached state) }
     ensures { IfOk result
         (λ kept. AreKeptStates (subject_of survey.now) kept.items
-            (length survey.now.graph.now.code)) }
+        (length survey.now.graph.now.code)) }
 {
     let slots = survey.graph.slots();
     let mut kept = Vec::new(alloc);

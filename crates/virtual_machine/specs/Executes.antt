@@ -50,10 +50,10 @@ abbrev pub IsUnrunnable : Option Checked → ℕ → ℕ → VmFault → Type 0
 IsUnrunnable program credit len NoProgram = program ≡ None
 IsUnrunnable program credit len (CreditLow wanted given) =
     (p : Checked) × (program ≡ Some p) × (credit < cost_at p 0) × (wanted ≡ cost_at p 0)
-        × (given ≡ credit)
+    × (given ≡ credit)
 IsUnrunnable program credit len (MemoryShort wanted given) =
     (p : Checked) × (program ≡ Some p) × (cost_at p 0 ≤ credit) × (len < p.need) × (wanted ≡ p.need)
-        × (given ≡ len)
+    × (given ≡ len)
 IsUnrunnable program credit len NoMemory = ⊥
 
 -- the program is that of the bytes, verified with these helpers

@@ -44,4 +44,4 @@ AreSameHelpers table other = (id : ℕ) → arity_in table id ≡ arity_in other
 abbrev pub HaveFunctions : {R : Type 0} → Table → List (Option R) → Type 0
 HaveFunctions table functions =
     (place arity : ℕ) → slice_index_or table place None ≡ Some arity
-        → slice_index_or functions place None ≢ None
+    → slice_index_or functions place None ≢ None

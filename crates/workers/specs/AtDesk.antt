@@ -20,17 +20,17 @@ HasMore old event new =
 abbrev pub IsParked : LockedBook → Ticket → LockedBook → Type 0
 IsParked old ticket new =
     ((new.has_refused ≡ old.has_refused) × (new.book.waiting ≡ old.book.waiting ++ ticket ∷ [])
-        × HasMore old.book (Park ticket.number) new.book)
+    × HasMore old.book (Park ticket.number) new.book)
     ⊎ ((fault : BookFault) × IsParkFault old.book ticket fault × (new.has_refused ≡ true)
-        × (new.book ≡ old.book))
+    × (new.book ≡ old.book))
 
 -- the task has ended; or the book has refused that, and the desk remembers it
 abbrev pub IsEnded : LockedBook → Outcome → LockedBook → Type 0
 IsEnded old outcome new =
     ((new.has_refused ≡ old.has_refused) × (new.book.waiting ≡ old.book.waiting)
-        × HasMore old.book (end_event outcome) new.book)
+    × HasMore old.book (end_event outcome) new.book)
     ⊎ ((fault : BookFault) × IsEndFault old.book outcome fault × (new.has_refused ≡ true)
-        × (new.book ≡ old.book))
+    × (new.book ≡ old.book))
 
 -- each of these tasks, in this order
 abbrev pub AreEnded : LockedBook → List Outcome → LockedBook → Type 0
@@ -42,7 +42,7 @@ AreEnded old (outcome ∷ outcomes) new =
 abbrev pub IsFoundAt : LockedBook → Found → LockedBook → Type 0
 IsFoundAt old (Ready ticket) new =
     (old.has_refused ≡ false) × (new.has_refused ≡ false)
-        × (old.book.waiting ≡ ticket ∷ new.book.waiting)
-        × HasMore old.book (Claim ticket.number) new.book
+    × (old.book.waiting ≡ ticket ∷ new.book.waiting)
+    × HasMore old.book (Claim ticket.number) new.book
 IsFoundAt old Nothing new = (old.has_refused ≡ false) × (old.book.waiting ≡ []) × (new ≡ old)
 IsFoundAt old Refusal new = (old.has_refused ≡ true) × (new ≡ old)

@@ -36,7 +36,7 @@ pub record IsHanded (old : Moved) (child : SpawnRecord) (new : Moved) : Type 0 w
 abbrev pub IsKeptBeside : Moved → LockedBook → Ticket → Moved → LockedBook → Type 0
 IsKeptBeside lanes desk ticket lanes_after desk_after =
     (Puts lanes (ticket ∷ []) lanes_after × (desk_after ≡ desk))
-        ⊎ ((lanes_after ≡ lanes) × IsParked desk ticket desk_after)
+    ⊎ ((lanes_after ≡ lanes) × IsParked desk ticket desk_after)
 
 -- The book at the desk has this child, whose parent is the task whose turn it is. Its ticket is
 -- kept.
