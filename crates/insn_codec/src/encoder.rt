@@ -349,7 +349,7 @@ fn is_too_long(insns: &[Insn]) -> bool
     let mut slots = 0;
     for insn in insns {
         slots += insn.slots();
-        if slots > MAX_SLOTS {
+        if slots as usize > MAX_SLOTS {
             return true;
         }
     }

@@ -13,22 +13,22 @@ use Rattle.instruction_rules.specs.Covers.{abs_at}
 use Rattle.instruction_rules.specs.States.{operand_at, or_unset, answer_range}
 
 -- nothing is known where it has none
-abbrev pub left_by : Insn → State → Abs
-left_by (Alu w op dst src) state =
+abbrev pub destination_left : Insn → State → Abs
+destination_left (Alu w op dst src) state =
     or_unset (value_table (Alu w op dst src) (abs_at state dst) (operand_at state src))
-left_by (Mov w dst src) state =
+destination_left (Mov w dst src) state =
     or_unset (value_table (Mov w dst src) (abs_at state dst) (operand_at state src))
-left_by (MovSx e dst src) state =
+destination_left (MovSx e dst src) state =
     or_unset (value_table (MovSx e dst src) (abs_at state dst) (abs_at state src))
-left_by (Neg w dst) state = or_unset (value_table (Neg w dst) (abs_at state dst) (abs_at state dst))
-left_by (End order size dst) state =
+destination_left (Neg w dst) state = or_unset (value_table (Neg w dst) (abs_at state dst) (abs_at state dst))
+destination_left (End order size dst) state =
     or_unset (value_table (End order size dst) (abs_at state dst) (abs_at state dst))
-left_by (LoadWide dst value) state = single_value value
-left_by (Load kind dst base offset) state = loaded kind
-left_by (Call helper) state = answer_range helper
-left_by i state = Unset
+destination_left (LoadWide dst value) state = single_value value
+destination_left (Load kind dst base offset) state = loaded kind
+destination_left (Call helper) state = answer_range helper
+destination_left i state = Unset
 
--- that, or the rule that is broken
+-- the value, or the rule that is broken
 abbrev pub judged : Option Rule → Abs → Result Abs Rule
 judged None left = Ok left
 judged (Some rule) left = Err rule

@@ -7,7 +7,7 @@ ghost use Rattle.helpers.specs.Table.{arity_in};
 ghost use Rattle.machine_model.specs.Memory.{store_bytes, load_bytes};
 ghost use Rattle.instruction_rules.specs.Covers.{abs_at};
 ghost use Rattle.instruction_rules.specs.States.{fault, first, unset_fault, number_fault, region_fault, access_fault, table_fault, write_fault, call_fault, or_unset, answer_range};
-ghost use Rattle.instruction_rules.specs.Judged.{judged, left_by};
+ghost use Rattle.instruction_rules.specs.Judged.{judged, destination_left};
 ghost use Rattle.value_ranges.specs.Words.{loaded};
 
 use crate::calls::call_fault;
@@ -280,7 +280,7 @@ fn call(need: u32, helpers: &HelperTable, state: &State, helper: u32) -> Result<
 #[inline(always)]
 pub fn judge(need: u32, helpers: &HelperTable, insn: &Insn, state: &State) -> Result<Abs, Rule>
     ensures { result
-        ≡ judged (fault need helpers.now insn.now state.now) (left_by insn.now state.now) }
+        ≡ judged (fault need helpers.now insn.now state.now) (destination_left insn.now state.now) }
 {
     match *insn {
         Insn::Alu { dst, src, .. } => binary(insn, state.at(dst), state.operand(&src), dst),

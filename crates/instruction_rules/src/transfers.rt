@@ -4,7 +4,7 @@ ghost use Rattle.std.specs.Prelude.{◌≡◌, if◌then◌else◌};
 ghost use Rattle.machine_model.specs.Edges.{NotTaken, Taken};
 ghost use Rattle.value_ranges.specs.Refinements.{IsConditional, refined_by};
 ghost use Rattle.instruction_rules.specs.Covers.{abs_at};
-ghost use Rattle.instruction_rules.specs.Judged.{left_by};
+ghost use Rattle.instruction_rules.specs.Judged.{destination_left};
 ghost use Rattle.instruction_rules.specs.States.{transferred, operand_at, refined_state};
 
 use crate::state::State;
@@ -26,7 +26,7 @@ fn refine_operands(state: &mut State, insn: &Insn, taken: bool, dst: Register, s
 /// of a jump that is taken or on another edge.
 #[inline(always)]
 pub fn transfer(state: &mut State, insn: &Insn, taken: bool, left: &Abs)
-    requires { left.now ≡ left_by insn.now state.old }
+    requires { left.now ≡ destination_left insn.now state.old }
     ensures { state.new ≡ transferred insn.now (if taken then Taken else NotTaken) state.old }
 {
     match *insn {

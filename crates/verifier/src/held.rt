@@ -3,7 +3,7 @@
 ghost use Rattle.std.specs.Prelude.{◌≡◌, IfOk, if◌then◌else◌};
 ghost use Rattle.machine_model.specs.Edges.{NotTaken, Taken};
 ghost use Rattle.instruction_rules.specs.Joining.{joined_into};
-ghost use Rattle.instruction_rules.specs.Judged.{left_by};
+ghost use Rattle.instruction_rules.specs.Judged.{destination_left};
 ghost use Rattle.instruction_rules.specs.States.{joined_state, transferred};
 
 use insn_codec::Insn;
@@ -47,7 +47,7 @@ impl Held {
     /// The state becomes what is known after an instruction.
     #[inline(always)]
     pub(crate) fn transfer(&mut self, insn: &Insn, taken: bool, left: &Abs)
-        requires { left.now ≡ left_by insn.now self.old }
+        requires { left.now ≡ destination_left insn.now self.old }
         ensures { self.new ≡ transferred insn.now (if taken then Taken else NotTaken) self.old }
     {
         transfer(&mut self.state, insn, taken, left);

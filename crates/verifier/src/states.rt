@@ -8,7 +8,7 @@ ghost use Rattle.flow_graph.specs.Cycles.{IsJoint};
 ghost use Rattle.flow_graph.specs.Flow.{AreNext};
 ghost use Rattle.instruction_rules.specs.declared.state.State.{State};
 ghost use Rattle.instruction_rules.specs.States.{entry_state, transferred};
-ghost use Rattle.instruction_rules.specs.Judged.{left_by};
+ghost use Rattle.instruction_rules.specs.Judged.{destination_left};
 ghost use Rattle.verifier.specs.InStates.{in_state, joined_in_state, if_leads_to, Reached};
 ghost use Rattle.verifier.specs.Verdict.{RefusesStates, in_state_of};
 ghost use Rattle.verifier.specs.Propagation.{HasPropagated, IsAmong, IsVisitResult, IsVisited, earlier};
@@ -91,7 +91,7 @@ fn propagate_edge(
     requires from { visited.now.from < length states.old }
     requires to { to < length states.old }
     requires left { (state : State) → Some state ≡ slice_index_or states.old visited.now.from None
-        → visited.now.left ≡ left_by visited.now.insn.now state }
+        → visited.now.left ≡ destination_left visited.now.insn.now state }
     ensures slots { OnOk result (length states.new ≡ length states.old) }
     ensures others { OnOk result ((s : ℕ) → s ≢ to → s ≢ visited.now.from
         → slice_index_or states.new s None ≡ slice_index_or states.old s None) }
@@ -128,7 +128,7 @@ fn propagate_edges(
     requires from { visited.now.from < length states.old }
     requires to { to < length states.old }
     requires left { (state : State) → Some state ≡ slice_index_or states.old visited.now.from None
-        → visited.now.left ≡ left_by visited.now.insn.now state }
+        → visited.now.left ≡ destination_left visited.now.insn.now state }
     ensures slots { OnOk result (length states.new ≡ length states.old) }
     ensures others { OnOk result ((s : ℕ) → s ≢ to → s ≢ visited.now.from
         → slice_index_or states.new s None ≡ slice_index_or states.old s None) }
@@ -179,7 +179,7 @@ fn propagate_to(
     requires slots { length states.old ≡ length graph.now.code }
     requires first { slice_index_or sources.old.first to None ≡ Some visited.now.from }
     requires left { (state : State) → Some state ≡ slice_index_or states.old visited.now.from None
-        → visited.now.left ≡ left_by visited.now.insn.now state }
+        → visited.now.left ≡ destination_left visited.now.insn.now state }
     ensures linked { OnOk result (IsLinked graph.now.code sources.new) }
     ensures slots { OnOk result (length states.new ≡ length states.old) }
     ensures from { OnOk result ((state : State)
@@ -226,7 +226,7 @@ pub(crate) fn visit_again<'a>(survey: &Survey<'a>, from: u32, state: &State) -> 
     ensures from { result.from ≡ from }
     ensures insn { insn_at survey.now.graph.now.code from ≡ Some result.insn.now }
     ensures next { AreNext survey.now.graph.now.code from result.next }
-    ensures left { result.left ≡ left_by result.insn.now state.now }
+    ensures left { result.left ≡ destination_left result.insn.now state.now }
 {
     let next = survey.graph.successors(from);
     match survey.graph.insn(from) {
@@ -292,7 +292,7 @@ fn propagate_in_turn(
     requires linked { IsLinked graph.now.code sources.old }
     requires slots { length states.old ≡ length graph.now.code }
     requires left { (state : State) → Some state ≡ slice_index_or states.old visited.now.from None
-        → visited.now.left ≡ left_by visited.now.insn.now state }
+        → visited.now.left ≡ destination_left visited.now.insn.now state }
     ensures linked { OnOk result (IsLinked graph.now.code sources.new) }
     ensures slots { OnOk result (length states.new ≡ length states.old) }
     ensures from { OnOk result ((state : State)
@@ -332,7 +332,7 @@ fn propagate(
     requires linked { IsLinked graph.now.code sources.old }
     requires slots { length states.old ≡ length graph.now.code }
     requires left { (state : State) → Some state ≡ slice_index_or states.old visited.now.from None
-        → visited.now.left ≡ left_by visited.now.insn.now state }
+        → visited.now.left ≡ destination_left visited.now.insn.now state }
     ensures propagated { OnOk result ((need : ℕ) (helpers : Table) (n : ℕ) →
         HasPropagated (record { need = need; helpers = helpers; code = graph.now.code }) graph.now.order
         (suc n) sources.old states.old →

@@ -2,7 +2,7 @@ use Rattle.std.proofs.Common.{◌≡◌, ◌<◌, ◌∙◌, sym, ap, arith, len
 use Rattle.std.proofs.lemmas.List.{get_or_default}
 use Rattle.machine_model.specs.Edges.{insn_at}
 use Rattle.verifier.specs.Propagation.{IsAmong}
-use Rattle.instruction_rules.specs.Judged.{left_by}
+use Rattle.instruction_rules.specs.Judged.{destination_left}
 use Rattle.verifier.specs.Sources.{slots_left}
 use Rattle.verifier.specs.Survey.{subject_of}
 use Rattle.verifier.proofs.Options.{one_some}
@@ -35,7 +35,7 @@ propagate_to-requires-clause-left c = λ state there.
     let within = joint_within (subject_of c.args.survey.now) c.slot_at-slot.result c.in-Some.from next.0 in
     let room : c.in-Some.from < length c.loop-from.states = omega (arith, within, c.loop-from.invariant.slots) in
     c.visit_again-visited.ensures.left
-    ∙ ap (left_by c.visit_again-visited.result.insn.now) (c.get.ensures
+    ∙ ap (destination_left c.visit_again-visited.result.insn.now) (c.get.ensures
     ∙ one_some (slice_index_or c.loop-from.states c.in-Some.from None) c.in-Some-states.state state
     (sym (get_or_default c.loop-from.states c.in-Some.from c.index-states-from.result None room) ∙ c.in-Some-states.is)
     (sym (rw c.visit_again-visited.ensures.from at there)))

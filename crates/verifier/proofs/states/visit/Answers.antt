@@ -1,7 +1,7 @@
 use Rattle.std.proofs.Common.{◌≡◌, ◌<◌, ◌∙◌, sym, ap, arith, length, ℕ, Some, None, inl, inr, slice_index, slice_index_or, subst}
 use Rattle.std.proofs.lemmas.List.{get_or_default}
 use Rattle.verifier.specs.InStates.{Undefined, in_state}
-use Rattle.instruction_rules.specs.Judged.{left_by}
+use Rattle.instruction_rules.specs.Judged.{destination_left}
 use Rattle.verifier.specs.Propagation.{IsVisited}
 use Rattle.verifier.specs.Survey.{subject_of}
 use Rattle.verifier.proofs.Arrivals.{arrive_is}
@@ -57,8 +57,8 @@ pub propagate-requires-clause-left : goal.propagate-requires-clause-left
 propagate-requires-clause-left c = λ state there.
     let room : c.slot_at-slot.result < length c.propagate_waiting.new.states = omega (arith, c.slot_at-slot.ensures.within, c.in_ok-propagate_waiting.ensures.propagated.slots) in
     let kept = sym (get_or_default c.propagate_waiting.new.states c.slot_at-slot.result c.index-states-slot-2.result None room) ∙ c.in-Some-states.is in
-    let judged = allowed_is _ (left_by c.unwrap-insn.result.now c.get-in-Some-states.result.now) c.in-Ok.left c.in-Ok.ensures in
-    judged.1 ∙ ap (left_by c.unwrap-insn.result.now) (c.get-in-Some-states.ensures
+    let judged = allowed_is _ (destination_left c.unwrap-insn.result.now c.get-in-Some-states.result.now) c.in-Ok.left c.in-Ok.ensures in
+    judged.1 ∙ ap (destination_left c.unwrap-insn.result.now) (c.get-in-Some-states.ensures
     ∙ one_some (slice_index_or c.propagate_waiting.new.states c.slot_at-slot.result None) c.in-Some-states.state state kept (sym there))
 
 pub returns-in-Err-clause-propagated : goal.returns-in-Err-clause-propagated
@@ -68,7 +68,7 @@ returns-in-Err-clause-propagated c =
     let arrives = comes_there (in_state (subject_of c.args.survey.now) c.slot_at-slot.result) (slice_index_or c.propagate_waiting.new.states c.slot_at-slot.result None) c.in-Some-states.state kept
     (all_come (subject_of c.args.survey.now) c.args.survey.now.graph.now.order c.args.place c.slot_at-slot.result c.propagate_waiting.new.sources c.propagate_waiting.new.states
     c.slots-slots.ensures.flow.order c.slot_at-slot.ensures.slot c.requires.place c.in_ok-propagate_waiting.ensures.propagated (sym c.in_default.ensures)) in
-    let broken = refused_is _ (left_by c.unwrap-insn.result.now c.get-in-Some-states.result.now) c.in-Err.rule c.in-Err.ensures in
+    let broken = refused_is _ (destination_left c.unwrap-insn.result.now c.get-in-Some-states.result.now) c.in-Err.rule c.in-Err.ensures in
     come_cleared (subject_of c.args.survey.now) c.args.survey.now.graph.now.order c.args.place c.slot_at-slot.result c.propagate_waiting.new.sources c.propagate_waiting.new.states
     c.slot_at-slot.ensures.slot c.requires.place room c.in_ok-propagate_waiting.ensures.propagated
     (blocked_at_fault (subject_of c.args.survey.now) c.slot_at-slot.result c.in-Err.rule (record {
@@ -86,7 +86,7 @@ returns-in-Err-clause-found c =
     let arrives = comes_there (in_state (subject_of c.args.survey.now) c.slot_at-slot.result) (slice_index_or c.propagate_waiting.new.states c.slot_at-slot.result None) c.in-Some-states.state kept
     (all_come (subject_of c.args.survey.now) c.args.survey.now.graph.now.order c.args.place c.slot_at-slot.result c.propagate_waiting.new.sources c.propagate_waiting.new.states
     c.slots-slots.ensures.flow.order c.slot_at-slot.ensures.slot c.requires.place c.in_ok-propagate_waiting.ensures.propagated (sym c.in_default.ensures)) in
-    let broken = refused_is _ (left_by c.unwrap-insn.result.now c.get-in-Some-states.result.now) c.in-Err.rule c.in-Err.ensures in (
+    let broken = refused_is _ (destination_left c.unwrap-insn.result.now c.get-in-Some-states.result.now) c.in-Err.rule c.in-Err.ensures in (
       c.slot_at-slot.ensures.slot,
       record {
         insn = c.unwrap-insn.result.now;
@@ -104,7 +104,7 @@ passes c =
     let arrives = comes_there (in_state (subject_of c.args.survey.now) c.slot_at-slot.result) (slice_index_or c.propagate_waiting.new.states c.slot_at-slot.result None) c.in-Some-states.state kept
     (all_come (subject_of c.args.survey.now) c.args.survey.now.graph.now.order c.args.place c.slot_at-slot.result c.propagate_waiting.new.sources c.propagate_waiting.new.states
     c.slots-slots.ensures.flow.order c.slot_at-slot.ensures.slot c.requires.place c.in_ok-propagate_waiting.ensures.propagated (sym c.in_default.ensures)) in
-    let judged = allowed_is _ (left_by c.unwrap-insn.result.now c.get-in-Some-states.result.now) c.in-Ok.left c.in-Ok.ensures in record {
+    let judged = allowed_is _ (destination_left c.unwrap-insn.result.now c.get-in-Some-states.result.now) c.in-Ok.left c.in-Ok.ensures in record {
       insn = c.unwrap-insn.result.now;
       there = sym (rw c.unwrap-insn.ensures at c.insn.ensures);
       arrives = arrives;
