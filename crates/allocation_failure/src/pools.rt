@@ -107,8 +107,8 @@ pub fn run_by_runner<R>(rt: R, alloc: Global) -> Result<Vec<u64>, Stop>
 where
     R: Threads + Wait + Copy + Send + Sync + Drop + 'static,
 {
-    let starter = move |errand: JobRequest| -> Option<JobThread> {
-        start_thread(rt, errand, WORKERS)
+    let starter = move |request: JobRequest| -> Option<JobThread> {
+        start_thread(rt, request, WORKERS)
     };
     let mut runner = PoolRunner::new(rt, alloc, starter);
     let mut given = None;

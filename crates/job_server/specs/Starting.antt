@@ -5,13 +5,13 @@ use Rattle.credit_book.specs.declared.book.Report.{Report}
 use Rattle.job_server.specs.declared.ending.EndOf.{EndOf}
 use Rattle.job_server.specs.declared.job_request.JobRequest.{JobRequest}
 
--- the thread promises the end of the errand's own job, under its own number
+-- the thread promises the end of the request's own job, under its own number
 abbrev pub IsStarted : JobRequest → PromisedHandle (Result Report ℕ) EndOf → Type 0
-IsStarted errand thread =
-    (thread.promise.number ≡ errand.number) × (thread.promise.job.value ≡ errand.job)
+IsStarted request thread =
+    (thread.promise.number ≡ request.number) × (thread.promise.job.value ≡ request.job)
 
--- so does each thread that may come of an errand
+-- so does each thread that may come of an request
 abbrev pub StartsOwn : (JobRequest → Option (PromisedHandle (Result Report ℕ) EndOf) → Type 0)
     → Type 0
-StartsOwn may_start = (errand : JobRequest) (thread : PromisedHandle (Result Report ℕ) EndOf)
-    → may_start errand (Some thread) → IsStarted errand thread
+StartsOwn may_start = (request : JobRequest) (thread : PromisedHandle (Result Report ℕ) EndOf)
+    → may_start request (Some thread) → IsStarted request thread

@@ -13,8 +13,8 @@ use streams::Runner;
 /// Runs each job in a thread of its own, which `starter` starts.
 ///
 /// A method of a trait can't send its handle to a thread, so the caller gives a closure that does:
-/// `|errand| start_thread(rt, errand, workers)`. It may be called on any errand, and its threads
-/// promise the end of the errand's own job. That a thread is ever run, or a job ever finished, is
+/// `|request| start_thread(rt, request, workers)`. It may be called on any request, and its threads
+/// promise the end of the request's own job. That a thread is ever run, or a job ever finished, is
 /// nowhere claimed.
 #[derive(Drop)]
 pub struct PoolRunner<R, F: Fn(JobRequest) -> Option<JobThread>> {

@@ -63,14 +63,14 @@ pub(crate) fn begin<F: Fn(JobRequest) -> Option<JobThread>>(
     let Ok(for_thread) = Arc::try_clone(&is_done) else {
         return Err(99);
     };
-    let errand = JobRequest {
+    let request = JobRequest {
         alloc,
         number,
         job,
         post,
         is_done: for_thread,
     };
-    match starter(errand) {
+    match starter(request) {
         Some(thread) => Ok(Running {
             board,
             reader,

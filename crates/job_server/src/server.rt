@@ -31,10 +31,10 @@ pub fn serve_on<R: Threads + Wait + Copy + Send + Sync + Drop + 'static, L: List
     requires { (1 ≤ workers) × (workers ≤ 16) }
     ensures { IsServing L.opens L.fails L.notes listener sessions result }
 {
-    let starter = move |errand: JobRequest| -> Option<JobThread>
+    let starter = move |request: JobRequest| -> Option<JobThread>
         requires { (1 ≤ workers) × (workers ≤ 16) }
-        ensures { IfSome result (λ thread. IsStarted errand thread) }
-    { start_thread(rt, errand, workers) };
+        ensures { IfSome result (λ thread. IsStarted request thread) }
+    { start_thread(rt, request, workers) };
     let mut runner = PoolRunner::new(rt, alloc, starter);
     let mut desk = Desk::new(alloc);
     let served = serve_connections(alloc, &mut listener, &mut desk, &mut runner, sessions);

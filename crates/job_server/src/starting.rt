@@ -16,19 +16,19 @@ use std::thread::Threads;
 /// `None`: no thread could be started.
 pub fn start_thread<R: Threads + Wait + Copy + Send + Sync + 'static>(
     rt: R,
-    errand: JobRequest,
+    request: JobRequest,
     workers: u32,
 ) -> Option<JobThread>
     requires { (1 ≤ workers) × (workers ≤ 16) }
-    ensures { IfSome result (λ thread. IsStarted errand thread) }
+    ensures { IfSome result (λ thread. IsStarted request thread) }
 {
     let promise = EndOf {
-        number: errand.number,
-        job: Snapshot::of(&errand.job),
+        number: request.number,
+        job: Snapshot::of(&request.job),
     };
     let work = move || -> Result<Report, u8>
         requires { (1 ≤ workers) × (workers ≤ 16) }
-        ensures { IsEndOf errand.number errand.job result }
-    { errand.run(&rt, workers) };
+        ensures { IsEndOf request.number request.job result }
+    { request.run(&rt, workers) };
     thread::spawn_with(&rt, promise, work).ok()
 }

@@ -32,7 +32,7 @@ fn gives_each_job_once(rt: HostRuntime) -> Result<(), Fail> {
         returned: 0,
         complete: false,
     };
-    let starter = |errand: JobRequest| start_thread(rt, errand, 2);
+    let starter = |request: JobRequest| start_thread(rt, request, 2);
     let mut runner = PoolRunner::new(rt, alloc, starter);
     assert!(rt; runner.start(alloc, 1, job(alloc, 34)?) == Ok(()));
     // the number is held
@@ -64,7 +64,7 @@ fn gives_each_job_once(rt: HostRuntime) -> Result<(), Fail> {
 #[test]
 fn looks_while_jobs_run(rt: HostRuntime) -> Result<(), Fail> {
     let alloc = rt.alloc();
-    let starter = |errand: JobRequest| start_thread(rt, errand, 2);
+    let starter = |request: JobRequest| start_thread(rt, request, 2);
     let mut runner = PoolRunner::new(rt, alloc, starter);
     for number in [7, 8, 9] {
         assert!(rt; runner.start(alloc, number, job(alloc, 34)?) == Ok(()));
