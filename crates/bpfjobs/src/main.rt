@@ -8,39 +8,15 @@ ghost use Rattle.std.specs.Prelude.{◌≤◌};
 
 mod serving;
 
-use bpfjobs_cli::{Command, Usage, command};
+use bpfjobs_cli::{Command, FAILED, UNREAD, command, print_usage, words};
 use serving::serve;
 use std::alloc::Global;
-use std::env::Env;
+use std::io;
 use std::net::{Net, TcpStream};
 use std::process::ExitCode;
 use std::sync::Wait;
 use std::thread::Threads;
-use std::{env, io};
 use streams::Tap;
-
-// The status where the words can't be read.
-const UNREAD: u8 = 2;
-
-// The status where input, output or a socket fails.
-const FAILED: u8 = 3;
-
-// The words of the command line, the program's name first.
-fn words<R: Env + AllocGlobal>(rt: &R) -> io::Result<Vec<String>> {
-    let mut words = Vec::new(rt.alloc());
-    for word in env::args(rt)? {
-        words.push(word)?;
-    }
-    Ok(words)
-}
-
-// Prints why the words are no command, or the help that they ask for, and gives the status.
-fn explained<R: Print + Eprint>(rt: &R, usage: Usage) -> u8 {
-    if let Usage::Refused(error) = &usage {
-        let _ = error.print(rt);
-    }
-    usage.status()
-}
 
 // Reads the input, prints the answer of a command that needs no thread, and gives the status. It
 // returns if the input and the output do.
@@ -95,7 +71,7 @@ fn main(rt: HostRuntime) -> ExitCode {
     };
     let status = match command(rt.alloc(), words) {
         Ok(command) => act(rt, rt.alloc(), command),
-        Err(usage) => explained(&rt, usage),
+        Err(usage) => print_usage(&rt, usage),
     };
     ExitCode::from(status)
 }

@@ -3,11 +3,13 @@
 #![tactic(auto)]
 
 mod commands;
+mod process;
 mod program;
 mod reading;
 mod texts;
 
 pub use commands::{Command, Usage};
+pub use process::{FAILED, UNREAD, print_usage, words};
 pub use reading::command;
 
 // what is printed
