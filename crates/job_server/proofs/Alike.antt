@@ -1,5 +1,5 @@
 -- What is said of a state is said of what it comes to by a function, where that answers alike.
-use Rattle.std.proofs.Common.{◌≡◌, ◌⊎◌, ◌+◌, ℕ, List, [], Option, Some, None, Result, Ok, Err, inl, inr, ap, suc, take}
+use Rattle.std.proofs.Common.{◌≡◌, ◌⊎◌, ◌+◌, ◌++◌, ℕ, List, [], Option, Some, None, Result, Ok, Err, inl, inr, ap, suc, take}
 use Rattle.credit_book.specs.declared.book.Report.{Report}
 use Rattle.credit_book.specs.declared.board.Progress.{Progress}
 use Rattle.job_core.specs.Admitted.{AdmittedJob}
@@ -12,7 +12,7 @@ use Rattle.streams.specs.Passing as passing
 use Rattle.streams.specs.Answering.{Answers, Replies, Submits, TakesJob, TakesNone}
 use Rattle.streams.specs.Serves.{Serves}
 use Rattle.streams.specs.Serves as serving
-use Rattle.streams.specs.Stops.{IsCutOff, IsReadOut, IsServed, IsStarved, IsStoppedBy, ahead_of_reply, between, within_last, within_reply}
+use Rattle.streams.specs.Stops.{IsCutOff, IsReadOut, IsServed, IsStarved, IsStoppedBy, ahead_of_reply, between}
 use Rattle.streams.specs.declared.fault.StreamFault.{StreamFault}
 use Rattle.streams.specs.declared.fault.StreamFault.TheVariants.{ReadFailed, WriteFailed, NoMemory}
 use Rattle.job_server.specs.declared.fault.ServeFault.{ServeFault}
@@ -105,10 +105,27 @@ module _ {S T : Type 0} (g : S → T) (answers : S → Result Asked ℕ → List
   }
 
   cut_off_alike : (start : S) (bytes before : List ℕ) (end : S) (after : List ℕ) → IsCutOff answers start bytes before end after → IsCutOff answers1 (g start) bytes before (g end) after
-  cut_off_alike start bytes before end after (within_reply count s left out payload rest reply query t n less served first heard answer) =
-      within_reply count (g s) left out payload rest reply query (g t) n less (serves_alike start bytes before count s left out served) first heard (alike s query reply t answer)
-  cut_off_alike start bytes before end after (within_last count s left out n less served first) =
-      within_last count (g s) left out n less (serves_alike start bytes before count s left out served) first
+  cut_off_alike start bytes before end after s = record {
+    early = s.early;
+    piece = s.piece;
+    came = s.came;
+    short = s.short;
+    count = s.count;
+    state = g s.state;
+    left = s.left;
+    out = s.out;
+    frames = serves_alike start s.early before s.count s.state s.left s.out s.frames;
+    waits = s.waits;
+    stop = record {
+      count = s.stop.count;
+      left = s.stop.left;
+      out = s.stop.out;
+      due = s.stop.due;
+      frames = serves_alike s.state (s.left ++ s.piece) s.out s.stop.count end s.stop.left s.stop.out s.stop.frames;
+      is_due = s.stop.is_due;
+      cut = s.stop.cut;
+    };
+  }
 
   starved_alike : (start : S) (bytes before : List ℕ) (end : S) (after : List ℕ) → IsStarved answers start bytes before end after → IsStarved answers1 (g start) bytes before (g end) after
   starved_alike start bytes before end after (between count s left out served) = between count (g s) left out (serves_alike start bytes before count s left out served)

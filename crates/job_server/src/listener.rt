@@ -38,7 +38,11 @@ impl<'a, L: OpenListener<Stream = TcpStream>> Listener for &'a L {
 
     fn accept(&mut self) -> Result<TcpStream, Failed> {
         match OpenListener::accept(*self) {
-            Ok((stream, _)) => Ok(stream),
+            Ok((stream, _)) => {
+                // a reply is one write, which waits for nothing
+                let _ = stream.set_nodelay(true);
+                Ok(stream)
+            }
             Err(_) => Err(Failed),
         }
     }

@@ -1,6 +1,6 @@
 -- A desk and a runner that plays each job at its start answer as the plain ledger does.
-use Rattle.std.proofs.Common.{◌≡◌, ◌⊎◌, ◌-◌, ◌^◌, ℕ, suc, min, arith, length-append, List, [], ◌∷◌, ◌++◌, length, map, refl, sym, ap, ◌∙◌, subst, inl, inr, false, Option, Some, None, Result, Ok, Err, append_assoc, append-nil, drop, take}
-use Rattle.std.proofs.lemmas.List.{take-append-drop}
+use Rattle.std.proofs.Common.{◌≡◌, ◌⊎◌, ◌-◌, ◌^◌, ℕ, suc, min, arith, length-append, List, [], ◌∷◌, ◌++◌, length, map, refl, sym, ap, ◌∙◌, subst, inl, inr, false, Option, Some, None, Result, Ok, Err, append_assoc, append-nil, ◌+◌}
+use Rattle.std.proofs.lemmas.List.{append_cancel_left}
 use Rattle.std.specs.Ordering.{nat_cmp}
 use Rattle.std.specs.BTreeMap.{insert_entry}
 use Rattle.serde_json.specs.Data.{Data}
@@ -23,10 +23,11 @@ use Rattle.streams.specs.Passing as passing
 use Rattle.streams.specs.Answering.{Answers, Grants, GrantsNone, Replies, Settles, Submits, TakesJob, progress_told}
 use Rattle.streams.specs.Serves.{Serves}
 use Rattle.streams.specs.Serves as serving
-use Rattle.streams.specs.Stops.{EndsWith, IsServed, IsStoppedBy, StopsAt, ahead_of_reply, between, too_large_reply, within_last, within_reply}
+use Rattle.streams.specs.Stops.{EndsWith, IsCutOff, IsDue, IsGrown, IsServed, IsStoppedBy, StopsAt, ahead_of_reply, between, too_large_reply}
 use Rattle.streams.specs.declared.fault.StreamFault.{StreamFault}
 use Rattle.streams.specs.declared.fault.StreamFault.TheVariants.{ReadFailed, WriteFailed, NoMemory}
 use Rattle.streams.proofs.Answered.{opened}
+use Rattle.streams.proofs.Serving.{grows_on, serves_grow, serves_more, serves_on}
 use Rattle.streams.specs.Inline.{StartsInline, TakesInline}
 use Rattle.job_core.specs.PlaysLowest.{IsPlayed}
 use Rattle.streams.specs.LedgerReplies.{AreNoted, BeginsReplies, ComesTo, LedgerReplies, TakesAndPlays, PlaysNone, RepliesTo, Tells, WritesReplies, none_yet, one_more, unseen}
@@ -233,10 +234,10 @@ module _ {R : Type 0} (reports : R → List (ℕ × Report)) where
   first_of bytes payloads left cuts =
       cuts_are bytes (payloads ++ (frames_of left).payloads) (frames_of left).rest (cuts_then bytes payloads left (frames_of left).payloads (frames_of left).rest cuts (frames_are_cut left).cuts) (frames_are_cut left).none
 
-  -- so many frames are answered, and this part of what follows is written
-  begun : (start : Ledger × R) (bytes before : List ℕ) (count : ℕ) (end : Ledger × R) (left out : List ℕ) → Serves answers start bytes before count end left out →
-      BeginsReplies start.0 (reports start.1) bytes before end.0 (reports end.1) out
-  begun start bytes before count end left out served =
+  -- so many frames are answered, and a beginning of their replies is written
+  begun_part : (start : Ledger × R) (bytes before : List ℕ) (count : ℕ) (end : Ledger × R) (left out after lacking : List ℕ) → Serves answers start bytes before count end left out → IsGrown before after → after ++ lacking ≡ out →
+      BeginsReplies start.0 (reports start.1) bytes before end.0 (reports end.1) after
+  begun_part start bytes before count end left out after lacking served grown lacks =
       let last = all_noted (reports end.1) end.0 in
       let p = plain start bytes before count end left out last.0 served last.1 in
       record {
@@ -249,38 +250,15 @@ module _ {R : Type 0} (reports : R → List (ℕ × Report)) where
         first = ap (λ f. f.payloads) (first_of bytes p.payloads left p.cuts);
         text = p.text;
         replies = p.replies;
-        part = p.text;
-        written = p.written;
-        begins = ([], inl (append-nil p.text));
+        part = grown.0;
+        written = grown.1;
+        begins = (lacking, inl (append_cancel_left before (grown.0 ++ lacking) p.text (sym (append_assoc before grown.0 lacking) ∙ ap (λ xs. xs ++ lacking) (sym grown.1) ∙ lacks ∙ p.written)));
       }
 
-  -- of the next reply a part is written
-  begun_reply : (start : Ledger × R) (bytes before : List ℕ) (count : ℕ) (s : Ledger × R) (left out payload rest reply : List ℕ) (query : Result Asked ℕ) (end : Ledger × R) (n : ℕ) → Serves answers start bytes before count s left out →
-      front left ≡ whole payload rest → Hears payload query → answers s query reply end → BeginsReplies start.0 (reports start.1) bytes before end.0 (reports end.1) (out ++ take n reply)
-  begun_reply start bytes before count s left out payload rest reply query end n served stands heard answer =
-      let last = all_noted (reports end.1) end.0 in
-      let passed = passes_noted s.0 answer.mid s.1 answer.rest answer.passed in
-      let p = plain start bytes before count s left out answer.mid served passed.0 in
-      let told = plain_reply answer.mid end.0 last.0 answer.rest end.1 passed.1 last.1 query (reply_data answer.told) answer.replies in
-      record {
-        start = p.first;
-        noted = p.noted;
-        last = last.0;
-        noted_last = last.1;
-        payloads = p.payloads ++ payload ∷ [];
-        further = (frames_of rest).payloads;
-        first = ap (λ f. f.payloads) (first_of bytes (p.payloads ++ payload ∷ []) rest (cuts_one bytes p.payloads left payload rest p.cuts stands));
-        text = p.text ++ frame_of answer.told;
-        replies = one_more p.payloads p.text answer.mid payload query answer.told last.0 p.replies heard told;
-        part = p.text ++ take n reply;
-        written = ap (λ xs. xs ++ take n reply) p.written ∙ append_assoc before p.text (take n reply);
-        begins = (drop n reply, inl (append_assoc p.text (take n reply) (drop n reply) ∙ ap (λ xs. p.text ++ xs) (take-append-drop n reply ∙ answer.frame)));
-      }
-
-  -- of the last 71 a part is written
-  begun_last : (start : Ledger × R) (bytes before : List ℕ) (count : ℕ) (end : Ledger × R) (left out : List ℕ) (n : ℕ) → Serves answers start bytes before count end left out → front left ≡ too_large →
-      BeginsReplies start.0 (reports start.1) bytes before end.0 (reports end.1) (out ++ take n too_large_reply)
-  begun_last start bytes before count end left out n served stands =
+  -- all frames are answered, and of their replies with the last 71 a beginning is written
+  begun_last : (start : Ledger × R) (bytes before : List ℕ) (count : ℕ) (end : Ledger × R) (left out after lacking : List ℕ) → Serves answers start bytes before count end left out → IsGrown before after → front left ≡ too_large → after ++ lacking ≡ out ++ too_large_reply →
+      BeginsReplies start.0 (reports start.1) bytes before end.0 (reports end.1) after
+  begun_last start bytes before count end left out after lacking served grown stands lacks =
       let last = all_noted (reports end.1) end.0 in
       let p = plain start bytes before count end left out last.0 served last.1 in
       let cut = cuts_are bytes p.payloads left p.cuts (subst HasNoFrame (sym stands) tt) in
@@ -294,25 +272,50 @@ module _ {R : Type 0} (reports : R → List (ℕ × Report)) where
         first = ap (λ f. f.payloads) cut ∙ sym (append-nil p.payloads);
         text = p.text;
         replies = p.replies;
-        part = p.text ++ take n too_large_reply;
-        written = ap (λ xs. xs ++ take n too_large_reply) p.written ∙ append_assoc before p.text (take n too_large_reply);
+        part = grown.0;
+        written = grown.1;
         begins = (
-          drop n too_large_reply,
+          lacking,
           inr (
             ap (λ f. front f.rest) cut ∙ stands,
             refl,
-            append_assoc p.text (take n too_large_reply) (drop n too_large_reply) ∙ ap (λ xs. p.text ++ xs) (take-append-drop n too_large_reply),
+            append_cancel_left before (grown.0 ++ lacking) (p.text ++ too_large_reply)
+                (sym (append_assoc before grown.0 lacking) ∙ ap (λ xs. xs ++ lacking) (sym grown.1) ∙ lacks ∙ ap (λ xs. xs ++ too_large_reply) p.written ∙ append_assoc before p.text too_large_reply),
           ),
         );
       }
 
+  begun : (start : Ledger × R) (bytes before : List ℕ) (count : ℕ) (end : Ledger × R) (left out : List ℕ) → Serves answers start bytes before count end left out →
+      BeginsReplies start.0 (reports start.1) bytes before end.0 (reports end.1) out
+  begun start bytes before count end left out served =
+      begun_part start bytes before count end left out out [] served (serves_grow answers start bytes before count end left out served) (append-nil out)
+
+  -- one more frame was heard, of whose reply nothing is written
+  begun_ahead : (start : Ledger × R) (bytes before : List ℕ) (count : ℕ) (s : Ledger × R) (left out payload rest reply : List ℕ) (query : Result Asked ℕ) (end : Ledger × R) → Serves answers start bytes before count s left out →
+      front left ≡ whole payload rest → Hears payload query → answers s query reply end → BeginsReplies start.0 (reports start.1) bytes before end.0 (reports end.1) out
+  begun_ahead start bytes before count s left out payload rest reply query end served stands heard answer =
+      begun_part start bytes before (suc count) end rest (out ++ reply) out reply (serving.one_more count s left out payload rest reply query end served stands heard answer)
+      (serves_grow answers start bytes before count s left out served) refl
+
+  -- what is due isn't written whole
+  begun_due : (start : Ledger × R) (bytes before : List ℕ) (count : ℕ) (end : Ledger × R) (left out due after lacking : List ℕ) → Serves answers start bytes before count end left out → IsGrown before after → IsDue (front left) out due → after ++ lacking ≡ due →
+      BeginsReplies start.0 (reports start.1) bytes before end.0 (reports end.1) after
+  begun_due start bytes before count end left out due after lacking served grown (inl is) lacks = begun_part start bytes before count end left out after lacking served grown (lacks ∙ is)
+  begun_due start bytes before count end left out due after lacking served grown (inr last) lacks = begun_last start bytes before count end left out after lacking served grown last.0 (lacks ∙ last.1)
+
+  begun_cut : (start : Ledger × R) (bytes before : List ℕ) (end : Ledger × R) (after : List ℕ) → IsCutOff answers start bytes before end after → BeginsReplies start.0 (reports start.1) bytes before end.0 (reports end.1) after
+  begun_cut start bytes before end after stop =
+      let cut = stop.stop in
+      let early = serves_more answers start stop.early before stop.piece stop.count stop.state stop.left stop.out stop.frames in
+      let all = serves_on answers start (stop.early ++ stop.piece) before stop.count stop.state (stop.left ++ stop.piece) stop.out cut.count end cut.left cut.out early cut.frames in
+      let served = subst (λ (xs : List ℕ). Serves answers start xs before (stop.count + cut.count) end cut.left cut.out) (sym stop.came) all in
+      let grown = grows_on before stop.out after (serves_grow answers start stop.early before stop.count stop.state stop.left stop.out stop.frames) (cut.cut.part, cut.cut.written) in
+      begun_due start bytes before (stop.count + cut.count) end cut.left cut.out cut.due after cut.cut.lacking served grown cut.is_due cut.cut.lacks
+
   pub begins_replies : (fault : StreamFault) (start : Ledger × R) (bytes before : List ℕ) (end : Ledger × R) (after : List ℕ) → IsStoppedBy fault answers start bytes before end after →
       BeginsReplies start.0 (reports start.1) bytes before end.0 (reports end.1) after
   begins_replies ReadFailed start bytes before end after stop = begun start bytes before stop.count end stop.left after stop.frames
-  begins_replies WriteFailed start bytes before end after (within_reply count s left out payload rest reply query t n less served stands heard answer) =
-      begun_reply start bytes before count s left out payload rest reply query t n served stands heard answer
-  begins_replies WriteFailed start bytes before end after (within_last count s left out n less served stands) = begun_last start bytes before count s left out n served stands
+  begins_replies WriteFailed start bytes before end after stop = begun_cut start bytes before end after stop
   begins_replies NoMemory start bytes before end after (between count s left out served) = begun start bytes before count s left out served
   begins_replies NoMemory start bytes before end after (ahead_of_reply count s left out payload rest reply query t served stands heard answer) =
-      subst (λ o. BeginsReplies start.0 (reports start.1) bytes before t.0 (reports t.1) o) (append-nil out)
-      (begun_reply start bytes before count s left out payload rest reply query t 0 served stands heard answer)
+      begun_ahead start bytes before count s left out payload rest reply query t served stands heard answer

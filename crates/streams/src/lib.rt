@@ -9,6 +9,7 @@ pub use ends::{Failed, Sink, Source, write_all};
 pub use tap::Tap;
 
 // the frames of one, each answered
+mod batch;
 mod fault;
 mod handler;
 mod serve;

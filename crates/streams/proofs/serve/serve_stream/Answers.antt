@@ -38,7 +38,7 @@ returns-in_err-goes_on-clause-stopped g c =
     rw p.1 (rw p.2 (
       before.0 ++ piece,
       c.in-Ok.ensures.bytes ∙ ap (λ xs. xs ++ piece) before.2 ∙ append_assoc (g.R.Source.transcript c.args.reader.now) before.0 piece,
-      stops_on _ g.H.Handler.answers _ _ _ before.1 _ _ _ _ _ (serves_more g.H.Handler.answers _ _ _ piece _ _ _ _ before.3) c.in_err-goes_on.ensures.stopped,
+      stops_in_piece _ g.H.Handler.answers _ before.0 _ piece before.1 _ _ _ _ _ before.3 c.reads.invariant.left (length-take-le-of c.in-Ok.count c.read.new.piece) c.in_err-goes_on.ensures.stopped,
     ))
 
 pub returns-in_err-refuse_length-clause-stopped : goal.returns-in_err-refuse_length-clause-stopped
@@ -50,9 +50,7 @@ returns-in_err-refuse_length-clause-stopped g c =
     rw p.1 (rw p.2 (
       before.0 ++ piece,
       c.in-Ok.ensures.bytes ∙ ap (λ xs. xs ++ piece) before.2 ∙ append_assoc (g.R.Source.transcript c.args.reader.now) before.0 piece,
-      stops_at_last _ g.H.Handler.answers _ _ _ (before.1 + next.0) _ (unread c.take_piece.new.session) _ _
-          (serves_on g.H.Handler.answers _ _ _ _ _ _ _ _ _ _ _ (serves_more g.H.Handler.answers _ _ _ piece _ _ _ _ before.3) next.1)
-          (search rules) c.in_err-refuse_length.ensures.err,
+      stops_at_last _ g.H.Handler.answers _ before.0 _ piece before.1 _ _ _ next.0 _ (unread c.take_piece.new.session) _ _ before.3 c.reads.invariant.left (length-take-le-of c.in-Ok.count c.read.new.piece) next.1 (search rules) c.in_err-refuse_length.ensures.err,
     ))
 
 pub returns-then-not-goes_on-clause-served : goal.returns-then-not-goes_on-clause-served
