@@ -1,12 +1,12 @@
 -- What was done for each form of request is what the frame asks.
-use Rattle.std.proofs.Common.{◌≡◌, ◌⊎◌, ℕ, List, map, refl, sym, subst, Option, None, Result, Ok, Err, String, string_bytes, Vec}
+use Rattle.std.proofs.Common.{◌≡◌, ◌⊎◌, ℕ, List, refl, sym, subst, None, Result, Ok, Err, String, string_bytes, Vec}
 use Rattle.std.specs.declared.alloc.Global.{Global}
 use Rattle.serde_json.specs.Data.{Data}
 use Rattle.credit_book.specs.declared.board.Progress.{Progress}
 use Rattle.job_core.specs.declared.admission.ProgramBytes.{ProgramBytes}
 use Rattle.job_core.specs.Admitted as core
 use Rattle.accounts.specs.Ledgers.{Ledger, account_at, progress_at, report_at}
-use Rattle.sessions.specs.Grammar.{Asked, asked}
+use Rattle.sessions.specs.Grammar.{asked}
 use Rattle.sessions.specs.declared.request.Request.{Request}
 use Rattle.sessions.specs.declared.request.Request.TheVariants as request
 use Rattle.sessions.specs.declared.reply.Reply.{Reply}

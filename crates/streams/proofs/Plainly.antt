@@ -1,5 +1,5 @@
 -- A desk and a runner that plays each job at its start answer as the plain ledger does.
-use Rattle.std.proofs.Common.{◌≡◌, ◌⊎◌, ◌-◌, ◌^◌, ℕ, suc, min, arith, length-append, List, [], ◌∷◌, ◌++◌, length, map, refl, sym, ap, ◌∙◌, subst, inl, inr, false, Option, Some, None, Result, Ok, Err, append_assoc, append-nil, ◌+◌}
+use Rattle.std.proofs.Common.{◌≡◌, ◌⊎◌, ◌-◌, ◌^◌, ℕ, suc, min, arith, length-append, List, [], ◌∷◌, ◌++◌, length, refl, sym, ap, ◌∙◌, subst, inl, inr, Option, Some, None, Result, Ok, Err, append_assoc, append-nil, ◌+◌}
 use Rattle.std.proofs.lemmas.List.{append_cancel_left}
 use Rattle.std.specs.Ordering.{nat_cmp}
 use Rattle.std.specs.BTreeMap.{insert_entry}
@@ -11,8 +11,8 @@ use Rattle.job_core.specs.Admitted.{AdmittedJob}
 use Rattle.accounts.specs.declared.jobs.JobEntry.{JobEntry}
 use Rattle.accounts.specs.declared.jobs.Standing.{Standing}
 use Rattle.accounts.specs.declared.jobs.Standing.TheVariants.{Open, Reported, Failed}
-use Rattle.accounts.specs.Jobs.{job_at, settled}
-use Rattle.accounts.specs.Ledgers.{Ledger, Finishes, IsNotOpen, Takes, progress_at}
+use Rattle.accounts.specs.Jobs.{job_at}
+use Rattle.accounts.specs.Ledgers.{Ledger, Finishes, progress_at}
 use Rattle.sessions.specs.Frames.{Front, HasNoFrame, front, frames_of, partial, too_large, whole}
 use Rattle.sessions.specs.Grammar.{Asked, grant, account, submit, status, result}
 use Rattle.sessions.specs.Answers.{Hears}
@@ -29,8 +29,7 @@ use Rattle.streams.specs.declared.fault.StreamFault.TheVariants.{ReadFailed, Wri
 use Rattle.streams.proofs.Answered.{opened}
 use Rattle.streams.proofs.Serving.{grows_on, serves_grow, serves_more, serves_on}
 use Rattle.streams.specs.Inline.{StartsInline, TakesInline}
-use Rattle.job_core.specs.PlaysLowest.{IsPlayed}
-use Rattle.streams.specs.LedgerReplies.{AreNoted, BeginsReplies, ComesTo, LedgerReplies, TakesAndPlays, PlaysNone, RepliesTo, Tells, WritesReplies, none_yet, one_more, unseen}
+use Rattle.streams.specs.LedgerReplies.{AreNoted, BeginsReplies, TakesAndPlays, PlaysNone, RepliesTo, Tells, WritesReplies, none_yet, one_more, unseen}
 
 -- ---- each report can be noted
 

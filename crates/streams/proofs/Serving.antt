@@ -1,5 +1,5 @@
 -- How runs of answered frames join.
-use Rattle.std.proofs.Common.{◌≡◌, ◌⊎◌, inl, inr, length, length-append, ℕ, suc, ◌+◌, ◌-◌, ◌^◌, ◌<◌, ◌≤◌, List, [], ◌++◌, take, drop, min, Result, refl, sym, ap, ◌∙◌, subst, arith, append_assoc, append-nil}
+use Rattle.std.proofs.Common.{◌≡◌, ◌⊎◌, inl, inr, length, length-append, ℕ, suc, ◌+◌, ◌-◌, ◌^◌, ◌<◌, ◌≤◌, List, [], ◌++◌, take, drop, min, Bool, Result, Ok, Err, IfOk, IfErr, refl, sym, ap, ◌∙◌, subst, arith, append_assoc, append-nil}
 use Rattle.std.proofs.lemmas.List.{length-drop, take-append-drop}
 use Rattle.sessions.specs.Frames.{Front, front, whole, partial, too_large}
 use Rattle.sessions.specs.Grammar.{Asked}
@@ -8,7 +8,7 @@ use Rattle.sessions.proofs.Fronts.{front_stable}
 use Rattle.streams.specs.Serves.{Serves, none_yet, one_more}
 use Rattle.streams.specs.declared.fault.StreamFault.{StreamFault}
 use Rattle.streams.specs.declared.fault.StreamFault.TheVariants.{ReadFailed, WriteFailed, NoMemory}
-use Rattle.streams.specs.Stops.{EndsWith, IsCutOff, IsCutShort, IsGivenUp, IsGrown, IsLastUnwritten, IsPartWritten, IsReadOut, IsServed, IsStarved, IsStoppedBy, IsUnwritten, StopsAt, ahead_of_reply, between, too_large_reply}
+use Rattle.streams.specs.Stops.{EndsWith, IsCutShort, IsGivenUp, IsGrown, IsLastUnwritten, IsPartWritten, IsServed, IsStarved, IsStoppedBy, IsUnwritten, StopsAt, ahead_of_reply, between, too_large_reply}
 
 -- more bytes change nothing of what was answered
 pub serves_more : {S : Type 0} (answers : S → Result Asked ℕ → List ℕ → S → Type 0) (start : S) (bytes written more : List ℕ) (count : ℕ) (s : S) (left out : List ℕ) → Serves answers start bytes written count s left out → Serves answers start (bytes ++ more) written count s (left ++ more) out
@@ -60,6 +60,26 @@ part_on before mid due after grown cut = record {
   some = cut.some;
 }
 
+-- a beginning of these bytes is one of more bytes
+pub part_of_more : (before due more after : List ℕ) → IsPartWritten before due after → IsPartWritten before (due ++ more) after
+part_of_more before due more after cut = record {
+  part = cut.part;
+  lacking = cut.lacking ++ more;
+  written = cut.written;
+  lacks = sym (append_assoc after cut.lacking more) ∙ ap (λ xs. xs ++ more) cut.lacks;
+  some = omega (arith, length-append cut.lacking more, cut.some);
+}
+
+-- a write that fails leaves a beginning
+pub part_of_write : (before bytes after : List ℕ) (n : ℕ) → n < length bytes → after ≡ before ++ take n bytes → IsPartWritten before (before ++ bytes) after
+part_of_write before bytes after n less is = record {
+  part = take n bytes;
+  lacking = drop n bytes;
+  written = is;
+  lacks = ap (λ xs. xs ++ drop n bytes) is ∙ append_assoc before (take n bytes) (drop n bytes) ∙ ap (λ xs. before ++ xs) (take-append-drop n bytes);
+  some = omega (arith, length-drop n bytes, less);
+}
+
 -- ---- within a piece
 
 -- what is due to the frames that are answered isn't written whole
@@ -84,14 +104,17 @@ starved_within answers start bytes before s due now after (ahead_of_reply count 
   due = out ++ reply;
   frames = one_more count u left out payload rest reply query t served first heard answer;
   is_due = inl refl;
-  cut = let p = part_on before now out after grown cut in record {
-    part = p.part;
-    lacking = p.lacking ++ reply;
-    written = p.written;
-    lacks = sym (append_assoc after p.lacking reply) ∙ ap (λ xs. xs ++ reply) p.lacks;
-    some = omega (arith, length-append p.lacking reply, p.some);
-  };
+  cut = part_of_more before out reply after (part_on before now out after grown cut);
 }
+
+-- however far the frames of a piece are answered, what waits isn't written whole
+pub waiting_cut : {S : Type 0} (r : Result Bool StreamFault) (answers : S → Result Asked ℕ → List ℕ → S → Type 0) (start : S) (bytes before : List ℕ) (s : S) (left now waiting after : List ℕ) (number : ℕ → Type 0) →
+    IfOk r (λ _. (count : ℕ) × Serves answers start bytes before count s left (now ++ waiting) × number count) → IfErr r (λ fault. IsGivenUp fault answers start bytes before s now waiting) → (r ≡ Err WriteFailed → ⊥) →
+    IsGrown before now → IsPartWritten now (now ++ waiting) after → IsCutShort answers start bytes before s after
+waiting_cut (Ok goes_on) answers start bytes before s left now waiting after number served stopped not grown cut = cut_within answers start bytes before served.0 s left (now ++ waiting) now after served.1 grown cut
+waiting_cut (Err ReadFailed) answers start bytes before s left now waiting after number served stopped not grown cut = absurd stopped
+waiting_cut (Err WriteFailed) answers start bytes before s left now waiting after number served stopped not grown cut = absurd (not refl)
+waiting_cut (Err NoMemory) answers start bytes before s left now waiting after number served stopped not grown cut = starved_within answers start bytes before s (now ++ waiting) now after stopped grown cut
 
 -- a frame whose reply can't be put behind those that wait
 pub given_up_within : {S : Type 0} (fault : StreamFault) (answers : S → Result Asked ℕ → List ℕ → S → Type 0) (start : S) (bytes before : List ℕ) (count : ℕ) (s : S) (left now waiting payload rest : List ℕ) (query : Result Asked ℕ) (t : S) (now1 waiting1 : List ℕ) →
@@ -149,13 +172,7 @@ stops_at_last WriteFailed answers start early before piece count s left out seco
       due = out1 ++ too_large_reply;
       frames = later;
       is_due = inr (first, refl);
-      cut = part_on out out1 (out1 ++ too_large_reply) after grown (record {
-        part = take why.0 too_large_reply;
-        lacking = drop why.0 too_large_reply;
-        written = why.2;
-        lacks = ap (λ xs. xs ++ drop why.0 too_large_reply) why.2 ∙ append_assoc out1 (take why.0 too_large_reply) (drop why.0 too_large_reply) ∙ ap (λ xs. out1 ++ xs) (take-append-drop why.0 too_large_reply);
-        some = omega (arith, length-drop why.0 too_large_reply, why.1);
-      });
+      cut = part_on out out1 (out1 ++ too_large_reply) after grown (part_of_write out1 too_large_reply after why.0 why.1 why.2);
     })
 stops_at_last NoMemory answers start early before piece count s left out second t left1 out1 after served waits short later first why =
     let all = serves_on answers start (early ++ piece) before count s (left ++ piece) out second t left1 out1 (serves_more answers start early before piece count s left out served) later in

@@ -16,7 +16,7 @@ use Rattle.accounts.specs.declared.jobs.Standing.TheVariants.{Open}
 use Rattle.accounts.specs.Jobs.{job_at}
 use Rattle.accounts.specs.Faults.{desk_code, submit_code, submit_program, submit_slot}
 use Rattle.accounts.specs.Ledgers.{Ledger, granted_to, most_granted, GrantsMore, RefusesGrant, Takes, RefusesSubmit, Finishes, account_at, progress_at, report_at}
-use Rattle.sessions.specs.Grammar.{Asked, grant, account, submit, status, result, JobText, program_asked}
+use Rattle.sessions.specs.Grammar.{Asked, grant, account, submit, status, result, program_asked}
 use Rattle.sessions.specs.Replies.{refusal_data, account_data, submit_data, status_data, result_data, reply_data, frame_of}
 use Rattle.sessions.specs.declared.reply.Reply.{Reply}
 use Rattle.streams.specs.Passing.{Passes}

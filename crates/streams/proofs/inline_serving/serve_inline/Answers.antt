@@ -1,4 +1,3 @@
-use Rattle.std.proofs.Common.{Result, Ok}
 use Rattle.std.proofs.lemmas.Result.{IfErr-weaker, IfOk-weaker}
 use Rattle.streams.proofs.Plainly.{begins_replies, writes_replies}
 use Rattle.streams.proofs.inline_serving.serve_inline.Goals as goal

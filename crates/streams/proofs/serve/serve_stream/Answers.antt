@@ -1,13 +1,16 @@
-use Rattle.std.proofs.Common.{rules, ◌≡◌, ◌++◌, ◌+◌, ◌-◌, ◌^◌, ℕ, List, [], Bool, true, false, if◌then◌else◌, take, min, refl, sym, ap, ◌∙◌, subst, lit<, inl, inr, length, length-append, nat_eq, ◌≤◌, arith, append_assoc, append-nil}
+use Rattle.std.proofs.Common.{rules, ◌≡◌, ◌++◌, ◌+◌, ℕ, List, [], take, refl, sym, ap, ◌∙◌, subst, lit<, inl, inr, length, length-append, nat_eq, ◌≤◌, arith, append_assoc, append-nil}
 use Rattle.std.proofs.lemmas.List.{length-take-le}
 use Rattle.std.proofs.lemmas.Result.{err_from_is_err_and}
-use Rattle.sessions.specs.Frames.{Front, front, partial, too_large}
+use Rattle.sessions.specs.Frames.{front}
 use Rattle.sessions.specs.Session.{unread}
 use Rattle.sessions.proofs.Cuts.{front_short}
 use Rattle.streams.specs.Serves.{Serves, none_yet}
-use Rattle.streams.specs.Stops.{between}
-use Rattle.streams.proofs.Serving.{all_served, stops_too_large, serves_more, serves_on, stops_on, stops_at_last, counted_on, ends_too_large}
+use Rattle.streams.proofs.Serving.{all_served, stops_too_large, serves_more, serves_on, stops_in_piece, stops_at_last, counted_on, ends_too_large}
 use Rattle.streams.proofs.serve.serve_stream.Goals as goal
+
+-- so many bytes of a piece are no more than it has
+short_piece : (n : ℕ) (piece : List ℕ) → n ≤ length piece → length piece ≡ 4096 → length (take n piece) ≤ 4096
+short_piece n piece within all = omega (arith, length-take-le n piece within, within, all)
 
 pub reads-init : goal.reads-init
 reads-init g c =
@@ -16,6 +19,7 @@ reads-init g c =
     record {
       served = ([], 0, sym (append-nil (g.R.Source.transcript c.args.reader.now)), subst P (sym fresh) none_yet, refl, omega arith);
       left = ap front fresh ∙ front_short [] (lit< tt);
+      none = c.new-batch.ensures.items;
       well = c.new-session.ensures.goes_on;
       source = c.requires.source;
       sink = c.requires.sink;
@@ -38,7 +42,7 @@ returns-in_err-goes_on-clause-stopped g c =
     rw p.1 (rw p.2 (
       before.0 ++ piece,
       c.in-Ok.ensures.bytes ∙ ap (λ xs. xs ++ piece) before.2 ∙ append_assoc (g.R.Source.transcript c.args.reader.now) before.0 piece,
-      stops_in_piece _ g.H.Handler.answers _ before.0 _ piece before.1 _ _ _ _ _ before.3 c.reads.invariant.left (length-take-le-of c.in-Ok.count c.read.new.piece) c.in_err-goes_on.ensures.stopped,
+      stops_in_piece _ g.H.Handler.answers _ before.0 _ piece before.1 _ _ _ _ _ before.3 c.reads.invariant.left (short_piece c.in-Ok.count c.read.new.piece (search rules) (search rules)) c.in_err-goes_on.ensures.stopped,
     ))
 
 pub returns-in_err-refuse_length-clause-stopped : goal.returns-in_err-refuse_length-clause-stopped
@@ -50,7 +54,7 @@ returns-in_err-refuse_length-clause-stopped g c =
     rw p.1 (rw p.2 (
       before.0 ++ piece,
       c.in-Ok.ensures.bytes ∙ ap (λ xs. xs ++ piece) before.2 ∙ append_assoc (g.R.Source.transcript c.args.reader.now) before.0 piece,
-      stops_at_last _ g.H.Handler.answers _ before.0 _ piece before.1 _ _ _ next.0 _ (unread c.take_piece.new.session) _ _ before.3 c.reads.invariant.left (length-take-le-of c.in-Ok.count c.read.new.piece) next.1 (search rules) c.in_err-refuse_length.ensures.err,
+      stops_at_last _ g.H.Handler.answers _ before.0 _ piece before.1 _ _ _ next.0 _ (unread c.take_piece.new.session) _ _ before.3 c.reads.invariant.left (short_piece c.in-Ok.count c.read.new.piece (search rules) (search rules)) next.1 (search rules) c.in_err-refuse_length.ensures.err,
     ))
 
 pub returns-then-not-goes_on-clause-served : goal.returns-then-not-goes_on-clause-served
@@ -87,6 +91,7 @@ reads-preserved g c =
         omega (arith, before.5, length-append before.0 piece, length-take-le c.in-Ok.count c.read.new.piece within, c.if-count-eq0.false),
       );
       left = search rules;
+      none = c.in_ok-goes_on.ensures.none;
       well = search rules;
       source = c.in-Ok.ensures.failed;
       sink = c.in_ok-goes_on.ensures.well;
