@@ -1,9 +1,11 @@
 //! A job of a root and its child, worked by hand: what the book answers, what the board tells, and
 //! what is left of both.
 
+ghost use Rattle.std.specs.Prelude.{◌≡◌};
+
 use crate::scenarios::Findings;
 use anyhow::bail;
-use credit_book::{Board, Book, BookFault, Outcome, Post, Progress, Ticket};
+use credit_book::{Board, Book, BookFault, Outcome, Post, Progress, Reader, Report, Ticket};
 use helpers::{Part, SpawnRecord};
 use std::alloc::Global;
 
@@ -83,117 +85,140 @@ fn open(alloc: Global, post: Post) -> anyhow::Result<(Book, Ticket)> {
     Ok((book, root))
 }
 
-fn two_tasks_are_spent_and_returned(alloc: Global, findings: &mut Findings) -> anyhow::Result<()> {
-    let (board, mut post, mut reader) = Board::open(alloc, 1, 34)?;
+/// What the board tells before a task has ended, at its own reader and at a second seat.
+fn nothing_is_spent_yet(
+    board: &Board,
+    reader: &mut Reader,
+    post: &mut Post,
+    findings: &mut Findings,
+) -> anyhow::Result<()>
+    requires { reader.old.board ≡ board.now }
+    ensures { reader.new.board ≡ board.now }
+{
     let (seated, mut other) = post.seat()?;
     let seated: &Board = &seated;
-    findings.holds(
-        seated.look(&mut other) == progress(0, 0, false),
-        "two tasks are spent and returned (1)",
+    let first = seated.look(&mut other);
+    findings.holds(first == progress(0, 0, false), "nothing is spent yet (1)");
+    let second = board.look(reader);
+    findings.holds(second == progress(0, 0, false), "nothing is spent yet (2)");
+    Ok(())
+}
+
+/// The child's ticket, as the root asked for it.
+fn child_has_its_ticket(child: &Ticket, findings: &mut Findings) {
+    let told = (
+        child.number(),
+        child.program(),
+        child.held(),
+        child.arg(),
+        child.part().len(),
     );
-    let board: &Board = &board;
-    findings.holds(
-        board.look(&mut reader) == progress(0, 0, false),
-        "two tasks are spent and returned (2)",
-    );
-    let (mut book, mut root, child) = family(alloc, post)?;
-    findings.holds(
-        (
-            child.number(),
-            child.program(),
-            child.held(),
-            child.arg(),
-            child.part().len(),
-        ) == (1, 1, 10, 9, 4),
-        "two tasks are spent and returned (3)",
-    );
-    findings.holds(
-        end(&mut book, 7, 0, none(alloc)) == Err((51, 0)),
-        "two tasks are spent and returned (4)",
-    );
-    findings.holds(
-        end(&mut book, 0, 25, none(alloc)) == Err((52, 0)),
-        "two tasks are spent and returned (5)",
-    );
+    findings.holds(told == (1, 1, 10, 9, 4), "a child has its ticket");
+}
+
+/// Ends of a task that isn't there, and of more than the root held.
+fn ends_are_refused(alloc: Global, book: &mut Book, findings: &mut Findings) {
+    let unknown = end(book, 7, 0, none(alloc));
+    findings.holds(unknown == Err((51, 0)), "ends are refused (1)");
+    let over = end(book, 0, 25, none(alloc));
+    findings.holds(over == Err((52, 0)), "ends are refused (2)");
+}
+
+/// The root ends once, and its bytes lie in the buffer.
+fn root_ends(
+    alloc: Global,
+    book: &mut Book,
+    mut root: Part,
+    findings: &mut Findings,
+) -> anyhow::Result<()> {
     mark(&mut root, 6)?;
-    findings.holds(
-        end(&mut book, 0, 24, root) == Ok(progress(24, 0, false)),
-        "two tasks are spent and returned (6)",
+    let first = end(book, 0, 24, root);
+    findings.holds(first == Ok(progress(24, 0, false)), "a root ends (1)");
+    let told = book.progress();
+    findings.holds(told == progress(24, 0, false), "a root ends (2)");
+    let is_collected = book.collected() == [0, 6, 6, 0, 0, 0, 0, 0].as_slice();
+    findings.holds(is_collected, "a root ends (3)");
+    let second = end(book, 0, 24, none(alloc));
+    findings.holds(second == Err((51, 0)), "a root ends (4)");
+    findings.holds(book.report().is_none(), "a root ends (5)");
+    Ok(())
+}
+
+/// The child ends, and the job is complete.
+fn child_ends(book: &mut Book, child: Ticket, findings: &mut Findings) -> anyhow::Result<()> {
+    let mut part = child.into_part();
+    mark(&mut part, 9)?;
+    let last = end(book, 1, 3, part);
+    findings.holds(last == Ok(progress(27, 7, true)), "a child ends");
+    Ok(())
+}
+
+/// What the board tells then, at its reader and at another.
+fn board_tells_the_end(
+    board: &Board,
+    reader: &mut Reader,
+    findings: &mut Findings,
+) -> anyhow::Result<()>
+    requires { reader.old.board ≡ board.now }
+{
+    let told = board.look(reader);
+    findings.holds(told == progress(27, 7, true), "a board tells the end (1)");
+    let mut other = board.another(reader)?;
+    let again = board.look(&mut other);
+    findings.holds(again == progress(27, 7, true), "a board tells the end (2)");
+    Ok(())
+}
+
+/// The report of both tasks.
+fn report_has_both(report: &Report, findings: &mut Findings) -> anyhow::Result<()> {
+    let sums = (report.spent, report.returned);
+    findings.holds(sums == (27, 7), "a report has both (1)");
+    let is_buffer = report.buffer.as_slice() == [0, 6, 6, 0, 0, 9, 9, 0].as_slice();
+    findings.holds(is_buffer, "a report has both (2)");
+    let [first, second] = report.tasks.as_slice() else {
+        bail!("there aren't two tasks");
+    };
+    let root = (
+        first.number,
+        first.given,
+        first.spent,
+        first.rest,
+        first.ran,
     );
-    findings.holds(
-        board.look(&mut reader) == progress(24, 0, false),
-        "two tasks are spent and returned (7)",
+    findings.holds(root == (0, 34, 24, 0, true), "a report has both (3)");
+    let child = (
+        second.number,
+        second.program,
+        second.arg,
+        second.given,
+        second.spent,
+        second.rest,
     );
+    findings.holds(child == (1, 1, 9, 10, 3, 7), "a report has both (4)");
+    Ok(())
+}
+
+fn two_tasks_are_spent_and_returned(alloc: Global, findings: &mut Findings) -> anyhow::Result<()> {
+    let (board, mut post, mut reader) = Board::open(alloc, 1, 34)?;
+    nothing_is_spent_yet(&board, &mut reader, &mut post, findings)?;
+    let (mut book, root, child) = family(alloc, post)?;
+    child_has_its_ticket(&child, findings);
+    ends_are_refused(alloc, &mut book, findings);
+    root_ends(alloc, &mut book, root, findings)?;
+    let told = board.look(&mut reader);
     findings.holds(
-        book.progress() == progress(24, 0, false),
-        "two tasks are spent and returned (8)",
-    );
-    findings.holds(
-        book.collected() == [0, 6, 6, 0, 0, 0, 0, 0].as_slice(),
-        "two tasks are spent and returned (9)",
-    );
-    findings.holds(
-        end(&mut book, 0, 24, none(alloc)) == Err((51, 0)),
-        "two tasks are spent and returned (10)",
-    );
-    findings.holds(
-        book.report().is_none(),
-        "two tasks are spent and returned (11)",
+        told == progress(24, 0, false),
+        "two tasks are spent and returned (1)",
     );
     let Err(mut book) = book.close() else {
         bail!("the book is closed while a task is alive");
     };
-    let mut part = child.into_part();
-    mark(&mut part, 9)?;
-    findings.holds(
-        end(&mut book, 1, 3, part) == Ok(progress(27, 7, true)),
-        "two tasks are spent and returned (12)",
-    );
-    findings.holds(
-        board.look(&mut reader) == progress(27, 7, true),
-        "two tasks are spent and returned (13)",
-    );
-    let mut other = board.another(&mut reader)?;
-    findings.holds(
-        board.look(&mut other) == progress(27, 7, true),
-        "two tasks are spent and returned (14)",
-    );
+    child_ends(&mut book, child, findings)?;
+    board_tells_the_end(&board, &mut reader, findings)?;
     let Ok(report) = book.close() else {
         bail!("the book isn't closed");
     };
-    findings.holds(
-        (report.spent, report.returned) == (27, 7),
-        "two tasks are spent and returned (15)",
-    );
-    findings.holds(
-        report.buffer.as_slice() == [0, 6, 6, 0, 0, 9, 9, 0].as_slice(),
-        "two tasks are spent and returned (16)",
-    );
-    let [first, second] = report.tasks.as_slice() else {
-        bail!("there aren't two tasks");
-    };
-    findings.holds(
-        (
-            first.number,
-            first.given,
-            first.spent,
-            first.rest,
-            first.ran,
-        ) == (0, 34, 24, 0, true),
-        "two tasks are spent and returned (17)",
-    );
-    findings.holds(
-        (
-            second.number,
-            second.program,
-            second.arg,
-            second.given,
-            second.spent,
-            second.rest,
-        ) == (1, 1, 9, 10, 3, 7),
-        "two tasks are spent and returned (18)",
-    );
-    Ok(())
+    report_has_both(&report, findings)
 }
 
 fn a_parked_task_is_claimed_once(alloc: Global, findings: &mut Findings) -> anyhow::Result<()> {
