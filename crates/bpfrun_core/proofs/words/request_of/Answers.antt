@@ -7,12 +7,12 @@ use Rattle.bpfrun_core.proofs.words.request_of.Goals as goal
 
 pub returns-clause-parts : goal.returns-clause-parts
 returns-clause-parts c =
-  let limit : c.from.result ≡ max_credit = search rules in
-  let P : ℕ → Type 0 = λ n. IsNumberIn (rows_of (found_of c.args.matches.now)) (codes "credit") 0 n c.number.result in record {
-  file = c.file.ensures;
-  memory = first_is (λ s. s.now) (found_of c.args.matches.now) (codes "memory") c.get_str.result c.get_str.ensures;
-  need = c.need.ensures;
-  credit = subst P limit c.number.ensures.number;
-  arg = c.number-2.ensures.number;
-  explains = c.flag.ensures;
-}
+    let limit : c.from.result ≡ max_credit = search rules in
+    let P : ℕ → Type 0 = λ n. IsNumberIn (rows_of (found_of c.args.matches.now)) (codes "credit") 0 n c.number.result in record {
+      file = c.file.ensures;
+      memory = first_is (λ s. s.now) (found_of c.args.matches.now) (codes "memory") c.get_str.result c.get_str.ensures;
+      need = c.need.ensures;
+      credit = subst P limit c.number.ensures.number;
+      arg = c.number-2.ensures.number;
+      explains = c.flag.ensures;
+    }
