@@ -28,7 +28,7 @@ fn started(alloc: Global, line: &str) -> Result<Option<(u32, u32, u32)>, Fail> {
     for word in line.split(' ') {
         words.push(String::from_str(alloc, word)?)?;
     }
-    match command(alloc, &words) {
+    match command(alloc, words) {
         Ok(
             Command::Serve {
                 port,
