@@ -1,0 +1,5 @@
+pub mod Histories
+pub mod ClientViews
+pub mod Rule
+pub mod Answered
+pub mod Parts
