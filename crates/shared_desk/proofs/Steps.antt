@@ -1,5 +1,5 @@
 -- Each step keeps the rule of the table.
-use Rattle.std.proofs.Common.{◌≡◌, ◌≢◌, ◌==◌, ◌⊎◌, inl, inr, ℕ, ◌+◌, ◌<◌, ◌≤◌, Bool, true, false, true≢false, List, [], ◌∷◌, ◌++◌, length, set, if◌then◌else◌, refl, sym, ap, ◌∙◌, subst, ⊎_elim, zero, suc, arith, append-nil}
+use Rattle.std.proofs.Common.{◌≡◌, ◌≢◌, ◌==◌, ◌⊎◌, inl, inr, ℕ, ◌+◌, ◌<◌, Bool, true, false, true≢false, List, [], ◌∷◌, ◌++◌, length, set, if◌then◌else◌, refl, sym, ap, ◌∙◌, subst, ⊎_elim, zero, suc, arith}
 use Rattle.std.proofs.lemmas.Bool.Decides.{nat_tests}
 use mathlib.Core.Option.{some, some-ne-none, some-injective}
 use mathlib.Core.List.{IsPrefix}
@@ -10,7 +10,7 @@ use Rattle.shared_desk.specs.Histories.{Entry}
 use Rattle.shared_desk.specs.declared.seats.View.{View}
 use Rattle.shared_desk.specs.Histories.{part_of}
 use Rattle.shared_desk.specs.Rule.{recorder, founder, client, nobody, with_recorder, without_recorder, only_recorder, one_more_opened, newcomer, Fits, IsShared, AddsEntry, SeesAll, KnowsTheCount, KnowsItsPart}
-use Rattle.shared_desk.proofs.Parts.{prefix_self, prefix_trans, prefix_more, part_own, part_other, at_end}
+use Rattle.shared_desk.proofs.Parts.{prefix_self, prefix_more, part_own, part_other, at_end}
 
 off : false ≡ true → ⊥
 off e = true≢false (sym e)

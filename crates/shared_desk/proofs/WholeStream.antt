@@ -1,7 +1,6 @@
 -- A whole stream, by the connection's part of the history.
-use Rattle.std.proofs.Common.{◌≡◌, ◌≤◌, ◌^◌, ◌-◌, ◌+◌, ℕ, suc, List, [], ◌∷◌, ◌++◌, length, length-append, min, Bool, true, Result, Ok, Err, refl, sym, ap, ◌∙◌, subst, arith, append_assoc, append-nil}
+use Rattle.std.proofs.Common.{◌≡◌, ◌^◌, ◌-◌, ◌+◌, ℕ, List, [], ◌∷◌, ◌++◌, length, length-append, min, Bool, true, Result, Ok, Err, refl, sym, ap, ◌∙◌, subst, arith, append_assoc, append-nil}
 use Rattle.std.specs.Prelude.{IfOk, IfErr}
-use mathlib.Core.List.{IsPrefix}
 use Rattle.sessions.specs.Frames.{front, whole}
 use Rattle.sessions.specs.Grammar.{Asked}
 use Rattle.sessions.specs.Answers.{Hears}

@@ -1,5 +1,5 @@
 -- Histories of what many connections asked, with the replies.
-use Rattle.std.specs.Prelude.{◌≡◌, ℕ, ◌==◌, Bool, true, false, List, [], ◌∷◌, ◌++◌, Result}
+use Rattle.std.specs.Prelude.{ℕ, ◌==◌, Bool, true, false, List, [], ◌∷◌, ◌++◌, Result}
 use Rattle.sessions.specs.Grammar.{Asked}
 
 -- an answer: to which connection, what was asked, or the number of the refusal of a request that

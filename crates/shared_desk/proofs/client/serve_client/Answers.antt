@@ -1,4 +1,4 @@
-use Rattle.std.proofs.Common.{◌≡◌, subst}
+use Rattle.std.proofs.Common.{subst}
 use Rattle.shared_desk.specs.Histories.{Replays}
 use Rattle.shared_desk.specs.ClientViews.{ClientView}
 use Rattle.shared_desk.proofs.WholeStream.{served_client}

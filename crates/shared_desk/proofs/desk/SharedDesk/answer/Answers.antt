@@ -1,4 +1,4 @@
-use Rattle.std.proofs.Common.{◌≡◌, sym, ap, ◌∙◌, subst}
+use Rattle.std.proofs.Common.{ap}
 use Rattle.shared_desk.proofs.OneAnswer.{has_entry, same_entry, replays_on, shared_answer, answer_ok, answer_err}
 use Rattle.shared_desk.proofs.desk.SharedDesk.answer.Goals as goal
 

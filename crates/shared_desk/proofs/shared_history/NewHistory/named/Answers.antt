@@ -1,4 +1,4 @@
-use Rattle.std.proofs.Common.{sym, ap, ◌∙◌, arith}
+use Rattle.std.proofs.Common.{ap, arith}
 use Rattle.shared_desk.proofs.Steps.{leaves}
 use Rattle.shared_desk.proofs.shared_history.NewHistory.named.Goals as goal
 
