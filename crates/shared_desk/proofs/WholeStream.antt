@@ -1,6 +1,6 @@
 -- A whole stream, by the connection's part of the history.
-use Rattle.std.proofs.Common.{◌≡◌, ◌^◌, ◌-◌, ◌+◌, ℕ, List, [], ◌∷◌, ◌++◌, length, length-append, min, Bool, true, Result, Ok, Err, refl, sym, ap, ◌∙◌, subst, arith, append_assoc, append-nil}
-use Rattle.std.specs.Prelude.{IfOk, IfErr}
+use Rattle.std.proofs.Common.{◌≡◌, ◌^◌, ◌-◌, ◌+◌, ℕ, List, [], ◌∷◌, ◌++◌, length, length-append, min, Bool, true, false, Result, Ok, Err, refl, sym, ap, ◌∙◌, subst, arith, append_assoc, append-nil}
+use Rattle.std.specs.Prelude.{IfOk, IfErr, OnOk}
 use Rattle.sessions.specs.Frames.{front, whole}
 use Rattle.sessions.specs.Grammar.{Asked}
 use Rattle.sessions.specs.Answers.{Hears}
@@ -12,7 +12,7 @@ use Rattle.streams.specs.Stops.{EndsWith, IsDue, IsPartWritten, IsServed, IsRead
 use Rattle.shared_desk.specs.Histories.{Entry, queries_of, replies_of, part_of}
 use Rattle.shared_desk.specs.ClientViews.{ClientView, Extends}
 use Rattle.shared_desk.specs.Answered.{IsSharedAnswer, entry_of}
-use Rattle.shared_desk.specs.Parts.{Asks, IsWritten, IsWrittenToTheFault, IsWrittenInPart, IsWrittenButOne, IsWrittenUpTo, IsServedPart, IsServedClient}
+use Rattle.shared_desk.specs.Parts.{Asks, IsWritten, IsWrittenToTheFault, IsWrittenInPart, IsWrittenButOne, IsWrittenUpTo, NamesTheEnd, IsServedPart, IsServedClient}
 use Rattle.shared_desk.proofs.Parts.{prefix_self, prefix_trans}
 
 -- ---- parts that are joined
@@ -181,21 +181,30 @@ module _ {S : Type 0} (answers : S → Result Asked ℕ → List ℕ → S → T
   given_up_of NoMemory start bytes before end after st = starved_of start bytes before end after st
 
   -- what a stream came to, by both its ends
-  pub served_client : {R W : Type 0} (read : R → List ℕ) (over : R → Bool) (written : W → List ℕ) (v : (R × W) × ClientView) (w : (R × W) × ClientView) (outcome : Result ℕ StreamFault)
+  pub served_client : {R W : Type 0} (read : R → List ℕ) (over read_failed : R → Bool) (written : W → List ℕ) (write_failed : W → Bool) (v : (R × W) × ClientView) (w : (R × W) × ClientView) (outcome : Result ℕ StreamFault)
       → IfOk outcome (λ number. (all : List ℕ) × (read w.0.0 ≡ read v.0.0 ++ all) × IsServed shared (tt, v.1) all (written v.0.1) (over w.0.0 ≡ true) (tt, w.1) number (written w.0.1))
       → IfErr outcome (λ fault. (all : List ℕ) × (read w.0.0 ≡ read v.0.0 ++ all) × IsStoppedBy fault shared (tt, v.1) all (written v.0.1) (tt, w.1) (written w.0.1))
-      → IsServedClient read over written v w outcome
-  served_client read over written v w (Ok number) ok err =
+      → OnOk outcome ((read_failed w.0.0 ≡ false) × (write_failed w.0.1 ≡ false))
+      → (outcome ≡ Err ReadFailed → read_failed w.0.0 ≡ true)
+      → (outcome ≡ Err WriteFailed → write_failed w.0.1 ≡ true)
+      → (outcome ≡ Err NoMemory → (read_failed w.0.0 ≡ false) × (write_failed w.0.1 ≡ false))
+      → IsServedClient read over read_failed written write_failed v w outcome
+  served_client read over read_failed written write_failed v w (Ok number) ok err well reader writer memory =
       let r = written_of (tt, v.1) ok.0 (written v.0.1) (over w.0.0 ≡ true) (tt, w.1) number (written w.0.1) ok.2 in
-      (r.0, r.1, record { bytes = ok.0; came = ok.1; replies = r.2 })
-  served_client read over written v w (Err fault) ok err =
+      (r.0, r.1, record { bytes = ok.0; came = ok.1; replies = (r.2, well.0, well.1) })
+  served_client read over read_failed written write_failed v w (Err fault) ok err well reader writer memory =
       let r = given_up_of fault (tt, v.1) err.0 (written v.0.1) (tt, w.1) (written w.0.1) err.2 in
-      (r.0, r.1, record { bytes = err.0; came = err.1; replies = r.2 })
+      (r.0, r.1, record { bytes = err.0; came = err.1; replies = (r.2, named fault (Err fault) refl reader writer memory) })
+    where
+      named : (f : StreamFault) (o : Result ℕ StreamFault) → o ≡ Err f → (o ≡ Err ReadFailed → read_failed w.0.0 ≡ true) → (o ≡ Err WriteFailed → write_failed w.0.1 ≡ true) → (o ≡ Err NoMemory → (read_failed w.0.0 ≡ false) × (write_failed w.0.1 ≡ false)) → NamesTheEnd f (read_failed w.0.0) (write_failed w.0.1)
+      named ReadFailed o is by_reader by_writer by_memory = by_reader is
+      named WriteFailed o is by_reader by_writer by_memory = by_writer is
+      named NoMemory o is by_reader by_writer by_memory = by_memory is
 
 -- a connection that began with no part, by its part of a whole history
-pub served_whole_part : {R W : Type 0} (read : R → List ℕ) (over : R → Bool) (written : W → List ℕ) (v w : (R × W) × ClientView) (outcome : Result ℕ StreamFault) (i : ℕ) (history : List Entry)
-    → IsServedClient read over written v w outcome → v.1.number ≡ i → v.1.part ≡ [] → part_of w.1.number history ≡ w.1.part → IsServedPart read over written v.0 (part_of i history) w.0 outcome
-served_whole_part read over written v w outcome i history served number none own =
+pub served_whole_part : {R W : Type 0} (read : R → List ℕ) (over read_failed : R → Bool) (written : W → List ℕ) (write_failed : W → Bool) (v w : (R × W) × ClientView) (outcome : Result ℕ StreamFault) (i : ℕ) (history : List Entry)
+    → IsServedClient read over read_failed written write_failed v w outcome → v.1.number ≡ i → v.1.part ≡ [] → part_of w.1.number history ≡ w.1.part → IsServedPart read over read_failed written write_failed v.0 (part_of i history) w.0 outcome
+served_whole_part read over read_failed written write_failed v w outcome i history served number none own =
     let more = served.1 in
     let is : part_of i history ≡ served.0 = ap (λ (n : ℕ). part_of n history) (sym (more.number ∙ number)) ∙ (own ∙ (more.more ∙ ap (λ (l : List Entry). l ++ served.0) none)) in
-    subst (λ (p : List Entry). IsServedPart read over written v.0 p w.0 outcome) (sym is) served.2
+    subst (λ (p : List Entry). IsServedPart read over read_failed written write_failed v.0 p w.0 outcome) (sym is) served.2

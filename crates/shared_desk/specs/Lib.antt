@@ -3,3 +3,4 @@ pub mod ClientViews
 pub mod Rule
 pub mod Answered
 pub mod Parts
+pub mod Together

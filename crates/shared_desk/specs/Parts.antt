@@ -1,5 +1,5 @@
 -- What went through the two ends of a connection, by the connection's part of the history.
-use Rattle.std.specs.Prelude.{◌≡◌, ◌≤◌, ◌-◌, ◌^◌, ℕ, List, [], ◌∷◌, ◌++◌, length, min, Bool, true, Result, MatchResult}
+use Rattle.std.specs.Prelude.{◌≡◌, ◌≤◌, ◌-◌, ◌^◌, ℕ, List, [], ◌∷◌, ◌++◌, length, min, Bool, true, false, Result, MatchResult}
 use Rattle.sessions.specs.Frames.{front, whole, partial}
 use Rattle.sessions.specs.Grammar.{Asked}
 use Rattle.sessions.specs.Answers.{Hears}
@@ -71,19 +71,31 @@ IsWrittenUpTo ReadFailed part bytes before after = IsWrittenToTheFault part byte
 IsWrittenUpTo WriteFailed part bytes before after = IsWrittenInPart part bytes before after
 IsWrittenUpTo NoMemory part bytes before after = IsWrittenButOne part bytes before after
 
--- Between two states of a connection's ends, what came asks this part of the history, and what was
--- written are its replies.
-pub record IsServedPart {R W : Type 0} (read : R → List ℕ) (over : R → Bool) (written : W → List ℕ)
-    (v : R × W) (part : List Entry) (w : R × W) (outcome : Result ℕ StreamFault) : Type 0 where
-  pub bytes : List ℕ
-  pub came : read w.0 ≡ read v.0 ++ bytes
-  pub replies : MatchResult outcome
-      (λ number. IsWritten part bytes (written v.1) (over w.0 ≡ true) number (written w.1))
-      (λ fault. IsWrittenUpTo fault part bytes (written v.1) (written w.1))
+-- the fault names the end that failed, or neither did
+abbrev pub NamesTheEnd : StreamFault → Bool → Bool → Type 0
+NamesTheEnd ReadFailed reader_failed writer_failed = reader_failed ≡ true
+NamesTheEnd WriteFailed reader_failed writer_failed = writer_failed ≡ true
+NamesTheEnd NoMemory reader_failed writer_failed =
+    (reader_failed ≡ false) × (writer_failed ≡ false)
 
--- the connection's part is longer by what is served between these states of its ends
-abbrev pub IsServedClient : {R W : Type 0} → (R → List ℕ) → (R → Bool) → (W → List ℕ)
-    → (R × W) × ClientView → (R × W) × ClientView → Result ℕ StreamFault → Type 0
-IsServedClient read over written v w outcome =
-    (part : List Entry) × Extends v.1 part w.1
-    × IsServedPart read over written v.0 part w.0 outcome
+-- what contracts see of the two ends of a connection: what was read, whether that was all and
+-- whether a read failed; what was written, and whether a write failed
+module _ {R W : Type 0} (read : R → List ℕ) (over read_failed : R → Bool) (written : W → List ℕ)
+    (write_failed : W → Bool) where
+  -- Between two states of a connection's ends, what came asks this part of the history, and what
+  -- was written are its replies.
+  pub record IsServedPart (v : R × W) (part : List Entry) (w : R × W)
+      (outcome : Result ℕ StreamFault) : Type 0 where
+    pub bytes : List ℕ
+    pub came : read w.0 ≡ read v.0 ++ bytes
+    pub replies : MatchResult outcome
+        (λ number. IsWritten part bytes (written v.1) (over w.0 ≡ true) number (written w.1)
+        × (read_failed w.0 ≡ false) × (write_failed w.1 ≡ false))
+        (λ fault. IsWrittenUpTo fault part bytes (written v.1) (written w.1)
+        × NamesTheEnd fault (read_failed w.0) (write_failed w.1))
+
+  -- the connection's part is longer by what is served between these states of its ends
+  abbrev pub IsServedClient : (R × W) × ClientView → (R × W) × ClientView → Result ℕ StreamFault
+      → Type 0
+  IsServedClient v w outcome =
+      (part : List Entry) × Extends v.1 part w.1 × IsServedPart v.0 part w.0 outcome

@@ -1,6 +1,6 @@
 //! One connection's way to the desk that all share.
 
-ghost use Rattle.std.specs.Prelude.{◌≡◌, true, false, ℕ, List, OnOk, Err};
+ghost use Rattle.std.specs.Prelude.{◌≡◌, false};
 ghost use Rattle.shared_desk.specs.Histories.{Replays, part_of};
 ghost use Rattle.shared_desk.specs.Parts.{IsServedClient};
 
@@ -107,7 +107,8 @@ impl<R: Wait, D, H: Handler<D>, J: Origin<D, H>> Handler<()> for Client<'_, R, D
 /// of the history, and what was written are the replies of that part, in order.
 ///
 /// 83 where the reader failed: all replies of the part are written. 84 where the writer failed: a
-/// beginning of them. 99 where there was no memory: all of them, or all but the last one.
+/// beginning of them. 99 where there was no memory, and neither failed: all of them, or all but the
+/// last one.
 pub fn serve_client<S: Source, W: Sink, R: Wait, D, H: Handler<D>, J: Origin<D, H>>(
     alloc: Global,
     reader: &mut S,
@@ -116,16 +117,10 @@ pub fn serve_client<S: Source, W: Sink, R: Wait, D, H: Handler<D>, J: Origin<D, 
 ) -> Result<u64, StreamFault>
     requires source { S.has_failed reader.old ≡ false }
     requires sink { W.has_failed writer.old ≡ false }
-    ensures served { IsServedClient S.transcript S.is_over W.transcript
+    ensures served { IsServedClient S.transcript S.is_over S.has_failed W.transcript W.has_failed
         ((reader.old, writer.old), client.old) ((reader.new, writer.new), client.new) result }
     ensures legal { (s : D × H) × Replays H.answers J.begins client.new.seen s }
     ensures own { part_of client.new.number client.new.seen ≡ client.new.part }
-    ensures read_failed { result ≡ Err StreamFault.ReadFailed → S.has_failed reader.new ≡ true }
-    ensures write_failed { result ≡ Err StreamFault.WriteFailed → W.has_failed writer.new ≡ true }
-    ensures no_memory { result ≡ Err StreamFault.NoMemory → (S.has_failed reader.new ≡ false)
-        × (W.has_failed writer.new ≡ false) }
-    ensures well { OnOk result ((S.has_failed reader.new ≡ false)
-        × (W.has_failed writer.new ≡ false)) }
 {
     let served = serve_stream(alloc, reader, writer, &mut (), client);
     let _ = &client.seat; // for the proof

@@ -84,8 +84,8 @@ pub fn serve_connection<S: Source, W: Sink, R: Wait, D, H: Handler<D>, J: Origin
     lock: &Mutex<SharedDesk<D, H, J>>,
     connection: Connection<S, W, D, H, J>,
 ) -> ServedConnection<S, W, J>
-    ensures { IsServedClient S.transcript S.is_over W.transcript connection
-        ((result.reader, result.writer), result.seat) result.outcome }
+    ensures { IsServedClient S.transcript S.is_over S.has_failed W.transcript W.has_failed
+        connection ((result.reader, result.writer), result.seat) result.outcome }
 {
     let Connection {
         mut reader,
@@ -155,7 +155,7 @@ pub fn serve_all<
     ensures others { (n : ℕ) → vec_len connections ≤ n → part_of n result.0.1 ≡ [] }
     ensures count { IfOk result.1 (λ served. vec_len served ≡ vec_len connections) }
     ensures parts { IfOk result.1 (λ served. (i : ℕ) (d : _) (e : _) → i < vec_len connections
-        → IsServedPart S.transcript S.is_over W.transcript
+        → IsServedPart S.transcript S.is_over S.has_failed W.transcript W.has_failed
         (slice_index_or connections.items i d).0 (part_of i result.0.1)
         ((slice_index_or served.items i e).reader, (slice_index_or served.items i e).writer)
         (slice_index_or served.items i e).outcome) }
@@ -163,8 +163,8 @@ pub fn serve_all<
     let lock = Mutex::new(shared);
     let shared = &lock;
     let serve = |connection: Connection<S, W, D, H, J>| -> ServedConnection<S, W, J>
-        ensures { IsServedClient S.transcript S.is_over W.transcript connection
-            ((result.reader, result.writer), result.seat) result.outcome }
+        ensures { IsServedClient S.transcript S.is_over S.has_failed W.transcript
+            W.has_failed connection ((result.reader, result.writer), result.seat) result.outcome }
     { serve_connection(rt, alloc, history, shared, connection) };
     let answered = thread::map_vec(rt, connections, &serve);
     let mut desk = lock.into_inner();

@@ -23,3 +23,8 @@ pub use desk::SharedDesk;
 mod connections;
 
 pub use connections::{Connection, ServedConnection, serve_all, serve_connection};
+
+// one desk and its connections, from the first request to the last
+mod serving;
+
+pub use serving::{ServedEnds, serve_clients};
