@@ -8,11 +8,11 @@ use Rattle.shared_desk.specs.declared.serving.ServedEnds.{ServedEnds}
 use Rattle.shared_desk.specs.Histories.{Entry, part_of}
 use Rattle.shared_desk.specs.ClientViews.{ClientView}
 use Rattle.shared_desk.specs.Parts.{IsServedPart}
-use Rattle.shared_desk.specs.Together.{AreWell, AreOpened, AreServedParts}
+use Rattle.shared_desk.specs.Together.{NoneHasFailed, AreOpened, AreServedParts}
 
 -- the ends that are left are well
-pub well_of : {R W : Type 0} (read_failed : R → Bool) (write_failed : W → Bool) (xs ys : List (R × W)) → xs ≡ ys → AreWell read_failed write_failed xs → AreWell read_failed write_failed ys
-well_of read_failed write_failed xs ys is well = subst (λ l. AreWell read_failed write_failed l) is well
+pub well_of : {R W : Type 0} (read_failed : R → Bool) (write_failed : W → Bool) (xs ys : List (R × W)) → xs ≡ ys → NoneHasFailed read_failed write_failed xs → NoneHasFailed read_failed write_failed ys
+well_of read_failed write_failed xs ys is well = subst (λ l. NoneHasFailed read_failed write_failed l) is well
 
 -- one more is opened
 pub opened_more : {E : Type 0} (n : ℕ) (es : List E) (cs : List (E × ClientView)) (e : E) (c : E × ClientView)

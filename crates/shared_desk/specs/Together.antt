@@ -9,10 +9,11 @@ use Rattle.shared_desk.specs.ClientViews.{ClientView}
 use Rattle.shared_desk.specs.Parts.{IsServedPart}
 
 -- none of these ends has failed
-abbrev pub AreWell : {R W : Type 0} → (R → Bool) → (W → Bool) → List (R × W) → Type 0
-AreWell read_failed write_failed [] = Unit {0}
-AreWell read_failed write_failed (e ∷ es) =
-    (read_failed e.0 ≡ false) × (write_failed e.1 ≡ false) × AreWell read_failed write_failed es
+abbrev pub NoneHasFailed : {R W : Type 0} → (R → Bool) → (W → Bool) → List (R × W) → Type 0
+NoneHasFailed read_failed write_failed [] = Unit {0}
+NoneHasFailed read_failed write_failed (e ∷ es) =
+    (read_failed e.0 ≡ false) × (write_failed e.1 ≡ false)
+    × NoneHasFailed read_failed write_failed es
 
 -- connections with these ends, numbered from here on, which have no part yet
 abbrev pub AreOpened : {E : Type 0} → ℕ → List E → List (E × ClientView) → Type 0

@@ -2,7 +2,7 @@
 
 ghost use Rattle.std.specs.Prelude.{◌≡◌, ℕ, IfOk, vec_len};
 ghost use Rattle.std.specs.List.{AllZip};
-ghost use Rattle.shared_desk.specs.Together.{AreOpened, AreServedTogether, AreWell};
+ghost use Rattle.shared_desk.specs.Together.{AreOpened, AreServedTogether, NoneHasFailed};
 
 use crate::connections::{Connection, ServedConnection, serve_all};
 use crate::desk::SharedDesk;
@@ -32,7 +32,7 @@ fn open_all<S: Source + Drop, W: Sink + Drop, D, H: Handler<D>, J: Origin<D, H>>
     ends: Vec<(S, W)>,
 ) -> Result<Vec<Connection<S, W, D, H, J>>, NoMemory>
     requires none { opener.old ≡ 0 }
-    requires well { AreWell S.has_failed W.has_failed ends.items }
+    requires well { NoneHasFailed S.has_failed W.has_failed ends.items }
     ensures same { shared.new ≡ shared.old }
     ensures count { IfOk result (λ opened. opener.new ≡ vec_len opened) }
     ensures opened { IfOk result (λ opened. AreOpened 0 ends.items opened.items) }
@@ -82,20 +82,20 @@ fn serve_named<
 >(
     rt: &R,
     alloc: Global,
-    made: NewHistory,
+    new_history: NewHistory,
     desk: D,
     handler: H,
     ends: Vec<(S, W)>,
 ) -> (D, H, Result<Vec<ServedEnds<S, W>>, NoMemory>)
-    requires named { made ≡ J.table }
+    requires named { new_history ≡ J.table }
     requires begins { J.begins (desk, handler) }
     requires ready { H.ready handler }
-    requires well { AreWell S.has_failed W.has_failed ends.items }
+    requires well { NoneHasFailed S.has_failed W.has_failed ends.items }
     ensures ready { H.ready result.1 }
     ensures served { AreServedTogether S.transcript S.is_over S.has_failed W.transcript W.has_failed
         H.answers J.begins ends.items (result.0, result.1) result.2 }
 {
-    let (history, recorder, mut opener) = made.named::<J>();
+    let (history, recorder, mut opener) = new_history.named::<J>();
     let mut shared = SharedDesk::new(desk, handler, recorder);
     let connections = match open_all(alloc, &history, &mut opener, &mut shared, ends) {
         Ok(connections) => connections,
@@ -127,16 +127,16 @@ pub fn serve_clients<
 >(
     rt: &R,
     alloc: Global,
-    made: NewHistory,
+    new_history: NewHistory,
     desk: D,
     handler: H,
     ends: Vec<(S, W)>,
 ) -> (D, H, Result<Vec<ServedEnds<S, W>>, NoMemory>)
     requires ready { H.ready handler }
-    requires well { AreWell S.has_failed W.has_failed ends.items }
+    requires well { NoneHasFailed S.has_failed W.has_failed ends.items }
     ensures ready { H.ready result.1 }
     ensures served { AreServedTogether S.transcript S.is_over S.has_failed W.transcript W.has_failed
         H.answers (λ s. s ≡ (desk, handler)) ends.items (result.0, result.1) result.2 }
 {
-    serve_named::<S, W, R, D, H, Brand>(rt, alloc, made, desk, handler, ends)
+    serve_named::<S, W, R, D, H, Brand>(rt, alloc, new_history, desk, handler, ends)
 }

@@ -1,9 +1,9 @@
 use Rattle.std.proofs.Common.{◌≡◌}
 use Rattle.shared_desk.proofs.serving.serve_clients.Given as goal
 
--- the history is the one that was made
+-- the history is the new one
 abbrev pub ghosts-serve_named-J-HistoryId : goal.ghosts-serve_named-J-HistoryId
-ghosts-serve_named-J-HistoryId g a = record { table = a.made }
+ghosts-serve_named-J-HistoryId g a = record { table = a.new_history }
 
 -- it begins with this desk and this handler
 abbrev pub ghosts-serve_named-J-Origin : goal.ghosts-serve_named-J-Origin
