@@ -63,6 +63,13 @@ uint32_t telgovan_assemble(const uint8_t *source, size_t source_length, uint8_t 
 uint32_t telgovan_disassemble(const uint8_t *code, size_t code_length, uint8_t *room, size_t room_length,
                               struct telgovan_written *written);
 
+/* Writes why a program of this need is refused, as text for whoever wrote it: the rule that it breaks, the instruction with its line in the source text,
+ * a way that leads there, and what is known of each register there. It answers the status: 0 where the program is accepted, and nothing is written,
+ * else the number of the refusal with its slot as the place, or 99. `length` is how many bytes the text has; where they don't fit, the room stays as it
+ * was. A source text of length 0, or one that is no UTF-8, gives no line. */
+uint32_t telgovan_explain(uint32_t need, const uint8_t *code, size_t code_length, const uint8_t *source, size_t source_length,
+                          uint8_t *room, size_t room_length, struct telgovan_written *written);
+
 /* Verifies a program and runs it once, in place, with the memory as its part. It answers the outcome's status: that of the verdict where the program
  * is refused, else 65 where the memory has over 65,536 bytes or the credit is over 2,147,483,647, 42 where the credit is under the cost, 43 where
  * the memory is shorter than the need, or 0. */

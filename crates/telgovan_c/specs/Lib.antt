@@ -1,3 +1,4 @@
 pub mod Verdicts
 pub mod Texts
 pub mod Runs
+pub mod Explains

@@ -5,10 +5,12 @@
 //! of the refusal.
 #![tactic(auto)]
 
+mod explains;
 mod runs;
 mod texts;
 mod verdicts;
 
+pub use explains::telgovan_explain;
 pub use runs::{Run, RunOutcome, telgovan_burst, telgovan_run};
 pub use texts::{Written, telgovan_assemble, telgovan_disassemble};
 pub use verdicts::{Verdict, telgovan_verify};
