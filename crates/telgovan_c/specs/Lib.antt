@@ -1,3 +1,6 @@
 pub mod Verdicts
 pub mod Texts
 pub mod Runs
+pub mod Holding
+pub mod Programs
+pub mod Jobs
