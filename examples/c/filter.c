@@ -71,7 +71,7 @@ static int by_plain(void) {
     return passed;
 }
 
-/* The quickest of many rounds of a tenth of a second. */
+/* The quickest of many rounds of a hundredth of a second. */
 static void measure(const char *name, way *one, double seconds) {
     double began = now(), quickest = 0;
     while (now() - began < seconds) {
@@ -80,7 +80,7 @@ static void measure(const char *name, way *one, double seconds) {
         do {
             if (one() < 0) exit(1);
             rounds++;
-        } while ((end = now()) - start < 0.1);
+        } while ((end = now()) - start < 0.01);
         double rate = (double)rounds * PACKETS / (end - start);
         if (rate > quickest) quickest = rate;
     }

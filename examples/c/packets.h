@@ -32,11 +32,13 @@ static inline void fill_packets(uint8_t *memory) {
     }
 }
 
-static inline double now(void) {
+static inline double seconds_of(clockid_t clock) {
     struct timespec time;
-    clock_gettime(CLOCK_MONOTONIC, &time);
+    clock_gettime(clock, &time);
     return (double)time.tv_sec + (double)time.tv_nsec / 1e9;
 }
+
+static inline double now(void) { return seconds_of(CLOCK_MONOTONIC); }
 
 /* The bytes of the program whose source text is in the file, or 0, having said why. */
 static inline size_t read_program(const char *name, uint8_t *code, size_t room) {

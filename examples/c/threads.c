@@ -20,11 +20,13 @@ struct worker {
     struct telgovan_program program;
     uint8_t memory[PACKETS * SIZE];
     long rounds, passed;
+    double busy; /* the processor time that it took */
 };
 
 static void *work(void *given) {
     struct worker *worker = given;
     struct telgovan_outcome outcome;
+    double start = seconds_of(CLOCK_THREAD_CPUTIME_ID);
     for (long round = 0; round < worker->rounds; round++) {
         for (int n = 0; n < PACKETS; n++) {
             uint8_t *packet = worker->memory + n * SIZE;
@@ -33,6 +35,7 @@ static void *work(void *given) {
             worker->passed += (long)outcome.r0;
         }
     }
+    worker->busy = seconds_of(CLOCK_THREAD_CPUTIME_ID) - start;
     telgovan_program_unload(&worker->program);
     return NULL;
 }
@@ -62,15 +65,16 @@ int main(int count, char **words) {
     }
     /* The threads' handles hold the program as long as they need it. */
     telgovan_program_unload(&program);
-    double packets = 0;
+    double packets = 0, busy = 0;
     for (int n = 0; n < threads; n++) {
         pthread_join(workers[n].thread, NULL);
         packets += (double)workers[n].rounds * PACKETS;
+        busy += workers[n].busy;
         if (count == 3) printf("thread %d: %ld packets pass\n", n, workers[n].passed);
     }
     if (count > 3)
-        printf("%d threads: %.1f million packets a second\n", threads,
-               packets / (now() - start) / 1e6);
+        printf("%d threads: %.1f million packets a second, %.1f ns of a processor each\n", threads,
+               packets / (now() - start) / 1e6, busy / packets * 1e9);
     free(workers);
     return 0;
 }
