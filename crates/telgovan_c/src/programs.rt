@@ -17,7 +17,7 @@ const NO_PROGRAM: u32 = 41;
 // A growth was refused.
 const NO_MEMORY: u32 = 99;
 
-// What goes to another thread.
+// The same value, which may go to another thread: no other type is taken.
 fn sendable<T: Send>(value: T) -> T
     ensures { result ≡ value }
 {
