@@ -13,7 +13,7 @@ use Rattle.telgovan_c.specs.declared.jobs.JobReport.{JobReport}
 use Rattle.telgovan_c.specs.declared.jobs.CodePiece.{CodePiece}
 use Rattle.telgovan_c.specs.declared.jobs.EndedTask.{EndedTask}
 
--- with the place and the slot that the refusal tells
+-- the refusal, with the place and the slot that it tells
 abbrev pub refused_report : AdmitFault → JobReport
 refused_report fault = record {
   tasks = 0;
@@ -39,6 +39,7 @@ missing_report place = record {
   has_slot = false;
 }
 
+-- what the job spent and returned, and how many tasks it had
 abbrev pub played_report : Report → JobReport
 played_report report = record {
   tasks = length report.tasks.items;
@@ -51,6 +52,7 @@ played_report report = record {
   has_slot = false;
 }
 
+-- a task of the report
 abbrev pub task_of : TaskEnd → EndedTask
 task_of ended = record {
   argument = ended.arg;
@@ -81,7 +83,7 @@ AreCut code pieces programs = (n : ℕ) (piece : CodePiece) (program : ProgramBy
     → slice_get pieces n ≡ Some piece → slice_get programs n ≡ Some program
     → IsCut code piece program
 
--- the programs are those of the pieces before this one, which the code doesn't have
+-- the piece of this place is the first that the code doesn't have
 pub record IsFirstMissing (code : List ℕ) (pieces : List CodePiece) (place : ℕ) : Type 0 where
   pub piece : CodePiece
   pub there : slice_get pieces place ≡ Some piece
@@ -97,7 +99,7 @@ pub record AreCutTo (code : List ℕ) (pieces : List CodePiece) (programs : List
   pub stops : length programs < length pieces
       → IsFirstMissing code pieces (length programs)
 
--- the numbers of programs and bytes and the credit are within their limits
+-- so many programs, this credit and so many bytes are within their limits
 pub record IsWithinNumbers (count credit size : ℕ) : Type 0 where
   pub some : 1 ≤ count
   pub few : count ≤ 16

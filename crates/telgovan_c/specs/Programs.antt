@@ -13,6 +13,7 @@ use Rattle.telgovan_c.specs.declared.verdicts.Verdict.{Verdict}
 use Rattle.telgovan_c.specs.Runs.{IsRunOutcome, RunInTurn, refused_run}
 use Rattle.telgovan_c.specs.Verdicts.{accepted_verdict, refused_verdict}
 
+-- the program of a box, if there is one
 abbrev pub shown : Option Boxed → Option Checked
 shown None = None
 shown (Some boxed) = Some (arc_value boxed.program)
