@@ -13,7 +13,10 @@ fn main() {
             PathBuf::from(here).join("../out")
         }
     };
-    println!("cargo:rerun-if-changed={}", folder.join("libtelgovan.a").display());
+    println!(
+        "cargo:rerun-if-changed={}",
+        folder.join("libtelgovan.a").display()
+    );
     println!("cargo:rustc-link-search=native={}", folder.display());
     println!("cargo:rustc-link-lib=static=telgovan");
 }

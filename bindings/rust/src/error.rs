@@ -12,7 +12,10 @@ pub struct Error {
 
 impl Error {
     pub(crate) fn at(number: u32, has_place: bool, place: u64) -> Error {
-        Error { number, place: has_place.then_some(place) }
+        Error {
+            number,
+            place: has_place.then_some(place),
+        }
     }
 
     /// What the number says.

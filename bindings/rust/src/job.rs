@@ -27,14 +27,22 @@ pub struct Job {
 impl Job {
     /// A job whose root runs this program, which needs so many bytes of its part.
     pub fn new(need: u32, code: &[u8]) -> Job {
-        Job { code: Vec::new(), pieces: Vec::new() }.program(need, code)
+        Job {
+            code: Vec::new(),
+            pieces: Vec::new(),
+        }
+        .program(need, code)
     }
 
     /// The same with one more program. A task spawns it by its place, counted from 0.
     pub fn program(mut self, need: u32, code: &[u8]) -> Job {
         let start = self.code.len() as u64;
         self.code.extend_from_slice(code);
-        self.pieces.push(raw::CodePiece { start, length: code.len() as u64, need });
+        self.pieces.push(raw::CodePiece {
+            start,
+            length: code.len() as u64,
+            need,
+        });
         self
     }
 
@@ -72,7 +80,11 @@ impl Job {
                 error: Error::at(status, report.has_slot, report.slot.into()),
             });
         }
-        Ok(Report { tasks: report.tasks, spent: report.spent, returned: report.returned })
+        Ok(Report {
+            tasks: report.tasks,
+            spent: report.spent,
+            returned: report.returned,
+        })
     }
 }
 

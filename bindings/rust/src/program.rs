@@ -27,7 +27,11 @@ unsafe impl Send for Program {}
 impl Program {
     /// Verifies a program that needs so many bytes of memory, at most 65,536.
     pub fn verify(need: u32, code: &[u8]) -> Result<Program, Error> {
-        let mut program = Program { handle: raw::Program::none(), need, cost: 0 };
+        let mut program = Program {
+            handle: raw::Program::none(),
+            need,
+            cost: 0,
+        };
         let mut verdict = raw::Verdict::default();
         // The library reads the code, and writes the handle and the verdict alone.
         let status = unsafe {
@@ -109,11 +113,17 @@ impl Program {
     /// One more owner of the same program, for another thread. Nothing is verified or copied.
     /// Refused for want of memory alone, by 99.
     pub fn share(&mut self) -> Result<Program, Error> {
-        let mut other = Program { handle: raw::Program::none(), ..*self };
+        let mut other = Program {
+            handle: raw::Program::none(),
+            ..*self
+        };
         // The library writes the two handles alone.
         match unsafe { raw::telgovan_program_share(&mut self.handle, &mut other.handle) } {
             0 => Ok(other),
-            number => Err(Error { number, place: None }),
+            number => Err(Error {
+                number,
+                place: None,
+            }),
         }
     }
 }
@@ -128,7 +138,10 @@ impl Drop for Program {
 impl fmt::Debug for Program {
     fn fmt(&self, f: &mut fmt::Formatter<'_>) -> fmt::Result {
         let Program { need, cost, .. } = self;
-        f.debug_struct("Program").field("need", need).field("cost", cost).finish_non_exhaustive()
+        f.debug_struct("Program")
+            .field("need", need)
+            .field("cost", cost)
+            .finish_non_exhaustive()
     }
 }
 
@@ -160,7 +173,13 @@ impl Piece {
 
 fn executed(outcome: raw::Outcome) -> Result<Executed, Error> {
     match outcome.status {
-        0 => Ok(Executed { r0: outcome.r0, used: outcome.used }),
-        number => Err(Error { number, place: None }),
+        0 => Ok(Executed {
+            r0: outcome.r0,
+            used: outcome.used,
+        }),
+        number => Err(Error {
+            number,
+            place: None,
+        }),
     }
 }

@@ -52,7 +52,10 @@ pub struct Program {
 impl Program {
     /// A handle that holds none.
     pub fn none() -> Program {
-        Program { held: ptr::null_mut(), loaded: false }
+        Program {
+            held: ptr::null_mut(),
+            loaded: false,
+        }
     }
 }
 

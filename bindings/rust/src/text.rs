@@ -9,14 +9,26 @@ const LONGEST: usize = 8 * 4096;
 /// The program that a source text says, as bytes.
 pub fn assemble(source: &str) -> Result<Vec<u8>, Error> {
     written(LONGEST, |room, told| unsafe {
-        raw::telgovan_assemble(source.as_ptr(), source.len(), room.as_mut_ptr(), room.len(), told)
+        raw::telgovan_assemble(
+            source.as_ptr(),
+            source.len(),
+            room.as_mut_ptr(),
+            room.len(),
+            told,
+        )
     })
 }
 
 /// The lines of the program that the bytes spell.
 pub fn disassemble(code: &[u8]) -> Result<String, Error> {
     let lines = written(8 * code.len(), |room, told| unsafe {
-        raw::telgovan_disassemble(code.as_ptr(), code.len(), room.as_mut_ptr(), room.len(), told)
+        raw::telgovan_disassemble(
+            code.as_ptr(),
+            code.len(),
+            room.as_mut_ptr(),
+            room.len(),
+            told,
+        )
     })?;
     Ok(String::from_utf8(lines).expect("lines are ASCII"))
 }

@@ -31,7 +31,10 @@ fn runs_the_filter() {
     let mut filter = filter();
     assert_eq!((filter.need(), filter.cost()), (40, 16));
     for _ in 0..3 {
-        assert_eq!(filter.execute(&mut packet(53), 0, 16), Ok(Executed { r0: 1, used: 16 }));
+        assert_eq!(
+            filter.execute(&mut packet(53), 0, 16),
+            Ok(Executed { r0: 1, used: 16 })
+        );
         assert_eq!(filter.execute(&mut packet(54), 0, 16).expect("ran").r0, 0);
     }
 }
@@ -43,38 +46,83 @@ fn refuses_what_is_too_little() {
     assert_eq!(number(filter.execute(&mut packet(53), 0, 15)), 42);
     assert_eq!(number(filter.execute(&mut [0; 39], 0, 16)), 43);
     assert_eq!(number(filter.execute(&mut vec![0; 65_537], 0, 16)), 65);
-    assert_eq!(filter.execute(&mut packet(53), 0, 16).expect("held as before").r0, 1);
+    assert_eq!(
+        filter
+            .execute(&mut packet(53), 0, 16)
+            .expect("held as before")
+            .r0,
+        1
+    );
 }
 
 #[test]
 fn runs_pieces_in_turn() {
     let mut memory = [packet(53), packet(54), packet(53)].concat();
-    let piece = |start, length| Piece { start, length, argument: 0 };
-    let pieces =
-        [piece(0, 64), piece(64, 64), piece(128, 64), piece(128, 65), piece(usize::MAX, 1)];
+    let piece = |start, length| Piece {
+        start,
+        length,
+        argument: 0,
+    };
+    let pieces = [
+        piece(0, 64),
+        piece(64, 64),
+        piece(128, 64),
+        piece(128, 65),
+        piece(usize::MAX, 1),
+    ];
     let told = filter().burst(&mut memory, &pieces, 16);
-    let r0s: Vec<Option<u64>> = told.iter().map(|run| run.ok().map(|done| done.r0)).collect();
+    let r0s: Vec<Option<u64>> = told
+        .iter()
+        .map(|run| run.ok().map(|done| done.r0))
+        .collect();
     assert_eq!(r0s, [Some(1), Some(0), Some(1), None, None]);
-    assert!(told[3..].iter().all(|run| run.expect_err("no such piece").number == 43));
+    assert!(told[3..]
+        .iter()
+        .all(|run| run.expect_err("no such piece").number == 43));
 }
 
 #[test]
 fn leaves_what_a_run_leaves() {
     let mut store = program(1, "stxb [r1+0], r3\nmov64 r0, 0\nexit");
     let mut memory = [9, 9, 9];
-    let piece = |start, argument| Piece { start, length: 1, argument };
+    let piece = |start, argument| Piece {
+        start,
+        length: 1,
+        argument,
+    };
     store.burst(&mut memory, &[piece(2, 7), piece(0, 8)], 3);
     assert_eq!(memory, [8, 9, 7]);
 }
 
 #[test]
 fn tells_where_a_refusal_stands() {
-    assert_eq!(assemble("exit\nhalt"), Err(Error { number: 11, place: Some(2) }));
+    assert_eq!(
+        assemble("exit\nhalt"),
+        Err(Error {
+            number: 11,
+            place: Some(2)
+        })
+    );
     let refusal = |need, source| Program::verify(need, &code(source)).expect_err("refused");
-    assert_eq!(refusal(0, "ja -1"), Error { number: 23, place: Some(0) });
-    assert_eq!(refusal(65_537, "ja -1"), Error { number: 38, place: None });
+    assert_eq!(
+        refusal(0, "ja -1"),
+        Error {
+            number: 23,
+            place: Some(0)
+        }
+    );
+    assert_eq!(
+        refusal(65_537, "ja -1"),
+        Error {
+            number: 38,
+            place: None
+        }
+    );
     let told = refusal(0, "ja -1").to_string();
-    assert_eq!(told, "23: a path of jumps leads back to where it began at 0");
+    assert_eq!(
+        told,
+        "23: a path of jumps leads back to where it began at 0"
+    );
 }
 
 #[test]
@@ -83,7 +131,13 @@ fn reads_back_what_it_writes() {
     let text = disassemble(&bytes).expect("a listing");
     assert_eq!(text.lines().count(), 16);
     assert_eq!(code(&text), bytes);
-    assert_eq!(disassemble(&[0; 7]), Err(Error { number: 2, place: None }));
+    assert_eq!(
+        disassemble(&[0; 7]),
+        Err(Error {
+            number: 2,
+            place: None
+        })
+    );
 }
 
 #[test]
@@ -92,8 +146,14 @@ fn threads_share_a_program() {
     let owners: Vec<Program> = (0..4).map(|_| first.share().expect("room")).collect();
     drop(first);
     let run = |mut owner: Program| move || owner.execute(&mut packet(53), 0, 16).expect("ran").r0;
-    let threads: Vec<_> = owners.into_iter().map(|owner| thread::spawn(run(owner))).collect();
-    let answers: Vec<u64> = threads.into_iter().map(|it| it.join().expect("joined")).collect();
+    let threads: Vec<_> = owners
+        .into_iter()
+        .map(|owner| thread::spawn(run(owner)))
+        .collect();
+    let answers: Vec<u64> = threads
+        .into_iter()
+        .map(|it| it.join().expect("joined"))
+        .collect();
     assert_eq!(answers, [1; 4]);
 }
 
@@ -111,9 +171,17 @@ fn plays_a_job() {
     let sum = code(include_str!("../../../examples/sum.bpf"));
     let mut buffer: Vec<u8> = (1..=64).collect();
     let mut tasks = [Task::default(); 6];
-    let report = Job::new(8, &sum).play(2000, &mut buffer, &mut tasks).expect("played");
-    assert_eq!((report.tasks, report.spent, report.returned), (8, 513, 1487));
-    let sums: Vec<u16> = buffer.chunks(8).map(|it| u16::from_le_bytes([it[0], it[1]])).collect();
+    let report = Job::new(8, &sum)
+        .play(2000, &mut buffer, &mut tasks)
+        .expect("played");
+    assert_eq!(
+        (report.tasks, report.spent, report.returned),
+        (8, 513, 1487)
+    );
+    let sums: Vec<u16> = buffer
+        .chunks(8)
+        .map(|it| u16::from_le_bytes([it[0], it[1]]))
+        .collect();
     assert_eq!(sums, [36, 100, 164, 228, 292, 356, 420, 484]);
     let numbers: Vec<u32> = tasks.iter().map(|task| task.number).collect();
     assert_eq!(numbers, [0, 1, 2, 3, 4, 5]);
@@ -130,7 +198,10 @@ fn a_job_spawns_another_program() {
     let report = job.play(34, &mut buffer, &mut tasks).expect("played");
     assert_eq!((report.tasks, report.spent, report.returned), (2, 27, 7));
     assert_eq!(buffer, [0, 0, 0, 0, 9, 0, 0, 0]);
-    assert_eq!((tasks[1].program, tasks[1].spent, tasks[1].returned), (1, 3, 7));
+    assert_eq!(
+        (tasks[1].program, tasks[1].spent, tasks[1].returned),
+        (1, 3, 7)
+    );
     assert_eq!(tasks[2], Task::default());
 }
 
@@ -144,13 +215,22 @@ fn tells_why_a_job_is_refused() {
         assert_eq!(buffer, [7; 4]);
         error
     };
-    let at = |program, number, place| JobError { program, error: Error { number, place } };
+    let at = |program, number, place| JobError {
+        program,
+        error: Error { number, place },
+    };
     assert_eq!(refusal(Job::new(0, &exit), 1), at(None, 63, None));
     assert_eq!(refusal(Job::new(5, &exit), 2), at(None, 64, None));
     assert_eq!(refusal(Job::new(0, &exit), 1 << 31), at(None, 65, None));
-    assert_eq!(refusal(Job::new(0, &exit).program(0, &unset), 2), at(Some(1), 31, Some(0)));
+    assert_eq!(
+        refusal(Job::new(0, &exit).program(0, &unset), 2),
+        at(Some(1), 31, Some(0))
+    );
     let many = (0..16).fold(Job::new(0, &exit), |job, _| job.program(0, &exit));
     assert_eq!(refusal(many, 2), at(None, 62, None));
     let told = at(Some(1), 31, Some(0)).to_string();
-    assert_eq!(told, "program 1: 31: a register is read that may be unset at 0");
+    assert_eq!(
+        told,
+        "program 1: 31: a register is read that may be unset at 0"
+    );
 }
