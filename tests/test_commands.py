@@ -18,7 +18,7 @@ class Commands(unittest.TestCase):
             with self.subTest(place):
                 if status == "serve":
                     self.check_served(words.split(), [int(number) for number in output.split()])
-                elif "--help" in words:
+                elif (given, status, output) == ("", "0", ""):
                     self.check_help(BPFJOBS, words.split())
                 else:
                     ran = told(BPFJOBS, words.split(), lines_of(given).encode())
