@@ -1,4 +1,5 @@
-/* Text to assemble, and back: what is assembled is disassembled, and that text is the same program. Bytes are disassembled, and their text is the same bytes. */
+/* Text to assemble, and back: what is assembled is disassembled, and that text is the same program.
+ * Bytes are disassembled, and their text is the same bytes. */
 #include <stdint.h>
 #include <stdlib.h>
 #include <string.h>
@@ -32,7 +33,8 @@ int LLVMFuzzerTestOneInput(const uint8_t *data, size_t size) {
     if (status == 0) {
         struct telgovan_written few;
         uint8_t *room = malloc(bytes.length);
-        holds(room != NULL && telgovan_assemble(data, size, room, bytes.length - 1, &few) == 65 && few.length == bytes.length);
+        holds(room != NULL && telgovan_assemble(data, size, room, bytes.length - 1, &few) == 65 &&
+              few.length == bytes.length);
         free(room);
         comes_back(code, bytes.length);
     } else {

@@ -1,6 +1,8 @@
-/* Bytes to verify and run. The first bytes say what is asked: how many bytes the program needs, how much credit it gets, its argument, and how much memory it is lent;
- * the others are the program. A program that is accepted must run where the memory and the credit suffice, must not be charged more than its cost, must come to the same
- * twice, and must leave what surrounds the memory. AddressSanitizer looks on. */
+/* Bytes to verify and run. The first bytes say what is asked: how many bytes the program needs, how
+ * much credit it gets, its argument, and how much memory it is lent; the others are the program. A
+ * program that is accepted must run where the memory and the credit suffice, must not be charged
+ * more than its cost, must come to the same twice, and must leave what surrounds the memory.
+ * AddressSanitizer looks on. */
 #include <stdint.h>
 #include <stdlib.h>
 #include <string.h>
@@ -25,7 +27,8 @@ int LLVMFuzzerTestOneInput(const uint8_t *data, size_t size) {
     struct telgovan_verdict verdict, again;
     uint32_t status = telgovan_verify(need, code, length, &verdict);
     holds(status == verdict.status);
-    holds(telgovan_verify(need, code, length, &again) == status && again.cost == verdict.cost && again.slot == verdict.slot);
+    holds(telgovan_verify(need, code, length, &again) == status && again.cost == verdict.cost &&
+          again.slot == verdict.slot);
     holds(!verdict.has_slot || verdict.slot < length / 8);
     if (status == 99) return 0;
 
@@ -36,7 +39,8 @@ int LLVMFuzzerTestOneInput(const uint8_t *data, size_t size) {
     struct telgovan_outcome first, second;
     uint32_t ran = telgovan_run(need, code, length, credit, argument, memory, lent, &first);
     telgovan_run(need, code, length, credit, argument, copy, lent, &second);
-    holds(ran == first.status && ran == second.status && first.r0 == second.r0 && first.used == second.used);
+    holds(ran == first.status && ran == second.status && first.r0 == second.r0 &&
+          first.used == second.used);
     holds(memcmp(memory, copy, lent) == 0);
     if (status != 0) {
         holds(ran == status);

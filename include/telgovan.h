@@ -1,13 +1,16 @@
-/* The library for C: verdicts, texts and runs over the caller's memory.
+/* The library for C: verdicts, texts, runs and jobs over the caller's memory.
  *
- * Link libtelgovan.a, which bindings/build makes.
+ * bindings/build makes libtelgovan.a and libtelgovan.so, bindings/install puts them in place.
  *
- * Nothing is kept between calls, no thread is started and no lock is taken: any threads may call at once, each with memory of its own. A call
- * touches nothing but what it is lent, and calls nothing of C but malloc, realloc and free. Each answer has a status: 0, or the number of
- * the refusal, of docs/protocol.md and docs/profile.md.
+ * Each answer has a status: 0, or the number of the refusal, of docs/profile.md and
+ * docs/protocol.md. No thread is started and no lock is taken. A call touches nothing but what it
+ * is lent, and calls nothing of C but malloc, realloc and free, which are of one allocator. Any
+ * threads may call at once, each with memory and handles of its own.
  *
- * Each pointer must lead to as many elements as the length behind it says, also where that is 0, and must not be NULL. What is read may be lent
- * twice; what is written (memory, room, runs, and what is told) must not overlap anything else that the same call is lent. */
+ * Each pointer must lead to as many elements as the length behind it says, also where that is 0,
+ * and must not be NULL. What is read may be lent twice. What is written (memory, room, runs, tasks,
+ * handles and what is told) must not overlap anything else that the same call is lent. No call is
+ * made from a signal handler, or in the forked child of a process with threads. */
 #ifndef TELGOVAN_H
 #define TELGOVAN_H
 
@@ -18,6 +21,8 @@
 #ifdef __cplusplus
 extern "C" {
 #endif
+
+/* ---- Programs as bytes and as text */
 
 /* What is said of a program. */
 struct telgovan_verdict {
@@ -30,19 +35,48 @@ struct telgovan_verdict {
 /* What was written into the caller's room. */
 struct telgovan_written {
     uint64_t length; /* how many bytes; where they don't fit (65), how many they are */
-    uint64_t place;  /* where the refusal stands: a line of a text, counted from 1, or a slot of a program */
-    uint32_t status; /* 0 where it was written, else the number of the refusal, after which the room is as it was */
+    uint64_t place;  /* where the refusal stands: a line, counted from 1, or a slot */
+    uint32_t status; /* 0, or the number of the refusal, after which the room is as it was */
     bool has_place;  /* whether it stands at a place */
 };
+
+/* Verifies a program that needs so many bytes of memory, and answers the verdict's status. */
+uint32_t telgovan_verify(uint32_t need, const uint8_t *code, size_t code_length,
+                         struct telgovan_verdict *verdict);
+
+/* Writes the bytes of the program that a source text says, in UTF-8, and answers the status: 1 and
+ * 3, 11 to 13 with their line, 65 where the room is too short, 73 where the text is no UTF-8, or
+ * 99. */
+uint32_t telgovan_assemble(const uint8_t *source, size_t source_length, uint8_t *room,
+                           size_t room_length, struct telgovan_written *written);
+
+/* Writes the lines of the program that the bytes spell, each with a line feed behind it and none
+ * with a zero, and answers the status: 1 to 7 with their slot, 65 where the room is too short,
+ * 99. */
+uint32_t telgovan_disassemble(const uint8_t *code, size_t code_length, uint8_t *room,
+                              size_t room_length, struct telgovan_written *written);
+
+/* Writes why a program of this need is refused, as text for whoever wrote it: the rule that it
+ * breaks, the instruction with its line in the source text, a way that leads there, and what is
+ * known of each register there. It answers the status: 0 where the program is accepted, and nothing
+ * is written, else the number of the refusal with its slot as the place, or 99. `length` is how
+ * many bytes the text has; where they don't fit, the room stays as it was. A source text of length
+ * 0, or one that is no UTF-8, gives no line. */
+uint32_t telgovan_explain(uint32_t need, const uint8_t *code, size_t code_length,
+                          const uint8_t *source, size_t source_length, uint8_t *room,
+                          size_t room_length, struct telgovan_written *written);
+
+/* ---- Runs of one program */
 
 /* What a run came to. */
 struct telgovan_outcome {
     uint64_t r0;     /* R0 at the end */
-    uint32_t status; /* 0 where the program ran, else the number of the refusal, after which the memory is as it was */
+    uint32_t status; /* 0, or the number of the refusal, after which the memory is as it was */
     uint32_t used;   /* what it used of its credit */
 };
 
-/* A run of a burst: the piece of the memory that is the program's part, the argument that it gets, and what it came to. */
+/* A run of a burst: the piece of the memory that is the program's part, the argument that it gets,
+ * and what it came to. */
 struct telgovan_run {
     uint64_t start;
     uint64_t length;
@@ -50,29 +84,111 @@ struct telgovan_run {
     struct telgovan_outcome outcome;
 };
 
-/* Verifies a program that needs so many bytes of memory, and answers the verdict's status. */
-uint32_t telgovan_verify(uint32_t need, const uint8_t *code, size_t code_length, struct telgovan_verdict *verdict);
+/* Verifies a program and runs it once, in place, with the memory as its part. It answers the
+ * outcome's status: that of the verdict where the program is refused, else 65 where the memory has
+ * over 65,536 bytes or the credit is over 2,147,483,647, 42 where the credit is under the cost, 43
+ * where the memory is shorter than the need, or 0. */
+uint32_t telgovan_run(uint32_t need, const uint8_t *code, size_t code_length, uint32_t credit,
+                      uint64_t argument, uint8_t *memory, size_t memory_length,
+                      struct telgovan_outcome *outcome);
 
-/* Writes the bytes of the program that a source text says, in UTF-8, and answers the status: 1 and 3, 11 to 13 with their line, 65 where the room is too
- * short, 73 where the text is no UTF-8, 99. */
-uint32_t telgovan_assemble(const uint8_t *source, size_t source_length, uint8_t *room, size_t room_length,
-                           struct telgovan_written *written);
+/* Verifies a program once and runs it in place on each piece of the memory in turn, each time with
+ * this credit. It answers the verdict's status; where the program is refused nothing runs. A run
+ * that is refused, as above or by 43 where the memory has no such piece, doesn't stop the next. */
+uint32_t telgovan_burst(uint32_t need, const uint8_t *code, size_t code_length, uint32_t credit,
+                        uint8_t *memory, size_t memory_length, struct telgovan_run *runs,
+                        size_t runs_length, struct telgovan_verdict *verdict);
 
-/* Writes the lines of the program that the bytes spell, each with a line feed behind it and none with a zero, and answers the status: 1 to 7 with their
- * slot, 65 where the room is too short, 99. */
-uint32_t telgovan_disassemble(const uint8_t *code, size_t code_length, uint8_t *room, size_t room_length,
-                              struct telgovan_written *written);
+/* ---- Programs that are loaded once and run many times */
 
-/* Verifies a program and runs it once, in place, with the memory as its part. It answers the outcome's status: that of the verdict where the program
- * is refused, else 65 where the memory has over 65,536 bytes or the credit is over 2,147,483,647, 42 where the credit is under the cost, 43 where
- * the memory is shorter than the need, or 0. */
-uint32_t telgovan_run(uint32_t need, const uint8_t *code, size_t code_length, uint32_t credit, uint64_t argument, uint8_t *memory,
-                      size_t memory_length, struct telgovan_outcome *outcome);
+/* A handle: a program that was verified, or none. It begins as {0}, which holds none. Its fields
+ * are the library's: don't write or follow them. Move a handle where you like, but use no copy of
+ * it. A handle that holds a program and is overwritten or forgotten leaks.
+ *
+ * One call at a time uses a handle. A thread gives one to another by a lock, a thread's start or
+ * join, or a sequentially consistent atomic. */
+struct telgovan_program {
+    void *held;
+    bool loaded;
+};
 
-/* Verifies a program once and runs it in place on each piece of the memory in turn, each time with this credit. It answers the verdict's status; where the
- * program is refused nothing runs. A run that is refused, as above or by 43 where the memory has no such piece, doesn't stop the next. */
-uint32_t telgovan_burst(uint32_t need, const uint8_t *code, size_t code_length, uint32_t credit, uint8_t *memory, size_t memory_length,
-                        struct telgovan_run *runs, size_t runs_length, struct telgovan_verdict *verdict);
+/* Verifies a program, and lets the handle hold it in place of the one that it held. It answers the
+ * verdict's status. Where that isn't 0, the handle holds what it held. */
+uint32_t telgovan_program_load(uint32_t need, const uint8_t *code, size_t code_length,
+                               struct telgovan_program *program,
+                               struct telgovan_verdict *verdict);
+
+/* Runs the program that the handle holds once, in place, with the memory as its part, and takes no
+ * memory of its own. It answers the outcome's status: 41 where the handle holds none, else as
+ * telgovan_run. */
+uint32_t telgovan_program_run(struct telgovan_program *program, uint32_t credit, uint64_t argument,
+                              uint8_t *memory, size_t memory_length,
+                              struct telgovan_outcome *outcome);
+
+/* Runs the program that the handle holds on each piece of the memory in turn, as telgovan_burst. It
+ * answers 0, or 41 where the handle holds none, after which nothing changed. */
+uint32_t telgovan_program_burst(struct telgovan_program *program, uint32_t credit, uint8_t *memory,
+                                size_t memory_length, struct telgovan_run *runs,
+                                size_t runs_length);
+
+/* Lets another handle hold the program too, in place of the one that it held: for another thread,
+ * say. It answers 0; or 41 where there is no program, or 99, after which the other handle holds
+ * what it held. */
+uint32_t telgovan_program_share(struct telgovan_program *program, struct telgovan_program *other);
+
+/* Tells the most that a run of the program may use of its credit. It answers 0, or 41 where the
+ * handle holds none, after which the cost is what it was. */
+uint32_t telgovan_program_cost(struct telgovan_program *program, uint32_t *cost);
+
+/* Lets go of the program that the handle holds, and frees it where no other handle holds it. The
+ * handle holds none from then on, so that a second call does nothing. */
+void telgovan_program_unload(struct telgovan_program *program);
+
+/* ---- Whole jobs */
+
+/* A program of a job: the piece of the code that is its bytes, and the bytes that each of its tasks
+ * needs of its part. */
+struct telgovan_piece {
+    uint64_t start;
+    uint64_t length;
+    uint32_t need;
+};
+
+/* A task that ended. */
+struct telgovan_task {
+    uint64_t argument; /* what its parent gave it; the root's is 0 */
+    uint64_t r0;       /* R0 at its end */
+    uint32_t number;
+    uint32_t program;  /* its program's place, counted from 0 */
+    uint32_t given;    /* the credit that it was given */
+    uint32_t spent;    /* how much of what it kept it spent */
+    uint32_t returned; /* how much of what it kept came back */
+};
+
+/* What a job came to. */
+struct telgovan_report {
+    uint64_t tasks;    /* how many tasks it had */
+    uint32_t status;   /* 0 where it was played, else the number of the refusal */
+    uint32_t spent;    /* the credit that its tasks spent */
+    uint32_t returned; /* the credit that came back: what they were given and didn't spend */
+    uint32_t program;  /* the place of the program that the refusal is about */
+    uint32_t slot;     /* where the refusal stands in that */
+    bool has_program;  /* whether it is about a program */
+    bool has_slot;     /* whether it stands at a slot */
+};
+
+/* Admits a job of the programs that these pieces of the code are, of which the first is the root's,
+ * and plays it to its end on the buffer, in place: always the live task of lowest number next. It
+ * writes as many of its tasks as there is room for, in order of their numbers, and answers the
+ * report's status. The refusals, of which the first that applies comes, and which leave the buffer
+ * and the tasks as they were: 61 there is no piece, 62 there are over 16, 65 the credit is over
+ * 2,147,483,647 or the buffer has over 65,536 bytes; 43 a piece isn't in the code, with its place;
+ * the first refusal of a program, with its place and its slot; 63 the credit is under the root's
+ * cost, 64 the buffer is shorter than its need. 99 may come behind the first three. */
+uint32_t telgovan_job(const uint8_t *code, size_t code_length, const struct telgovan_piece *pieces,
+                      size_t pieces_length, uint32_t credit, uint8_t *buffer, size_t buffer_length,
+                      struct telgovan_task *tasks, size_t tasks_length,
+                      struct telgovan_report *report);
 
 #ifdef __cplusplus
 }

@@ -1,65 +1,147 @@
-"""Verifies eBPF programs and runs them over memory that is lent, by ctypes over libtelgovan.so, which bindings/build makes.
+"""Verifies eBPF programs and runs them on memory that is lent, by ctypes over libtelgovan.so.
 
 >>> code = assemble("ldxb r0, [r1+0]\\nmov64 r2, r0\\nadd64 r2, r3\\nstxb [r1+0], r2\\nexit")
->>> machine = Machine(Program(1, code))
+>>> program = Program(1, code)
 >>> memory = bytearray([40])
->>> machine.execute(memory, argument=2)
+>>> program.execute(memory, argument=2)
 Executed(r0=40, used=5)
 >>> memory[0]
 42
+>>> report = Job((1, code)).play(memory, credit=7)
+>>> report.spent, report.returned, report.count, report.tasks[0].r0
+(5, 2, 1, 42)
 """
 
 import ctypes
 import os
+import threading
 from collections import namedtuple
 
-_FOLDER = os.environ.get("TELGOVAN_LIB") or os.path.join(os.path.dirname(os.path.abspath(__file__)), "../out")
-_LIBRARY = ctypes.CDLL(os.path.join(_FOLDER, "libtelgovan.so"))
+__all__ = [
+    "Error",
+    "Executed",
+    "Job",
+    "Machine",
+    "Program",
+    "Report",
+    "Task",
+    "assemble",
+    "disassemble",
+    "run_once",
+]
+
+_HERE = os.path.dirname(os.path.abspath(__file__))
+
+
+def _library():
+    """The shared object: of the folder that TELGOVAN_LIB names, of bindings/out, or installed."""
+    folder = os.environ.get("TELGOVAN_LIB")
+    built = os.path.join(folder or os.path.join(_HERE, "../out"), "libtelgovan.so")
+    if folder or os.path.exists(built):
+        return ctypes.CDLL(built)
+    return ctypes.CDLL("libtelgovan.so.0")
+
+
+_LIBRARY = _library()
 
 Executed = namedtuple("Executed", "r0 used")
 Executed.__doc__ = "What a run came to: R0, and what it used of its credit."
 
+Task = namedtuple("Task", "number program argument given spent returned r0")
+Task.__doc__ = """A task that ended: its number, its program's place, its argument, the credit that
+it was given, how much of what it kept it spent and returned, and R0 at its end."""
+
+Report = namedtuple("Report", "spent returned count tasks")
+Report.__doc__ = """What a job came to: the credit that it spent and returned, how many tasks it
+had, and the first of them."""
+
+
+_U32, _U64, _BOOL = ctypes.c_uint32, ctypes.c_uint64, ctypes.c_bool
+
+
+def _fields(**kinds):
+    """Fields of a structure, by their type."""
+    order = (("u64", _U64), ("u32", _U32), ("flags", _BOOL))
+    return [(name, kind) for word, kind in order for name in kinds.get(word, "").split()]
+
 
 class _Verdict(ctypes.Structure):
-    _fields_ = [("status", ctypes.c_uint32), ("cost", ctypes.c_uint32), ("slot", ctypes.c_uint32), ("has_slot", ctypes.c_bool)]
+    _fields_ = _fields(u32="status cost slot", flags="has_slot")
 
 
 class _Written(ctypes.Structure):
-    _fields_ = [("length", ctypes.c_uint64), ("place", ctypes.c_uint64), ("status", ctypes.c_uint32), ("has_place", ctypes.c_bool)]
+    _fields_ = _fields(u64="length place", u32="status", flags="has_place")
 
 
 class _Outcome(ctypes.Structure):
-    _fields_ = [("r0", ctypes.c_uint64), ("status", ctypes.c_uint32), ("used", ctypes.c_uint32)]
+    _fields_ = _fields(u64="r0", u32="status used")
 
 
 class _Run(ctypes.Structure):
-    _fields_ = [("start", ctypes.c_uint64), ("length", ctypes.c_uint64), ("argument", ctypes.c_uint64), ("outcome", _Outcome)]
+    _fields_ = [*_fields(u64="start length argument"), ("outcome", _Outcome)]
 
 
-_BYTES = [ctypes.c_char_p, ctypes.c_size_t]
-_ROOM = [ctypes.c_void_p, ctypes.c_size_t]
-_SHAPES = {
-    "telgovan_verify": [ctypes.c_uint32, *_BYTES, ctypes.POINTER(_Verdict)],
-    "telgovan_assemble": [*_BYTES, *_ROOM, ctypes.POINTER(_Written)],
-    "telgovan_disassemble": [*_BYTES, *_ROOM, ctypes.POINTER(_Written)],
-    "telgovan_run": [ctypes.c_uint32, *_BYTES, ctypes.c_uint32, ctypes.c_uint64, *_ROOM, ctypes.POINTER(_Outcome)],
-    "telgovan_burst": [
-        ctypes.c_uint32, *_BYTES, ctypes.c_uint32, *_ROOM, ctypes.POINTER(_Run), ctypes.c_size_t, ctypes.POINTER(_Verdict),
-    ],
-}
-for _name, _shape in _SHAPES.items():
-    _export = getattr(_LIBRARY, _name)
-    _export.argtypes, _export.restype = _shape, ctypes.c_uint32
+class _Program(ctypes.Structure):
+    _fields_ = [("held", ctypes.c_void_p), ("loaded", _BOOL)]
+
+
+class _Piece(ctypes.Structure):
+    _fields_ = _fields(u64="start length", u32="need")
+
+
+class _Task(ctypes.Structure):
+    _fields_ = _fields(u64="argument r0", u32="number program given spent returned")
+
+
+class _Report(ctypes.Structure):
+    _fields_ = _fields(
+        u64="tasks", u32="status spent returned program slot", flags="has_program has_slot"
+    )
+
 
 _WORD = 2**32
+_BYTES = [ctypes.c_char_p, ctypes.c_size_t]
+_ROOM = [ctypes.c_void_p, ctypes.c_size_t]
+_HANDLE = ctypes.POINTER(_Program)
+
+
+def _export(name, *shape, answers=ctypes.c_uint32):
+    """A call of the library, as its header declares it."""
+    export = getattr(_LIBRARY, name)
+    export.argtypes, export.restype = shape, answers
+    return export
+
+
+_assemble = _export("telgovan_assemble", *_BYTES, *_ROOM, ctypes.POINTER(_Written))
+_disassemble = _export("telgovan_disassemble", *_BYTES, *_ROOM, ctypes.POINTER(_Written))
+_run = _export("telgovan_run", _U32, *_BYTES, _U32, _U64, *_ROOM, ctypes.POINTER(_Outcome))
+_load = _export("telgovan_program_load", _U32, *_BYTES, _HANDLE, ctypes.POINTER(_Verdict))
+_run_held = _export("telgovan_program_run", _HANDLE, _U32, _U64, *_ROOM, ctypes.POINTER(_Outcome))
+_burst_held = _export(
+    "telgovan_program_burst", _HANDLE, _U32, *_ROOM, ctypes.POINTER(_Run), ctypes.c_size_t
+)
+_share = _export("telgovan_program_share", _HANDLE, _HANDLE)
+_unload = _export("telgovan_program_unload", _HANDLE, answers=None)
+_job = _export(
+    "telgovan_job",
+    *_BYTES,
+    *(ctypes.POINTER(_Piece), ctypes.c_size_t),
+    _U32,
+    *_ROOM,
+    *(ctypes.POINTER(_Task), ctypes.c_size_t),
+    ctypes.POINTER(_Report),
+)
 
 
 class Error(Exception):
-    """A refusal: its number, and the line of the text or the slot of the program where it stands, or None."""
+    """A refusal: its number, the line of the text or the slot of the program where it stands, or
+    None, and the place of the program of a job that it is about, or None."""
 
-    def __init__(self, number, place=None):
-        super().__init__(f"refused {number}" if place is None else f"refused {number} at {place}")
-        self.number, self.place = number, place
+    def __init__(self, number, place=None, program=None):
+        at = "" if place is None else f" at {place}"
+        of = "" if program is None else f" in program {program}"
+        super().__init__(f"refused {number}{at}{of}")
+        self.number, self.place, self.program = number, place, program
 
 
 def _number(value, limit, name):
@@ -70,13 +152,20 @@ def _number(value, limit, name):
 
 
 def _lent(memory):
-    """The address of a bytearray's bytes, and their number. The array can't be resized as long as the first is held."""
-    size = len(memory)
-    return (ctypes.c_char * size).from_buffer(memory) if size else ctypes.create_string_buffer(1), size
+    """The address of the bytes of a bytearray, a memoryview or the like, which are lent and not
+    copied, and their number. What has them can't be resized as long as the first is held. Bytes
+    that can't be written are refused by TypeError."""
+    view = memoryview(memory)
+    if view.readonly:
+        raise TypeError("the memory is written, so it can't be read-only")
+    size = view.nbytes
+    if size == 0:
+        return ctypes.create_string_buffer(1), 0
+    return (ctypes.c_char * size).from_buffer(view.cast("B")), size
 
 
 def _write(export, given, size):
-    """What a call writes into a room of this size, or into one of the size that the call asks for."""
+    """What a call writes into a room of this size, or of the size that the call asks for."""
     told = _Written()
     while True:
         room = ctypes.create_string_buffer(max(size, 1))
@@ -91,24 +180,13 @@ def _write(export, given, size):
 
 def assemble(source):
     """The bytes of the program that a source text says."""
-    return _write(_LIBRARY.telgovan_assemble, source.encode(), 8 * 4096)
+    return _write(_assemble, source.encode(), 8 * 4096)
 
 
 def disassemble(code):
     """The lines of the program that the bytes spell."""
     code = bytes(code)
-    return _write(_LIBRARY.telgovan_disassemble, code, 8 * len(code)).decode("ascii")
-
-
-class Program:
-    """A program that was accepted: the bytes of memory that a run needs, the most that it uses of its credit, and its code."""
-
-    def __init__(self, need, code):
-        self.need, self.code = _number(need, _WORD, "need"), bytes(code)
-        verdict = _Verdict()
-        if _LIBRARY.telgovan_verify(self.need, self.code, len(self.code), verdict):
-            raise Error(verdict.status, verdict.slot if verdict.has_slot else None)
-        self.cost = verdict.cost
+    return _write(_disassemble, code, 8 * len(code)).decode("ascii")
 
 
 def _executed(outcome):
@@ -117,36 +195,127 @@ def _executed(outcome):
     return Executed(outcome.r0, outcome.used)
 
 
-class Machine:
-    """Runs a program. Nothing is kept from one run to the next but the program, so threads may share a machine."""
+def _told(outcome):
+    told = _executed(outcome)
+    if isinstance(told, Error):
+        raise told
+    return told
 
-    def __init__(self, program):
-        self.program = program
+
+def run_once(need, code, memory, argument=0, credit=2**31 - 1):
+    """Verifies a program and runs it once on the memory, in place. Nothing is held afterwards."""
+    code, outcome = bytes(code), _Outcome()
+    need, credit = _number(need, _WORD, "need"), _number(credit, _WORD, "credit")
+    argument = _number(argument, 2**64, "argument")
+    room, size = _lent(memory)
+    _run(need, code, len(code), credit, argument, room, size, outcome)
+    return _told(outcome)
+
+
+class Program:
+    """A program that was accepted, and that the library holds: the bytes of memory that a run
+    needs, the most that it uses of its credit, and its code.
+
+    One call at a time uses a program. Calls from several threads wait for each other; share gives
+    each thread one of its own, and those run side by side."""
+
+    def __init__(self, need, code):
+        self._lock, self._handle = threading.Lock(), _Program()
+        self.need, self.code = _number(need, _WORD, "need"), bytes(code)
+        verdict = _Verdict()
+        if _load(self.need, self.code, len(self.code), self._handle, verdict):
+            raise Error(verdict.status, verdict.slot if verdict.has_slot else None)
+        self.cost = verdict.cost
 
     def execute(self, memory, argument=0, credit=None):
-        """Runs the program once with the bytearray as its memory, in place, and with its cost as the credit if none is given."""
-        program, outcome = self.program, _Outcome()
-        credit = program.cost if credit is None else _number(credit, _WORD, "credit")
+        """Runs the program once with the memory as its part, in place, and with its cost as the
+        credit if none is given."""
+        outcome = _Outcome()
+        credit = self.cost if credit is None else _number(credit, _WORD, "credit")
+        argument = _number(argument, 2**64, "argument")
         room, size = _lent(memory)
-        _LIBRARY.telgovan_run(
-            program.need, program.code, len(program.code), credit, _number(argument, 2**64, "argument"), room, size, outcome
-        )
-        told = _executed(outcome)
-        if isinstance(told, Error):
-            raise told
-        return told
+        with self._lock:
+            _run_held(self._handle, credit, argument, room, size, outcome)
+        return _told(outcome)
 
     def burst(self, memory, pieces, credit=None):
-        """Runs the program on each piece of the bytearray in turn, given as (start, length, argument). For each run there is an Executed, or
-        the Error that it was refused by."""
-        program, verdict = self.program, _Verdict()
-        credit = program.cost if credit is None else _number(credit, _WORD, "credit")
+        """Runs the program on each piece of the memory in turn, given as (start, length, argument).
+        For each run there is an Executed, or the Error that it was refused by."""
+        credit = self.cost if credit is None else _number(credit, _WORD, "credit")
         pieces = list(pieces)
         runs = (_Run * max(len(pieces), 1))()
         for run, (start, length, argument) in zip(runs, pieces):
-            run.start, run.length = _number(start, 2**64, "start"), _number(length, 2**64, "length")
+            run.start = _number(start, 2**64, "start")
+            run.length = _number(length, 2**64, "length")
             run.argument = _number(argument, 2**64, "argument")
         room, size = _lent(memory)
-        if _LIBRARY.telgovan_burst(program.need, program.code, len(program.code), credit, room, size, runs, len(pieces), verdict):
-            raise Error(verdict.status, verdict.slot if verdict.has_slot else None)
+        with self._lock:
+            status = _burst_held(self._handle, credit, room, size, runs, len(pieces))
+        if status:
+            raise Error(status)
         return [_executed(run.outcome) for run in runs[: len(pieces)]]
+
+    def share(self):
+        """One more owner of the same program, for another thread. Nothing is verified again."""
+        other = object.__new__(Program)
+        other._lock, other._handle = threading.Lock(), _Program()
+        other.need, other.code, other.cost = self.need, self.code, self.cost
+        with self._lock:
+            status = _share(self._handle, other._handle)
+        if status:
+            raise Error(status)
+        return other
+
+    def close(self):
+        """Lets go of the program, which is freed with its last owner. From then on runs are refused
+        by 41."""
+        with self._lock:
+            _unload(self._handle)
+
+    def __enter__(self):
+        return self
+
+    def __exit__(self, *_):
+        self.close()
+
+    def __del__(self):
+        # nobody else has the program any more, so no call of it is under way
+        if hasattr(self, "_handle") and _unload is not None:
+            _unload(self._handle)
+
+    def __reduce__(self):
+        raise TypeError("a program that the library holds can't be copied: share it")
+
+
+class Machine:
+    """Runs a program: its calls by another name."""
+
+    def __init__(self, program):
+        self.program, self.execute, self.burst = program, program.execute, program.burst
+
+
+class Job:
+    """The programs of a job by their places, each as (need, code). The first is the root's."""
+
+    def __init__(self, *programs):
+        self._code = b"".join(bytes(code) for _, code in programs)
+        self._pieces, start = (_Piece * max(len(programs), 1))(), 0
+        self._count = len(programs)
+        for piece, (need, code) in zip(self._pieces, programs):
+            piece.start, piece.length, piece.need = start, len(code), _number(need, _WORD, "need")
+            start += len(code)
+
+    def play(self, buffer, credit, room=1024):
+        """Verifies the programs, and plays the job to its end on the buffer, in place, in this
+        thread: always the live task of lowest number next. Of its tasks the first are told, up to
+        so many."""
+        tasks, report = (_Task * max(room, 1))(), _Report()
+        credit = _number(credit, _WORD, "credit")
+        lent, size = _lent(buffer)
+        programs = (self._code, len(self._code), self._pieces, self._count)
+        if _job(*programs, credit, lent, size, tasks, room, report):
+            slot = report.slot if report.has_slot else None
+            raise Error(report.status, slot, report.program if report.has_program else None)
+        count = min(room, report.tasks)
+        told = [Task(*(getattr(task, name) for name in Task._fields)) for task in tasks[:count]]
+        return Report(report.spent, report.returned, report.tasks, told)

@@ -1,11 +1,15 @@
 """The library's calls, through the module: python3 -m unittest, in this folder."""
 
+import array
+import copy
 import doctest
 import os
+import pickle
+import threading
 import unittest
 
 import telgovan
-from telgovan import Error, Executed, Machine, Program, assemble, disassemble
+from telgovan import Error, Executed, Job, Machine, Program, assemble, disassemble, run_once
 
 EXAMPLES = os.path.join(os.path.dirname(os.path.abspath(__file__)), "../../examples")
 
@@ -15,21 +19,28 @@ def load_tests(_loader, tests, _pattern):
     return tests
 
 
+def source_of(name):
+    with open(os.path.join(EXAMPLES, name), encoding="utf-8") as file:
+        return file.read()
+
+
 def packet(port):
     frame = bytearray(64)
     frame[12], frame[14], frame[23], frame[37] = 8, 0x45, 17, port
     return frame
 
 
-class Calls(unittest.TestCase):
-    def setUp(self):
-        with open(os.path.join(EXAMPLES, "filter.bpf"), encoding="utf-8") as file:
-            self.program = Program(40, assemble(file.read()))
-
+class Refusing(unittest.TestCase):
     def refused(self, number, place, call, *given, **named):
         with self.assertRaises(Error) as caught:
             call(*given, **named)
         self.assertEqual((caught.exception.number, caught.exception.place), (number, place))
+        return caught.exception
+
+
+class Calls(Refusing):
+    def setUp(self):
+        self.program = Program(40, assemble(source_of("filter.bpf")))
 
     def test_runs_the_filter(self):
         machine = Machine(self.program)
@@ -46,7 +57,8 @@ class Calls(unittest.TestCase):
 
     def test_runs_pieces_in_turn(self):
         memory = packet(53) + packet(54) + packet(53)
-        told = Machine(self.program).burst(memory, [(0, 64, 0), (64, 64, 0), (128, 64, 0), (128, 65, 0), (2**64 - 1, 1, 0)])
+        pieces = [(0, 64, 0), (64, 64, 0), (128, 64, 0), (128, 65, 0), (2**64 - 1, 1, 0)]
+        told = Machine(self.program).burst(memory, pieces)
         self.assertEqual([run.r0 for run in told[:3]], [1, 0, 1])
         self.assertEqual([run.number for run in told[3:]], [43, 43])
         self.assertEqual(Machine(self.program).burst(memory, []), [])
@@ -72,6 +84,97 @@ class Calls(unittest.TestCase):
     def test_takes_no_number_that_is_cut(self):
         self.assertRaises(ValueError, Machine(self.program).execute, packet(53), credit=2**32)
         self.assertRaises(ValueError, Machine(self.program).execute, packet(53), argument=-1)
+
+
+class Held(Refusing):
+    def setUp(self):
+        self.program = Program(40, assemble(source_of("filter.bpf")))
+
+    def test_a_program_runs_many_times(self):
+        for _ in range(3):
+            self.assertEqual(self.program.execute(packet(53)), Executed(1, 16))
+            self.refused(42, None, self.program.execute, packet(53), credit=15)
+
+    def test_a_shared_program_outlives_the_first(self):
+        other = self.program.share()
+        self.program.close()
+        self.program.close()
+        self.refused(41, None, self.program.execute, packet(53))
+        self.refused(41, None, self.program.burst, packet(53), [(0, 64, 0)])
+        self.refused(41, None, self.program.share)
+        self.assertEqual(other.execute(packet(53)), Executed(1, 16))
+        with other.share() as third:
+            self.assertEqual((third.cost, third.need), (16, 40))
+        self.refused(41, None, third.execute, packet(53))
+
+    def test_threads_run_side_by_side(self):
+        told = []
+
+        def work(program):
+            told.append(sum(program.execute(packet(53)).r0 for _ in range(200)))
+
+        # four with a program of their own, and four that wait for each other
+        programs = [self.program.share() for _ in range(4)] + [self.program] * 4
+        threads = [threading.Thread(target=work, args=(program,)) for program in programs]
+        for thread in threads:
+            thread.start()
+        for thread in threads:
+            thread.join()
+        self.assertEqual(told, [200] * 8)
+
+    def test_a_program_is_not_copied(self):
+        self.assertRaises(TypeError, copy.copy, self.program)
+        self.assertRaises(TypeError, copy.deepcopy, self.program)
+        self.assertRaises(TypeError, pickle.dumps, self.program)
+
+    def test_works_in_place_on_what_is_lent(self):
+        store = Program(1, assemble("stxb [r1+0], r3\nmov64 r0, r2\nexit"))
+        memory = bytearray(8)
+        self.assertEqual(store.execute(memoryview(memory)[2:5], argument=7).r0, 3)
+        self.assertEqual(list(memory), [0, 0, 7, 0, 0, 0, 0, 0])
+        words = array.array("I", [0, 0])
+        self.assertEqual(store.execute(words, argument=1).r0, 8)
+        self.assertEqual(bytes(words)[0], 1)
+        self.assertRaises(TypeError, store.execute, bytes(8))
+        self.assertRaises(TypeError, store.execute, memoryview(memory)[::2])
+        memory.append(1)  # nothing is lent any more
+
+    def test_runs_once(self):
+        self.assertEqual(run_once(40, self.program.code, packet(53)), Executed(1, 16))
+        self.refused(42, None, run_once, 40, self.program.code, packet(53), credit=15)
+        self.refused(23, None, run_once, 0, assemble("ja -1"), bytearray())
+
+
+class Jobs(Refusing):
+    def test_plays_a_job(self):
+        buffer = bytearray(range(1, 65))
+        report = Job((8, assemble(source_of("sum.bpf")))).play(buffer, 2000, room=6)
+        self.assertEqual((report.spent, report.returned, report.count), (513, 1487, 8))
+        self.assertEqual([task.number for task in report.tasks], [0, 1, 2, 3, 4, 5])
+        sums = [int.from_bytes(buffer[n : n + 8], "little") for n in range(0, 64, 8)]
+        self.assertEqual(sums, [36, 100, 164, 228, 292, 356, 420, 484])
+        self.assertEqual((report.tasks[0].given, report.tasks[0].r0), (2000, 36))
+
+    def test_spawns_another_program(self):
+        job = Job((4, assemble(source_of("spawn.bpf"))), (4, assemble(source_of("child.bpf"))))
+        for _ in range(2):
+            buffer = bytearray(8)
+            report = job.play(buffer, 34)
+            self.assertEqual((report.spent, report.returned, report.count), (27, 7, 2))
+            self.assertEqual(list(buffer), [0, 0, 0, 0, 9, 0, 0, 0])
+            self.assertEqual([task.program for task in report.tasks], [0, 1])
+
+    def test_tells_why_a_job_is_refused(self):
+        code, unset, buffer = assemble("mov64 r0, 0\nexit"), assemble("exit"), bytearray([7] * 4)
+        self.refused(61, None, Job().play, buffer, 1)
+        self.refused(62, None, Job(*[(0, code)] * 17).play, buffer, 2)
+        self.refused(65, None, Job((0, code)).play, buffer, 2**31)
+        self.refused(65, None, Job((0, code)).play, bytearray(65537), 2)
+        self.assertEqual(self.refused(31, 0, Job((0, code), (0, unset)).play, buffer, 2).program, 1)
+        self.refused(63, None, Job((0, code)).play, buffer, 1)
+        self.refused(64, None, Job((5, code)).play, buffer, 2)
+        self.assertEqual(buffer, bytearray([7] * 4))
+        self.assertEqual(str(Error(31, 0, 1)), "refused 31 at 0 in program 1")
 
 
 if __name__ == "__main__":

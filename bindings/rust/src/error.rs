@@ -2,7 +2,8 @@
 
 use std::fmt;
 
-/// A refusal: its number, and the line of the text or the slot of the program where it stands, if it stands at one.
+/// A refusal: its number, and the line of the text or the slot of the program where it stands, if
+/// it stands at one.
 #[derive(Clone, Copy, Debug, PartialEq, Eq)]
 pub struct Error {
     pub number: u32,
@@ -11,7 +12,10 @@ pub struct Error {
 
 impl Error {
     pub(crate) fn at(number: u32, has_place: bool, place: u64) -> Error {
-        Error { number, place: has_place.then_some(place) }
+        Error {
+            number,
+            place: has_place.then_some(place),
+        }
     }
 
     /// What the number says.
@@ -42,6 +46,10 @@ impl Error {
             38 => "a need over 65,536",
             42 => "a credit under the program's cost",
             43 => "a memory that is too short",
+            61 => "a job without a program",
+            62 => "a job of more than 16 programs",
+            63 => "a credit under the cost of the root",
+            64 => "a buffer under the need of the root",
             65 => "over the limit",
             73 => "no text",
             99 => "out of memory",
@@ -61,3 +69,22 @@ impl fmt::Display for Error {
 }
 
 impl std::error::Error for Error {}
+
+/// Why a job is refused: by a refusal of its own, or by that of one of its programs, whose place is
+/// told.
+#[derive(Clone, Copy, Debug, PartialEq, Eq)]
+pub struct JobError {
+    pub program: Option<u32>,
+    pub error: Error,
+}
+
+impl fmt::Display for JobError {
+    fn fmt(&self, f: &mut fmt::Formatter<'_>) -> fmt::Result {
+        match self.program {
+            Some(place) => write!(f, "program {place}: {}", self.error),
+            None => self.error.fmt(f),
+        }
+    }
+}
+
+impl std::error::Error for JobError {}

@@ -1,4 +1,7 @@
-//! What `include/telgovan.h` declares.
+//! What `include/telgovan.h` declares, as far as this crate calls it.
+
+use std::ffi::c_void;
+use std::ptr;
 
 /// What is said of a program.
 #[repr(C)]
@@ -39,9 +42,61 @@ pub struct Run {
     pub outcome: Outcome,
 }
 
-extern "C" {
-    pub fn telgovan_verify(need: u32, code: *const u8, code_length: usize, verdict: *mut Verdict) -> u32;
+/// A handle. Its fields are the library's.
+#[repr(C)]
+pub struct Program {
+    held: *mut c_void,
+    loaded: bool,
+}
 
+impl Program {
+    /// A handle that holds none.
+    pub fn none() -> Program {
+        Program {
+            held: ptr::null_mut(),
+            loaded: false,
+        }
+    }
+}
+
+/// A program of a job, as a piece of the code.
+#[repr(C)]
+#[derive(Clone, Copy, Debug)]
+pub struct CodePiece {
+    pub start: u64,
+    pub length: u64,
+    pub need: u32,
+}
+
+/// A task that ended: its argument, R0 at its end, its number, its program's place, the credit that
+/// it was given, and how much of what it kept it spent and returned.
+#[repr(C)]
+#[derive(Clone, Copy, Debug, Default, PartialEq, Eq)]
+pub struct Task {
+    pub argument: u64,
+    pub r0: u64,
+    pub number: u32,
+    pub program: u32,
+    pub given: u32,
+    pub spent: u32,
+    pub returned: u32,
+}
+
+/// What a job came to.
+#[repr(C)]
+#[derive(Clone, Copy, Default)]
+pub struct Report {
+    pub tasks: u64,
+    pub status: u32,
+    pub spent: u32,
+    pub returned: u32,
+    pub program: u32,
+    pub slot: u32,
+    pub has_program: bool,
+    pub has_slot: bool,
+}
+
+extern "C" {
     pub fn telgovan_assemble(
         source: *const u8,
         source_length: usize,
@@ -58,10 +113,16 @@ extern "C" {
         written: *mut Written,
     ) -> u32;
 
-    pub fn telgovan_run(
+    pub fn telgovan_program_load(
         need: u32,
         code: *const u8,
         code_length: usize,
+        program: *mut Program,
+        verdict: *mut Verdict,
+    ) -> u32;
+
+    pub fn telgovan_program_run(
+        program: *mut Program,
         credit: u32,
         argument: u64,
         memory: *mut u8,
@@ -69,15 +130,29 @@ extern "C" {
         outcome: *mut Outcome,
     ) -> u32;
 
-    pub fn telgovan_burst(
-        need: u32,
-        code: *const u8,
-        code_length: usize,
+    pub fn telgovan_program_burst(
+        program: *mut Program,
         credit: u32,
         memory: *mut u8,
         memory_length: usize,
         runs: *mut Run,
         runs_length: usize,
-        verdict: *mut Verdict,
+    ) -> u32;
+
+    pub fn telgovan_program_share(program: *mut Program, other: *mut Program) -> u32;
+
+    pub fn telgovan_program_unload(program: *mut Program);
+
+    pub fn telgovan_job(
+        code: *const u8,
+        code_length: usize,
+        pieces: *const CodePiece,
+        pieces_length: usize,
+        credit: u32,
+        buffer: *mut u8,
+        buffer_length: usize,
+        tasks: *mut Task,
+        tasks_length: usize,
+        report: *mut Report,
     ) -> u32;
 }

@@ -13,15 +13,18 @@ use Rattle.accounts.specs.declared.jobs.Standing.TheVariants.{Open, Reported, Fa
 abbrev pub job_at : List JobEntry → ℕ → Option JobEntry
 job_at jobs number = if nat_eq number 0 then None else slice_get jobs (number - 1)
 
--- how a job of this credit stands once it is over: a report that doesn't account for the credit counts as 82
+-- how a job of this credit stands once it is over: a report that doesn't account for the credit
+-- counts as 82
 abbrev pub settled : ℕ → Result Report ℕ → Standing
-settled credit (Ok report) = if nat_eq (report.spent + report.returned) credit then Reported report else Failed 82
+settled credit (Ok report) =
+    if nat_eq (report.spent + report.returned) credit then Reported report else Failed 82
 settled credit (Err code) = Failed code
 
 -- what is told of how a job stands, where an open one was seen to have come so far
 abbrev pub progress_of : Standing → Progress → Result Progress DeskFault
 progress_of Open seen = Ok seen
-progress_of (Reported report) seen = Ok (record { spent = report.spent; returned = report.returned; complete = true })
+progress_of (Reported report) seen =
+    Ok (record { spent = report.spent; returned = report.returned; complete = true })
 progress_of (Failed code) seen = Err (fault.Failed code)
 
 abbrev pub report_of : Standing → Result Report DeskFault
@@ -47,7 +50,9 @@ is_open (Failed code) = false
 
 -- the same, where the job is this tenant's
 unfoldable pub opened_for : List ℕ → JobEntry → ℕ
-opened_for name entry = if bytes_eq name (string_bytes entry.tenant) then opened_in entry entry.standing else 0
+opened_for name entry =
+    if bytes_eq name (string_bytes entry.tenant) then opened_in entry entry.standing else 0
 
 unfoldable pub spent_for : List ℕ → JobEntry → ℕ
-spent_for name entry = if bytes_eq name (string_bytes entry.tenant) then spent_in entry.standing else 0
+spent_for name entry =
+    if bytes_eq name (string_bytes entry.tenant) then spent_in entry.standing else 0

@@ -39,7 +39,8 @@ spent_by jobs name = sum_by (spent_for name) jobs
 
 -- a tenant's account, if it was granted something
 abbrev pub account_in : List JobEntry → List ℕ → Option ℕ → Result Account DeskFault
-account_in jobs name (Some granted) = Ok (account_with granted (opened_by jobs name) (spent_by jobs name))
+account_in jobs name (Some granted) =
+    Ok (account_with granted (opened_by jobs name) (spent_by jobs name))
 account_in jobs name None = Err fault.NoTenant
 
 unfoldable pub account_at : Ledger → List ℕ → Result Account DeskFault
@@ -47,7 +48,8 @@ account_at ledger name = account_in ledger.jobs name (granted_to ledger name)
 
 -- what was granted changes for one tenant alone
 pub record GrantsMore (old : Ledger) (name : List ℕ) (amount : ℕ) (new : Ledger) : Type 0 where
-  pub grants : (q : List ℕ) → granted_to new q ≡ update bytes_eq (granted_to old) name (Some (unwrap_or (granted_to old name) 0 + amount)) q
+  pub grants : (q : List ℕ) → granted_to new q ≡ update bytes_eq (granted_to old) name
+      (Some (unwrap_or (granted_to old name) 0 + amount)) q
   pub jobs : new.jobs ≡ old.jobs
 
 -- the jobs change, and what was granted doesn't
@@ -57,7 +59,8 @@ pub record HasJobs (old : Ledger) (entries : List JobEntry) (new : Ledger) : Typ
 
 -- why a grant is refused
 abbrev pub RefusesGrant : Ledger → List ℕ → ℕ → DeskFault → Type 0
-RefusesGrant old name amount fault.TooLarge = most_granted < unwrap_or (granted_to old name) 0 + amount
+RefusesGrant old name amount fault.TooLarge =
+    most_granted < unwrap_or (granted_to old name) 0 + amount
 RefusesGrant old name amount fault.NoMemory = granted_to old name ≡ None
 RefusesGrant old name amount other = ⊥
 
@@ -81,20 +84,26 @@ pub record Takes (old : Ledger) (name : List ℕ) (credit : ℕ) (new : Ledger) 
 -- why a job isn't taken, in this order
 abbrev pub RefusesSubmit : Ledger → List ℕ → List ProgramBytes → ℕ → List ℕ → SubmitFault → Type 0
 RefusesSubmit old name programs credit buffer submit.NoTenant = granted_to old name ≡ None
-RefusesSubmit old name programs credit buffer submit.BalanceLow = (balance : ℕ) × HasBalance old name balance × (balance < credit)
+RefusesSubmit old name programs credit buffer submit.BalanceLow =
+    (balance : ℕ) × HasBalance old name balance × (balance < credit)
 RefusesSubmit old name programs credit buffer (submit.Admit why) =
-    (balance : ℕ) × HasBalance old name balance × (credit ≤ balance) × RefusesJob programs credit buffer why
+    (balance : ℕ) × HasBalance old name balance × (credit ≤ balance)
+    × RefusesJob programs credit buffer why
 
 -- an open job is over
-pub record Finishes (old : Ledger) (number : ℕ) (outcome : Result Report ℕ) (new : Ledger) : Type 0 where
+pub record Finishes (old : Ledger) (number : ℕ) (outcome : Result Report ℕ) (new : Ledger) :
+    Type 0 where
   pub entry : JobEntry
   pub was : job_at old.jobs number ≡ Some entry
   pub opened : entry.standing ≡ Open
-  pub jobs : HasJobs old (slice_set old.jobs (number - 1) (record entry { standing = settled entry.credit outcome })) new
+  pub jobs : HasJobs old
+      (slice_set old.jobs (number - 1) (record entry { standing = settled entry.credit outcome }))
+      new
 
 -- no open job has the number
 abbrev pub IsNotOpen : Ledger → ℕ → Type 0
-IsNotOpen ledger number = (entry : JobEntry) → job_at ledger.jobs number ≡ Some entry → entry.standing ≡ Open → ⊥
+IsNotOpen ledger number = (entry : JobEntry) → job_at ledger.jobs number ≡ Some entry
+    → entry.standing ≡ Open → ⊥
 
 abbrev pub progress_in : Option JobEntry → Progress → Result Progress DeskFault
 progress_in (Some entry) seen = progress_of entry.standing seen
@@ -120,9 +129,10 @@ pub record IsSummed (jobs : List JobEntry) (name : List ℕ) (sums : Sums) : Typ
   pub limit : sums.granted ≤ most_granted
 
 -- each tenant's sums are right, and each job is a tenant's
-pub record IsKept (sums : List ℕ → Option Sums) (jobs : List JobEntry) : Type 0 where
+pub record IsBalanced (sums : List ℕ → Option Sums) (jobs : List JobEntry) : Type 0 where
   pub each : (name : List ℕ) (s : Sums) → sums name ≡ Some s → IsSummed jobs name s
-  pub owned : (n : ℕ) (entry : JobEntry) → slice_get jobs n ≡ Some entry → (s : Sums) × (sums (string_bytes entry.tenant) ≡ Some s)
+  pub owned : (n : ℕ) (entry : JobEntry) → slice_get jobs n ≡ Some entry
+      → (s : Sums) × (sums (string_bytes entry.tenant) ≡ Some s)
 
 -- what the tenants' map says of the grants
 abbrev pub granted_by : {Y : Type 0} → String Y × Sums → List ℕ × ℕ

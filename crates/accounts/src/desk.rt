@@ -23,13 +23,13 @@ pub struct Desk {
 
 impl Model for Desk {
     ghost use Rattle.std.specs.BTreeMap as tree;
-    ghost use Rattle.accounts.specs.Ledgers.{Ledger, IsKept, ledger_of};
+    ghost use Rattle.accounts.specs.Ledgers.{Ledger, IsBalanced, ledger_of};
 
     ghost Value = { Ledger };
 
     ghost view = { λ d. ledger_of d.tenants d.jobs.items };
 
-    ghost invariant = { λ d. IsKept (tree.get_by_text d.tenants) d.jobs.items };
+    ghost invariant = { λ d. IsBalanced (tree.get_by_text d.tenants) d.jobs.items };
 }
 
 impl Desk {
@@ -110,7 +110,8 @@ impl Desk {
     ) -> Result<(u64, Job), SubmitFault>
         ensures taken { OnOk result (Takes self.old tenant.now credit self.new) }
         ensures number { IfOk result (λ taken. taken.0 ≡ length self.new.jobs) }
-        ensures admitted { IfOk result (λ taken. IsAdmittedFrom programs.now credit buffer.items taken.1) }
+        ensures admitted { IfOk result (λ taken.
+            IsAdmittedFrom programs.now credit buffer.items taken.1) }
         ensures refused { IfErr result
             (λ e. RefusesSubmit self.old tenant.now programs.now credit buffer.items e) }
         ensures unchanged { OnErr result (self.new ≡ self.old) }

@@ -15,7 +15,7 @@ use Rattle.disassembler.specs.declared.word.Word.{Word}
 use Rattle.disassembler.specs.declared.word.Word.TheVariants as word
 use Rattle.disassembler.specs.Words.{word_of}
 use Rattle.disassembler.specs.Line.{operands_text, operand_text}
-use Rattle.assembler.specs.Reading.{ReadsPair, IsRegister, IsImm, IsValue, IsPlace, place_text, IsTested, tested_text}
+use Rattle.assembler.specs.Reading.{ReadsPair, IsRegister, IsImm, IsUnsigned64, IsPlace, place_text, IsTested, tested_text}
 use Rattle.assembler.proofs.Values.{one_value}
 
 -- no fitting instruction with this word has these operands
@@ -35,7 +35,7 @@ module _ (ts : List ℕ) (w : Word) where
   no_mov_sx extension is h (MovSx x dst src) f e t = h (dst, src) f t
   no_mov_sx extension is h insn f e t = let both = e ∙ is in absurd cc
 
-  pub no_load_wide : w ≡ word.LoadWide → ReadsPair register_text IsRegister decimal IsValue ts None → NoInsn w ts
+  pub no_load_wide : w ≡ word.LoadWide → ReadsPair register_text IsRegister decimal IsUnsigned64 ts None → NoInsn w ts
   no_load_wide is h (LoadWide dst value) f e t = h (dst, value) f t
   no_load_wide is h insn f e t = let both = e ∙ is in absurd cc
 

@@ -20,12 +20,12 @@ use Rattle.disassembler.proofs.Words.{word_once, word_free}
 use Rattle.disassembler.proofs.OneLine.{cut_line, one_line, tail_begins}
 use Rattle.assembler.specs.declared.fault.TextFault.{TextFault}
 use Rattle.assembler.specs.declared.fault.TextFault.TheVariants as fault
-use Rattle.assembler.specs.Forms.{IsMarked, IsNegative, IsNumberForm, IsOffsetForm, IsMemoryForm, IsTailOf, HasForm, IsUnknownWord, IsBadOperand, IsOutOfRange, operands_of}
+use Rattle.assembler.specs.Forms.{IsPrefixed, IsNegative, IsNumberForm, IsOffsetForm, IsMemoryForm, IsTailOf, HasForm, IsUnknownWord, IsBadOperand, IsOutOfRange, operands_of}
 use Rattle.assembler.specs.Source.{texts_of, AreLinesOf, IsAtLine, IsTextRefusal}
 use Rattle.assembler.proofs.Values.{decimal_is}
 use Rattle.assembler.proofs.FormLemmas.{before, behind}
 
-register_form : (n : ℕ) → n ≤ 10 → IsMarked 114 (register_text n)
+register_form : (n : ℕ) → n ≤ 10 → IsPrefixed 114 (register_text n)
 register_form n h = (decimal n, refl, (n, decimal_is n (omega arith)))
 
 not_zero : (n : ℕ) → suc n < 2 ^ 64 → 45 ∷ decimal (suc n) ≢ 45 ∷ 48 ∷ []
@@ -45,7 +45,7 @@ offset_form : (z : ℤ) → FitsSigned w32 z → IsOffsetForm (signed_text z)
 offset_form (pos n) h = let m = h.sfits in inl (decimal n, refl, (n, decimal_is n (omega arith)))
 offset_form (negsuc n) h = let m = h.sfits in inr (negative_form n (omega arith))
 
-source_form : (o : Operand) → IsOperand o → IsMarked 114 (operand_text o) ⊎ IsNumberForm (operand_text o)
+source_form : (o : Operand) → IsOperand o → IsPrefixed 114 (operand_text o) ⊎ IsNumberForm (operand_text o)
 source_form (operand.Imm z) h = inr (number_form z h)
 source_form (operand.Reg n) h = inl (register_form n h)
 

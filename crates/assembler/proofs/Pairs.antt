@@ -2,7 +2,7 @@
 use Rattle.std.proofs.Common.{◌≡◌, ℕ, ℤ, zero, suc, ◌-◌, ◌≤◌, List, [], ◌∷◌, ◌++◌, length, get_or, take, drop, Option, Some, None, refl, ap, sym, subst, ◌∙◌, arith}
 use Rattle.std.specs.Option.{option_zip}
 use Rattle.disassembler.specs.Line.{register_text, signed_text}
-use Rattle.disassembler.specs.Cut.{IsFree, BeginsWith, IsTwo}
+use Rattle.disassembler.specs.Cut.{IsFree, StopsAtOnce, IsTwo}
 use Rattle.assembler.specs.Reading.{Reads, ReadsPair, ReadsRegister, ReadsOffset, ReadsMemory, IsPlace, place_text}
 use Rattle.disassembler.proofs.Cuts.{cut_once, two_once}
 use Rattle.disassembler.proofs.Texts.{free_memory, signless, signed_first, push_once}
@@ -32,7 +32,7 @@ pub assoc : (xs ys zs : List ℕ) → xs ++ (ys ++ zs) ≡ (xs ++ ys) ++ zs
 assoc [] ys zs = refl
 assoc (x ∷ xs) ys zs = ap (λ (l : List ℕ). x ∷ l) (assoc xs ys zs)
 
-module _ (ts inner p q : List ℕ) (whole : ts ≡ 91 ∷ (inner ++ 93 ∷ [])) (parts : inner ≡ p ++ q) (front : IsFree 43 45 p) (back : BeginsWith 43 45 q) where
+module _ (ts inner p q : List ℕ) (whole : ts ≡ 91 ∷ (inner ++ 93 ∷ [])) (parts : inner ≡ p ++ q) (front : IsFree 43 45 p) (back : StopsAtOnce 43 45 q) where
   cut_in : (x : ℕ × ℤ) → IsPlace x → ts ≡ place_text x → (p ≡ register_text x.0) × (q ≡ signed_text x.1)
   cut_in x f e =
       let both : 91 ∷ (inner ++ 93 ∷ []) ≡ 91 ∷ (register_text x.0 ++ (signed_text x.1 ++ 93 ∷ [])) = sym whole ∙ e in

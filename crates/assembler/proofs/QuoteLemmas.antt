@@ -6,29 +6,29 @@ use Rattle.std.specs.Str.{IsUtf8}
 use Rattle.std.proofs.lemmas.Bool.{eqb-true}
 use Rattle.std.proofs.lemmas.List.{append-nil, reverse-append, reverse-reverse}
 use Rattle.std.proofs.lemmas.Str.{IsUtf8-nil, IsUtf8-take, IsUtf8-drop, IsCharBoundary-before_ascii, IsCharBoundary-after_ascii}
-use Rattle.disassembler.specs.Cut.{IsFree, BeginsWith}
+use Rattle.disassembler.specs.Cut.{IsFree, StopsAtOnce}
 use Rattle.assembler.specs.Source.{code_part, is_blank, without_blanks, stripped, is_line_feed, numbered}
 use Rattle.assembler.specs.Quoted.{word_part, operands_part, line_numbered}
 use Rattle.assembler.proofs.SourceLines.{eqb_not, left_of, cut_at}
 
 -- ---- cuts at the first space
 
-word_front : (front tail : List ℕ) → IsFree 32 32 front → BeginsWith 32 32 tail → word_part (front ++ tail) ≡ front
+word_front : (front tail : List ℕ) → IsFree 32 32 front → StopsAtOnce 32 32 tail → word_part (front ++ tail) ≡ front
 word_front [] [] f b = refl
 word_front [] (c ∷ cs) f (inl b) = rw b refl
 word_front [] (c ∷ cs) f (inr b) = rw b refl
 word_front (x ∷ front) tail f b = rw (eqb_not x 32 f.0) (ap (λ (l : List ℕ). x ∷ l) (word_front front tail f.2 b))
 
-pub word_is : (line front tail : List ℕ) → line ≡ front ++ tail → IsFree 32 32 front → BeginsWith 32 32 tail → front ≡ word_part line
+pub word_is : (line front tail : List ℕ) → line ≡ front ++ tail → IsFree 32 32 front → StopsAtOnce 32 32 tail → front ≡ word_part line
 word_is line front tail e f b = sym (ap word_part e ∙ word_front front tail f b)
 
-operands_back : (front tail : List ℕ) → IsFree 32 32 front → BeginsWith 32 32 tail → operands_part (front ++ tail) ≡ drop 1 tail
+operands_back : (front tail : List ℕ) → IsFree 32 32 front → StopsAtOnce 32 32 tail → operands_part (front ++ tail) ≡ drop 1 tail
 operands_back [] [] f b = refl
 operands_back [] (c ∷ cs) f (inl b) = rw b refl
 operands_back [] (c ∷ cs) f (inr b) = rw b refl
 operands_back (x ∷ front) tail f b = rw (eqb_not x 32 f.0) (operands_back front tail f.2 b)
 
-pub operands_are : (line front tail : List ℕ) → line ≡ front ++ tail → IsFree 32 32 front → BeginsWith 32 32 tail → drop 1 tail ≡ operands_part line
+pub operands_are : (line front tail : List ℕ) → line ≡ front ++ tail → IsFree 32 32 front → StopsAtOnce 32 32 tail → drop 1 tail ≡ operands_part line
 operands_are line front tail e f b = sym (ap operands_part e ∙ operands_back front tail f b)
 
 pub drop_none : (tail : List ℕ) → true ≡ (length tail == 0) → tail ≡ drop 1 tail
@@ -55,7 +55,7 @@ eqb_same n = go (n == n) refl
     go true e = e
     go false e = grind (arith, e)
 
-module _ (rest line tail : List ℕ) (whole : rest ≡ line ++ tail) (front : IsFree 10 10 line) (back : BeginsWith 10 10 tail) where
+module _ (rest line tail : List ℕ) (whole : rest ≡ line ++ tail) (front : IsFree 10 10 line) (back : StopsAtOnce 10 10 tail) where
   cut : (m : ℕ) → numbered m (slice_split is_line_feed rest) ≡ numbered m (line ∷ left_of tail)
   cut m = ap (numbered m) (ap (slice_split is_line_feed) whole ∙ cut_at line tail front back)
 
@@ -107,7 +107,7 @@ beside front tail c small u =
       subst IsUtf8 (dropped front tail c) (IsUtf8-drop (front ++ c ∷ tail) (length front + 1) u (IsCharBoundary-after_ascii (front ++ c ∷ tail) (length front) u less low)),
     )
 
-pub cut_texts : (stop : ℕ) (bs front tail : List ℕ) → stop < 128 → bs ≡ front ++ tail → BeginsWith stop stop tail → IsUtf8 bs → IsUtf8 front × IsUtf8 (drop 1 tail)
+pub cut_texts : (stop : ℕ) (bs front tail : List ℕ) → stop < 128 → bs ≡ front ++ tail → StopsAtOnce stop stop tail → IsUtf8 bs → IsUtf8 front × IsUtf8 (drop 1 tail)
 cut_texts stop bs front [] small e b u = (subst IsUtf8 (e ∙ append-nil front) u, IsUtf8-nil)
 cut_texts stop bs front (c ∷ tail) small e (inl b) u = beside front tail c (rw b small) (subst IsUtf8 e u)
 cut_texts stop bs front (c ∷ tail) small e (inr b) u = beside front tail c (rw b small) (subst IsUtf8 e u)

@@ -7,7 +7,7 @@ use Rattle.std.proofs.lemmas.List.{map-append, append-nil, reverse-append, rever
 use Rattle.std.proofs.lemmas.List.Splits.{slice_split-cons_no}
 use Rattle.insn_codec.specs.declared.insn.Insn.{Insn}
 use Rattle.insn_codec.specs.Spelling.{IsInsn}
-use Rattle.disassembler.specs.Cut.{IsFree, BeginsWith}
+use Rattle.disassembler.specs.Cut.{IsFree, StopsAtOnce}
 use Rattle.disassembler.specs.Line.{line_text}
 use Rattle.assembler.specs.declared.fault.TextFault.{TextFault}
 use Rattle.assembler.specs.declared.fault.TextFault.TheVariants as fault
@@ -23,13 +23,13 @@ eqb_not a b n = go (eqb a b) refl
 
 -- ---- comments and blanks
 
-pub code_front : (front back : List ℕ) → IsFree 59 59 front → BeginsWith 59 59 back → code_part (front ++ back) ≡ front
+pub code_front : (front back : List ℕ) → IsFree 59 59 front → StopsAtOnce 59 59 back → code_part (front ++ back) ≡ front
 code_front [] [] f b = refl
 code_front [] (c ∷ cs) f (inl b) = rw b refl
 code_front [] (c ∷ cs) f (inr b) = rw b refl
 code_front (x ∷ front) back f b = rw (eqb_not x 59 f.0) (ap (λ (l : List ℕ). x ∷ l) (code_front front back f.2 b))
 
-pub code_is : (line front back : List ℕ) → line ≡ front ++ back → IsFree 59 59 front → BeginsWith 59 59 back → front ≡ code_part line
+pub code_is : (line front back : List ℕ) → line ≡ front ++ back → IsFree 59 59 front → StopsAtOnce 59 59 back → front ≡ code_part line
 code_is line front back e f b = sym (ap code_part e ∙ code_front front back f b)
 
 pub front_kept : (ts : List ℕ) → is_blank (get_or ts 0 0) ≡ false → without_blanks ts ≡ ts
@@ -143,12 +143,12 @@ abbrev pub left_of : List ℕ → List (List ℕ)
 left_of [] = []
 left_of (c ∷ cs) = slice_split is_line_feed cs
 
-pub cut_at : (line tail : List ℕ) → IsFree 10 10 line → BeginsWith 10 10 tail → slice_split is_line_feed (line ++ tail) ≡ line ∷ left_of tail
+pub cut_at : (line tail : List ℕ) → IsFree 10 10 line → StopsAtOnce 10 10 tail → slice_split is_line_feed (line ++ tail) ≡ line ∷ left_of tail
 cut_at line [] f b = ap (slice_split is_line_feed) (append-nil line) ∙ split_last line f
 cut_at line (c ∷ cs) f (inl b) = ap (λ (x : ℕ). slice_split is_line_feed (line ++ x ∷ cs)) b ∙ split_more line cs f
 cut_at line (c ∷ cs) f (inr b) = ap (λ (x : ℕ). slice_split is_line_feed (line ++ x ∷ cs)) b ∙ split_more line cs f
 
-pub partly_at : (lines : List (ℕ × List ℕ)) (n : ℕ) (insns : List Insn) (rest line tail : List ℕ) → rest ≡ line ++ tail → IsFree 10 10 line → BeginsWith 10 10 tail → IsPartly lines n (slice_split is_line_feed rest) insns → IsPartly lines n (line ∷ left_of tail) insns
+pub partly_at : (lines : List (ℕ × List ℕ)) (n : ℕ) (insns : List Insn) (rest line tail : List ℕ) → rest ≡ line ++ tail → IsFree 10 10 line → StopsAtOnce 10 10 tail → IsPartly lines n (slice_split is_line_feed rest) insns → IsPartly lines n (line ∷ left_of tail) insns
 partly_at lines n insns rest line tail e f b h = subst (λ (l : List (List ℕ)). IsPartly lines n l insns) (ap (slice_split is_line_feed) e ∙ cut_at line tail f b) h
 
 pub left_none : (tail : List ℕ) → true ≡ (length tail == 0) → left_of tail ≡ []

@@ -9,15 +9,15 @@ use Rattle.disassembler.specs.Words.{word_text, word_of}
 use Rattle.disassembler.specs.declared.word.Word.{Word}
 use Rattle.disassembler.specs.declared.word.Word.TheVariants as word
 use Rattle.assembler.specs.Reading.{ReadsInsn}
-use Rattle.disassembler.specs.Cut.{IsFree, BeginsWith}
+use Rattle.disassembler.specs.Cut.{IsFree, StopsAtOnce}
 use Rattle.disassembler.proofs.Words.{word_once}
 use Rattle.disassembler.proofs.OneLine.{cut_line}
 
 -- a line without an instruction's word, or whose rest no instruction of that word has
-pub no_line : (line front tail : List ℕ) → line ≡ front ++ tail → IsFree 32 32 front → BeginsWith 32 32 tail → ((w : Word) → word_text w ≢ front) → (insn : Insn) → line ≢ line_text insn
+pub no_line : (line front tail : List ℕ) → line ≡ front ++ tail → IsFree 32 32 front → StopsAtOnce 32 32 tail → ((w : Word) → word_text w ≢ front) → (insn : Insn) → line ≢ line_text insn
 no_line line front tail whole a b none insn e = none (word_of insn) (sym (cut_line line front tail whole a b insn e).0)
 
-pub word_and_tail : (line front tail : List ℕ) (w : Word) → line ≡ front ++ tail → IsFree 32 32 front → BeginsWith 32 32 tail → word_text w ≡ front → (insn : Insn) → line ≡ line_text insn → (word_of insn ≡ w) × (tail ≡ tail_text insn)
+pub word_and_tail : (line front tail : List ℕ) (w : Word) → line ≡ front ++ tail → IsFree 32 32 front → StopsAtOnce 32 32 tail → word_text w ≡ front → (insn : Insn) → line ≡ line_text insn → (word_of insn ≡ w) × (tail ≡ tail_text insn)
 word_and_tail line front tail w whole a b e insn f =
     let r = cut_line line front tail whole a b insn f in
     (word_once (word_of insn) w (sym (e ∙ r.0)), r.1)
@@ -26,12 +26,12 @@ tail_of : (insn : Insn) → (word_of insn ≡ word.Exit → ⊥) → tail_text i
 tail_of Exit n = absurd (n refl)
 tail_of insn n = refl
 
-pub tail_is : (tail ops : List ℕ) → BeginsWith 32 32 tail → false ≡ (length tail == 0) → ops ≡ drop 1 tail → tail ≡ 32 ∷ ops
+pub tail_is : (tail ops : List ℕ) → StopsAtOnce 32 32 tail → false ≡ (length tail == 0) → ops ≡ drop 1 tail → tail ≡ 32 ∷ ops
 tail_is [] ops b lt e = absurd cc
 tail_is (c ∷ cs) ops (inl b) lt e = let same : ops ≡ cs = e in cc
 tail_is (c ∷ cs) ops (inr b) lt e = let same : ops ≡ cs = e in cc
 
-module _ (line front tail ops : List ℕ) (w : Word) (whole : line ≡ front ++ tail) (a : IsFree 32 32 front) (b : BeginsWith 32 32 tail)
+module _ (line front tail ops : List ℕ) (w : Word) (whole : line ≡ front ++ tail) (a : IsFree 32 32 front) (b : StopsAtOnce 32 32 tail)
     (is : word_text w ≡ front) (apart : w ≡ word.Exit → ⊥) (behind : tail ≡ 32 ∷ ops) where
   pub line_found : (r : Option Insn) → ReadsInsn w ops r → IfSome r (λ insn. (line ≡ line_text insn) × IsInsn insn)
   line_found None h = tt

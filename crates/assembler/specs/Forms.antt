@@ -1,5 +1,5 @@
--- The forms that the text table gives the operands of each word, whatever their numbers: what is of its word's form, and is no
--- instruction's line, has a number or a register out of range.
+-- The forms that the text table gives the operands of each word, whatever their numbers: what is of
+-- its word's form, and is no instruction's line, has a number or a register out of range.
 use Rattle.std.specs.Prelude.{◌≡◌, ◌≢◌, ◌⊎◌, ℕ, List, [], ◌∷◌, ◌++◌, codes}
 use Rattle.insn_codec.specs.declared.insn.Insn.{Insn}
 use Rattle.insn_codec.specs.Spelling.{IsInsn}
@@ -18,28 +18,29 @@ abbrev pub IsNumeral : List ℕ → Type 0
 IsNumeral ds = (n : ℕ) × IsNumber ds n
 
 -- this byte, and a numeral after it
-abbrev pub IsMarked : ℕ → List ℕ → Type 0
-IsMarked c ts = (ds : List ℕ) × (ts ≡ c ∷ ds) × IsNumeral ds
+abbrev pub IsPrefixed : ℕ → List ℕ → Type 0
+IsPrefixed c ts = (ds : List ℕ) × (ts ≡ c ∷ ds) × IsNumeral ds
 
 -- a minus and a numeral, but not `-0`
 abbrev pub IsNegative : List ℕ → Type 0
-IsNegative ts = IsMarked 45 ts × (ts ≢ 45 ∷ 48 ∷ [])
+IsNegative ts = IsPrefixed 45 ts × (ts ≢ 45 ∷ 48 ∷ [])
 
 abbrev pub IsNumberForm : List ℕ → Type 0
 IsNumberForm ts = IsNumeral ts ⊎ IsNegative ts
 
 abbrev pub IsOffsetForm : List ℕ → Type 0
-IsOffsetForm ts = IsMarked 43 ts ⊎ IsNegative ts
+IsOffsetForm ts = IsPrefixed 43 ts ⊎ IsNegative ts
 
 -- a register and an offset between brackets
 abbrev pub IsMemoryForm : List ℕ → Type 0
-IsMemoryForm ts = (base offset : List ℕ) × (ts ≡ codes "[" ++ (base ++ (offset ++ codes "]"))) × IsMarked 114 base × IsOffsetForm offset
+IsMemoryForm ts = (base offset : List ℕ) × (ts ≡ codes "[" ++ (base ++ (offset ++ codes "]")))
+    × IsPrefixed 114 base × IsOffsetForm offset
 
 abbrev pub IsOfForm : Form → List ℕ → Type 0
-IsOfForm Register ts = IsMarked 114 ts
+IsOfForm Register ts = IsPrefixed 114 ts
 IsOfForm Number ts = IsNumberForm ts
 IsOfForm Offset ts = IsOffsetForm ts
-IsOfForm Source ts = IsMarked 114 ts ⊎ IsNumberForm ts
+IsOfForm Source ts = IsPrefixed 114 ts ⊎ IsNumberForm ts
 IsOfForm Memory ts = IsMemoryForm ts
 
 -- two texts with a comma and a space between them
@@ -51,7 +52,8 @@ abbrev pub IsTailOf : Operands → List ℕ → Type 0
 IsTailOf Zero tail = tail ≡ []
 IsTailOf (One f) tail = (ts : List ℕ) × (tail ≡ 32 ∷ ts) × IsOfForm f ts
 IsTailOf (Two f g) tail = (ts : List ℕ) × (tail ≡ 32 ∷ ts) × IsPair (IsOfForm f) (IsOfForm g) ts
-IsTailOf (Three f g h) tail = (ts : List ℕ) × (tail ≡ 32 ∷ ts) × IsPair (IsOfForm f) (IsPair (IsOfForm g) (IsOfForm h)) ts
+IsTailOf (Three f g h) tail =
+    (ts : List ℕ) × (tail ≡ 32 ∷ ts) × IsPair (IsOfForm f) (IsPair (IsOfForm g) (IsOfForm h)) ts
 
 abbrev pub operands_of : Word → Operands
 operands_of (word.Alu width op) = Two Register Source
@@ -90,4 +92,5 @@ abbrev pub IsBadOperand : List ℕ → Type 0
 IsBadOperand line = (w : Word) × BeginsWithWord w line × (HasForm w line → ⊥)
 
 abbrev pub IsOutOfRange : List ℕ → Type 0
-IsOutOfRange line = (w : Word) × HasForm w line × ((insn : Insn) → IsInsn insn → line ≢ line_text insn)
+IsOutOfRange line = (w : Word) × HasForm w line × ((insn : Insn) → IsInsn insn
+    → line ≢ line_text insn)

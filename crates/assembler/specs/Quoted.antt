@@ -21,9 +21,12 @@ line_numbered n (line ∷ lines) = if line.0 == n then Some line.1 else line_num
 
 -- the word of an unknown one's line, else the operands
 abbrev pub quoted_of : TextFault → List ℕ → Option (List ℕ)
-quoted_of (fault.UnknownWord n) source = option_map word_part (line_numbered n (source_lines source))
-quoted_of (fault.BadOperand n) source = option_map operands_part (line_numbered n (source_lines source))
-quoted_of (fault.NumberRange n) source = option_map operands_part (line_numbered n (source_lines source))
+quoted_of (fault.UnknownWord n) source =
+    option_map word_part (line_numbered n (source_lines source))
+quoted_of (fault.BadOperand n) source =
+    option_map operands_part (line_numbered n (source_lines source))
+quoted_of (fault.NumberRange n) source =
+    option_map operands_part (line_numbered n (source_lines source))
 quoted_of fault.Empty source = None
 quoted_of fault.TooLong source = None
 quoted_of fault.NoMemory source = None

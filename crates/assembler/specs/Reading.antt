@@ -56,8 +56,8 @@ IsOffset z = FitsSigned w16 z
 abbrev pub IsImm : ℤ → Type 0
 IsImm z = FitsSigned w32 z
 
-abbrev pub IsValue : ℕ → Type 0
-IsValue n = n < 2 ^ 64
+abbrev pub IsUnsigned64 : ℕ → Type 0
+IsUnsigned64 n = n < 2 ^ 64
 
 abbrev pub place_text : ℕ × ℤ → List ℕ
 place_text m = memory_text m.0 m.1
@@ -66,8 +66,10 @@ abbrev pub IsPlace : ℕ × ℤ → Type 0
 IsPlace m = IsRegister m.0 × IsOffset m.1
 
 -- two operands with a comma and a space between them
-abbrev pub ReadsPair : {A B : Type 0} → (A → List ℕ) → (A → Type 0) → (B → List ℕ) → (B → Type 0) → List ℕ → Option (A × B) → Type 0
-ReadsPair written Fits written2 Fits2 = Reads (λ x. joined (written x.0) (written2 x.1)) (λ x. Fits x.0 × Fits2 x.1)
+abbrev pub ReadsPair : {A B : Type 0} → (A → List ℕ) → (A → Type 0) → (B → List ℕ) → (B → Type 0)
+    → List ℕ → Option (A × B) → Type 0
+ReadsPair written Fits written2 Fits2 =
+    Reads (λ x. joined (written x.0) (written2 x.1)) (λ x. Fits x.0 × Fits2 x.1)
 
 abbrev pub tested_text : Operand × ℤ → List ℕ
 tested_text x = joined (operand_text x.0) (signed_text x.1)

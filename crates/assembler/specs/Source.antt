@@ -1,6 +1,7 @@
 -- How a source text is read, and what a refusal says.
 use Rattle.std.specs.Prelude.{◌≡◌, ℕ, ◌+◌, ◌*◌, ◌<◌, ◌==◌, Bool, ◌||◌, List, [], ◌∷◌, ◌++◌, length, map, reverse, Option, Some, None, if◌then◌else◌}
 use Rattle.std.specs.List.{slice_split, AllByRecursion}
+use Rattle.insn_codec.specs.Limits.{max_slots}
 use Rattle.insn_codec.specs.declared.insn.Insn.{Insn}
 use Rattle.insn_codec.specs.Spelling.{IsInsn, spellings, IsWhole}
 use Rattle.disassembler.specs.Line.{line_text}
@@ -30,7 +31,8 @@ is_line_feed c = c == 10
 -- The lines of a source text, numbered; those with nothing left count, but say nothing.
 abbrev pub numbered : ℕ → List (List ℕ) → List (ℕ × List ℕ)
 numbered n [] = []
-numbered n (line ∷ lines) = if length (stripped line) == 0 then numbered (n + 1) lines else (n, stripped line) ∷ numbered (n + 1) lines
+numbered n (line ∷ lines) = if length (stripped line) ==
+    0 then numbered (n + 1) lines else (n, stripped line) ∷ numbered (n + 1) lines
 
 abbrev pub source_lines : List ℕ → List (ℕ × List ℕ)
 source_lines source = numbered 1 (slice_split is_line_feed source)
@@ -44,7 +46,8 @@ pub record AreLinesOf (insns : List Insn) (lines : List (ℕ × List ℕ)) : Typ
   pub read : texts_of lines ≡ map line_text insns
 
 -- the bytes of the instructions that the lines say
-pub record IsAssembly (bytes : List ℕ) (insns : List Insn) (lines : List (ℕ × List ℕ)) : Type 0 where
+pub record IsAssembly (bytes : List ℕ) (insns : List Insn) (lines : List (ℕ × List ℕ)) :
+    Type 0 where
   pub read : AreLinesOf insns lines
   pub spelled : bytes ≡ spellings insns
   pub whole : IsWhole bytes
@@ -64,7 +67,8 @@ IsTextRefusal (fault.UnknownWord n) lines = IsAtLine n lines IsUnknownWord
 IsTextRefusal (fault.BadOperand n) lines = IsAtLine n lines IsBadOperand
 IsTextRefusal (fault.NumberRange n) lines = IsAtLine n lines IsOutOfRange
 IsTextRefusal fault.Empty lines = lines ≡ []
-IsTextRefusal fault.TooLong lines = (insns : List Insn) × AreLinesOf insns lines × (8 * 4096 < length (spellings insns))
+IsTextRefusal fault.TooLong lines =
+    (insns : List Insn) × AreLinesOf insns lines × (8 * max_slots < length (spellings insns))
 IsTextRefusal fault.NoMemory lines = 0 < length lines
 
 -- ---- one line more
@@ -72,7 +76,8 @@ IsTextRefusal fault.NoMemory lines = 0 < length lines
 -- the line says nothing, or this instruction
 abbrev pub SaysInsn : List ℕ → Option Insn → Type 0
 SaysInsn line None = stripped line ≡ []
-SaysInsn line (Some insn) = IsInsn insn × (0 < length (stripped line)) × (stripped line ≡ line_text insn)
+SaysInsn line (Some insn) =
+    IsInsn insn × (0 < length (stripped line)) × (stripped line ≡ line_text insn)
 
 -- at most one item
 abbrev pub listed : {A : Type 0} → Option A → List A

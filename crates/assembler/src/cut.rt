@@ -1,13 +1,13 @@
 //! Cutting a text in two at a byte.
 
 ghost use Rattle.std.specs.Prelude.{◌≡◌, ◌++◌, ◌∷◌, ℕ, List, IfSome, IfNone};
-ghost use Rattle.disassembler.specs.Cut.{IsFree, BeginsWith, IsTwo};
+ghost use Rattle.disassembler.specs.Cut.{IsFree, StopsAtOnce, IsTwo};
 
 /// The part in front of the first of two bytes, and the part from it on.
 pub fn split_before(text: &[u8], stop: u8, other: u8) -> (&[u8], &[u8])
     ensures whole { text.now ≡ result.0.now ++ result.1.now }
     ensures front { IsFree stop other result.0.now }
-    ensures back { BeginsWith stop other result.1.now }
+    ensures back { StopsAtOnce stop other result.1.now }
 {
     for (i, byte) in text.iter().enumerate() {
         if *byte == stop || *byte == other {

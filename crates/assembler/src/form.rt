@@ -1,7 +1,7 @@
 //! The forms of operands, whatever their numbers.
 
 ghost use Rattle.std.specs.Prelude.{◌≡◌, ◌↔◌, IsTrue};
-ghost use Rattle.assembler.specs.Forms.{IsNumeral, IsMarked, IsNegative, IsNumberForm, IsOffsetForm, IsMemoryForm, IsOfForm, IsPair, IsTailOf};
+ghost use Rattle.assembler.specs.Forms.{IsNumeral, IsPrefixed, IsNegative, IsNumberForm, IsOffsetForm, IsMemoryForm, IsOfForm, IsPair, IsTailOf};
 
 use crate::cut::{split_before, two_from};
 use crate::number::number_from;
@@ -53,7 +53,7 @@ fn is_numeral(text: &[u8]) -> bool
 
 /// Whether the text is this byte with a numeral after it.
 fn is_marked(mark: u8, text: &[u8]) -> bool
-    ensures { IsTrue result ↔ IsMarked mark text.now }
+    ensures { IsTrue result ↔ IsPrefixed mark text.now }
 {
     !text.is_empty() && text[0] == mark && is_numeral(text.split_at(1).1)
 }

@@ -5,7 +5,7 @@ ghost use Rattle.std.specs.Fmt.{decimal, signed_decimal};
 ghost use Rattle.insn_codec.specs.Spelling.{IsOperand};
 ghost use Rattle.disassembler.specs.Line.{register_text, signed_text};
 ghost use Rattle.disassembler.specs.Line.{operand_text};
-ghost use Rattle.assembler.specs.Reading.{ReadsPair, IsRegister, IsOffset, IsImm, IsValue, IsPlace, place_text, IsTested, tested_text};
+ghost use Rattle.assembler.specs.Reading.{ReadsPair, IsRegister, IsOffset, IsImm, IsUnsigned64, IsPlace, place_text, IsTested, tested_text};
 
 use crate::cut::two_from;
 use crate::reading::{imm_from, memory_from, offset_from, operand_from, register_from, value_from};
@@ -26,7 +26,7 @@ pub fn two_registers(text: &[u8]) -> Option<(Register, Register)>
 }
 
 pub fn register_and_value(text: &[u8]) -> Option<(Register, u64)>
-    ensures { ReadsPair register_text IsRegister decimal IsValue text.now result }
+    ensures { ReadsPair register_text IsRegister decimal IsUnsigned64 text.now result }
 {
     let (front, back) = two_from(text)?;
     register_from(front).zip(value_from(back))

@@ -3,7 +3,8 @@
 
 use accounts::Desk;
 use anyhow::bail;
-use runners::{InlineRunner, play_lowest};
+use job_core::play_lowest;
+use job_server::serve_on;
 use sessions::{Reply, Request, Session, reply_frame};
 use std::alloc::Global;
 use std::io::{Read, Write};
@@ -13,8 +14,7 @@ use std::sync::Wait;
 use std::thread;
 use std::thread::Threads;
 use std::time::{Duration, Instant};
-use streams::{Tap, serve_stream};
-use tcp_server::serve_on;
+use streams::{InlineRunner, Tap, serve_stream};
 
 /// How often each stream is served.
 const ROUNDS: u32 = 20;

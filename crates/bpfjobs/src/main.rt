@@ -2,54 +2,30 @@
 //! tells its commands.
 #![tactic(auto)]
 
-ghost use Rattle.command_line.specs.Commands.{IsInRange};
-ghost use Rattle.performing.specs.Performing.{IsAlone};
+ghost use Rattle.bpfjobs_cli.specs.Commands.{IsInRange};
+ghost use Rattle.bpfjobs_cli.specs.Performing.{NeedsNoThread};
 ghost use Rattle.std.specs.Prelude.{◌≤◌};
 
 mod serving;
 
-use command_line::{Command, Usage, command};
+use bpfjobs_cli::{Command, FAILED, UNREAD, command, print_usage, words};
 use serving::serve;
 use std::alloc::Global;
-use std::env::Env;
+use std::io;
 use std::net::{Net, TcpStream};
 use std::process::ExitCode;
 use std::sync::Wait;
 use std::thread::Threads;
-use std::{env, io};
 use streams::Tap;
-
-// The status where the words can't be read.
-const UNREAD: u8 = 2;
-
-// The status where input, output or a socket fails.
-const FAILED: u8 = 3;
-
-// The words of the command line, the program's name first.
-fn words<R: Env + AllocGlobal>(rt: &R) -> io::Result<Vec<String>> {
-    let mut words = Vec::new(rt.alloc());
-    for word in env::args(rt)? {
-        words.push(word)?;
-    }
-    Ok(words)
-}
-
-// Prints why the words are no command, or the help that they ask for, and gives the status.
-fn explained<R: Print + Eprint>(rt: &R, usage: Usage) -> u8 {
-    if let Usage::Refused(error) = &usage {
-        let _ = error.print(rt);
-    }
-    usage.status()
-}
 
 // Reads the input, prints the answer of a command that needs no thread, and gives the status. It
 // returns if the input and the output do.
 fn answer<R: Input + Print>(rt: &R, alloc: Global, command: Command) -> u8
-    requires { IsAlone command }
+    requires { NeedsNoThread command }
 {
     let mut reader = Tap::new(rt.reader());
     let mut writer = Tap::new(io::writer(rt));
-    match performing::perform(alloc, command, &mut reader, &mut writer) {
+    match bpfjobs_cli::perform(alloc, command, &mut reader, &mut writer) {
         Ok(status) => status,
         Err(_) => FAILED,
     }
@@ -62,7 +38,7 @@ fn run<R: Input + Print + Threads + Wait + Sync>(rt: &R, alloc: Global, workers:
     let mut reader = Tap::new(rt.reader());
     let mut writer = Tap::new(io::writer(rt));
     let command = Command::Run { workers };
-    match pool_performing::perform(rt, alloc, command, &mut reader, &mut writer) {
+    match job_server::perform(rt, alloc, command, &mut reader, &mut writer) {
         Ok(status) => status,
         Err(_) => FAILED,
     }
@@ -95,7 +71,7 @@ fn main(rt: HostRuntime) -> ExitCode {
     };
     let status = match command(rt.alloc(), words) {
         Ok(command) => act(rt, rt.alloc(), command),
-        Err(usage) => explained(&rt, usage),
+        Err(usage) => print_usage(&rt, usage),
     };
     ExitCode::from(status)
 }

@@ -20,6 +20,6 @@ pub fn serve<R: Net<Stream = TcpStream> + Threads + Wait + Copy + Send + Sync + 
     requires workers { (1 ≤ workers) × (workers ≤ 16) }
     requires sessions { (1 ≤ sessions) × (sessions ≤ 1000000) }
 {
-    let outcome = tcp_server::serve(rt, alloc, port as u16, workers, sessions);
-    tcp_server::status_of(outcome)
+    let outcome = job_server::serve(rt, alloc, port as u16, workers, sessions);
+    job_server::status_of(outcome)
 }

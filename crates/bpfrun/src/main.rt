@@ -3,40 +3,15 @@
 #![tactic(auto)]
 
 ghost use Rattle.std.specs.Prelude.{◌≤◌};
+ghost use Rattle.machine_model.specs.Limits.{max_credit};
 
-use command_line::Usage;
-use performing::{Answer, tell};
+use bpfjobs_cli::{Answer, FAILED, UNREAD, print_usage, tell, words};
+use bpfrun_core::{Asked, Request, answer, form_of, request};
 use std::alloc::Global;
-use std::env::Env;
 use std::process::ExitCode;
 use std::rt::Files;
-use std::{env, fs, io};
+use std::{fs, io};
 use streams::Tap;
-use trial::{Asked, answer, form_of};
-use trial_line::{Request, request};
-
-// The status where the words can't be read.
-const UNREAD: u8 = 2;
-
-// The status where input or output fails, or there is no memory.
-const FAILED: u8 = 3;
-
-// The words of the command line, the program's name first.
-fn words<R: Env + AllocGlobal>(rt: &R) -> io::Result<Vec<String>> {
-    let mut words = Vec::new(rt.alloc());
-    for word in env::args(rt)? {
-        words.push(word)?;
-    }
-    Ok(words)
-}
-
-// Prints why the words are no request, or the help that they ask for, and gives the status.
-fn explained<R: Print + Eprint>(rt: &R, usage: Usage) -> u8 {
-    if let Usage::Refused(error) = &usage {
-        let _ = error.print(rt);
-    }
-    usage.status()
-}
 
 // The bytes of a file; none, and a line that tells why, where it can't be read.
 fn contents<R: Files + Eprint + AllocGlobal>(rt: &R, path: &str) -> Option<Vec<u8>> {
@@ -64,7 +39,7 @@ fn tried<R: Files + Print + Eprint + AllocGlobal>(
     request: &Request<'_>,
     memory: Option<Vec<u8>>,
 ) -> u8
-    requires { request.now.credit ≤ 2147483647 }
+    requires { request.now.credit ≤ max_credit }
 {
     let Some(input) = contents(rt, request.file) else {
         return FAILED;
@@ -84,7 +59,7 @@ fn tried<R: Files + Print + Eprint + AllocGlobal>(
 
 // Does what the words ask for, and gives the status.
 fn act<R: Files + Print + Eprint + AllocGlobal>(rt: &R, request: &Request<'_>) -> u8
-    requires { request.now.credit ≤ 2147483647 }
+    requires { request.now.credit ≤ max_credit }
 {
     let Some(path) = request.memory else {
         return tried(rt, request, None);
@@ -101,7 +76,7 @@ fn main(rt: HostRuntime) -> ExitCode {
     };
     let status = match request(rt.alloc(), &words) {
         Ok(request) => act(&rt, &request),
-        Err(usage) => explained(&rt, usage),
+        Err(usage) => print_usage(&rt, usage),
     };
     ExitCode::from(status)
 }

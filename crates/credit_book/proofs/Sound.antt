@@ -9,7 +9,7 @@ use Rattle.credit_book.specs.declared.event.Stage.{Stage}
 use Rattle.credit_book.specs.declared.event.Stage.TheVariants.{Fresh, Parked, Claimed, Ended}
 use Rattle.credit_book.specs.declared.event.Standing.{Standing}
 use Rattle.credit_book.specs.declared.event.TaskEnd.{TaskEnd}
-use Rattle.credit_book.specs.History.{Table, standing_at, task_at, no_tasks, is_fresh, may_work, is_alive, May, after, new_task, table_from, table_of, IsLegalFrom, IsHistoryOf, held_in, spent_in, returned_in, IsComplete, without_first}
+use Rattle.credit_book.specs.History.{TaskTable, standing_at, task_at, no_tasks, is_fresh, may_work, is_alive, May, after, new_task, table_from, table_of, IsLegalFrom, IsHistoryOf, held_in, spent_in, returned_in, IsComplete, without_first}
 
 -- a live task holds credit, and one that has ended holds none
 abbrev pub Holds : Standing → Type 0
@@ -33,7 +33,7 @@ parked Parked = 1
 parked Claimed = 0
 parked Ended = 0
 
-pub record IsSound (issued : ℕ) (t : Table) : Type 0 where
+pub record IsSound (issued : ℕ) (t : TaskTable) : Type 0 where
   pub some : 0 < length t.standings
   pub paired : length t.tasks ≡ length t.standings
   pub conserved : held_in t + returned_in t + spent_in t ≡ issued
@@ -119,7 +119,7 @@ work_out Claimed e = refl
 work_out Ended e = absurd (off e)
 
 -- a live task changes its stage, and stays alive
-moved : (issued : ℕ) (t : Table) (n : ℕ) (stage : Stage) (queue : List ℕ) → IsSound issued t → is_alive (standing_at t n).stage ≡ true → is_alive stage ≡ true
+moved : (issued : ℕ) (t : TaskTable) (n : ℕ) (stage : Stage) (queue : List ℕ) → IsSound issued t → is_alive (standing_at t n).stage ≡ true → is_alive stage ≡ true
     → ((k : ℕ) → k ≡ n → times k queue ≡ parked stage) → ((k : ℕ) → k ≢ n → times k queue ≡ times k t.queue) → length queue + parked (standing_at t n).stage ≡ length t.queue + parked stage
     → IsSound issued (record { standings = set t.standings n (record { held = (standing_at t n).held; stage = stage }); tasks = t.tasks; queue = queue })
 moved issued t n stage queue sound live lives here there size =
@@ -139,7 +139,7 @@ moved issued t n stage queue sound live lives here there size =
           (λ _. sound.worth k (omega (arith, length-set t.standings n s)));
     }
 
-ended : (issued : ℕ) (t : Table) (n used r0 : ℕ) (ran : Bool) → IsSound issued t → may_work (standing_at t n).stage ≡ true → used ≤ (standing_at t n).held
+ended : (issued : ℕ) (t : TaskTable) (n used r0 : ℕ) (ran : Bool) → IsSound issued t → may_work (standing_at t n).stage ≡ true → used ≤ (standing_at t n).held
     → IsSound issued (record {
       standings = set t.standings n gone;
       tasks = set t.tasks n (record (task_at t n) { spent = used; rest = (standing_at t n).held - used; r0 = r0; ran = ran });
@@ -168,7 +168,7 @@ ended issued t n used r0 ran sound works le =
           (λ ne. at_set (λ (x : TaskEnd). 1 ≤ (standing_at t k).held + x.spent + x.rest) t.tasks n k task none lt' (λ e. absurd (ne e)) (λ _. sound.worth k (omega (arith, length-set t.standings n gone))));
     }
 
-spawned : (issued : ℕ) (t : Table) (n program share arg : ℕ) → IsSound issued t → may_work (standing_at t n).stage ≡ true → 1 ≤ share → share < (standing_at t n).held
+spawned : (issued : ℕ) (t : TaskTable) (n program share arg : ℕ) → IsSound issued t → may_work (standing_at t n).stage ≡ true → 1 ≤ share → share < (standing_at t n).held
     → IsSound issued (record {
       standings = set t.standings n (record { held = (standing_at t n).held - share; stage = (standing_at t n).stage }) ++ record { held = share; stage = Fresh } ∷ [];
       tasks = t.tasks ++ new_task (length t.standings) program arg share ∷ [];
@@ -225,7 +225,7 @@ eqb_self n = ap bit (eq-eqb n n refl)
 eqb_other : (n k : ℕ) → k ≢ n → bit (eqb n k) ≡ 0
 eqb_other n k ne = ap bit (ne_eqb n k (λ e. ne (sym e)))
 
-pub sound-after : (issued : ℕ) (t : Table) (e : Event) → IsSound issued t → May t e → IsSound issued (after t e)
+pub sound-after : (issued : ℕ) (t : TaskTable) (e : Event) → IsSound issued t → May t e → IsSound issued (after t e)
 sound-after issued t (Open job credit) sound may = absurd (let h = sound.some in omega (arith, ap length may.0))
 sound-after issued t (Spawn parent child program share arg base len) sound may =
     subst (λ (j : ℕ). IsSound issued (after t (Spawn parent j program share arg base len))) (sym may.1) (spawned issued t parent program share arg sound may.0 may.2 may.3)
@@ -247,7 +247,7 @@ sound-after issued t (Claim n) sound may =
     (let a = ap length may.1 in let b : length (without_first t.queue) ≡ length may.0 = ap (λ (q : List ℕ). length (without_first q)) may.1 in omega arith)
 sound-after issued t (End n used r0 ran base bytes) sound may = ended issued t n used r0 ran sound may.0 may.1
 
-sound_from : (issued : ℕ) (t : Table) (es : List Event) → IsSound issued t → IsLegalFrom t es → IsSound issued (table_from t es)
+sound_from : (issued : ℕ) (t : TaskTable) (es : List Event) → IsSound issued t → IsLegalFrom t es → IsSound issued (table_from t es)
 sound_from issued t [] sound legal = sound
 sound_from issued t (e ∷ es) sound legal = sound_from issued (after t e) es (sound-after issued t e sound legal.0) legal.1
 
@@ -298,11 +298,11 @@ sum-zero [] zeros = refl
 sum-zero (s ∷ ss) zeros = let h = sum-zero ss (λ k. zeros (suc k)) in let a = zeros 0 in let c = sum_by-cons (λ (s : Standing). s.held) s ss in omega arith
 
 -- no task is alive exactly where no credit is held
-pub complete_from-held : (issued : ℕ) (t : Table) → IsSound issued t → held_in t ≡ 0 → IsComplete t
+pub complete_from-held : (issued : ℕ) (t : TaskTable) → IsSound issued t → held_in t ≡ 0 → IsComplete t
 complete_from-held issued t sound none n live =
     let h = (sound.holding n).0 live in let le = get_or_le-sum t.standings n in absurd (omega arith)
 
-pub held_from-complete : (issued : ℕ) (t : Table) → IsSound issued t → IsComplete t → held_in t ≡ 0
+pub held_from-complete : (issued : ℕ) (t : TaskTable) → IsSound issued t → IsComplete t → held_in t ≡ 0
 held_from-complete issued t sound all = sum-zero t.standings (λ k. each k (is_alive (standing_at t k).stage) refl)
   where
     each : (k : ℕ) (b : Bool) → is_alive (standing_at t k).stage ≡ b → (standing_at t k).held ≡ 0
@@ -310,7 +310,7 @@ held_from-complete issued t sound all = sum-zero t.standings (λ k. each k (is_a
     each k false e = (sound.holding k).1 e
 
 -- there are no more tasks than credits
-pub tasks_le-issued : (issued : ℕ) (t : Table) → IsSound issued t → length t.standings ≤ issued
+pub tasks_le-issued : (issued : ℕ) (t : TaskTable) → IsSound issued t → length t.standings ≤ issued
 tasks_le-issued issued t sound = let c = sound.conserved in let h = each t.standings t.tasks sound.paired sound.worth in omega arith
   where
     each : (ss : List Standing) (ts : List TaskEnd) → length ts ≡ length ss → ((k : ℕ) → k < length ss → 1 ≤ (get_or ss k gone).held + (get_or ts k none).spent + (get_or ts k none).rest)
@@ -325,7 +325,7 @@ tasks_le-issued issued t sound = let c = sound.conserved in let h = each t.stand
         let c = sum_by-cons (λ (e : TaskEnd). e.spent) e ts in omega arith
 
 -- where a task isn't parked, fewer are parked than there are
-pub parked_lt : (issued : ℕ) (t : Table) (n : ℕ) → IsSound issued t → is_fresh (standing_at t n).stage ≡ true → length t.queue < length t.standings
+pub parked_lt : (issued : ℕ) (t : TaskTable) (n : ℕ) → IsSound issued t → is_fresh (standing_at t n).stage ≡ true → length t.queue < length t.standings
 parked_lt issued t n sound fresh =
     let c = sound.counted in
     let h = fewer t.standings n (within t.standings n (alive_from-fresh (standing_at t n).stage fresh)) (fresh_out (standing_at t n).stage fresh) in omega arith
@@ -340,6 +340,6 @@ parked_lt issued t n sound fresh =
     fewer (s ∷ ss) (suc n) lt out = let h = fewer ss n (omega arith) out in let p = parked_le s.stage in let c = sum_by-cons (λ (s : Standing). parked s.stage) s ss in omega arith
 
 -- the first of the queue is alive
-pub first_alive : (issued : ℕ) (t : Table) (n : ℕ) (others : List ℕ) → IsSound issued t → t.queue ≡ n ∷ others → is_alive (standing_at t n).stage ≡ true
+pub first_alive : (issued : ℕ) (t : TaskTable) (n : ℕ) (others : List ℕ) → IsSound issued t → t.queue ≡ n ∷ others → is_alive (standing_at t n).stage ≡ true
 first_alive issued t n others sound is =
     parked_alive (standing_at t n).stage (let a = ap (times n) is in let b = sound.queued n in let c = eqb_self n in let d = parked_le (standing_at t n).stage in omega arith)

@@ -11,9 +11,10 @@ use Rattle.credit_book.specs.declared.event.Event.TheVariants.{Open}
 use Rattle.credit_book.specs.declared.seats.Opening.{Opening}
 use Rattle.credit_book.specs.declared.seats.View.{View}
 use Rattle.credit_book.specs.History.{word_of, IsHistoryOf, IsLegal}
-use Rattle.credit_book.specs.Rule.{writer, reader, opened, Fits, Kept, Tells, Looks}
+use Rattle.credit_book.specs.Rule.{writer, reader, opened, Fits, BoardRule, Tells, Looks}
 use Rattle.credit_book.proofs.Histories.{longer_history}
-use Rattle.credit_book.proofs.Prefixes.{prefix_self, prefix_trans}
+use Rattle.credit_book.specs.Quiet.{GrowsByEnd}
+use Rattle.credit_book.proofs.Prefixes.{prefix_self, prefix_trans, grown_prefix}
 
 off : false ≡ true → ⊥
 off e = true≢false (sym e)
@@ -26,7 +27,7 @@ fits_set seat h now views by w others mine j u e =
     (λ (x : (j ≢ by) × (get_elem? views j ≡ some u)). others j u x.0 x.1)
     (at_set views by j w u e)
 
-pub begins : (S : Type 0) (o : Opening) → 1 ≤ o.issued → o.issued ≤ 2147483647 → Kept {S = S} o (opening (0 ∷ []) [] (opened o))
+pub begins : (S : Type 0) (o : Opening) → 1 ≤ o.issued → o.issued ≤ 2147483647 → BoardRule {S = S} o (opening (0 ∷ []) [] (opened o))
 begins S o low high = (0, Open o.job o.issued ∷ [], (((refl, low, high), tt), ([], refl)), refl, one)
   where
     one : (by : ℕ) (v : View) → get_elem? (opened o ∷ []) by ≡ some v → Fits 0 (Open o.job o.issued ∷ []) by v
@@ -35,7 +36,7 @@ begins S o low high = (0, Open o.job o.issued ∷ [], (((refl, low, high), tt), 
 
 module _ {S : Type 0} (o : Opening) (slots id : ℕ) (me : Me S View) (st : Step S) where
   -- a look of a reader
-  pub sees : me.0.writes ≡ false → Allows (Kept o) slots id me 0 (λ n. n) (Looks st me)
+  pub sees : me.0.writes ≡ false → Allows (BoardRule o) slots id me 0 (λ n. n) (Looks st me)
   sees reads s kept homes at fits =
       let history = kept.1 in
       let w = reader history (me.0.looks + 1) in
@@ -54,9 +55,10 @@ module _ {S : Type 0} (o : Opening) (slots id : ℕ) (me : Me S View) (st : Step
       )
 
   -- the step of the writer that publishes a whole history
-  pub publishes : (now : List Event) (f : ℕ → ℕ) → me.0.writes ≡ true → IsLegal now → IsPrefix me.0.history now → f (word_of me.0.history) ≡ word_of now
-      → Allows (Kept o) slots id me 0 f (Tells now st me)
-  publishes now f writes legal longer becomes s kept homes at fits =
+  pub publishes : (now : List Event) (f : ℕ → ℕ) → me.0.writes ≡ true → IsLegal now → GrowsByEnd me.0.history now → f (word_of me.0.history) ≡ word_of now
+      → Allows (BoardRule o) slots id me 0 f (Tells now st me)
+  publishes now f writes legal grows becomes s kept homes at fits =
+      let longer = grown_prefix me.0.history now grows in
       let mine = (kept.4 id me.0 at).1 writes in
       let is : me.0.history ≡ kept.1 = mine.1 in
       let w = writer now in
@@ -75,11 +77,11 @@ module _ {S : Type 0} (o : Opening) (slots id : ℕ) (me : Me S View) (st : Step
               (prefix_trans u.history me.0.history now (subst (IsPrefix u.history) (sym is) theirs.0) longer, (λ t. absurd (apart ((theirs.1 t).0 ∙ sym mine.0)))))
               (prefix_self now, (λ _. (mine.0, refl))),
         ),
-        refl,
+        (refl, legal, grows),
       )
 
 -- a new reader has seen what the seat knows
-pub tells : {S : Type 0} (o : Opening) (id : ℕ) (v : View) → Splits (Kept {S = S} o) id v v (reader v.history 0)
+pub tells : {S : Type 0} (o : Opening) (id : ℕ) (v : View) → Splits (BoardRule {S = S} o) id v v (reader v.history 0)
 tells o id v s kept at = (
   kept.0,
   kept.1,

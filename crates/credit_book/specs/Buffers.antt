@@ -21,5 +21,5 @@ abbrev pub buffer_of : ℕ → List Event → List ℕ
 buffer_of size history = buffer_from (replicate size 0) history
 
 -- the buffer is what the history leaves in it
-abbrev pub IsCollected : List ℕ → List Event → Type 0
-IsCollected buffer history = buffer ≡ buffer_of (length buffer) history
+abbrev pub IsLeftBuffer : List ℕ → List Event → Type 0
+IsLeftBuffer buffer history = buffer ≡ buffer_of (length buffer) history

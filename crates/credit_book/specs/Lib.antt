@@ -1,4 +1,5 @@
 pub mod History
+pub mod Quiet
 pub mod Rule
 pub mod Boards
 pub mod Books

@@ -9,6 +9,7 @@ use Rattle.credit_book.specs.declared.seats.Opening.{Opening}
 use Rattle.credit_book.specs.declared.seats.View.{View}
 use Rattle.credit_book.specs.declared.event.Event.TheVariants.{Open}
 use Rattle.credit_book.specs.History.{IsLegal, IsHistoryOf, word_of}
+use Rattle.credit_book.specs.Quiet.{GrowsByEnd}
 
 -- the writer knows the history
 abbrev pub writer : List Event → View
@@ -23,19 +24,22 @@ opened o = writer (Open o.job o.issued ∷ [])
 
 -- each seat knows a beginning of the history, and the one writer knows all of it
 abbrev pub Fits : ℕ → List Event → ℕ → View → Type 0
-Fits seat history by v = IsPrefix v.history history × (v.writes ≡ true → (by ≡ seat) × (v.history ≡ history))
+Fits seat history by v =
+    IsPrefix v.history history × (v.writes ≡ true → (by ≡ seat) × (v.history ≡ history))
 
 -- between any two steps there is one legal history, of which the word has the sums
-abbrev pub Kept : {S : Type 0} → Opening → State S View → Type 0
-Kept o s =
-    (seat : ℕ) × (history : List Event) × IsHistoryOf o.job o.issued history × (s.words ≡ word_of history ∷ [])
+abbrev pub BoardRule : {S : Type 0} → Opening → State S View → Type 0
+BoardRule o s =
+    (seat : ℕ) × (history : List Event) × IsHistoryOf o.job o.issued history
+    × (s.words ≡ word_of history ∷ [])
     × ((by : ℕ) (v : View) → get_elem? s.views by ≡ some v → Fits seat history by v)
 
 -- a reader has seen a legal history that begins with what it had seen, and whose sums are the word
 abbrev pub Looks : {S : Type 0} → Step S → Me S View → ℕ → Me S View → Type 0
 Looks s v found w =
-    (seen : List Event) × (w ≡ (reader seen (v.0.looks + 1), v.1)) × IsPrefix v.0.history seen × IsLegal seen × (word_of seen ≡ found)
+    (seen : List Event) × (w ≡ (reader seen (v.0.looks + 1), v.1)) × IsPrefix v.0.history seen
+    × IsLegal seen × (word_of seen ≡ found)
 
--- the writer knows this history
+-- the writer posts one end: it knows a legal history then that has grown by it
 abbrev pub Tells : {S : Type 0} → List Event → Step S → Me S View → ℕ → Me S View → Type 0
-Tells now s v found w = w ≡ (writer now, v.1)
+Tells now s v found w = (w ≡ (writer now, v.1)) × IsLegal now × GrowsByEnd v.0.history now

@@ -4,6 +4,7 @@ ghost use Rattle.std.specs.Arc.{arc_value};
 ghost use mathlib.Core.List.{IsPrefix};
 ghost use Rattle.credit_book.specs.declared.event.Event.TheVariants.{Open};
 ghost use Rattle.credit_book.specs.History.{IsHistoryOf, IsComplete, table_of, spent_in, returned_in, word_of};
+ghost use Rattle.machine_model.specs.Limits.{max_credit};
 
 use crate::past::Past;
 use crate::seats::{Chronicle, Opening, Publishes, Ruled, Sees, Tells, View};
@@ -34,9 +35,14 @@ impl Model for Board {
 
     ghost Value = { Sign };
 
-    ghost view = { λ b. record { table = b.table.shared.table_id; job = b.opening.job; issued = b.opening.issued } };
+    ghost view = { λ b. record {
+      table = b.table.shared.table_id;
+      job = b.opening.job;
+      issued = b.opening.issued;
+    } };
 
-    ghost invariant = { λ b. (b.table.shared.table_id.words ≡ 1) × (b.table.shared.key ≡ b.opening) };
+    ghost invariant = { λ b. (b.table.shared.table_id.words ≡ 1)
+        × (b.table.shared.key ≡ b.opening) };
 }
 
 /// What one thread has seen of a board.
@@ -53,9 +59,18 @@ impl Model for Reader {
 
     ghost Value = { Sight };
 
-    ghost view = { λ r. record { board = record { table = r.seat.table_id; job = r.opening.job; issued = r.opening.issued }; seen = r.seat.me.0.history; looks = r.seat.me.0.looks } };
+    ghost view = { λ r. record {
+      board = record {
+        table = r.seat.table_id;
+        job = r.opening.job;
+        issued = r.opening.issued;
+      };
+      seen = r.seat.me.0.history;
+      looks = r.seat.me.0.looks;
+    } };
 
-    ghost invariant = { λ r. (r.seat.me.0.writes ≡ false) × IsHistoryOf r.opening.job r.opening.issued r.seat.me.0.history };
+    ghost invariant = { λ r. (r.seat.me.0.writes ≡ false)
+        × IsHistoryOf r.opening.job r.opening.issued r.seat.me.0.history };
 }
 
 /// The seat that alone writes the board of a job.
@@ -75,7 +90,9 @@ impl Model for Writer {
 
     ghost view = { λ p. record { board = arc_value p.board; history = p.seat.me.0.history } };
 
-    ghost invariant = { λ p. (p.seat.table_id ≡ (arc_value p.board).table) × (p.seat.me.0.writes ≡ true) × IsHistoryOf (arc_value p.board).job (arc_value p.board).issued p.seat.me.0.history };
+    ghost invariant = { λ p. (p.seat.table_id ≡ (arc_value p.board).table)
+        × (p.seat.me.0.writes ≡ true)
+        × IsHistoryOf (arc_value p.board).job (arc_value p.board).issued p.seat.me.0.history };
 }
 
 /// The right to open the book of a job: its board has the opening alone.
@@ -93,7 +110,8 @@ impl Model for Post {
 
     ghost view = { λ p. p.writer };
 
-    ghost invariant = { λ p. p.writer.history ≡ Open p.writer.board.job p.writer.board.issued ∷ [] };
+    ghost invariant = { λ p. p.writer.history ≡ Open p.writer.board.job p.writer.board.issued
+        ∷ [] };
 }
 
 impl Post {
@@ -149,7 +167,7 @@ impl Board {
         job: u64,
         issued: u32,
     ) -> Result<(Arc<Board>, Post, Reader), NoMemory>
-        requires { (1 ≤ issued) × (issued ≤ 2147483647) }
+        requires { (1 ≤ issued) × (issued ≤ max_credit) }
         ensures board { IfOk result (λ r. ((arc_value r.0).job ≡ job)
             × ((arc_value r.0).issued ≡ issued)) }
         ensures post { IfOk result (λ r. (r.1.board ≡ arc_value r.0)
@@ -213,6 +231,7 @@ impl Writer {
 
 impl Writer {
     ghost use Rattle.credit_book.specs.History.{IsLegal};
+    ghost use Rattle.credit_book.specs.Quiet.{GrowsByEnd};
 
     /// An empty history.
     pub(crate) fn past(&self) -> Past
@@ -221,12 +240,12 @@ impl Writer {
         Past::new(&self.seat)
     }
 
-    /// Publishes a longer history, whose sums are those of the last one and these amounts, in one
-    /// step. `past` and `about` are for the proof of the caller alone, which picks the history by
-    /// them.
+    /// Publishes a history that has grown by an end, whose sums are those of the last one and these
+    /// amounts, in one step. `past` and `about` are for the proof alone: the caller's picks the
+    /// history by them.
     pub(crate) fn publish<J: Chronicle, T>(&mut self, past: &Past, about: &T, amount: u64)
         requires legal { IsLegal J.history }
-        requires longer { IsPrefix self.old.history J.history }
+        requires grows { GrowsByEnd self.old.history J.history }
         requires amount { word_of J.history ≡ word_of self.old.history + amount }
         ensures board { self.new.board ≡ self.old.board }
         ensures history { self.new.history ≡ J.history }

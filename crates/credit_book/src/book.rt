@@ -40,13 +40,21 @@ impl Model for Book {
     ghost use Rattle.std.specs.Prelude.{map, length, ◌≤◌};
     ghost use Rattle.std.specs.VecDeque.{deque_capacity};
     ghost use Rattle.credit_book.specs.Books.{Account, IsBook, IsPosted};
-    ghost use Rattle.credit_book.specs.Buffers.{IsCollected};
+    ghost use Rattle.credit_book.specs.Buffers.{IsLeftBuffer};
 
     ghost Value = { Account };
 
-    ghost view = { λ b. record { board = b.writer.board; history = b.past; size = length b.report.buffer.items; waiting = b.parked.items } };
+    ghost view = { λ b. record {
+      board = b.writer.board;
+      history = b.past;
+      size = length b.report.buffer.items;
+      waiting = b.parked.items;
+    } };
 
-    ghost invariant = { λ b. IsBook b.writer.board b.past b.standings.items b.report.tasks.items (map (λ t. t.number) b.parked.items) b.report.spent b.report.returned × (length b.standings.items ≤ deque_capacity b.parked) × IsPosted b.writer.history b.past × IsCollected b.report.buffer.items b.past };
+    ghost invariant = { λ b. IsBook b.writer.board b.past b.standings.items b.report.tasks.items
+        (map (λ t. t.number) b.parked.items) b.report.spent b.report.returned
+        × (length b.standings.items ≤ deque_capacity b.parked) × IsPosted b.writer.history b.past
+        × IsLeftBuffer b.report.buffer.items b.past };
 }
 
 impl Stage {
@@ -194,6 +202,9 @@ impl Book {
     pub fn open(alloc: Global, post: Post, root: Part) -> Result<(Book, Ticket), NoMemory>
         ensures book { IfOk result (λ r. (r.0.board ≡ post.board) × (r.0.history ≡ post.history)
             × (r.0.size ≡ length root.bytes) × (r.0.waiting ≡ [])) }
+        ensures opened { IfOk result (λ r. (r.0.history
+            ≡ Open post.board.job post.board.issued ∷ [])
+            × IsHistoryOf post.board.job post.board.issued r.0.history) }
         ensures ticket { IfOk result (λ r. r.1
             ≡ root_ticket post.board.job post.board.issued root) }
     {
@@ -236,14 +247,16 @@ impl Book {
 
     /// The number of the job.
     pub fn job(&self) -> u64
-        ensures { result ≡ self.now.board.job }
+        ensures job { result ≡ self.now.board.job }
+        ensures legal { IsHistoryOf self.now.board.job self.now.board.issued self.now.history }
     {
         self.writer.opening().job
     }
 
     /// The credit that was issued for it.
     pub fn issued(&self) -> u32
-        ensures { result ≡ self.now.board.issued }
+        ensures issued { result ≡ self.now.board.issued }
+        ensures legal { IsHistoryOf self.now.board.job self.now.board.issued self.now.history }
     {
         self.writer.opening().issued
     }
@@ -257,7 +270,8 @@ impl Book {
 
     /// What the tasks that ended have left in the job's buffer so far.
     pub fn collected(&self) -> &[u8]
-        ensures { result.now ≡ buffer_of self.now.size self.now.history }
+        ensures buffer { result.now ≡ buffer_of self.now.size self.now.history }
+        ensures legal { IsHistoryOf self.now.board.job self.now.board.issued self.now.history }
     {
         &self.report.buffer
     }
@@ -267,6 +281,7 @@ impl Book {
         ensures totals { (result.spent ≡ spent_in (table_of self.now.history))
             × (result.returned ≡ returned_in (table_of self.now.history)) }
         ensures complete { IsTrue result.complete ↔ IsComplete (table_of self.now.history) }
+        ensures legal { IsHistoryOf self.now.board.job self.now.board.issued self.now.history }
     {
         let complete = self.is_complete();
         Progress {
@@ -302,7 +317,8 @@ impl Book {
     pub fn close(self) -> Result<Report, Book>
         ensures variant { IsOk result ↔ IsComplete (table_of self.history) }
         ensures report { IfOk result (λ r. IsReport self.size self.history r) }
-        ensures legal { IfOk result (λ _. IsHistoryOf self.board.job self.board.issued self.history) }
+        ensures legal { IfOk result (λ _.
+            IsHistoryOf self.board.job self.board.issued self.history) }
         ensures same { IfErr result (λ b. b ≡ self) }
     {
         if !self.is_complete() {
@@ -350,7 +366,8 @@ impl Book {
             × (self.new.history ≡ self.old.history ++ Claim t.number ∷ [])) }
         ensures legal { IfSome result
             (λ _. IsHistoryOf self.new.board.job self.new.board.issued self.new.history) }
-        ensures none { IfNone result ((self.old.waiting ≡ []) × (self.new ≡ self.old)) }
+        ensures none { IfNone result ((self.old.waiting ≡ [])
+            × ((table_of self.old.history).queue ≡ []) × (self.new ≡ self.old)) }
     {
         let ticket = self.parked.pop_front()?;
         let number = ticket.number as usize;

@@ -19,6 +19,8 @@ pub use board::{Board, Post, Progress, Reader};
 
 // the book
 mod book;
+mod laws;
 mod past;
 
 pub use book::{Book, Report};
+pub use laws::histories_add_up;

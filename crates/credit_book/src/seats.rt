@@ -25,9 +25,9 @@ pub struct View {
 pub struct Ruled;
 
 impl TableRule<(), View, Opening> for Ruled {
-    ghost use Rattle.credit_book.specs.Rule.{Kept, opened};
+    ghost use Rattle.credit_book.specs.Rule.{BoardRule, opened};
 
-    ghost holds = { Kept };
+    ghost holds = { BoardRule };
 
     ghost first = { opened };
 }
@@ -79,7 +79,7 @@ impl Chronicle for Brand {
     ghost history = { [] };
 }
 
-/// The step of the writer that publishes a whole history.
+/// The step of the writer that posts one end: it publishes a whole history that has grown by it.
 pub struct Publishes<J: Chronicle> {
     of: PhantomData<J>,
 }

@@ -1,7 +1,7 @@
 -- A text is cut in one way.
 use Rattle.std.proofs.Common.{◌≡◌, ◌⊎◌, inl, inr, ℕ, zero, suc, ◌+◌, ◌<◌, ◌≤◌, List, [], ◌∷◌, ◌++◌, length, get_or, take, drop, refl, sym, subst, ◌∙◌, arith}
 use Rattle.std.proofs.lemmas.List.{take_more}
-use Rattle.disassembler.specs.Cut.{IsFree, BeginsWith, IsTwo}
+use Rattle.disassembler.specs.Cut.{IsFree, StopsAtOnce, IsTwo}
 
 pub free_push : (s o : ℕ) (xs : List ℕ) (c : ℕ) → IsFree s o xs → (c ≡ s → ⊥) → (c ≡ o → ⊥) → IsFree s o (xs ++ c ∷ [])
 free_push s o [] c h n m = (n, m, tt)
@@ -10,12 +10,12 @@ free_push s o (x ∷ xs) c h n m = (h.0, h.1, free_push s o xs c h.2 n m)
 pub free_more : (s o : ℕ) (xs : List ℕ) (i : ℕ) → i < length xs → IsFree s o (take i xs) → (get_or xs i 0 ≡ s → ⊥) → (get_or xs i 0 ≡ o → ⊥) → IsFree s o (take (i + 1) xs)
 free_more s o xs i lt h n m = subst (IsFree s o) (sym (take_more xs i 0 lt)) (free_push s o (take i xs) (get_or xs i 0) h n m)
 
-pub begins_at : (s o : ℕ) (xs : List ℕ) (i : ℕ) → i < length xs → (get_or xs i 0 ≡ s) ⊎ (get_or xs i 0 ≡ o) → BeginsWith s o (drop i xs)
+pub begins_at : (s o : ℕ) (xs : List ℕ) (i : ℕ) → i < length xs → (get_or xs i 0 ≡ s) ⊎ (get_or xs i 0 ≡ o) → StopsAtOnce s o (drop i xs)
 begins_at s o [] i lt h = absurd (omega arith)
 begins_at s o (x ∷ xs) zero lt h = h
 begins_at s o (x ∷ xs) (suc i) lt h = begins_at s o xs i (omega arith) h
 
-pub cut_once : (s o : ℕ) (x p y q : List ℕ) → IsFree s o x → IsFree s o y → BeginsWith s o p → BeginsWith s o q → x ++ p ≡ y ++ q → (x ≡ y) × (p ≡ q)
+pub cut_once : (s o : ℕ) (x p y q : List ℕ) → IsFree s o x → IsFree s o y → StopsAtOnce s o p → StopsAtOnce s o q → x ++ p ≡ y ++ q → (x ≡ y) × (p ≡ q)
 cut_once s o [] p [] q a b f g e = (refl, e)
 cut_once s o [] [] (d ∷ y) q a b f g e = absurd cc
 cut_once s o [] (c ∷ p) (d ∷ y) q a b (inl f) g e = let same : d ≡ s = cc in absurd (b.0 same)
@@ -36,10 +36,10 @@ two_once ts p q p' q' a b =
     let r = cut_once 44 44 p (44 ∷ 32 ∷ q) p' (44 ∷ 32 ∷ q') a.0 b.0 (inl refl) (inl refl) (sym a.1 ∙ b.1) in
     (r.0, let e = r.1 in cc)
 
-pub two_back : (ts x p front back : List ℕ) → IsFree 44 44 x → BeginsWith 44 44 p → ts ≡ x ++ p → IsTwo ts front back → p ≡ 44 ∷ 32 ∷ back
+pub two_back : (ts x p front back : List ℕ) → IsFree 44 44 x → StopsAtOnce 44 44 p → ts ≡ x ++ p → IsTwo ts front back → p ≡ 44 ∷ 32 ∷ back
 two_back ts x p front back h g e t = (cut_once 44 44 x p front (44 ∷ 32 ∷ back) h t.0 g (inl refl) (sym e ∙ t.1)).1
 
-pub two_made : (ts x p back : List ℕ) → IsFree 44 44 x → BeginsWith 44 44 p → ts ≡ x ++ p → 2 ≤ length p → get_or p 1 0 ≡ 32 → back ≡ drop 2 p → IsTwo ts x back
+pub two_made : (ts x p back : List ℕ) → IsFree 44 44 x → StopsAtOnce 44 44 p → ts ≡ x ++ p → 2 ≤ length p → get_or p 1 0 ≡ 32 → back ≡ drop 2 p → IsTwo ts x back
 two_made ts x [] back h g e l d b = absurd (omega arith)
 two_made ts x (c ∷ []) back h g e l d b = absurd (omega arith)
 two_made ts x (c ∷ k ∷ p) back h (inl g) e l d b = (h, let q : back ≡ p = b in cc)

@@ -7,17 +7,17 @@ use Rattle.insn_codec.specs.declared.insn.Insn.TheVariants.{Alu, Mov, Neg, MovSx
 use Rattle.insn_codec.specs.Spelling.{IsInsn}
 use Rattle.disassembler.specs.Line.{line_text, tail_text, register_text, operand_text, memory_text, signed_text, joined}
 use Rattle.disassembler.specs.Words.{word_text, word_of}
-use Rattle.disassembler.specs.Cut.{IsFree, BeginsWith}
+use Rattle.disassembler.specs.Cut.{IsFree, StopsAtOnce}
 use Rattle.disassembler.proofs.Cuts.{cut_once}
 use Rattle.disassembler.proofs.Words.{word_once, word_free}
 use Rattle.disassembler.proofs.Texts.{free_register, free_operand, free_memory, one_register, one_imm, one_offset, one_short_offset, one_operand, one_memory, one_pair}
 
-pub tail_begins : (insn : Insn) → BeginsWith 32 32 (tail_text insn)
+pub tail_begins : (insn : Insn) → StopsAtOnce 32 32 (tail_text insn)
 tail_begins Exit = tt
 tail_begins insn = inl refl
 
 -- a line that is cut at its first space
-pub cut_line : (line front tail : List ℕ) → line ≡ front ++ tail → IsFree 32 32 front → BeginsWith 32 32 tail → (insn : Insn) → line ≡ line_text insn → (front ≡ word_text (word_of insn)) × (tail ≡ tail_text insn)
+pub cut_line : (line front tail : List ℕ) → line ≡ front ++ tail → IsFree 32 32 front → StopsAtOnce 32 32 tail → (insn : Insn) → line ≡ line_text insn → (front ≡ word_text (word_of insn)) × (tail ≡ tail_text insn)
 cut_line line front tail whole a b insn e = cut_once 32 32 front tail (word_text (word_of insn)) (tail_text insn) a (word_free (word_of insn)) b (tail_begins insn) (sym whole ∙ e)
 
 -- two instructions of one line have one word and the same operands

@@ -12,7 +12,7 @@ use Rattle.insn_codec.specs.declared.insn.Operand.{Operand}
 use Rattle.insn_codec.specs.declared.insn.Operand.TheVariants as operand
 use Rattle.insn_codec.specs.Spelling.{IsOperand}
 use Rattle.disassembler.specs.Line.{register_text, signed_text, operand_text, memory_text, joined}
-use Rattle.disassembler.specs.Cut.{IsFree, BeginsWith}
+use Rattle.disassembler.specs.Cut.{IsFree, StopsAtOnce}
 use Rattle.disassembler.proofs.Cuts.{cut_once}
 
 pub own : IsNumeralModel (AllDigits 10) (digits_value 10)
@@ -66,7 +66,7 @@ free_memory base offset b o = (
 pub signless : (n : ℕ) → n ≤ 10 → IsFree 43 45 (register_text n)
 signless n h = (over 114 43 (omega arith), over 114 45 (omega arith), free_digits 43 45 (λ k. absurd (omega arith)) (λ k. absurd (omega arith)) (decimal n) (digits_decimal own n (omega arith)))
 
-pub signed_first : (z : ℤ) → BeginsWith 43 45 (signed_text z)
+pub signed_first : (z : ℤ) → StopsAtOnce 43 45 (signed_text z)
 signed_first (pos n) = inl refl
 signed_first (negsuc n) = inr refl
 
@@ -131,7 +131,7 @@ one_memory m n y z fm fn fy fz e =
     let r = cut_once 43 45 (register_text m) (signed_text y ++ 93 ∷ []) (register_text n) (signed_text z ++ 93 ∷ []) (signless m fm) (signless n fn) (first y) (first z) (ap (drop 1) e) in
     (one_register m n fm fn r.0, one_short_offset y z fy fz (push_once (signed_text y) (signed_text z) 93 93 r.1))
   where
-    first : (z : ℤ) → BeginsWith 43 45 (signed_text z ++ 93 ∷ [])
+    first : (z : ℤ) → StopsAtOnce 43 45 (signed_text z ++ 93 ∷ [])
     first (pos n) = inl refl
     first (negsuc n) = inr refl
 

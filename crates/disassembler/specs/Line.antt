@@ -1,4 +1,5 @@
--- The text table: the line of an instruction. One space follows the word; operands are joined by a comma and a space.
+-- The text table: the line of an instruction. One space follows the word; operands are joined by a
+-- comma and a space.
 use Rattle.std.specs.Prelude.{ℕ, ℤ, pos, suc, List, [], ◌∷◌, ◌++◌, codes, ◌≡◌}
 use Rattle.std.specs.Fmt.{decimal, signed_decimal}
 use Rattle.std.specs.List.{flat_map, AllByRecursion}
@@ -34,7 +35,8 @@ joined front back = front ++ (codes ", " ++ back)
 
 -- a register, what it is compared with, and an offset
 abbrev pub branch_text : ℕ → Operand → ℤ → List ℕ
-branch_text dst src offset = joined (register_text dst) (joined (operand_text src) (signed_text offset))
+branch_text dst src offset =
+    joined (register_text dst) (joined (operand_text src) (signed_text offset))
 
 abbrev pub operands_text : Insn → List ℕ
 operands_text (Alu width op dst src) = joined (register_text dst) (operand_text src)
@@ -45,7 +47,8 @@ operands_text (End order size dst) = register_text dst
 operands_text (LoadWide dst value) = joined (register_text dst) (decimal value)
 operands_text (Load kind dst base offset) = joined (register_text dst) (memory_text base offset)
 operands_text (Store size base offset imm) = joined (memory_text base offset) (signed_decimal imm)
-operands_text (StoreRegister size base offset src) = joined (memory_text base offset) (register_text src)
+operands_text (StoreRegister size base offset src) =
+    joined (memory_text base offset) (register_text src)
 operands_text (Jump offset) = signed_text offset
 operands_text (Jump32 offset) = signed_text offset
 operands_text (JumpIf width condition dst src offset) = branch_text dst src offset

@@ -8,7 +8,8 @@ use Rattle.flow_graph.specs.declared.onward.Onward.{Onward}
 use Rattle.flow_graph.specs.declared.onward.Onward.TheVariants.{Steps, StepsWide, Jumps, Branches, Ends}
 use Rattle.flow_graph.specs.Onward.{onward_of}
 
--- what is wrong with a jump to this slot, by what is there: nothing, a second slot, or an instruction
+-- what is wrong with a jump to this slot, by what is there: nothing, a second slot, or an
+-- instruction
 abbrev pub landing_fault : ℕ → ℕ → Option (Option Insn) → Option FlowFault
 landing_fault slot to None = Some (JumpOut slot)
 landing_fault slot to (Some None) = Some (IntoWide slot)
@@ -32,7 +33,8 @@ abbrev pub onward_fault : Code → ℕ → Onward → Option FlowFault
 onward_fault code slot Steps = fall_fault code slot (slot + 1)
 onward_fault code slot StepsWide = fall_fault code slot (slot + 2)
 onward_fault code slot (Jumps offset) = jump_fault code slot (target slot offset)
-onward_fault code slot (Branches offset) = first (jump_fault code slot (target slot offset)) (fall_fault code slot (slot + 1))
+onward_fault code slot (Branches offset) =
+    first (jump_fault code slot (target slot offset)) (fall_fault code slot (slot + 1))
 onward_fault code slot Ends = None
 
 abbrev pub fault_of : Code → ℕ → Option Insn → Option FlowFault

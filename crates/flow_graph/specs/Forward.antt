@@ -12,7 +12,8 @@ pub record IsForward (code : Code) (slots : List ℕ) : Type 0 where
   pub short : length slots ≤ length code
   pub reached : (s : ℕ) → Begins code s → IsReached code s
 
--- The list has the slots under n where instructions begin, in their number. Their edges lead to later slots. What is marked is reached.
+-- The list has the slots under n where instructions begin, in their number. Their edges lead to
+-- later slots. What is marked is reached.
 pub record IsForwardTo (code : Code) (n : ℕ) (marks : List Bool) (order : List ℕ) : Type 0 where
   pub slots : length marks ≡ length code
   pub marked : (s : ℕ) → IsMarked marks s → IsReached code s

@@ -6,12 +6,15 @@ use Rattle.flow_graph.specs.Cycles.{IsJoint}
 abbrev pub place_at : List (Option ℕ) → ℕ → Option ℕ
 place_at places slot = slice_index_or places slot None
 
--- the table has the place of each slot that stands in the first n places, none twice, and instructions begin there
-pub record ArePlaces (code : Code) (order : List ℕ) (places : List (Option ℕ)) (n : ℕ) : Type 0 where
+-- the table has the place of each slot that stands in the first n places, none twice, and
+-- instructions begin there
+pub record ArePlaces (code : Code) (order : List ℕ) (places : List (Option ℕ)) (n : ℕ) :
+    Type 0 where
   pub slots : length places ≡ length code
   pub begins : (place : ℕ) → place < n → Begins code (slice_index order place)
   pub at : (place : ℕ) → place < n → place_at places (slice_index order place) ≡ Some place
-  pub stands : (slot place : ℕ) → place_at places slot ≡ Some place → (place < n) × (slice_index order place ≡ slot)
+  pub stands : (slot place : ℕ) → place_at places slot ≡ Some place
+      → (place < n) × (slice_index order place ≡ slot)
 
 abbrev pub IsBefore : Option ℕ → Option ℕ → Type 0
 IsBefore (Some place) (Some later) = place < later

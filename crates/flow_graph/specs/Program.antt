@@ -1,5 +1,6 @@
 -- Lists of placed instructions, as a decoder gives them, and the code that they make.
 use Rattle.std.specs.Prelude.{◌≡◌, ◌≤◌, ◌<◌, List, [], ◌∷◌, ◌++◌, length, map, Some, None}
+use Rattle.insn_codec.specs.Limits.{max_slots}
 use Rattle.insn_codec.specs.declared.insn.Insn.{Insn}
 use Rattle.insn_codec.specs.declared.insn.Insn.TheVariants.{LoadWide}
 use Rattle.insn_codec.specs.declared.insn.Placed.{Placed}
@@ -23,4 +24,4 @@ code_of (p ∷ placed) = slots_of p.insn ++ code_of placed
 pub record IsDecoded (placed : List Placed) : Type 0 where
   pub any : 0 < length placed
   pub in_turn : placed ≡ placed_from 0 (map (λ p. p.insn) placed)
-  pub few : length (code_of placed) ≤ 4096
+  pub few : length (code_of placed) ≤ max_slots

@@ -18,12 +18,14 @@ abbrev pub left_mark : Bool → ℕ
 left_mark false = 1
 left_mark true = 0
 
--- Such marks in the making: edges from marked slots and from the first end in marked ones, but for those from pending slots.
+-- Such marks in the making: edges from marked slots and from the first end in marked ones, but for
+-- those from pending slots.
 pub record AreSpread (code : Code) (from : ℕ) (marks : List Bool) (pending : List ℕ) : Type 0 where
   pub slots : length marks ≡ length code
   pub ahead : (s : ℕ) → IsMarked marks s → (path : List ℕ) × IsPath code from path s
   pub source : (s : ℕ) → IsIn pending s → (s ≡ from) ⊎ IsMarked marks s
-  pub onward : (p : ℕ) → (p ≡ from) ⊎ IsMarked marks p → IsIn pending p ⊎ ((s : ℕ) → IsJoint code p s → IsMarked marks s)
+  pub onward : (p : ℕ) → (p ≡ from) ⊎ IsMarked marks p → IsIn pending p
+      ⊎ ((s : ℕ) → IsJoint code p s → IsMarked marks s)
 
 -- The slot is marked, and pending where it wasn't marked before. Nothing else has changed.
 pub record IsMarkedOn (marks new : List Bool) (pending later : List ℕ) (slot : ℕ) : Type 0 where

@@ -1,4 +1,5 @@
--- Used by private contracts and proofs alone: a walk in depth: what it has met, the path that it is on, and what it is done with.
+-- Used by private contracts and proofs alone: a walk in depth: what it has met, the path that it is
+-- on, and what it is done with.
 use Rattle.std.specs.Prelude.{◌≡◌, ◌≢◌, ℕ, ◌+◌, ◌≤◌, ◌<◌, List, [], length, sum_by, slice_index, slice_index_or, reverse}
 use Rattle.machine_model.specs.Edges.{Code, Begins}
 use Rattle.flow_graph.specs.Cycles.{IsJoint, IsOnCycle}
@@ -17,21 +18,25 @@ mark_at marks s = slice_index_or marks s New
 pub record IsListed (marks : List Mark) (mark : Mark) (list : List ℕ) : Type 0 where
   pub marked : (place : ℕ) → place < length list → mark_at marks (slice_index list place) ≡ mark
   pub each : (s : ℕ) → mark_at marks s ≡ mark → IsIn list s
-  pub once : (p q : ℕ) → p < length list → q < length list → slice_index list p ≡ slice_index list q → p ≡ q
+  pub once : (p q : ℕ) → p < length list → q < length list → slice_index list p ≡ slice_index list q
+      → p ≡ q
 
 abbrev pub new_mark : Mark → ℕ
 new_mark New = 1
 new_mark Open = 0
 new_mark Done = 0
 
--- The path leads along edges, and those from what is done lead to what was done before. Nothing is counted twice.
+-- The path leads along edges, and those from what is done lead to what was done before. Nothing is
+-- counted twice.
 pub record IsWalk (code : Code) (marks : List Mark) (path done : List ℕ) : Type 0 where
   pub slots : length marks ≡ length code
   pub begins : (s : ℕ) → mark_at marks s ≢ New → Begins code s
   pub walked : IsListed marks Open path
   pub finished : IsListed marks Done done
-  pub along : (place : ℕ) → place + 1 < length path → IsJoint code (slice_index path place) (slice_index path (place + 1))
-  pub behind : (q s : ℕ) → q < length done → IsJoint code (slice_index done q) s → (p : ℕ) × (p < q) × (slice_index done p ≡ s)
+  pub along : (place : ℕ) → place + 1 < length path
+      → IsJoint code (slice_index path place) (slice_index path (place + 1))
+  pub behind : (q s : ℕ) → q < length done → IsJoint code (slice_index done q) s → (p : ℕ) × (p < q)
+      × (slice_index done p ≡ s)
   pub room : sum_by new_mark marks + length path + length done ≡ length code
 
 -- what was met stays met
@@ -58,7 +63,8 @@ pub record AreClear (code : Code) (marks : List Mark) : Type 0 where
 -- the walk is at its end, or at a cycle
 abbrev pub HasEnded : Code → List Mark → Walked → Type 0
 HasEnded code marks (All walk) =
-    IsWalk code walk.marks.items walk.path.items walk.done.items × (walk.path.items ≡ []) × IsFurther marks walk.marks.items
+    IsWalk code walk.marks.items walk.path.items walk.done.items × (walk.path.items ≡ [])
+    × IsFurther marks walk.marks.items
 HasEnded code marks (Cycle found slot) = AreClear code found.items × IsOnCycle code slot
 
 -- at its end the walk has met the slot
@@ -68,5 +74,6 @@ HasMet slot (Cycle found met) = Unit {0}
 
 -- what the walk was done with last stands first in an order, or there is a cycle
 abbrev pub HasWalked : Code → Walked → Type 0
-HasWalked code (All walk) = IsOrder code (reverse walk.done.items) × (length walk.done.items ≤ length code)
+HasWalked code (All walk) =
+    IsOrder code (reverse walk.done.items) × (length walk.done.items ≤ length code)
 HasWalked code (Cycle found slot) = AreClear code found.items × IsOnCycle code slot

@@ -4,6 +4,7 @@ ghost use Rattle.std.specs.Prelude.{◌≡◌, ℕ, ◌<◌, ◌≤◌, length, 
 ghost use Rattle.machine_model.specs.Edges.{target};
 ghost use Rattle.flow_graph.specs.Faults.{jump_fault, fall_fault, onward_fault, fault_at};
 ghost use Rattle.flow_graph.specs.Refusals.{Refuses};
+ghost use Rattle.insn_codec.specs.Limits.{max_slots};
 
 use crate::fault::FlowFault;
 use crate::onward::{Onward, onward_of, target};
@@ -11,7 +12,7 @@ use insn_codec::Insn;
 
 /// What is wrong with a jump.
 fn jump_fault(code: &[Option<Insn>], slot: u32, offset: i32) -> Option<FlowFault>
-    requires { slot < 4096 }
+    requires { slot < max_slots }
     ensures { result ≡ jump_fault code.now slot (target slot offset) }
 {
     let Some(to) = target(slot, offset) else {
@@ -37,7 +38,7 @@ fn fall_fault(code: &[Option<Insn>], slot: u32, to: u32) -> Option<FlowFault>
 
 /// The fault of lowest number.
 fn onward_fault(code: &[Option<Insn>], slot: u32, onward: Onward) -> Option<FlowFault>
-    requires { slot < 4096 }
+    requires { slot < max_slots }
     ensures { result ≡ onward_fault code.now slot onward }
 {
     match onward {
@@ -55,7 +56,7 @@ fn onward_fault(code: &[Option<Insn>], slot: u32, onward: Onward) -> Option<Flow
 /// The fault of lowest number at the slot.
 fn fault_at(code: &[Option<Insn>], slot: u32) -> Option<FlowFault>
     requires range { slot < length code.now }
-    requires few { length code.now ≤ 4096 }
+    requires few { length code.now ≤ max_slots }
     ensures { result ≡ fault_at code.now slot }
 {
     match &code[slot as usize] {
@@ -66,7 +67,7 @@ fn fault_at(code: &[Option<Insn>], slot: u32) -> Option<FlowFault>
 
 /// The first fault: at the lowest slot, of the lowest number.
 pub(crate) fn first_fault(code: &[Option<Insn>]) -> Option<FlowFault>
-    requires { length code.now ≤ 4096 }
+    requires { length code.now ≤ max_slots }
     ensures { MatchOption result ((slot : ℕ)
         → fault_at code.now slot ≡ None) (λ fault. Refuses code.now fault) }
 {

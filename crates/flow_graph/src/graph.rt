@@ -36,7 +36,7 @@ impl Model for Graph {
 
 impl Graph {
     ghost use Rattle.machine_model.specs.Edges.{Begins};
-    ghost use Rattle.flow_graph.specs.Flow.{AreNext, IsFlow};
+    ghost use Rattle.flow_graph.specs.Flow.{AreNext, IsFlow, IsOrder};
 
     /// The graph of a code whose edges lead onward in an order.
     pub(crate) fn of(code: Vec<Option<Insn>>, order: Vec<u32>) -> Graph
@@ -72,7 +72,8 @@ impl Graph {
 
     /// The slots where instructions begin, each once, in an order in which all edges lead onward.
     pub fn order(&self) -> &[u32]
-        ensures { result.now ≡ self.now.order }
+        ensures order { result.now ≡ self.now.order }
+        ensures onward { IsOrder self.now.code self.now.order }
     {
         &self.order
     }
@@ -89,6 +90,7 @@ impl Graph {
 ghost use Rattle.std.specs.Prelude.{◌↔◌, IsTrue};
 ghost use Rattle.machine_model.specs.Edges.{Begins};
 ghost use Rattle.flow_graph.specs.Flow.{AreNext, IsJoined, IsNext, HasTarget};
+ghost use Rattle.insn_codec.specs.Limits.{max_slots};
 
 /// The instruction that begins at the slot.
 fn insn_at(code: &[Option<Insn>], slot: u32) -> Option<&Insn>
@@ -113,7 +115,7 @@ pub(crate) fn begins_at(code: &[Option<Insn>], slot: u32) -> bool
 /// The slots that an instruction leads to which goes on in this way.
 #[inline(always)]
 fn next_after(onward: Onward, slot: u32) -> Next
-    requires slot { slot < 4096 }
+    requires slot { slot < max_slots }
     requires target { HasTarget onward slot }
     ensures { IsNext onward slot result }
 {

@@ -3,6 +3,7 @@
 ghost use Rattle.std.specs.Prelude.{◌≡◌, ◌<◌};
 ghost use Rattle.machine_model.specs.Edges.{target};
 ghost use Rattle.flow_graph.specs.Onward.{onward_of};
+ghost use Rattle.insn_codec.specs.Limits.{max_slots};
 
 use insn_codec::Insn;
 
@@ -38,7 +39,7 @@ pub(crate) fn onward_of(insn: &Insn) -> Onward
 
 /// The slot that a jump leads to, `None` where it lies below 0.
 pub(crate) fn target(slot: u32, offset: i32) -> Option<u32>
-    requires { slot < 4096 }
+    requires { slot < max_slots }
     ensures { result ≡ target slot offset }
 {
     let to = i64::from(slot) + 1 + i64::from(offset);

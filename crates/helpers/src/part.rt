@@ -1,8 +1,9 @@
 //! The bytes that a task owns.
 
-ghost use Rattle.std.specs.Prelude.{◌≡◌, ℕ, ◌+◌, ◌-◌, ◌*◌, ◌^◌, ◌<◌, ◌≤◌, [], ◌++◌, length, take, drop, replicate, sum, vec_capacity, IfOk, OnErr};
+ghost use Rattle.std.specs.Prelude.{◌≡◌, ℕ, ◌+◌, ◌-◌, ◌*◌, ◌^◌, ◌<◌, ◌≤◌, [], ◌++◌, All, length, take, drop, replicate, sum, vec_capacity, IfOk, OnErr};
 ghost use Rattle.helpers.specs.Piece.{Piece, joined_room};
 ghost use Rattle.machine_model.specs.Memory.{bytes_at, little_bytes, little_number, load_bytes, store_bytes, widened, written};
+ghost use Rattle.machine_model.specs.Limits.{max_part};
 
 use insn_codec::{LoadKind, Size};
 use machine_model::memory::{fill, load, store, sum};
@@ -21,12 +22,17 @@ pub struct Part {
 impl Model for Part {
     ghost use Rattle.std.specs.Prelude.{◌+◌, ◌^◌, ◌<◌, ◌≤◌, length, vec_capacity};
     ghost use Rattle.helpers.specs.Piece.{Piece};
+    ghost use Rattle.machine_model.specs.Limits.{max_part};
 
     ghost Value = { Piece };
 
-    ghost view = { λ p. record { base = p.base; bytes = p.bytes.items; room = vec_capacity p.bytes } };
+    ghost view = { λ p. record {
+      base = p.base;
+      bytes = p.bytes.items;
+      room = vec_capacity p.bytes;
+    } };
 
-    ghost invariant = { λ p. p.base + length p.bytes.items ≤ 65536 };
+    ghost invariant = { λ p. p.base + length p.bytes.items ≤ max_part };
 }
 
 /// Puts bytes into a buffer, from a place on.
@@ -40,7 +46,7 @@ fn put(buffer: &mut Vec<u8>, at: usize, bytes: &[u8])
 impl Part {
     /// The whole buffer, of at most 65,536 bytes.
     pub fn whole(bytes: Vec<u8>) -> Part
-        requires { length bytes.items ≤ 65536 }
+        requires { length bytes.items ≤ max_part }
         ensures base { result.base ≡ 0 }
         ensures bytes { result.bytes ≡ bytes.items }
     {
@@ -50,9 +56,11 @@ impl Part {
     /// How many bytes it has.
     pub fn len(&self) -> usize
         ensures len { result ≡ length self.now.bytes }
-        ensures small { self.now.base + length self.now.bytes ≤ 65536 }
+        ensures small { self.now.base + length self.now.bytes ≤ max_part }
+        ensures bytes { All (λ b. b < 256) self.now.bytes }
     {
-        self.bytes.len()
+        let bytes: &[u8] = &self.bytes;
+        bytes.len()
     }
 
     /// What a load gives at a place in it.
@@ -183,13 +191,15 @@ impl Part {
         }
     }
 
-    /// Gives back the room that the bytes don't need, where it is as much again as they take, or
-    /// more.
+    /// Gives back the room that the bytes don't need, where that is more than they take. So the
+    /// part has room for at most twice its bytes then.
     pub fn shed_room(&mut self)
         ensures bytes { (self.new.base ≡ self.old.base) × (self.new.bytes ≡ self.old.bytes) }
         ensures room { self.new.room ≤ self.old.room }
+        ensures kept { self.old.room - length self.old.bytes ≤ length self.old.bytes
+            → self.new.room ≡ self.old.room }
     {
-        if self.bytes.len() < self.bytes.capacity() / 2 {
+        if self.bytes.len() < self.bytes.capacity() - self.bytes.len() {
             self.bytes.shrink_to_fit();
         }
     }
@@ -209,7 +219,7 @@ impl Part {
         ensures none { self.new.bytes ≡ [] }
         ensures room { vec_capacity result ≡ self.old.room }
         ensures base { self.new.base ≡ self.old.base }
-        ensures small { self.old.base + length self.old.bytes ≤ 65536 }
+        ensures small { self.old.base + length self.old.bytes ≤ max_part }
     {
         mem::replace(&mut self.bytes, Vec::new(alloc))
     }
@@ -217,7 +227,7 @@ impl Part {
     /// Puts bytes into it in place of those that it has.
     #[inline]
     pub fn put_bytes(&mut self, bytes: Vec<u8>)
-        requires { self.old.base + length bytes.items ≤ 65536 }
+        requires { self.old.base + length bytes.items ≤ max_part }
         ensures { self.new
             ≡ record { base = self.old.base; bytes = bytes.items; room = vec_capacity bytes } }
     {

@@ -1,4 +1,5 @@
--- Used by private contracts and proofs alone: the row of a slot, worked out from its fields: the table of `Table` read backwards.
+-- Used by private contracts and proofs alone: the row of a slot, worked out from its fields: the
+-- table of `Table` read backwards.
 use Rattle.std.specs.Prelude.{ℕ, ◌/◌, ◌%◌, Option, Some, None, ◌==◌, ◌&&◌, if◌then◌else◌, option_map, option_and_then}
 use Rattle.insn_codec.specs.declared.slot.Slot.{Slot}
 use Rattle.insn_codec.specs.declared.insn.Width.{Width}
@@ -29,21 +30,28 @@ alu_op_at code offset =
     if code == 0 then Some Add else (
     if code == 1 then Some Sub else (
     if code == 2 then Some Mul else (
-    if code == 3 then (if offset == 0 then Some Div else (if offset == 1 then Some Sdiv else None)) else (
+    if code == 3 then (if offset == 0 then Some Div else (if offset == 1 then Some Sdiv else None))
+    else (
     if code == 4 then Some Or else (
     if code == 5 then Some And else (
     if code == 6 then Some Lsh else (
     if code == 7 then Some Rsh else (
-    if code == 9 then (if offset == 0 then Some Mod else (if offset == 1 then Some Smod else None)) else (
+    if code == 9 then (if offset == 0 then Some Mod else (if offset == 1 then Some Smod else None))
+    else (
     if code == 10 then Some Xor else (
     if code == 12 then Some Arsh else None))))))))))
 
 abbrev pub extension_at : Width → ℕ → Option SignExtension
-extension_at W32 offset = if offset == 8 then Some From8To32 else (if offset == 16 then Some From16To32 else None)
-extension_at W64 offset = if offset == 8 then Some From8To64 else (if offset == 16 then Some From16To64 else (if offset == 32 then Some From32To64 else None))
+extension_at W32 offset = if offset ==
+    8 then Some From8To32 else (if offset == 16 then Some From16To32 else None)
+extension_at W64 offset = if offset ==
+    8 then Some From8To64 else (if offset == 16 then Some From16To64
+    else (if offset == 32 then Some From32To64 else None))
 
 abbrev pub end_size_at : ℕ → Option EndSize
-end_size_at imm = if imm == 16 then Some Bits16 else (if imm == 32 then Some Bits32 else (if imm == 64 then Some Bits64 else None))
+end_size_at imm = if imm ==
+    16 then Some Bits16
+    else (if imm == 32 then Some Bits32 else (if imm == 64 then Some Bits64 else None))
 
 abbrev pub condition_at : ℕ → Option Condition
 condition_at code =
@@ -94,7 +102,8 @@ extension_row width Imm offset = None
 extension_row width Reg offset = option_map MovSx (extension_at width offset)
 
 abbrev pub mov_at : Width → Source → ℕ → Option Operation
-mov_at width source offset = if offset == 0 then Some (Mov width source) else extension_row width source offset
+mov_at width source offset = if offset ==
+    0 then Some (Mov width source) else extension_row width source offset
 
 abbrev pub alu_op_row : Width → Source → Option AluOp → Option Operation
 alu_op_row width source o = option_map (λ op. Alu width op source) o
@@ -122,7 +131,8 @@ jump_at width s = jump_row width s (condition_at (s.opcode / 16))
 
 unfoldable pub operation_at : Slot → Option Operation
 operation_at s =
-    if s.opcode % 8 == 0 then (if (s.opcode == 0x18) && (s.src == 0) then Some LoadWide else None) else (
+    if s.opcode % 8 == 0 then (if (s.opcode == 0x18) && (s.src == 0) then Some LoadWide else None)
+    else (
     if s.opcode % 8 == 1 then option_map Load (load_at (s.opcode / 8)) else (
     if s.opcode % 8 == 2 then option_map Store (size_at (s.opcode / 8)) else (
     if s.opcode % 8 == 3 then option_map StoreRegister (size_at (s.opcode / 8)) else (

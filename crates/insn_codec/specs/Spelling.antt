@@ -2,6 +2,7 @@
 use Rattle.std.specs.Prelude.{◌≡◌, ◌≢◌, ◌⊎◌, ℕ, ◌+◌, ◌*◌, ◌/◌, ◌%◌, ◌<◌, ◌≤◌, ◌^◌, List, [], ◌∷◌, ◌++◌, length, drop, map, unwrap_or, FitsSigned}
 use Rattle.std.specs.List.{flat_map, AllByRecursion}
 use Rattle.std.specs.Int.{w16, w32, cast_unsigned}
+use Rattle.insn_codec.specs.Limits.{max_slots}
 use Rattle.insn_codec.specs.declared.slot.Slot.{Slot}
 use Rattle.insn_codec.specs.declared.insn.Operand.{Operand}
 use Rattle.insn_codec.specs.declared.insn.Operand.TheVariants as operand
@@ -20,7 +21,8 @@ use Rattle.insn_codec.specs.Table.{opcode_of, selecting_offset, extended_bits, e
 -- ---- spellings
 
 abbrev pub slot : Operation → ℕ → ℕ → ℕ → ℕ → Slot
-slot op dst src offset imm = record { opcode = opcode_of op; dst = dst; src = src; offset = offset; imm = imm }
+slot op dst src offset imm =
+    record { opcode = opcode_of op; dst = dst; src = src; offset = offset; imm = imm }
 
 -- the second operand: where it stands, and what the fields src and imm hold of it
 abbrev pub operand_source : Operand → Source
@@ -54,18 +56,24 @@ row_of Exit = row.Exit
 
 -- the fields of the first slot of an instruction: dst, src, offset, imm
 abbrev pub first_slot : Insn → Slot
-first_slot (Alu w op dst src) = slot (row.Alu w op (operand_source src)) dst (operand_src src) (unwrap_or (selecting_offset op) 0) (operand_imm src)
-first_slot (Mov w dst src) = slot (row.Mov w (operand_source src)) dst (operand_src src) 0 (operand_imm src)
+first_slot (Alu w op dst src) = slot (row.Alu w op (operand_source src)) dst (operand_src src)
+    (unwrap_or (selecting_offset op) 0) (operand_imm src)
+first_slot (Mov w dst src) =
+    slot (row.Mov w (operand_source src)) dst (operand_src src) 0 (operand_imm src)
 first_slot (MovSx e dst src) = slot (row.MovSx e) dst src (extended_bits e) 0
 first_slot (Neg w dst) = slot (row.Neg w) dst 0 0 0
 first_slot (End order size dst) = slot (row.End order size) dst 0 0 (end_bits size)
 first_slot (LoadWide dst value) = slot row.LoadWide dst 0 0 (value % 2 ^ 32)
 first_slot (Load kind dst base offset) = slot (row.Load kind) dst base (cast_unsigned w16 offset) 0
-first_slot (Store size base offset imm) = slot (row.Store size) base 0 (cast_unsigned w16 offset) (cast_unsigned w32 imm)
-first_slot (StoreRegister size base offset src) = slot (row.StoreRegister size) base src (cast_unsigned w16 offset) 0
+first_slot (Store size base offset imm) =
+    slot (row.Store size) base 0 (cast_unsigned w16 offset) (cast_unsigned w32 imm)
+first_slot (StoreRegister size base offset src) =
+    slot (row.StoreRegister size) base src (cast_unsigned w16 offset) 0
 first_slot (Jump offset) = slot row.Jump 0 0 (cast_unsigned w16 offset) 0
 first_slot (Jump32 offset) = slot row.Jump32 0 0 0 (cast_unsigned w32 offset)
-first_slot (JumpIf w c dst src offset) = slot (row.JumpIf w c (operand_source src)) dst (operand_src src) (cast_unsigned w16 offset) (operand_imm src)
+first_slot (JumpIf w c dst src offset) =
+    slot (row.JumpIf w c (operand_source src)) dst (operand_src src) (cast_unsigned w16 offset)
+    (operand_imm src)
 first_slot (Call helper) = slot row.Call 0 0 0 helper
 first_slot Exit = slot row.Exit 0 0 0 0
 
@@ -90,7 +98,8 @@ spellings insns = flat_map spelling insns
 -- the instructions with their slots, of which the first is n
 abbrev pub placed_from : ℕ → List Insn → List Placed
 placed_from n [] = []
-placed_from n (insn ∷ insns) = record { slot = n; insn = insn } ∷ placed_from (n + length (slots_of insn)) insns
+placed_from n (insn ∷ insns) =
+    record { slot = n; insn = insn } ∷ placed_from (n + length (slots_of insn)) insns
 
 -- ---- values that have a spelling
 
@@ -129,7 +138,8 @@ HasBadRegister s = (op : Operation) × IsRow op s × (RegistersAreNamed (uses_of
 abbrev pub HasUnused : Slot → List ℕ → Type 0
 HasUnused s after =
     (op : Operation) × IsRow op s × RegistersAreNamed (uses_of op) s
-    × ((UnusedAreZero (uses_of op) s → ⊥) ⊎ ((op ≡ row.LoadWide) × (0 < length after) × ((imm : ℕ) → slot_at after ≢ half imm)))
+    × ((UnusedAreZero (uses_of op) s → ⊥)
+    ⊎ ((op ≡ row.LoadWide) × (0 < length after) × ((imm : ℕ) → slot_at after ≢ half imm)))
 
 abbrev pub IsHalfWide : Slot → List ℕ → Type 0
 IsHalfWide s after = IsClean row.LoadWide s × (after ≡ [])
@@ -142,22 +152,27 @@ pub record StandsAt (slot : ℕ) (bytes rest : List ℕ) (before : List Insn) : 
   pub more : 0 < length rest
 
 abbrev pub IsAt : ℕ → List ℕ → (List ℕ → Type 0) → Type 0
-IsAt slot bytes P = (before : List Insn) × (rest : List ℕ) × StandsAt slot bytes rest before × P rest
+IsAt slot bytes P = (before : List Insn) × (rest : List ℕ) × StandsAt slot bytes rest before
+    × P rest
 
 -- a length that a program may have
 pub record IsWhole (bytes : List ℕ) : Type 0 where
   pub some : 0 < length bytes
   pub even : length bytes % 8 ≡ 0
-  pub short : length bytes ≤ 8 * 4096
+  pub short : length bytes ≤ 8 * max_slots
 
 abbrev pub IsRefusal : CodecFault → List ℕ → Type 0
 IsRefusal fault.Empty bytes = bytes ≡ []
 IsRefusal fault.Ragged bytes = length bytes % 8 ≢ 0
-IsRefusal fault.TooLong bytes = (length bytes % 8 ≡ 0) × (8 * 4096 < length bytes)
-IsRefusal (fault.UnknownOp slot) bytes = IsWhole bytes × IsAt slot bytes (λ rest. IsUnknown (slot_at rest))
-IsRefusal (fault.BadRegister slot) bytes = IsWhole bytes × IsAt slot bytes (λ rest. HasBadRegister (slot_at rest))
-IsRefusal (fault.UnusedField slot) bytes = IsWhole bytes × IsAt slot bytes (λ rest. HasUnused (slot_at rest) (drop 8 rest))
-IsRefusal (fault.HalfWide slot) bytes = IsWhole bytes × IsAt slot bytes (λ rest. IsHalfWide (slot_at rest) (drop 8 rest))
+IsRefusal fault.TooLong bytes = (length bytes % 8 ≡ 0) × (8 * max_slots < length bytes)
+IsRefusal (fault.UnknownOp slot) bytes =
+    IsWhole bytes × IsAt slot bytes (λ rest. IsUnknown (slot_at rest))
+IsRefusal (fault.BadRegister slot) bytes =
+    IsWhole bytes × IsAt slot bytes (λ rest. HasBadRegister (slot_at rest))
+IsRefusal (fault.UnusedField slot) bytes =
+    IsWhole bytes × IsAt slot bytes (λ rest. HasUnused (slot_at rest) (drop 8 rest))
+IsRefusal (fault.HalfWide slot) bytes =
+    IsWhole bytes × IsAt slot bytes (λ rest. IsHalfWide (slot_at rest) (drop 8 rest))
 IsRefusal fault.NoMemory bytes = IsWhole bytes
 
 -- the program that bytes spell
@@ -170,6 +185,6 @@ pub record IsProgram (placed : List Placed) (bytes : List ℕ) : Type 0 where
 -- why a list of instructions has no bytes
 abbrev pub IsUnspelled : CodecFault → List Insn → Type 0
 IsUnspelled fault.Empty insns = insns ≡ []
-IsUnspelled fault.TooLong insns = 8 * 4096 < length (spellings insns)
+IsUnspelled fault.TooLong insns = 8 * max_slots < length (spellings insns)
 IsUnspelled fault.NoMemory insns = IsWhole (spellings insns)
 IsUnspelled fault insns = ⊥

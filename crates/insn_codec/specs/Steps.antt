@@ -28,7 +28,8 @@ StepFault HalfWide rest = IsHalfWide (slot_at rest) (drop 8 rest)
 abbrev pub FieldFault : SlotFault → Slot → Type 0
 FieldFault UnknownOp s = IsUnknown s
 FieldFault BadRegister s = HasBadRegister s
-FieldFault UnusedField s = (op : Operation) × IsRow op s × RegistersAreNamed (uses_of op) s × (UnusedAreZero (uses_of op) s → ⊥)
+FieldFault UnusedField s = (op : Operation) × IsRow op s × RegistersAreNamed (uses_of op) s
+    × (UnusedAreZero (uses_of op) s → ⊥)
 FieldFault HalfWide s = ⊥
 
 abbrev pub high_slots : Operation → ℕ → List Slot
@@ -61,7 +62,8 @@ HalfFault HalfWide after = after ≡ []
 
 -- the instruction's spelling is at the front
 abbrev pub BeginsWith : Insn → List ℕ → Type 0
-BeginsWith insn rest = IsInsn insn × (8 * length (slots_of insn) ≤ length rest) × (rest ≡ spelling insn ++ drop (8 * length (slots_of insn)) rest)
+BeginsWith insn rest = IsInsn insn × (8 * length (slots_of insn) ≤ length rest)
+    × (rest ≡ spelling insn ++ drop (8 * length (slots_of insn)) rest)
 
 abbrev pub fault_at : SlotFault → ℕ → CodecFault
 fault_at UnknownOp slot = fault.UnknownOp slot

@@ -1,4 +1,5 @@
--- The opcode table (RFC 9669, sections 3 to 5), row by row: the opcode, the fields that choose the operation, and those it uses.
+-- The opcode table (RFC 9669, sections 3 to 5), row by row: the opcode, the fields that choose the
+-- operation, and those it uses.
 use Rattle.std.specs.Prelude.{◌≡◌, ℕ, ◌+◌, ◌*◌, ◌≤◌, Bool, true, false, Option, Some, None, IfSome, is_some}
 use Rattle.insn_codec.specs.declared.slot.Slot.{Slot}
 use Rattle.insn_codec.specs.declared.insn.Width.{Width}
@@ -127,7 +128,8 @@ opcode_of (Store size) = 32 * 3 + 8 * size_code size + 2
 opcode_of (StoreRegister size) = 32 * 3 + 8 * size_code size + 3
 opcode_of Jump = 5
 opcode_of Jump32 = 6
-opcode_of (JumpIf width condition source) = 16 * condition_code condition + 8 * source_code source + jump_class width
+opcode_of (JumpIf width condition source) =
+    16 * condition_code condition + 8 * source_code source + jump_class width
 opcode_of Call = 16 * 8 + 5
 opcode_of Exit = 16 * 9 + 5
 
@@ -164,7 +166,8 @@ is_imm Reg = false
 -- The fields that a row uses, or that choose it: all but those of the column Unused. A src that
 -- chooses is 0, and counts as unused.
 abbrev pub uses_of : Operation → Uses
-uses_of (Alu width op source) = uses true (is_register source) (is_some (selecting_offset op)) (is_imm source)
+uses_of (Alu width op source) =
+    uses true (is_register source) (is_some (selecting_offset op)) (is_imm source)
 uses_of (Mov width source) = uses true (is_register source) true (is_imm source)
 uses_of (Neg width) = uses true false false false
 uses_of (MovSx extension) = uses true true true false

@@ -8,6 +8,7 @@ ghost use Rattle.insn_codec.specs.Steps.{IsSpelledBy, StepFault, FieldFault, Hal
 
 use crate::fault::CodecFault;
 use crate::insn::{AluOp, Condition, Insn, LoadKind, Operand, Placed, Size, Width};
+use crate::limits::MAX_SLOTS;
 use crate::operation::{
     Operation, Source, fields_used, operation_from, registers_are_named, unused_are_zero,
 };
@@ -243,7 +244,7 @@ pub fn decode(alloc: Global, bytes: &[u8]) -> Result<Vec<Placed>, CodecFault>
     if bytes.len() % 8 != 0 {
         return Err(CodecFault::Ragged);
     }
-    if bytes.len() > 8 * 4096 {
+    if bytes.len() > 8 * MAX_SLOTS {
         return Err(CodecFault::TooLong);
     }
     let mut placed = Vec::with_capacity(alloc, bytes.len() / 8)?;

@@ -4,11 +4,13 @@ ghost use Rattle.std.specs.Prelude.{◌≡◌, unwrap_or, ◌++◌, ◌≤◌, �
 ghost use Rattle.insn_codec.specs.Layout.{FitsSlot, slot_bytes};
 ghost use Rattle.insn_codec.specs.Table.{opcode_of, code_of, selecting_offset, condition_code, size_code, load_code, extended_bits, end_bits, source_code, alu_class, jump_class};
 ghost use Rattle.insn_codec.specs.Spelling.{first_slot, row_of, operand_source, operand_src, operand_imm, spelling, spellings, IsWhole, IsUnspelled};
+ghost use Rattle.insn_codec.specs.Limits.{max_slots};
 
 use crate::fault::CodecFault;
 use crate::insn::{
     AluOp, ByteOrder, Condition, EndSize, Insn, LoadKind, Operand, SignExtension, Size, Width,
 };
+use crate::limits::MAX_SLOTS;
 use crate::operation::{Operation, Source};
 use crate::slot::{Slot, bytes_of_slot};
 use std::alloc::{AllocError, Global};
@@ -342,12 +344,12 @@ fn push_insn(bytes: &mut Vec<u8>, insn: &Insn) -> Result<(), AllocError>
 
 /// Whether a program may not have that many slots.
 fn is_too_long(insns: &[Insn]) -> bool
-    ensures { IsTrue result ↔ (8 * 4096 < length (spellings insns.now)) }
+    ensures { IsTrue result ↔ (8 * max_slots < length (spellings insns.now)) }
 {
     let mut slots = 0;
     for insn in insns {
         slots += insn.slots();
-        if slots > 4096 {
+        if slots as usize > MAX_SLOTS {
             return true;
         }
     }

@@ -6,6 +6,7 @@ mod encoder;
 mod fault;
 mod insn;
 mod laws;
+mod limits;
 mod operation;
 mod register;
 mod slot;
@@ -18,4 +19,5 @@ pub use insn::{
     Width,
 };
 pub use laws::{nothing_refused, one_refusal, one_spelling};
+pub use limits::MAX_SLOTS;
 pub use register::Register;

@@ -1,7 +1,7 @@
 pub mod Telling
 pub mod Operands
 pub mod Access
-pub mod Behind
+pub mod Representation
 pub mod Stretch
 pub mod Children
-pub mod Whoever
+pub mod StepEffectForAll

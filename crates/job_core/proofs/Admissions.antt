@@ -7,11 +7,11 @@ use Rattle.helpers.specs.Table.{job_table}
 use Rattle.verifier.specs.declared.refusals.Refusal.{Refusal}
 use Rattle.verifier.specs.declared.refusals.Refusal.TheVariants.{NeedTooLarge, Codec, Flow, UnsetRead, OutOfStack, OutOfPart, BadKind, PointerRange, FramePointer, NoHelper, NoMemory}
 use Rattle.verifier.specs.Checked.{Checked}
-use Rattle.verifier.specs.Refusals.{Refuses}
+use Rattle.verifier.specs.Refusals.{RefusesProgram}
 use Rattle.job_core.specs.declared.admission.ProgramBytes.{ProgramBytes}
 use Rattle.job_core.specs.Admitted.{AreOwn}
 use Rattle.job_core.proofs.Simulates.{some_within}
-use Rattle.job_core.specs.Admission.{Accepts, RefusesProgram, AreAccepted, IsFirstRefused, IsFirstFault, fault_of}
+use Rattle.job_core.specs.Admission.{Accepts, IsRefusedProgram, AreAccepted, IsFirstRefused, IsProgramFault, fault_of}
 
 -- the first of the programs are accepted, so many
 pub record AreAcceptedTo (programs : List ProgramBytes) (count : ℕ) (accepted : List Checked) : Type 0 where
@@ -41,7 +41,7 @@ pub accepted_all : (programs : List ProgramBytes) (count : ℕ) (accepted : List
 accepted_all programs count accepted so_far all = record { count = so_far.many ∙ all; each = so_far.each }
 
 first_refused : (programs : List ProgramBytes) (count : ℕ) (accepted : List Checked) (p : ProgramBytes) (refusal : Refusal) →
-    AreAcceptedTo programs count accepted → slice_get programs count ≡ Some p → RefusesProgram p refusal →
+    AreAcceptedTo programs count accepted → slice_get programs count ≡ Some p → IsRefusedProgram p refusal →
     IsFirstRefused programs count refusal
 first_refused programs count accepted p refusal so_far is refuses = record {
   refused = (p, is, refuses);
@@ -55,8 +55,8 @@ first_refused programs count accepted p refusal so_far is refuses = record {
   by_cases n q lt e (inr (past, none)) = absurd (omega (arith, past, lt, so_far.many))
 
 pub first_fault : (programs : List ProgramBytes) (count : ℕ) (accepted : List Checked) (p : ProgramBytes) (refusal : Refusal) →
-    AreAcceptedTo programs count accepted → slice_get programs count ≡ Some p → Refuses p.need p.code.items job_table refusal →
-    IsFirstFault programs (fault_of count refusal)
+    AreAcceptedTo programs count accepted → slice_get programs count ≡ Some p → RefusesProgram p.need p.code.items job_table refusal →
+    IsProgramFault programs (fault_of count refusal)
 first_fault programs count accepted p NeedTooLarge so_far is refuses = first_refused programs count accepted p NeedTooLarge so_far is refuses
 first_fault programs count accepted p (Codec fault) so_far is refuses = first_refused programs count accepted p (Codec fault) so_far is refuses
 first_fault programs count accepted p (Flow fault) so_far is refuses = first_refused programs count accepted p (Flow fault) so_far is refuses

@@ -12,7 +12,7 @@ use Rattle.credit_book.specs.declared.event.Event.TheVariants.{End}
 use Rattle.credit_book.specs.declared.event.Standing.{Standing}
 use Rattle.credit_book.specs.declared.event.Stage.TheVariants.{Fresh, Ended}
 use Rattle.credit_book.specs.declared.event.TaskEnd.{TaskEnd}
-use Rattle.credit_book.specs.History.{Table, IsComplete, after, is_alive, standing_at, task_at, table_of, spent_in, returned_in}
+use Rattle.credit_book.specs.History.{TaskTable, IsComplete, after, is_alive, standing_at, task_at, table_of, spent_in, returned_in}
 use Rattle.credit_book.specs.Books.{spawn_event}
 use Rattle.credit_book.specs.Buffers.{buffer_of}
 use Rattle.credit_book.proofs.Histories.{table_of-push}
@@ -89,7 +89,7 @@ module _ (h h' : List Event) (n k : ℕ) (child : SpawnRecord) (is : h' ≡ h ++
   standings_spawned lives live after are here leaves =
       let new : Standing = record { held = child.share; stage = Fresh } in
       let left : live.credit.held - child.share ≡ after.credit.held = omega (arith, leaves) in
-      ap (λ (t : Table). t.standings) spawned_table
+      ap (λ (t : TaskTable). t.standings) spawned_table
       ∙ ap (λ (x : Standing). let y : Standing = record { held = x.held - child.share; stage = x.stage } in set (table_of h).standings n y ++ new ∷ [])
       (standing_there lives h n (Some live) are here)
       ∙ ap (λ (m : ℕ). let y : Standing = record { held = m; stage = Fresh } in set (table_of h).standings n y ++ new ∷ []) left
@@ -98,7 +98,7 @@ module _ (h h' : List Event) (n k : ℕ) (child : SpawnRecord) (is : h' ≡ h ++
       ∙ sym (map-append standing_of (set lives n (Some after)) (Some (live_of child) ∷ []))
 
   pub spawned_tasks : (table_of h').tasks ≡ (table_of h).tasks ++ entered k child ∷ []
-  spawned_tasks = ap (λ (t : Table). t.tasks) spawned_table
+  spawned_tasks = ap (λ (t : TaskTable). t.tasks) spawned_table
 
   pub spawned_spent : spent_in (table_of h') ≡ spent_in (table_of h)
   spawned_spent =
@@ -121,7 +121,7 @@ module _ (h h' : List Event) (n used word base : ℕ) (bytes : List ℕ) (is : h
 
   pub standings_ended : (lives : List (Option Live)) → AreStandings lives h → AreStandings (set lives n None) h'
   standings_ended lives are =
-      ap (λ (t : Table). t.standings) ended_table
+      ap (λ (t : TaskTable). t.standings) ended_table
       ∙ ap (λ (ss : List Standing). set ss n gone) are
       ∙ sym (map-set standing_of lives n None)
 
@@ -132,7 +132,7 @@ module _ (h h' : List Event) (n used word base : ℕ) (bytes : List ℕ) (is : h
 
     pub ended_tasks : (table_of h').tasks ≡ set (table_of h).tasks n noted
     ended_tasks =
-        ap (λ (t : Table). t.tasks) ended_table
+        ap (λ (t : TaskTable). t.tasks) ended_table
         ∙ ap (λ (e : TaskEnd). let x : TaskEnd = record e { spent = used; rest = (standing_at (table_of h) n).held - used; r0 = word; ran = true } in set (table_of h).tasks n x)
         (get_or_from_slice_get (table_of h).tasks n entry (task_at (record { standings = []; tasks = []; queue = [] }) 0) there)
         ∙ ap (λ (m : ℕ). let x : TaskEnd = record entry { spent = used; rest = m - used; r0 = word; ran = true } in set (table_of h).tasks n x) holds

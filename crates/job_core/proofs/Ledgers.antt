@@ -5,9 +5,9 @@ use Rattle.std.proofs.lemmas.List.{set-append_left, set-get_or, set-set}
 use Rattle.machine_model.specs.declared.program.Entry.{Entry}
 use Rattle.machine_model.specs.Value.{Registers}
 use Rattle.machine_model.specs.Memory.{written}
-use Rattle.machine_model.specs.Machine.{State, Effect, Goes, Ends, Spawns, Calls, Traps, effect}
-use Rattle.machine_model.specs.Job as job
-use Rattle.machine_model.specs.Job.{Job}
+use Rattle.machine_model.specs.Machine.{State, Effect, Continues, Ends, Spawns, Calls, Traps, effect}
+use Rattle.machine_model.specs.JobState as job
+use Rattle.machine_model.specs.JobState.{JobState}
 use Rattle.machine_model.proofs.Costs.{price_le_cost}
 use Rattle.machine_model.proofs.Keeps.{Keeps, keeps_effect}
 use Rattle.machine_model.proofs.OwnHelpers.{own_effect}
@@ -19,9 +19,9 @@ use Rattle.interpreter.specs.declared.credit.Credit.{Credit}
 use Rattle.interpreter.specs.declared.frame.Frame.{Frame}
 use Rattle.interpreter.specs.declared.frame.StepOut.{StepOut}
 use Rattle.interpreter.specs.declared.frame.StepOut.TheVariants.{Went, Ended}
-use Rattle.interpreter.specs.Behind.{AreBehind, IsCovered, state_of, Did}
+use Rattle.interpreter.specs.Representation.{RepresentsTask, IsCovered, state_of, StepEffect}
 use Rattle.interpreter.specs.Children.{MayHandOver}
-use Rattle.interpreter.proofs.Steps.{price_some}
+use Rattle.machine_model.proofs.Pays.{price_some}
 use Rattle.helpers.specs.Piece.{Piece}
 use Rattle.credit_book.specs.declared.event.Event.{Event}
 use Rattle.credit_book.specs.declared.event.Event.TheVariants.{End}
@@ -36,7 +36,7 @@ use Rattle.job_core.specs.declared.live.Live.{Live}
 use Rattle.job_core.specs.declared.tasks.Stepped.TheVariants as stepped
 use Rattle.job_core.specs.Keeping.{AreStandings}
 use Rattle.job_core.specs.Seats.{Enters, live_of}
-use Rattle.job_core.specs.Behind.{Kept, AreEntries, end_of, IsBehind, Steps}
+use Rattle.job_core.specs.Representation.{WorldState, AreEntries, end_of, RepresentsJob, Steps}
 use Rattle.job_core.proofs.Adding.{Adds, entered}
 use Rattle.job_core.proofs.Booking.{standing_there, standings_long, standings_quiet, standings_spawned, standings_ended, spawned_tasks, spawned_spent, spawned_returned, spawned_buffer, ended_tasks, ended_spent, ended_returned, ended_buffer}
 use Rattle.job_core.proofs.OwnPrograms.{nobody, own_did, own_table}
@@ -89,8 +89,8 @@ hands_over programs known lives h n turn held live entries are here same holds =
 pub did_held : (E : Type 0) (p : Checked) (e : Effect) (out : StepOut) (frame : Frame) (part : Piece) (credit : Credit) (held : ℕ) (silent : Type 0)
     (told : SpawnRecord → Result (Unit {0}) SpawnRecord → Type 0) → Keeps held e → (silent → credit.held ≡ held → E) →
     ((child : SpawnRecord) → told child (Ok tt) → credit.held + child.share ≡ held → E) →
-    ((child : SpawnRecord) → told child (Err child) → credit.held ≡ held → E) → Did p e out frame part credit silent told nobody → E
-did_held E p (Goes s) Went frame part credit held silent told keeps first second third d =
+    ((child : SpawnRecord) → told child (Err child) → credit.held ≡ held → E) → StepEffect p e out frame part credit silent told nobody → E
+did_held E p (Continues s) Went frame part credit held silent told keeps first second third d =
     first d.1 (sym (ap (λ (t : State). t.held) d.0.0) ∙ keeps)
 did_held E p (Ends r0 s) (Ended word) frame part credit held silent told keeps first second third d =
     first d.2 (sym (ap (λ (t : State). t.held) d.1) ∙ keeps.1)
@@ -102,7 +102,7 @@ did_held E p (Spawns birth taken refused) Went frame part credit held silent tol
       let left : credit.held ≡ held = sym (ap (λ (u : State). u.held) r.0.0) ∙ keeps.1 in
       elim r.1 [ inl back ↦ third back.0 back.2 left | inr quiet ↦ first quiet left ]
 ]
-did_held E p (Goes s) (Ended word) frame part credit held silent told keeps first second third d = absurd d
+did_held E p (Continues s) (Ended word) frame part credit held silent told keeps first second third d = absurd d
 did_held E p (Ends r0 s) Went frame part credit held silent told keeps first second third d = absurd d
 did_held E p (Spawns birth taken refused) (Ended word) frame part credit held silent told keeps first second third d = absurd d
 did_held E p (Calls helper arguments s) Went frame part credit held silent told keeps first second third d = absurd d.2
@@ -112,7 +112,7 @@ did_held E p (Traps trap) out frame part credit held silent told keeps first sec
 -- ---- the ledger ahead of a step, and behind it
 
 -- The task of the number is out of its place, and it is its turn. The ledger has what is kept of the others, and its book what is kept of all.
-pub record IsTaken (kept : Kept) (n : ℕ) (ledger : Ledger) : Type 0 where
+pub record IsTaken (kept : WorldState) (n : ℕ) (ledger : Ledger) : Type 0 where
   pub entries : ledger.entries.items ≡ kept.entries
   pub lives : ledger.lives.items ≡ set kept.lives n None
   pub turn : ledger.turn ≡ n
@@ -125,7 +125,7 @@ pub record IsTaken (kept : Kept) (n : ℕ) (ledger : Ledger) : Type 0 where
   pub booked : AreStandings kept.lives ledger.book.history
 
 -- a step has left the ledger with at most one place more
-pub record IsLeft (kept : Kept) (n : ℕ) (after : Live) (ledger : Ledger) : Type 0 where
+pub record IsLeft (kept : WorldState) (n : ℕ) (after : Live) (ledger : Ledger) : Type 0 where
   pub entries : ledger.entries.items ≡ kept.entries
   pub turn : ledger.turn ≡ n
   pub collected : collected_of ledger ≡ kept.collected
@@ -140,25 +140,25 @@ pub same_set : {X : Type 0} (xs : List X) (n : ℕ) (x : X) → slice_get xs n �
 same_set xs n x here = ap (set xs n) (sym (get_or_from_slice_get xs n x x here)) ∙ set-get_or xs n x
 
 -- what is kept, by its parts
-kept_is : (k : Kept) (entries : List Entry) (lives lives' : List (Option Live)) (ends ends' : List TaskEnd) (parents : List ℕ) (collected collected' : List ℕ)
+kept_is : (k : WorldState) (entries : List Entry) (lives lives' : List (Option Live)) (ends ends' : List TaskEnd) (parents : List ℕ) (collected collected' : List ℕ)
     (spent spent' returned returned' issued : ℕ) →
     lives ≡ lives' → ends ≡ ends' → collected ≡ collected' → spent ≡ spent' → returned ≡ returned' → k.issued ≡ issued →
-    let a : Kept = record k { entries = entries; lives = lives; ends = ends; parents = parents; collected = collected; spent = spent; returned = returned } in
-    let b : Kept = record k { entries = entries; lives = lives'; ends = ends'; parents = parents; collected = collected'; spent = spent'; returned = returned'; issued = issued } in a ≡ b
+    let a : WorldState = record k { entries = entries; lives = lives; ends = ends; parents = parents; collected = collected; spent = spent; returned = returned } in
+    let b : WorldState = record k { entries = entries; lives = lives'; ends = ends'; parents = parents; collected = collected'; spent = spent'; returned = returned'; issued = issued } in a ≡ b
 kept_is k entries lives lives' ends ends' parents collected collected' spent spent' returned returned' issued e1 e2 e3 e4 e5 e6 = rw (e1, e2, e3, e4, e5, ← e6) refl
 
-module _ (kept : Kept) (n : ℕ) (live : Live) (p : Checked) (out : StepOut) (after : Live) (old new : Ledger)
+module _ (kept : WorldState) (n : ℕ) (live : Live) (p : Checked) (out : StepOut) (after : Live) (old new : Ledger)
     (here : slice_get kept.lives n ≡ Some (Some live)) (read : p ≡ get_or kept.programs live.program p) (base : after.part.base ≡ live.part.base)
     (same_number : after.program ≡ live.program) (taken : IsTaken kept n old)
-    (did : (registers : Registers) → AreBehind p live.frame registers →
-    Did p (effect (program_of p) (slice_get old.entries.items) (state_of live.frame live.part live.credit registers)) out after.frame after.part after.credit
+    (did : (registers : Registers) → RepresentsTask p live.frame registers →
+    StepEffect p (effect (program_of p) (slice_get old.entries.items) (state_of live.frame live.part live.credit registers)) out after.frame after.part after.credit
     (new ≡ old) (Told old new) (Asked old new)) where
-  same_program : (j : Job) (at : IsLiveAt kept j n live) → p ≡ at.checked
+  same_program : (j : JobState) (at : IsLiveAt kept j n live) → p ≡ at.checked
   same_program j at = read ∙ get_or_from_slice_get kept.programs live.program at.checked p at.program
 
   -- what the step did, in a program that calls a job's helpers alone
-  own : (j : Job) (at : IsLiveAt kept j n live) (registers : Registers) → AreBehind p live.frame registers →
-      Did p (effect (program_of p) (slice_get old.entries.items) (state_of live.frame live.part live.credit registers)) out after.frame after.part after.credit
+  own : (j : JobState) (at : IsLiveAt kept j n live) (registers : Registers) → RepresentsTask p live.frame registers →
+      StepEffect p (effect (program_of p) (slice_get old.entries.items) (state_of live.frame live.part live.credit registers)) out after.frame after.part after.credit
       (new ≡ old) (Told old new) nobody
   own j at registers stands =
       let table : p.helpers ≡ job_table = ap (λ (q : Checked). q.helpers) (same_program j at) ∙ at.own in
@@ -166,14 +166,14 @@ module _ (kept : Kept) (n : ℕ) (live : Live) (p : Checked) (out : StepOut) (af
       (own_effect (program_of p) (slice_get old.entries.items) (state_of live.frame live.part live.credit registers) (own_table p table))
       (did registers stands)
 
-  cases : (E : Type 0) (j : Job) (at : IsLiveAt kept j n live) → (new ≡ old → after.credit.held ≡ live.credit.held → E) →
+  cases : (E : Type 0) (j : JobState) (at : IsLiveAt kept j n live) → (new ≡ old → after.credit.held ≡ live.credit.held → E) →
       ((child : SpawnRecord) → Told old new child (Ok tt) → after.credit.held + child.share ≡ live.credit.held → E) →
       ((child : SpawnRecord) → Told old new child (Err child) → after.credit.held ≡ live.credit.held → E) → E
   cases E j at first second third =
       let registers : Registers = at.task.registers in
       did_held E p _ out after.frame after.part after.credit live.credit.held (new ≡ old) (Told old new)
       (keeps_effect (program_of p) (slice_get old.entries.items) (state_of live.frame live.part live.credit registers)) first second third
-      (own j at registers (subst (λ (q : Checked). AreBehind q live.frame registers) (sym (same_program j at)) at.is.behind))
+      (own j at registers (subst (λ (q : Checked). RepresentsTask q live.frame registers) (sym (same_program j at)) at.is.behind))
 
   within : n < length kept.lives
   within = slice_get_within kept.lives n (Some live) here
@@ -230,14 +230,14 @@ module _ (kept : Kept) (n : ℕ) (live : Live) (p : Checked) (out : StepOut) (af
             (standings_spawned old.book.history new.book.history n k child history kept.lives live after taken.booked here leaves);
       }
 
-  pub left : (j : Job) → IsBehind kept j → IsLeft kept n after new
+  pub left : (j : JobState) → RepresentsJob kept j → IsLeft kept n after new
   left j behind =
       cases (IsLeft kept n after new) j (live_at kept j n live behind here)
       (λ e holds. subst (λ (l : Ledger). IsLeft kept n after l) (sym e) (same_left holds old refl refl refl refl refl refl))
       child_left
       (λ child told holds. same_left holds new told.0 told.1 told.2 told.3 told.4.0 told.4.2)
 
-  pub grows : (j : Job) → IsBehind kept j → n < length new.lives.items
+  pub grows : (j : JobState) → RepresentsJob kept j → n < length new.lives.items
   grows j behind = slice_get_within new.lives.items n None (left j behind).out
 
   quiet : new ≡ old → (new.lives.items ≡ set kept.lives n None) × (ends_of new ≡ kept.ends) × (new.parents.items ≡ kept.parents)
@@ -262,7 +262,7 @@ module _ (kept : Kept) (n : ℕ) (live : Live) (p : Checked) (out : StepOut) (af
   abbrev settled : Live
   settled = record { program = live.program; frame = after.frame; part = after.part; credit = after.credit }
 
-  pub ledger_went : (j : Job) → IsBehind kept j → out ≡ Went → IsCovered p after.frame after.part after.credit →
+  pub ledger_went : (j : JobState) → RepresentsJob kept j → out ≡ Went → IsCovered p after.frame after.part after.credit →
       Steps kept j n stepped.Went (record kept {
         entries = new.entries.items;
         lives = set new.lives.items n (Some after);
@@ -278,15 +278,15 @@ module _ (kept : Kept) (n : ℕ) (live : Live) (p : Checked) (out : StepOut) (af
       let same = left j behind in
       let s = steps_went kept j n live behind at after.frame after.part after.credit base new.lives.items (ends_of new) new.parents.items (new ≡ old) (Told old new) quiet heard
       p (slice_get old.entries.items) new.entries.items (same_program j at) (λ i. ap (λ es. slice_get es i) taken.entries) same.entries covered
-      (λ registers stands. subst (λ (o : StepOut). Did p (effect (program_of p) (slice_get old.entries.items) (state_of live.frame live.part live.credit registers)) o after.frame after.part after.credit (new ≡ old) (Told old new) nobody) is (own j at registers stands)) in
-      subst (λ (k : Kept). Steps kept j n stepped.Went k)
+      (λ registers stands. subst (λ (o : StepOut). StepEffect p (effect (program_of p) (slice_get old.entries.items) (state_of live.frame live.part live.credit registers)) o after.frame after.part after.credit (new ≡ old) (Told old new) nobody) is (own j at registers stands)) in
+      subst (λ (k : WorldState). Steps kept j n stepped.Went k)
       (kept_is kept new.entries.items (set new.lives.items n (Some settled)) (set new.lives.items n (Some after)) (ends_of new) (ends_of new) new.parents.items
       kept.collected (collected_of new) kept.spent (spent_in (table_of new.book.history)) kept.returned (returned_in (table_of new.book.history)) new.book.board.issued
       (ap (λ (l : Live). set new.lives.items n (Some l)) (ap (λ (n : ℕ). let l : Live = record after { program = n } in l) (sym same_number))) refl
       (sym same.collected) (sym same.spent) (sym same.returned) (sym same.issued)) s
 
   -- what the end in the book asks, and what it leaves
-  pub record Ending (j : Job) (word : ℕ) : Type 0 where
+  pub record Ending (j : JobState) (word : ℕ) : Type 0 where
     pub standing : standing_at (table_of new.book.history) n ≡ record { held = after.credit.held; stage = Fresh }
     pub used : after.credit.used ≤ after.credit.held
     pub booked : (h : List Event) → h ≡ new.book.history ++ End n after.credit.used word true after.part.base after.part.bytes ∷ [] → AreStandings new.lives.items h
@@ -303,13 +303,13 @@ module _ (kept : Kept) (n : ℕ) (live : Live) (p : Checked) (out : StepOut) (af
           issued = book.board.issued;
         })
 
-  pub ledger_ended : (j : Job) → IsBehind kept j → (word : ℕ) → out ≡ Ended word → Ending j word
+  pub ledger_ended : (j : JobState) → RepresentsJob kept j → (word : ℕ) → out ≡ Ended word → Ending j word
   ledger_ended j behind word is =
       let at = live_at kept j n live behind here in
       let same = left j behind in
       let s = steps_ended kept j n live behind at after.frame after.part after.credit base new.lives.items (ends_of new) new.parents.items (new ≡ old) (Told old new) quiet heard
       p (slice_get old.entries.items) new.entries.items word (same_program j at) (λ i. ap (λ es. slice_get es i) taken.entries) same.entries
-      (λ registers stands. subst (λ (o : StepOut). Did p (effect (program_of p) (slice_get old.entries.items) (state_of live.frame live.part live.credit registers)) o after.frame after.part after.credit (new ≡ old) (Told old new) nobody) is (own j at registers stands)) in
+      (λ registers stands. subst (λ (o : StepOut). StepEffect p (effect (program_of p) (slice_get old.entries.items) (state_of live.frame live.part live.credit registers)) o after.frame after.part after.credit (new ≡ old) (Told old new) nobody) is (own j at registers stands)) in
       let grown = grows j behind in
       let h = new.book.history in
       let put : slice_get (set new.lives.items n (Some after)) n ≡ Some (Some after) = set_same new.lives.items n (Some after) grown in
@@ -330,7 +330,7 @@ module _ (kept : Kept) (n : ℕ) (live : Live) (p : Checked) (out : StepOut) (af
             subst (λ (ls : List (Option Live)). AreStandings ls h') back
             (standings_ended h h' n after.credit.used word after.part.base after.part.bytes e (set new.lives.items n (Some after)) same.booked);
         steps = λ book board size e.
-            subst (λ (k : Kept). Steps kept j n (stepped.Ended word) k)
+            subst (λ (k : WorldState). Steps kept j n (stepped.Ended word) k)
             (kept_is kept new.entries.items new.lives.items new.lives.items (set (ends_of new) n (ended_end n at.task after.credit word)) (table_of book.history).tasks new.parents.items
             (written kept.collected after.part.base after.part.bytes) (buffer_of book.size book.history)
             (kept.spent + after.credit.used) (spent_in (table_of book.history))

@@ -2,16 +2,16 @@
 use Rattle.std.proofs.Common.{◌≡◌, ℕ, suc, ◌<◌, List, length, map, set, slice_get, refl, sym, subst, ◌∙◌, arith, ap, Bool, true, false, Option, Some, option_map}
 use Rattle.std.proofs.lemmas.Option.{slice_get_within, slice_get-map}
 use Rattle.machine_model.specs.Edges.{Fact, Always, IsEdge}
-use Rattle.machine_model.specs.Machine.{State, Program, Effect, Goes, Ends, Spawns, Calls, Traps, effect}
+use Rattle.machine_model.specs.Machine.{State, Program, Effect, Continues, Ends, Spawns, Calls, Traps, effect}
 use Rattle.machine_model.specs.Following.{FollowsEdge}
-use Rattle.machine_model.specs.Job as job
-use Rattle.machine_model.specs.Job.{Job, Task, applied, child_of, entries_of, ending_of, member_step, state_in, step, task_step, with_state}
+use Rattle.machine_model.specs.JobState as job
+use Rattle.machine_model.specs.JobState.{JobState, Task, applied, child_of, entries_of, ending_of, member_step, state_in, step, task_step, with_state}
 use Rattle.machine_model.proofs.Costs.{cost_edge, price_le_cost}
 use Rattle.machine_model.proofs.FollowingLemmas.{follows_edge}
 use Rattle.machine_model.proofs.Places.{set_same, push_old}
 use Rattle.verifier.specs.Checked.{Checked, program_of, cost_at}
-use Rattle.interpreter.proofs.Steps.{price_some}
-use Rattle.job_core.specs.Behind.{Kept, IsBehind}
+use Rattle.machine_model.proofs.Pays.{price_some}
+use Rattle.job_core.specs.Representation.{WorldState, RepresentsJob}
 
 -- there is one live task under a number
 one_live : (tasks : List job.Member) (n : ℕ) (t u : Task) → slice_get tasks n ≡ Some (job.Live t) → slice_get tasks n ≡ Some (job.Live u) → u ≡ t
@@ -22,8 +22,8 @@ no_live : (tasks : List job.Member) (n : ℕ) (x : job.Ending) (u : Task) → sl
 no_live tasks n x u here there = let clash : Some (job.Ended x) ≡ Some (job.Live u) = sym here ∙ there in cc
 
 -- what one of two equal jobs has under a number, the other has too
-same_member : (x k : Job) (n : ℕ) (m : job.Member) → Some x ≡ Some k → slice_get x.tasks n ≡ Some m → slice_get k.tasks n ≡ Some m
-same_member x k n m e is = let same : x ≡ k = cc in subst (λ (y : Job). slice_get y.tasks n ≡ Some m) same is
+same_member : (x k : JobState) (n : ℕ) (m : job.Member) → Some x ≡ Some k → slice_get x.tasks n ≡ Some m → slice_get k.tasks n ≡ Some m
+same_member x k n m e is = let same : x ≡ k = cc in subst (λ (y : JobState). slice_get y.tasks n ≡ Some m) same is
 
 -- the task is at the end of an edge of its program
 record IsAlong (p : Program) (t u : Task) : Type 0 where
@@ -32,13 +32,13 @@ record IsAlong (p : Program) (t u : Task) : Type 0 where
   program : u.program ≡ t.program
 
 -- what the effect makes of a task that goes on is at the end of an edge
-module _ (p : Program) (j k : Job) (n : ℕ) (t u : Task) (within : n < length j.tasks) (there : slice_get k.tasks n ≡ Some (job.Live u)) where
+module _ (p : Program) (j k : JobState) (n : ℕ) (t u : Task) (within : n < length j.tasks) (there : slice_get k.tasks n ≡ Some (job.Live u)) where
   at_end : (v : Task) (fact : Fact) → slice_get k.tasks n ≡ Some (job.Live v) → IsEdge p.code t.slot fact v.slot → v.program ≡ t.program → IsAlong p t u
   at_end v fact at edge same =
       subst (λ (x : Task). IsAlong p t x) (sym (one_live k.tasks n v u at there)) (record { fact = fact; edge = edge; program = same })
 
   along : (refuses : Bool) (e : Effect) → FollowsEdge p.code t.slot e → applied j n t refuses e ≡ Some k → IsAlong p t u
-  along refuses (Goes s) follows is =
+  along refuses (Continues s) follows is =
       at_end (with_state t s) follows.0 (same_member _ k n (job.Live (with_state t s)) is (set_same j.tasks n (job.Live (with_state t s)) within)) follows.1 refl
   along refuses (Ends r0 s) follows is =
       absurd (no_live k.tasks n (ending_of t s r0) u
@@ -60,7 +60,7 @@ module _ (p : Program) (j k : Job) (n : ℕ) (t u : Task) (within : n < length j
       along refuses (effect p (entries_of programs) (state_in j.buffer t)) (follows_edge p (entries_of programs) (state_in j.buffer t)) stepped
 
 -- what a live task has ahead of it is more than nothing
-pub some_ahead : (kept : Kept) (j : Job) (n : ℕ) (t : Task) (p : Checked) → IsBehind kept j → slice_get j.tasks n ≡ Some (job.Live t) →
+pub some_ahead : (kept : WorldState) (j : JobState) (n : ℕ) (t : Task) (p : Checked) → RepresentsJob kept j → slice_get j.tasks n ≡ Some (job.Live t) →
     slice_get kept.programs t.program ≡ Some p → 0 < cost_at p t.slot
 some_ahead kept j n t p behind there program =
     let is = behind.kept_are.each n (job.Live t) there in
@@ -74,7 +74,7 @@ some_ahead kept j n t p behind there program =
     subst (λ (q : Checked). 0 < cost_at q t.slot) one (subst (λ s. 0 < cost_at is.checked s) (sym slot) ahead)
 
 -- a task that is alive after its step is one of the same program, and has less ahead of it
-pub less_ahead : (kept : Kept) (j k : Job) (n : ℕ) (refuses : Bool) (t u : Task) (p : Checked) → IsBehind kept j →
+pub less_ahead : (kept : WorldState) (j k : JobState) (n : ℕ) (refuses : Bool) (t u : Task) (p : Checked) → RepresentsJob kept j →
     step (map program_of kept.programs) j n refuses ≡ Some k → slice_get j.tasks n ≡ Some (job.Live t) → slice_get k.tasks n ≡ Some (job.Live u) →
     slice_get kept.programs t.program ≡ Some p → (u.program ≡ t.program) × (cost_at p u.slot < cost_at p t.slot)
 less_ahead kept j k n refuses t u p behind stepped there then own =

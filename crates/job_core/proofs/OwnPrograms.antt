@@ -1,7 +1,7 @@
 -- A job's programs call no helper of a caller's.
 use Rattle.std.proofs.Common.{◌≡◌, ℕ, zero, suc, ◌<◌, ◌≤◌, ◌-◌, List, arith, Bool, true, false, Some, None, nat_lt, Result, if◌then◌else◌, Option}
 use Rattle.std.specs.Prelude.{slice_index_or}
-use Rattle.machine_model.specs.Machine.{Effect, Goes, Ends, Spawns, Calls, Traps}
+use Rattle.machine_model.specs.Machine.{Effect, Continues, Ends, Spawns, Calls, Traps}
 use Rattle.machine_model.proofs.OwnHelpers.{IsOwn, HasOwnHelpers}
 use Rattle.helpers.specs.Piece.{Piece}
 use Rattle.helpers.specs.Table.{job_table, own_arity}
@@ -11,7 +11,7 @@ use Rattle.interpreter.specs.declared.frame.Frame.{Frame}
 use Rattle.interpreter.specs.declared.credit.Credit.{Credit}
 use Rattle.interpreter.specs.declared.frame.StepOut.{StepOut}
 use Rattle.interpreter.specs.declared.frame.StepOut.TheVariants.{Went, Ended}
-use Rattle.interpreter.specs.Behind.{Did}
+use Rattle.interpreter.specs.Representation.{StepEffect}
 
 own_id : (id arity : ℕ) → own_arity id ≡ Some arity → (0 < id) × (id ≤ 5)
 own_id zero arity is = cc
@@ -38,9 +38,9 @@ own_table p e = rw e (λ id arity is. own_by id arity (nat_lt id 64) is)
 -- what its step did
 pub own_did : (p : Checked) (e : Effect) (out : StepOut) (frame : Frame) (part : Piece) (credit : Credit) (silent : Type 0)
     (told : SpawnRecord → Result (Unit {0}) SpawnRecord → Type 0) (called : ℕ → List ℕ → ℕ → Type 0) → IsOwn e →
-    Did p e out frame part credit silent told called → Did p e out frame part credit silent told nobody
-own_did p (Goes s) Went frame part credit silent told called own d = d
-own_did p (Goes s) (Ended word) frame part credit silent told called own d = d
+    StepEffect p e out frame part credit silent told called → StepEffect p e out frame part credit silent told nobody
+own_did p (Continues s) Went frame part credit silent told called own d = d
+own_did p (Continues s) (Ended word) frame part credit silent told called own d = d
 own_did p (Ends r0 s) Went frame part credit silent told called own d = d
 own_did p (Ends r0 s) (Ended word) frame part credit silent told called own d = d
 own_did p (Spawns birth taken refused) Went frame part credit silent told called own d = d

@@ -5,10 +5,10 @@ use Rattle.credit_book.specs.Books.{IsReport}
 use Rattle.credit_book.specs.declared.book.Report.{Report}
 use Rattle.credit_book.specs.declared.event.TaskEnd.{TaskEnd}
 use Rattle.std.specs.Prelude.{List}
-use Rattle.machine_model.specs.Job.{Job, IsComplete}
+use Rattle.machine_model.specs.JobState.{JobState, IsComplete}
 use Rattle.job_core.specs.declared.tasks.Tasks.{Tasks}
 use Rattle.job_core.specs.Keeping.{kept_of}
-use Rattle.job_core.specs.Behind.{IsBehind}
+use Rattle.job_core.specs.Representation.{RepresentsJob}
 use Rattle.job_core.specs.Answers.{IsReportOf}
 use Rattle.job_core.proofs.Buffers.{collected_all}
 use Rattle.job_core.proofs.Plays.{complete_is}
@@ -18,7 +18,7 @@ pub in_some : {X : Type 0} {P Q : X → Type 0} (o : Option X) → IfSome o P �
 in_some None is follows = tt
 in_some (Some x) is follows = follows x refl is
 
-pub report_of : (tasks : Tasks) (j : Job) (report : Report) → IsBehind (kept_of tasks) j → IsComplete j →
+pub report_of : (tasks : Tasks) (j : JobState) (report : Report) → RepresentsJob (kept_of tasks) j → IsComplete j →
     IsReport tasks.ledger.book.size tasks.ledger.book.history report → IsReportOf report j
 report_of tasks j report behind complete is = record {
   spent = is.spent ∙ behind.kept_are.spent;

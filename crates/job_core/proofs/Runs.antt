@@ -5,18 +5,18 @@ use Rattle.std.proofs.lemmas.List.{append-nil, append_assoc, length-drop, replic
 use Rattle.std.proofs.Math.Seq.{take-length}
 use Rattle.machine_model.specs.Value.{Registers}
 use Rattle.machine_model.specs.Machine.{State, effect}
-use Rattle.machine_model.specs.Job as job
-use Rattle.machine_model.specs.Job.{Job, Task}
+use Rattle.machine_model.specs.JobState as job
+use Rattle.machine_model.specs.JobState.{JobState, Task}
 use Rattle.machine_model.proofs.Places.{set_same}
 use Rattle.verifier.specs.Checked.{Checked, program_of, cost_at}
 use Rattle.interpreter.specs.declared.frame.Next.{Next}
 use Rattle.interpreter.specs.declared.frame.Next.TheVariants.{At, Ended}
 use Rattle.helpers.specs.Piece.{Piece}
 use Rattle.interpreter.specs.declared.frame.Frame.{Frame}
-use Rattle.interpreter.specs.Behind.{AreBehind, IsCovered, Did, at_slot, out_of, slot_after, state_of}
+use Rattle.interpreter.specs.Representation.{RepresentsTask, IsCovered, StepEffect, at_slot, out_of, slot_after, state_of}
 use Rattle.interpreter.specs.declared.credit.Credit.{Credit}
 use Rattle.interpreter.specs.Children.{MayHandOver}
-use Rattle.interpreter.specs.Stretch.{GoesOn, Ran, spent_on}
+use Rattle.interpreter.specs.Stretch.{ContinuesFor, Ran, spent_on}
 use Rattle.credit_book.specs.Books.{spawn_event}
 use Rattle.credit_book.specs.History.{May, table_of}
 use Rattle.job_core.specs.declared.ledger.Ledger.{Ledger}
@@ -24,7 +24,7 @@ use Rattle.job_core.specs.declared.live.Live.{Live}
 use Rattle.job_core.specs.declared.tasks.Stepped.{Stepped}
 use Rattle.job_core.specs.declared.tasks.Stepped.TheVariants as stepped
 use Rattle.job_core.specs.declared.tasks.Tasks.{Tasks}
-use Rattle.job_core.specs.Behind.{Kept, IsBehind, LeadsOn, Plays, Steps}
+use Rattle.job_core.specs.Representation.{WorldState, RepresentsJob, LeadsOn, Plays, Steps}
 use Rattle.job_core.specs.Keeping.{kept_of, AreStandings}
 use Rattle.job_core.proofs.Booking.{standings_alike}
 use Rattle.job_core.proofs.Ledgers.{Told, Asked, Ending, IsTaken, hands_over, ledger_went, ledger_ended, left, same_set}
@@ -34,14 +34,14 @@ use Rattle.job_core.proofs.Onward.{less_ahead, some_ahead}
 
 -- ---- runs that lead on
 
-pub leads_none : (kept : Kept) → LeadsOn kept [] kept
+pub leads_none : (kept : WorldState) → LeadsOn kept [] kept
 leads_none kept = record {
   programs = refl;
   plays = λ j schedule plays. subst (λ ns. Plays kept.programs j ns kept) (sym (append-nil schedule)) plays;
 }
 
-pub leads_more : (old mid new : Kept) (numbers : List ℕ) (n : ℕ) (out : Stepped) → LeadsOn old numbers mid → new.programs ≡ mid.programs →
-    ((j : Job) → IsBehind mid j → Steps mid j n out new) → LeadsOn old (numbers ++ n ∷ []) new
+pub leads_more : (old mid new : WorldState) (numbers : List ℕ) (n : ℕ) (out : Stepped) → LeadsOn old numbers mid → new.programs ≡ mid.programs →
+    ((j : JobState) → RepresentsJob mid j → Steps mid j n out new) → LeadsOn old (numbers ++ n ∷ []) new
 leads_more old mid new numbers n out so_far same steps = record {
   programs = same ∙ so_far.programs;
   plays = λ j schedule plays. subst (λ ns. Plays old.programs j ns new) (append_assoc schedule numbers (n ∷ []))
@@ -49,14 +49,14 @@ leads_more old mid new numbers n out so_far same steps = record {
 }
 
 -- what leads on leads from each run on
-pub plays_led : (programs : List Checked) (j : Job) (schedule numbers : List ℕ) (old new : Kept) →
+pub plays_led : (programs : List Checked) (j : JobState) (schedule numbers : List ℕ) (old new : WorldState) →
     Plays programs j schedule old → LeadsOn old numbers new → Plays programs j (schedule ++ numbers) new
 plays_led programs j schedule numbers old new plays leads =
     subst (λ ps. Plays ps j (schedule ++ numbers) new) plays.same_programs
     (leads.plays j schedule (subst (λ ps. Plays ps j schedule old) (sym plays.same_programs) plays))
 
 -- a job stands behind what is led to
-pub behind_led : (old new : Kept) (numbers : List ℕ) (j : Job) → IsBehind old j → LeadsOn old numbers new → (k : Job) × IsBehind new k
+pub behind_led : (old new : WorldState) (numbers : List ℕ) (j : JobState) → RepresentsJob old j → LeadsOn old numbers new → (k : JobState) × RepresentsJob new k
 behind_led old new numbers j behind leads =
     let plays = leads.plays j [] (plays_none old.programs j old refl behind) in (plays.last, plays.behind)
 
@@ -69,7 +69,7 @@ pub take_named : (schedule : List ℕ) (gone n : ℕ) → gone < length schedule
 take_named schedule gone n lt named = take_more schedule gone 0 lt ∙ ap (λ k. take gone schedule ++ k ∷ []) named
 
 -- entries that name no live task change nothing
-pub leads_skips : (kept : Kept) (schedule : List ℕ) (n : ℕ) → ((j : Job) → IsBehind kept j → Steps kept j n stepped.Skipped kept) →
+pub leads_skips : (kept : WorldState) (schedule : List ℕ) (n : ℕ) → ((j : JobState) → RepresentsJob kept j → Steps kept j n stepped.Skipped kept) →
     (k : ℕ) → k ≤ length schedule → ((i : ℕ) → i < k → get_or schedule i 0 ≡ n) → LeadsOn kept (take k schedule) kept
 leads_skips kept schedule n steps zero fits named = leads_none kept
 leads_skips kept schedule n steps (suc k) fits named =
@@ -102,29 +102,29 @@ abbrev pub living_at : Live → ℕ → Live
 living_at live slot = record live { frame = at_slot live.frame slot }
 
 -- what is kept with the task in its place
-abbrev pub standing : Kept → ℕ → Live → Kept
+abbrev pub standing : WorldState → ℕ → Live → WorldState
 standing kept n live = record kept { lives = set kept.lives n (Some live) }
 
 -- The task is out of its place. With it there, what was kept leads on along these numbers to what is kept.
-pub record IsUnderWay (old now : Kept) (numbers : List ℕ) (n : ℕ) (live : Live) (slot : ℕ) (code : Checked) : Type 0 where
+pub record IsUnderWay (old now : WorldState) (numbers : List ℕ) (n : ℕ) (live : Live) (slot : ℕ) (code : Checked) : Type 0 where
   pub out : slice_get now.lives n ≡ Some None
   pub read : code ≡ get_or now.programs live.program code
-  pub behind : (j : Job) × IsBehind (standing now n (living_at live slot)) j
+  pub behind : (j : JobState) × RepresentsJob (standing now n (living_at live slot)) j
   pub leads : LeadsOn old numbers (standing now n (living_at live slot))
 
 -- the task is taken from its place
-pub sets_out : (kept : Kept) (n : ℕ) (live : Live) (code : Checked) → slice_get kept.lives n ≡ Some (Some live) →
-    code ≡ get_or kept.programs live.program code → (j : Job) × IsBehind kept j →
+pub sets_out : (kept : WorldState) (n : ℕ) (live : Live) (code : Checked) → slice_get kept.lives n ≡ Some (Some live) →
+    code ≡ get_or kept.programs live.program code → (j : JobState) × RepresentsJob kept j →
     IsUnderWay kept (record kept { lives = set kept.lives n None }) [] n live live.frame.slot code
 sets_out kept n live code here read behind =
     let back : kept.lives ≡ set (set kept.lives n None) n (Some live) =
     sym (set-set kept.lives n None (Some live) ∙ same_set kept.lives n (Some live) here) in
     let same : kept ≡ standing (record kept { lives = set kept.lives n None }) n live =
-    ap (λ ls. let k : Kept = record kept { lives = ls } in k) back in
+    ap (λ ls. let k : WorldState = record kept { lives = ls } in k) back in
     record {
       out = set_same kept.lives n None (slice_get_within kept.lives n (Some live) here);
       read = read;
-      behind = (behind.0, subst (λ k. IsBehind k behind.0) same behind.1);
+      behind = (behind.0, subst (λ k. RepresentsJob k behind.0) same behind.1);
       leads = subst (λ k. LeadsOn kept [] k) same (leads_none kept);
     }
 
@@ -133,12 +133,12 @@ pub record IsRunning (tasks : Tasks) (n : ℕ) (live : Live) : Type 0 where
   pub turn : tasks.ledger.turn ≡ n
   pub booked : AreStandings (set tasks.ledger.lives.items n (Some live)) tasks.ledger.book.history
 
-module _ (old : Kept) (tasks : Tasks) (numbers : List ℕ) (n : ℕ) (live : Live) (slot : ℕ) (code : Checked)
+module _ (old : WorldState) (tasks : Tasks) (numbers : List ℕ) (n : ℕ) (live : Live) (slot : ℕ) (code : Checked)
     (way : IsUnderWay old (kept_of tasks) numbers n live slot code) where
   pub within : n < length tasks.ledger.lives.items
   within = slice_get_within tasks.ledger.lives.items n None way.out
 
-  abbrev pub place : Kept
+  abbrev pub place : WorldState
   place = standing (kept_of tasks) n (living_at live slot)
 
   pub here : slice_get place.lives n ≡ Some (Some (living_at live slot))
@@ -152,7 +152,7 @@ module _ (old : Kept) (tasks : Tasks) (numbers : List ℕ) (n : ℕ) (live : Liv
       subst (λ (p : Checked). IsCovered p (at_slot live.frame slot) live.part live.credit) (sym same) at.is.covered
 
   -- the task behind it
-  own : (j : Job) → IsBehind place j →
+  own : (j : JobState) → RepresentsJob place j →
       (t : Task) × (slice_get j.tasks n ≡ Some (job.Live t)) × (slice_get place.programs t.program ≡ Some code) × (t.slot ≡ slot)
   own j behind =
       let at = live_at place j n (living_at live slot) behind here in
@@ -191,14 +191,14 @@ module _ (old : Kept) (tasks : Tasks) (numbers : List ℕ) (n : ℕ) (live : Liv
       live.credit.held live way.behind.1.entries running.booked (set_same tasks.ledger.lives.items n (Some live) within) running.turn refl
 
   module _ (running : IsRunning tasks n live) (next : Next) (after : Live) (ledger : Ledger) (base : after.part.base ≡ live.part.base) (same_number : after.program ≡ live.program)
-      (did : (registers : Registers) → AreBehind code (at_slot live.frame slot) registers →
-      Did code (effect (program_of code) (slice_get tasks.ledger.entries.items) (state_of (at_slot live.frame slot) live.part live.credit registers))
+      (did : (registers : Registers) → RepresentsTask code (at_slot live.frame slot) registers →
+      StepEffect code (effect (program_of code) (slice_get tasks.ledger.entries.items) (state_of (at_slot live.frame slot) live.part live.credit registers))
       (out_of next) (at_slot after.frame (slot_after slot next)) after.part after.credit
       (ledger ≡ tasks.ledger) (Told tasks.ledger ledger) (Asked tasks.ledger ledger)) where
     abbrev pub then_at : Live
     then_at = living_at after (slot_after slot next)
 
-    abbrev pub then_kept : Kept
+    abbrev pub then_kept : WorldState
     then_kept = kept_of (record tasks { ledger = ledger })
 
     -- it goes on
@@ -207,7 +207,7 @@ module _ (old : Kept) (tasks : Tasks) (numbers : List ℕ) (n : ℕ) (live : Liv
         × (cost_at code to < cost_at code slot)
     way_on to is covered =
         let reached : slot_after slot next ≡ to = ap (slot_after slot) is in
-        let steps : (j : Job) → IsBehind place j → Steps place j n stepped.Went (standing then_kept n then_at) = λ j behind.
+        let steps : (j : JobState) → RepresentsJob place j → Steps place j n stepped.Went (standing then_kept n then_at) = λ j behind.
         ledger_went place n (living_at live slot) code (out_of next) then_at tasks.ledger ledger here way.read base same_number
         (taken running) did j behind (ap out_of is)
         (subst (λ s. IsCovered code (at_slot after.frame s) after.part after.credit) (sym reached) covered) in
@@ -238,7 +238,7 @@ module _ (old : Kept) (tasks : Tasks) (numbers : List ℕ) (n : ℕ) (live : Liv
         )
 
     -- it ends
-    pub way_ends : (j : Job) → IsBehind place j → (word : ℕ) → next ≡ Ended word →
+    pub way_ends : (j : JobState) → RepresentsJob place j → (word : ℕ) → next ≡ Ended word →
         Ending place n (living_at live slot) code (out_of next) then_at tasks.ledger ledger here way.read base same_number
         (taken running) did j word
     way_ends j behind word is =
@@ -260,7 +260,7 @@ running_on tasks n live k frame part running = record {
 }
 
 -- no instruction, and so the same task
-no_stretch : (old now : Kept) (numbers ns : List ℕ) (n : ℕ) (live : Live) (slot : ℕ) (code : Checked) → IsUnderWay old now numbers n live slot code →
+no_stretch : (old now : WorldState) (numbers ns : List ℕ) (n : ℕ) (live : Live) (slot : ℕ) (code : Checked) → IsUnderWay old now numbers n live slot code →
     numbers ≡ ns → IsUnderWay old now ns n (living_on live 0 (at_slot live.frame slot) live.part) slot code
 no_stretch old now numbers ns n live slot code way same =
     let none : living_at live slot ≡ living_on live 0 (at_slot live.frame slot) live.part =
@@ -268,15 +268,15 @@ no_stretch old now numbers ns n live slot code way same =
     record {
       out = way.out;
       read = way.read;
-      behind = (way.behind.0, subst (λ (l : Live). IsBehind (standing now n l) way.behind.0) none way.behind.1);
+      behind = (way.behind.0, subst (λ (l : Live). RepresentsJob (standing now n l) way.behind.0) none way.behind.1);
       leads = subst (λ ms. LeadsOn old ms (standing now n (living_on live 0 (at_slot live.frame slot) live.part))) same
           (subst (λ (l : Live). LeadsOn old numbers (standing now n l)) none way.leads);
     }
 
-module _ (old : Kept) (tasks : Tasks) (schedule : List ℕ) (gone n : ℕ) (live : Live) (slot : ℕ) (code : Checked)
+module _ (old : WorldState) (tasks : Tasks) (schedule : List ℕ) (gone n : ℕ) (live : Live) (slot : ℕ) (code : Checked)
     (way : IsUnderWay old (kept_of tasks) (take gone schedule) n live slot code) (running : IsRunning tasks n live) where
   -- it goes on by so many instructions, where as many entries name it
-  pub way_stretch : (k : ℕ) (mid : Frame) (mid_part : Piece) → GoesOn code live.credit k (at_slot live.frame slot) live.part mid mid_part →
+  pub way_stretch : (k : ℕ) (mid : Frame) (mid_part : Piece) → ContinuesFor code live.credit k (at_slot live.frame slot) live.part mid mid_part →
       gone + k ≤ length schedule → ((i : ℕ) → i < gone + k → get_or schedule i 0 ≡ n) →
       IsUnderWay old (kept_of tasks) (take (gone + k) schedule) n (living_on live k mid mid_part) mid.slot code
       × (mid_part.base ≡ live.part.base) × (k + cost_at code mid.slot ≤ cost_at code slot)

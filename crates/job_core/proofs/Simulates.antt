@@ -5,10 +5,10 @@ use Rattle.std.proofs.lemmas.List.{take-take, drop-take, drop-drop, set-append_l
 use Rattle.std.proofs.lemmas.List.Sums.{sum_by-append, sum_by-cons}
 use Rattle.std.proofs.Math.Seq.{take-append_seam, drop-append_seam}
 use Rattle.machine_model.specs.declared.program.Entry.{Entry}
-use Rattle.machine_model.specs.Job as job
-use Rattle.machine_model.specs.Job.{Job, Task, Member, state_in, with_state, child_of, goes_on, AreTiles, member_step, task_step, step, applied, base_of, size_of, entry_of, entries_of, credit_of, spent_by, returned_by, IsAlive, entry_registers}
+use Rattle.machine_model.specs.JobState as job
+use Rattle.machine_model.specs.JobState.{JobState, Task, Member, state_in, with_state, child_of, goes_on, AreTiles, member_step, task_step, step, applied, base_of, size_of, entry_of, entries_of, credit_of, spent_by, returned_by, IsAlive, entry_registers}
 use Rattle.machine_model.specs.Memory.{written}
-use Rattle.machine_model.specs.Machine.{State, Birth, Effect, Goes, Ends, Spawns, Calls, Traps, effect, Program}
+use Rattle.machine_model.specs.Machine.{State, Birth, Effect, Continues, Ends, Spawns, Calls, Traps, effect, Program}
 use Rattle.machine_model.proofs.Places.{set_same, set_other, by_number, push_old, push_new, pushed}
 use Rattle.machine_model.proofs.Ranges.{written_same, written_below, written_above, length-written}
 use Rattle.machine_model.proofs.Splits.{Splits, Births, splits_effect, births_effect}
@@ -25,7 +25,7 @@ use Rattle.interpreter.specs.declared.credit.Credit.{Credit}
 use Rattle.interpreter.specs.declared.frame.StepOut.{StepOut}
 use Rattle.interpreter.specs.declared.frame.StepOut.TheVariants.{Went, Ended}
 use Rattle.interpreter.specs.Telling.{IsRecordOf}
-use Rattle.interpreter.specs.Behind.{AreBehind, IsCovered, state_of, Stands, Did, entry_frame}
+use Rattle.interpreter.specs.Representation.{RepresentsTask, IsCovered, state_of, RepresentsState, StepEffect, entry_frame}
 use Rattle.job_core.specs.declared.live.Live.{Live}
 use Rattle.credit_book.specs.declared.event.TaskEnd.{TaskEnd}
 use Rattle.job_core.specs.declared.tasks.Stepped.TheVariants as stepped
@@ -33,12 +33,12 @@ use Rattle.task_trees.specs.Families.{AreParents}
 use Rattle.task_trees.proofs.FamilyLemmas.{grown_step}
 use Rattle.job_core.specs.Seats.{live_of}
 use Rattle.job_core.proofs.Adding.{entered, Adds}
-use Rattle.job_core.specs.Behind.{Kept, end_of, IsTaskOf, IsLive, IsMemberOf, AreKept, AreEntries, IsBehind, Steps}
+use Rattle.job_core.specs.Representation.{WorldState, end_of, IsTaskOf, IsLive, IsMemberOf, RepresentsTasks, AreEntries, RepresentsJob, Steps}
 use Rattle.interpreter.proofs.Enters.{covered_entry, behind_entry}
 use Rattle.job_core.proofs.OwnPrograms.{nobody}
 
 -- the same with other tasks
-abbrev pub keeping : Kept → List (Option Live) → List TaskEnd → List ℕ → ℕ → ℕ → Kept
+abbrev pub keeping : WorldState → List (Option Live) → List TaskEnd → List ℕ → ℕ → ℕ → WorldState
 keeping kept lives ends collected spent returned = record {
   programs = kept.programs;
   entries = kept.entries;
@@ -52,7 +52,7 @@ keeping kept lives ends collected spent returned = record {
 }
 
 -- the same with other tasks, none of which ended
-abbrev pub going : Kept → List (Option Live) → List TaskEnd → Kept
+abbrev pub going : WorldState → List (Option Live) → List TaskEnd → WorldState
 going kept lives ends = keeping kept lives ends kept.collected kept.spent kept.returned
 
 -- the bytes of a range stay where another range is written
@@ -68,7 +68,7 @@ one_member : (tasks : List Member) (n : ℕ) (m k : Member) → slice_get tasks 
 one_member tasks n m k e f = cc (sym e ∙ f)
 
 -- a member stays where its number keeps what it had, and its range the bytes
-member_stays : (kept : Kept) (lives : List (Option Live)) (ends : List TaskEnd) (collected : List ℕ) (spent returned : ℕ) (buffer buffer' : List ℕ)
+member_stays : (kept : WorldState) (lives : List (Option Live)) (ends : List TaskEnd) (collected : List ℕ) (spent returned : ℕ) (buffer buffer' : List ℕ)
     (n : ℕ) (m : Member) → ((x : Option Live) → slice_get kept.lives n ≡ Some x → slice_get lives n ≡ Some x) →
     take (size_of m) (drop (base_of m) buffer') ≡ take (size_of m) (drop (base_of m) buffer) →
     take (size_of m) (drop (base_of m) collected) ≡ take (size_of m) (drop (base_of m) kept.collected) →
@@ -129,18 +129,18 @@ same_sum : (f : Member → ℕ) (tasks : List Member) (n : ℕ) (old new : Membe
 same_sum f tasks n old new a b here sum change = omega (arith, replaced f tasks n old new here, sum, change)
 
 -- task n goes on in this state, and is kept so
-goes_kept : (kept : Kept) (j : Job) (n : ℕ) (t : Task) (s : State) (p : Checked) (live : Live) → AreKept kept j → AreTiles j.tasks (length j.buffer) →
+goes_kept : (kept : WorldState) (j : JobState) (n : ℕ) (t : Task) (s : State) (p : Checked) (live : Live) → RepresentsTasks kept j → AreTiles j.tasks (length j.buffer) →
     slice_get j.tasks n ≡ Some (job.Live t) → length s.part ≡ t.size → slice_get kept.programs live.program ≡ Some p →
     t.program ≡ live.program → t.base ≡ live.part.base → s ≡ state_of live.frame live.part live.credit s.registers →
-    AreBehind p live.frame s.registers → IsCovered p live.frame live.part live.credit →
-    AreKept (going kept (set kept.lives n (Some live)) kept.ends) (goes_on j n t s)
+    RepresentsTask p live.frame s.registers → IsCovered p live.frame live.part live.credit →
+    RepresentsTasks (going kept (set kept.lives n (Some live)) kept.ends) (goes_on j n t s)
 goes_kept kept j n t s p live old tiles here size program_is program base is behind covered =
     let inside = tiles.inside n (job.Live t) here in
     let fits : t.base + length s.part ≤ length j.buffer = omega (arith, inside, size) in
     let long : n < length j.tasks = slice_get_within j.tasks n (job.Live t) here in
     let within : n < length kept.lives = omega (arith, long, old.lives) in
     let new : Member = job.Live (with_state t s) in
-    let after : Kept = going kept (set kept.lives n (Some live)) kept.ends in
+    let after : WorldState = going kept (set kept.lives n (Some live)) kept.ends in
     let own : IsTaskOf p (written j.buffer t.base s.part) live (with_state t s) = record {
       program = program;
       state = ap (λ part. let u : State = record { slot = s.slot; registers = s.registers; stack = s.stack; part = part; held = s.held; used = s.used } in u)
@@ -183,11 +183,11 @@ ended_end n t credit r0 = record {
 }
 
 -- task n ended, and is kept so
-ends_kept : (kept : Kept) (j : Job) (n : ℕ) (t : Task) (s : State) (r0 : ℕ) (part : Piece) (credit : Credit) → AreKept kept j →
+ends_kept : (kept : WorldState) (j : JobState) (n : ℕ) (t : Task) (s : State) (r0 : ℕ) (part : Piece) (credit : Credit) → RepresentsTasks kept j →
     AreTiles j.tasks (length j.buffer) → length kept.collected ≡ length j.buffer → slice_get j.tasks n ≡ Some (job.Live t) →
     t.base ≡ part.base → t.size ≡ length part.bytes → take t.size (drop t.base j.buffer) ≡ part.bytes →
     credit.used ≡ s.used → credit.held ≡ s.held →
-    AreKept (keeping kept (set kept.lives n None) (set kept.ends n (ended_end n t credit r0)) (written kept.collected part.base part.bytes)
+    RepresentsTasks (keeping kept (set kept.lives n None) (set kept.ends n (ended_end n t credit r0)) (written kept.collected part.base part.bytes)
     (kept.spent + credit.used) (kept.returned + (credit.held - credit.used)))
     (record { buffer = j.buffer; tasks = set j.tasks n (job.Ended (job.ending_of t s r0)) })
 ends_kept kept j n t s r0 part credit old tiles whole here base size bytes used held =
@@ -201,7 +201,7 @@ ends_kept kept j n t s r0 part credit old tiles whole here base size bytes used 
     let entry : TaskEnd = ended_end n t credit r0 in
     let spent : ℕ = kept.spent + credit.used in
     let returned : ℕ = kept.returned + (credit.held - credit.used) in
-    let after : Kept = keeping kept (set kept.lives n None) (set kept.ends n entry) collected spent returned in
+    let after : WorldState = keeping kept (set kept.lives n None) (set kept.ends n entry) collected spent returned in
     let own : take t.size (drop t.base j.buffer) ≡ take t.size (drop t.base collected) =
     bytes ∙ sym (written_same kept.collected part.base part.bytes fits)
     ∙ ap (λ i. take i (drop part.base collected)) (sym size) ∙ ap (λ i. take t.size (drop i collected)) (sym base) in
@@ -247,7 +247,7 @@ second_part buffer base size a b e long =
     ∙ ap (drop (length a)) (sym e) ∙ drop-append_seam a b
 
 -- the child stands behind the record that it was started by
-child_kept : (kept : Kept) (j : Job) (t : Task) (taken : State) (birth : Birth) (child : SpawnRecord) (base : ℕ) (p : Checked) →
+child_kept : (kept : WorldState) (j : JobState) (t : Task) (taken : State) (birth : Birth) (child : SpawnRecord) (base : ℕ) (p : Checked) →
     IsRecordOf child birth base → base ≡ t.base + length taken.part →
     taken.part ++ birth.bytes ≡ take t.size (drop t.base j.buffer) → length taken.part + length birth.bytes ≡ t.size →
     IsVerified p → p.need ≤ length birth.bytes → length birth.bytes ≤ 65536 → cost_at p 0 ≤ birth.share → birth.share ≤ 2147483647 →
@@ -265,20 +265,20 @@ child_kept kept j t taken birth child base p is at splits long v need small cost
       base = sym (is.starts ∙ at);
       size = sym bytes;
       behind =
-          subst (λ (arg : ℕ). AreBehind p (entry_frame (length child.part.bytes) child.arg) (entry_registers (length birth.bytes) arg)) is.arg
-          (subst (λ (size : ℕ). AreBehind p (entry_frame (length child.part.bytes) child.arg) (entry_registers size child.arg)) bytes
+          subst (λ (arg : ℕ). RepresentsTask p (entry_frame (length child.part.bytes) child.arg) (entry_registers (length birth.bytes) arg)) is.arg
+          (subst (λ (size : ℕ). RepresentsTask p (entry_frame (length child.part.bytes) child.arg) (entry_registers size child.arg)) bytes
           (behind_entry p (length child.part.bytes) child.arg v (omega (arith, bytes, need)) (omega (arith, bytes, small)) fits));
       covered = covered_entry p child.part child.share child.arg v (omega (arith, bytes, need)) (omega (arith, bytes, small))
           (omega (arith, share, cost)) (omega (arith, share, limit)) fits;
     }
 
 -- task n goes on with the first part of its range, and a child has the second
-spawns_kept : (kept : Kept) (j : Job) (n : ℕ) (t parent child : Task) (live small : Live) (p q : Checked) (entry : TaskEnd) → AreKept kept j →
+spawns_kept : (kept : WorldState) (j : JobState) (n : ℕ) (t parent child : Task) (live small : Live) (p q : Checked) (entry : TaskEnd) → RepresentsTasks kept j →
     slice_get j.tasks n ≡ Some (job.Live t) → end_of n (job.Live t) ≡ end_of n (job.Live parent) →
     entry ≡ end_of (length j.tasks) (job.Live child) →
     slice_get kept.programs live.program ≡ Some p → IsTaskOf p j.buffer live parent →
     slice_get kept.programs small.program ≡ Some q → IsTaskOf q j.buffer small child →
-    AreKept (going kept (set kept.lives n (Some live) ++ Some small ∷ []) (kept.ends ++ entry ∷ []))
+    RepresentsTasks (going kept (set kept.lives n (Some live) ++ Some small ∷ []) (kept.ends ++ entry ∷ []))
     (record { buffer = j.buffer; tasks = set j.tasks n (job.Live parent) ++ job.Live child ∷ [] })
 spawns_kept kept j n t parent child live small p q entry old here same_end entry_is program is program' is' =
     let long : n < length j.tasks = slice_get_within j.tasks n (job.Live t) here in
@@ -286,7 +286,7 @@ spawns_kept kept j n t parent child live small p q entry old here same_end entry
     let tasks : List Member = set j.tasks n (job.Live parent) in
     let lives : List (Option Live) = set kept.lives n (Some live) in
     let ends : List TaskEnd = kept.ends ++ entry ∷ [] in
-    let new : Kept = going kept (lives ++ Some small ∷ []) ends in
+    let new : WorldState = going kept (lives ++ Some small ∷ []) ends in
     let size : length tasks ≡ length j.tasks = length-set j.tasks n (job.Live parent) in
     let count : length lives ≡ length tasks = length-set kept.lives n (Some live) ∙ old.lives ∙ sym size in
     let count' : length kept.ends ≡ length tasks = old.ends ∙ sym size in
@@ -338,7 +338,7 @@ spawns_kept kept j n t parent child live small p q entry old here same_end entry
     }
 
 -- what a live task is behind
-pub record IsLiveAt (kept : Kept) (j : Job) (n : ℕ) (live : Live) : Type 0 where
+pub record IsLiveAt (kept : WorldState) (j : JobState) (n : ℕ) (live : Live) : Type 0 where
   pub task : Task
   pub there : slice_get j.tasks n ≡ Some (job.Live task)
   pub checked : Checked
@@ -351,7 +351,7 @@ some_within [] n lt = absurd (omega arith)
 some_within (x ∷ xs) zero lt = (x, refl)
 some_within (x ∷ xs) (suc n) lt = some_within xs n (omega arith)
 
-live_member : (kept : Kept) (j : Job) (n : ℕ) (live : Live) (m : Member) → slice_get kept.lives n ≡ Some (Some live) →
+live_member : (kept : WorldState) (j : JobState) (n : ℕ) (live : Live) (m : Member) → slice_get kept.lives n ≡ Some (Some live) →
     slice_get j.tasks n ≡ Some m → AreEntries kept.programs kept.entries → IsMemberOf kept j.buffer n m → IsLiveAt kept j n live
 live_member kept j n live (job.Live t) e there entries is =
     let same : is.live ≡ live = cc (sym is.there ∙ e) in
@@ -368,7 +368,7 @@ live_member kept j n live (job.Ended x) e there entries is =
     let none : Option Live = None in
     let clash : Some none ≡ Some (Some live) = sym is.gone ∙ e in cc
 
-pub live_at : (kept : Kept) (j : Job) (n : ℕ) (live : Live) → IsBehind kept j → slice_get kept.lives n ≡ Some (Some live) →
+pub live_at : (kept : WorldState) (j : JobState) (n : ℕ) (live : Live) → RepresentsJob kept j → slice_get kept.lives n ≡ Some (Some live) →
     IsLiveAt kept j n live
 live_at kept j n live behind e =
     let within = slice_get_within kept.lives n (Some live) e in
@@ -396,18 +396,18 @@ entries_same programs entries are n =
     ∙ map_twice (slice_get programs n) ∙ ap (option_map entry_of) (sym (slice_get-map program_of programs n))
 
 -- other lists that are the same
-kept_same : (kept : Kept) (lives lives' : List (Option Live)) (ends ends' : List TaskEnd) (k : Job) → lives' ≡ lives → ends' ≡ ends →
-    AreKept (going kept lives ends) k → AreKept (going kept lives' ends') k
+kept_same : (kept : WorldState) (lives lives' : List (Option Live)) (ends ends' : List TaskEnd) (k : JobState) → lives' ≡ lives → ends' ≡ ends →
+    RepresentsTasks (going kept lives ends) k → RepresentsTasks (going kept lives' ends') k
 kept_same kept lives lives' ends ends' k e f are =
-    subst (λ ls. AreKept (going kept ls ends') k) (sym e) (subst (λ es. AreKept (going kept lives es) k) (sym f) are)
+    subst (λ ls. RepresentsTasks (going kept ls ends') k) (sym e) (subst (λ es. RepresentsTasks (going kept lives es) k) (sym f) are)
 
 -- the parents say nothing of how the tasks are kept
-member_with : (kept : Kept) (parents : List ℕ) (buffer : List ℕ) (n : ℕ) (m : Member) → IsMemberOf kept buffer n m →
+member_with : (kept : WorldState) (parents : List ℕ) (buffer : List ℕ) (n : ℕ) (m : Member) → IsMemberOf kept buffer n m →
     IsMemberOf (record kept { parents = parents }) buffer n m
 member_with kept parents buffer n (job.Live t) is = record { live = is.live; there = is.there; checked = is.checked; program = is.program; is = is.is }
 member_with kept parents buffer n (job.Ended e) is = record { gone = is.gone; bytes = is.bytes }
 
-with_parents : (kept : Kept) (parents : List ℕ) (k : Job) → AreKept kept k → AreKept (record kept { parents = parents }) k
+with_parents : (kept : WorldState) (parents : List ℕ) (k : JobState) → RepresentsTasks kept k → RepresentsTasks (record kept { parents = parents }) k
 with_parents kept parents k are = record {
   lives = are.lives;
   ends = are.ends;
@@ -422,7 +422,7 @@ abbrev Grown : ℕ → List (Option Live) → List ℕ → List (Option Live) �
 Grown n lives parents lives' parents' =
     ((parents' ≡ parents) × (length lives' ≡ length lives)) ⊎ ((parents' ≡ parents ++ n ∷ []) × (length lives' ≡ suc (length lives)))
 
-module _ (kept : Kept) (j : Job) (n : ℕ) (live : Live) (behind : IsBehind kept j) (at : IsLiveAt kept j n live)
+module _ (kept : WorldState) (j : JobState) (n : ℕ) (live : Live) (behind : RepresentsJob kept j) (at : IsLiveAt kept j n live)
     (frame : Frame) (part : Piece) (credit : Credit) (base : part.base ≡ live.part.base)
     (lives : List (Option Live)) (ends : List TaskEnd) (parents : List ℕ) (silent : Type 0) (told : SpawnRecord → Result (Unit {0}) SpawnRecord → Type 0)
     (quiet : silent → (lives ≡ set kept.lives n None) × (ends ≡ kept.ends) × (parents ≡ kept.parents))
@@ -443,9 +443,9 @@ module _ (kept : Kept) (j : Job) (n : ℕ) (live : Live) (behind : IsBehind kept
       omega (arith, lt, behind.kept_are.lives)
 
   -- the task goes on with all of its range
-  goes : (s : State) → length s.part ≡ at.task.size → Stands at.checked frame part credit s → IsCovered at.checked frame part credit →
+  goes : (s : State) → length s.part ≡ at.task.size → RepresentsState at.checked frame part credit s → IsCovered at.checked frame part credit →
       (lives ≡ set kept.lives n None) × (ends ≡ kept.ends) × (parents ≡ kept.parents) →
-      AreKept (going kept (set lives n (Some after)) ends) (goes_on j n at.task s)
+      RepresentsTasks (going kept (set lives n (Some after)) ends) (goes_on j n at.task s)
   goes s size stands covered same =
       kept_same kept (set kept.lives n (Some after)) (set lives n (Some after)) kept.ends ends (goes_on j n at.task s)
       (ap (λ ls. set ls n (Some after)) same.0 ∙ set_twice kept.lives n None (Some after)) same.1
@@ -458,11 +458,11 @@ module _ (kept : Kept) (j : Job) (n : ℕ) (live : Live) (behind : IsBehind kept
   spawned : (birth : Birth) (taken : State) (child : SpawnRecord) → taken.part ++ birth.bytes ≡ take at.task.size (drop at.task.base j.buffer) →
       ((entry : Entry) × (entries_of (map program_of kept.programs) birth.program ≡ Some entry) × (entry.cost ≤ birth.share)
       × (entry.need ≤ length birth.bytes) × (birth.share ≤ at.task.held)) →
-      Stands at.checked frame part credit taken → IsCovered at.checked frame part credit →
+      RepresentsState at.checked frame part credit taken → IsCovered at.checked frame part credit →
       IsRecordOf child birth (part.base + length taken.part) →
       (child.arg < 2 ^ 64) × (lives ≡ set kept.lives n None ++ Some (live_of child) ∷ [])
       × (ends ≡ kept.ends ++ entered (length (set kept.lives n None)) child ∷ []) × (parents ≡ kept.parents ++ n ∷ []) →
-      AreKept (going kept (set lives n (Some after)) ends)
+      RepresentsTasks (going kept (set lives n (Some after)) ends)
       (record {
         buffer = j.buffer;
         tasks = set j.tasks n (job.Live (record (with_state at.task taken) { children = suc at.task.children })) ++ job.Live (child_of at.task taken birth) ∷ [];
@@ -523,10 +523,10 @@ module _ (kept : Kept) (j : Job) (n : ℕ) (live : Live) (behind : IsBehind kept
   -- the job after the effect stands behind what is kept
   pub went : (e : Effect) → Splits (take at.task.size (drop at.task.base j.buffer)) e →
       Births (entries_of (map program_of kept.programs)) at.task.held e → IsCovered at.checked frame part credit →
-      Did at.checked e Went frame part credit silent told nobody →
-      (refuses : Bool) × (k : Job) × (applied j n at.task refuses e ≡ Some k) × AreKept (going kept (set lives n (Some after)) ends) k × IsAlive k n
+      StepEffect at.checked e Went frame part credit silent told nobody →
+      (refuses : Bool) × (k : JobState) × (applied j n at.task refuses e ≡ Some k) × RepresentsTasks (going kept (set lives n (Some after)) ends) k × IsAlive k n
       × Grown n kept.lives kept.parents lives parents
-  went (Goes s) splits births covered d = (
+  went (Continues s) splits births covered d = (
     false,
     goes_on j n at.task s,
     refl,
@@ -566,17 +566,17 @@ module _ (kept : Kept) (j : Job) (n : ℕ) (live : Live) (behind : IsBehind kept
   went (Traps trap) splits births covered d = absurd d
 
   -- what is kept where the task has ended with this R0
-  abbrev ended_kept : ℕ → Kept
+  abbrev ended_kept : ℕ → WorldState
   ended_kept word = keeping kept lives (set ends n (ended_end n at.task credit word)) (written kept.collected part.base part.bytes)
       (kept.spent + credit.used) (kept.returned + (credit.held - credit.used))
 
   -- the same where the task ends
   pub ended : (e : Effect) (word : ℕ) → Splits (take at.task.size (drop at.task.base j.buffer)) e → Keeps at.task.held e →
-      Did at.checked e (Ended word) frame part credit silent told nobody →
-      (k : Job) × (applied j n at.task false e ≡ Some k) × AreKept (ended_kept word) k
+      StepEffect at.checked e (Ended word) frame part credit silent told nobody →
+      (k : JobState) × (applied j n at.task false e ≡ Some k) × RepresentsTasks (ended_kept word) k
       × (credit.used ≤ credit.held) × ((x : job.Ending) × (slice_get k.tasks n ≡ Some (job.Ended x)) × (x.r0 ≡ word))
       × (length part.bytes ≤ at.task.size) × (ends ≡ kept.ends) × Grown n kept.lives kept.parents lives parents
-  ended (Goes s) word splits keeps d = absurd d
+  ended (Continues s) word splits keeps d = absurd d
   ended (Spawns birth taken refused) word splits keeps d = absurd d
   ended (Calls helper arguments s) word splits keeps d = absurd d
   ended (Traps trap) word splits keeps d = absurd d
@@ -596,9 +596,9 @@ module _ (kept : Kept) (j : Job) (n : ℕ) (live : Live) (behind : IsBehind kept
       ap (λ es. set es n (ended_end n t credit r0)) (sym same.1) ∙ ap (λ w. set ends n (ended_end n t credit w)) (sym d.0) in (
         record { buffer = j.buffer; tasks = set j.tasks n (job.Ended x) },
         refl,
-        subst (λ ls. AreKept (keeping kept ls (set ends n (ended_end n t credit word)) (written kept.collected part.base part.bytes)
+        subst (λ ls. RepresentsTasks (keeping kept ls (set ends n (ended_end n t credit word)) (written kept.collected part.base part.bytes)
             (kept.spent + credit.used) (kept.returned + (credit.held - credit.used))) (record { buffer = j.buffer; tasks = set j.tasks n (job.Ended x) })) lives_are
-            (subst (λ es. AreKept (keeping kept (set kept.lives n None) es (written kept.collected part.base part.bytes)
+            (subst (λ es. RepresentsTasks (keeping kept (set kept.lives n None) es (written kept.collected part.base part.bytes)
             (kept.spent + credit.used) (kept.returned + (credit.held - credit.used))) (record { buffer = j.buffer; tasks = set j.tasks n (job.Ended x) })) ends_are are),
         omega (arith, keeps.0, used, held),
         (x, set_same j.tasks n (job.Ended x) tasks_within, sym d.0),
@@ -608,7 +608,7 @@ module _ (kept : Kept) (j : Job) (n : ℕ) (live : Live) (behind : IsBehind kept
       )
 
   -- the effect on the task makes the job's step
-  stepped_job : (refuses : Bool) (k : Job) →
+  stepped_job : (refuses : Bool) (k : JobState) →
       applied j n at.task refuses (effect (program_of at.checked) (entries_of (map program_of kept.programs)) (state_in j.buffer at.task)) ≡ Some k →
       step (map program_of kept.programs) j n refuses ≡ Some k
   stepped_job refuses k is =
@@ -619,7 +619,7 @@ module _ (kept : Kept) (j : Job) (n : ℕ) (live : Live) (behind : IsBehind kept
       ∙ is
 
   -- the parents tell the places of the tasks after the step
-  parents_after : (refuses : Bool) (k : Job) (new : Kept) → step (map program_of kept.programs) j n refuses ≡ Some k →
+  parents_after : (refuses : Bool) (k : JobState) (new : WorldState) → step (map program_of kept.programs) j n refuses ≡ Some k →
       length lives ≡ length k.tasks → Grown n kept.lives kept.parents lives new.parents → AreParents new.parents k.tasks
   parents_after refuses k new is long grown =
       let told = grown_step (map program_of kept.programs) j k n refuses kept.parents is behind.parents in
@@ -634,9 +634,9 @@ module _ (kept : Kept) (j : Job) (n : ℕ) (live : Live) (behind : IsBehind kept
         ]
       ]
 
-  kept_behind : (refuses : Bool) (k : Job) (new : Kept) → step (map program_of kept.programs) j n refuses ≡ Some k →
+  kept_behind : (refuses : Bool) (k : JobState) (new : WorldState) → step (map program_of kept.programs) j n refuses ≡ Some k →
       new.programs ≡ kept.programs → new.entries ≡ kept.entries → length new.collected ≡ length kept.collected → new.issued ≡ kept.issued →
-      length new.lives ≡ length lives → Grown n kept.lives kept.parents lives new.parents → AreKept new k → IsBehind new k
+      length new.lives ≡ length lives → Grown n kept.lives kept.parents lives new.parents → RepresentsTasks new k → RepresentsJob new k
   kept_behind refuses k new is programs entries size issued long grown are =
       let tiles = tiles_step (map program_of kept.programs) j k n refuses is behind.tiles in
       let credit = keeps_member (map program_of kept.programs) j n refuses (slice_get j.tasks n) k refl is in
@@ -652,32 +652,32 @@ module _ (kept : Kept) (j : Job) (n : ℕ) (live : Live) (behind : IsBehind kept
 
   -- what the frame's step did is the effect on the task in the job
   did_here : (p : Checked) (known : ℕ → Option Entry) (out : StepOut) → p ≡ at.checked → ((i : ℕ) → known i ≡ slice_get kept.entries i) →
-      ((registers : Registers) → AreBehind p live.frame registers →
-      Did p (effect (program_of p) known (state_of live.frame live.part live.credit registers)) out frame part credit silent told nobody) →
-      Did at.checked (effect (program_of at.checked) (entries_of (map program_of kept.programs)) (state_in j.buffer at.task)) out frame part credit silent told nobody
+      ((registers : Registers) → RepresentsTask p live.frame registers →
+      StepEffect p (effect (program_of p) known (state_of live.frame live.part live.credit registers)) out frame part credit silent told nobody) →
+      StepEffect at.checked (effect (program_of at.checked) (entries_of (map program_of kept.programs)) (state_in j.buffer at.task)) out frame part credit silent told nobody
   did_here p known out same entries did =
       let registers : Registers = at.task.registers in
-      let first = did registers (subst (λ (q : Checked). AreBehind q live.frame registers) (sym same) at.is.behind) in
-      let second = subst (λ (q : Checked). Did q (effect (program_of q) known (state_of live.frame live.part live.credit registers)) out frame part credit silent told nobody) same first in
-      subst (λ (e : Effect). Did at.checked e out frame part credit silent told nobody)
+      let first = did registers (subst (λ (q : Checked). RepresentsTask q live.frame registers) (sym same) at.is.behind) in
+      let second = subst (λ (q : Checked). StepEffect q (effect (program_of q) known (state_of live.frame live.part live.credit registers)) out frame part credit silent told nobody) same first in
+      subst (λ (e : Effect). StepEffect at.checked e out frame part credit silent told nobody)
       (effect_same (program_of at.checked) known (entries_of (map program_of kept.programs))
       (λ i. entries i ∙ entries_same kept.programs kept.entries behind.entries i) (state_of live.frame live.part live.credit registers)
       ∙ ap (effect (program_of at.checked) (entries_of (map program_of kept.programs))) (sym at.is.state))
       second
 
   -- what is kept after the step, with other entries
-  abbrev with_entries : Kept → List Entry → Kept
+  abbrev with_entries : WorldState → List Entry → WorldState
   with_entries new entries = record new { entries = entries }
 
   -- and with the parents that it left
-  abbrev with_both : Kept → List Entry → Kept
+  abbrev with_both : WorldState → List Entry → WorldState
   with_both new entries = record new { entries = entries; parents = parents }
 
   -- what the frame's step did is a step of the job
   pub steps_went : (p : Checked) (known : ℕ → Option Entry) (new : List Entry) → p ≡ at.checked → ((i : ℕ) → known i ≡ slice_get kept.entries i) →
       new ≡ kept.entries → IsCovered p frame part credit →
-      ((registers : Registers) → AreBehind p live.frame registers →
-      Did p (effect (program_of p) known (state_of live.frame live.part live.credit registers)) Went frame part credit silent told nobody) →
+      ((registers : Registers) → RepresentsTask p live.frame registers →
+      StepEffect p (effect (program_of p) known (state_of live.frame live.part live.credit registers)) Went frame part credit silent told nobody) →
       Steps kept j n stepped.Went (with_both (going kept (set lives n (Some after)) ends) new)
   steps_went p known new same entries still covered did =
       let e : Effect = effect (program_of at.checked) (entries_of (map program_of kept.programs)) (state_in j.buffer at.task) in
@@ -685,19 +685,19 @@ module _ (kept : Kept) (j : Job) (n : ℕ) (live : Live) (behind : IsBehind kept
       (births_effect (program_of at.checked) (entries_of (map program_of kept.programs)) (state_in j.buffer at.task))
       (subst (λ (q : Checked). IsCovered q frame part credit) same covered) (did_here p known Went same entries did) in
       let is = stepped_job w.0 w.1 w.2 in
-      let next : Kept = going kept (set lives n (Some after)) ends in (
+      let next : WorldState = going kept (set lives n (Some after)) ends in (
         w.0,
         w.1,
         is,
         kept_behind w.0 w.1 (with_both next new) is refl still refl refl (length-set lives n (Some after)) w.5
-            (with_parents (with_entries next new) parents w.1 (subst (λ es. AreKept (with_entries next es) w.1) (sym still) w.3)),
+            (with_parents (with_entries next new) parents w.1 (subst (λ es. RepresentsTasks (with_entries next es) w.1) (sym still) w.3)),
         ((at.task, at.there), w.4),
       )
 
   pub steps_ended : (p : Checked) (known : ℕ → Option Entry) (new : List Entry) (word : ℕ) → p ≡ at.checked → ((i : ℕ) → known i ≡ slice_get kept.entries i) →
       new ≡ kept.entries →
-      ((registers : Registers) → AreBehind p live.frame registers →
-      Did p (effect (program_of p) known (state_of live.frame live.part live.credit registers)) (Ended word) frame part credit silent told nobody) →
+      ((registers : Registers) → RepresentsTask p live.frame registers →
+      StepEffect p (effect (program_of p) known (state_of live.frame live.part live.credit registers)) (Ended word) frame part credit silent told nobody) →
       (credit.used ≤ credit.held) × Steps kept j n (stepped.Ended word) (with_both (ended_kept word) new)
       × (part.base + length part.bytes ≤ length kept.collected) × (ends ≡ kept.ends)
   steps_ended p known new word same entries still did =
@@ -714,14 +714,14 @@ module _ (kept : Kept) (j : Job) (n : ℕ) (live : Live) (behind : IsBehind kept
           is,
           kept_behind false w.0 (with_both (ended_kept word) new) is refl still (length-written kept.collected part.base part.bytes fits) refl refl w.7
               (with_parents (with_entries (ended_kept word) new) parents w.0
-              (subst (λ es. AreKept (with_entries (ended_kept word) es) w.0) (sym still) w.2)),
+              (subst (λ es. RepresentsTasks (with_entries (ended_kept word) es) w.0) (sym still) w.2)),
           ((at.task, at.there), w.4),
         ),
         fits,
         w.6,
       )
 
-skipped_member : (kept : Kept) (j : Job) (n : ℕ) (m : Option Member) → slice_get kept.lives n ≡ Some None → slice_get j.tasks n ≡ m →
+skipped_member : (kept : WorldState) (j : JobState) (n : ℕ) (m : Option Member) → slice_get kept.lives n ≡ Some None → slice_get j.tasks n ≡ m →
     ((k : Member) → slice_get j.tasks n ≡ Some k → IsMemberOf kept j.buffer n k) →
     member_step (map program_of kept.programs) j n false m ≡ Some j
 skipped_member kept j n (Some (job.Live t)) e there each =
@@ -730,7 +730,7 @@ skipped_member kept j n (Some (job.Ended x)) e there each = refl
 skipped_member kept j n None e there each = refl
 
 -- a number whose task has ended is skipped
-pub skipped : (kept : Kept) (j : Job) (n : ℕ) → IsBehind kept j → slice_get kept.lives n ≡ Some None → Steps kept j n stepped.Skipped kept
+pub skipped : (kept : WorldState) (j : JobState) (n : ℕ) → RepresentsJob kept j → slice_get kept.lives n ≡ Some None → Steps kept j n stepped.Skipped kept
 skipped kept j n behind e = (
   false,
   j,
@@ -739,13 +739,13 @@ skipped kept j n behind e = (
   (λ alive. let is = behind.kept_are.each n (job.Live alive.0) alive.1 in let clash : Some None ≡ Some (Some is.live) = sym e ∙ is.there in cc, refl),
 )
 
-unknown_member : (programs : List Program) (j : Job) (n : ℕ) (m : Option Member) → slice_get j.tasks n ≡ m → length j.tasks ≤ n →
+unknown_member : (programs : List Program) (j : JobState) (n : ℕ) (m : Option Member) → slice_get j.tasks n ≡ m → length j.tasks ≤ n →
     member_step programs j n false m ≡ Some j
 unknown_member programs j n None e le = refl
 unknown_member programs j n (Some m) e le = let lt = slice_get_within j.tasks n m e in absurd (omega (arith, lt, le))
 
 -- so is a number that no task has
-pub unknown : (kept : Kept) (j : Job) (n : ℕ) → IsBehind kept j → length kept.lives ≤ n → Steps kept j n stepped.Skipped kept
+pub unknown : (kept : WorldState) (j : JobState) (n : ℕ) → RepresentsJob kept j → length kept.lives ≤ n → Steps kept j n stepped.Skipped kept
 unknown kept j n behind le = (
   false,
   j,

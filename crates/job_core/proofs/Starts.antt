@@ -6,12 +6,12 @@ use Rattle.machine_model.specs.declared.program.Entry.{Entry}
 use Rattle.machine_model.specs.Machine.{State}
 use Rattle.interpreter.specs.declared.frame.Frame.{Frame}
 use Rattle.credit_book.specs.declared.event.TaskEnd.{TaskEnd}
-use Rattle.machine_model.specs.Job as job
-use Rattle.machine_model.specs.Job.{Job, Task, Member, start, AreTiles, Owner, IsApart, base_of, size_of, entry_registers, state_in, entry_of}
+use Rattle.machine_model.specs.JobState as job
+use Rattle.machine_model.specs.JobState.{JobState, Task, Member, start, AreTiles, Owner, IsApart, base_of, size_of, entry_registers, state_in, entry_of}
 use Rattle.machine_model.proofs.Places.{pushed}
 use Rattle.helpers.specs.Piece.{Piece}
 use Rattle.verifier.specs.Checked.{Checked, program_of, IsVerified, cost_at}
-use Rattle.interpreter.specs.Behind.{entry_frame, AreBehind}
+use Rattle.interpreter.specs.Representation.{entry_frame, RepresentsTask}
 use Rattle.job_core.specs.declared.live.Live.{Live}
 use Rattle.job_core.specs.Living.{Living}
 use Rattle.interpreter.specs.declared.credit.Credit.{Credit}
@@ -21,10 +21,10 @@ use Rattle.credit_book.specs.Books.{Account, root_ticket}
 use Rattle.credit_book.specs.Buffers.{buffer_of}
 use Rattle.credit_book.specs.History.{table_of, spent_in, returned_in}
 use Rattle.job_core.specs.Keeping.{AreStandings}
-use Rattle.job_core.specs.Behind.{Kept, end_of, IsTaskOf, IsLive, IsMemberOf, AreEntries, IsBehind}
+use Rattle.job_core.specs.Representation.{WorldState, end_of, IsTaskOf, IsLive, IsMemberOf, AreEntries, RepresentsJob}
 use Rattle.helpers.specs.Table.{job_table}
 use Rattle.task_trees.proofs.FamilyLemmas.{starts}
-use Rattle.job_core.specs.Admitted.{Order, IsAdmitted}
+use Rattle.job_core.specs.Admitted.{AdmittedJob, IsAdmitted}
 use Rattle.interpreter.proofs.Enters.{behind_entry, covered_entry}
 
 abbrev root_live : ℕ → Piece → Live
@@ -50,7 +50,7 @@ root_task credit buffer = record {
 abbrev root_end : ℕ → TaskEnd
 root_end credit = record { number = 0; program = 0; arg = 0; given = credit; spent = 0; rest = 0; r0 = 0; ran = false }
 
-abbrev start_kept : Order → List Entry → Piece → List ℕ → Kept
+abbrev start_kept : AdmittedJob → List Entry → Piece → List ℕ → WorldState
 start_kept order entries part zeros = record {
   programs = order.programs;
   entries = entries;
@@ -75,7 +75,7 @@ start_tiles m count base size = record {
   owned = λ at lt. record { number = 0; member = m; there = refl; low = omega (arith, base); high = omega (arith, base, size, lt) };
 }
 
-module _ (order : Order) (entries : List Entry) (part : Piece) (is : IsAdmitted order) (are : AreEntries order.programs entries)
+module _ (order : AdmittedJob) (entries : List Entry) (part : Piece) (is : IsAdmitted order) (are : AreEntries order.programs entries)
     (bytes : part.bytes ≡ order.buffer) (base : part.base ≡ 0) (zeros : List ℕ) (long : length zeros ≡ length order.buffer) where
   root_is : IsTaskOf is.root order.buffer (root_live order.credit part) (root_task order.credit order.buffer)
   root_is =
@@ -88,7 +88,7 @@ module _ (order : Order) (entries : List Entry) (part : Piece) (is : IsAdmitted 
             (take-length order.buffer ∙ sym bytes);
         base = sym base;
         size = sym size;
-        behind = subst (λ (bs : List ℕ). AreBehind is.root (entry_frame (length part.bytes) 0) (entry_registers (length bs) 0)) bytes
+        behind = subst (λ (bs : List ℕ). RepresentsTask is.root (entry_frame (length part.bytes) 0) (entry_registers (length bs) 0)) bytes
             (behind_entry is.root (length part.bytes) 0 v (omega (arith, is.need, size)) (omega (arith, is.small, size)) (omega arith));
         covered = covered_entry is.root part order.credit 0 v (omega (arith, is.need, size)) (omega (arith, is.small, size)) is.cost is.limit (omega arith);
       }
@@ -108,7 +108,7 @@ module _ (order : Order) (entries : List Entry) (part : Piece) (is : IsAdmitted 
       subst (λ (k : ℕ). slice_get (root_end order.credit ∷ []) k ≡ Some (end_of k m)) (sym at.0)
       (subst (λ (x : Member). Some (root_end order.credit) ≡ Some (end_of 0 x)) at.1 refl)
 
-  pub start_behind : IsBehind (start_kept order entries part zeros) (start order.credit order.buffer)
+  pub start_behind : RepresentsJob (start_kept order entries part zeros) (start order.credit order.buffer)
   start_behind = record {
     entries = are;
     kept_are = record { lives = refl; ends = refl; each = start_each; each_end = start_end; spent = refl; returned = refl };
@@ -155,12 +155,6 @@ pub entries_all : (programs : List Checked) (i : ℕ) (entries : List Entry) →
 entries_all programs i entries e are =
     subst (λ ps. AreEntries ps entries) (ap (λ n. take n programs) e ∙ take-length programs) are
 
-pub entry_is : (p : Checked) (cost need : ℕ) → cost ≡ cost_at p 0 → need ≡ p.need →
-    let entry : Entry = record { cost = cost; need = need } in entry ≡ entry_of (program_of p)
-entry_is p cost need e f =
-    ap (λ c. let entry : Entry = record { cost = c; need = need } in entry) e
-    ∙ ap (λ n. let entry : Entry = record { cost = cost_at p 0; need = n } in entry) f
-
 take_past : {X : Type 0} (xs : List X) (i : ℕ) → length xs ≤ i → take i xs ≡ xs
 take_past [] zero le = refl
 take_past [] (suc i) le = refl
@@ -190,14 +184,14 @@ root_entered l ticket job issued part is e1 e2 e3 e4 =
     (e3 ∙ ap (λ (t : Ticket). t.part) is) (e4 ∙ ap (λ (t : Ticket). let c : Credit = record { held = t.held; used = 0 } in c) is)
 
 -- what a world keeps once it is opened, and what its book has of the root
-pub opened : (order : Order) (programs : List Checked) (entries : List Entry) (lives : List (Option Live)) (book : Account) (part : Piece) (ticket : Ticket) (root : Living) (none : List (Option Live)) (parents : List ℕ) (number job issued : ℕ) →
+pub opened : (order : AdmittedJob) (programs : List Checked) (entries : List Entry) (lives : List (Option Live)) (book : Account) (part : Piece) (ticket : Ticket) (root : Living) (none : List (Option Live)) (parents : List ℕ) (number job issued : ℕ) →
     IsAdmitted order → AreEntries order.programs entries → programs ≡ order.programs →
     part.bytes ≡ order.buffer → part.base ≡ 0 → issued ≡ order.credit → book.board.issued ≡ order.credit →
     book.history ≡ Open number order.credit ∷ [] → book.size ≡ length part.bytes →
     ticket ≡ root_ticket job issued part → root.program ≡ ticket.program → root.frame ≡ entry_frame (length ticket.part.bytes) ticket.arg →
     root.part ≡ ticket.part → root.credit ≡ record { held = ticket.held; used = 0 } →
     none ≡ [] → lives ≡ none ++ Some root ∷ [] → parents ≡ [] →
-    IsBehind (record {
+    RepresentsJob (record {
       programs = programs;
       entries = entries;
       lives = lives;

@@ -2,13 +2,13 @@
 use Rattle.std.proofs.Common.{◌≡◌, ℕ, zero, suc, ◌<◌, ◌≤◌, ◌+◌, ◌-◌, List, [], ◌∷◌, ◌++◌, length, take, get_or, slice_get, refl, sym, ◌∙◌, arith, ap, sum_by, Option, Some, None}
 use Rattle.std.proofs.lemmas.List.{take_more}
 use Rattle.std.proofs.lemmas.List.Sums.{sum_by-append, sum_by-cons}
-use Rattle.machine_model.specs.Job as job
+use Rattle.machine_model.specs.JobState as job
 use Rattle.machine_model.specs.Machine.{State}
-use Rattle.machine_model.specs.Job.{Job, Member, held_by, returned_by, spent_by, used_by}
+use Rattle.machine_model.specs.JobState.{JobState, Member, held_by, returned_by, spent_by, used_by}
 use Rattle.job_core.specs.declared.live.Live.{Live}
 use Rattle.job_core.specs.declared.totals.Totals.{Totals}
 use Rattle.job_core.specs.Sums.{used_of}
-use Rattle.job_core.specs.Behind.{Kept, IsMemberOf, IsBehind}
+use Rattle.job_core.specs.Representation.{WorldState, IsMemberOf, RepresentsJob}
 use Rattle.job_core.specs.Answers.{AreTotals}
 
 -- one more element
@@ -29,7 +29,7 @@ pub record Uses (m : Member) (o : Option Live) : Type 0 where
   pub used : used_by m ≡ used_of o + spent_by m
   pub within : used_of o ≤ held_by m
 
-uses_of : (kept : Kept) (buffer : List ℕ) (n : ℕ) (m : Member) → IsMemberOf kept buffer n m → (o : Option Live) × (slice_get kept.lives n ≡ Some o) × Uses m o
+uses_of : (kept : WorldState) (buffer : List ℕ) (n : ℕ) (m : Member) → IsMemberOf kept buffer n m → (o : Option Live) × (slice_get kept.lives n ≡ Some o) × Uses m o
 uses_of kept buffer n (job.Live t) is =
     let used : t.used ≡ is.live.credit.used = ap (λ (s : State). s.used) is.is.state in
     let held : t.held ≡ is.live.credit.held = ap (λ (s : State). s.held) is.is.state in
@@ -54,15 +54,15 @@ sums (m ∷ ms) (l ∷ ls) long each =
       omega (arith, sum_by-cons held_by m ms, sum_by-cons used_of l ls, first.2.within, u, next.1),
     )
 
-pub used_sums : (kept : Kept) (j : Job) → IsBehind kept j →
+pub used_sums : (kept : WorldState) (j : JobState) → RepresentsJob kept j →
     (sum_by used_by j.tasks ≡ sum_by used_of kept.lives + sum_by spent_by j.tasks) × (sum_by used_of kept.lives ≤ sum_by held_by j.tasks)
 used_sums kept j behind = sums j.tasks kept.lives behind.kept_are.lives (λ n m e. uses_of kept j.buffer n m (behind.kept_are.each n m e))
 
 -- what is held, by what was issued
-pub held_is : (kept : Kept) (j : Job) → IsBehind kept j → sum_by held_by j.tasks + kept.spent + kept.returned ≡ kept.issued
+pub held_is : (kept : WorldState) (j : JobState) → RepresentsJob kept j → sum_by held_by j.tasks + kept.spent + kept.returned ≡ kept.issued
 held_is kept j behind = omega (arith, behind.credit, behind.kept_are.spent, behind.kept_are.returned)
 
-pub totals_are : (kept : Kept) (j : Job) (lives : List (Option Live)) (used : ℕ) → IsBehind kept j → lives ≡ kept.lives → used ≡ sum_by used_of lives →
+pub totals_are : (kept : WorldState) (j : JobState) (lives : List (Option Live)) (used : ℕ) → RepresentsJob kept j → lives ≡ kept.lives → used ≡ sum_by used_of lives →
     let totals : Totals = record { held = kept.issued - kept.spent - kept.returned; returned = kept.returned; spent = kept.spent; used = kept.spent + used } in
     AreTotals totals j
 totals_are kept j lives used behind same sum =

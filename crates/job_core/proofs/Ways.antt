@@ -2,7 +2,7 @@
 use Rattle.std.proofs.Common.{◌≡◌, ℕ, suc, ◌<◌, ◌≤◌, ◌-◌, List, [], ◌∷◌, ◌++◌, get_or, length, take, reverse, slice_get, sym, ◌∙◌, arith, ap, Some}
 use Rattle.std.proofs.lemmas.Option.{slice_get-get_or}
 use Rattle.std.proofs.lemmas.List.{append_assoc, reverse-append}
-use Rattle.machine_model.specs.Job.{Member}
+use Rattle.machine_model.specs.JobState.{Member}
 use Rattle.task_trees.specs.Families.{place_of, children_of, AreParents}
 
 module _ (parents : List ℕ) (at : ℕ) (over : 0 < at) (within : at ≤ length parents) where

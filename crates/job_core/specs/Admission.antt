@@ -1,24 +1,25 @@
 -- When a job is admitted, and when each refusal comes.
 use Rattle.std.specs.Prelude.{◌≡◌, ◌⊎◌, ℕ, ◌≤◌, ◌<◌, List, length, slice_get, Option, Some, None}
+use Rattle.machine_model.specs.Limits.{max_credit, max_part}
 use Rattle.helpers.specs.Table.{job_table}
 use Rattle.verifier.specs.declared.refusals.Refusal.{Refusal}
 use Rattle.verifier.specs.declared.refusals.Refusal.TheVariants as program
 use Rattle.verifier.specs.Checked.{Checked, cost_at}
-use Rattle.verifier.specs.Refusals.{IsAccepted, Refuses}
+use Rattle.verifier.specs.Refusals.{IsAccepted, RefusesProgram}
 use Rattle.verifier.specs.RefusalCodes.{number_of as number_of_program, slot_of as slot_of_program}
 use Rattle.job_core.specs.declared.admission.ProgramBytes.{ProgramBytes}
 use Rattle.job_core.specs.declared.admission.AdmitFault.{AdmitFault}
 use Rattle.job_core.specs.declared.admission.AdmitFault.TheVariants.{NoPrograms, TooManyPrograms, TooLarge, Program, CreditLow, BufferShort, NoMemory}
-use Rattle.job_core.specs.Admitted.{Order}
+use Rattle.job_core.specs.Admitted.{AdmittedJob}
 
 -- the verifier accepts the program with this, for the helpers of a job
 abbrev pub Accepts : ProgramBytes → Checked → Type 0
 Accepts p v = IsAccepted p.need p.code.items job_table v
 
 -- the verifier has this refusal of the program
-abbrev pub RefusesProgram : ProgramBytes → Refusal → Type 0
-RefusesProgram p program.NoMemory = ⊥
-RefusesProgram p refusal = Refuses p.need p.code.items job_table refusal
+abbrev pub IsRefusedProgram : ProgramBytes → Refusal → Type 0
+IsRefusedProgram p program.NoMemory = ⊥
+IsRefusedProgram p refusal = RefusesProgram p.need p.code.items job_table refusal
 
 -- the refusal of the program of this number that the verifier refuses
 abbrev pub fault_of : ℕ → Refusal → AdmitFault
@@ -28,17 +29,20 @@ fault_of index refusal = Program index refusal
 -- the verifier accepts each program with the one at its place
 pub record AreAccepted (programs : List ProgramBytes) (accepted : List Checked) : Type 0 where
   pub count : length accepted ≡ length programs
-  pub each : (n : ℕ) (p : ProgramBytes) (v : Checked) → slice_get programs n ≡ Some p → slice_get accepted n ≡ Some v → Accepts p v
+  pub each : (n : ℕ) (p : ProgramBytes) (v : Checked) → slice_get programs n ≡ Some p
+      → slice_get accepted n ≡ Some v → Accepts p v
 
 -- the numbers of programs and bytes and the credit are within their limits
-pub record IsWithinLimits (programs : List ProgramBytes) (credit : ℕ) (buffer : List ℕ) : Type 0 where
+pub record IsWithinLimits (programs : List ProgramBytes) (credit : ℕ) (buffer : List ℕ) :
+    Type 0 where
   pub some : 1 ≤ length programs
   pub few : length programs ≤ 16
-  pub limit : credit ≤ 2147483647
-  pub small : length buffer ≤ 65536
+  pub limit : credit ≤ max_credit
+  pub small : length buffer ≤ max_part
 
 -- the job that is admitted: its programs are accepted, and its credit and buffer cover the root
-pub record IsAdmittedFrom (programs : List ProgramBytes) (credit : ℕ) (buffer : List ℕ) (order : Order) : Type 0 where
+pub record IsAdmittedFrom (programs : List ProgramBytes) (credit : ℕ) (buffer : List ℕ)
+    (order : AdmittedJob) : Type 0 where
   pub limits : IsWithinLimits programs credit buffer
   pub accepted : AreAccepted programs order.programs
   pub same_credit : order.credit ≡ credit
@@ -49,15 +53,18 @@ pub record IsAdmittedFrom (programs : List ProgramBytes) (credit : ℕ) (buffer 
   pub need : root.need ≤ length buffer
 
 -- the first program that the verifier refuses, with its refusal
-pub record IsFirstRefused (programs : List ProgramBytes) (index : ℕ) (refusal : Refusal) : Type 0 where
-  pub refused : (p : ProgramBytes) × (slice_get programs index ≡ Some p) × RefusesProgram p refusal
-  pub earlier : (n : ℕ) (p : ProgramBytes) → n < index → slice_get programs n ≡ Some p → (v : Checked) × Accepts p v
+pub record IsFirstRefused (programs : List ProgramBytes) (index : ℕ) (refusal : Refusal) :
+    Type 0 where
+  pub refused : (p : ProgramBytes) × (slice_get programs index ≡ Some p)
+      × IsRefusedProgram p refusal
+  pub earlier : (n : ℕ) (p : ProgramBytes) → n < index → slice_get programs n ≡ Some p
+      → (v : Checked) × Accepts p v
 
 -- what there is to tell of programs of which one isn't accepted
-abbrev pub IsFirstFault : List ProgramBytes → AdmitFault → Type 0
-IsFirstFault programs (Program index refusal) = IsFirstRefused programs index refusal
-IsFirstFault programs NoMemory = Unit {0}
-IsFirstFault programs fault = ⊥
+abbrev pub IsProgramFault : List ProgramBytes → AdmitFault → Type 0
+IsProgramFault programs (Program index refusal) = IsFirstRefused programs index refusal
+IsProgramFault programs NoMemory = Unit {0}
+IsProgramFault programs fault = ⊥
 
 -- each program is accepted, and the root is this one
 pub record IsRoot (programs : List ProgramBytes) (root : Checked) : Type 0 where
@@ -65,18 +72,23 @@ pub record IsRoot (programs : List ProgramBytes) (root : Checked) : Type 0 where
   pub all : AreAccepted programs accepted
   pub first : slice_get accepted 0 ≡ Some root
 
--- the one refusal of a job, but for want of memory
+-- the one refusal of a job, but for want of memory, which comes where the numbers are within their
+-- limits alone
 abbrev pub RefusesJob : List ProgramBytes → ℕ → List ℕ → AdmitFault → Type 0
 RefusesJob programs credit buffer NoPrograms = length programs ≡ 0
 RefusesJob programs credit buffer TooManyPrograms = 16 < length programs
 RefusesJob programs credit buffer TooLarge =
-    (1 ≤ length programs) × (length programs ≤ 16) × ((2147483647 < credit) ⊎ (65536 < length buffer))
-RefusesJob programs credit buffer (Program index refusal) = IsWithinLimits programs credit buffer × IsFirstRefused programs index refusal
+    (1 ≤ length programs) × (length programs ≤ 16)
+    × ((max_credit < credit) ⊎ (max_part < length buffer))
+RefusesJob programs credit buffer (Program index refusal) =
+    IsWithinLimits programs credit buffer × IsFirstRefused programs index refusal
 RefusesJob programs credit buffer CreditLow =
-    IsWithinLimits programs credit buffer × (root : Checked) × IsRoot programs root × (credit < cost_at root 0)
+    IsWithinLimits programs credit buffer × (root : Checked) × IsRoot programs root
+    × (credit < cost_at root 0)
 RefusesJob programs credit buffer BufferShort =
-    IsWithinLimits programs credit buffer × (root : Checked) × IsRoot programs root × (cost_at root 0 ≤ credit) × (length buffer < root.need)
-RefusesJob programs credit buffer NoMemory = Unit {0}
+    IsWithinLimits programs credit buffer × (root : Checked) × IsRoot programs root
+    × (cost_at root 0 ≤ credit) × (length buffer < root.need)
+RefusesJob programs credit buffer NoMemory = IsWithinLimits programs credit buffer
 
 -- the numbers of the refusals, and the slot that one tells
 abbrev pub number_of : AdmitFault → ℕ

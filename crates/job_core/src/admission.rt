@@ -2,10 +2,11 @@
 
 ghost use Rattle.std.specs.Prelude.{◌≡◌, ◌≤◌, length, IfOk, IfErr};
 ghost use Rattle.job_core.specs.Admitted.{AreOwn};
-ghost use Rattle.job_core.specs.Admission.{AreAccepted, IsAdmittedFrom, IsFirstFault, RefusesJob, fault_of, number_of, place_of, slot_of};
+ghost use Rattle.job_core.specs.Admission.{AreAccepted, IsAdmittedFrom, IsProgramFault, RefusesJob, fault_of, number_of, place_of, slot_of};
 
 use crate::job::Job;
 use helpers::HelperTable;
+use machine_model::{MAX_CREDIT, MAX_PART};
 use refusal::NoMemory;
 use std::alloc::{AllocError, AllocFailed, Global};
 use thiserror::Error;
@@ -130,7 +131,7 @@ fn verify_each(alloc: Global, programs: &[ProgramBytes]) -> Result<Vec<Verified>
     requires { length programs.now ≤ 16 }
     ensures accepted { IfOk result (λ accepted. AreAccepted programs.now accepted.items) }
     ensures own { IfOk result (λ accepted. AreOwn accepted.items) }
-    ensures refused { IfErr result (λ fault. IsFirstFault programs.now fault) }
+    ensures refused { IfErr result (λ fault. IsProgramFault programs.now fault) }
 {
     let helpers = HelperTable::job();
     let mut accepted = Vec::new(alloc);
@@ -162,7 +163,7 @@ pub fn admit(
     if programs.len() > 16 {
         return Err(AdmitFault::TooManyPrograms);
     }
-    if credit > 2_147_483_647 || buffer.len() > 65_536 {
+    if credit > MAX_CREDIT || buffer.len() > MAX_PART {
         return Err(AdmitFault::TooLarge);
     }
     let programs = verify_each(alloc, programs)?;

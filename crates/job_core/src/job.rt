@@ -12,13 +12,22 @@ pub struct Job {
 }
 
 impl Model for Job {
-    ghost use Rattle.job_core.specs.Admitted.{Order, IsAdmitted};
+    ghost use Rattle.job_core.specs.Admitted.{AdmittedJob, IsAdmitted};
 
-    ghost Value = { Order };
+    ghost Value = { AdmittedJob };
 
-    ghost view = { λ j. record { programs = j.programs.items; credit = j.credit; buffer = j.buffer.items } };
+    ghost view = { λ j. record {
+      programs = j.programs.items;
+      credit = j.credit;
+      buffer = j.buffer.items;
+    } };
 
-    ghost invariant = { λ j. IsAdmitted (record { programs = j.programs.items; credit = j.credit; buffer = j.buffer.items }) };
+    ghost invariant = { λ j.
+        IsAdmitted (record {
+          programs = j.programs.items;
+          credit = j.credit;
+          buffer = j.buffer.items;
+        }) };
 }
 
 impl Job {
@@ -41,7 +50,11 @@ impl Job {
 
     /// The job's programs, its credit and its buffer.
     pub fn into_parts(self) -> (Vec<Verified>, u32, Vec<u8>)
-        ensures parts { record { programs = result.0.items; credit = result.1; buffer = result.2.items }
+        ensures parts { record {
+          programs = result.0.items;
+          credit = result.1;
+          buffer = result.2.items;
+        }
             ≡ self }
         ensures admitted { IsAdmitted
             (record { programs = result.0.items; credit = result.1; buffer = result.2.items }) }

@@ -66,9 +66,11 @@ impl Spawner for Ledger {
     ghost asks = { λ ledger child.
         May (table_of ledger.book.history) (spawn_event ledger.turn (length (table_of ledger.book.history).standings) child) };
 
-    ghost spawns = { λ old child reply new. (new.entries.items ≡ old.entries.items) × (new.turn ≡ old.turn)
+    ghost spawns = { λ old child reply new. (new.entries.items ≡ old.entries.items)
+        × (new.turn ≡ old.turn)
         × (new.book.board ≡ old.book.board) × (new.book.size ≡ old.book.size)
-        × Enters old.turn old.lives.items old.parents.items old.book.history child reply new.lives.items new.parents.items new.book.history };
+        × Enters old.turn old.lives.items old.parents.items old.book.history child reply
+        new.lives.items new.parents.items new.book.history };
 
     ghost calls = { λ old helper arguments answer new. (answer ≡ 0) × (new ≡ old) };
 

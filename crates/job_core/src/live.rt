@@ -2,8 +2,8 @@
 
 ghost use Rattle.std.specs.Prelude.{◌≡◌, ℕ, ◌≤◌, ◌<◌, ◌^◌, length, IfOk};
 ghost use Rattle.helpers.specs.Piece.{Piece};
-ghost use Rattle.interpreter.specs.Behind.{IsCovered, entry_frame, at_slot, out_of, slot_after, zeroed};
-ghost use Rattle.interpreter.specs.Whoever.{DidToAll};
+ghost use Rattle.interpreter.specs.Representation.{IsCovered, entry_frame, at_slot, out_of, slot_after, zeroed};
+ghost use Rattle.interpreter.specs.StepEffectForAll.{StepEffectForAll};
 ghost use Rattle.interpreter.specs.Stretch as stretch;
 ghost use Rattle.interpreter.specs.Children.{MayHandOver};
 ghost use Rattle.job_core.specs.Living.{Living};
@@ -79,7 +79,7 @@ pub struct Live {
 }
 
 impl Model for Live {
-    ghost use Rattle.interpreter.specs.Behind.{at_slot};
+    ghost use Rattle.interpreter.specs.Representation.{at_slot};
     ghost use Rattle.job_core.specs.Living.{Living};
 
     ghost Value = { Living };
@@ -152,12 +152,14 @@ impl Live {
         limit: usize,
         spawner: &mut S,
     ) -> Ran
-        requires covered { IsCovered code.now (at_slot self.old.frame slot) self.old.part self.old.credit }
+        requires covered { IsCovered code.now (at_slot self.old.frame slot) self.old.part
+            self.old.credit }
         requires some { 0 < limit }
-        requires children { MayHandOver (S.entries spawner.old) self.old.credit.held (S.asks spawner.old) }
+        requires children { MayHandOver (S.entries spawner.old) self.old.credit.held
+            (S.asks spawner.old) }
         ensures ran { stretch.Ran code.now self.old.credit limit result.count
             (at_slot self.old.frame slot) self.old.part (λ frame part credit.
-            DidToAll code.now (S.entries spawner.old) frame part credit
+            StepEffectForAll code.now (S.entries spawner.old) frame part credit
             (out_of result.next) (at_slot self.new.frame (slot_after frame.slot result.next))
             self.new.part self.new.credit (spawner.new ≡ spawner.old)
             (λ child reply. S.spawns spawner.old child reply spawner.new)

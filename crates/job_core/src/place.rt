@@ -1,7 +1,7 @@
 //! Where a task stands in its tree.
 
 ghost use Rattle.std.specs.Prelude.{◌≡◌, ℕ, ◌≤◌, List, length, slice_get, Some, IfOk};
-ghost use Rattle.machine_model.specs.Job.{Member};
+ghost use Rattle.machine_model.specs.JobState.{Member};
 ghost use Rattle.task_trees.specs.Families.{AreParents, children_of, place_of};
 
 use refusal::NoMemory;

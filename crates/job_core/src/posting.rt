@@ -20,7 +20,7 @@ impl Job {
         ensures reader { IfOk result (λ r. (r.2.board ≡ arc_value r.0)
             × (r.2.seen ≡ Open number self.now.credit ∷ []) × (r.2.looks ≡ 0)) }
     {
-        // what a program costs at least is a fact of its type
+        // for the proof: what the type says of the root
         prove!(self.programs[0].need() <= 65_536);
         Board::open(alloc, number, self.credit)
     }

@@ -25,17 +25,19 @@ pub enum Stepped {
 }
 
 impl Tasks {
-    ghost use Rattle.machine_model.specs.Job.{Job};
-    ghost use Rattle.job_core.specs.Behind.{IsBehind, Steps, LeadsOn};
-    ghost use Rattle.job_core.specs.OneTask.{IsIdle, RunsTask};
+    ghost use Rattle.machine_model.specs.JobState.{JobState};
+    ghost use Rattle.job_core.specs.Representation.{RepresentsJob, Steps, LeadsOn};
+    ghost use Rattle.job_core.specs.OneTask.{IsSkipped, RunsTask};
     ghost use Rattle.job_core.specs.Keeping.{kept_of, IsBooked};
+    ghost use Rattle.machine_model.specs.Limits.{max_credit};
 
     /// One instruction of a task, if it is alive.
     pub fn step(&mut self, alloc: Global, number: u32) -> Stepped
-        requires behind { (j : Job) × IsBehind (kept_of self.old) j }
+        requires behind { (j : JobState) × RepresentsJob (kept_of self.old) j }
         requires booked { IsBooked self.old }
-        ensures steps { (j : Job) → IsBehind (kept_of self.old) j
+        ensures steps { (j : JobState) → RepresentsJob (kept_of self.old) j
             → Steps (kept_of self.old) j number result (kept_of self.new) }
+        ensures skipped { result ≡ Stepped.Skipped → kept_of self.new ≡ kept_of self.old }
         ensures programs { self.new.programs.items ≡ self.old.programs.items }
         ensures booked { IsBooked self.new }
     {
@@ -67,16 +69,17 @@ impl Tasks {
     /// The task is taken from its place, and its program looked up, but once.
     #[inline(always)]
     pub fn run_task(&mut self, alloc: Global, number: u32, limit: usize) -> (usize, Stepped)
-        requires behind { (j : Job) × IsBehind (kept_of self.old) j }
+        requires behind { (j : JobState) × RepresentsJob (kept_of self.old) j }
         requires booked { IsBooked self.old }
         ensures leads { LeadsOn (kept_of self.old) (replicate result.0 number) (kept_of self.new) }
-        ensures runs { (j : Job) → IsBehind (kept_of self.old) j
+        ensures runs { (j : JobState) → RepresentsJob (kept_of self.old) j
             → RunsTask (kept_of self.old) j number result.0 result.1 (kept_of self.new) }
         ensures idle { result.0 ≡ 0 → 0 < limit
-            → IsIdle (kept_of self.old) number (kept_of self.new) }
+            → IsSkipped (kept_of self.old) number (kept_of self.new) }
+        ensures skipped { result.1 ≡ Stepped.Skipped → kept_of self.new ≡ kept_of self.old }
         ensures whole { result.1 ≡ Stepped.Went → result.0 ≡ limit }
         ensures most { result.0 ≤ limit }
-        ensures few { result.0 ≤ 2147483647 }
+        ensures few { result.0 ≤ max_credit }
         ensures booked { IsBooked self.new }
     {
         let Tasks { programs, ledger } = self;
@@ -110,7 +113,7 @@ impl Tasks {
     /// each entry, or until the task ends. What is left of it. Where the task isn't alive, all
     /// these entries are passed over.
     pub fn run<'a>(&mut self, alloc: Global, schedule: &'a [u32]) -> &'a [u32]
-        requires behind { (j : Job) × IsBehind (kept_of self.old) j }
+        requires behind { (j : JobState) × RepresentsJob (kept_of self.old) j }
         requires booked { IsBooked self.old }
         requires some { 0 < length schedule.now }
         ensures leads { (numbers : List ℕ) × (schedule.now ≡ numbers ++ result.now)

@@ -11,7 +11,7 @@ use crate::room::room_of;
 use crate::tasks::{Stepped, Tasks};
 use crate::totals::{Totals, used_by_live};
 use credit_book::{Board, Book, Report};
-use helpers::{Entry, Part};
+use helpers::Part;
 use refusal::NoMemory;
 use std::alloc::Global;
 use std::marker::Model;
@@ -23,30 +23,32 @@ pub struct World {
 }
 
 impl Model for World {
-    ghost use Rattle.machine_model.specs.Job.{Job};
-    ghost use Rattle.job_core.specs.Behind.{Kept, IsBehind};
+    ghost use Rattle.machine_model.specs.JobState.{JobState};
+    ghost use Rattle.job_core.specs.Representation.{WorldState, RepresentsJob};
     ghost use Rattle.job_core.specs.Keeping.{kept_of, IsBooked};
 
-    ghost Value = { Kept };
+    ghost Value = { WorldState };
 
     ghost view = { λ w. kept_of w.tasks };
 
-    ghost invariant = { λ w. (j : Job) × IsBehind (kept_of w.tasks) j × IsBooked w.tasks };
+    ghost invariant = { λ w. (j : JobState) × RepresentsJob (kept_of w.tasks) j
+        × IsBooked w.tasks };
 }
 
 impl World {
     ghost use Rattle.std.specs.Prelude.{◌≡◌, ℕ, ◌<◌, ◌≤◌, ◌↔◌, List, ◌++◌, length, slice_get, Some, IfOk, IfErr, IfSome, IsSome, IsTrue};
-    ghost use Rattle.machine_model.specs.Job as model;
-    ghost use Rattle.machine_model.specs.Job.{start, IsAlive, IsComplete, Member};
+    ghost use Rattle.machine_model.specs.JobState as model;
+    ghost use Rattle.machine_model.specs.JobState.{start, IsAlive, IsComplete, Member};
     ghost use Rattle.task_trees.specs.Families.{place_of};
-    ghost use Rattle.job_core.specs.Behind.{IsBehind, Steps, LeadsOn};
+    ghost use Rattle.job_core.specs.Representation.{RepresentsJob, Steps, LeadsOn};
     ghost use Rattle.job_core.specs.Answers.{AreTotals, IsReportOf};
     ghost use Rattle.job_core.specs.OneTask.{RunsTask};
     ghost use Rattle.job_core.specs.Rooms.{room_at};
+    ghost use Rattle.machine_model.specs.Limits.{max_credit};
 
     /// The job at its start: the root alone, with all the credit and the whole buffer.
     pub fn open(alloc: Global, job: Job) -> Result<World, NoMemory>
-        ensures start { IfOk result (λ world. IsBehind world (start job.credit job.buffer)) }
+        ensures start { IfOk result (λ world. RepresentsJob world (start job.credit job.buffer)) }
         ensures programs { IfOk result (λ world. world.programs ≡ job.programs) }
     {
         let Job {
@@ -56,11 +58,7 @@ impl World {
         } = job;
         let mut entries = Vec::new(alloc);
         for program in &programs {
-            let need = program.need();
-            entries.push(Entry {
-                cost: program.cost_at(0),
-                need,
-            })?;
+            entries.push(program.entry())?;
         }
         let (_, post, _) = Board::open(alloc, 0, credit)?;
         let (book, ticket) = Book::open(alloc, post, Part::whole(buffer))?;
@@ -82,10 +80,11 @@ impl World {
         })
     }
 
-    /// One instruction of a task, if it is alive.
+    /// One instruction of a task, if it is alive. Otherwise nothing changes.
     pub fn step(&mut self, alloc: Global, number: u32) -> Stepped
-        ensures steps { (j : model.Job) → IsBehind self.old j
+        ensures steps { (j : model.JobState) → RepresentsJob self.old j
             → Steps self.old j number result self.new }
+        ensures skipped { result ≡ Stepped.Skipped → self.new ≡ self.old }
         ensures programs { self.new.programs ≡ self.old.programs }
     {
         self.tasks.step(alloc, number)
@@ -98,11 +97,12 @@ impl World {
     /// Each of them costs some of the job's credit, so that a run without a limit, 4,294,967,295,
     /// comes to an end of the task.
     pub fn run(&mut self, alloc: Global, number: u32, limit: u32) -> (u32, Stepped)
-        ensures runs { (j : model.Job) → IsBehind self.old j
+        ensures runs { (j : model.JobState) → RepresentsJob self.old j
             → RunsTask self.old j number result.0 result.1 self.new }
+        ensures skipped { result.1 ≡ Stepped.Skipped → self.new ≡ self.old }
         ensures whole { result.1 ≡ Stepped.Went → result.0 ≡ limit }
         ensures most { result.0 ≤ limit }
-        ensures few { result.0 ≤ 2147483647 }
+        ensures few { result.0 ≤ max_credit }
         ensures programs { self.new.programs ≡ self.old.programs }
     {
         let (count, came_to) = self.tasks.run_task(alloc, number, limit as usize);
@@ -122,7 +122,8 @@ impl World {
 
     /// Whether the task is alive.
     pub fn live(&self, number: u32) -> bool
-        ensures { (j : model.Job) → IsBehind self.now j → (IsTrue result ↔ IsAlive j number) }
+        ensures { (j : model.JobState) → RepresentsJob self.now j
+            → (IsTrue result ↔ IsAlive j number) }
     {
         match self.tasks.ledger.lives.get(number as usize) {
             Some(live) => live.is_some(),
@@ -130,9 +131,11 @@ impl World {
         }
     }
 
-    /// How many tasks there are, those that have ended among them. Their numbers run from 0.
+    /// How many tasks there are, those that have ended among them. Their numbers run from 0. A job
+    /// stands behind every world, whatever was done with it.
     pub fn len(&self) -> u32
-        ensures { (j : model.Job) → IsBehind self.now j → result ≡ length j.tasks }
+        ensures count { (j : model.JobState) → RepresentsJob self.now j → result ≡ length j.tasks }
+        ensures behind { (j : model.JobState) × RepresentsJob self.now j }
     {
         self.tasks.ledger.book.count()
     }
@@ -140,10 +143,10 @@ impl World {
     /// Where a task, live or ended, stands in the tree of tasks: the root's place is the empty
     /// list, and that of another task is its parent's, followed by its number among that one's
     /// children, counted from 1. None where no task has this number.
-    pub fn place(&self, number: u32) -> Result<Option<Vec<u32>>, NoMemory>
-        ensures known { IfOk result (λ found. (j : model.Job) → IsBehind self.now j
+    pub fn place(&self, alloc: Global, number: u32) -> Result<Option<Vec<u32>>, NoMemory>
+        ensures known { IfOk result (λ found. (j : model.JobState) → RepresentsJob self.now j
             → (IsSome found ↔ number < length j.tasks)) }
-        ensures value { IfOk result (λ found. (j : model.Job) → IsBehind self.now j
+        ensures value { IfOk result (λ found. (j : model.JobState) → RepresentsJob self.now j
             → IfSome found (λ place.
             (m : Member) → slice_get j.tasks number ≡ Some m → place.items ≡ place_of m)) }
     {
@@ -151,7 +154,7 @@ impl World {
         if number as usize > ledger.parents.len() {
             return Ok(None);
         }
-        Ok(Some(place_in(ledger.alloc, &ledger.parents, number)?))
+        Ok(Some(place_in(alloc, &ledger.parents, number)?))
     }
 
     /// For how many bytes the task's part has room, which is the memory that it takes. None where
@@ -167,7 +170,7 @@ impl World {
 
     /// Whether no task is alive.
     pub fn is_complete(&self) -> bool
-        ensures { (j : model.Job) → IsBehind self.now j → (IsTrue result ↔ IsComplete j) }
+        ensures { (j : model.JobState) → RepresentsJob self.now j → (IsTrue result ↔ IsComplete j) }
     {
         self.tasks.ledger.book.progress().complete
     }
@@ -175,7 +178,7 @@ impl World {
     /// The credit that live tasks hold, and that ended tasks returned and spent, and what all of
     /// them have used.
     pub fn totals(&self) -> Totals
-        ensures { (j : model.Job) → IsBehind self.now j → AreTotals result j }
+        ensures { (j : model.JobState) → RepresentsJob self.now j → AreTotals result j }
     {
         let book = &self.tasks.ledger.book;
         let progress = book.progress();
@@ -190,7 +193,7 @@ impl World {
 
     /// The job's buffer as it is now.
     pub fn buffer(&self, alloc: Global) -> Result<Vec<u8>, NoMemory>
-        ensures { IfOk result (λ buffer. (j : model.Job) → IsBehind self.now j
+        ensures { IfOk result (λ buffer. (j : model.JobState) → RepresentsJob self.now j
             → buffer.items ≡ j.buffer) }
     {
         let mut buffer = Vec::new(alloc);
@@ -201,8 +204,9 @@ impl World {
 
     /// The report, where no task is alive.
     pub fn report(&self) -> Option<&Report>
-        ensures some { (j : model.Job) → IsBehind self.now j → (IsSome result ↔ IsComplete j) }
-        ensures value { (j : model.Job) → IsBehind self.now j
+        ensures some { (j : model.JobState) → RepresentsJob self.now j
+            → (IsSome result ↔ IsComplete j) }
+        ensures value { (j : model.JobState) → RepresentsJob self.now j
             → IfSome result (λ report. IsReportOf report.now j) }
     {
         self.tasks.ledger.book.report()
@@ -210,10 +214,11 @@ impl World {
 
     /// Gives the report up where no task is alive, and else the world back as it was.
     pub fn close(self) -> Result<Report, World>
-        ensures report { IfOk result (λ report. (j : model.Job) → IsBehind self j → IsComplete j
+        ensures report { IfOk result (λ report. (j : model.JobState) → RepresentsJob self j
+            → IsComplete j
             × IsReportOf report j) }
         ensures world { IfErr result (λ world. (world ≡ self)
-            × ((j : model.Job) → IsBehind self j → IsComplete j → ⊥)) }
+            × ((j : model.JobState) → RepresentsJob self j → IsComplete j → ⊥)) }
     {
         if !self.is_complete() {
             return Err(self);
@@ -228,21 +233,16 @@ impl World {
     }
 }
 
-ghost use Rattle.std.specs.Prelude.{map};
-ghost use Rattle.machine_model.specs.Job as model;
-ghost use Rattle.machine_model.specs.Job.{start};
-ghost use Rattle.verifier.specs.Checked.{program_of};
-ghost use Rattle.job_core.specs.Behind.{IsBehind, Plays};
-ghost use Rattle.task_trees.specs.Answer.{PlaysToAnswer};
+ghost use Rattle.machine_model.specs.JobState as model;
+ghost use Rattle.machine_model.specs.JobState.{start};
+ghost use Rattle.job_core.specs.Representation.{RepresentsJob, Plays, PlaysJob};
 
 /// One instruction of each task of the schedule in turn.
 ///
 /// Where no spawn was refused and no task is alive, the buffer, the R0s by place and the credit
 /// spent are those that the root comes to with all that it spawns, whatever the schedule.
 pub fn play(alloc: Global, job: Job, schedule: &[u32]) -> Result<World, NoMemory>
-    ensures answer { IfOk result (λ world. (last : model.Job) × IsBehind world last
-        × PlaysToAnswer (map program_of job.programs) job.credit job.buffer schedule.now last) }
-    ensures run { IfOk result (λ world. Plays job.programs (start job.credit job.buffer) schedule.now world) }
+    ensures { IfOk result (λ world. PlaysJob job schedule.now world) }
 {
     let mut world = World::open(alloc, job)?;
     let mut rest = schedule;
@@ -252,10 +252,11 @@ pub fn play(alloc: Global, job: Job, schedule: &[u32]) -> Result<World, NoMemory
     Ok(world)
 }
 
-ghost use Rattle.job_core.specs.Behind.{Kept};
+ghost use Rattle.job_core.specs.Representation.{WorldState};
 
 /// What a world keeps leaves one buffer to every job behind what it keeps.
 pub fn keeps_one_buffer()
-    ensures { (kept : Kept) (j k : model.Job) → IsBehind kept j → IsBehind kept k
+    ensures { (kept : WorldState) (j k : model.JobState) → RepresentsJob kept j
+        → RepresentsJob kept k
         → j.buffer ≡ k.buffer }
 {}

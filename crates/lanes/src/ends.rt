@@ -23,20 +23,33 @@ impl Protocol<Ticket, Moves> for InOrder {
     ghost guest = { newcomer };
 }
 
-struct Pushed;
+/// What a push tells its lane's owner.
+struct Put;
 
-impl Outcome<Ticket, Moves> for Pushed {
-    ghost use Rattle.lanes.specs.Interleaving.{with_pushed};
+impl Outcome<Ticket, Moves> for Put {
+    ghost use Rattle.lanes.specs.Interleaving.{OwnerPut};
 
-    ghost then = { λ v xs w. w ≡ with_pushed v xs };
+    ghost then = { OwnerPut };
 }
 
-struct Taken;
+/// What a pop tells its lane's owner: also that there was none, where there was none.
+struct Took;
 
-impl Outcome<Ticket, Moves> for Taken {
-    ghost use Rattle.lanes.specs.Interleaving.{with_taken};
+impl Outcome<Ticket, Moves> for Took {
+    ghost use Rattle.lanes.specs.Interleaving.{OwnerTook, FoundNone};
 
-    ghost then = { λ v xs w. w ≡ with_taken v xs };
+    ghost then = { OwnerTook };
+
+    ghost empty = { FoundNone 0 };
+}
+
+/// What a steal tells its thief.
+struct Stole;
+
+impl Outcome<Ticket, Moves> for Stole {
+    ghost use Rattle.lanes.specs.Interleaving.{ThiefTook};
+
+    ghost then = { ThiefTook };
 }
 
 type Ready = Worker<Ticket, Global, Moves, InOrder>;
@@ -67,11 +80,22 @@ pub struct Thief {
     ghost fifo: { stealer_flavor reach ≡ 0 },
 }
 
-/// What a caller has moved. The owner's shows its worker, and a thief's its seat.
+/// What a caller has moved. The owner's is a `Pass<Owning>`, and a thief's a `Pass<Stealing>`.
 #[derive(Drop)]
-pub struct Pass {
-    owns: bool,
+pub struct Pass<K> {
+    knows: K,
+}
+
+/// What an owner's pass knows: its worker. A type that held a worker's snapshot beside a seat would
+/// find no proof that it may cross to a thread.
+#[derive(Drop)]
+pub struct Owning {
     seen: Snapshot<Ready>,
+}
+
+/// What a thief's pass knows: its seat.
+#[derive(Drop)]
+pub struct Stealing {
     seat: Seat,
 }
 
@@ -87,9 +111,9 @@ pub enum Stolen {
 
 impl Lane {
     ghost use Rattle.std.specs.Prelude.{MatchResult, MatchOption, [], ◌∷◌, IfOk};
-    ghost use Rattle.crossbeam_deque.specs.Handles.{worker_view, view, stealer_deque, IsPassOf};
-    ghost use Rattle.lanes.specs.Interleaving.{with_pushed, with_taken, newcomer};
-    ghost use Rattle.lanes.specs.Passes.{moves, IsOwner, IsThiefOf, IsNewThief};
+    ghost use Rattle.crossbeam_deque.specs.Handles.{worker_view, worker_deque, view, stealer_deque, IsPassOf};
+    ghost use Rattle.lanes.specs.Interleaving.{newcomer, FoundNone, OwnerPut, OwnerTook};
+    ghost use Rattle.lanes.specs.Passes.{moves_of, IsOwner, IsThiefOf, IsNewThief};
 
     /// A lane with no ticket.
     pub(crate) fn empty(alloc: Global) -> Result<Lane, NoMemory>
@@ -100,17 +124,14 @@ impl Lane {
         })
     }
 
-    /// The pass of the owner of a new lane. The owner's seat stays unused.
-    pub(crate) fn owner(&self) -> Result<Pass, NoMemory>
-        ensures { IfOk result (λ p. IsOwner self.now p × (moves p ≡ worker_view self.now.ready)) }
+    /// The pass of its owner.
+    pub(crate) fn owner(&self) -> Pass<Owning>
+        ensures { IsOwner self.now result × (moves_of result ≡ worker_view self.now.ready) }
     {
-        let seat = self.ready.stealer()?.pass();
         let seen = Snapshot::of(&self.ready);
-        Ok(Pass {
-            owns: true,
-            seen,
-            seat,
-        })
+        Pass {
+            knows: Owning { seen },
+        }
     }
 
     /// A thief of this lane, and a bare seat of its own.
@@ -124,77 +145,84 @@ impl Lane {
     }
 
     /// A thief of this lane, and its pass.
-    pub(crate) fn thief(&self) -> Result<(Thief, Pass), NoMemory>
+    pub(crate) fn thief(&self) -> Result<(Thief, Pass<Stealing>), NoMemory>
         ensures { IfOk result (λ g. IsNewThief self.now g.0 g.1) }
     {
         let (thief, seat) = self.way()?;
         let pass = Pass {
-            owns: false,
-            seen: Snapshot::of(&self.ready),
-            seat,
+            knows: Stealing { seat },
         };
         Ok((thief, pass))
     }
 
     /// Puts a ticket at the back, or gives it back where there is no room for it.
     pub(crate) fn put(&mut self, ticket: Ticket) -> Result<(), Ticket>
-        ensures { MatchResult result (λ _. worker_view self.new.ready
-            ≡ with_pushed (worker_view self.old.ready) (ticket ∷ []))
+        ensures same { worker_deque self.new.ready ≡ worker_deque self.old.ready }
+        ensures moved { MatchResult result
+            (λ _. OwnerPut (worker_view self.old.ready) (ticket ∷ []) (worker_view self.new.ready))
             (λ back. (back ≡ ticket) × (worker_view self.new.ready ≡ worker_view self.old.ready)) }
     {
-        self.ready.push_as::<Pushed>(ticket)
+        self.ready.push_as::<Put>(ticket)
     }
 
-    /// The ticket at the front.
+    /// The ticket at the front. `None`: there was none at one moment of the call.
     pub(crate) fn next(&mut self) -> Option<Ticket>
-        ensures { MatchOption result (worker_view self.new.ready ≡ worker_view self.old.ready)
-            (λ ticket. worker_view self.new.ready
-            ≡ with_taken (worker_view self.old.ready) (ticket ∷ [])) }
+        ensures same { worker_deque self.new.ready ≡ worker_deque self.old.ready }
+        ensures moved { MatchOption result
+            ((worker_view self.new.ready ≡ worker_view self.old.ready)
+            × FoundNone 0 (worker_view self.old.ready))
+            (λ ticket. OwnerTook (worker_view self.old.ready) (ticket ∷ [])
+            (worker_view self.new.ready)) }
     {
-        self.ready.pop_as::<Taken>()
+        self.ready.pop_as::<Took>()
     }
 
     /// Puts a ticket at the back. The ticket comes back where there is no room for it.
-    pub fn push(&mut self, pass: &mut Pass, ticket: Ticket) -> Result<(), Ticket>
+    ///
+    /// A ticket that was put in stands in the lane's order of pushing, of which each caller has
+    /// taken its own: `each_once_in_order` says what that means.
+    pub fn push(&mut self, pass: &mut Pass<Owning>, ticket: Ticket) -> Result<(), Ticket>
         requires { IsOwner self.old pass.old }
         ensures pass { IsOwner self.new pass.new }
-        ensures moved { MatchResult result (λ _. moves pass.new
-            ≡ with_pushed (moves pass.old) (ticket ∷ []))
-            (λ back. (back ≡ ticket) × (moves pass.new ≡ moves pass.old)) }
+        ensures moved { MatchResult result
+            (λ _. OwnerPut (moves_of pass.old) (ticket ∷ []) (moves_of pass.new))
+            (λ back. (back ≡ ticket) × (moves_of pass.new ≡ moves_of pass.old)) }
     {
         let pushed = self.put(ticket);
-        pass.seen = Snapshot::of(&self.ready);
+        pass.knows.seen = Snapshot::of(&self.ready);
         pushed
     }
 
-    /// Takes the ticket at the front.
-    pub fn take(&mut self, pass: &mut Pass) -> Option<Ticket>
+    /// Takes the ticket at the front, which was pushed, and which no other caller takes. `None`:
+    /// the lane had no ticket at one moment of the call.
+    pub fn take(&mut self, pass: &mut Pass<Owning>) -> Option<Ticket>
         requires { IsOwner self.old pass.old }
         ensures pass { IsOwner self.new pass.new }
-        ensures moved { MatchOption result (moves pass.new ≡ moves pass.old)
-            (λ ticket. moves pass.new ≡ with_taken (moves pass.old) (ticket ∷ [])) }
+        ensures moved { MatchOption result
+            ((moves_of pass.new ≡ moves_of pass.old) × FoundNone 0 (moves_of pass.old))
+            (λ ticket. OwnerTook (moves_of pass.old) (ticket ∷ []) (moves_of pass.new)) }
     {
         let taken = self.next();
-        pass.seen = Snapshot::of(&self.ready);
+        pass.knows.seen = Snapshot::of(&self.ready);
         taken
     }
 }
 
 impl Thief {
-    ghost use Rattle.std.specs.Prelude.{[], ◌∷◌, List};
-    ghost use Rattle.credit_book.specs.declared.task.Ticket.{Ticket};
-    ghost use Rattle.crossbeam_deque.specs.Handles.{view, worker_view, stealer_deque, IsPassOf};
-    ghost use Rattle.lanes.specs.Interleaving.{with_pushed, with_taken};
+    ghost use Rattle.std.specs.Prelude.{[], ◌∷◌};
+    ghost use Rattle.crossbeam_deque.specs.Handles.{view, worker_view, worker_deque, stealer_deque, IsPassOf};
+    ghost use Rattle.lanes.specs.Interleaving.{StealsSome, ThiefTook};
     ghost use Rattle.lanes.specs.Passes.{moves, IsGuest, MatchStolen};
 
-    /// Takes the ticket at the front of another worker's lane.
-    pub fn steal(&mut self, pass: &mut Pass) -> Stolen
+    /// Takes the ticket at the front of another worker's lane, which its owner has pushed, and
+    /// which no other caller takes.
+    pub fn steal(&mut self, pass: &mut Pass<Stealing>) -> Stolen
         requires { IsGuest self.old pass.old }
         ensures pass { IsGuest self.new pass.new }
         ensures moved { MatchStolen result (moves pass.new ≡ moves pass.old)
-            (λ ticket. moves pass.new ≡ with_taken (moves pass.old) (ticket ∷ [])) }
+            (λ ticket. ThiefTook (moves pass.old) (ticket ∷ []) (moves pass.new)) }
     {
-        self.steal_on(&mut pass.seat)
+        self.steal_on(&mut pass.knows.seat)
     }
 
     /// The ticket at the front, for a bare seat.
@@ -202,28 +230,31 @@ impl Thief {
         requires { IsPassOf (stealer_deque self.old.reach) seat.old }
         ensures pass { IsPassOf (stealer_deque self.new.reach) seat.new }
         ensures moved { MatchStolen result (view seat.new ≡ view seat.old)
-            (λ ticket. view seat.new ≡ with_taken (view seat.old) (ticket ∷ [])) }
+            (λ ticket. ThiefTook (view seat.old) (ticket ∷ []) (view seat.new)) }
     {
-        match self.reach.steal_as::<Taken>(seat) {
+        match self.reach.steal_as::<Stole>(seat) {
             Steal::Success(ticket) => Stolen::Got(ticket),
             Steal::Empty => Stolen::Empty,
             Steal::Retry => Stolen::Retry,
         }
     }
 
-    /// The ticket at the front, for a bare seat. Some of those behind it go into the thief's own
-    /// lane, in order.
+    /// The ticket at the front, for a bare seat. Some of those behind it, seven at most, go into
+    /// the thief's own lane, in order.
     pub(crate) fn steal_some(&mut self, seat: &mut Seat, own: &mut Lane) -> Stolen
         requires { IsPassOf (stealer_deque self.old.reach) seat.old }
+        ensures same { (stealer_deque self.new.reach ≡ stealer_deque self.old.reach)
+            × (worker_deque own.new.ready ≡ worker_deque own.old.ready) }
         ensures pass { IsPassOf (stealer_deque self.new.reach) seat.new }
         ensures moved { MatchStolen result
-            ((view seat.new ≡ view seat.old) × (worker_view own.new.ready ≡ worker_view own.old.ready))
-            (λ ticket. (more : List Ticket) × (view seat.new ≡ with_taken (view seat.old) (ticket ∷ more))
-            × (worker_view own.new.ready ≡ with_pushed (worker_view own.old.ready) more)) }
+            ((view seat.new ≡ view seat.old)
+            × (worker_view own.new.ready ≡ worker_view own.old.ready))
+            (λ ticket. StealsSome 8 (view seat.old) (worker_view own.old.ready) ticket
+            (view seat.new) (worker_view own.new.ready)) }
     {
         match self
             .reach
-            .steal_batch_and_pop_as::<Global, Moves, InOrder, Taken, Pushed>(
+            .steal_batch_and_pop_as::<Global, Moves, InOrder, Stole, Put>(
                 seat,
                 &mut own.ready,
                 MOST_AT_ONCE,

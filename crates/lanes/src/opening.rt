@@ -2,16 +2,19 @@
 
 ghost use Rattle.std.specs.Prelude.{◌≡◌, ◌≤◌, All, IfOk, vec_len};
 ghost use Rattle.lanes.specs.Interleaving.{newcomer};
-ghost use Rattle.lanes.specs.Passes.{moves, IsOwner, IsNewThief};
+ghost use Rattle.lanes.specs.Passes.{moves_of, IsOwner, IsNewThief};
 
-use crate::ends::{Lane, Pass, Thief};
+use crate::ends::{Lane, Owning, Pass, Stealing, Thief};
 use refusal::NoMemory;
 use std::alloc::Global;
 
 /// A lane with no ticket, the pass of its owner, and so many thieves, 15 at most, each with a pass.
-pub fn lane(alloc: Global, thieves: u32) -> Result<(Lane, Pass, Vec<(Thief, Pass)>), NoMemory>
+pub fn lane(
+    alloc: Global,
+    thieves: u32,
+) -> Result<(Lane, Pass<Owning>, Vec<(Thief, Pass<Stealing>)>), NoMemory>
     requires { thieves ≤ 15 }
-    ensures owner { IfOk result (λ r. IsOwner r.0 r.1 × (moves r.1 ≡ newcomer)) }
+    ensures owner { IfOk result (λ r. IsOwner r.0 r.1 × (moves_of r.1 ≡ newcomer)) }
     ensures count { IfOk result (λ r. vec_len r.2 ≡ thieves) }
     ensures thieves { IfOk result (λ r. All (λ g. IsNewThief r.0 g.0 g.1) r.2.items) }
 {
@@ -20,6 +23,6 @@ pub fn lane(alloc: Global, thieves: u32) -> Result<(Lane, Pass, Vec<(Thief, Pass
     for _ in 0..thieves {
         all.push_reserved(lane.thief()?);
     }
-    let pass = lane.owner()?;
+    let pass = lane.owner();
     Ok((lane, pass, all))
 }

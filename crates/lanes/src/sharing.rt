@@ -1,7 +1,7 @@
 //! The lanes of workers that steal from one another.
 ghost use Rattle.std.specs.Prelude.{◌≡◌, ◌+◌, ◌<◌, ◌≤◌, [], ◌∷◌, All, IfOk, MatchResult, MatchOption, length, vec_len};
-ghost use Rattle.lanes.specs.Interleaving.{newcomer, with_pushed, with_taken};
-ghost use Rattle.lanes.specs.Sharing.{IsAlone, IsNew, IsTaken};
+ghost use Rattle.lanes.specs.Interleaving.{newcomer};
+ghost use Rattle.lanes.specs.Sharing.{AreNew, IsAlone, IsIdle, IsTaken, LeadRound, Puts, lanes_of};
 
 use crate::ends::Lane;
 use crate::way::{Way, first_stolen};
@@ -11,7 +11,7 @@ use std::alloc::Global;
 use std::marker::Model;
 
 /// What one of several workers has of their lanes: the owner's end of its own, and a way into each
-/// other one. Contracts see what it has moved in each.
+/// other one. Contracts see which lane each is, and what it has moved in it.
 #[derive(Drop)]
 pub struct Lanes {
     own: Lane,
@@ -19,12 +19,18 @@ pub struct Lanes {
 }
 
 impl Model for Lanes {
-    ghost use Rattle.crossbeam_deque.specs.Handles.{worker_view};
+    ghost use Rattle.crossbeam_deque.specs.Handles.{worker_deque, worker_view};
     ghost use Rattle.lanes.specs.Sharing.{Moved};
 
     ghost Value = { Moved };
 
-    ghost view = { λ l. record { own = worker_view l.own.ready; others = l.ways.items } };
+    ghost view = { λ l. record {
+      own = record {
+        lane = (worker_deque l.own.ready).0;
+        moved = worker_view l.own.ready;
+      };
+      others = l.ways.items;
+    } };
 }
 
 impl Lanes {
@@ -40,7 +46,7 @@ impl Lanes {
 
     /// A way into its own lane, for another worker.
     fn way(&self) -> Result<Way, NoMemory>
-        ensures { IfOk result (λ way. way ≡ newcomer) }
+        ensures { IfOk result (λ way. way ≡ record { lane = self.now.own.lane; moved = newcomer }) }
     {
         let (thief, seat) = self.own.way()?;
         Ok(Way::new(thief, seat))
@@ -56,19 +62,18 @@ impl Lanes {
     /// Puts a ticket at the back of the worker's own lane. The ticket comes back where there is no
     /// room for it.
     pub fn push(&mut self, ticket: Ticket) -> Result<(), Ticket>
-        ensures { MatchResult result (λ _. self.new
-            ≡ record { own = with_pushed self.old.own (ticket ∷ []); others = self.old.others })
+        ensures { MatchResult result (λ _. Puts self.old (ticket ∷ []) self.new)
             (λ back. (back ≡ ticket) × (self.new ≡ self.old)) }
     {
         self.own.put(ticket)
     }
 
-    /// The ticket at the front of its own lane, or else at the front of the first other one that
-    /// gives one. Then some of those behind it may come over into its own lane, so that a thief
-    /// needn't come back for each. Nothing else is moved.
+    /// The ticket at the front of its own lane, or, where that has none, at the front of the first
+    /// other one that gives one. Then some of those behind it may come over into its own lane, so
+    /// that a thief needn't come back for each. Nothing else is moved.
     pub fn next(&mut self) -> Option<Ticket>
-        ensures { MatchOption result (self.new
-            ≡ self.old) (λ ticket. IsTaken self.old ticket self.new) }
+        ensures { MatchOption result (IsIdle self.old self.new)
+            (λ ticket. IsTaken self.old ticket self.new) }
     {
         if let Some(ticket) = self.own.next() {
             return Some(ticket);
@@ -81,7 +86,8 @@ impl Lanes {
 fn ways_of(alloc: Global, all: &[Lanes], place: usize) -> Result<Vec<Way>, NoMemory>
     requires { place < length all.now }
     ensures count { IfOk result (λ ways. vec_len ways + 1 ≡ length all.now) }
-    ensures new { IfOk result (λ ways. All (λ way. way ≡ newcomer) ways.items) }
+    ensures new { IfOk result (λ ways. All (λ way. way.moved ≡ newcomer) ways.items) }
+    ensures leads { IfOk result (λ ways. LeadRound (lanes_of all.now) place ways.items) }
 {
     let mut ways = Vec::with_capacity(alloc, all.len())?;
     for step in 1..all.len() {
@@ -92,11 +98,11 @@ fn ways_of(alloc: Global, all: &[Lanes], place: usize) -> Result<Vec<Way>, NoMem
 }
 
 /// The lanes of so many workers, 16 at most, each of which has a lane of its own and a way into
-/// each other one.
+/// each other one, the next worker's first.
 pub fn lanes_between(alloc: Global, workers: u32) -> Result<Vec<Lanes>, NoMemory>
     requires { workers ≤ 16 }
     ensures count { IfOk result (λ all. vec_len all ≡ workers) }
-    ensures new { IfOk result (λ all. All (IsNew workers) all.items) }
+    ensures new { IfOk result (λ all. AreNew all.items) }
 {
     let mut all = Vec::with_capacity(alloc, workers as usize)?;
     for _ in 0..workers {

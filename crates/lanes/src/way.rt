@@ -1,10 +1,9 @@
 //! The way of one worker into another's lane.
-ghost use Rattle.std.specs.Prelude.{◌≡◌, [], ◌∷◌, ◌<◌, List, length, MatchOption};
-ghost use Rattle.crossbeam_deque.specs.Handles.{worker_view};
-ghost use Rattle.credit_book.specs.declared.task.Ticket.{Ticket};
-ghost use Rattle.lanes.specs.Interleaving.{with_pushed, with_taken};
+ghost use Rattle.std.specs.Prelude.{◌≡◌, MatchOption};
+ghost use Rattle.crossbeam_deque.specs.Handles.{worker_deque, worker_view};
+ghost use Rattle.lanes.specs.Interleaving.{StealsSome};
 ghost use Rattle.lanes.specs.Passes.{MatchStolen};
-ghost use Rattle.lanes.specs.Sharing.{IsTakenFrom};
+ghost use Rattle.lanes.specs.Sharing.{StealsFirst};
 
 use crate::ends::{Lane, Seat, Stolen, Thief};
 use credit_book::Ticket;
@@ -15,7 +14,8 @@ use std::marker::Model;
 /// another has taken a ticket.
 const TRIES: u32 = 100;
 
-/// A thief beside what it knows. Contracts see what it has moved.
+/// A thief beside what it knows. Contracts see which lane it leads into, and what it has moved
+/// there.
 #[derive(Drop)]
 pub(crate) struct Way {
     thief: Thief,
@@ -25,11 +25,11 @@ pub(crate) struct Way {
 impl Model for Way {
     ghost use Rattle.crossbeam_deque.specs.Handles.{stealer_deque, IsPassOf};
     ghost use Rattle.lanes.specs.Passes.{known};
-    ghost use Rattle.lanes.specs.declared.moves.Moves.{Moves};
+    ghost use Rattle.lanes.specs.Sharing.{InLane};
 
-    ghost Value = { Moves };
+    ghost Value = { InLane };
 
-    ghost view = { λ w. known w.seat };
+    ghost view = { λ w. record { lane = (stealer_deque w.thief.reach).0; moved = known w.seat } };
 
     ghost invariant = { λ w. IsPassOf (stealer_deque w.thief.reach) w.seat };
 }
@@ -41,7 +41,7 @@ impl Way {
     /// The way of a thief with a seat of its own.
     pub fn new(thief: Thief, seat: Seat) -> Way
         requires { IsPassOf (stealer_deque thief.reach) seat }
-        ensures { result ≡ known seat }
+        ensures { result ≡ record { lane = (stealer_deque thief.reach).0; moved = known seat } }
     {
         Way { thief, seat }
     }
@@ -49,10 +49,12 @@ impl Way {
     /// Takes the ticket at the front of the lane, and moves some of those behind it into the
     /// thief's own lane, where no other caller comes first.
     fn steal(&mut self, own: &mut Lane) -> Stolen
-        ensures { MatchStolen result
+        ensures same { (self.new.lane ≡ self.old.lane)
+            × (worker_deque own.new.ready ≡ worker_deque own.old.ready) }
+        ensures moved { MatchStolen result
             ((self.new ≡ self.old) × (worker_view own.new.ready ≡ worker_view own.old.ready))
-            (λ ticket. (more : List Ticket) × (self.new ≡ with_taken self.old (ticket ∷ more))
-            × (worker_view own.new.ready ≡ with_pushed (worker_view own.old.ready) more)) }
+            (λ ticket. StealsSome 8 self.old.moved (worker_view own.old.ready) ticket
+            self.new.moved (worker_view own.new.ready)) }
     {
         self.thief.steal_some(&mut self.seat, own)
     }
@@ -60,10 +62,12 @@ impl Way {
     /// The same. Where other callers come first it tries again, as long as it doesn't look as if
     /// they always did.
     pub fn take(&mut self, own: &mut Lane) -> Option<Ticket>
-        ensures { MatchOption result
+        ensures same { (self.new.lane ≡ self.old.lane)
+            × (worker_deque own.new.ready ≡ worker_deque own.old.ready) }
+        ensures moved { MatchOption result
             ((self.new ≡ self.old) × (worker_view own.new.ready ≡ worker_view own.old.ready))
-            (λ ticket. (more : List Ticket) × (self.new ≡ with_taken self.old (ticket ∷ more))
-            × (worker_view own.new.ready ≡ with_pushed (worker_view own.old.ready) more)) }
+            (λ ticket. StealsSome 8 self.old.moved (worker_view own.old.ready) ticket
+            self.new.moved (worker_view own.new.ready)) }
     {
         for _ in 0..TRIES {
             match self.steal(own) {
@@ -79,10 +83,12 @@ impl Way {
 /// The ticket at the front of the first lane that gives one. Some of those behind it may come over
 /// into the thief's own lane.
 pub(crate) fn first_stolen(ways: &mut Vec<Way>, own: &mut Lane) -> Option<Ticket>
-    ensures { MatchOption result
-        ((ways.new.items ≡ ways.old.items) × (worker_view own.new.ready ≡ worker_view own.old.ready))
-        (λ ticket. (more : List Ticket) × IsTakenFrom ways.old.items (ticket ∷ more) ways.new.items
-        × (worker_view own.new.ready ≡ with_pushed (worker_view own.old.ready) more)) }
+    ensures same { worker_deque own.new.ready ≡ worker_deque own.old.ready }
+    ensures moved { MatchOption result
+        ((ways.new.items ≡ ways.old.items)
+        × (worker_view own.new.ready ≡ worker_view own.old.ready))
+        (λ ticket. StealsFirst 8 ways.old.items (worker_view own.old.ready) ticket
+        ways.new.items (worker_view own.new.ready)) }
 {
     for place in 0..ways.len() {
         if let Some(ticket) = ways[place].take(own) {

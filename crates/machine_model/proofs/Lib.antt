@@ -1,6 +1,7 @@
 pub mod Ranges
 pub mod Effects
 pub mod Keeps
+pub mod Pays
 pub mod Splits
 pub mod OwnHelpers
 pub mod Tables

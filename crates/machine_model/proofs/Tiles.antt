@@ -3,8 +3,8 @@ use Rattle.std.proofs.Common.{◌≡◌, ℕ, suc, ◌<◌, ◌≤◌, ◌+◌, 
 use Rattle.std.proofs.lemmas.Option.{slice_get_within}
 use Rattle.std.proofs.lemmas.List.{length-drop, length-take-le}
 use Rattle.std.proofs.lemmas.Bool.Decides.{nat_tests}
-use Rattle.machine_model.specs.Machine.{State, Program, Effect, Goes, Ends, Spawns, Calls, Traps, effect}
-use Rattle.machine_model.specs.Job.{Job, Task, Member, Live, Ended, Ending, goes_on, ending_of, with_state, child_of, state_in, entries_of, applied, task_step, member_step, step, base_of, size_of, IsApart, Owner, AreTiles}
+use Rattle.machine_model.specs.Machine.{State, Program, Effect, Continues, Ends, Spawns, Calls, Traps, effect}
+use Rattle.machine_model.specs.JobState.{JobState, Task, Member, Live, Ended, Ending, goes_on, ending_of, with_state, child_of, state_in, entries_of, applied, task_step, member_step, step, base_of, size_of, IsApart, Owner, AreTiles}
 use Rattle.machine_model.specs.Memory.{written}
 use Rattle.machine_model.proofs.Places.{set_same, set_other, by_number, push_old, push_new, pushed}
 use Rattle.machine_model.proofs.Ranges.{length-written}
@@ -130,10 +130,10 @@ part_long buffer t fits =
     let d = length-drop t.base buffer in length-take-le t.size (drop t.base buffer) (omega (arith, d, fits))
 
 -- the next job has a buffer of the same length, that the ranges of its members tile
-abbrev pub Tiled : Job → Job → Type 0
+abbrev pub Tiled : JobState → JobState → Type 0
 Tiled j k = AreTiles k.tasks (length j.buffer) × (length k.buffer ≡ length j.buffer)
 
-tiles_goes : (j : Job) (n : ℕ) (t : Task) (s : State) → slice_get j.tasks n ≡ Some (Live t) → length s.part ≡ t.size →
+tiles_goes : (j : JobState) (n : ℕ) (t : Task) (s : State) → slice_get j.tasks n ≡ Some (Live t) → length s.part ≡ t.size →
     AreTiles j.tasks (length j.buffer) → Tiled j (goes_on j n t s)
 tiles_goes j n t s here size tiles =
     let inside = tiles.inside n (Live t) here in
@@ -141,15 +141,15 @@ tiles_goes j n t s here size tiles =
     length-written j.buffer t.base s.part (omega (arith, inside, size)) in
     (tiles_set j.tasks n (length j.buffer) (Live t) (Live (with_state t s)) here refl size tiles, same)
 
-tiles_applied : (j : Job) (n : ℕ) (t : Task) (refuses : Bool) (e : Effect) (k : Job) → slice_get j.tasks n ≡ Some (Live t) →
+tiles_applied : (j : JobState) (n : ℕ) (t : Task) (refuses : Bool) (e : Effect) (k : JobState) → slice_get j.tasks n ≡ Some (Live t) →
     Splits (take t.size (drop t.base j.buffer)) e → applied j n t refuses e ≡ Some k → AreTiles j.tasks (length j.buffer) → Tiled j k
-tiles_applied j n t refuses (Goes s) k here splits is tiles =
+tiles_applied j n t refuses (Continues s) k here splits is tiles =
     let e : goes_on j n t s ≡ k = cc in
     subst (Tiled j) e
     (tiles_goes j n t s here (splits ∙ part_long j.buffer t (tiles.inside n (Live t) here)) tiles)
 tiles_applied j n t refuses (Ends r0 s) k here splits is tiles =
     let ending : Ending = ending_of t s r0 in
-    let made : Job = record { buffer = j.buffer; tasks = slice_set j.tasks n (Ended ending) } in
+    let made : JobState = record { buffer = j.buffer; tasks = slice_set j.tasks n (Ended ending) } in
     let e : made ≡ k = cc in
     subst (Tiled j) e
     (tiles_set j.tasks n (length j.buffer) (Live t) (Ended ending) here refl refl tiles, refl)
@@ -159,7 +159,7 @@ tiles_applied j n t true (Spawns birth taken refused) k here splits is tiles =
     (tiles_goes j n t refused here (ap length splits.1 ∙ part_long j.buffer t (tiles.inside n (Live t) here)) tiles)
 tiles_applied j n t false (Spawns birth taken refused) k here splits is tiles =
     let parent : Task = record (with_state t taken) { children = suc t.children } in
-    let made : Job = record { buffer = j.buffer; tasks = slice_set j.tasks n (Live parent) ++ Live (child_of t taken birth) ∷ [] } in
+    let made : JobState = record { buffer = j.buffer; tasks = slice_set j.tasks n (Live parent) ++ Live (child_of t taken birth) ∷ [] } in
     let e : made ≡ k = cc in
     let size : length taken.part + length birth.bytes ≡ t.size =
     sym (length-append taken.part birth.bytes) ∙ ap length splits.0 ∙ part_long j.buffer t (tiles.inside n (Live t) here) in
@@ -168,14 +168,14 @@ tiles_applied j n t false (Spawns birth taken refused) k here splits is tiles =
 tiles_applied j n t refuses (Calls helper arguments caller) k here splits is tiles = cc
 tiles_applied j n t refuses (Traps trap) k here splits is tiles = cc
 
-tiles_task : (programs : List Program) (j : Job) (n : ℕ) (t : Task) (refuses : Bool) (o : Option Program) (k : Job) →
+tiles_task : (programs : List Program) (j : JobState) (n : ℕ) (t : Task) (refuses : Bool) (o : Option Program) (k : JobState) →
     slice_get j.tasks n ≡ Some (Live t) → task_step programs j n t refuses o ≡ Some k → AreTiles j.tasks (length j.buffer) → Tiled j k
 tiles_task programs j n t refuses None k here is tiles = cc
 tiles_task programs j n t refuses (Some p) k here is tiles =
     tiles_applied j n t refuses (effect p (entries_of programs) (state_in j.buffer t)) k here
     (splits_effect p (entries_of programs) (state_in j.buffer t)) is tiles
 
-tiles_member : (programs : List Program) (j : Job) (n : ℕ) (refuses : Bool) (o : Option Member) (k : Job) → slice_get j.tasks n ≡ o →
+tiles_member : (programs : List Program) (j : JobState) (n : ℕ) (refuses : Bool) (o : Option Member) (k : JobState) → slice_get j.tasks n ≡ o →
     member_step programs j n refuses o ≡ Some k → AreTiles j.tasks (length j.buffer) → Tiled j k
 tiles_member programs j n refuses None k at is tiles =
     let e : j ≡ k = cc in subst (Tiled j) e (tiles, refl)
@@ -185,6 +185,6 @@ tiles_member programs j n refuses (Some (Live t)) k at is tiles =
     tiles_task programs j n t refuses (slice_get programs t.program) k at is tiles
 
 -- the ranges tile the buffer after each step from a job where they do
-pub tiles_step : (programs : List Program) (j k : Job) (n : ℕ) (refuses : Bool) → step programs j n refuses ≡ Some k →
+pub tiles_step : (programs : List Program) (j k : JobState) (n : ℕ) (refuses : Bool) → step programs j n refuses ≡ Some k →
     AreTiles j.tasks (length j.buffer) → Tiled j k
 tiles_step programs j k n refuses is tiles = tiles_member programs j n refuses (slice_get j.tasks n) k refl is tiles

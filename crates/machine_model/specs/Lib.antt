@@ -4,9 +4,11 @@ pub mod Outcomes
 pub mod Edges
 pub mod Paths
 pub mod Memory
+pub mod Bytes
 pub mod Spawn
 pub mod Machine
-pub mod Job
+pub mod JobState
 pub mod Computing
 pub mod Alone
 pub mod Following
+pub mod Limits

@@ -3,10 +3,12 @@
 #![tactic(auto)]
 
 mod laws;
+mod limits;
 mod prices;
 mod program;
 
 pub use laws::{conserves_credit, keeps_tiling, steps_follow_edges};
+pub use limits::{MAX_CREDIT, MAX_PART};
 pub use prices::{helper_price, price};
 pub use program::Entry;
 

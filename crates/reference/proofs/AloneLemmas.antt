@@ -1,8 +1,8 @@
 -- What a state on the way says of the start of a program that runs alone.
 use Rattle.std.proofs.Common.{◌≡◌, ◌≤◌, ◌⊎◌, inl, inr, ℕ, zero, suc, List, [], refl, sym, ◌∙◌, subst, Some}
 use Rattle.machine_model.specs.declared.program.Entry.{Entry}
-use Rattle.machine_model.specs.Machine.{State, Program, Effect, Goes, Ends, Spawns, Calls, Traps, Birth, Trap, answered, effect}
-use Rattle.machine_model.specs.Job.{entries_of}
+use Rattle.machine_model.specs.Machine.{State, Program, Effect, Continues, Ends, Spawns, Calls, Traps, Birth, Trap, answered, effect}
+use Rattle.machine_model.specs.JobState.{entries_of}
 use Rattle.machine_model.specs.Alone.{MayAnswer, EndsWithin, Follows, no_entries}
 use Rattle.reference.specs.Records.{FarOn, FarWithin, GoesFar, HasOneAnswer, NeverEnds, Stays, StaysFor}
 use Rattle.machine_model.proofs.Splits.{Births, births_effect}
@@ -52,11 +52,11 @@ module _ (p : Program) (may : MayAnswer) (n : ℕ) (first : State) (m k : ℕ) (
       4294967296 ≤ caller.slot → FarWithin p may n first
   far_call helper arguments caller is past = far_by (Calls helper arguments caller) is (inl past)
 
-  pub leads_goes : (next : State) → Goes next ≡ effect p (entries_of []) s → Leads p may n first k next
+  pub leads_goes : (next : State) → Continues next ≡ effect p (entries_of []) s → Leads p may n first k next
   leads_goes next is = record {
-    ends = λ r0 last e. by_effect (Goes next) is r0 last e;
-    stays = λ e. stays_by (Goes next) is e;
-    far = λ e. far_by (Goes next) is e;
+    ends = λ r0 last e. by_effect (Continues next) is r0 last e;
+    stays = λ e. stays_by (Continues next) is e;
+    far = λ e. far_by (Continues next) is e;
   }
 
   pub leads_calls : (helper : ℕ) (arguments : List ℕ) (caller next : State) (answer : ℕ) → Calls helper arguments caller ≡ effect p (entries_of []) s →
@@ -85,7 +85,7 @@ stays_at_last p may n first m s none leads = leads.stays (subst (λ (i : ℕ). S
 
 apart : (may : MayAnswer) → HasOneAnswer may → (A B : State → Type 0) → ((s : State) → A s → B s → ⊥) → (r0 : ℕ) (last : State) (e : Effect) →
     Stays may A e → Follows may B r0 last e → ⊥
-apart may one A B each r0 last (Goes next) a b = each next a b
+apart may one A B each r0 last (Continues next) a b = each next a b
 apart may one A B each r0 last (Ends word state) a b = a
 apart may one A B each r0 last (Spawns birth taken refused) a b = a
 apart may one A B each r0 last (Calls helper arguments caller) a b =

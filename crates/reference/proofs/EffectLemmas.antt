@@ -12,7 +12,7 @@ use Rattle.machine_model.specs.Memory.{bytes_at, little_bytes, little_number, wr
 use Rattle.machine_model.specs.declared.program.Entry.{Entry}
 use Rattle.machine_model.specs.Outcomes.{on_number}
 use Rattle.machine_model.specs.Spawn.{answer_of}
-use Rattle.machine_model.specs.Machine.{State, Program, Entries, Effect, Goes, onward, loaded, stored, called, writing, reading, number_in, given, moved, spawned, cost_at, answered, landing, located}
+use Rattle.machine_model.specs.Machine.{State, Program, Entries, Effect, Continues, onward, loaded, stored, called, writing, reading, number_in, given, moved, spawned, cost_at, answered, landing, located}
 use Rattle.reference.specs.Records.{GoesFar, IsFar, IsFarResult, counting, placing, registers_of, value_of}
 
 -- any register but R10 is written
@@ -146,9 +146,9 @@ spawn_by p entries s program share cut arg after reply child known cost is =
     ∙ ap (λ (n : ℕ). answer_of (entries program) share cut s.held s.used n (length s.part) p.need) cost)
 
 pub spawned_other : (s : State) (program share cut arg reply : ℕ) → nat_eq reply 0 ≡ false →
-    Goes (answered s reply) ≡ spawned s program share cut arg reply
+    Continues (answered s reply) ≡ spawned s program share cut arg reply
 spawned_other s program share cut arg reply off = rw off refl
 
 -- what follows the sum of so many bytes from a place on
 abbrev pub sum_from : State → List ℕ → ℕ → ℕ → Effect
-sum_from s memory count at = Goes (answered s (sum (bytes_at memory at count)))
+sum_from s memory count at = Continues (answered s (sum (bytes_at memory at count)))

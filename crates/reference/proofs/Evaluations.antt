@@ -3,8 +3,8 @@ use Rattle.std.proofs.Common.{◌≡◌, ◌↔◌, arith, ◌≤◌, false, nat
 use Rattle.std.proofs.lemmas.Bool.Decides.{nat_tests}
 use Rattle.std.proofs.lemmas.Option.{slice_get-map}
 use Rattle.std.proofs.lemmas.List.{append_assoc, append-nil, map-append, reverse-append}
-use Rattle.machine_model.specs.Machine.{State, Program, Birth, Effect, Goes, Ends, Spawns, Calls, Traps, Trap, effect}
-use Rattle.machine_model.specs.Job.{Task, entries_of, with_state, child_of, ending_of}
+use Rattle.machine_model.specs.Machine.{State, Program, Birth, Effect, Continues, Ends, Spawns, Calls, Traps, Trap, effect}
+use Rattle.machine_model.specs.JobState.{Task, entries_of, with_state, child_of, ending_of}
 use Rattle.task_trees.specs.Eval.{Comes, Eval, EvalWithin, Finished, parent_of, root, state_with}
 use Rattle.task_trees.specs.Answer.{RootComes}
 use Rattle.task_trees.proofs.EvalLemmas.{eval_from, eval_to}
@@ -36,15 +36,15 @@ module _ (programs : List Program) (done : List FinishedTask) (next : Pending) (
   Is e = effect p (entries_of programs) (state_with (task_of next.task) next.bytes.items) ≡ e
 
   -- it goes on
-  pub on : (s : State) (then : Pending) → Is (Goes s) → task_of then.task ≡ with_state (task_of next.task) s → then.bytes.items ≡ s.part →
+  pub on : (s : State) (then : Pending) → Is (Continues s) → task_of then.task ≡ with_state (task_of next.task) s → then.bytes.items ≡ s.part →
       (fs : List Finished) → DoneThen programs done (next ∷ ps) fs ↔ DoneThen programs done (then ∷ ps) fs
   on s then is task bytes fs = (
     λ a.
-        let own = leads programs (task_of next.task) next.bytes.items p (Goes s) there is a.1.0 a.1.2 in
+        let own = leads programs (task_of next.task) next.bytes.items p (Continues s) there is a.1.0 a.1.2 in
         (a.0, (a.1.0, a.1.1, subst (λ bs. Eval programs (task_of then.task) bs a.1.0) (sym bytes) (subst (λ (t : Task). Eval programs t s.part a.1.0) (sym task) own), a.1.3, a.1.4), a.2),
     λ a.
         let own = subst (λ (t : Task). Eval programs t s.part a.1.0) task (subst (λ bs. Eval programs (task_of then.task) bs a.1.0) bytes a.1.2) in
-        (a.0, (a.1.0, a.1.1, led programs (task_of next.task) next.bytes.items p (Goes s) there is a.1.0 own, a.1.3, a.1.4), a.2),
+        (a.0, (a.1.0, a.1.1, led programs (task_of next.task) next.bytes.items p (Continues s) there is a.1.0 own, a.1.3, a.1.4), a.2),
   )
 
   -- it ends
@@ -128,7 +128,7 @@ missing programs done next ps is fs a =
 
 module _ (programs : List Program) (done : List FinishedTask) (before : List Pending) (next : Pending) (p : Program)
     (there : slice_get programs next.task.program ≡ Some p) where
-  pub path_on : (s : State) (then : Pending) (path : List Pending) → Is programs done next (reverse before) p there (Goes s) →
+  pub path_on : (s : State) (then : Pending) (path : List Pending) → Is programs done next (reverse before) p there (Continues s) →
       task_of then.task ≡ with_state (task_of next.task) s → then.bytes.items ≡ s.part → path ≡ before ++ then ∷ [] →
       (fs : List Finished) → PathComes programs (before ++ next ∷ []) done fs ↔ PathComes programs path done fs
   path_on s then path is task bytes e fs =

@@ -10,7 +10,7 @@ use Rattle.reference.specs.declared.records.ReferenceProgram.{ReferenceProgram}
 use Rattle.reference.specs.declared.records.Running.{Running}
 use Rattle.reference.specs.declared.records.Unanswered.{Unanswered}
 use Rattle.machine_model.specs.Machine.{Program, State, effect}
-use Rattle.machine_model.specs.Job.{Job, Member, Move, entries_of, run, state_in, step}
+use Rattle.machine_model.specs.JobState.{JobState, Member, Move, entries_of, run, state_in, step}
 use Rattle.machine_model.proofs.Runs.{run-push}
 use Rattle.reference.specs.Records.{IsFarEffect, IsFarStep, member_of, move_of, born_of, program_of, state_of, task_of, when}
 
@@ -18,7 +18,7 @@ with_nothing : (xs : List Member) → xs ≡ xs ++ []
 with_nothing [] = refl
 with_nothing (x ∷ xs) = ap (λ (ys : List Member). x ∷ ys) (with_nothing xs)
 
-abbrev pub job_with : List ℕ → List Member → Job
+abbrev pub job_with : List ℕ → List Member → JobState
 job_with buffer tasks = record { buffer = buffer; tasks = tasks }
 
 -- a task's new record, and no child
@@ -45,7 +45,7 @@ next_move [] i m e = cc
 next_move (x ∷ xs) zero m e = let s : x ≡ m = cc in ap (λ (y : ReferenceMove). move_of y ∷ map move_of xs) s
 next_move (x ∷ xs) (suc i) m e = next_move xs i m e
 
-along : (programs : List Program) (ms : List Move) (o p : Option Job) → p ≡ o →
+along : (programs : List Program) (ms : List Move) (o p : Option JobState) → p ≡ o →
     option_and_then (λ mid. run programs mid ms) p ≡ option_and_then (λ mid. run programs mid ms) o
 along programs ms o p is = ap (option_and_then (λ mid. run programs mid ms)) is
 
@@ -55,7 +55,7 @@ pub move_at : (moves : List ReferenceMove) (i : ℕ) (m : ReferenceMove) → sli
 move_at moves i m here = slice_get-map move_of moves i ∙ ap (option_map move_of) here
 
 -- a move that is done, and one on which the task traps
-pub run_on : (programs : List Program) (j k : Job) (moves : List ReferenceMove) (i : ℕ) (m : ReferenceMove) → slice_get moves i ≡ Some m →
+pub run_on : (programs : List Program) (j k : JobState) (moves : List ReferenceMove) (i : ℕ) (m : ReferenceMove) → slice_get moves i ≡ Some m →
     when true k ≡ step programs j m.number m.refuses →
     run programs k (drop (i + 1) (map move_of moves)) ≡ run programs j (drop i (map move_of moves))
 run_on programs j k moves i m here went =
@@ -63,8 +63,8 @@ run_on programs j k moves i m here went =
     ∙ along programs (drop (suc i) (map move_of moves)) (step programs j m.number m.refuses) (Some k) went
     ∙ ap (run programs j) (sym (next_move moves i m here))
 
-pub run_off : (programs : List Program) (j k : Job) (moves : List ReferenceMove) (i : ℕ) (m : ReferenceMove) → slice_get moves i ≡ Some m →
-    when false k ≡ step programs j m.number m.refuses → let none : Option Job = None in
+pub run_off : (programs : List Program) (j k : JobState) (moves : List ReferenceMove) (i : ℕ) (m : ReferenceMove) → slice_get moves i ≡ Some m →
+    when false k ≡ step programs j m.number m.refuses → let none : Option JobState = None in
     none ≡ run programs j (drop i (map move_of moves))
 run_off programs j k moves i m here off =
     along programs (drop (suc i) (map move_of moves)) (step programs j m.number m.refuses) None off
@@ -77,7 +77,7 @@ next_taken (x ∷ xs) zero m e = let s : x ≡ m = cc in ap (λ (y : ReferenceMo
 next_taken (x ∷ xs) (suc i) m e = ap (λ (ms : List Move). move_of x ∷ ms) (next_taken xs i m e)
 
 -- the job that a beginning of the moves leads to, with one move more
-pub run_done : (programs : List Program) (j k l : Job) (moves : List ReferenceMove) (i : ℕ) (m : ReferenceMove) → slice_get moves i ≡ Some m →
+pub run_done : (programs : List Program) (j k l : JobState) (moves : List ReferenceMove) (i : ℕ) (m : ReferenceMove) → slice_get moves i ≡ Some m →
     run programs j (take i (map move_of moves)) ≡ Some k → when true l ≡ step programs k m.number m.refuses →
     run programs j (take (i + 1) (map move_of moves)) ≡ Some l
 run_done programs j k l moves i m here done went =
@@ -86,8 +86,8 @@ run_done programs j k l moves i m here done went =
     ∙ run-push programs j (take i (map move_of moves)) (move_of m)
     ∙ ap (option_and_then (λ x. step programs x m.number m.refuses)) done ∙ sym went
 
-pub from_start : (programs : List Program) (j k : Job) (ms : List Move) → j ≡ k → run programs j ms ≡ run programs k ms
-from_start programs j k ms is = ap (λ (x : Job). run programs x ms) is
+pub from_start : (programs : List Program) (j k : JobState) (ms : List Move) → j ≡ k → run programs j ms ≡ run programs k ms
+from_start programs j k ms is = ap (λ (x : JobState). run programs x ms) is
 
 -- a step that is more than the reference has, by its records
 pub far_step : (programs : List ReferenceProgram) (tasks : List JobMember) (buffer : List ℕ) (n : ℕ) (refuses : Bool) (t : LiveTask) (p : ReferenceProgram) (s : Running) →

@@ -21,9 +21,9 @@ use Rattle.reference.specs.declared.records.JobMember.TheVariants as member
 use Rattle.reference.specs.declared.records.ReferenceJob.{ReferenceJob}
 use Rattle.reference.specs.declared.records.ReferenceMove.{ReferenceMove}
 use Rattle.reference.specs.declared.records.Change.{Change}
-use Rattle.machine_model.specs.Job.{Task, Ending, Member, Live, Ended, Job, Move, entries_of, run, state_in}
+use Rattle.machine_model.specs.JobState.{Task, Ending, Member, Live, Ended, JobState, Move, entries_of, run, state_in}
 use Rattle.machine_model.specs.Value.{Value, Unset, Num, Stack, Part, Registers}
-use Rattle.machine_model.specs.Machine.{State, Program, Birth, Effect, Goes, Ends, Spawns, Calls, Traps, Trap, UnsetRead, OutsideStack, OutsidePart, WrongKind, OutsideCode, WritesStackEnd, NoHelper, OverSpent, answered, effect}
+use Rattle.machine_model.specs.Machine.{State, Program, Birth, Effect, Continues, Ends, Spawns, Calls, Traps, Trap, UnsetRead, OutsideStack, OutsidePart, WrongKind, OutsideCode, WritesStackEnd, NoHelper, OverSpent, answered, effect}
 use Rattle.machine_model.specs.Alone.{MayAnswer, EndsWithin, no_entries}
 
 abbrev pub value_of : Content → Value
@@ -68,9 +68,10 @@ trap_of cause.NoHelper = NoHelper
 trap_of cause.OverSpent = OverSpent
 
 abbrev pub effect_of : StepOutcome → Effect
-effect_of (outcome.Goes next) = Goes (state_of next)
+effect_of (outcome.Continues next) = Continues (state_of next)
 effect_of (outcome.Ends r0 last) = Ends r0 (state_of last)
-effect_of (outcome.Spawns child taken refused) = Spawns (birth_from child) (state_of taken) (state_of refused)
+effect_of (outcome.Spawns child taken refused) =
+    Spawns (birth_from child) (state_of taken) (state_of refused)
 effect_of (outcome.Calls helper arguments caller) = Calls helper arguments (state_of caller)
 effect_of (outcome.Traps trap) = Traps (trap_of trap)
 
@@ -91,7 +92,7 @@ IsFarPosition None = ⊥
 
 -- the task goes on with a position that the reference doesn't have
 abbrev pub GoesFar : Effect → Type 0
-GoesFar (Goes s) = (r : ℕ) × IsFar (s.registers r)
+GoesFar (Continues s) = (r : ℕ) × IsFar (s.registers r)
 GoesFar e = ⊥
 
 -- a place that is within a region, or none
@@ -170,7 +171,7 @@ abbrev pub member_of : JobMember → Member
 member_of (member.Live t) = Live (task_of t)
 member_of (member.Ended e) = Ended (ended_of e)
 
-abbrev pub job_of : ReferenceJob → Job
+abbrev pub job_of : ReferenceJob → JobState
 job_of j = record { buffer = j.buffer.items; tasks = map member_of j.tasks.items }
 
 abbrev pub move_of : ReferenceMove → Move
@@ -181,16 +182,19 @@ born_of (Some t) = Live (task_of t) ∷ []
 born_of None = []
 
 -- the job after a change of task n
-abbrev pub changed_by : Job → ℕ → Change → Job
-changed_by j n c = record { buffer = c.buffer.items; tasks = slice_set j.tasks n (member_of c.member) ++ born_of c.born }
+abbrev pub changed_by : JobState → ℕ → Change → JobState
+changed_by j n c = record {
+  buffer = c.buffer.items;
+  tasks = slice_set j.tasks n (member_of c.member) ++ born_of c.born;
+}
 
 -- nothing after a trap
-abbrev pub when : Bool → Job → Option Job
+abbrev pub when : Bool → JobState → Option JobState
 when true j = Some j
 when false j = None
 
 -- a change, if there is one, or nothing after a trap
-abbrev pub step_by : Job → ℕ → Option (Option Change) → Option Job
+abbrev pub step_by : JobState → ℕ → Option (Option Change) → Option JobState
 step_by j n None = Some j
 step_by j n (Some c) = option_map (changed_by j n) c
 
@@ -198,10 +202,11 @@ step_by j n (Some c) = option_map (changed_by j n) c
 
 -- what follows an effect, where the task hasn't ended: it may have trapped
 abbrev pub Stays : MayAnswer → (State → Type 0) → Effect → Type 0
-Stays may on (Goes next) = on next
+Stays may on (Continues next) = on next
 Stays may on (Ends r0 last) = ⊥
 Stays may on (Spawns birth taken refused) = ⊥
-Stays may on (Calls helper arguments caller) = (answer : ℕ) × may helper arguments answer × on (answered caller answer)
+Stays may on (Calls helper arguments caller) =
+    (answer : ℕ) × may helper arguments answer × on (answered caller answer)
 Stays may on (Traps trap) = Unit {0}
 
 -- with some answers, the task doesn't end within so many steps
@@ -211,7 +216,8 @@ StaysFor p may (suc n) s = Stays may (StaysFor p may n) (effect p no_entries s)
 
 -- a helper gives the same answer to the same arguments
 abbrev pub HasOneAnswer : MayAnswer → Type 0
-HasOneAnswer may = (helper : ℕ) (arguments : List ℕ) (a b : ℕ) → may helper arguments a → may helper arguments b → a ≡ b
+HasOneAnswer may = (helper : ℕ) (arguments : List ℕ) (a b : ℕ) → may helper arguments a
+    → may helper arguments b → a ≡ b
 
 -- the task doesn't end within so many steps, whatever is answered
 abbrev pub NeverEnds : Program → MayAnswer → ℕ → State → Type 0
@@ -219,23 +225,27 @@ NeverEnds p may n s = (r0 : ℕ) (last : State) → EndsWithin p may r0 last n s
 
 -- what follows an effect is more than the reference has
 abbrev pub FarOn : MayAnswer → (State → Type 0) → Effect → Type 0
-FarOn may on (Goes next) = on next
+FarOn may on (Continues next) = on next
 FarOn may on (Ends r0 last) = ⊥
 FarOn may on (Spawns birth taken refused) = ⊥
 FarOn may on (Calls helper arguments caller) =
-    (4294967296 ≤ caller.slot) ⊎ ((answer : ℕ) × may helper arguments answer × on (answered caller answer))
+    (4294967296 ≤ caller.slot)
+    ⊎ ((answer : ℕ) × may helper arguments answer × on (answered caller answer))
 FarOn may on (Traps trap) = ⊥
 
 -- within so many steps a task that runs alone may get to more than the reference has
 abbrev pub FarWithin : Program → MayAnswer → ℕ → State → Type 0
 FarWithin p may zero s = ⊥
 FarWithin p may (suc n) s =
-    (4294967296 ≤ s.slot) ⊎ (GoesFar (effect p no_entries s) ⊎ FarOn may (FarWithin p may n) (effect p no_entries s))
+    (4294967296 ≤ s.slot)
+    ⊎ (GoesFar (effect p no_entries s) ⊎ FarOn may (FarWithin p may n) (effect p no_entries s))
 
--- a child's base, or its number among its parent's children, is more than the reference has, and the spawn isn't refused
+-- a child's base, or its number among its parent's children, is more than the reference has, and
+-- the spawn isn't refused
 abbrev pub BearsFar : Task → Bool → Effect → Type 0
 BearsFar t true e = ⊥
-BearsFar t false (Spawns birth taken refused) = (2 ^ 64 ≤ t.base + length taken.part) ⊎ (2 ^ 64 ≤ t.children + 1)
+BearsFar t false (Spawns birth taken refused) =
+    (2 ^ 64 ≤ t.base + length taken.part) ⊎ (2 ^ 64 ≤ t.children + 1)
 BearsFar t false e = ⊥
 
 -- the effect on a task is more than the reference has
@@ -243,7 +253,8 @@ abbrev pub IsFarEffect : Task → Bool → Effect → Type 0
 IsFarEffect t refuses e = (4294967296 ≤ t.slot) ⊎ (GoesFar e ⊎ BearsFar t refuses e)
 
 -- a step of the number is one of a live task, and its effect is more than the reference has
-pub record IsFarStep (programs : List Program) (j : Job) (n : ℕ) (refuses : Bool) : Type 0 where
+pub record IsFarStep (programs : List Program) (j : JobState) (n : ℕ) (refuses : Bool) :
+    Type 0 where
   pub task : Task
   pub alive : slice_get j.tasks n ≡ Some (Live task)
   pub program : Program
@@ -251,9 +262,9 @@ pub record IsFarStep (programs : List Program) (j : Job) (n : ℕ) (refuses : Bo
   pub far : IsFarEffect task refuses (effect program (entries_of programs) (state_in j.buffer task))
 
 -- the step of one of the moves, from the job that the moves before it lead to, is such a step
-pub record IsFarRun (programs : List Program) (j : Job) (moves : List Move) : Type 0 where
+pub record IsFarRun (programs : List Program) (j : JobState) (moves : List Move) : Type 0 where
   pub count : ℕ
-  pub job : Job
+  pub job : JobState
   pub runs : run programs j (take count moves) ≡ Some job
   pub next : Move
   pub there : slice_get moves count ≡ Some next

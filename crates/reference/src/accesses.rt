@@ -108,12 +108,12 @@ fn store_number(
         Ok(Place::Stack(at)) => {
             machine_model::memory::store(size, &mut state.stack, at, number);
             state.slot += 1;
-            StepOutcome::Goes(state)
+            StepOutcome::Continues(state)
         }
         Ok(Place::Part(at)) => {
             machine_model::memory::store(size, &mut state.part, at, number);
             state.slot += 1;
-            StepOutcome::Goes(state)
+            StepOutcome::Continues(state)
         }
     }
 }

@@ -82,7 +82,7 @@ pub fn run_alone<F: Fn(u32, [u64; 5]) -> u64>(
     let mut state = start_alone(credit, part);
     for _ in 0..steps {
         match effect(alloc, program, &[], state)? {
-            StepOutcome::Goes(next) => state = next,
+            StepOutcome::Continues(next) => state = next,
             StepOutcome::Ends(r0, last) => return Ok(Some((r0, last))),
             StepOutcome::Calls(id, arguments, caller) => {
                 state = ask_helper(helper, id, arguments, caller)?;

@@ -2,7 +2,7 @@
 
 ghost use Rattle.std.specs.Prelude.{◌≡◌, ℕ, ◌+◌, ◌<◌, ◌≤◌, length, map, Err, IfOk};
 ghost use Rattle.insn_codec.specs.declared.insn.Insn.TheVariants.{Exit};
-ghost use Rattle.machine_model.specs.Job.{entries_of};
+ghost use Rattle.machine_model.specs.JobState.{entries_of};
 ghost use Rattle.reference.specs.declared.records.Unanswered.{Unanswered};
 ghost use Rattle.reference.specs.declared.records.Unanswered.TheVariants as unanswered;
 ghost use Rattle.machine_model.specs.Machine.{Effect, Entries, Program, answered, cost_at, meaning, number_in, spawn, spawned};
@@ -174,5 +174,5 @@ pub(crate) fn spawn(
     if reply == 0 {
         return hand_over(alloc, state, asked);
     }
-    Ok(StepOutcome::Goes(put_answer(state, reply)))
+    Ok(StepOutcome::Continues(put_answer(state, reply)))
 }

@@ -227,5 +227,5 @@ pub(crate) fn load_wide(mut state: Running, dst: Register, value: u64) -> StepOu
     }
     state.registers[dst.number() as usize] = Content::Num(value);
     state.slot += 2;
-    StepOutcome::Goes(state)
+    StepOutcome::Continues(state)
 }

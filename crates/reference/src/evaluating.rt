@@ -1,15 +1,17 @@
 //! What a job comes to where each spawn is taken, computed as the definition says: a child to its
 //! end, and then its parent on.
 
-ghost use Rattle.std.specs.Prelude.{◌≡◌, ◌↔◌, List, Vec, ◌∷◌, ◌++◌, [], map, true, false, Ok};
+ghost use Rattle.std.specs.Prelude.{◌≡◌, ◌↔◌, ◌<◌, ◌≤◌, List, Vec, ◌⊎◌, ◌∷◌, ◌++◌, [], map, Contains, true, false, Ok, Err};
 ghost use Rattle.std.specs.declared.alloc.Global.{Global};
-ghost use Rattle.machine_model.specs.Job.{with_state};
-ghost use Rattle.task_trees.specs.Answer.{RootComes};
+ghost use Rattle.machine_model.specs.JobState.{with_state};
+ghost use Rattle.task_trees.specs.Answer.{RootComes, spent_in};
 ghost use Rattle.task_trees.specs.Eval.{Finished, root, state_with};
 ghost use Rattle.reference.specs.Records.{program_of, state_of, task_of};
-ghost use Rattle.reference.specs.Evaluating.{PathComes, finished_of};
+ghost use Rattle.reference.specs.Evaluating.{ComesFar, PathComes, finished_of, used_so_far};
 ghost use Rattle.reference.specs.declared.evaluating.Evaluation.TheVariants as evaluation;
 ghost use Rattle.reference.specs.declared.evaluating.FinishedTask.{FinishedTask};
+ghost use Rattle.reference.specs.declared.evaluating.Pending.{Pending};
+ghost use Rattle.reference.specs.declared.records.Unanswered.TheVariants as unanswered;
 
 use crate::effects::effect;
 use crate::records::{EndedTask, LiveTask, ReferenceProgram, Running, StepOutcome, Unanswered};
@@ -31,7 +33,8 @@ pub enum Evaluation {
     Comes(Vec<FinishedTask>),
     /// A task traps, so that the root comes to nothing.
     Traps,
-    /// The job takes as many instructions as there may be, or more.
+    /// The job takes as many instructions as there may be, or more. Each spends 1 of the credit at
+    /// least.
     GoesOn,
 }
 
@@ -91,6 +94,15 @@ fn advance(
     ensures traps { result ≡ Ok false → (fs : List Finished) →
         PathComes (map program_of programs.now) (path.old.items ++ next ∷ []) done.old.items fs
         → ⊥ }
+    ensures spends { result ≡ Ok true →
+        used_so_far (path.old.items ++ next ∷ []) done.old.items
+        < used_so_far path.new.items done.new.items }
+    ensures far { result ≡ Err unanswered.TooLarge
+        → ComesFar (map program_of programs.now) (task_of next.task) next.bytes.items }
+    ensures onward { result ≡ Ok true → (p : Pending) → Contains path.new.items p
+        → Contains path.old.items p
+        ⊎ (ComesFar (map program_of programs.now) (task_of p.task) p.bytes.items
+        → ComesFar (map program_of programs.now) (task_of next.task) next.bytes.items) }
 {
     let Pending { task, bytes } = next;
     let Some(program) = programs.get(task.program as usize) else {
@@ -98,7 +110,7 @@ fn advance(
     };
     let state = state_of(&task, bytes);
     match effect(alloc, program, programs, state)? {
-        StepOutcome::Goes(state) => path.push(with_state(task, state))?,
+        StepOutcome::Continues(state) => path.push(with_state(task, state))?,
         StepOutcome::Ends(r0, last) => {
             let ending = ending_of(alloc, &task, &last, r0)?;
             done.push(FinishedTask {
@@ -137,6 +149,11 @@ pub fn evaluate(
         RootComes (map program_of programs.now) credit buffer.items (map finished_of fs.items) }
     ensures traps { result ≡ Ok evaluation.Traps → (fs : List Finished)
         → RootComes (map program_of programs.now) credit buffer.items fs → ⊥ }
+    ensures goes_on { result ≡ Ok evaluation.GoesOn → (fs : List Finished)
+        → RootComes (map program_of programs.now) credit buffer.items fs
+        → steps ≤ spent_in fs }
+    ensures far { result ≡ Err unanswered.TooLarge
+        → ComesFar (map program_of programs.now) (root credit buffer.items) buffer.items }
 {
     let root = root(alloc, credit, buffer.as_slice().len());
     let mut path = Vec::new(alloc);

@@ -1,8 +1,8 @@
 //! The reference's helpers: those of every program, and calls of a caller's own.
 
 ghost use Rattle.std.specs.Prelude.{◌≡◌, ℕ, ◌-◌, ◌<◌, ◌≤◌, ◌^◌, List, [], ◌∷◌, sum, map, length, slice_index_or, None, Some, Err, IfOk};
-ghost use Rattle.machine_model.specs.Job.{entries_of};
-ghost use Rattle.machine_model.specs.Machine.{Effect, Goes, answered, argument, call, call_registered, fill, filled, sum_of, summed};
+ghost use Rattle.machine_model.specs.JobState.{entries_of};
+ghost use Rattle.machine_model.specs.Machine.{Effect, Continues, answered, argument, call, call_registered, fill, filled, sum_of, summed};
 ghost use Rattle.reference.specs.declared.records.Unanswered.TheVariants as unanswered;
 ghost use Rattle.reference.specs.Records.{GoesFar, counting, effect_of, passing, program_of, state_of, value_of};
 
@@ -19,19 +19,19 @@ use std::alloc::Global;
 /// The credit that is left.
 fn credit_left(state: Running) -> StepOutcome
     requires { state.slot < 4294967296 }
-    ensures { effect_of result ≡ Goes (answered (state_of state) (state.held - state.used)) }
+    ensures { effect_of result ≡ Continues (answered (state_of state) (state.held - state.used)) }
 {
     let left = state.held.saturating_sub(state.used);
-    StepOutcome::Goes(put_answer(state, u64::from(left)))
+    StepOutcome::Continues(put_answer(state, u64::from(left)))
 }
 
 /// The length of the part.
 fn part_len(state: Running) -> StepOutcome
     requires { state.slot < 4294967296 }
-    ensures { effect_of result ≡ Goes (answered (state_of state) (length state.part.items)) }
+    ensures { effect_of result ≡ Continues (answered (state_of state) (length state.part.items)) }
 {
     let size = state.part.as_slice().len();
-    StepOutcome::Goes(put_answer(state, size as u64))
+    StepOutcome::Continues(put_answer(state, size as u64))
 }
 
 /// So many bytes from a pointer on become this one.
@@ -44,11 +44,11 @@ fn fill_at(mut state: Running, pointer: Content, len: u64, byte: u8) -> StepOutc
         Err(cause) => StepOutcome::Traps(cause),
         Ok(Place::Stack(at)) => {
             memory::fill(&mut state.stack, at, count, byte);
-            StepOutcome::Goes(put_answer(state, 0))
+            StepOutcome::Continues(put_answer(state, 0))
         }
         Ok(Place::Part(at)) => {
             memory::fill(&mut state.part, at, count, byte);
-            StepOutcome::Goes(put_answer(state, 0))
+            StepOutcome::Continues(put_answer(state, 0))
         }
     }
 }
@@ -93,11 +93,11 @@ fn sum_at(state: Running, pointer: Content, len: u64) -> Result<StepOutcome, Una
         Err(cause) => Ok(StepOutcome::Traps(cause)),
         Ok(Place::Stack(at)) => match total(&state.stack[at..at + count]) {
             None => Err(Unanswered::TooLarge),
-            Some(sum) => Ok(StepOutcome::Goes(put_answer(state, sum))),
+            Some(sum) => Ok(StepOutcome::Continues(put_answer(state, sum))),
         },
         Ok(Place::Part(at)) => match total(&state.part[at..at + count]) {
             None => Err(Unanswered::TooLarge),
-            Some(sum) => Ok(StepOutcome::Goes(put_answer(state, sum))),
+            Some(sum) => Ok(StepOutcome::Continues(put_answer(state, sum))),
         },
     }
 }

@@ -22,7 +22,7 @@ pub(crate) fn jump(mut state: Running, offset: i32) -> StepOutcome
         return StepOutcome::Traps(TrapCause::OutsideCode);
     }
     state.slot = target as usize;
-    StepOutcome::Goes(state)
+    StepOutcome::Continues(state)
 }
 
 /// Whether the condition holds of two numbers.
@@ -67,7 +67,7 @@ pub(crate) fn jump_if(
         Ok(true) => jump(state, i32::from(offset)),
         Ok(false) => {
             state.slot += 1;
-            StepOutcome::Goes(state)
+            StepOutcome::Continues(state)
         }
     }
 }

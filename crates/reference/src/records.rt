@@ -95,7 +95,7 @@ pub struct Child {
 /// What an instruction comes to.
 #[derive(Drop)]
 pub enum StepOutcome {
-    Goes(Running),
+    Continues(Running),
     Ends(u64, Running),
     /// The child, and the task where the spawn is taken and where it is refused.
     Spawns(Child, Running, Running),

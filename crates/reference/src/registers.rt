@@ -63,5 +63,5 @@ pub(crate) fn put(mut state: Running, dst: Register, value: Content) -> StepOutc
 {
     state.registers[dst.number() as usize] = value;
     state.slot += 1;
-    StepOutcome::Goes(state)
+    StepOutcome::Continues(state)
 }

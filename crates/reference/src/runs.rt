@@ -1,7 +1,7 @@
 //! Runs of a job, computed as the definitions say.
 
 ghost use Rattle.std.specs.Prelude.{◌≡◌, ℕ, suc, ◌+◌, ◌^◌, ◌<◌, ◌≤◌, ◌⊎◌, length, take, drop, slice_set, map, option_map, slice_get, Bool, false, List, Option, Some, Ok, Err, IfOk, OnOk};
-ghost use Rattle.machine_model.specs.Job.{Job, applied, run, start, state_in, step, with_state, child_of, ending_of, entry_registers, goes_on};
+ghost use Rattle.machine_model.specs.JobState.{JobState, applied, run, start, state_in, step, with_state, child_of, ending_of, entry_registers, goes_on};
 ghost use Rattle.machine_model.specs.Machine.{Ends, Spawns, State};
 ghost use Rattle.task_trees.specs.Eval.{root};
 ghost use Rattle.reference.specs.declared.records.Change.{Change};
@@ -187,7 +187,7 @@ fn go_on(
     task: &LiveTask,
     next: &Running,
 ) -> Result<Change, Unanswered>
-    ensures value { IfOk result (λ c. (j : Job) (n : ℕ) → j.buffer ≡ buffer.now →
+    ensures value { IfOk result (λ c. (j : JobState) (n : ℕ) → j.buffer ≡ buffer.now →
         changed_by j n c ≡ goes_on j n (task_of task.now) (state_of next.now)) }
     ensures memory { (error : Unanswered) → result ≡ Err error → error ≡ unanswered.NoMemory }
 {
@@ -217,7 +217,8 @@ fn end_task(
     last: &Running,
     r0: u64,
 ) -> Result<Change, Unanswered>
-    ensures value { IfOk result (λ c. (j : Job) (n : ℕ) → j.buffer ≡ buffer.now → (refuses : Bool) →
+    ensures value { IfOk result (λ c. (j : JobState) (n : ℕ) → j.buffer ≡ buffer.now
+        → (refuses : Bool) →
         Some (changed_by j n c)
         ≡ applied j n (task_of task.now) refuses (Ends r0 (state_of last.now))) }
     ensures memory { (error : Unanswered) → result ≡ Err error → error ≡ unanswered.NoMemory }
@@ -239,7 +240,7 @@ fn bear_child(
     child: &Child,
     taken: &Running,
 ) -> Result<Change, Unanswered>
-    ensures value { IfOk result (λ c. (j : Job) (n : ℕ) → j.buffer ≡ buffer.now
+    ensures value { IfOk result (λ c. (j : JobState) (n : ℕ) → j.buffer ≡ buffer.now
         → (refused : State) →
         Some (changed_by j n c)
         ≡ applied j n (task_of task.now) false
@@ -269,14 +270,14 @@ fn change(
     refuses: bool,
     outcome: &StepOutcome,
 ) -> Result<Option<Change>, Unanswered>
-    ensures value { IfOk result (λ o. (j : Job) (n : ℕ) → j.buffer ≡ buffer.now →
+    ensures value { IfOk result (λ o. (j : JobState) (n : ℕ) → j.buffer ≡ buffer.now →
         option_map (changed_by j n) o
         ≡ applied j n (task_of task.now) refuses (effect_of outcome.now)) }
     ensures far { result ≡ Err unanswered.TooLarge
         → BearsFar (task_of task.now) refuses (effect_of outcome.now) }
 {
     match outcome {
-        StepOutcome::Goes(next) => Ok(Some(go_on(alloc, buffer, task, next)?)),
+        StepOutcome::Continues(next) => Ok(Some(go_on(alloc, buffer, task, next)?)),
         StepOutcome::Ends(r0, last) => Ok(Some(end_task(alloc, buffer, task, last, *r0)?)),
         StepOutcome::Spawns(child, taken, refused) => {
             if refuses {

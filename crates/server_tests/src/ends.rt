@@ -2,8 +2,7 @@
 //! called so often.
 
 use std::alloc::Global;
-use streams::{Failed, Sink, Source};
-use traces::Told;
+use streams::{Failed, Sink, Source, Transcript};
 
 /// More calls than a test makes.
 pub(crate) const ALWAYS: u64 = u64::MAX;
@@ -14,7 +13,7 @@ pub(crate) struct Given<'a> {
     rest: &'a [u8],
     step: usize,
     calls: u64,
-    told: Told,
+    told: Transcript,
     failed: bool,
     over: bool,
 }
@@ -29,7 +28,7 @@ impl<'a> Given<'a> {
             rest: bytes,
             step,
             calls,
-            told: Told::new(),
+            told: Transcript::new(),
             failed: false,
             over: false,
         }
@@ -37,7 +36,7 @@ impl<'a> Given<'a> {
 }
 
 impl Source for Given<'_> {
-    ghost told = { λ s. s.told.bytes };
+    ghost transcript = { λ s. s.told.bytes };
 
     ghost has_failed = { λ s. s.failed };
 
@@ -65,7 +64,7 @@ pub(crate) struct Taken {
     pub bytes: Vec<u8>,
     step: usize,
     calls: u64,
-    told: Told,
+    told: Transcript,
     failed: bool,
 }
 
@@ -79,14 +78,14 @@ impl Taken {
             bytes: Vec::new(alloc),
             step,
             calls,
-            told: Told::new(),
+            told: Transcript::new(),
             failed: false,
         }
     }
 }
 
 impl Sink for Taken {
-    ghost told = { λ s. s.told.bytes };
+    ghost transcript = { λ s. s.told.bytes };
 
     ghost has_failed = { λ s. s.failed };
 

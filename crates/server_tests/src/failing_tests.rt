@@ -4,10 +4,9 @@
 use crate::ends::{ALWAYS, Given, Taken};
 use crate::texts::frames;
 use accounts::Desk;
-use runners::InlineRunner;
 use std::alloc::Global;
 use std::test::Fail;
-use streams::{StreamFault, serve_stream};
+use streams::{InlineRunner, StreamFault, serve_stream};
 
 const GRANT: &str = "{\"op\":\"grant\",\"tenant\":\"t\",\"amount\":100}";
 

@@ -1,8 +1,8 @@
-//! Commands whose input or output fails, at each call: where the input fails nothing is written, and
-//! where the output does, a beginning of the answer.
+//! Commands whose input or output fails, at each call: where the input fails nothing is written,
+//! and where the output does, a beginning of the answer.
 
 use crate::ends::{ALWAYS, Given, Taken};
-use command_line::Command;
+use bpfjobs_cli::Command;
 use std::alloc::Global;
 use std::test::Fail;
 use streams::StreamFault;
@@ -31,7 +31,7 @@ fn verdict(alloc: Global, reads: u64, writes: u64) -> Came {
     let mut reader = Given::new(PROGRAM.as_bytes(), 10, reads);
     let mut writer = Taken::new(alloc, 5, writes);
     let command = Command::Verify { need: 0 };
-    let answer = performing::perform(alloc, command, &mut reader, &mut writer);
+    let answer = bpfjobs_cli::perform(alloc, command, &mut reader, &mut writer);
     Came {
         answer,
         written: writer.bytes,
@@ -68,8 +68,8 @@ fn writes_a_beginning_where_the_output_fails(rt: HostRuntime) -> Result<(), Fail
     Ok(())
 }
 
-// The same of a job on a thread, whose input is 90 bytes, in five pieces, and whose answer is 120, in
-// three.
+// The same of a job on a thread, whose input is 90 bytes, in five pieces, and whose answer is 120,
+// in three.
 #[test]
 fn fails_where_an_end_of_a_run_fails(rt: HostRuntime) -> Result<(), Fail> {
     let alloc = rt.alloc();
@@ -77,7 +77,7 @@ fn fails_where_an_end_of_a_run_fails(rt: HostRuntime) -> Result<(), Fail> {
         let mut reader = Given::new(JOB.as_bytes(), 20, reads);
         let mut writer = Taken::new(alloc, 50, writes);
         let command = Command::Run { workers: 1 };
-        let answer = pool_performing::perform(&rt, alloc, command, &mut reader, &mut writer);
+        let answer = job_server::perform(&rt, alloc, command, &mut reader, &mut writer);
         let want = if reads < 6 {
             Err(StreamFault::ReadFailed)
         } else if writes < 3 {

@@ -5,10 +5,9 @@ use crate::texts::frames;
 use accounts::Desk;
 use credit_book::{Progress, Report};
 use job_core::Job;
-use runners::InlineRunner;
 use std::alloc::Global;
 use std::test::Fail;
-use streams::{Runner, Tap, pass_finished, serve_stream};
+use streams::{InlineRunner, Runner, Tap, pass_finished, serve_stream};
 
 const GRANT: &str = "{\"op\":\"grant\",\"tenant\":\"t\",\"amount\":100}";
 

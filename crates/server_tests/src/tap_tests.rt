@@ -3,11 +3,10 @@
 use crate::ends::{ALWAYS, Given, Taken};
 use crate::texts::frames;
 use accounts::Desk;
-use runners::InlineRunner;
 use std::alloc::Global;
 use std::io::{self, ErrorKind, Read, Write};
 use std::test::Fail;
-use streams::{Failed, Sink, Source, StreamFault, Tap, serve_stream};
+use streams::{Failed, InlineRunner, Sink, Source, StreamFault, Tap, serve_stream};
 
 const GRANT: &str = "{\"op\":\"grant\",\"tenant\":\"t\",\"amount\":100}";
 

@@ -21,15 +21,18 @@ place_members (Some program) (Some slot) =
 
 unfoldable pub refusal_data : ℕ → Option ℕ → Option ℕ → Data
 refusal_data code program slot =
-    object (member (codes "code") (whole code) (member (codes "ok") (boolean false) (place_members program slot)))
+    object (member (codes "code") (whole code)
+    (member (codes "ok") (boolean false) (place_members program slot)))
 
 unfoldable pub account_data : ℕ → ℕ → ℕ → ℕ → Data
 account_data balance granted opened spent =
     object (member (codes "balance") (whole balance) (member (codes "granted") (whole granted)
-    (member (codes "ok") (boolean true) (member (codes "open") (whole opened) (member (codes "spent") (whole spent) no_members)))))
+    (member (codes "ok") (boolean true)
+    (member (codes "open") (whole opened) (member (codes "spent") (whole spent) no_members)))))
 
 unfoldable pub submit_data : ℕ → Data
-submit_data job = object (member (codes "job") (whole job) (member (codes "ok") (boolean true) no_members))
+submit_data job = object
+    (member (codes "job") (whole job) (member (codes "ok") (boolean true) no_members))
 
 unfoldable pub status_data : Bool → ℕ → ℕ → Data
 status_data complete returned spent =
@@ -39,7 +42,8 @@ status_data complete returned spent =
 unfoldable pub task_data : TaskEnd → Data
 task_data t =
     object (member (codes "number") (whole t.number) (member (codes "program") (whole t.program)
-    (member (codes "r0") (whole t.r0) (member (codes "ran") (boolean t.ran) (member (codes "rest") (whole t.rest)
+    (member (codes "r0") (whole t.r0)
+    (member (codes "ran") (boolean t.ran) (member (codes "rest") (whole t.rest)
     (member (codes "spent") (whole t.spent) no_members))))))
 
 -- a list of values as an array's items
@@ -49,14 +53,17 @@ items (d ∷ ds) = item d (items ds)
 
 unfoldable pub result_data : List ℕ → ℕ → ℕ → List TaskEnd → Data
 result_data buffer returned spent tasks =
-    object (member (codes "buffer") (string (encode_lower buffer)) (member (codes "ok") (boolean true)
+    object (member (codes "buffer") (string (encode_lower buffer))
+    (member (codes "ok") (boolean true)
     (member (codes "returned") (whole returned) (member (codes "spent") (whole spent)
     (member (codes "tasks") (array (items (map task_data tasks))) no_members)))))
 
 unfoldable pub play_data : List ℕ → Bool → ℕ → ℕ → ℕ → ℕ → Data
 play_data buffer complete held returned spent used =
-    object (member (codes "buffer") (string (encode_lower buffer)) (member (codes "complete") (boolean complete)
-    (member (codes "held") (whole held) (member (codes "ok") (boolean true) (member (codes "returned") (whole returned)
+    object (member (codes "buffer") (string (encode_lower buffer))
+    (member (codes "complete") (boolean complete)
+    (member (codes "held") (whole held)
+    (member (codes "ok") (boolean true) (member (codes "returned") (whole returned)
     (member (codes "spent") (whole spent) (member (codes "used") (whole used) no_members)))))))
 
 abbrev pub reply_data : Reply → Data
@@ -64,8 +71,10 @@ reply_data (reply.Refused code program slot) = refusal_data code program slot
 reply_data (reply.Account balance granted opened spent) = account_data balance granted opened spent
 reply_data (reply.Submit job) = submit_data job
 reply_data (reply.Status complete returned spent) = status_data complete returned spent
-reply_data (reply.Result buffer returned spent tasks) = result_data buffer.now returned spent tasks.now
-reply_data (reply.Play buffer complete held returned spent used) = play_data buffer.now complete held returned spent used
+reply_data (reply.Result buffer returned spent tasks) =
+    result_data buffer.now returned spent tasks.now
+reply_data (reply.Play buffer complete held returned spent used) =
+    play_data buffer.now complete held returned spent used
 
 -- the bytes of a reply
 abbrev pub text_of : Reply → List ℕ

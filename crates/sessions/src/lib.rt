@@ -21,3 +21,6 @@ pub use request::{JobObject, Request, job_object};
 mod reply;
 
 pub use reply::{Reply, reply_frame, reply_text};
+
+// the accounts that requests speak of
+pub use accounts::{Account, Desk, DeskFault, SubmitFault};

@@ -50,7 +50,7 @@ pub enum Request {
 
 // A job as it comes.
 #[derive(Drop)]
-struct Order {
+struct JobText {
     programs: Vec<ProgramBytes>,
     credit: u32,
     buffer: Vec<u8>,
@@ -102,7 +102,7 @@ fn read_programs(alloc: Global, value: &Value) -> Result<Vec<ProgramBytes>, Sess
 
 // The job that an object says.
 #[tactic(auto, unfolding(crate::specs::Grammar::order_of))]
-fn read_order(alloc: Global, value: &Value) -> Result<Order, SessionFault>
+fn read_order(alloc: Global, value: &Value) -> Result<JobText, SessionFault>
     ensures ok { IfOk result (λ o. order_of (view value.now) ≡ Some (order_asked o)) }
     ensures err { IfErr result (λ e. (e ≢ NoMemory) → (e ≡ BadRequest)
         × (order_of (view value.now) ≡ None)) }
@@ -112,7 +112,7 @@ fn read_order(alloc: Global, value: &Value) -> Result<Order, SessionFault>
     };
     let buffer = bytes_member(alloc, value, "buffer")?;
     let programs = read_programs(alloc, value)?;
-    Ok(Order {
+    Ok(JobText {
         programs,
         credit: credit as u32,
         buffer,
@@ -190,7 +190,7 @@ fn read_submit(alloc: Global, value: &Value) -> Result<Request, SessionFault>
     let Some(tenant) = tenant_member(value) else {
         return Err(SessionFault::BadRequest);
     };
-    let Order {
+    let JobText {
         programs,
         credit,
         buffer,
@@ -273,7 +273,7 @@ fn read_object(
     ensures err { IfErr result (λ e. (e ≢ NoMemory) → (e ≡ BadRequest)
         × (object_of wants_schedule (view value.now) ≡ None)) }
 {
-    let Order {
+    let JobText {
         programs,
         credit,
         buffer,

@@ -125,7 +125,8 @@ impl Session {
         ensures frame { IfOk result (λ frame. front (unread self.old)
             ≡ Front.whole frame.items (unread self.new)) }
         ensures refused { IfErr result (λ e. e ≡ NoMemory) }
-        ensures left { OnErr result (FrameAnswer (Err NoMemory) (unread self.old) (unread self.new)) }
+        ensures left { OnErr result (FrameAnswer (Err NoMemory) (unread self.old)
+            (unread self.new)) }
         ensures same { ended_by self.new ≡ ended_by self.old }
     {
         match codec().decode(&mut self.buffer) {

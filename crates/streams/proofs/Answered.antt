@@ -53,7 +53,7 @@ finished (Err e) old new number outcome there done refused = absurd (refused.1 t
 pub framed_as : (r : Result (Vec ℕ Global) NoMemory) (P Q : Data → Type 0) → ((d : Data) → P d → Q d) → Framed r P → Framed r Q
 framed_as r P Q leads framed = record { told = framed.told; was = leads (reply_data framed.told) framed.was; frame = framed.frame }
 
-module _ {R : Type 0} (starts : R → ℕ → core.Order → Result (Unit {0}) ℕ → R → Type 0) (looks : R → ℕ → Progress → R → Type 0)
+module _ {R : Type 0} (starts : R → ℕ → core.AdmittedJob → Result (Unit {0}) ℕ → R → Type 0) (looks : R → ℕ → Progress → R → Type 0)
     (takes : R → Option (ℕ × Result Report ℕ) → R → Type 0) (desk : Ledger) (runner : R) (query : Result Asked ℕ) (mid : Ledger) (rest : R)
     (after : Ledger) (left : R) (passed : Passes takes desk runner mid rest) where
   pub answered_ok : (r : Result (Vec ℕ Global) NoMemory) → Framed r (λ told. Replies starts looks mid rest query told after left) →

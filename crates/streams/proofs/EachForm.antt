@@ -1,12 +1,12 @@
 -- What was done for each form of request is what the frame asks.
-use Rattle.std.proofs.Common.{◌≡◌, ◌⊎◌, ℕ, List, map, refl, sym, subst, Option, None, Result, Ok, Err, String, string_bytes, Vec}
+use Rattle.std.proofs.Common.{◌≡◌, ◌⊎◌, ℕ, List, refl, sym, subst, None, Result, Ok, Err, String, string_bytes, Vec}
 use Rattle.std.specs.declared.alloc.Global.{Global}
 use Rattle.serde_json.specs.Data.{Data}
 use Rattle.credit_book.specs.declared.board.Progress.{Progress}
 use Rattle.job_core.specs.declared.admission.ProgramBytes.{ProgramBytes}
 use Rattle.job_core.specs.Admitted as core
 use Rattle.accounts.specs.Ledgers.{Ledger, account_at, progress_at, report_at}
-use Rattle.sessions.specs.Grammar.{Asked, asked}
+use Rattle.sessions.specs.Grammar.{asked}
 use Rattle.sessions.specs.declared.request.Request.{Request}
 use Rattle.sessions.specs.declared.request.Request.TheVariants as request
 use Rattle.sessions.specs.declared.reply.Reply.{Reply}
@@ -15,7 +15,7 @@ use Rattle.sessions.specs.Replies.{reply_data}
 use Rattle.streams.specs.Hearing.{query_of}
 use Rattle.streams.specs.Answering.{Grants, GrantsNone, Replies, Submits, account_told, progress_told, refused, report_told}
 
-module _ {R : Type 0} (starts : R → ℕ → core.Order → Result (Unit {0}) ℕ → R → Type 0) (looks : R → ℕ → Progress → R → Type 0)
+module _ {R : Type 0} (starts : R → ℕ → core.AdmittedJob → Result (Unit {0}) ℕ → R → Type 0) (looks : R → ℕ → Progress → R → Type 0)
     (desk after : Ledger) (runner left : R) (asks : Request) (told : Data) where
   -- what is told to this request
   abbrev told_to : Request → Type 0
@@ -54,7 +54,7 @@ module _ {R : Type 0} (starts : R → ℕ → core.Order → Result (Unit {0}) �
   to_result number is kept stays tells = subst told_to (sym is) (tells, kept, stays)
 
 -- and to what is no request, the number of its refusal
-pub to_none : {R : Type 0} (starts : R → ℕ → core.Order → Result (Unit {0}) ℕ → R → Type 0) (looks : R → ℕ → Progress → R → Type 0) (desk : Ledger) (runner : R)
+pub to_none : {R : Type 0} (starts : R → ℕ → core.AdmittedJob → Result (Unit {0}) ℕ → R → Type 0) (looks : R → ℕ → Progress → R → Type 0) (desk : Ledger) (runner : R)
     (asks : Result Request ℕ) (code : ℕ) (told : Reply) → asks ≡ Err code → told ≡ reply.Refused code None None →
     Replies starts looks desk runner (query_of asks) (reply_data told) desk runner
 unfolding Replies

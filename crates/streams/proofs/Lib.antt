@@ -2,3 +2,5 @@ pub mod Serving
 pub mod Passed
 pub mod Answered
 pub mod EachForm
+pub mod Walks
+pub mod Plainly

@@ -4,3 +4,5 @@ pub mod Stops
 pub mod Hearing
 pub mod Passing
 pub mod Answering
+pub mod LedgerReplies
+pub mod Inline

@@ -29,7 +29,8 @@ StopsAt too_large over bytes = Unit {0}
 
 -- Every frame of the bytes is answered, and the number is that of the frames. `over` says that the
 -- reader has no more.
-pub record IsServed {S : Type 0} (answers : S → Result Asked ℕ → List ℕ → S → Type 0) (start : S) (bytes before : List ℕ) (over : Type 0) (end : S) (number : ℕ) (after : List ℕ) : Type 0 where
+pub record IsServed {S : Type 0} (answers : S → Result Asked ℕ → List ℕ → S → Type 0) (start : S)
+    (bytes before : List ℕ) (over : Type 0) (end : S) (number : ℕ) (after : List ℕ) : Type 0 where
   pub count : ℕ
   pub left : List ℕ
   pub out : List ℕ
@@ -40,39 +41,105 @@ pub record IsServed {S : Type 0} (answers : S → Result Asked ℕ → List ℕ 
 
 -- The reader failed: every frame that is whole in the bytes is answered, and what was written are
 -- the whole replies.
-pub record IsReadOut {S : Type 0} (answers : S → Result Asked ℕ → List ℕ → S → Type 0) (start : S) (bytes before : List ℕ) (end : S) (after : List ℕ) : Type 0 where
+pub record IsReadOut {S : Type 0} (answers : S → Result Asked ℕ → List ℕ → S → Type 0) (start : S)
+    (bytes before : List ℕ) (end : S) (after : List ℕ) : Type 0 where
   pub count : ℕ
   pub left : List ℕ
   pub frames : Serves answers start bytes before count end left after
   pub waits : front left ≡ partial
 
--- The writer failed: frames are answered up to some frame, and of the next reply a part is written,
--- but not all of it. The state is that after the frames that were heard.
-pub data IsCutOff {S : Type 0} (answers : S → Result Asked ℕ → List ℕ → S → Type 0) (start : S) (bytes before : List ℕ) : S → List ℕ → Type 0 where
-  within_reply : (count : ℕ) (s : S) (left out payload rest reply : List ℕ) (query : Result Asked ℕ) (t : S) (n : ℕ) → n < length reply → Serves answers start bytes before count s left out → front left ≡ whole payload rest → Hears payload query → answers s query reply t → IsCutOff answers start bytes before t (out ++ take n reply)
-  within_last : (count : ℕ) (s : S) (left out : List ℕ) (n : ℕ) → n < length too_large_reply → Serves answers start bytes before count s left out → front left ≡ too_large → IsCutOff answers start bytes before s (out ++ take n too_large_reply)
+-- what is due once so many frames are answered: their replies, and one 71 behind them, where a
+-- length over the limit comes next
+abbrev pub IsDue : Front → List ℕ → List ℕ → Type 0
+IsDue next out due = (due ≡ out) ⊎ ((next ≡ too_large) × (due ≡ out ++ too_large_reply))
+
+-- behind what was written before, a beginning of what is due is written, and not all of it
+pub record IsPartWritten (before due after : List ℕ) : Type 0 where
+  pub part : List ℕ
+  pub lacking : List ℕ
+  pub written : after ≡ before ++ part
+  pub lacks : after ++ lacking ≡ due
+  pub some : 0 < length lacking
+
+-- frames of these bytes are answered, and what is due then isn't written whole
+pub record IsCutShort {S : Type 0} (answers : S → Result Asked ℕ → List ℕ → S → Type 0) (start : S)
+    (bytes before : List ℕ) (end : S) (after : List ℕ) : Type 0 where
+  pub count : ℕ
+  pub left : List ℕ
+  pub out : List ℕ
+  pub due : List ℕ
+  pub frames : Serves answers start bytes before count end left out
+  pub is_due : IsDue (front left) out due
+  pub cut : IsPartWritten before due after
+
+-- The writer failed. Every frame that was whole before the last piece came is answered, and its
+-- reply written. Of what is due to the frames that are whole with that piece, which has at most
+-- 4,096 bytes, a beginning is written, and not all. The state is that after the frames that were
+-- heard.
+pub record IsCutOff {S : Type 0} (answers : S → Result Asked ℕ → List ℕ → S → Type 0) (start : S)
+    (bytes before : List ℕ) (end : S) (after : List ℕ) : Type 0 where
+  pub early : List ℕ
+  pub piece : List ℕ
+  pub came : bytes ≡ early ++ piece
+  pub short : length piece ≤ 4096
+  pub count : ℕ
+  pub state : S
+  pub left : List ℕ
+  pub out : List ℕ
+  pub frames : Serves answers start early before count state left out
+  pub waits : front left ≡ partial
+  pub stop : IsCutShort answers state (left ++ piece) out end after
 
 -- There was no memory: frames are answered up to some frame, by whole replies, and of the next
 -- reply, if its frame was heard, nothing is written.
-pub data IsStarved {S : Type 0} (answers : S → Result Asked ℕ → List ℕ → S → Type 0) (start : S) (bytes before : List ℕ) : S → List ℕ → Type 0 where
-  between : (count : ℕ) (s : S) (left out : List ℕ) → Serves answers start bytes before count s left out → IsStarved answers start bytes before s out
-  ahead_of_reply : (count : ℕ) (s : S) (left out payload rest reply : List ℕ) (query : Result Asked ℕ) (t : S) → Serves answers start bytes before count s left out → front left ≡ whole payload rest → Hears payload query → answers s query reply t → IsStarved answers start bytes before t out
+pub data IsStarved {S : Type 0} (answers : S → Result Asked ℕ → List ℕ → S → Type 0) (start : S)
+    (bytes before : List ℕ) : S → List ℕ → Type 0 where
+  between : (count : ℕ) (s : S) (left out : List ℕ)
+      → Serves answers start bytes before count s left out
+      → IsStarved answers start bytes before s out
+  ahead_of_reply : (count : ℕ) (s : S) (left out payload rest reply : List ℕ)
+      (query : Result Asked ℕ) (t : S) → Serves answers start bytes before count s left out
+      → front left ≡ whole payload rest → Hears payload query → answers s query reply t
+      → IsStarved answers start bytes before t out
 
 -- what is left of a stream that was given up by this
-abbrev pub IsStoppedBy : {S : Type 0} → StreamFault → (S → Result Asked ℕ → List ℕ → S → Type 0) → S → List ℕ → List ℕ → S → List ℕ → Type 0
-IsStoppedBy ReadFailed answers start bytes before end after = IsReadOut answers start bytes before end after
-IsStoppedBy WriteFailed answers start bytes before end after = IsCutOff answers start bytes before end after
-IsStoppedBy NoMemory answers start bytes before end after = IsStarved answers start bytes before end after
+abbrev pub IsStoppedBy : {S : Type 0} → StreamFault → (S → Result Asked ℕ → List ℕ → S → Type 0) → S
+    → List ℕ → List ℕ → S → List ℕ → Type 0
+IsStoppedBy ReadFailed answers start bytes before end after =
+    IsReadOut answers start bytes before end after
+IsStoppedBy WriteFailed answers start bytes before end after =
+    IsCutOff answers start bytes before end after
+IsStoppedBy NoMemory answers start bytes before end after =
+    IsStarved answers start bytes before end after
 
--- what is left where one reply isn't written whole
-abbrev pub IsUnwritten : {S : Type 0} → StreamFault → (S → Result Asked ℕ → List ℕ → S → Type 0) → S → Result Asked ℕ → List ℕ → S → List ℕ → Type 0
-IsUnwritten ReadFailed answers s query before t after = ⊥
-IsUnwritten WriteFailed answers s query before t after =
-    (reply : List ℕ) × (n : ℕ) × (n < length reply) × answers s query reply t × (after ≡ before ++ take n reply)
-IsUnwritten NoMemory answers s query before t after = (reply : List ℕ) × answers s query reply t × (after ≡ before)
+-- ---- within a piece, where replies wait to be written behind what was
+
+-- what is left where a reply can't be put behind those that wait
+abbrev pub IsUnwritten : {S : Type 0} → StreamFault → (S → Result Asked ℕ → List ℕ → S → Type 0) → S
+    → Result Asked ℕ → List ℕ → List ℕ → S → List ℕ → List ℕ → Type 0
+IsUnwritten ReadFailed answers s query before waiting t after waiting' = ⊥
+IsUnwritten WriteFailed answers s query before waiting t after waiting' =
+    (reply : List ℕ) × answers s query reply t
+    × IsPartWritten before ((before ++ waiting) ++ reply) after
+IsUnwritten NoMemory answers s query before waiting t after waiting' =
+    (reply : List ℕ) × answers s query reply t × (after ≡ before) × (waiting' ≡ waiting)
+
+-- what is left where a piece isn't answered to its end: some replies may still wait
+abbrev pub IsGivenUp : {S : Type 0} → StreamFault → (S → Result Asked ℕ → List ℕ → S → Type 0) → S
+    → List ℕ → List ℕ → S → List ℕ → List ℕ → Type 0
+IsGivenUp ReadFailed answers start bytes before end after waiting = ⊥
+IsGivenUp WriteFailed answers start bytes before end after waiting =
+    IsCutShort answers start bytes before end after
+IsGivenUp NoMemory answers start bytes before end after waiting =
+    IsStarved answers start bytes before end (after ++ waiting)
+
+-- what is written begins with what was
+abbrev pub IsGrown : List ℕ → List ℕ → Type 0
+IsGrown before after = (part : List ℕ) × (after ≡ before ++ part)
 
 -- and where the last 71 isn't
 abbrev pub IsLastUnwritten : StreamFault → List ℕ → List ℕ → Type 0
 IsLastUnwritten ReadFailed before after = ⊥
-IsLastUnwritten WriteFailed before after = (n : ℕ) × (n < length too_large_reply) × (after ≡ before ++ take n too_large_reply)
+IsLastUnwritten WriteFailed before after =
+    (n : ℕ) × (n < length too_large_reply) × (after ≡ before ++ take n too_large_reply)
 IsLastUnwritten NoMemory before after = after ≡ before

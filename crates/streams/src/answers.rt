@@ -67,7 +67,8 @@ impl<N: Runner> Handler<Desk> for N {
 
     ghost ready = { N.Runner.ready };
 
-    ghost answers = { λ s query reply t. Answers N.starts N.looks N.takes s.0 s.1 query reply t.0 t.1 };
+    ghost answers = { λ s query reply t.
+        Answers N.starts N.looks N.takes s.0 s.1 query reply t.0 t.1 };
 
     fn answer(
         &mut self,

@@ -10,7 +10,7 @@ pub struct Failed;
 /// Gives bytes.
 pub trait Source {
     // The bytes that it has given.
-    ghost told: { Self → List ℕ };
+    ghost transcript: { Self → List ℕ };
 
     // A read failed.
     ghost has_failed: { Self → Bool };
@@ -25,17 +25,18 @@ pub trait Source {
     fn read(&mut self, piece: &mut [u8]) -> Result<usize, Failed>
         requires { has_failed self.old ≡ false }
         ensures count { IfOk result (λ n. n ≤ length piece.old) }
-        ensures bytes { IfOk result (λ n. told self.new ≡ told self.old ++ take n piece.new) }
+        ensures bytes { IfOk result (λ n. transcript self.new ≡ transcript self.old
+            ++ take n piece.new) }
         ensures over { IfOk result (λ n. is_over self.new ≡ nat_eq n 0) }
         ensures gives { ReadConsumes (left self.old) (left self.new) result piece.new }
-        ensures err { OnErr result (told self.new ≡ told self.old) }
+        ensures err { OnErr result (transcript self.new ≡ transcript self.old) }
         ensures failed { has_failed self.new ≡ is_err result };
 }
 
 /// Takes bytes.
 pub trait Sink {
     // The bytes that it has taken.
-    ghost told: { Self → List ℕ };
+    ghost transcript: { Self → List ℕ };
 
     // A write failed.
     ghost has_failed: { Self → Bool };
@@ -49,18 +50,19 @@ pub trait Sink {
         requires { has_failed self.old ≡ false }
         ensures count { IfOk result (λ n. n ≤ length piece.now) }
         ensures some { IfOk result (λ n. 0 < length piece.now → 0 < n) }
-        ensures bytes { IfOk result (λ n. told self.new ≡ told self.old ++ take n piece.now) }
+        ensures bytes { IfOk result (λ n. transcript self.new ≡ transcript self.old
+            ++ take n piece.now) }
         ensures keeps { WriteAppends (holds self.old) (holds self.new) result piece.now }
-        ensures err { OnErr result (told self.new ≡ told self.old) }
+        ensures err { OnErr result (transcript self.new ≡ transcript self.old) }
         ensures failed { has_failed self.new ≡ is_err result };
 }
 
 /// Writes all of it, or a beginning, and never all, where a write fails.
 pub fn write_all<W: Sink>(sink: &mut W, bytes: &[u8]) -> Result<(), Failed>
     requires { W.has_failed sink.old ≡ false }
-    ensures ok { OnOk result (W.told sink.new ≡ W.told sink.old ++ bytes.now) }
+    ensures ok { OnOk result (W.transcript sink.new ≡ W.transcript sink.old ++ bytes.now) }
     ensures err { OnErr result ((n : ℕ) × (n < length bytes.now)
-        × (W.told sink.new ≡ W.told sink.old ++ take n bytes.now)) }
+        × (W.transcript sink.new ≡ W.transcript sink.old ++ take n bytes.now)) }
     ensures failed { W.has_failed sink.new ≡ is_err result }
 {
     let mut done = 0;

@@ -9,6 +9,7 @@ pub use ends::{Failed, Sink, Source, write_all};
 pub use tap::Tap;
 
 // the frames of one, each answered
+mod batch;
 mod fault;
 mod handler;
 mod serve;
@@ -25,3 +26,15 @@ mod runner;
 
 pub use finished::pass_finished;
 pub use runner::Runner;
+
+// what went through an end of a stream, in proofs alone
+mod transcript;
+
+pub use transcript::Transcript;
+
+// a runner that plays each job at its start
+mod inline_runner;
+mod inline_serving;
+
+pub use inline_runner::InlineRunner;
+pub use inline_serving::serve_inline;

@@ -1,7 +1,7 @@
 //! What runs the jobs of a desk.
 
 ghost use Rattle.std.specs.Prelude.{◌≡◌, ◌+◌, ℕ, Option, Result, IfSome};
-ghost use Rattle.job_core.specs.Admitted.{Order};
+ghost use Rattle.job_core.specs.Admitted.{AdmittedJob};
 ghost use Rattle.credit_book.specs.declared.book.Report.{Report};
 ghost use Rattle.credit_book.specs.declared.board.Progress.{Progress};
 
@@ -18,7 +18,7 @@ pub trait Runner {
     ghost ready: { Self → Type 0 };
 
     // What a start, a look and a take may do, from a runner to the next.
-    ghost starts: { Self → ℕ → Order → Result (Unit {0}) ℕ → Self → Type 0 };
+    ghost starts: { Self → ℕ → AdmittedJob → Result (Unit {0}) ℕ → Self → Type 0 };
 
     ghost looks: { Self → ℕ → Progress → Self → Type 0 };
 

@@ -1,12 +1,13 @@
 //! Answers each frame of a source by one reply to a sink.
 
-ghost use Rattle.std.specs.Prelude.{◌≡◌, ◌≢◌, ◌<◌, ◌++◌, ◌+◌, ◌-◌, ◌^◌, ℕ, List, true, false, take, min, if◌then◌else◌, IsTrue, OnOk, OnErr, IfOk, IfErr, None, Err, Result};
+ghost use Rattle.std.specs.Prelude.{[], ◌≡◌, ◌≢◌, ◌<◌, ◌++◌, ◌+◌, ◌-◌, ◌^◌, ℕ, List, true, false, take, min, if◌then◌else◌, IsTrue, OnOk, OnErr, IfOk, IfErr, None, Err, Result};
 ghost use Rattle.sessions.specs.Frames.{front, partial, too_large};
 ghost use Rattle.sessions.specs.Session.{unread, ended_by};
 ghost use Rattle.streams.specs.Serves.{Serves};
-ghost use Rattle.streams.specs.Stops.{IsLastUnwritten, IsServed, IsStoppedBy, IsUnwritten, too_large_reply};
+ghost use Rattle.streams.specs.Stops.{IsGivenUp, IsGrown, IsLastUnwritten, IsServed, IsStoppedBy, IsUnwritten, too_large_reply};
 ghost use Rattle.streams.specs.Hearing.{HearsFront, query_of};
 
+use crate::batch::{put_reply, write_batch};
 use crate::ends::{Sink, Source, write_all};
 use crate::fault::StreamFault;
 use crate::handler::Handler;
@@ -27,7 +28,8 @@ enum Heard {
 
 fn hear(alloc: Global, session: &mut Session) -> Result<Heard, NoMemory>
     requires { ended_by session.old ≡ None }
-    ensures heard { IfOk result (λ heard. HearsFront heard (unread session.old) (unread session.new)) }
+    ensures heard { IfOk result (λ heard.
+        HearsFront heard (unread session.old) (unread session.new)) }
     ensures well { IfOk result (λ heard. heard ≢ Heard.TooLarge → ended_by session.new ≡ None) }
 {
     match session.next_request(alloc) {
@@ -40,10 +42,11 @@ fn hear(alloc: Global, session: &mut Session) -> Result<Heard, NoMemory>
     }
 }
 
-// Answers one frame.
+// Answers one frame, by a reply that waits behind others.
 fn answer_one<W: Sink, D, H: Handler<D>>(
     alloc: Global,
     writer: &mut W,
+    batch: &mut Vec<u8>,
     desk: &mut D,
     handler: &mut H,
     request: Result<Request, u8>,
@@ -53,26 +56,29 @@ fn answer_one<W: Sink, D, H: Handler<D>>(
     ensures ready { H.ready handler.new }
     ensures ok { OnOk result ((reply : List ℕ)
         × H.answers (desk.old, handler.old) (query_of request) reply (desk.new, handler.new)
-        × (W.told writer.new ≡ W.told writer.old ++ reply)) }
+        × (W.transcript writer.new ++ batch.new.items
+        ≡ (W.transcript writer.old ++ batch.old.items) ++ reply)) }
+    ensures grows { IsGrown (W.transcript writer.old) (W.transcript writer.new) }
     ensures err { IfErr result (λ fault. IsUnwritten fault H.answers (desk.old, handler.old)
-        (query_of request) (W.told writer.old) (desk.new, handler.new) (W.told writer.new)) }
+        (query_of request) (W.transcript writer.old) batch.old.items (desk.new, handler.new)
+        (W.transcript writer.new) batch.new.items) }
     ensures well { OnOk result (W.has_failed writer.new ≡ false) }
     ensures write_failed { result ≡ Err StreamFault.WriteFailed → W.has_failed writer.new ≡ true }
     ensures no_memory { result ≡ Err StreamFault.NoMemory → W.has_failed writer.new ≡ false }
-    ensures no_other { result ≢ Err StreamFault.ReadFailed }
 {
     let reply = handler.answer(alloc, desk, request)?;
-    match write_all(writer, &reply) {
+    match put_reply(writer, batch, &reply) {
         Ok(()) => Ok(()),
         Err(_) => Err(StreamFault::WriteFailed),
     }
 }
 
-// Answers each whole frame. `false`: a length is over the limit.
+// Answers each whole frame. Replies may still wait then. `false`: a length is over the limit.
 fn answer_frames<W: Sink, D, H: Handler<D>>(
     alloc: Global,
     session: &mut Session,
     writer: &mut W,
+    batch: &mut Vec<u8>,
     desk: &mut D,
     handler: &mut H,
     number: &mut u64,
@@ -81,20 +87,23 @@ fn answer_frames<W: Sink, D, H: Handler<D>>(
     requires well { ended_by session.old ≡ None }
     requires sink { W.has_failed writer.old ≡ false }
     requires ready { H.ready handler.old }
+    requires none { batch.old.items ≡ [] }
     ensures ready { H.ready handler.new }
     ensures served { IfOk result (λ _. (count : ℕ)
-        × Serves H.answers (desk.old, handler.old) (unread session.old) (W.told writer.old)
-        count (desk.new, handler.new) (unread session.new) (W.told writer.new)
+        × Serves H.answers (desk.old, handler.old) (unread session.old) (W.transcript writer.old)
+        count (desk.new, handler.new) (unread session.new)
+        (W.transcript writer.new ++ batch.new.items)
         × (number.new ≡ min (number.old + count) (2 ^ 64 - 1))) }
+    ensures grows { IsGrown (W.transcript writer.old) (W.transcript writer.new) }
     ensures left { IfOk result (λ goes_on. front (unread session.new)
         ≡ (if goes_on then partial else too_large)) }
-    ensures stopped { IfErr result (λ fault. IsStoppedBy fault H.answers (desk.old, handler.old)
-        (unread session.old) (W.told writer.old) (desk.new, handler.new) (W.told writer.new)) }
+    ensures stopped { IfErr result (λ fault. IsGivenUp fault H.answers (desk.old, handler.old)
+        (unread session.old) (W.transcript writer.old) (desk.new, handler.new)
+        (W.transcript writer.new) batch.new.items) }
     ensures well { OnOk result (W.has_failed writer.new ≡ false) }
     ensures goes_on { IfOk result (λ goes_on. IsTrue goes_on → ended_by session.new ≡ None) }
     ensures write_failed { result ≡ Err StreamFault.WriteFailed → W.has_failed writer.new ≡ true }
     ensures no_memory { result ≡ Err StreamFault.NoMemory → W.has_failed writer.new ≡ false }
-    ensures no_other { result ≢ Err StreamFault.ReadFailed }
 {
     'frames: loop {
         let request = match hear(alloc, session)? {
@@ -102,8 +111,50 @@ fn answer_frames<W: Sink, D, H: Handler<D>>(
             Heard::TooLarge => return Ok(false),
             Heard::Question(request) => request,
         };
-        answer_one(alloc, writer, desk, handler, request)?;
+        answer_one(alloc, writer, batch, desk, handler, request)?;
         *number = number.saturating_add(1);
+    }
+}
+
+// Answers each whole frame, and writes the replies together. `false`: a length is over the limit.
+fn answer_together<W: Sink, D, H: Handler<D>>(
+    alloc: Global,
+    session: &mut Session,
+    writer: &mut W,
+    batch: &mut Vec<u8>,
+    desk: &mut D,
+    handler: &mut H,
+    number: &mut u64,
+) -> Result<bool, StreamFault>
+    requires counts { number.old < 2 ^ 64 }
+    requires well { ended_by session.old ≡ None }
+    requires sink { W.has_failed writer.old ≡ false }
+    requires ready { H.ready handler.old }
+    requires none { batch.old.items ≡ [] }
+    ensures ready { H.ready handler.new }
+    ensures none { OnOk result (batch.new.items ≡ []) }
+    ensures served { IfOk result (λ _. (count : ℕ)
+        × Serves H.answers (desk.old, handler.old) (unread session.old) (W.transcript writer.old)
+        count (desk.new, handler.new) (unread session.new) (W.transcript writer.new)
+        × (number.new ≡ min (number.old + count) (2 ^ 64 - 1))) }
+    ensures left { IfOk result (λ goes_on. front (unread session.new)
+        ≡ (if goes_on then partial else too_large)) }
+    ensures stopped { IfErr result (λ fault. IsGivenUp fault H.answers (desk.old, handler.old)
+        (unread session.old) (W.transcript writer.old) (desk.new, handler.new)
+        (W.transcript writer.new) []) }
+    ensures well { OnOk result (W.has_failed writer.new ≡ false) }
+    ensures goes_on { IfOk result (λ goes_on. IsTrue goes_on → ended_by session.new ≡ None) }
+    ensures write_failed { result ≡ Err StreamFault.WriteFailed → W.has_failed writer.new ≡ true }
+    ensures no_memory { result ≡ Err StreamFault.NoMemory → W.has_failed writer.new ≡ false }
+    ensures no_other { result ≢ Err StreamFault.ReadFailed }
+{
+    let answered = answer_frames(alloc, session, writer, batch, desk, handler, number);
+    if let Err(StreamFault::WriteFailed) = answered {
+        return answered;
+    }
+    match write_batch(writer, batch) {
+        Ok(()) => answered,
+        Err(_) => Err(StreamFault::WriteFailed),
     }
 }
 
@@ -114,6 +165,7 @@ fn take_piece<W: Sink, D, H: Handler<D>>(
     session: &mut Session,
     piece: &[u8],
     writer: &mut W,
+    batch: &mut Vec<u8>,
     desk: &mut D,
     handler: &mut H,
     number: &mut u64,
@@ -122,17 +174,19 @@ fn take_piece<W: Sink, D, H: Handler<D>>(
     requires well { ended_by session.old ≡ None }
     requires sink { W.has_failed writer.old ≡ false }
     requires ready { H.ready handler.old }
+    requires none { batch.old.items ≡ [] }
     ensures ready { H.ready handler.new }
+    ensures none { OnOk result (batch.new.items ≡ []) }
     ensures served { IfOk result (λ _. (count : ℕ)
         × Serves H.answers (desk.old, handler.old) (unread session.old
-        ++ piece.now) (W.told writer.old) count (desk.new, handler.new) (unread session.new)
-        (W.told writer.new)
+        ++ piece.now) (W.transcript writer.old) count (desk.new, handler.new) (unread session.new)
+        (W.transcript writer.new)
         × (number.new ≡ min (number.old + count) (2 ^ 64 - 1))) }
     ensures left { IfOk result (λ goes_on. front (unread session.new)
         ≡ (if goes_on then partial else too_large)) }
-    ensures stopped { IfErr result (λ fault. IsStoppedBy fault H.answers (desk.old, handler.old)
-        (unread session.old ++ piece.now) (W.told writer.old) (desk.new, handler.new)
-        (W.told writer.new)) }
+    ensures stopped { IfErr result (λ fault. IsGivenUp fault H.answers (desk.old, handler.old)
+        (unread session.old ++ piece.now) (W.transcript writer.old) (desk.new, handler.new)
+        (W.transcript writer.new) []) }
     ensures well { OnOk result (W.has_failed writer.new ≡ false) }
     ensures goes_on { IfOk result (λ goes_on. IsTrue goes_on → ended_by session.new ≡ None) }
     ensures write_failed { result ≡ Err StreamFault.WriteFailed → W.has_failed writer.new ≡ true }
@@ -140,7 +194,7 @@ fn take_piece<W: Sink, D, H: Handler<D>>(
     ensures no_other { result ≢ Err StreamFault.ReadFailed }
 {
     match session.feed(piece) {
-        Ok(()) => answer_frames(alloc, session, writer, desk, handler, number),
+        Ok(()) => answer_together(alloc, session, writer, batch, desk, handler, number),
         Err(_) => Err(StreamFault::NoMemory),
     }
 }
@@ -148,9 +202,10 @@ fn take_piece<W: Sink, D, H: Handler<D>>(
 // Answers a length over the limit.
 fn refuse_length<W: Sink>(alloc: Global, writer: &mut W) -> Result<(), StreamFault>
     requires { W.has_failed writer.old ≡ false }
-    ensures ok { OnOk result (W.told writer.new ≡ W.told writer.old ++ too_large_reply) }
-    ensures err { IfErr result (λ fault. IsLastUnwritten fault (W.told writer.old)
-        (W.told writer.new)) }
+    ensures ok { OnOk result (W.transcript writer.new ≡ W.transcript writer.old
+        ++ too_large_reply) }
+    ensures err { IfErr result (λ fault. IsLastUnwritten fault (W.transcript writer.old)
+        (W.transcript writer.new)) }
     ensures well { OnOk result (W.has_failed writer.new ≡ false) }
     ensures write_failed { result ≡ Err StreamFault.WriteFailed → W.has_failed writer.new ≡ true }
     ensures no_memory { result ≡ Err StreamFault.NoMemory → W.has_failed writer.new ≡ false }
@@ -174,12 +229,13 @@ fn refuse_length<W: Sink>(alloc: Global, writer: &mut W) -> Result<(), StreamFau
 /// Answers the frames of all that the reader gives, in order, each by one reply, and tells how
 /// many. Those that are answered 72 or 73 count; the number stays at `2^64 - 1`.
 ///
-/// It reads pieces of at most 4,096 bytes up to the end of input, at most `2^64 - 1` of them. A
+/// It reads pieces of at most 4,096 bytes up to the end of input, at most `2^64 - 1` of them. The
+/// replies to the frames that are whole with a piece go out together, up to 65,536 bytes. A
 /// last frame that is cut short is answered by nothing. A length over the limit is answered 71,
 /// once, which isn't counted, and nothing more is read.
 ///
 /// 83 where the reader failed: every frame that it gave whole is answered, by its whole reply. 84
-/// where the writer failed: within a reply, or within the last 71. 99 where a piece, a frame or a
+/// where the writer failed: within the replies of a piece, or the last 71. 99 where a piece, a frame or a
 /// reply found no memory, and neither has failed: what was written are whole replies. The desk is
 /// that after the requests that were heard.
 pub fn serve_stream<R: Source, W: Sink, D, H: Handler<D>>(
@@ -194,13 +250,14 @@ pub fn serve_stream<R: Source, W: Sink, D, H: Handler<D>>(
     requires ready { H.ready handler.old }
     ensures ready { H.ready handler.new }
     ensures served { IfOk result (λ number. (all : List ℕ)
-        × (R.told reader.new ≡ R.told reader.old ++ all)
-        × IsServed H.answers (desk.old, handler.old) all (W.told writer.old) (R.is_over reader.new
-        ≡ true) (desk.new, handler.new) number (W.told writer.new)) }
+        × (R.transcript reader.new ≡ R.transcript reader.old ++ all)
+        × IsServed H.answers (desk.old, handler.old) all (W.transcript writer.old)
+        (R.is_over reader.new
+        ≡ true) (desk.new, handler.new) number (W.transcript writer.new)) }
     ensures stopped { IfErr result (λ fault. (all : List ℕ)
-        × (R.told reader.new ≡ R.told reader.old ++ all)
-        × IsStoppedBy fault H.answers (desk.old, handler.old) all (W.told writer.old)
-        (desk.new, handler.new) (W.told writer.new)) }
+        × (R.transcript reader.new ≡ R.transcript reader.old ++ all)
+        × IsStoppedBy fault H.answers (desk.old, handler.old) all (W.transcript writer.old)
+        (desk.new, handler.new) (W.transcript writer.new)) }
     ensures read_failed { result ≡ Err StreamFault.ReadFailed → R.has_failed reader.new ≡ true }
     ensures write_failed { result ≡ Err StreamFault.WriteFailed → W.has_failed writer.new ≡ true }
     ensures no_memory { result ≡ Err StreamFault.NoMemory → (R.has_failed reader.new ≡ false)
@@ -209,6 +266,7 @@ pub fn serve_stream<R: Source, W: Sink, D, H: Handler<D>>(
         × (W.has_failed writer.new ≡ false)) }
 {
     let mut session = Session::new(alloc);
+    let mut batch = Vec::new(alloc);
     let mut piece = [0u8; PIECE_LEN];
     let mut number = 0;
     'reads: for _ in 0..u64::MAX {
@@ -224,6 +282,7 @@ pub fn serve_stream<R: Source, W: Sink, D, H: Handler<D>>(
             &mut session,
             &piece[..count],
             writer,
+            &mut batch,
             desk,
             handler,
             &mut number,

@@ -1,8 +1,7 @@
 //! A source or a sink of a std reader or writer.
 
-use crate::{Failed, Sink, Source};
+use crate::{Failed, Sink, Source, Transcript};
 use std::io::{Read, Write};
-use traces::Told;
 
 /// A reader or a writer, with what went through it.
 ///
@@ -12,7 +11,7 @@ use traces::Told;
 #[derive(Drop)]
 pub struct Tap<T> {
     inner: T,
-    told: Told,
+    transcript: Transcript,
     has_failed: bool,
     is_over: bool,
 }
@@ -23,12 +22,12 @@ impl<T: Drop> Tap<T> {
     /// An end that nothing went through.
     pub fn new(inner: T) -> Tap<T>
         ensures inner { result.inner ≡ inner }
-        ensures told { result.told.bytes ≡ [] }
+        ensures told { result.transcript.bytes ≡ [] }
         ensures well { result.has_failed ≡ false }
     {
         Tap {
             inner,
-            told: Told::new(),
+            transcript: Transcript::new(),
             has_failed: false,
             is_over: false,
         }
@@ -44,7 +43,7 @@ impl<T: Drop> Tap<T> {
 }
 
 impl<T: Read> Source for Tap<T> {
-    ghost told = { λ t. t.told.bytes };
+    ghost transcript = { λ t. t.transcript.bytes };
 
     ghost has_failed = { λ t. t.has_failed };
 
@@ -55,7 +54,7 @@ impl<T: Read> Source for Tap<T> {
     fn read(&mut self, piece: &mut [u8]) -> Result<usize, Failed> {
         match self.inner.read(piece) {
             Ok(count) => {
-                self.told = self.told.then(&piece[..count]);
+                self.transcript = self.transcript.then(&piece[..count]);
                 self.is_over = count == 0;
                 Ok(count)
             }
@@ -68,7 +67,7 @@ impl<T: Read> Source for Tap<T> {
 }
 
 impl<T: Write> Sink for Tap<T> {
-    ghost told = { λ t. t.told.bytes };
+    ghost transcript = { λ t. t.transcript.bytes };
 
     ghost has_failed = { λ t. t.has_failed };
 
@@ -86,7 +85,7 @@ impl<T: Write> Sink for Tap<T> {
             self.has_failed = true;
             return Err(Failed);
         }
-        self.told = self.told.then(&piece[..count]);
+        self.transcript = self.transcript.then(&piece[..count]);
         Ok(count)
     }
 }

@@ -3,9 +3,10 @@ use Rattle.std.specs.Prelude.{◌≡◌}
 use denote.Param.Members.{Once}
 use denote.Ref.{MutBor}
 use Rattle.interpreter.specs.declared.frame.Frame.{Frame}
-use Rattle.interpreter.specs.Behind.{zeroed}
+use Rattle.interpreter.specs.Representation.{zeroed}
 
-module _ {F T R : Type 0} (g : Once F (MutBor Frame × (T × Unit {0})) (R × (MutBor Frame × Unit {0}))) (f : F) (task : T) where
+module _ {F T R : Type 0} (g : Once F (MutBor Frame × (T × Unit {0})) (R
+    × (MutBor Frame × Unit {0}))) (f : F) (task : T) where
   -- f may be called on any frame of zeros and the task
   abbrev pub TakesFresh : Type 0
   TakesFresh = (frame : MutBor Frame) → frame.now ≡ zeroed → g.pre f (frame, (task, tt))

@@ -56,7 +56,8 @@ impl Frames {
         f: F,
     ) -> Result<R, T>
         requires { TakesFresh F.FnOnce f task }
-        ensures { MatchResult result (λ answer. AnswersFresh F.FnOnce f task answer) (λ back. back ≡ task) }
+        ensures { MatchResult result (λ answer. AnswersFresh F.FnOnce f task answer) (λ back.
+            back ≡ task) }
     {
         if self.job != Some(job) || self.placed >= MOST_FRAMES {
             self.end_job();

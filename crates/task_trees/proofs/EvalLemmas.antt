@@ -1,7 +1,7 @@
 -- What a task comes to follows from its effect, and is one list.
 use Rattle.std.proofs.Common.{◌≡◌, ℕ, zero, suc, ◌+◌, List, ◌++◌, slice_get, sym, ◌∙◌, arith, ap, subst, Option, Some}
-use Rattle.machine_model.specs.Machine.{Program, Effect, Goes, Ends, Spawns, Calls, Traps, effect}
-use Rattle.machine_model.specs.Job.{Task, with_state, child_of, entries_of}
+use Rattle.machine_model.specs.Machine.{Program, Effect, Continues, Ends, Spawns, Calls, Traps, effect}
+use Rattle.machine_model.specs.JobState.{Task, with_state, child_of, entries_of}
 use Rattle.task_trees.specs.Eval.{Finished, Comes, EvalWithin, Eval, state_with, parent_of}
 
 pub one_program : (p q : Program) (o : Option Program) → o ≡ Some p → o ≡ Some q → p ≡ q
@@ -10,7 +10,7 @@ one_program p q o a b = cc
 comes_once : (on on' : Task → List ℕ → List Finished → Type 0) →
     ((u : Task) (bytes : List ℕ) (fs gs : List Finished) → on u bytes fs → on' u bytes gs → fs ≡ gs) →
     (t : Task) (xs ys : List Finished) (e : Effect) → Comes on t xs e → Comes on' t ys e → xs ≡ ys
-comes_once on on' once t xs ys (Goes next) a b = once (with_state t next) next.part xs ys a b
+comes_once on on' once t xs ys (Continues next) a b = once (with_state t next) next.part xs ys a b
 comes_once on on' once t xs ys (Ends r0 last) a b = a ∙ sym b
 comes_once on on' once t xs ys (Spawns birth taken refused) a b =
     let own = once (parent_of t taken) taken.part a.0 b.0 a.2 b.2 in
@@ -36,7 +36,7 @@ eval_once programs t bytes xs ys a b = once_within programs a.0 b.0 t bytes xs y
 comes_more : (on on' : Task → List ℕ → List Finished → Type 0) →
     ((u : Task) (bytes : List ℕ) (fs : List Finished) → on u bytes fs → on' u bytes fs) →
     (t : Task) (xs : List Finished) (e : Effect) → Comes on t xs e → Comes on' t xs e
-comes_more on on' more t xs (Goes next) a = more (with_state t next) next.part xs a
+comes_more on on' more t xs (Continues next) a = more (with_state t next) next.part xs a
 comes_more on on' more t xs (Ends r0 last) a = a
 comes_more on on' more t xs (Spawns birth taken refused) a =
     (a.0, a.1, more (parent_of t taken) taken.part a.0 a.2, more (child_of t taken birth) birth.bytes a.1 a.3, a.4)
@@ -64,7 +64,7 @@ many_more programs n (suc k) t bytes xs a =
 -- so many steps suffice for what follows an effect
 bounded : (programs : List Program) (t : Task) (xs : List Finished) (e : Effect) → Comes (Eval programs) t xs e →
     (n : ℕ) × Comes (EvalWithin programs n) t xs e
-bounded programs t xs (Goes next) a = a
+bounded programs t xs (Continues next) a = a
 bounded programs t xs (Ends r0 last) a = (0, a)
 bounded programs t xs (Spawns birth taken refused) a =
     let n = a.2.0 in let m = a.3.0 in

@@ -5,8 +5,8 @@ use Rattle.std.proofs.lemmas.Option.{slice_get_within}
 use Rattle.std.proofs.lemmas.List.{take_all, take-append-le}
 use Rattle.std.proofs.lemmas.List.Sums.{sum_by-append, sum_by-cons}
 use Rattle.std.proofs.lemmas.Bool.Decides.{nat_tests}
-use Rattle.machine_model.specs.Machine.{State, Program, Birth, Effect, Goes, Ends, Spawns, Calls, Traps, effect}
-use Rattle.machine_model.specs.Job.{Job, Task, Member, Live, Ended, goes_on, ending_of, with_state, child_of, state_in, entries_of, applied, task_step, member_step, step, start}
+use Rattle.machine_model.specs.Machine.{State, Program, Birth, Effect, Continues, Ends, Spawns, Calls, Traps, effect}
+use Rattle.machine_model.specs.JobState.{JobState, Task, Member, Live, Ended, goes_on, ending_of, with_state, child_of, state_in, entries_of, applied, task_step, member_step, step, start}
 use Rattle.task_trees.specs.Families.{place_of, children_of, AreParents, GrowBy}
 use Rattle.machine_model.proofs.Places.{set_same, set_other, by_number, push_new, pushed}
 
@@ -155,12 +155,12 @@ module _ (parents : List ℕ) (tasks : List Member) (n : ℕ) (t : Task) (parent
       }
 
 -- what a step makes of the parents
-record Grown (n : ℕ) (j k : Job) (parents : List ℕ) : Type 0 where
+record Grown (n : ℕ) (j k : JobState) (parents : List ℕ) : Type 0 where
   pub parents' : List ℕ
   pub grows : GrowBy n j k parents parents'
   pub are : AreParents parents' k.tasks
 
-module _ (j : Job) (n : ℕ) (t : Task) (parents : List ℕ) (here : slice_get j.tasks n ≡ Some (Live t)) (are : AreParents parents j.tasks) where
+module _ (j : JobState) (n : ℕ) (t : Task) (parents : List ℕ) (here : slice_get j.tasks n ≡ Some (Live t)) (are : AreParents parents j.tasks) where
   grown_goes : (s : State) → Grown n j (goes_on j n t s) parents
   grown_goes s = record {
     parents' = parents;
@@ -169,7 +169,7 @@ module _ (j : Job) (n : ℕ) (t : Task) (parents : List ℕ) (here : slice_get j
         (λ u is. let same : with_state t s ≡ u = cc in ap (λ (x : Task). x.children) (sym same) ∙ are.children n t here) are;
   }
 
-  abbrev over : State → ℕ → Job
+  abbrev over : State → ℕ → JobState
   over s r0 = record { buffer = j.buffer; tasks = slice_set j.tasks n (Ended (ending_of t s r0)) }
 
   grown_ends : (s : State) (r0 : ℕ) → Grown n j (over s r0) parents
@@ -179,7 +179,7 @@ module _ (j : Job) (n : ℕ) (t : Task) (parents : List ℕ) (here : slice_get j
     are = parents_set parents j.tasks n (Live t) (Ended (ending_of t s r0)) here refl (λ u is. cc) are;
   }
 
-  abbrev spawned_job : Birth → State → Job
+  abbrev spawned_job : Birth → State → JobState
   spawned_job birth taken = record {
     buffer = j.buffer;
     tasks = slice_set j.tasks n (Live (record (with_state t taken) { children = suc t.children })) ++ Live (child_of t taken birth) ∷ [];
@@ -194,33 +194,33 @@ module _ (j : Job) (n : ℕ) (t : Task) (parents : List ℕ) (here : slice_get j
         are = parents_grown parents j.tasks n t parent (child_of t taken birth) here refl refl refl refl are;
       }
 
-  grown_applied : (refuses : Bool) (e : Effect) (k : Job) → applied j n t refuses e ≡ Some k → Grown n j k parents
-  grown_applied refuses (Goes s) k is = let e : goes_on j n t s ≡ k = cc in subst (λ (x : Job). Grown n j x parents) e (grown_goes s)
-  grown_applied refuses (Ends r0 s) k is = let e : over s r0 ≡ k = cc in subst (λ (x : Job). Grown n j x parents) e (grown_ends s r0)
+  grown_applied : (refuses : Bool) (e : Effect) (k : JobState) → applied j n t refuses e ≡ Some k → Grown n j k parents
+  grown_applied refuses (Continues s) k is = let e : goes_on j n t s ≡ k = cc in subst (λ (x : JobState). Grown n j x parents) e (grown_goes s)
+  grown_applied refuses (Ends r0 s) k is = let e : over s r0 ≡ k = cc in subst (λ (x : JobState). Grown n j x parents) e (grown_ends s r0)
   grown_applied true (Spawns birth taken refused) k is =
-      let e : goes_on j n t refused ≡ k = cc in subst (λ (x : Job). Grown n j x parents) e (grown_goes refused)
+      let e : goes_on j n t refused ≡ k = cc in subst (λ (x : JobState). Grown n j x parents) e (grown_goes refused)
   grown_applied false (Spawns birth taken refused) k is =
-      let e : spawned_job birth taken ≡ k = cc in subst (λ (x : Job). Grown n j x parents) e (grown_spawns birth taken)
+      let e : spawned_job birth taken ≡ k = cc in subst (λ (x : JobState). Grown n j x parents) e (grown_spawns birth taken)
   grown_applied refuses (Calls helper arguments caller) k is = cc
   grown_applied refuses (Traps trap) k is = cc
 
-  grown_task : (programs : List Program) (refuses : Bool) (o : Option Program) (k : Job) → task_step programs j n t refuses o ≡ Some k → Grown n j k parents
+  grown_task : (programs : List Program) (refuses : Bool) (o : Option Program) (k : JobState) → task_step programs j n t refuses o ≡ Some k → Grown n j k parents
   grown_task programs refuses None k is = cc
   grown_task programs refuses (Some p) k is = grown_applied refuses (effect p (entries_of programs) (state_in j.buffer t)) k is
 
-grown_same : (n : ℕ) (j : Job) (parents : List ℕ) → AreParents parents j.tasks → Grown n j j parents
+grown_same : (n : ℕ) (j : JobState) (parents : List ℕ) → AreParents parents j.tasks → Grown n j j parents
 grown_same n j parents are = record { parents' = parents; grows = inl (refl, refl); are = are }
 
-grown_member : (programs : List Program) (j : Job) (n : ℕ) (refuses : Bool) (o : Option Member) (k : Job) (parents : List ℕ) → slice_get j.tasks n ≡ o →
+grown_member : (programs : List Program) (j : JobState) (n : ℕ) (refuses : Bool) (o : Option Member) (k : JobState) (parents : List ℕ) → slice_get j.tasks n ≡ o →
     member_step programs j n refuses o ≡ Some k → AreParents parents j.tasks → Grown n j k parents
 grown_member programs j n refuses None k parents at is are =
-    let e : j ≡ k = cc in subst (λ (x : Job). Grown n j x parents) e (grown_same n j parents are)
+    let e : j ≡ k = cc in subst (λ (x : JobState). Grown n j x parents) e (grown_same n j parents are)
 grown_member programs j n refuses (Some (Ended e)) k parents at is are =
-    let e : j ≡ k = cc in subst (λ (x : Job). Grown n j x parents) e (grown_same n j parents are)
+    let e : j ≡ k = cc in subst (λ (x : JobState). Grown n j x parents) e (grown_same n j parents are)
 grown_member programs j n refuses (Some (Live t)) k parents at is are =
     grown_task j n t parents at are programs refuses (slice_get programs t.program) k is
 
-pub grown_step : (programs : List Program) (j k : Job) (n : ℕ) (refuses : Bool) (parents : List ℕ) → step programs j n refuses ≡ Some k →
+pub grown_step : (programs : List Program) (j k : JobState) (n : ℕ) (refuses : Bool) (parents : List ℕ) → step programs j n refuses ≡ Some k →
     AreParents parents j.tasks → (parents' : List ℕ) × GrowBy n j k parents parents' × AreParents parents' k.tasks
 grown_step programs j k n refuses parents is are =
     let g = grown_member programs j n refuses (slice_get j.tasks n) k parents refl is are in (g.parents', g.grows, g.are)
@@ -244,5 +244,5 @@ parents_start t place fresh = record {
       let is : t ≡ u = cc in ap (λ (x : Task). x.children) (sym is) ∙ fresh;
 }
 
-pub starts : (credit : ℕ) (buffer : List ℕ) → let j : Job = start credit buffer in AreParents [] j.tasks
+pub starts : (credit : ℕ) (buffer : List ℕ) → let j : JobState = start credit buffer in AreParents [] j.tasks
 starts credit buffer = parents_start _ refl refl

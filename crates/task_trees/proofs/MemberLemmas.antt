@@ -2,7 +2,7 @@
 use Rattle.std.proofs.Common.{◌≡◌, ◌≢◌, ℕ, zero, suc, List, [], ◌∷◌, ◌++◌, set, take, drop, slice_get, refl, sym, ◌∙◌, arith, ap, subst, Option, Some}
 use Rattle.std.proofs.lemmas.List.{append_assoc, append-nil}
 use Rattle.machine_model.specs.Machine.{Program}
-use Rattle.machine_model.specs.Job.{Member, Live, Ended, base_of, size_of}
+use Rattle.machine_model.specs.JobState.{Member, Live, Ended, base_of, size_of}
 use Rattle.task_trees.specs.Eval.{Finished, Eval, MemberComes, MembersCome}
 
 -- the bytes of a member's range

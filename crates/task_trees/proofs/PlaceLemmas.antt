@@ -5,7 +5,7 @@ use Rattle.std.proofs.lemmas.List.Sums.{sum_by-cons}
 use Rattle.std.proofs.lemmas.Bool.Decides.{nat_tests}
 use Rattle.std.specs.Prelude.{cond}
 use Rattle.machine_model.specs.Machine.{Program}
-use Rattle.machine_model.specs.Job.{Job, Member, Move, step, run, start}
+use Rattle.machine_model.specs.JobState.{JobState, Member, Move, step, run, start}
 use Rattle.task_trees.specs.Families.{place_of, children_of, AreParents, HavePlaces}
 use Rattle.task_trees.proofs.FamilyLemmas.{if_equal, grown_step, starts}
 
@@ -103,19 +103,19 @@ module _ (parents : List ℕ) (tasks : List Member) (are : AreParents parents ta
       (counts ∙ ap (λ (i : ℕ). children_of i (take k parents)) (sym parent)))
 
 -- what a chain gives comes from a value in its middle
-middle : (o : Option Job) (f : Job → Option Job) (k : Job) → option_and_then f o ≡ Some k → (mid : Job) × (o ≡ Some mid) × (f mid ≡ Some k)
+middle : (o : Option JobState) (f : JobState → Option JobState) (k : JobState) → option_and_then f o ≡ Some k → (mid : JobState) × (o ≡ Some mid) × (f mid ≡ Some k)
 middle None f k is = cc
 middle (Some mid) f k is = (mid, refl, is)
 
-run_parents : (programs : List Program) (j k : Job) (moves : List Move) (parents : List ℕ) → run programs j moves ≡ Some k → AreParents parents j.tasks →
+run_parents : (programs : List Program) (j k : JobState) (moves : List Move) (parents : List ℕ) → run programs j moves ≡ Some k → AreParents parents j.tasks →
     (parents' : List ℕ) × AreParents parents' k.tasks
-run_parents programs j k [] parents is are = let e : j ≡ k = cc in (parents, subst (λ (x : Job). AreParents parents x.tasks) e are)
+run_parents programs j k [] parents is are = let e : j ≡ k = cc in (parents, subst (λ (x : JobState). AreParents parents x.tasks) e are)
 run_parents programs j k (m ∷ ms) parents is are =
     let through = middle (step programs j m.number m.refuses) (λ mid. run programs mid ms) k is in
     let next = grown_step programs j through.0 m.number m.refuses parents through.1 are in
     run_parents programs through.0 k ms next.0 through.2 next.2
 
-pub run_places : (programs : List Program) (credit : ℕ) (buffer : List ℕ) (moves : List Move) (last : Job) →
+pub run_places : (programs : List Program) (credit : ℕ) (buffer : List ℕ) (moves : List Move) (last : JobState) →
     run programs (start credit buffer) moves ≡ Some last → HavePlaces last
 run_places programs credit buffer moves last is =
     let r = run_parents programs (start credit buffer) last moves [] is (starts credit buffer) in

@@ -1,12 +1,12 @@
 -- A run refuses nothing but spawns.
 use Rattle.std.proofs.Common.{◌≡◌, ℕ, List, [], ◌∷◌, map, slice_get, refl, ◌∙◌, ap, subst, Bool, true, false, Option, Some, None, option_and_then}
-use Rattle.machine_model.specs.Machine.{Program, Effect, Goes, Ends, Spawns, Calls, Traps, effect}
-use Rattle.machine_model.specs.Job.{Job, Task, Member, Live, Ended, Move, applied, entries_of, task_step, member_step, state_in, step, run, start}
+use Rattle.machine_model.specs.Machine.{Program, Effect, Continues, Ends, Spawns, Calls, Traps, effect}
+use Rattle.machine_model.specs.JobState.{JobState, Task, Member, Live, Ended, Move, applied, entries_of, task_step, member_step, state_in, step, run, start}
 use Rattle.task_trees.specs.Answer.{IsSpawn, RefuseSpawns, PlaysToAnswer}
 use Rattle.task_trees.proofs.TreeAnswers.{one_answer}
 
 -- the same step, which refuses only where there is a spawn
-record Chosen (programs : List Program) (j k : Job) (n : ℕ) : Type 0 where
+record Chosen (programs : List Program) (j k : JobState) (n : ℕ) : Type 0 where
   pub refuses : Bool
   pub is : step programs j n refuses ≡ Some k
   pub spawn : refuses ≡ true → IsSpawn programs j n
@@ -14,7 +14,7 @@ record Chosen (programs : List Program) (j k : Job) (n : ℕ) : Type 0 where
 untrue : {X : Type 0} → false ≡ true → X
 untrue e = cc
 
-module _ (programs : List Program) (j k : Job) (n : ℕ) where
+module _ (programs : List Program) (j k : JobState) (n : ℕ) where
   taken : step programs j n false ≡ Some k → Chosen programs j k n
   taken is = record { refuses = false; is = is; spawn = λ e. untrue e }
 
@@ -26,7 +26,7 @@ module _ (programs : List Program) (j k : Job) (n : ℕ) where
         ap (member_step programs j n refuses) here ∙ ap (task_step programs j n t refuses) there ∙ ap (applied j n t refuses) is
 
     by_effect : (e : Effect) → effect p (entries_of programs) (state_in j.buffer t) ≡ e → applied j n t true e ≡ Some k → Chosen programs j k n
-    by_effect (Goes s) is to = taken (stepped false (Goes s) is ∙ to)
+    by_effect (Continues s) is to = taken (stepped false (Continues s) is ∙ to)
     by_effect (Ends r0 s) is to = taken (stepped false (Ends r0 s) is ∙ to)
     by_effect (Spawns birth taken refused) is to = record {
       refuses = true;
@@ -51,21 +51,21 @@ module _ (programs : List Program) (j k : Job) (n : ℕ) where
   chosen true is = by_member (slice_get j.tasks n) refl is
 
 -- what a chain gives comes from a value in its middle
-middle : (o : Option Job) (f : Job → Option Job) (k : Job) → option_and_then f o ≡ Some k → (mid : Job) × (o ≡ Some mid) × (f mid ≡ Some k)
+middle : (o : Option JobState) (f : JobState → Option JobState) (k : JobState) → option_and_then f o ≡ Some k → (mid : JobState) × (o ≡ Some mid) × (f mid ≡ Some k)
 middle None f k is = cc
 middle (Some mid) f k is = (mid, refl, is)
 
 -- the same run, whose refusals are of spawns
-record Told (programs : List Program) (j k : Job) (moves : List Move) : Type 0 where
+record Told (programs : List Program) (j k : JobState) (moves : List Move) : Type 0 where
   pub others : List Move
   pub numbers : map (λ (m : Move). m.number) others ≡ map (λ (m : Move). m.number) moves
   pub runs : run programs j others ≡ Some k
   pub refusals : RefuseSpawns programs j others
 
-one_job : (a b : Job) (o : Option Job) → o ≡ Some a → o ≡ Some b → a ≡ b
+one_job : (a b : JobState) (o : Option JobState) → o ≡ Some a → o ≡ Some b → a ≡ b
 one_job a b o e f = cc
 
-told : (programs : List Program) (j k : Job) (moves : List Move) → run programs j moves ≡ Some k → Told programs j k moves
+told : (programs : List Program) (j k : JobState) (moves : List Move) → run programs j moves ≡ Some k → Told programs j k moves
 told programs j k [] is = record { others = []; numbers = refl; runs = is; refusals = tt }
 told programs j k (m ∷ ms) is =
     let through = middle (step programs j m.number m.refuses) (λ mid. run programs mid ms) k is in
@@ -78,12 +78,12 @@ told programs j k (m ∷ ms) is =
       runs = ap (λ o. option_and_then (λ mid. run programs mid later.others) o) c.is ∙ later.runs;
       refusals = (
         c.spawn,
-        λ x there. subst (λ (y : Job). RefuseSpawns programs y later.others)
+        λ x there. subst (λ (y : JobState). RefuseSpawns programs y later.others)
             (one_job through.0 x (step programs j m.number c.refuses) c.is there) later.refusals,
       );
     }
 
-pub plays_to_answer : (programs : List Program) (credit : ℕ) (buffer : List ℕ) (moves : List Move) (last : Job) →
+pub plays_to_answer : (programs : List Program) (credit : ℕ) (buffer : List ℕ) (moves : List Move) (last : JobState) →
     run programs (start credit buffer) moves ≡ Some last →
     PlaysToAnswer programs credit buffer (map (λ (m : Move). m.number) moves) last
 plays_to_answer programs credit buffer moves last is =

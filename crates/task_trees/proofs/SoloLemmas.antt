@@ -1,19 +1,19 @@
 -- A task by itself comes to one end.
 use Rattle.std.proofs.Common.{◌≡◌, ℕ, zero, suc, List, ◌∷◌, map, inl, inr, refl, sym, ◌∙◌, ap, Bool, true, false, length}
-use Rattle.machine_model.specs.Machine.{State, Program, Entries, Effect, Goes, Ends, Spawns, Calls, Traps, effect}
-use Rattle.task_trees.specs.Solo.{Asked, Proceeds, Solo, SoloWithin}
+use Rattle.machine_model.specs.Machine.{State, Program, Entries, Effect, Continues, Ends, Spawns, Calls, Traps, effect}
+use Rattle.task_trees.specs.Solo.{SpawnRequest, Proceeds, Solo, SoloWithin}
 
-abbrev refusals : List Asked → List Bool
-refusals asked = map (λ (a : Asked). a.refused) asked
+abbrev refusals : List SpawnRequest → List Bool
+refusals asked = map (λ (a : SpawnRequest). a.refused) asked
 
 -- the same spawns were asked for, and the end is the same
-record Alike (asked others : List Asked) (r0 r0' : ℕ) (last last' : State) : Type 0 where
+record Alike (asked others : List SpawnRequest) (r0 r0' : ℕ) (last last' : State) : Type 0 where
   pub spawns : asked ≡ others
   pub word : r0 ≡ r0'
   pub state : last ≡ last'
 
 -- what follows one more spawn with the same answer
-longer : (a b : Asked) (later later' asked others : List Asked) (r0 r0' : ℕ) (last last' : State) → asked ≡ a ∷ later → others ≡ b ∷ later' →
+longer : (a b : SpawnRequest) (later later' asked others : List SpawnRequest) (r0 r0' : ℕ) (last last' : State) → asked ≡ a ∷ later → others ≡ b ∷ later' →
     a ≡ b → (refusals later ≡ refusals later' → Alike later later' r0 r0' last last') → refusals asked ≡ refusals others →
     Alike asked others r0 r0' last last'
 longer a b later later' asked others r0 r0' last last' is is' one same alike =
@@ -25,23 +25,23 @@ longer a b later later' asked others r0 r0' last last' is is' one same alike =
     record { spawns = is ∙ same_cons ∙ sym is'; word = s.word; state = s.state }
 
 -- a spawn isn't both refused and taken
-differ : (a b : Asked) (later later' asked others : List Asked) → asked ≡ a ∷ later → others ≡ b ∷ later' → a.refused ≡ true → b.refused ≡ false →
+differ : (a b : SpawnRequest) (later later' asked others : List SpawnRequest) → asked ≡ a ∷ later → others ≡ b ∷ later' → a.refused ≡ true → b.refused ≡ false →
     refusals asked ≡ refusals others → ⊥
 differ a b later later' asked others is is' first second alike =
     let whole : refusals (a ∷ later) ≡ refusals (b ∷ later') = ap refusals (sym is) ∙ alike ∙ ap refusals is' in
     let heads : a.refused ≡ b.refused = cc in
     let clash : true ≡ false = sym first ∙ heads ∙ second in cc
 
-follows_once : (on on' : List Asked → State → Type 0) (r0 r0' : ℕ) (last last' : State) →
-    ((asked others : List Asked) (s : State) → on asked s → on' others s → refusals asked ≡ refusals others → Alike asked others r0 r0' last last') →
-    (asked others : List Asked) (e : Effect) → Proceeds on asked r0 last e → Proceeds on' others r0' last' e → refusals asked ≡ refusals others →
+follows_once : (on on' : List SpawnRequest → State → Type 0) (r0 r0' : ℕ) (last last' : State) →
+    ((asked others : List SpawnRequest) (s : State) → on asked s → on' others s → refusals asked ≡ refusals others → Alike asked others r0 r0' last last') →
+    (asked others : List SpawnRequest) (e : Effect) → Proceeds on asked r0 last e → Proceeds on' others r0' last' e → refusals asked ≡ refusals others →
     Alike asked others r0 r0' last last'
-follows_once on on' r0 r0' last last' once asked others (Goes next) a b alike = once asked others next a b alike
+follows_once on on' r0 r0' last last' once asked others (Continues next) a b alike = once asked others next a b alike
 follows_once on on' r0 r0' last last' once asked others (Ends word s) a b alike =
     record { spawns = a.0 ∙ sym b.0; word = sym a.1 ∙ b.1; state = sym a.2 ∙ b.2 }
 follows_once on on' r0 r0' last last' once asked others (Spawns birth taken refused) a b alike =
-    let was : Asked = record { birth = birth; at = length taken.part; refused = false } in
-    let not : Asked = record { birth = birth; at = length taken.part; refused = true } in
+    let was : SpawnRequest = record { birth = birth; at = length taken.part; refused = false } in
+    let not : SpawnRequest = record { birth = birth; at = length taken.part; refused = true } in
     elim a.1 [
       | inl x ↦ elim b.1 [
         | inl y ↦ longer was was a.0 b.0 asked others r0 r0' last last' x.0 y.0 refl (once a.0 b.0 taken x.1 y.1) alike
@@ -55,7 +55,7 @@ follows_once on on' r0 r0' last last' once asked others (Spawns birth taken refu
 follows_once on on' r0 r0' last last' once asked others (Calls helper arguments caller) a b alike = absurd a
 follows_once on on' r0 r0' last last' once asked others (Traps trap) a b alike = absurd a
 
-solo_within : (p : Program) (entries : Entries) (r0 r0' : ℕ) (last last' : State) (n m : ℕ) (asked others : List Asked) (s : State) →
+solo_within : (p : Program) (entries : Entries) (r0 r0' : ℕ) (last last' : State) (n m : ℕ) (asked others : List SpawnRequest) (s : State) →
     SoloWithin p entries r0 last n asked s → SoloWithin p entries r0' last' m others s → refusals asked ≡ refusals others →
     Alike asked others r0 r0' last last'
 solo_within p entries r0 r0' last last' zero m asked others s a b alike = absurd a
@@ -64,7 +64,7 @@ solo_within p entries r0 r0' last last' (suc n) (suc m) asked others s a b alike
     follows_once (SoloWithin p entries r0 last n) (SoloWithin p entries r0' last' m) r0 r0' last last'
     (λ xs ys next c d e. solo_within p entries r0 r0' last last' n m xs ys next c d e) asked others (effect p entries s) a b alike
 
-pub solo_once : (p : Program) (entries : Entries) (s : State) (asked others : List Asked) (r0 r0' : ℕ) (last last' : State) →
+pub solo_once : (p : Program) (entries : Entries) (s : State) (asked others : List SpawnRequest) (r0 r0' : ℕ) (last last' : State) →
     Solo p entries s asked r0 last → Solo p entries s others r0' last' → refusals asked ≡ refusals others →
     (asked ≡ others) × (r0 ≡ r0') × (last ≡ last')
 solo_once p entries s asked others r0 r0' last last' a b alike =

@@ -8,7 +8,7 @@ use Rattle.std.proofs.lemmas.List.Elements.{All-nil, All-cons, All-head, All-tai
 use Rattle.std.proofs.lemmas.List.Sorted.{IsPermutation-refl, IsPermutation-sym, IsPermutation-trans, All-permutation, Contains-permutation, sum_by-IsPermutation}
 use Rattle.std.proofs.lemmas.List.Sums.{sum_by-cons}
 use Rattle.machine_model.specs.Machine.{Program}
-use Rattle.machine_model.specs.Job.{Job, Task, Member, Live, Ended, Ending, Move, start, step, run, base_of, size_of, spent_by, AreTiles, IsComplete}
+use Rattle.machine_model.specs.JobState.{JobState, Task, Member, Live, Ended, Ending, Move, start, step, run, base_of, size_of, spent_by, AreTiles, IsComplete}
 use Rattle.task_trees.specs.Eval.{Finished, Eval, MembersCome, JobComes, root}
 use Rattle.task_trees.specs.Answer.{RootComes, NoRefusals, ended_in, joined, spent_in, HasAnswer}
 use Rattle.machine_model.proofs.Tiles.{tiles_step}
@@ -123,14 +123,15 @@ owned_by buffer ms at n (Ended e) over inside there low high =
     )
 
 -- a complete job whose ended tasks are these has their answer
-pub answers : (j : Job) (fs : List Finished) → AreTiles j.tasks (length j.buffer) → IsComplete j →
-    IsPermutation (ended_in j.buffer j.tasks) fs → HasAnswer j fs
-answers j fs tiles over same = record {
-  buffer = joined_is j.buffer fs
+pub answers : (size : ℕ) (j : JobState) (fs : List Finished) → length j.buffer ≡ size → AreTiles j.tasks (length j.buffer) → IsComplete j →
+    IsPermutation (ended_in j.buffer j.tasks) fs → HasAnswer size j fs
+answers size j fs long tiles over same = record {
+  long = long;
+  buffer = subst (λ (n : ℕ). j.buffer ≡ joined n fs) long (joined_is j.buffer fs
       (All-permutation (IsPiece j.buffer) (ended_in j.buffer j.tasks) fs same (pieces j.buffer j.tasks tiles.inside))
       (λ at lt. let o = tiles.owned at lt in
       let f = owned_by j.buffer j.tasks at o.number o.member over (tiles.inside o.number o.member o.there) o.there o.low o.high in
-      covers fs f.0 at (Contains-permutation (ended_in j.buffer j.tasks) fs f.0 same f.1) f.2);
+      covers fs f.0 at (Contains-permutation (ended_in j.buffer j.tasks) fs f.0 same f.1) f.2));
   spent = spent_ended j.buffer j.tasks over
       ∙ sym (sum_by-IsPermutation (λ (x : Finished). x.ending.spent) (ended_in j.buffer j.tasks) fs same);
   r0s = λ place r0. (
@@ -150,22 +151,22 @@ answers j fs tiles over same = record {
 -- ---- a run
 
 -- what a run without refusals leads to comes from what its first job comes to
-record Back (programs : List Program) (j k : Job) (ys : List Finished) : Type 0 where
+record Back (programs : List Program) (j k : JobState) (ys : List Finished) : Type 0 where
   pub result : List Finished
   pub comes : JobComes programs j result
   pub same : IsPermutation result ys
 
 -- what a chain gives comes from a value in its middle
-middle : (o : Option Job) (f : Job → Option Job) (k : Job) → option_and_then f o ≡ Some k → (mid : Job) × (o ≡ Some mid) × (f mid ≡ Some k)
+middle : (o : Option JobState) (f : JobState → Option JobState) (k : JobState) → option_and_then f o ≡ Some k → (mid : JobState) × (o ≡ Some mid) × (f mid ≡ Some k)
 middle None f k is = cc
 middle (Some mid) f k is = (mid, refl, is)
 
-run_back : (programs : List Program) (j k : Job) (moves : List Move) (ys : List Finished) → run programs j moves ≡ Some k → NoRefusals moves →
+run_back : (programs : List Program) (j k : JobState) (moves : List Move) (ys : List Finished) → run programs j moves ≡ Some k → NoRefusals moves →
     AreTiles j.tasks (length j.buffer) → JobComes programs k ys → Back programs j k ys × AreTiles k.tasks (length k.buffer)
 run_back programs j k [] ys is refused tiles a =
     let e : k ≡ j = cc in (
-      record { result = ys; comes = subst (λ (i : Job). JobComes programs i ys) e a; same = IsPermutation-refl ys },
-      subst (λ (i : Job). AreTiles i.tasks (length i.buffer)) (sym e) tiles,
+      record { result = ys; comes = subst (λ (i : JobState). JobComes programs i ys) e a; same = IsPermutation-refl ys },
+      subst (λ (i : JobState). AreTiles i.tasks (length i.buffer)) (sym e) tiles,
     )
 run_back programs j k (m ∷ ms) ys is refused tiles a =
     let through = middle (step programs j m.number m.refuses) (λ mid. run programs mid ms) k is in
@@ -193,9 +194,23 @@ start_tiles m count base size = record {
   owned = λ at lt. record { number = 0; member = m; there = refl; low = omega (arith, base); high = omega (arith, base, size, lt) };
 }
 
-pub one_answer : (programs : List Program) (credit : ℕ) (buffer : List ℕ) (moves : List Move) (last : Job) →
+-- a run keeps the length of the buffer
+tiled_run : (programs : List Program) (j k : JobState) (moves : List Move) → run programs j moves ≡ Some k → AreTiles j.tasks (length j.buffer) →
+    length k.buffer ≡ length j.buffer
+tiled_run programs j k [] is tiles = let e : k ≡ j = cc in ap (λ (i : JobState). length i.buffer) e
+tiled_run programs j k (m ∷ ms) is tiles =
+    let through = middle (step programs j m.number m.refuses) (λ mid. run programs mid ms) k is in
+    let tiled = tiles_step programs j through.0 m.number m.refuses through.1 tiles in
+    tiled_run programs through.0 k ms through.2 (subst (λ (i : ℕ). AreTiles through.0.tasks i) (sym tiled.1) tiled.0) ∙ tiled.1
+
+long_run : (programs : List Program) (credit : ℕ) (buffer : List ℕ) (last : JobState) (moves : List Move) →
+    run programs (start credit buffer) moves ≡ Some last → length last.buffer ≡ length buffer
+long_run programs credit buffer last moves is =
+    tiled_run programs (start credit buffer) last moves is (start_tiles (Live (root credit buffer)) (length buffer) refl refl)
+
+pub one_answer : (programs : List Program) (credit : ℕ) (buffer : List ℕ) (moves : List Move) (last : JobState) →
     run programs (start credit buffer) moves ≡ Some last → NoRefusals moves → IsComplete last →
-    (fs : List Finished) × RootComes programs credit buffer fs × HasAnswer last fs
+    (fs : List Finished) × RootComes programs credit buffer fs × HasAnswer (length buffer) last fs
 one_answer programs credit buffer moves last is refused over =
     let both = run_back programs (start credit buffer) last moves (ended_in last.buffer last.tasks) is refused
     (start_tiles (Live (root credit buffer)) (length buffer) refl refl)
@@ -207,25 +222,11 @@ one_answer programs credit buffer moves last is refused over =
       back.result,
       subst (λ (l : List Finished). RootComes programs credit buffer l) (sym alone)
           (subst (λ (bytes : List ℕ). Eval programs (root credit buffer) bytes c.0) whole c.2),
-      answers last back.result both.1 over (IsPermutation-sym back.result (ended_in last.buffer last.tasks) back.same),
+      answers (length buffer) last back.result (long_run programs credit buffer last moves is) both.1 over (IsPermutation-sym back.result (ended_in last.buffer last.tasks) back.same),
     )
 
--- a run keeps the length of the buffer
-tiled_run : (programs : List Program) (j k : Job) (moves : List Move) → run programs j moves ≡ Some k → AreTiles j.tasks (length j.buffer) →
-    length k.buffer ≡ length j.buffer
-tiled_run programs j k [] is tiles = let e : k ≡ j = cc in ap (λ (i : Job). length i.buffer) e
-tiled_run programs j k (m ∷ ms) is tiles =
-    let through = middle (step programs j m.number m.refuses) (λ mid. run programs mid ms) k is in
-    let tiled = tiles_step programs j through.0 m.number m.refuses through.1 tiles in
-    tiled_run programs through.0 k ms through.2 (subst (λ (i : ℕ). AreTiles through.0.tasks i) (sym tiled.1) tiled.0) ∙ tiled.1
-
-long_run : (programs : List Program) (credit : ℕ) (buffer : List ℕ) (last : Job) (moves : List Move) →
-    run programs (start credit buffer) moves ≡ Some last → length last.buffer ≡ length buffer
-long_run programs credit buffer last moves is =
-    tiled_run programs (start credit buffer) last moves is (start_tiles (Live (root credit buffer)) (length buffer) refl refl)
-
 -- two complete runs without refusals of one job
-pub runs_agree : (programs : List Program) (credit : ℕ) (buffer : List ℕ) (moves others : List Move) (last other : Job) →
+pub runs_agree : (programs : List Program) (credit : ℕ) (buffer : List ℕ) (moves others : List Move) (last other : JobState) →
     run programs (start credit buffer) moves ≡ Some last → NoRefusals moves → IsComplete last →
     run programs (start credit buffer) others ≡ Some other → NoRefusals others → IsComplete other →
     (last.buffer ≡ other.buffer) × (sum_by spent_by last.tasks ≡ sum_by spent_by other.tasks)
@@ -233,10 +234,8 @@ pub runs_agree : (programs : List Program) (credit : ℕ) (buffer : List ℕ) (m
 runs_agree programs credit buffer moves others last other is refused over is' refused' over' =
     let a = one_answer programs credit buffer moves last is refused over in
     let b = one_answer programs credit buffer others other is' refused' over' in
-    let same : a.0 ≡ b.0 = eval_once programs (root credit buffer) buffer a.0 b.0 a.1 b.1 in
-    let long : length last.buffer ≡ length other.buffer =
-    long_run programs credit buffer last moves is ∙ sym (long_run programs credit buffer other others is') in (
-      a.2.buffer ∙ ap (λ (i : ℕ). joined i a.0) long ∙ ap (joined (length other.buffer)) same ∙ sym b.2.buffer,
+    let same : a.0 ≡ b.0 = eval_once programs (root credit buffer) buffer a.0 b.0 a.1 b.1 in (
+      a.2.buffer ∙ ap (joined (length buffer)) same ∙ sym b.2.buffer,
       a.2.spent ∙ ap spent_in same ∙ sym b.2.spent,
       IsPermutation-trans (ended_in last.buffer last.tasks) a.0 (ended_in other.buffer other.tasks) a.2.tasks
           (subst (λ (l : List Finished). IsPermutation l (ended_in other.buffer other.tasks)) (sym same)

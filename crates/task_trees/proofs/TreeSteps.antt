@@ -5,8 +5,8 @@ use Rattle.std.proofs.lemmas.List.{append_assoc, take-take, drop-take, drop-drop
 use Rattle.std.proofs.lemmas.List.Sorted.{IsPermutation-refl, IsPermutation-append_comm, IsPermutation-append_right}
 use Rattle.std.proofs.lemmas.Grind.{common_steps}
 use Rattle.std.specs.List.Sorted.{IsPermutation}
-use Rattle.machine_model.specs.Machine.{State, Program, Birth, Effect, Goes, Ends, Spawns, Calls, Traps, effect}
-use Rattle.machine_model.specs.Job.{Job, Task, Member, Live, Ended, goes_on, ending_of, with_state, child_of, state_in, entries_of, applied, task_step, member_step, step, base_of, size_of, AreTiles}
+use Rattle.machine_model.specs.Machine.{State, Program, Birth, Effect, Continues, Ends, Spawns, Calls, Traps, effect}
+use Rattle.machine_model.specs.JobState.{JobState, Task, Member, Live, Ended, goes_on, ending_of, with_state, child_of, state_in, entries_of, applied, task_step, member_step, step, base_of, size_of, AreTiles}
 use Rattle.machine_model.specs.Memory.{written}
 use Rattle.task_trees.specs.Eval.{Finished, Comes, Eval, parent_of, MemberComes, MembersCome, JobComes}
 use Rattle.machine_model.proofs.Places.{set_same, set_other}
@@ -43,11 +43,11 @@ shuffled before own child after =
     (IsPermutation-append_right before (child ++ (own ++ after)) ((own ++ after) ++ child) (IsPermutation-append_comm child (own ++ after))))
 
 -- what one job comes to, the next one comes to, and the other way round
-pub record Kept (programs : List Program) (j k : Job) : Type 0 where
+pub record Kept (programs : List Program) (j k : JobState) : Type 0 where
   pub forth : (xs : List Finished) → JobComes programs j xs → (ys : List Finished) × JobComes programs k ys × IsPermutation xs ys
   pub back : (ys : List Finished) → JobComes programs k ys → (xs : List Finished) × JobComes programs j xs × IsPermutation xs ys
 
-module _ (programs : List Program) (j : Job) (n : ℕ) (t : Task) (here : slice_get j.tasks n ≡ Some (Live t))
+module _ (programs : List Program) (j : JobState) (n : ℕ) (t : Task) (here : slice_get j.tasks n ≡ Some (Live t))
     (tiles : AreTiles j.tasks (length j.buffer)) where
   abbrev part : List ℕ
   part = take t.size (drop t.base j.buffer)
@@ -110,7 +110,7 @@ module _ (programs : List Program) (j : Job) (n : ℕ) (t : Task) (here : slice_
   module _ (s : State) (r0 : ℕ) (is : s.part ≡ part)
       (to : (zs : List Finished) → Eval programs t part zs → zs ≡ record { ending = ending_of t s r0; bytes = s.part } ∷ [])
       (from : (zs : List Finished) → zs ≡ record { ending = ending_of t s r0; bytes = s.part } ∷ [] → Eval programs t part zs) where
-    abbrev over : Job
+    abbrev over : JobState
     over = record { buffer = j.buffer; tasks = slice_set j.tasks n (Ended (ending_of t s r0)) }
 
     abbrev as_one : List ℕ → List Finished
@@ -139,7 +139,7 @@ module _ (programs : List Program) (j : Job) (n : ℕ) (t : Task) (here : slice_
     abbrev child : Task
     child = child_of t taken birth
 
-    abbrev grown : Job
+    abbrev grown : JobState
     grown = record { buffer = j.buffer; tasks = slice_set j.tasks n (Live parent) ++ Live child ∷ [] }
 
     long : t.size ≡ length taken.part + length birth.bytes
@@ -186,10 +186,10 @@ module _ (programs : List Program) (j : Job) (n : ℕ) (t : Task) (here : slice_
     kept_spawns : Kept programs j grown
     kept_spawns = record { forth = spawn_forth; back = spawn_back }
 
-  kept_applied : (e : Effect) (k : Job) → ((zs : List Finished) → Eval programs t part zs → Comes (Eval programs) t zs e) →
+  kept_applied : (e : Effect) (k : JobState) → ((zs : List Finished) → Eval programs t part zs → Comes (Eval programs) t zs e) →
       ((zs : List Finished) → Comes (Eval programs) t zs e → Eval programs t part zs) → Splits part e →
       applied j n t false e ≡ Some k → Kept programs j k
-  kept_applied (Goes s) k to from splits is =
+  kept_applied (Continues s) k to from splits is =
       let e : goes_on j n t s ≡ k = cc in
       subst (Kept programs j) e (kept_goes s (splits ∙ part_long j.buffer t fits) to from)
   kept_applied (Ends r0 s) k to from splits is =
@@ -201,23 +201,23 @@ module _ (programs : List Program) (j : Job) (n : ℕ) (t : Task) (here : slice_
   kept_applied (Calls helper arguments caller) k to from splits is = cc
   kept_applied (Traps trap) k to from splits is = cc
 
-  kept_task : (o : Option Program) (k : Job) → slice_get programs t.program ≡ o → task_step programs j n t false o ≡ Some k → Kept programs j k
+  kept_task : (o : Option Program) (k : JobState) → slice_get programs t.program ≡ o → task_step programs j n t false o ≡ Some k → Kept programs j k
   kept_task None k there is = cc
   kept_task (Some p) k there is =
       kept_applied (effect p (entries_of programs) (state_in j.buffer t)) k (λ zs a. eval_to programs t part zs p there a)
       (λ zs a. eval_from programs t part zs p there a) (splits_effect p (entries_of programs) (state_in j.buffer t)) is
 
 -- a job that stays comes to what it came to
-kept_same : (programs : List Program) (j : Job) → Kept programs j j
+kept_same : (programs : List Program) (j : JobState) → Kept programs j j
 kept_same programs j = record { forth = λ xs a. (xs, a, IsPermutation-refl xs); back = λ ys a. (ys, a, IsPermutation-refl ys) }
 
-kept_member : (programs : List Program) (j : Job) (n : ℕ) (o : Option Member) (k : Job) → slice_get j.tasks n ≡ o →
+kept_member : (programs : List Program) (j : JobState) (n : ℕ) (o : Option Member) (k : JobState) → slice_get j.tasks n ≡ o →
     member_step programs j n false o ≡ Some k → AreTiles j.tasks (length j.buffer) → Kept programs j k
 kept_member programs j n None k at is tiles = let e : j ≡ k = cc in subst (Kept programs j) e (kept_same programs j)
 kept_member programs j n (Some (Ended e)) k at is tiles = let e : j ≡ k = cc in subst (Kept programs j) e (kept_same programs j)
 kept_member programs j n (Some (Live t)) k at is tiles =
     kept_task programs j n t at tiles (slice_get programs t.program) k refl is
 
-pub kept_step : (programs : List Program) (j k : Job) (n : ℕ) → step programs j n false ≡ Some k → AreTiles j.tasks (length j.buffer) →
+pub kept_step : (programs : List Program) (j k : JobState) (n : ℕ) → step programs j n false ≡ Some k → AreTiles j.tasks (length j.buffer) →
     Kept programs j k
 kept_step programs j k n is tiles = kept_member programs j n (slice_get j.tasks n) k refl is tiles

@@ -3,14 +3,15 @@ use Rattle.std.specs.Prelude.{◌≡◌, ◌↔◌, ℕ, List, [], ◌∷◌, ma
 use Rattle.std.specs.List.Sorted.{IsPermutation}
 use Rattle.machine_model.specs.Memory.{written}
 use Rattle.machine_model.specs.Machine.{State, Program, Birth, Spawns, effect}
-use Rattle.machine_model.specs.Job.{Task, Ending, Member, Live, Ended, Job, Move, entries_of, spent_by, state_in, start, step, run, IsComplete}
+use Rattle.machine_model.specs.JobState.{Task, Ending, Member, Live, Ended, JobState, Move, entries_of, spent_by, state_in, start, step, run, IsComplete}
 use Rattle.task_trees.specs.Eval.{Finished, Eval, root}
 
 -- the ended tasks of a job, with the bytes that they left, in the order of their numbers
 abbrev pub ended_in : List ℕ → List Member → List Finished
 ended_in buffer [] = []
 ended_in buffer (Live t ∷ ms) = ended_in buffer ms
-ended_in buffer (Ended e ∷ ms) = record { ending = e; bytes = take e.size (drop e.base buffer) } ∷ ended_in buffer ms
+ended_in buffer (Ended e ∷ ms) =
+    record { ending = e; bytes = take e.size (drop e.base buffer) } ∷ ended_in buffer ms
 
 -- the bytes that these tasks left, each at its base, in a buffer of this length
 abbrev pub joined : ℕ → List Finished → List ℕ
@@ -29,17 +30,18 @@ pub record EndsAt (fs : List Finished) (place : List ℕ) (r0 : ℕ) : Type 0 wh
   pub word : finished.ending.r0 ≡ r0
 
 -- an ended task of the job, at this place, ended with R0
-pub record HasEndedAt (j : Job) (place : List ℕ) (r0 : ℕ) : Type 0 where
+pub record HasEndedAt (j : JobState) (place : List ℕ) (r0 : ℕ) : Type 0 where
   pub number : ℕ
   pub ending : Ending
   pub has_ended : slice_get j.tasks number ≡ Some (Ended ending)
   pub there : ending.place ≡ place
   pub word : ending.r0 ≡ r0
 
--- The job's buffer, the credit that its ended tasks spent and their R0s by place are those of the finished tasks; and these are its
--- ended tasks, each once, in some order.
-pub record HasAnswer (j : Job) (fs : List Finished) : Type 0 where
-  pub buffer : j.buffer ≡ joined (length j.buffer) fs
+-- The job's buffer, which has so many bytes, the credit that its ended tasks spent and their R0s by
+-- place are those of the finished tasks; and these are its ended tasks, each once, in some order.
+pub record HasAnswer (size : ℕ) (j : JobState) (fs : List Finished) : Type 0 where
+  pub buffer : j.buffer ≡ joined size fs
+  pub long : length j.buffer ≡ size
   pub spent : sum_by spent_by j.tasks ≡ spent_in fs
   pub r0s : (place : List ℕ) (r0 : ℕ) → HasEndedAt j place r0 ↔ EndsAt fs place r0
   pub tasks : IsPermutation (ended_in j.buffer j.tasks) fs
@@ -53,7 +55,7 @@ abbrev pub RootComes : List Program → ℕ → List ℕ → List Finished → T
 RootComes programs credit buffer fs = Eval programs (root credit buffer) buffer fs
 
 -- the number is that of a live task, whose next step is a spawn that passes its tests
-pub record IsSpawn (programs : List Program) (j : Job) (n : ℕ) : Type 0 where
+pub record IsSpawn (programs : List Program) (j : JobState) (n : ℕ) : Type 0 where
   pub task : Task
   pub alive : slice_get j.tasks n ≡ Some (Live task)
   pub program : Program
@@ -61,19 +63,23 @@ pub record IsSpawn (programs : List Program) (j : Job) (n : ℕ) : Type 0 where
   pub birth : Birth
   pub taken : State
   pub refused : State
-  pub is : effect program (entries_of programs) (state_in j.buffer task) ≡ Spawns birth taken refused
+  pub is : effect program (entries_of programs) (state_in j.buffer task) ≡ Spawns birth taken
+      refused
 
 -- a move that refuses is at such a step: what it refuses is a spawn
-abbrev pub RefuseSpawns : List Program → Job → List Move → Type 0
+abbrev pub RefuseSpawns : List Program → JobState → List Move → Type 0
 RefuseSpawns programs j [] = Unit {0}
 RefuseSpawns programs j (m ∷ ms) = (m.refuses ≡ true → IsSpawn programs j m.number)
-    × ((k : Job) → step programs j m.number m.refuses ≡ Some k → RefuseSpawns programs k ms)
+    × ((k : JobState) → step programs j m.number m.refuses ≡ Some k → RefuseSpawns programs k ms)
 
--- The moves over this schedule lead from the root to the job, and refuse nothing but spawns. Where they refuse none and the job is
--- complete, it has the answer of its root.
-pub record PlaysToAnswer (programs : List Program) (credit : ℕ) (buffer : List ℕ) (schedule : List ℕ) (last : Job) : Type 0 where
+-- The moves over this schedule lead from the root to the job, and refuse nothing but spawns. Where
+-- they refuse none and the job is complete, it has the answer of its root.
+pub record PlaysToAnswer (programs : List Program) (credit : ℕ) (buffer : List ℕ)
+    (schedule : List ℕ) (last : JobState) : Type 0 where
   pub moves : List Move
   pub numbers : map (λ (m : Move). m.number) moves ≡ schedule
   pub runs : run programs (start credit buffer) moves ≡ Some last
   pub refusals : RefuseSpawns programs (start credit buffer) moves
-  pub answer : NoRefusals moves → IsComplete last → (fs : List Finished) × RootComes programs credit buffer fs × HasAnswer last fs
+  pub answer : NoRefusals moves → IsComplete last → (fs : List Finished)
+      × RootComes programs credit buffer fs
+      × HasAnswer (length buffer) last fs

@@ -1,10 +1,11 @@
 -- A program runs alone in the same way where nobody answers as where no function is registered.
 use Rattle.std.specs.Prelude.{◌≡◌, ℕ, zero, suc, List, [], Option, None, if◌then◌else◌, nat_lt, Bool, true, false, slice_index_or, ◌-◌}
 use Rattle.std.proofs.Common.{refl}
-use Rattle.machine_model.specs.Machine.{State, Program, Effect, Goes, Ends, Spawns, Calls, Traps, effect}
+use Rattle.machine_model.specs.Machine.{State, Program, Effect, Continues, Ends, Spawns, Calls, Traps, effect}
 use Rattle.machine_model.specs.Alone.{MayAnswer, EndsWithin, Follows, no_entries}
 use Rattle.virtual_machine.specs.Executes.{ExecutesOn}
-use Rattle.virtual_machine.specs.Functions.{called}
+use Rattle.helpers.specs.Table.{Table, job_table}
+use Rattle.virtual_machine.specs.Functions.{HaveFunctions, called}
 use Rattle.virtual_machine.specs.declared.registered.Registered.{Registered}
 use Rattle.task_trees.specs.Solo.{entering}
 use Rattle.verifier.specs.Checked.{program_of}
@@ -19,8 +20,12 @@ nobody {X} {g} functions empty helper arguments answer (f, there, may) =
     let gone = none_there {R = Registered X g} (nat_lt helper 64) (helper - 64) in
     absurd (cc (gone, rw empty at there))
 
+-- a program that may call no helper of a caller's asks for no function
+pub have_none : {R : Type 0} (table : Table) (functions : List (Option R)) → table ≡ job_table → HaveFunctions table functions
+have_none table functions own place arity there = absurd (cc (rw own at there))
+
 follows_unanswered : (may : MayAnswer) (none : (helper : ℕ) (arguments : List ℕ) (answer : ℕ) → may helper arguments answer → ⊥) (f g : State → Type 0) (more : (s : State) → f s → g s) (r0 : ℕ) (last : State) (e : Effect) → Follows may f r0 last e → Follows unanswered g r0 last e
-follows_unanswered may none f g more r0 last (Goes next) on = more next on
+follows_unanswered may none f g more r0 last (Continues next) on = more next on
 follows_unanswered may none f g more r0 last (Ends word state) on = on
 follows_unanswered may none f g more r0 last (Spawns birth taken refused) on = on
 follows_unanswered may none f g more r0 last (Calls helper arguments caller) on = absurd (none helper arguments on.0 on.1)

@@ -1,3 +1,5 @@
+pub mod AsBox
 pub mod Helpless
+pub mod JobLemmas
 pub mod Pieces
 pub mod Turns

@@ -4,11 +4,12 @@ use Rattle.helpers.specs.Table.{job_table}
 use Rattle.verifier.specs.declared.refusals.Refusal.{Refusal}
 use Rattle.verifier.specs.Checked.{Checked, cost_at}
 use Rattle.verifier.specs.RefusalCodes.{number_of, slot_of}
-use Rattle.verifier.specs.Refusals.{IsAccepted, Refuses}
+use Rattle.verifier.specs.Refusals.{IsAccepted, RefusesProgram}
 use Rattle.telgovan_c.specs.declared.verdicts.Verdict.{Verdict}
 
 abbrev pub accepted_verdict : Checked → Verdict
-accepted_verdict program = record { status = 0; cost = cost_at program 0; slot = 0; has_slot = false }
+accepted_verdict program =
+    record { status = 0; cost = cost_at program 0; slot = 0; has_slot = false }
 
 -- with a slot where the refusal tells one
 abbrev pub refused_at : ℕ → Option ℕ → Verdict
@@ -20,5 +21,7 @@ refused_verdict refusal = refused_at (number_of refusal) (slot_of refusal)
 
 -- the verdict on these bytes, as a program of this need that calls the helpers of a job
 pub data IsVerdict (need : ℕ) (code : List ℕ) (verdict : Verdict) : Type 0 where
-  accepted : (program : Checked) → IsAccepted need code job_table program → verdict ≡ accepted_verdict program → IsVerdict need code verdict
-  refused : (refusal : Refusal) → Refuses need code job_table refusal → verdict ≡ refused_verdict refusal → IsVerdict need code verdict
+  accepted : (program : Checked) → IsAccepted need code job_table program
+      → verdict ≡ accepted_verdict program → IsVerdict need code verdict
+  refused : (refusal : Refusal) → RefusesProgram need code job_table refusal
+      → verdict ≡ refused_verdict refusal → IsVerdict need code verdict

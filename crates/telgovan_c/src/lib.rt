@@ -1,14 +1,29 @@
-//! The library as C sees it: verdicts, texts and runs over the caller's memory. No thread and no
-//! lock is in it, nothing is kept between calls, and nothing is touched but what a call lends.
+//! The library as C sees it: verdicts, texts, runs and jobs over the caller's memory, and programs
+//! that C holds between calls. No thread and no lock is in it, nothing else is kept between calls,
+//! and nothing is touched but what a call lends.
 //!
 //! `include/telgovan.h` declares what is exported here. Each answer has a status: 0, or the number
 //! of the refusal.
 #![tactic(auto)]
 
+mod boxed;
+mod explains;
+mod handle;
+mod held;
+mod jobs;
+mod parts;
+mod programs;
 mod runs;
 mod texts;
 mod verdicts;
 
+pub use explains::telgovan_explain;
+pub use handle::Program;
+pub use jobs::{CodePiece, EndedTask, JobReport, telgovan_job};
+pub use programs::{
+    telgovan_program_burst, telgovan_program_cost, telgovan_program_load, telgovan_program_run,
+    telgovan_program_share, telgovan_program_unload,
+};
 pub use runs::{Run, RunOutcome, telgovan_burst, telgovan_run};
 pub use texts::{Written, telgovan_assemble, telgovan_disassemble};
 pub use verdicts::{Verdict, telgovan_verify};

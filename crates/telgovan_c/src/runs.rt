@@ -1,25 +1,22 @@
 //! Runs over the caller's memory.
 
-ghost use Rattle.std.specs.Prelude.{◌≡◌, [], length, Some};
+ghost use Rattle.std.specs.Prelude.{◌≡◌, length};
 ghost use Rattle.helpers.specs.Table.{job_table};
-ghost use Rattle.verifier.specs.Checked.{Checked};
-ghost use Rattle.virtual_machine.specs.Holding.{functions_in, program_in};
-ghost use Rattle.telgovan_c.specs.Runs.{IsBurst, IsOutcome, IsRun, IsSingle, RunInTurn, refused_run};
+ghost use Rattle.telgovan_c.specs.Runs.{IsBurst, IsRunOutcome, RunsInPlace, IsSingle, RunInTurn, refused_run};
 
 use crate::verdicts::{Verdict, accepted_verdict, refused_verdict};
 use helpers::HelperTable;
+use machine_model::{MAX_CREDIT, MAX_PART};
 use std::alloc::Global;
 use verifier::{Verified, verify};
-use virtual_machine::Vm;
+use virtual_machine::{Functions, run_alone};
 
-// A number over its limit.
-const OVER_LIMIT: u32 = 65;
+// The credit is under the cost.
+const CREDIT_LOW: u32 = 42;
 // The memory is shorter than what is asked of it.
 const MEMORY_SHORT: u32 = 43;
-
-const MAX_CREDIT: u32 = 2147483647;
-
-const MAX_PART: usize = 65536;
+// A number over its limit.
+const OVER_LIMIT: u32 = 65;
 
 /// What a run came to: `status` is 0 where the program ran, with R0 and what it used of the credit.
 /// Otherwise `status` is the number of the refusal, and the memory is as it was.
@@ -42,8 +39,8 @@ pub struct Run {
     pub outcome: RunOutcome,
 }
 
-// Nothing ran, for the refusal of this number.
-fn refused_run(number: u32) -> RunOutcome
+/// Nothing ran, for the refusal of this number.
+pub(crate) fn refused_run(number: u32) -> RunOutcome
     ensures { result ≡ refused_run number }
 {
     RunOutcome {
@@ -53,34 +50,45 @@ fn refused_run(number: u32) -> RunOutcome
     }
 }
 
-// Runs the machine's program with these bytes as its part.
-fn run_on(vm: &mut Vm, bytes: &mut [u8], argument: u64, credit: u32) -> RunOutcome
-    requires functions { functions_in vm.old ≡ [] }
-    ensures outcome { (p : Checked) → program_in vm.old ≡ Some p
-        → IsOutcome p argument credit bytes.old bytes.new result }
-    ensures kept { (program_in vm.new ≡ program_in vm.old)
-        × (functions_in vm.new ≡ functions_in vm.old) }
+/// Runs a program that was verified with the helpers of a job, with these bytes as its part.
+pub(crate) fn run_program(
+    alloc: Global,
+    program: &Verified,
+    bytes: &mut [u8],
+    argument: u64,
+    credit: u32,
+) -> RunOutcome
+    requires job { program.now.helpers ≡ job_table }
+    ensures { IsRunOutcome program.now argument credit bytes.old bytes.new result }
 {
     if credit > MAX_CREDIT || bytes.len() > MAX_PART {
         return refused_run(OVER_LIMIT);
     }
-    match vm.execute(bytes, argument, credit) {
-        Ok(done) => RunOutcome {
-            r0: done.r0,
-            status: 0,
-            used: done.used,
-        },
-        Err(fault) => refused_run(u32::from(fault.code())),
+    if credit < program.cost() {
+        return refused_run(CREDIT_LOW);
+    }
+    if bytes.len() < program.need() as usize {
+        return refused_run(MEMORY_SHORT);
+    }
+    let mut functions = Functions::none(alloc);
+    let done = run_alone(program, bytes, argument, credit, &mut functions);
+    RunOutcome {
+        r0: done.r0,
+        status: 0,
+        used: done.used,
     }
 }
 
-// Runs the machine's program on the run's piece of the memory.
-fn run_at(vm: &mut Vm, memory: &mut [u8], run: &Run, credit: u32) -> RunOutcome
-    requires functions { functions_in vm.old ≡ [] }
-    ensures run { (p : Checked) → program_in vm.old ≡ Some p
-        → IsRun p credit memory.old memory.new run.now result }
-    ensures kept { (program_in vm.new ≡ program_in vm.old)
-        × (functions_in vm.new ≡ functions_in vm.old) }
+// Runs such a program on the run's piece of the memory.
+fn run_at(
+    alloc: Global,
+    program: &Verified,
+    memory: &mut [u8],
+    run: &Run,
+    credit: u32,
+) -> RunOutcome
+    requires job { program.now.helpers ≡ job_table }
+    ensures { RunsInPlace program.now credit memory.old memory.new run.now result }
 {
     let size = memory.len() as u64;
     if run.start > size || run.length > size - run.start {
@@ -88,55 +96,34 @@ fn run_at(vm: &mut Vm, memory: &mut [u8], run: &Run, credit: u32) -> RunOutcome
     }
     let start = run.start as usize;
     let end = (run.start + run.length) as usize;
-    run_on(vm, &mut memory[start..end], run.argument, credit)
+    run_program(
+        alloc,
+        program,
+        &mut memory[start..end],
+        run.argument,
+        credit,
+    )
 }
 
-// Runs the machine's program on each piece in turn.
-fn run_all(vm: &mut Vm, memory: &mut [u8], runs: &mut [Run], credit: u32)
-    requires functions { functions_in vm.old ≡ [] }
-    ensures runs { (p : Checked) → program_in vm.old ≡ Some p
-        → RunInTurn p credit memory.old runs.old runs.new (length runs.old) memory.new }
+/// Runs such a program on each piece in turn.
+pub(crate) fn run_all(
+    alloc: Global,
+    program: &Verified,
+    memory: &mut [u8],
+    runs: &mut [Run],
+    credit: u32,
+)
+    requires job { program.now.helpers ≡ job_table }
+    ensures runs { RunInTurn program.now credit memory.old runs.old runs.new
+        (length runs.old) memory.new }
     ensures length { length runs.new ≡ length runs.old }
 {
     let mut done = 0;
     while done < runs.len() {
-        let outcome = run_at(vm, memory, &runs[done], credit);
+        let outcome = run_at(alloc, program, memory, &runs[done], credit);
         runs[done].outcome = outcome;
         done += 1;
     }
-}
-
-// Runs a program that was verified with the helpers of a job, with the memory as its part.
-fn run_single(
-    alloc: Global,
-    program: Verified,
-    memory: &mut [u8],
-    argument: u64,
-    credit: u32,
-) -> RunOutcome
-    requires job { program.helpers ≡ job_table }
-    ensures { IsOutcome program argument credit memory.old memory.new result }
-{
-    let mut vm = match Vm::new(alloc, None) {
-        Ok(vm) => vm,
-        Err(_) => unreachable!(),
-    };
-    vm.set_verified(program);
-    run_on(&mut vm, memory, argument, credit)
-}
-
-// Runs such a program on each piece in turn.
-fn run_burst(alloc: Global, program: Verified, memory: &mut [u8], runs: &mut [Run], credit: u32)
-    requires job { program.helpers ≡ job_table }
-    ensures runs { RunInTurn program credit memory.old runs.old runs.new (length runs.old) memory.new }
-    ensures length { length runs.new ≡ length runs.old }
-{
-    let mut vm = match Vm::new(alloc, None) {
-        Ok(vm) => vm,
-        Err(_) => unreachable!(),
-    };
-    vm.set_verified(program);
-    run_all(&mut vm, memory, runs, credit);
 }
 
 // A program verified and run once.
@@ -151,7 +138,7 @@ fn single(
     ensures { IsSingle need code.now argument credit memory.old memory.new result }
 {
     match verify(alloc, need, code, &HelperTable::job()) {
-        Ok(program) => run_single(alloc, program, memory, argument, credit),
+        Ok(program) => run_program(alloc, &program, memory, argument, credit),
         Err(refusal) => refused_run(u32::from(refusal.code())),
     }
 }
@@ -170,7 +157,7 @@ fn burst(
     match verify(alloc, need, code, &HelperTable::job()) {
         Ok(program) => {
             let verdict = accepted_verdict(&program);
-            run_burst(alloc, program, memory, runs, credit);
+            run_all(alloc, &program, memory, runs, credit);
             verdict
         }
         Err(refusal) => refused_verdict(&refusal),
@@ -192,7 +179,8 @@ pub extern "C" fn telgovan_burst(
     runs: &mut [Run],
     verdict: &mut Verdict,
 ) -> u32
-    ensures runs { IsBurst need code.now credit memory.old memory.new runs.old runs.new verdict.new }
+    ensures runs { IsBurst need code.now credit memory.old memory.new runs.old runs.new
+        verdict.new }
     ensures status { result ≡ verdict.new.status }
 {
     *verdict = burst(alloc, need, code, memory, runs, credit);

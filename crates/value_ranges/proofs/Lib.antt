@@ -9,3 +9,4 @@ pub mod TableLemmas
 pub mod MergeLemmas
 pub mod WordLemmas
 pub mod StayLemmas
+pub mod TidyLemmas

@@ -8,7 +8,7 @@ use Rattle.value_ranges.specs.Covers.{Covers, CoversBoth}
 use Rattle.value_ranges.specs.Interval.{Interval, Within}
 use Rattle.value_ranges.specs.Joins.{joined, hull, span_hull, ranges_hull}
 use Rattle.value_ranges.specs.Numbers.{Ranges, ranges, spanned, Among, some_span, some_tidied}
-use Rattle.value_ranges.specs.Refinements.{refined_by, CoversEdge, relation_of, signed_relation_of, narrowed, signed_narrowed, unless_empty, signed_pair, both, tidied_both, with_unsigned, with_signed, refined_ranges, refined_pair, is_whole, is_other, is_register, compared}
+use Rattle.value_ranges.specs.Refinements.{refined_by, CoversEdge, relation_of, signed_relation_of, tells, narrowed, narrowed_pair, signed_narrowed, unless_empty, signed_pair, both, tidied_both, with_unsigned, with_signed, refined_ranges, refined_pair, is_whole, is_other, is_register, compared}
 use Rattle.value_ranges.specs.Span.{Span, Between}
 use Rattle.machine_model.specs.Value.{Value}
 use Rattle.machine_model.specs.Value as value
@@ -103,13 +103,14 @@ relation_holds SignedLessEqual taken n x y e = tt
 abbrev BothWithin : Interval × Interval → ℕ → ℕ → Type 0
 BothWithin r x y = Within r.0 x × Within r.1 y
 
-Within-narrowed : (f : Relation) (a b : Interval) (x y : ℕ) → RelationHolds f x y → Within a x → Within b y → BothWithin (narrowed f a b) x y
-Within-narrowed Same a b x y e h k = (omega arith, omega arith)
-Within-narrowed Differs a b x y e h k = (grind (arith, nat_tests), k)
-Within-narrowed Above a b x y e h k = (omega arith, omega arith)
-Within-narrowed AtLeast a b x y e h k = (omega arith, omega arith)
-Within-narrowed Below a b x y e h k = (omega arith, omega arith)
-Within-narrowed AtMost a b x y e h k = (omega arith, omega arith)
+Within-narrowed : (f : Relation) (a b : Interval) (x y : ℕ) → tells f b ≡ true → RelationHolds f x y → Within a x → Within b y →
+    BothWithin (narrowed f a b) x y
+Within-narrowed Same a b x y t e h k = (omega arith, omega arith)
+Within-narrowed Differs a b x y t e h k = (grind (arith, nat_tests), k)
+Within-narrowed Above a b x y t e h k = (omega arith, omega arith)
+Within-narrowed AtLeast a b x y t e h k = (omega arith, omega arith)
+Within-narrowed Below a b x y t e h k = (omega arith, omega arith)
+Within-narrowed AtMost a b x y t e h k = (omega arith, omega arith)
 
 -- what a fact says of two signed readings
 abbrev SignedHolds : Relation → ℤ → ℤ → Type 0
@@ -154,6 +155,11 @@ chosen : (t : Bool) (r : Interval × Interval) (x y : ℕ) → BothWithin r x y 
 chosen true r x y h = h
 chosen false r x y h = tt
 
+told : (t : Bool) (o : Option (Interval × Interval)) (x y : ℕ) → (t ≡ true → IfSome o (λ p. BothWithin p x y)) →
+    IfSome (if t then o else None) (λ p. BothWithin p x y)
+told true o x y h = h refl
+told false o x y h = tt
+
 kept_span : (t : Bool) (s : Span) (x : ℤ) → Between s x → IfSome (if t then Some s else None) (λ p. Between p x)
 kept_span true s x h = h
 kept_span false s x h = tt
@@ -190,8 +196,9 @@ by_signed a b (Some r) x y p q h k s = Among-both (ranges a.unsigned r.0) (range
 Among-refined : (o s : Option Relation) (a b : Ranges) (x y : ℕ) → x < 2 ^ 64 → y < 2 ^ 64 → IfSome o (λ f. RelationHolds f x y) →
     IfSome s (λ f. SignedHolds f (signed 64 x) (signed 64 y)) → Among a x → Among b y → IfSome (refined_ranges o s a b) (λ p. BothAmong p x y)
 Among-refined (Some f) s a b x y p q e d h k =
-    by_unsigned a b (unless_empty (narrowed f a.unsigned b.unsigned)) x y p q h k
-    (chosen _ (narrowed f a.unsigned b.unsigned) x y (Within-narrowed f a.unsigned b.unsigned x y e h.0 k.0))
+    by_unsigned a b (narrowed_pair f a.unsigned b.unsigned) x y p q h k
+    (told (tells f b.unsigned) (unless_empty (narrowed f a.unsigned b.unsigned)) x y (λ t.
+    chosen _ (narrowed f a.unsigned b.unsigned) x y (Within-narrowed f a.unsigned b.unsigned x y t e h.0 k.0)))
 Among-refined None (Some f) a b x y p q e d h k =
     by_signed a b (signed_pair (signed_narrowed f a.signed b.signed)) x y p q h k
     (signed_chosen (signed_narrowed f a.signed b.signed) (signed 64 x) (signed 64 y) (Between-narrowed f a.signed b.signed _ _ d h.1 k.1))

@@ -1,5 +1,5 @@
 -- A signed range beside the unsigned one: what was among the numbers stays among them.
-use Rattle.std.proofs.Common.{◌≡◌, ℕ, ℤ, pos, negsuc, neg_ℤ, Bool, true, false, Option, Some, None, arith, refl, ◌+ℤ◌, ◌-ℤ◌, ◌≤ℤ◌, ◌<ℤ◌, ◌+◌, ◌-◌, ◌%◌, ◌^◌, ◌<◌, ◌≤◌, if◌then◌else◌, ◌⊎◌, inl, inr, min, max, subst}
+use Rattle.std.proofs.Common.{◌≡◌, ℕ, ℤ, pos, negsuc, neg_ℤ, Bool, true, false, Option, Some, None, arith, refl, ◌+ℤ◌, ◌-ℤ◌, ◌≤ℤ◌, ◌<ℤ◌, ◌%◌, ◌^◌, ◌<◌, ◌≤◌, if◌then◌else◌, ◌⊎◌, inl, inr, min, max, subst}
 use Rattle.std.specs.Prelude.{IfSome, nat_le, int_le, int_lt, ◌||◌, ◌&&◌}
 use Rattle.std.specs.Int.{int_shr}
 use Rattle.std.proofs.lemmas.Int.{ints, clamps}
@@ -16,7 +16,7 @@ use Rattle.value_ranges.proofs.RowLemmas.{div_mono}
 use Rattle.value_ranges.specs.Interval.{Interval, interval, is_single, Within}
 use Rattle.value_ranges.specs.Numbers.{Ranges, ranges, Among, span_of, spanned, meet, cut_signed, cut_unsigned, tidied, nonempty, some_span, some_tidied, or_else}
 use Rattle.value_ranges.specs.SignedRows.{fitting, signed_sum, signed_difference, signed_shift, signed_row, beside}
-use Rattle.value_ranges.specs.Span.{Span, span, Between}
+use Rattle.value_ranges.specs.Span.{Span, Between}
 
 -- ---- spans
 

@@ -2,10 +2,10 @@
 use Rattle.std.proofs.Common.{◌≡◌, ℕ, ℤ, ap, sym, ◌∙◌, arith, refl, subst, Some, Option, ◌≤◌, ◌<◌, ◌^◌, min, max}
 use Rattle.std.specs.Int.{int_min, int_max}
 use Rattle.std.proofs.lemmas.Int.{ints, clamps}
-use Rattle.value_ranges.specs.Interval.{Interval, interval}
+use Rattle.value_ranges.specs.Interval.{Interval}
 use Rattle.value_ranges.specs.Joins.{hull, span_hull, ranges_hull}
-use Rattle.value_ranges.specs.Numbers.{Ranges, ranges, spanned, some_tidied, or_else}
-use Rattle.value_ranges.specs.Span.{Span, span}
+use Rattle.value_ranges.specs.Numbers.{Ranges, spanned, some_tidied, or_else}
+use Rattle.value_ranges.specs.Span.{Span}
 use Rattle.value_ranges.proofs.SignedLemmas.{spanned_is}
 
 min_same : (x : ℕ) → min x x ≡ x

@@ -17,7 +17,8 @@ span_hull p q = span (int_min p.lo q.lo) (int_max p.hi q.hi)
 abbrev pub ranges_hull : Ranges → Ranges → Ranges
 ranges_hull a b = ranges (hull a.unsigned b.unsigned) (span_hull a.signed b.signed)
 
--- least lo and greatest hi where the kinds are the same; of numbers tidied then, unless that leaves nothing
+-- least lo and greatest hi where the kinds are the same; of numbers tidied then, unless that leaves
+-- nothing
 abbrev pub joined : Abs → Abs → Abs
 joined (Num a) (Num b) = Num (or_else (ranges_hull a b) (some_tidied (ranges_hull a b)))
 joined (Stack p) (Stack q) = Stack (span_hull p q)

@@ -9,3 +9,4 @@ pub mod PointerFaultCodes
 pub mod Tables
 pub mod Joins
 pub mod Refinements
+pub mod Tidy

@@ -50,7 +50,8 @@ shifted_left_range n a b =
 
 abbrev pub shifted_right_range : ℕ → Interval → Interval → Interval
 shifted_right_range n a b =
-    if is_single b then interval (a.lo / 2 ^ (b.lo % n)) (a.hi / 2 ^ (b.lo % n)) else interval 0 a.hi
+    if is_single b then interval (a.lo / 2 ^ (b.lo % n)) (a.hi / 2 ^ (b.lo % n))
+    else interval 0 a.hi
 
 -- where an operand is no single value
 abbrev pub row_range : AluOp → ℕ → Interval → Interval → Interval
@@ -75,7 +76,8 @@ range_of op n a b =
 
 abbrev pub extended_range : ℕ → ℕ → Interval → Interval
 extended_range w n b =
-    if is_single b then single (extended w n b.lo) else (if nat_lt b.hi (2 ^ (w - 1)) then b else full n)
+    if is_single b then single (extended w n b.lo)
+    else (if nat_lt b.hi (2 ^ (w - 1)) then b else full n)
 
 abbrev pub low_range : ℕ → Interval → Interval
 low_range w a =

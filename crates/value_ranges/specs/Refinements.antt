@@ -50,24 +50,40 @@ signed_relation_of W64 SignedLessEqual true = Some AtMost
 signed_relation_of W64 SignedLessEqual false = Some Above
 signed_relation_of _ _ _ = None
 
--- a without the one number of b, where that is an end of it
-abbrev pub without : Interval → Interval → Interval
-without a b =
-    if is_single b && a.lo == b.lo then interval (a.lo + 1) a.hi
-    else (if is_single b && a.hi == b.lo then interval a.lo (a.hi - 1) else a)
+-- a without this number, where that is an end of it
+abbrev pub without : Interval → ℕ → Interval
+without a n =
+    if a.lo == n then interval (a.lo + 1) a.hi
+    else (if a.hi == n then interval a.lo (a.hi - 1) else a)
+
+-- that two numbers differ tells something of the first where the second is a single one
+abbrev pub tells : Relation → Interval → Bool
+tells Same b = true
+tells Differs b = is_single b
+tells Above b = true
+tells AtLeast b = true
+tells Below b = true
+tells AtMost b = true
 
 -- the two ranges of numbers that stand so
 abbrev pub narrowed : Relation → Interval → Interval → Interval × Interval
-narrowed Same a b = (interval (max a.lo b.lo) (min a.hi b.hi), interval (max a.lo b.lo) (min a.hi b.hi))
+narrowed Same a b = (
+  interval (max a.lo b.lo) (min a.hi b.hi),
+  interval (max a.lo b.lo) (min a.hi b.hi),
+)
 narrowed Above a b = (interval (max a.lo (b.lo + 1)) a.hi, interval b.lo (min b.hi (a.hi - 1)))
 narrowed AtLeast a b = (interval (max a.lo b.lo) a.hi, interval b.lo (min b.hi a.hi))
 narrowed Below a b = (interval a.lo (min a.hi (b.hi - 1)), interval (max b.lo (a.lo + 1)) b.hi)
 narrowed AtMost a b = (interval a.lo (min a.hi b.hi), interval (max b.lo a.lo) b.hi)
-narrowed Differs a b = (without a b, b)
+narrowed Differs a b = (without a b.lo, b)
 
 -- the two ranges, unless one of them is empty
 abbrev pub unless_empty : Interval × Interval → Option (Interval × Interval)
 unless_empty r = if nat_le r.0.lo r.0.hi && nat_le r.1.lo r.1.hi then Some r else None
+
+-- the two ranges of numbers that stand so, where that tells something and leaves neither empty
+abbrev pub narrowed_pair : Relation → Interval → Interval → Option (Interval × Interval)
+narrowed_pair f a b = if tells f b then unless_empty (narrowed f a b) else None
 
 -- those of the numbers from x on, or up to x
 abbrev pub at_least : Span → ℤ → Span
@@ -125,9 +141,11 @@ is_whole W64 a b = true
 is_whole W32 a b = nat_lt a.unsigned.hi (2 ^ 32) && nat_lt b.unsigned.hi (2 ^ 32)
 
 -- what the two are where they stand so, as numbers or as signed readings
-abbrev pub refined_ranges : Option Relation → Option Relation → Ranges → Ranges → Option (Ranges × Ranges)
-refined_ranges (Some f) g a b = with_unsigned a b (unless_empty (narrowed f a.unsigned b.unsigned))
-refined_ranges None (Some g) a b = with_signed a b (signed_pair (signed_narrowed g a.signed b.signed))
+abbrev pub refined_ranges : Option Relation → Option Relation → Ranges → Ranges
+    → Option (Ranges × Ranges)
+refined_ranges (Some f) g a b = with_unsigned a b (narrowed_pair f a.unsigned b.unsigned)
+refined_ranges None (Some g) a b =
+    with_signed a b (signed_pair (signed_narrowed g a.signed b.signed))
 refined_ranges None None a b = None
 
 abbrev pub refined_pair : Bool → Ranges → Ranges → Option (Ranges × Ranges) → Abs × Abs
@@ -138,7 +156,8 @@ refined_pair source a b (Some r) = (Num r.0, Num (if source then r.1 else b))
 abbrev pub refined_by : Insn → Bool → Abs → Abs → Abs × Abs
 refined_by (JumpIf w t d s o) taken (Num a) (Num b) =
     if is_other d s && is_whole w a (compared s w b)
-    then refined_pair (is_register s) a b (refined_ranges (relation_of t taken) (signed_relation_of w t taken) a (compared s w b))
+    then refined_pair (is_register s) a b
+    (refined_ranges (relation_of t taken) (signed_relation_of w t taken) a (compared s w b))
     else (Num a, Num b)
 refined_by i taken a b = (a, b)
 
@@ -148,7 +167,8 @@ IsConditional _ = ⊥
 
 -- whether the jump goes the way of the edge, on two numbers
 abbrev pub GoesAlong : Insn → Bool → Value → Value → Type 0
-GoesAlong (JumpIf w t d s o) taken (value.Num x) (value.Num y) = holds t (bits_of w) (x % 2 ^ bits_of w) (y % 2 ^ bits_of w) ≡ taken
+GoesAlong (JumpIf w t d s o) taken (value.Num x) (value.Num y) =
+    holds t (bits_of w) (x % 2 ^ bits_of w) (y % 2 ^ bits_of w) ≡ taken
 GoesAlong i taken x y = Unit {0}
 
 -- the pair still covers what the operands can be on the edge

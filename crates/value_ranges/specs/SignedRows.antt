@@ -1,8 +1,8 @@
 -- What the operators give on signed numbers of two ranges.
-use Rattle.std.specs.Prelude.{ℕ, ℤ, pos, ◌+ℤ◌, ◌-ℤ◌, neg_ℤ, ◌%◌, ◌^◌, int_le, int_lt, ◌&&◌, if◌then◌else◌, Option, Some, None}
+use Rattle.std.specs.Prelude.{ℕ, pos, ◌+ℤ◌, ◌-ℤ◌, neg_ℤ, ◌%◌, ◌^◌, int_le, int_lt, ◌&&◌, if◌then◌else◌, Option, Some, None}
 use Rattle.std.specs.Int.{int_shr}
 use Rattle.insn_codec.specs.declared.insn.Width.{Width}
-use Rattle.insn_codec.specs.declared.insn.Width.TheVariants.{W32, W64}
+use Rattle.insn_codec.specs.declared.insn.Width.TheVariants.{W64}
 use Rattle.insn_codec.specs.declared.insn.AluOp.{AluOp}
 use Rattle.insn_codec.specs.declared.insn.AluOp.TheVariants.{Add, Sub, Arsh}
 use Rattle.value_ranges.specs.Interval.{Interval, is_single}
@@ -11,7 +11,8 @@ use Rattle.value_ranges.specs.Span.{Span, span}
 
 -- where it lies within 64 signed bits
 abbrev pub fitting : Span → Option Span
-fitting s = if int_le (neg_ℤ (pos (2 ^ 63))) s.lo && int_lt s.hi (pos (2 ^ 63)) then Some s else None
+fitting s = if int_le (neg_ℤ (pos (2 ^ 63))) s.lo && int_lt s.hi (pos (2 ^ 63)) then Some s
+    else None
 
 abbrev pub signed_sum : Span → Span → Span
 signed_sum a b = span (a.lo +ℤ b.lo) (a.hi +ℤ b.hi)

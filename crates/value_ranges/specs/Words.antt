@@ -1,5 +1,6 @@
 -- The words by which the layers above speak of abstract values.
 use Rattle.std.specs.Prelude.{ℕ, pos, ◌≤◌, ◌<◌, ◌*◌, ◌-◌, ◌^◌, ◌==◌, if◌then◌else◌}
+use Rattle.machine_model.specs.Limits.{max_part}
 use Rattle.value_ranges.specs.Interval.{interval}
 use Rattle.value_ranges.specs.Numbers.{Ranges, spanned}
 use Rattle.value_ranges.specs.Span.{span}
@@ -8,7 +9,7 @@ use Rattle.value_ranges.specs.declared.abs.Abs.{Abs}
 use Rattle.value_ranges.specs.declared.abs.Abs.TheVariants.{Unset, Num, Stack, Part}
 use Rattle.machine_model.specs.Value as value
 use Rattle.machine_model.specs.Memory.{load_bytes, widened}
-use Rattle.machine_model.specs.Job.{entry_registers}
+use Rattle.machine_model.specs.JobState.{entry_registers}
 use Rattle.insn_codec.specs.declared.insn.LoadKind.{LoadKind}
 use Rattle.insn_codec.specs.declared.insn.LoadKind.TheVariants as kind
 
@@ -44,10 +45,11 @@ abbrev pub entry : ℕ → ℕ → Abs
 entry need r =
     if r == 10 then Stack (span (pos 512) (pos 512)) else
     if r == 3 then any_number else
-    if r == 2 then between need 65536 else
+    if r == 2 then between need max_part else
     if r == 1 then Part (span (pos 0) (pos 0)) else Unset
 
 -- whatever part and argument a task starts with, a covers the register
 abbrev pub CoversEntry : ℕ → ℕ → Abs → Type 0
 CoversEntry need r a =
-    (size arg : ℕ) → need ≤ size → size ≤ 65536 → arg < 2 ^ 64 → Covers a (entry_registers size arg r)
+    (size arg : ℕ) → need ≤ size → size ≤ max_part → arg < 2 ^ 64
+    → Covers a (entry_registers size arg r)

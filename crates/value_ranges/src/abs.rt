@@ -21,7 +21,8 @@ impl Model for Reach {
 
     ghost view = { λ r. record { lo = r.lo; hi = r.hi } };
 
-    ghost invariant = { λ r. (r.lo ≤ℤ r.hi) × (negsuc 2147483647 ≤ℤ r.lo) × (r.hi ≤ℤ pos 2147483647) };
+    ghost invariant = { λ r. (r.lo ≤ℤ r.hi) × (negsuc 2147483647 ≤ℤ r.lo)
+        × (r.hi ≤ℤ pos 2147483647) };
 
     ghost inverse = { λ v. record { lo = v.lo; hi = v.hi } };
 }

@@ -3,7 +3,7 @@
 ghost use Rattle.std.specs.Prelude.{pos, ◌≡◌, ◌+ℤ◌, ◌-ℤ◌};
 ghost use Rattle.value_ranges.specs.Interval.{interval};
 ghost use Rattle.value_ranges.specs.Numbers.{some_span};
-ghost use Rattle.value_ranges.specs.Refinements.{CoversEdge, IsConditional, compared, is_other, is_register, is_whole, narrowed, refined_by, refined_pair, refined_ranges, relation_of, at_least, at_most, both, signed_narrowed, signed_pair, signed_relation_of, tidied_both, unless_empty, with_signed, with_unsigned, without};
+ghost use Rattle.value_ranges.specs.Refinements.{CoversEdge, IsConditional, compared, is_other, is_register, is_whole, narrowed_pair, refined_by, refined_pair, refined_ranges, relation_of, at_least, at_most, both, signed_narrowed, signed_pair, signed_relation_of, tidied_both, unless_empty, with_signed, with_unsigned, without};
 
 use crate::abs::Abs;
 use crate::numbers::{Numbers, meet, tidied};
@@ -65,25 +65,25 @@ fn pair(a: (u128, u64), b: (u128, u64)) -> Option<(Range, Range)>
     }
 }
 
-/// `a` without the one number of `b`, where that is an end of it.
-fn without(a: Range, b: Range) -> (u128, u64)
-    ensures { interval result.0 result.1 ≡ without a b }
+/// The range without this number, where that is an end of it.
+fn without(a: Range, number: u64) -> (u128, u64)
+    ensures { interval result.0 result.1 ≡ without a number }
 {
     let lo = u128::from(a.lo());
-    if b.is_single() && a.lo() == b.lo() {
+    if a.lo() == number {
         (lo + 1, a.hi())
-    } else if b.is_single() && a.hi() == b.lo() {
+    } else if a.hi() == number {
         (lo, a.hi().saturating_sub(1))
     } else {
         (lo, a.hi())
     }
 }
 
-/// The numbers of two ranges that stand so, unless there are none. A lower end may be one above the
-/// greatest `u64`.
+/// The numbers of two ranges that stand so, unless there are none, or the relation tells nothing of
+/// them. A lower end may be one above the greatest `u64`.
 #[inline(always)]
 fn narrowed(relation: Relation, a: Range, b: Range) -> Option<(Range, Range)>
-    ensures { result ≡ unless_empty (narrowed relation a b) }
+    ensures { result ≡ narrowed_pair relation a b }
 {
     let a_lo = u128::from(a.lo());
     let b_lo = u128::from(b.lo());
@@ -92,7 +92,12 @@ fn narrowed(relation: Relation, a: Range, b: Range) -> Option<(Range, Range)>
             let both = (a_lo.max(b_lo), a.hi().min(b.hi()));
             pair(both, both)
         }
-        Relation::Differs => pair(without(a, b), (b_lo, b.hi())),
+        Relation::Differs => {
+            if !b.is_single() {
+                return None;
+            }
+            pair(without(a, b.lo()), (b_lo, b.hi()))
+        }
         Relation::Above => pair(
             (a_lo.max(b_lo + 1), a.hi()),
             (b_lo, b.hi().min(a.hi().saturating_sub(1))),
@@ -203,7 +208,7 @@ fn tidied_both(a: Numbers, b: Numbers) -> Option<(Numbers, Numbers)>
 
 /// What two numbers are where they stand so.
 fn with_unsigned(relation: Relation, a: Numbers, b: Numbers) -> Option<(Numbers, Numbers)>
-    ensures { result ≡ with_unsigned a b (unless_empty (narrowed relation a.unsigned b.unsigned)) }
+    ensures { result ≡ with_unsigned a b (narrowed_pair relation a.unsigned b.unsigned) }
 {
     match narrowed(relation, a.unsigned(), b.unsigned()) {
         Some((r, s)) => tidied_both(Numbers::new(r, a.signed()), Numbers::new(s, b.signed())),

@@ -6,11 +6,13 @@ ghost use Rattle.machine_model.specs.Value.{Num};
 ghost use Rattle.value_ranges.specs.Covers.{Covers};
 ghost use Rattle.value_ranges.specs.Tables.{IsSet, is_set};
 ghost use Rattle.value_ranges.specs.Words.{CoversEntry, CoversLoads, any_number, between, entry, loaded, single_value};
+ghost use Rattle.machine_model.specs.Limits.{max_part};
 
 use crate::abs::{Abs, Reach};
 use crate::numbers::Numbers;
 use crate::range::Range;
 use insn_codec::{LoadKind, Register};
+use machine_model::MAX_PART;
 
 impl Abs {
     /// Some number from `lo` to `hi`.
@@ -75,13 +77,13 @@ pub fn loaded(kind: LoadKind) -> Abs
 /// What a register holds at a task's start, in a program that needs so many bytes.
 #[tactic(auto, using(crate::proofs::WordLemmas::entry_covers))]
 pub fn entry(need: u32, register: Register) -> Abs
-    requires { need ≤ 65536 }
+    requires { need ≤ max_part }
     ensures table { result ≡ entry need register }
     ensures covered { CoversEntry need register result }
 {
     match register.number() {
         1 => Abs::Part(Reach::new(0, 0)),
-        2 => Abs::between(u64::from(need), 65536),
+        2 => Abs::between(u64::from(need), MAX_PART as u64),
         3 => Abs::any_number(),
         10 => Abs::Stack(Reach::new(512, 512)),
         _ => Abs::Unset,

@@ -9,53 +9,53 @@ use Rattle.machine_model.specs.Paths.{IsPathTo}
 use Rattle.flow_graph.specs.Flow.{IsJoined, IsOrder, IsFlow}
 use Rattle.flow_graph.proofs.OrderLemmas.{joint_begins, no_cycle}
 use Rattle.flow_graph.specs.Cycles.{IsJoint}
-use Rattle.verifier.specs.Arrive.{Subject, Arrival, Nothing, Undefined, Comes, met, sent, landed, over, joined_over, arriving, IsArrive, arrive_within, arrive}
+use Rattle.verifier.specs.InStates.{Subject, InState, Unreached, Undefined, Reached, joined_in_state, out_state, if_leads_to, edge_state, joined_edges, in_state_by, AreInStates, in_state_within, in_state}
 
-pub met_nothing : (a : Arrival) → met a Nothing ≡ a
-met_nothing Nothing = refl
+pub met_nothing : (a : InState) → joined_in_state a Unreached ≡ a
+met_nothing Unreached = refl
 met_nothing Undefined = refl
-met_nothing (Comes state) = refl
+met_nothing (Reached state) = refl
 
-landed_not : (t s : ℕ) (a : Arrival) → t ≢ s → (if t == s then a else Nothing) ≡ Nothing
+landed_not : (t s : ℕ) (a : InState) → t ≢ s → (if t == s then a else Unreached) ≡ Unreached
 landed_not t s a ne = grind (arith, nat_tests)
 
 -- nothing lands where the edge doesn't lead
-landed_nothing : (o : Option ℕ) (s : ℕ) (a : Arrival) → ((t : ℕ) → o ≡ Some t → t ≢ s) → landed o s a ≡ Nothing
+landed_nothing : (o : Option ℕ) (s : ℕ) (a : InState) → ((t : ℕ) → o ≡ Some t → t ≢ s) → if_leads_to o s a ≡ Unreached
 landed_nothing None s a ne = refl
 landed_nothing (Some t) s a ne = landed_not t s a (ne t refl)
 
 -- nothing passes where no edge leads
-pub over_none : (p : Subject) (a : ℕ → Arrival) (s k : ℕ) (fact : Fact) → (IsEdge p.code k fact s → ⊥) → over p a s k fact ≡ Nothing
-over_none p a s k fact none = landed_nothing (leads_at p.code k fact) s (sent p (insn_at p.code k) fact (a k))
+pub over_none : (p : Subject) (a : ℕ → InState) (s k : ℕ) (fact : Fact) → (IsEdge p.code k fact s → ⊥) → edge_state p a s k fact ≡ Unreached
+over_none p a s k fact none = landed_nothing (leads_at p.code k fact) s (out_state p (insn_at p.code k) fact (a k))
     (λ t e same. none (subst (λ (u : ℕ). leads_at p.code k fact ≡ Some u) same e))
 
 -- what passes an edge comes from its slot alone
-over_same : (p : Subject) (a b : ℕ → Arrival) (s k : ℕ) (fact : Fact) → (IsEdge p.code k fact s → a k ≡ b k) →
-    over p a s k fact ≡ over p b s k fact
+over_same : (p : Subject) (a b : ℕ → InState) (s k : ℕ) (fact : Fact) → (IsEdge p.code k fact s → a k ≡ b k) →
+    edge_state p a s k fact ≡ edge_state p b s k fact
 over_same p a b s k fact same = by_end (leads_at p.code k fact) same
   where
     by_end : (o : Option ℕ) → (o ≡ Some s → a k ≡ b k) →
-        landed o s (sent p (insn_at p.code k) fact (a k)) ≡ landed o s (sent p (insn_at p.code k) fact (b k))
+        if_leads_to o s (out_state p (insn_at p.code k) fact (a k)) ≡ if_leads_to o s (out_state p (insn_at p.code k) fact (b k))
     by_end None h = refl
     by_end (Some t) h = elim (cases_eq t s) [
-      | inl e ↦ ap (λ (x : Arrival). landed (Some t) s (sent p (insn_at p.code k) fact x)) (h (ap Some e))
-      | inr ne ↦ landed_not t s (sent p (insn_at p.code k) fact (a k)) ne ∙ sym (landed_not t s (sent p (insn_at p.code k) fact (b k)) ne)
+      | inl e ↦ ap (λ (x : InState). if_leads_to (Some t) s (out_state p (insn_at p.code k) fact x)) (h (ap Some e))
+      | inr ne ↦ landed_not t s (out_state p (insn_at p.code k) fact (a k)) ne ∙ sym (landed_not t s (out_state p (insn_at p.code k) fact (b k)) ne)
     ]
 
-three : (x a b c : Arrival) → a ≡ Nothing → b ≡ Nothing → c ≡ Nothing → met (met (met x a) b) c ≡ x
+three : (x a b c : InState) → a ≡ Unreached → b ≡ Unreached → c ≡ Unreached → joined_in_state (joined_in_state (joined_in_state x a) b) c ≡ x
 three x a b c p q r = simp (p, q, r, met_nothing)
 
 -- a slot that doesn't lead there adds nothing
-pub joined_over_none : (p : Subject) (a : ℕ → Arrival) (s k : ℕ) → ((fact : Fact) → IsEdge p.code k fact s → ⊥) →
-    joined_over p a s (suc k) ≡ joined_over p a s k
+pub joined_over_none : (p : Subject) (a : ℕ → InState) (s k : ℕ) → ((fact : Fact) → IsEdge p.code k fact s → ⊥) →
+    joined_edges p a s (suc k) ≡ joined_edges p a s k
 joined_over_none p a s k none =
-    three (joined_over p a s k) (over p a s k Always) (over p a s k NotTaken) (over p a s k Taken)
+    three (joined_edges p a s k) (edge_state p a s k Always) (edge_state p a s k NotTaken) (edge_state p a s k Taken)
     (over_none p a s k Always (none Always)) (over_none p a s k NotTaken (none NotTaken)) (over_none p a s k Taken (none Taken))
 
 -- nor do all the slots from m on up to n
-pub joined_over_stops : (p : Subject) (a : ℕ → Arrival) (s m d n : ℕ) → n ≡ d + m →
-    ((k : ℕ) → m ≤ k → k < n → (fact : Fact) → IsEdge p.code k fact s → ⊥) → joined_over p a s n ≡ joined_over p a s m
-joined_over_stops p a s m zero n e none = ap (joined_over p a s) (let h : n ≡ m = omega arith in h)
+pub joined_over_stops : (p : Subject) (a : ℕ → InState) (s m d n : ℕ) → n ≡ d + m →
+    ((k : ℕ) → m ≤ k → k < n → (fact : Fact) → IsEdge p.code k fact s → ⊥) → joined_edges p a s n ≡ joined_edges p a s m
+joined_over_stops p a s m zero n e none = ap (joined_edges p a s) (let h : n ≡ m = omega arith in h)
 joined_over_stops p a s m (suc d) zero e none = absurd (omega arith)
 joined_over_stops p a s m (suc d) (suc n) e none =
     let le : m ≤ n = omega arith in
@@ -64,18 +64,18 @@ joined_over_stops p a s m (suc d) (suc n) e none =
     ∙ joined_over_stops p a s m d n (omega arith) (λ k l h. let h' : k < suc n = omega arith in none k l h')
 
 -- what arrives at a slot comes from the slots that lead there alone
-pub arriving_same : (p : Subject) (a b : ℕ → Arrival) (s n : ℕ) → ((k : ℕ) (fact : Fact) → IsEdge p.code k fact s → a k ≡ b k) →
-    arriving p a s n ≡ arriving p b s n
+pub arriving_same : (p : Subject) (a b : ℕ → InState) (s n : ℕ) → ((k : ℕ) (fact : Fact) → IsEdge p.code k fact s → a k ≡ b k) →
+    in_state_by p a s n ≡ in_state_by p b s n
 arriving_same p a b zero n same = refl
 arriving_same p a b (suc s) zero same = refl
 arriving_same p a b (suc s) (suc k) same =
-    let r : joined_over p a (suc s) k ≡ joined_over p b (suc s) k = arriving_same p a b (suc s) k same in
-    let x : over p a (suc s) k Always ≡ over p b (suc s) k Always = over_same p a b (suc s) k Always (same k Always) in
-    let y : over p a (suc s) k NotTaken ≡ over p b (suc s) k NotTaken = over_same p a b (suc s) k NotTaken (same k NotTaken) in
-    let z : over p a (suc s) k Taken ≡ over p b (suc s) k Taken = over_same p a b (suc s) k Taken (same k Taken) in
+    let r : joined_edges p a (suc s) k ≡ joined_edges p b (suc s) k = arriving_same p a b (suc s) k same in
+    let x : edge_state p a (suc s) k Always ≡ edge_state p b (suc s) k Always = over_same p a b (suc s) k Always (same k Always) in
+    let y : edge_state p a (suc s) k NotTaken ≡ edge_state p b (suc s) k NotTaken = over_same p a b (suc s) k NotTaken (same k NotTaken) in
+    let z : edge_state p a (suc s) k Taken ≡ edge_state p b (suc s) k Taken = over_same p a b (suc s) k Taken (same k Taken) in
     four r x y z
   where
-    four : {v w x y z : Arrival} {p q r : Arrival} → v ≡ w → x ≡ p → y ≡ q → z ≡ r → met (met (met v x) y) z ≡ met (met (met w p) q) r
+    four : {v w x y z : InState} {p q r : InState} → v ≡ w → x ≡ p → y ≡ q → z ≡ r → joined_in_state (joined_in_state (joined_in_state v x) y) z ≡ joined_in_state (joined_in_state (joined_in_state w p) q) r
     four e f g h = cc
 
 -- each slot that leads to this one has one of the first n places
@@ -103,7 +103,7 @@ behind_all p order s f k fact edge =
     let from = f.each k (joint_begins p.code k s (fact, edge)) in (from.0, from.1, from.1, from.2)
 
 -- there is only one solution
-unique_at : (p : Subject) (a b : ℕ → Arrival) (order : List ℕ) (n s : ℕ) → IsJoined p.code → IsOrder p.code order → IsArrive p a → IsArrive p b →
+unique_at : (p : Subject) (a b : ℕ → InState) (order : List ℕ) (n s : ℕ) → IsJoined p.code → IsOrder p.code order → AreInStates p a → AreInStates p b →
     AreBehind p order s n → s < length p.code → a s ≡ b s
 unique_at p a b order zero s j f x y behind within =
     x s within
@@ -123,17 +123,17 @@ unique_at p a b order (suc n) s j f x y behind within =
     (begins_within p.code k (joint_begins p.code k s (fact, edge))))
     ∙ sym (y s within))
 
-pub arrive_unique : (p : Subject) (a b : ℕ → Arrival) (order : List ℕ) (s : ℕ) → IsJoined p.code → IsOrder p.code order → IsArrive p a →
-    IsArrive p b → s < length p.code → a s ≡ b s
+pub arrive_unique : (p : Subject) (a b : ℕ → InState) (order : List ℕ) (s : ℕ) → IsJoined p.code → IsOrder p.code order → AreInStates p a →
+    AreInStates p b → s < length p.code → a s ≡ b s
 arrive_unique p a b order s j f x y within = unique_at p a b order (length order) s j f x y (behind_all p order s f) within
 
 -- what arrives by paths of enough slots doesn't change with more
 within_same : (p : Subject) (order : List ℕ) (n m l s : ℕ) → IsOrder p.code order → AreBehind p order s n → n < m → n < l →
-    arrive_within p m s ≡ arrive_within p l s
+    in_state_within p m s ≡ in_state_within p l s
 within_same p order n zero l s f behind x y = absurd (omega arith)
 within_same p order n (suc m) zero s f behind x y = absurd (omega arith)
 within_same p order n (suc m) (suc l) s f behind x y =
-    arriving_same p (arrive_within p m) (arrive_within p l) s (length p.code)
+    arriving_same p (in_state_within p m) (in_state_within p l) s (length p.code)
     (λ k fact edge.
     let h = behind k fact edge in
     let below : h.0 < n = h.1 in
@@ -143,24 +143,24 @@ within_same p order n (suc m) (suc l) s f behind x y =
 
 -- at the slot of a place
 pub arrive_at_place : (p : Subject) (order : List ℕ) (place : ℕ) → IsOrder p.code order → length order ≤ length p.code → place < length order →
-    arrive_within p (length p.code) (slice_index order place) ≡ arrive_within p (suc (length p.code)) (slice_index order place)
+    in_state_within p (length p.code) (slice_index order place) ≡ in_state_within p (suc (length p.code)) (slice_index order place)
 arrive_at_place p order place f short lt =
     let x : place < length p.code = omega arith in
     let y : place < suc (length p.code) = omega arith in
     within_same p order place (length p.code) (suc (length p.code)) (slice_index order place) f (behind_place p order place f lt) x y
 
 -- there is a solution
-pub arrive_is : (p : Subject) (order : List ℕ) → IsJoined p.code → IsOrder p.code order → length order ≤ length p.code → IsArrive p (arrive p)
-unfolding arrive
+pub arrive_is : (p : Subject) (order : List ℕ) → IsJoined p.code → IsOrder p.code order → length order ≤ length p.code → AreInStates p (in_state p)
+unfolding in_state
 arrive_is p order j f short s within = by_slot (insn_at p.code s) refl
   where
     more : 0 < length p.code
     more = j.starts
 
-    by_slot : (o : Option Insn) → insn_at p.code s ≡ o → arrive_within p (length p.code) s ≡ arrive_within p (suc (length p.code)) s
+    by_slot : (o : Option Insn) → insn_at p.code s ≡ o → in_state_within p (length p.code) s ≡ in_state_within p (suc (length p.code)) s
     by_slot (Some i) there =
         let at = f.each s (i, there) in
-        subst (λ (u : ℕ). arrive_within p (length p.code) u ≡ arrive_within p (suc (length p.code)) u) at.2 (arrive_at_place p order at.0 f short at.1)
+        subst (λ (u : ℕ). in_state_within p (length p.code) u ≡ in_state_within p (suc (length p.code)) u) at.2 (arrive_at_place p order at.0 f short at.1)
     by_slot None none =
         let y : 0 < suc (length p.code) = omega arith in
         within_same p order 0 (length p.code) (suc (length p.code)) s f (λ k fact edge. absurd (second (j.lands k fact s edge).1)) more y

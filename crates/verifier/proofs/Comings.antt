@@ -9,61 +9,61 @@ use Rattle.flow_graph.specs.Cycles.{IsJoint}
 use Rattle.flow_graph.specs.Flow.{AreNext, IsOrder}
 use Rattle.flow_graph.specs.declared.graph.Next.{Next}
 use Rattle.flow_graph.specs.declared.graph.Next.TheVariants.{Zero, One, Two}
-use Rattle.verifier.specs.declared.rule.Rule.{Rule}
-use Rattle.verifier.specs.declared.state.State.{State}
-use Rattle.verifier.specs.States.{passed, fault}
-use Rattle.verifier.specs.Arrive.{Subject, Arrival, Undefined, Comes, met, landed, sent, joined_over, IsArrive, arrive}
-use Rattle.verifier.specs.Verdict.{arrival_of}
+use Rattle.instruction_rules.specs.declared.rule.Rule.{Rule}
+use Rattle.instruction_rules.specs.declared.state.State.{State}
+use Rattle.instruction_rules.specs.States.{transferred, fault}
+use Rattle.verifier.specs.InStates.{Subject, InState, Undefined, Reached, joined_in_state, if_leads_to, out_state, joined_edges, AreInStates, in_state}
+use Rattle.verifier.specs.Verdict.{in_state_of}
 use Rattle.verifier.specs.Merges.{is_kept}
 use Rattle.verifier.specs.Sources.{Links, IsLinked, IsNextSource, link_of}
-use Rattle.verifier.specs.Coming.{IsPassed, IsBlocked, IsPulled, IsPast, IsTaken, IsSent, IsAmong, HasCome}
+use Rattle.verifier.specs.Propagation.{IsVisited, IsBlocked, IsPartlyJoined, IsPast, HasPropagatedAll, IsProcessed, IsAmong, HasPropagated}
 use Rattle.verifier.proofs.Options.{one_some, none_some}
 use Rattle.verifier.proofs.Arrivals.{behind_place}
 use Rattle.verifier.proofs.Pulling.{sent_is, pulled_on, pulled_allowed, joint_within}
 
 -- ---- what is there of a slot
 
-one_arrived : (a : Arrival) (s t : State) → a ≡ Comes s → a ≡ Comes t → s ≡ t
+one_arrived : (a : InState) (s t : State) → a ≡ Reached s → a ≡ Reached t → s ≡ t
 one_arrived a s t x y = cc
 
-not_undefined : (a : Arrival) (s : State) → a ≡ Comes s → a ≡ Undefined → ⊥
+not_undefined : (a : InState) (s : State) → a ≡ Reached s → a ≡ Undefined → ⊥
 not_undefined a s x y = cc
 
 -- what is passed isn't blocked
-pub passed_not_blocked : (p : Subject) (s : ℕ) (state : State) → IsPassed p s state → IsBlocked p s → ⊥
+pub passed_not_blocked : (p : Subject) (s : ℕ) (state : State) → IsVisited p s state → IsBlocked p s → ⊥
 passed_not_blocked p s state h blocked =
-    not_undefined (sent p (insn_at p.code s) Always (arrive p s)) (passed h.insn Always state)
-    (sent_is p (insn_at p.code s) (arrive p s) h.insn Always state h.there h.arrives h.allowed) (blocked Always)
+    not_undefined (out_state p (insn_at p.code s) Always (in_state p s)) (transferred h.insn Always state)
+    (sent_is p (insn_at p.code s) (in_state p s) h.insn Always state h.there h.arrives h.allowed) (blocked Always)
 
 -- one state is passed
-pub one_passed : (p : Subject) (s : ℕ) (a b : State) → IsPassed p s a → IsPassed p s b → a ≡ b
-one_passed p s a b x y = one_arrived (arrive p s) a b x.arrives y.arrives
+pub one_passed : (p : Subject) (s : ℕ) (a b : State) → IsVisited p s a → IsVisited p s b → a ≡ b
+one_passed p s a b x y = one_arrived (in_state p s) a b x.arrives y.arrives
 
 -- where a state is there, it is the one that is passed
-pub sent_there : (p : Subject) (firsts : List (Option ℕ)) (s : ℕ) (o : Option State) (state : State) → o ≡ Some state → IsSent p firsts s o → IsPassed p s state
+pub sent_there : (p : Subject) (firsts : List (Option ℕ)) (s : ℕ) (o : Option State) (state : State) → o ≡ Some state → IsProcessed p firsts s o → IsVisited p s state
 sent_there p firsts s o state e (inl (blocked, none)) = absurd (none_some o state none e)
-sent_there p firsts s o state e (inr (arrived, h, inl there)) =
-    subst (λ (t : State). IsPassed p s t) (one_some o arrived state there e) h
-sent_there p firsts s o state e (inr (arrived, h, inr (none, kept, taken))) = absurd (none_some o state none e)
+sent_there p firsts s o state e (inr (in_states, h, inl there)) =
+    subst (λ (t : State). IsVisited p s t) (one_some o in_states state there e) h
+sent_there p firsts s o state e (inr (in_states, h, inr (none, kept, taken))) = absurd (none_some o state none e)
 
-sent_on : (p : Subject) (firsts later : List (Option ℕ)) (s : ℕ) (x y : Option State) → y ≡ x → (IsTaken p firsts s → IsTaken p later s) →
-    IsSent p firsts s x → IsSent p later s y
+sent_on : (p : Subject) (firsts later : List (Option ℕ)) (s : ℕ) (x y : Option State) → y ≡ x → (HasPropagatedAll p firsts s → HasPropagatedAll p later s) →
+    IsProcessed p firsts s x → IsProcessed p later s y
 sent_on p firsts later s x y same on (inl (blocked, none)) = inl (blocked, same ∙ none)
-sent_on p firsts later s x y same on (inr (arrived, h, inl there)) = inr (arrived, h, inl (same ∙ there))
-sent_on p firsts later s x y same on (inr (arrived, h, inr (none, kept, taken))) = inr (arrived, h, inr (same ∙ none, kept, on taken))
+sent_on p firsts later s x y same on (inr (in_states, h, inl there)) = inr (in_states, h, inl (same ∙ there))
+sent_on p firsts later s x y same on (inr (in_states, h, inr (none, kept, taken))) = inr (in_states, h, inr (same ∙ none, kept, on taken))
 
 -- a state that isn't needed further may go
-sent_away : (p : Subject) (firsts : List (Option ℕ)) (s : ℕ) (x y : Option State) → y ≡ None → is_kept p.code s ≡ false → IsTaken p firsts s →
-    IsSent p firsts s x → IsSent p firsts s y
+sent_away : (p : Subject) (firsts : List (Option ℕ)) (s : ℕ) (x y : Option State) → y ≡ None → is_kept p.code s ≡ false → HasPropagatedAll p firsts s →
+    IsProcessed p firsts s x → IsProcessed p firsts s y
 sent_away p firsts s x y gone kept taken (inl (blocked, none)) = inl (blocked, gone)
-sent_away p firsts s x y gone kept taken (inr (arrived, h, stored)) = inr (arrived, h, inr (gone, kept, taken))
+sent_away p firsts s x y gone kept taken (inr (in_states, h, stored)) = inr (in_states, h, inr (gone, kept, taken))
 
-pulled_same : (p : Subject) (s : ℕ) (x y : Option State) (f g : Option ℕ) → y ≡ x → g ≡ f → IsPulled p s x f → IsPulled p s y g
-pulled_same p s x y f g a b h = subst (λ (u : Option State). IsPulled p s u g) (sym a) (subst (λ (v : Option ℕ). IsPulled p s x v) (sym b) h)
+pulled_same : (p : Subject) (s : ℕ) (x y : Option State) (f g : Option ℕ) → y ≡ x → g ≡ f → IsPartlyJoined p s x f → IsPartlyJoined p s y g
+pulled_same p s x y f g a b h = subst (λ (u : Option State). IsPartlyJoined p s u g) (sym a) (subst (λ (v : Option ℕ). IsPartlyJoined p s x v) (sym b) h)
 
 taken_on : (p : Subject) (firsts later : List (Option ℕ)) (s m : ℕ) →
     ((k : ℕ) → k ≢ m → slice_index_or later k None ≡ slice_index_or firsts k None) →
-    ((k : ℕ) → IsPast (slice_index_or firsts m None) k → IsPast (slice_index_or later m None) k) → IsTaken p firsts s → IsTaken p later s
+    ((k : ℕ) → IsPast (slice_index_or firsts m None) k → IsPast (slice_index_or later m None) k) → HasPropagatedAll p firsts s → HasPropagatedAll p later s
 taken_on p firsts later s m others on taken to joint = elim (cases_eq to m) [
   | inl e ↦
       subst (λ (k : ℕ). IsPast (slice_index_or later k None) s) (sym e)
@@ -74,31 +74,31 @@ taken_on p firsts later s m others on taken to joint = elim (cases_eq to m) [
 -- ---- steps that leave the place
 
 -- more has come to a slot
-come_on : (p : Subject) (order : List ℕ) (n m : ℕ) (old new : Links) (states later : List (Option State)) → HasCome p order n old states →
+come_on : (p : Subject) (order : List ℕ) (n m : ℕ) (old new : Links) (states later : List (Option State)) → HasPropagated p order n old states →
     IsLinked p.code new → length later ≡ length states → (IsAmong order n m → ⊥) →
     ((s : ℕ) → s ≢ m → slice_index_or later s None ≡ slice_index_or states s None) →
     ((s : ℕ) → s ≢ m → slice_index_or new.first s None ≡ slice_index_or old.first s None) →
-    IsPulled p m (slice_index_or later m None) (slice_index_or new.first m None) →
-    ((k : ℕ) → IsPast (slice_index_or old.first m None) k → IsPast (slice_index_or new.first m None) k) → HasCome p order n new later
+    IsPartlyJoined p m (slice_index_or later m None) (slice_index_or new.first m None) →
+    ((k : ℕ) → IsPast (slice_index_or old.first m None) k → IsPast (slice_index_or new.first m None) k) → HasPropagated p order n new later
 come_on p order n m old new states later h linked long none others firsts pulled on = record {
   linked = linked;
   slots = long ∙ h.slots;
   pulled = λ s within not_yet. elim (cases_eq s m) [
-    | inl e ↦ subst (λ (k : ℕ). IsPulled p k (slice_index_or later k None) (slice_index_or new.first k None)) (sym e) pulled
+    | inl e ↦ subst (λ (k : ℕ). IsPartlyJoined p k (slice_index_or later k None) (slice_index_or new.first k None)) (sym e) pulled
     | inr ne ↦ pulled_same p s (slice_index_or states s None) (slice_index_or later s None) (slice_index_or old.first s None) (slice_index_or new.first s None)
         (others s ne) (firsts s ne) (h.pulled s within not_yet)
   ];
-  sent = λ s among.
+  out_state = λ s among.
       let ne : s ≢ m = λ e. none (subst (λ (k : ℕ). IsAmong order n k) e among) in
       sent_on p old.first new.first s (slice_index_or states s None) (slice_index_or later s None) (others s ne)
-      (taken_on p old.first new.first s m firsts on) (h.sent s among);
+      (taken_on p old.first new.first s m firsts on) (h.out_state s among);
 }
 
 -- a state has gone that isn't needed further
 pub come_away : (p : Subject) (order : List ℕ) (n s : ℕ) (links : Links) (states later : List (Option State)) →
-    HasCome p order n links states → IsAmong order n s → length later ≡ length states →
+    HasPropagated p order n links states → IsAmong order n s → length later ≡ length states →
     ((k : ℕ) → k ≢ s → slice_index_or later k None ≡ slice_index_or states k None) → slice_index_or later s None ≡ None →
-    is_kept p.code s ≡ false → IsTaken p links.first s → HasCome p order n links later
+    is_kept p.code s ≡ false → HasPropagatedAll p links.first s → HasPropagated p order n links later
 come_away p order n s links states later h among long others gone kept taken = record {
   linked = h.linked;
   slots = long ∙ h.slots;
@@ -106,10 +106,10 @@ come_away p order n s links states later h among long others gone kept taken = r
       let ne : k ≢ s = λ e. not_yet (subst (λ (x : ℕ). IsAmong order n x) (sym e) among) in
       pulled_same p k (slice_index_or states k None) (slice_index_or later k None) (slice_index_or links.first k None) (slice_index_or links.first k None)
       (others k ne) refl (h.pulled k within not_yet);
-  sent = λ k at. elim (cases_eq k s) [
-    | inl e ↦ subst (λ (x : ℕ). IsSent p links.first x (slice_index_or later x None)) (sym e)
-        (sent_away p links.first s (slice_index_or states s None) (slice_index_or later s None) gone kept taken (h.sent s among))
-    | inr ne ↦ sent_on p links.first links.first k (slice_index_or states k None) (slice_index_or later k None) (others k ne) (λ t. t) (h.sent k at)
+  out_state = λ k at. elim (cases_eq k s) [
+    | inl e ↦ subst (λ (x : ℕ). IsProcessed p links.first x (slice_index_or later x None)) (sym e)
+        (sent_away p links.first s (slice_index_or states s None) (slice_index_or later s None) gone kept taken (h.out_state s among))
+    | inr ne ↦ sent_on p links.first links.first k (slice_index_or states k None) (slice_index_or later k None) (others k ne) (λ t. t) (h.out_state k at)
   ];
 }
 
@@ -142,25 +142,25 @@ past_here : (code : Code) (from to : ℕ) (f : Option ℕ) → IsNextSource code
 past_here code from to None next = tt
 past_here code from to (Some q) next = let after : suc from ≤ q = next.0 in let lt : from < q = after in lt
 
-pub pulled_from : (p : Subject) (s : ℕ) (state : Option State) (o : Option ℕ) (q : ℕ) → o ≡ Some q → IsPulled p s state o →
-    IsJoint p.code q s × (arrival_of state ≡ joined_over p (arrive p) s q)
-pulled_from p s state o q e h = subst (λ (r : Option ℕ). IsPulled p s state r) e h
+pub pulled_from : (p : Subject) (s : ℕ) (state : Option State) (o : Option ℕ) (q : ℕ) → o ≡ Some q → IsPartlyJoined p s state o →
+    IsJoint p.code q s × (in_state_of state ≡ joined_edges p (in_state p) s q)
+pulled_from p s state o q e h = subst (λ (r : Option ℕ). IsPartlyJoined p s state r) e h
 
 -- What a slot passes on has come to another, and its state has gone, unless it is kept or another slot is still to take it.
 pub come_delivered : (p : Subject) (order : List ℕ) (n from to : ℕ) (old new : Links) (states later : List (Option State)) (next : Next) (i : Insn)
-    (state : State) (keep : Bool) → IsArrive p (arrive p) → 0 < to → to < length p.code → from ≢ to →
-    HasCome p order n old states → IsAmong order n from → (IsAmong order n to → ⊥) → insn_at p.code from ≡ Some i →
+    (state : State) (keep : Bool) → AreInStates p (in_state p) → 0 < to → to < length p.code → from ≢ to →
+    HasPropagated p order n old states → IsAmong order n from → (IsAmong order n to → ⊥) → insn_at p.code from ≡ Some i →
     slice_index_or states from None ≡ Some state → IsJoint p.code from to → AreNext p.code from next → slice_index_or old.first to None ≡ Some from →
     length later ≡ length states →
     ((s : ℕ) → s ≢ to → s ≢ from → slice_index_or later s None ≡ slice_index_or states s None) →
     slice_index_or later from None ≡ (if keep then slice_index_or states from None else None) →
-    arrival_of (slice_index_or later to None) ≡ met (met (met (arrival_of (slice_index_or states to None))
-    (landed (leads_at p.code from Always) to (Comes (passed i Always state))))
-    (landed (leads_at p.code from NotTaken) to (Comes (passed i NotTaken state))))
-    (landed (leads_at p.code from Taken) to (Comes (passed i Taken state))) →
+    in_state_of (slice_index_or later to None) ≡ joined_in_state (joined_in_state (joined_in_state (in_state_of (slice_index_or states to None))
+    (if_leads_to (leads_at p.code from Always) to (Reached (transferred i Always state))))
+    (if_leads_to (leads_at p.code from NotTaken) to (Reached (transferred i NotTaken state))))
+    (if_leads_to (leads_at p.code from Taken) to (Reached (transferred i Taken state))) →
     new.first ≡ slice_set old.first to (link_of old next from to) → new.following ≡ old.following → new.taken ≡ old.taken → new.edges ≡ old.edges →
     (keep ≡ false → (is_kept p.code from ≡ false) × ((s : ℕ) → IsJoint p.code from s → s ≢ to → IsPast (slice_index_or old.first s None) from)) →
-    HasCome p order n new later
+    HasPropagated p order n new later
 come_delivered p order n from to old new states later next i state keep solves more within apart h among none insn there joint are first long others gone
     met_is note following taken edges free = by_keep keep gone free
   where
@@ -179,18 +179,18 @@ come_delivered p order n from to old new states later next i state keep solves m
     firsts : (s : ℕ) → s ≢ to → slice_index_or new.first s None ≡ slice_index_or old.first s None
     firsts s ne = ap (λ (l : List (Option ℕ)). slice_index_or l s None) note ∙ get_or-set_other old.first to s (link_of old next from to) None ne
 
-    arrived : IsPassed p from state
-    arrived = sent_there p old.first from (slice_index_or states from None) state there (h.sent from among)
+    in_states : IsVisited p from state
+    in_states = sent_there p old.first from (slice_index_or states from None) state there (h.out_state from among)
 
-    before : IsJoint p.code from to × (arrival_of (slice_index_or states to None) ≡ joined_over p (arrive p) to from)
+    before : IsJoint p.code from to × (in_state_of (slice_index_or states to None) ≡ joined_edges p (in_state p) to from)
     before = pulled_from p to (slice_index_or states to None) (slice_index_or old.first to None) from first (h.pulled to within none)
 
-    pulled : IsPulled p to (slice_index_or later to None) (slice_index_or new.first to None)
+    pulled : IsPartlyJoined p to (slice_index_or later to None) (slice_index_or new.first to None)
     pulled =
         let le : suc from ≤ length p.code = joint_within p to from joint in
         pulled_on p to (suc from) (slice_index_or later to None) (slice_index_or new.first to None) solves more within next_new le
-        (pulled_allowed p to from i state (slice_index_or states to None) (slice_index_or later to None) insn arrived.arrives
-        (subst (λ (j : Insn). fault_of j ≡ None) (one_some (insn_at p.code from) arrived.insn i arrived.there insn) arrived.allowed) before.1 met_is)
+        (pulled_allowed p to from i state (slice_index_or states to None) (slice_index_or later to None) insn in_states.arrives
+        (subst (λ (j : Insn). fault_of j ≡ None) (one_some (insn_at p.code from) in_states.insn i in_states.there insn) in_states.allowed) before.1 met_is)
       where
         fault_of : Insn → Option Rule
         fault_of j = fault p.need p.helpers j state
@@ -209,12 +209,12 @@ come_delivered p order n from to old new states later next i state keep solves m
     middle_other : (s : ℕ) → s ≢ to → slice_index_or middle s None ≡ slice_index_or states s None
     middle_other s ne = get_or-set_other states to s (slice_index_or later to None) None ne
 
-    come_middle : HasCome p order n new middle
+    come_middle : HasPropagated p order n new middle
     come_middle =
         come_on p order n to old new states middle h linked (length-set states to (slice_index_or later to None)) none middle_other firsts
-        (subst (λ (u : Option State). IsPulled p to u (slice_index_or new.first to None)) (sym middle_to) pulled) on
+        (subst (λ (u : Option State). IsPartlyJoined p to u (slice_index_or new.first to None)) (sym middle_to) pulled) on
 
-    all_taken : ((s : ℕ) → IsJoint p.code from s → s ≢ to → IsPast (slice_index_or old.first s None) from) → IsTaken p new.first from
+    all_taken : ((s : ℕ) → IsJoint p.code from s → s ≢ to → IsPast (slice_index_or old.first s None) from) → HasPropagatedAll p new.first from
     all_taken past s j = elim (cases_eq s to) [
       | inl e ↦ subst (λ (k : ℕ). IsPast (slice_index_or new.first k None) from) (sym e) (past_here p.code from to (slice_index_or new.first to None) next_new)
       | inr ne ↦ subst (λ (o : Option ℕ). IsPast o from) (sym (firsts s ne)) (past s j ne)
@@ -228,7 +228,7 @@ come_delivered p order n from to old new states later next i state keep solves m
 
     by_keep : (b : Bool) → slice_index_or later from None ≡ (if b then slice_index_or states from None else None) →
         (b ≡ false → (is_kept p.code from ≡ false) × ((s : ℕ) → IsJoint p.code from s → s ≢ to → IsPast (slice_index_or old.first s None) from)) →
-        HasCome p order n new later
+        HasPropagated p order n new later
     by_keep true stays f =
         come_on p order n to old new states later h linked long none
         (λ s ne. elim (cases_eq s from) [
@@ -291,33 +291,33 @@ among_before order n s m ne = elim (cases_lt m.place n) [
 
 -- an instruction has been examined
 come_examined : (p : Subject) (order : List ℕ) (n : ℕ) (links : Links) (states later : List (Option State)) → n < length order →
-    HasCome p order n links states → length later ≡ length states →
+    HasPropagated p order n links states → length later ≡ length states →
     ((s : ℕ) → s ≢ slice_index order n → slice_index_or later s None ≡ slice_index_or states s None) →
-    IsSent p links.first (slice_index order n) (slice_index_or later (slice_index order n) None) → HasCome p order (suc n) links later
-come_examined p order n links states later lt h long others sent = record {
+    IsProcessed p links.first (slice_index order n) (slice_index_or later (slice_index order n) None) → HasPropagated p order (suc n) links later
+come_examined p order n links states later lt h long others out_state = record {
   linked = h.linked;
   slots = long ∙ h.slots;
   pulled = λ s within not_yet.
       let ne : s ≢ slice_index order n = λ e. not_yet (subst (λ (k : ℕ). IsAmong order (suc n) k) (sym e) (among_here order n lt)) in
       pulled_same p s (slice_index_or states s None) (slice_index_or later s None) (slice_index_or links.first s None) (slice_index_or links.first s None)
       (others s ne) refl (h.pulled s within (λ m. not_yet (among_more order n s m)));
-  sent = λ s among. elim (cases_eq s (slice_index order n)) [
-    | inl e ↦ subst (λ (k : ℕ). IsSent p links.first k (slice_index_or later k None)) (sym e) sent
+  out_state = λ s among. elim (cases_eq s (slice_index order n)) [
+    | inl e ↦ subst (λ (k : ℕ). IsProcessed p links.first k (slice_index_or later k None)) (sym e) out_state
     | inr ne ↦ sent_on p links.first links.first s (slice_index_or states s None) (slice_index_or later s None) (others s ne) (λ t. t)
-        (h.sent s (among_before order n s among ne))
+        (h.out_state s (among_before order n s among ne))
   ];
 }
 
 -- it is passed
 pub come_passed : (p : Subject) (order : List ℕ) (n : ℕ) (links : Links) (states : List (Option State)) (state : State) → n < length order →
-    HasCome p order n links states → IsPassed p (slice_index order n) state → slice_index_or states (slice_index order n) None ≡ Some state →
-    HasCome p order (suc n) links states
-come_passed p order n links states state lt h passed there =
-    come_examined p order n links states states lt h refl (λ s ne. refl) (inr (state, passed, inl there))
+    HasPropagated p order n links states → IsVisited p (slice_index order n) state → slice_index_or states (slice_index order n) None ≡ Some state →
+    HasPropagated p order (suc n) links states
+come_passed p order n links states state lt h transferred there =
+    come_examined p order n links states states lt h refl (λ s ne. refl) (inr (state, transferred, inl there))
 
 -- what it passes on is undefined
 pub come_blocked : (p : Subject) (order : List ℕ) (n : ℕ) (links : Links) (states later : List (Option State)) → n < length order →
-    HasCome p order n links states → length later ≡ length states →
+    HasPropagated p order n links states → length later ≡ length states →
     ((s : ℕ) → s ≢ slice_index order n → slice_index_or later s None ≡ slice_index_or states s None) →
-    slice_index_or later (slice_index order n) None ≡ None → IsBlocked p (slice_index order n) → HasCome p order (suc n) links later
+    slice_index_or later (slice_index order n) None ≡ None → IsBlocked p (slice_index order n) → HasPropagated p order (suc n) links later
 come_blocked p order n links states later lt h long others gone blocked = come_examined p order n links states later lt h long others (inl (blocked, gone))

@@ -12,15 +12,15 @@ use Rattle.machine_model.proofs.Codes.{begins_within}
 use Rattle.flow_graph.specs.Cycles.{IsJoint}
 use Rattle.flow_graph.specs.Flow.{IsJoined, IsOrder, IsFlow}
 use Rattle.flow_graph.proofs.OrderLemmas.{joint_begins}
-use Rattle.verifier.specs.declared.rule.Rule.{Rule}
-use Rattle.verifier.specs.declared.state.State.{State}
+use Rattle.instruction_rules.specs.declared.rule.Rule.{Rule}
+use Rattle.instruction_rules.specs.declared.state.State.{State}
 use Rattle.verifier.specs.declared.states.Fault.{Fault}
-use Rattle.verifier.specs.States.{fault, passed, entry_state}
-use Rattle.verifier.specs.Arrive.{Subject, Arrival, Nothing, Undefined, Comes, sent, unless, over, IsArrive, arrive}
-use Rattle.verifier.specs.Verdict.{IsAllowedAt, IsFaulty, IsFirstFaulty, IsTable, arrival_of}
-use Rattle.verifier.specs.Kept.{state_of, arrived}
+use Rattle.instruction_rules.specs.States.{fault, transferred, entry_state}
+use Rattle.verifier.specs.InStates.{Subject, InState, Unreached, Undefined, Reached, out_state, unless, edge_state, AreInStates, in_state}
+use Rattle.verifier.specs.Verdict.{IsAllowedAt, IsFaulty, IsFirstFaulty, IsTable, in_state_of}
+use Rattle.verifier.specs.Kept.{state_of, in_states}
 use Rattle.verifier.specs.Sources.{Links, AreLinked, IsNextSource}
-use Rattle.verifier.specs.Coming.{IsPassed, IsBlocked, IsPulled, IsPast, IsSent, IsAmong, HasCome, IsFound, IsFirst, earlier}
+use Rattle.verifier.specs.Propagation.{IsVisited, IsBlocked, IsPartlyJoined, IsPast, IsProcessed, IsAmong, HasPropagated, IsVisitResult, IsFirst, earlier}
 use Rattle.verifier.proofs.Options.{one_some, none_some}
 use Rattle.verifier.proofs.Arrivals.{joined_over_stops, joint_past, no_edge_back}
 use Rattle.verifier.proofs.Pulling.{landed_at, pulled_on, pulled_undefined, arrives_joined}
@@ -30,43 +30,43 @@ use Rattle.verifier.proofs.Comings.{passed_not_blocked, not_among, joint_among, 
 
 -- ---- something arrives
 
-below_nothing : (a : Arrival) → Below a Nothing → a ≡ Nothing
-below_nothing Nothing h = refl
+below_nothing : (a : InState) → Below a Unreached → a ≡ Unreached
+below_nothing Unreached h = refl
 below_nothing Undefined h = absurd h
-below_nothing (Comes state) h = absurd h
+below_nothing (Reached state) h = absurd h
 
-comes_not : (state : State) → Comes state ≡ Nothing → ⊥
+comes_not : (state : State) → Reached state ≡ Unreached → ⊥
 comes_not state e = cc
 
-unless_something : (o : Option Rule) (state : State) → unless o state ≡ Nothing → ⊥
+unless_something : (o : Option Rule) (state : State) → unless o state ≡ Unreached → ⊥
 unless_something None state e = cc
 unless_something (Some rule) state e = cc
 
-sent_something : (p : Subject) (i : Insn) (fact : Fact) (a : Arrival) → (a ≡ Nothing → ⊥) → sent p (Some i) fact a ≡ Nothing → ⊥
-sent_something p i fact Nothing some e = some refl
+sent_something : (p : Subject) (i : Insn) (fact : Fact) (a : InState) → (a ≡ Unreached → ⊥) → out_state p (Some i) fact a ≡ Unreached → ⊥
+sent_something p i fact Unreached some e = some refl
 sent_something p i fact Undefined some e = cc
-sent_something p i fact (Comes state) some e = unless_something (fault p.need p.helpers i state) (passed i fact state) e
+sent_something p i fact (Reached state) some e = unless_something (fault p.need p.helpers i state) (transferred i fact state) e
 
-arrives_on : (p : Subject) (q s : ℕ) (fact : Fact) → IsArrive p (arrive p) → s < length p.code → IsEdge p.code q fact s →
-    (arrive p q ≡ Nothing → ⊥) → arrive p s ≡ Nothing → ⊥
+arrives_on : (p : Subject) (q s : ℕ) (fact : Fact) → AreInStates p (in_state p) → s < length p.code → IsEdge p.code q fact s →
+    (in_state p q ≡ Unreached → ⊥) → in_state p s ≡ Unreached → ⊥
 arrives_on p q zero fact solves within edge some none = comes_not (entry_state p.need) (sym (solves 0 within) ∙ none)
 arrives_on p q (suc s) fact solves within edge some none =
     let begins = joint_begins p.code q (suc s) (fact, edge) in
-    let passes : over p (arrive p) (suc s) q fact ≡ Nothing = below_nothing (over p (arrive p) (suc s) q fact)
-    (subst (λ (a : Arrival). Below (over p (arrive p) (suc s) q fact) a) (sym (solves (suc s) within) ∙ none)
-    (over_below p (arrive p) (suc s) q (length p.code) fact (begins_within p.code q begins))) in
-    let sends : sent p (insn_at p.code q) fact (arrive p q) ≡ Nothing =
-    sym (landed_at (leads_at p.code q fact) (suc s) (sent p (insn_at p.code q) fact (arrive p q)) edge) ∙ passes in
-    sent_something p begins.0 fact (arrive p q) some (ap (λ (o : Option Insn). sent p o fact (arrive p q)) (sym begins.1) ∙ sends)
+    let passes : edge_state p (in_state p) (suc s) q fact ≡ Unreached = below_nothing (edge_state p (in_state p) (suc s) q fact)
+    (subst (λ (a : InState). Below (edge_state p (in_state p) (suc s) q fact) a) (sym (solves (suc s) within) ∙ none)
+    (over_below p (in_state p) (suc s) q (length p.code) fact (begins_within p.code q begins))) in
+    let sends : out_state p (insn_at p.code q) fact (in_state p q) ≡ Unreached =
+    sym (landed_at (leads_at p.code q fact) (suc s) (out_state p (insn_at p.code q) fact (in_state p q)) edge) ∙ passes in
+    sent_something p begins.0 fact (in_state p q) some (ap (λ (o : Option Insn). out_state p o fact (in_state p q)) (sym begins.1) ∙ sends)
 
-arrives_along : (p : Subject) (path : List ℕ) (s : ℕ) → IsArrive p (arrive p) → IsJoined p.code → IsPathTo p.code path s → arrive p s ≡ Nothing → ⊥
+arrives_along : (p : Subject) (path : List ℕ) (s : ℕ) → AreInStates p (in_state p) → IsJoined p.code → IsPathTo p.code path s → in_state p s ≡ Unreached → ⊥
 arrives_along p [] s solves j here none =
-    comes_not (entry_state p.need) (sym (solves 0 j.starts) ∙ (ap (λ (k : ℕ). arrive p k) (sym here) ∙ none))
+    comes_not (entry_state p.need) (sym (solves 0 j.starts) ∙ (ap (λ (k : ℕ). in_state p k) (sym here) ∙ none))
 arrives_along p (q ∷ path) s solves j ((fact, edge), before) none =
     arrives_on p q s fact solves (j.lands q fact s edge).0 edge (arrives_along p path q solves j before) none
 
 -- where a path leads something arrives
-pub arrives_something : (p : Subject) (s : ℕ) → IsArrive p (arrive p) → IsJoined p.code → IsReached p.code s → arrive p s ≡ Nothing → ⊥
+pub arrives_something : (p : Subject) (s : ℕ) → AreInStates p (in_state p) → IsJoined p.code → IsReached p.code s → in_state p s ≡ Unreached → ⊥
 arrives_something p s solves j (path, leads) none = arrives_along p path s solves j leads none
 
 -- ---- at the start
@@ -79,25 +79,25 @@ first_none code order None f next = refl
 first_none code order (Some q) f next = absurd (no_edge_back code order q next.1.0 f next.1.1)
 
 pub come_start : (p : Subject) (order : List ℕ) (links : Links) (states : List (Option State)) → IsFlow (record { code = p.code; order = order }) →
-    IsArrive p (arrive p) → AreLinked p.code links 0 → length states ≡ length p.code → slice_index_or states 0 None ≡ Some (entry_state p.need) →
-    ((s : ℕ) → 0 < s → s < length p.code → slice_index_or states s None ≡ None) → HasCome p order 0 links states
+    AreInStates p (in_state p) → AreLinked p.code links 0 → length states ≡ length p.code → slice_index_or states 0 None ≡ Some (entry_state p.need) →
+    ((s : ℕ) → 0 < s → s < length p.code → slice_index_or states s None ≡ None) → HasPropagated p order 0 links states
 come_start p order links states f solves linked long first others = record {
   linked = linked_all p.code links linked;
   slots = long;
   pulled = λ s within none. at_slot s within;
-  sent = λ s among. absurd (none_yet order s among);
+  out_state = λ s among. absurd (none_yet order s among);
 }
   where
-    at_slot : (s : ℕ) → s < length p.code → IsPulled p s (slice_index_or states s None) (slice_index_or links.first s None)
+    at_slot : (s : ℕ) → s < length p.code → IsPartlyJoined p s (slice_index_or states s None) (slice_index_or links.first s None)
     at_slot zero within =
-        subst (λ (o : Option ℕ). IsPulled p 0 (slice_index_or states 0 None) o)
+        subst (λ (o : Option ℕ). IsPartlyJoined p 0 (slice_index_or states 0 None) o)
         (sym (first_none p.code order (slice_index_or links.first 0 None) f (linked.first 0 within)))
-        (ap arrival_of first ∙ sym (solves 0 within))
+        (ap in_state_of first ∙ sym (solves 0 within))
     at_slot (suc s) within =
         let more : 0 < suc s = omega arith in
         let least : 0 ≤ length p.code = omega arith in
         pulled_on p (suc s) 0 (slice_index_or states (suc s) None) (slice_index_or links.first (suc s) None) solves more within
-        (linked.first (suc s) within) least (ap arrival_of (others (suc s) more within))
+        (linked.first (suc s) within) least (ap in_state_of (others (suc s) more within))
 
 -- ---- one instruction
 
@@ -108,7 +108,7 @@ past_itself (Some r) q e past =
     let lt : q < r = past in omega (arith, same, lt)
 
 source_blocked : (p : Subject) (firsts : List (Option ℕ)) (q s : ℕ) (o : Option State) → IsJoint p.code q s → slice_index_or firsts s None ≡ Some q →
-    o ≡ None → IsSent p firsts q o → IsBlocked p q
+    o ≡ None → IsProcessed p firsts q o → IsBlocked p q
 source_blocked p firsts q s o joint first gone (inl (blocked, none)) = blocked
 source_blocked p firsts q s o joint first gone (inr (state, h, inl there)) = absurd (none_some o state gone there)
 source_blocked p firsts q s o joint first gone (inr (state, h, inr (none, kept, taken))) =
@@ -116,7 +116,7 @@ source_blocked p firsts q s o joint first gone (inr (state, h, inr (none, kept, 
 
 -- the slot that comes next leads there from a place ahead
 pub comes_next : (p : Subject) (order : List ℕ) (n s q : ℕ) (links : Links) (states : List (Option State)) → IsFlow (record { code = p.code; order = order }) →
-    n < length order → s ≡ slice_index order n → HasCome p order n links states → slice_index_or links.first s None ≡ Some q →
+    n < length order → s ≡ slice_index order n → HasPropagated p order n links states → slice_index_or links.first s None ≡ Some q →
     IsJoint p.code q s × IsAmong order n q × (IsAmong order n s → ⊥)
 comes_next p order n s q links states f lt at h first =
     let away : IsAmong order n s → ⊥ = λ m. not_among p.code order n f.order lt (subst (λ (k : ℕ). IsAmong order n k) at m) in
@@ -126,76 +126,76 @@ comes_next p order n s q links states f lt at h first =
 
 -- what comes next hasn't come, so it is blocked
 pub stays_out : (p : Subject) (order : List ℕ) (n s q : ℕ) (links : Links) (states : List (Option State)) → IsFlow (record { code = p.code; order = order }) →
-    IsArrive p (arrive p) → s ≡ slice_index order n → n < length order → HasCome p order n links states → slice_index_or links.first s None ≡ Some q →
+    AreInStates p (in_state p) → s ≡ slice_index order n → n < length order → HasPropagated p order n links states → slice_index_or links.first s None ≡ Some q →
     slice_index_or states q None ≡ None →
-    (arrive p s ≡ Undefined) × ((k : ℕ) × IsAmong order n k × IsBlocked p k)
+    (in_state p s ≡ Undefined) × ((k : ℕ) × IsAmong order n k × IsBlocked p k)
 stays_out p order n s q links states f solves at lt h first gone =
     let within = subst (λ (k : ℕ). k < length p.code) (sym at) (begins_within p.code (slice_index order n) (f.order.begins n lt)) in
     let next = comes_next p order n s q links states f lt at h first in
-    let blocked = source_blocked p links.first q s (slice_index_or states q None) next.0 first gone (h.sent q next.1) in (
+    let blocked = source_blocked p links.first q s (slice_index_or states q None) next.0 first gone (h.out_state q next.1) in (
       arrives_joined p s solves (joint_past p.code order q s f next.0) within ∙ pulled_undefined p s q next.0 blocked,
       (q, next.1, blocked),
     )
 
-all_pulled : (p : Subject) (s : ℕ) (state : Option State) (o : Option ℕ) → o ≡ None → IsPulled p s state o → arrival_of state ≡ arrive p s
-all_pulled p s state o e h = subst (λ (r : Option ℕ). IsPulled p s state r) e h
+all_pulled : (p : Subject) (s : ℕ) (state : Option State) (o : Option ℕ) → o ≡ None → IsPartlyJoined p s state o → in_state_of state ≡ in_state p s
+all_pulled p s state o e h = subst (λ (r : Option ℕ). IsPartlyJoined p s state r) e h
 
 -- all has come
 pub all_come : (p : Subject) (order : List ℕ) (n s : ℕ) (links : Links) (states : List (Option State)) → IsOrder p.code order → s ≡ slice_index order n →
-    n < length order → HasCome p order n links states → slice_index_or links.first s None ≡ None → arrival_of (slice_index_or states s None) ≡ arrive p s
+    n < length order → HasPropagated p order n links states → slice_index_or links.first s None ≡ None → in_state_of (slice_index_or states s None) ≡ in_state p s
 all_come p order n s links states f at lt h none =
     let within = subst (λ (k : ℕ). k < length p.code) (sym at) (begins_within p.code (slice_index order n) (f.begins n lt)) in
     let away : IsAmong order n s → ⊥ = λ m. not_among p.code order n f lt (subst (λ (k : ℕ). IsAmong order n k) at m) in
     all_pulled p s (slice_index_or states s None) (slice_index_or links.first s None) none (h.pulled s within away)
 
-pub comes_there : (a : Arrival) (o : Option State) (state : State) → o ≡ Some state → arrival_of o ≡ a → a ≡ Comes state
-comes_there a o state e is = sym is ∙ ap arrival_of e
+pub comes_there : (a : InState) (o : Option State) (state : State) → o ≡ Some state → in_state_of o ≡ a → a ≡ Reached state
+comes_there a o state e is = sym is ∙ ap in_state_of e
 
-pub nothing_there : (a : Arrival) (o : Option State) → o ≡ None → arrival_of o ≡ a → a ≡ Nothing
-nothing_there a o e is = sym is ∙ ap arrival_of e
+pub nothing_there : (a : InState) (o : Option State) → o ≡ None → in_state_of o ≡ a → a ≡ Unreached
+nothing_there a o e is = sym is ∙ ap in_state_of e
 
-sent_undefined : (p : Subject) (o : Option Insn) (fact : Fact) → sent p o fact Undefined ≡ Undefined
+sent_undefined : (p : Subject) (o : Option Insn) (fact : Fact) → out_state p o fact Undefined ≡ Undefined
 sent_undefined p None fact = refl
 sent_undefined p (Some i) fact = refl
 
-pub blocked_by : (p : Subject) (s : ℕ) → arrive p s ≡ Undefined → IsBlocked p s
-blocked_by p s e fact = ap (λ (a : Arrival). sent p (insn_at p.code s) fact a) e ∙ sent_undefined p (insn_at p.code s) fact
+pub blocked_by : (p : Subject) (s : ℕ) → in_state p s ≡ Undefined → IsBlocked p s
+blocked_by p s e fact = ap (λ (a : InState). out_state p (insn_at p.code s) fact a) e ∙ sent_undefined p (insn_at p.code s) fact
 
 pub blocked_at_fault : (p : Subject) (s : ℕ) (rule : Rule) → IsFaulty p s rule → IsBlocked p s
 blocked_at_fault p s rule h fact =
-    ap (λ (o : Option Insn). sent p o fact (arrive p s)) h.there
-    ∙ (ap (λ (a : Arrival). sent p (Some h.insn) fact a) h.arrives
-    ∙ ap (λ (o : Option Rule). unless o (passed h.insn fact h.state)) h.applies)
+    ap (λ (o : Option Insn). out_state p o fact (in_state p s)) h.there
+    ∙ (ap (λ (a : InState). out_state p (Some h.insn) fact a) h.arrives
+    ∙ ap (λ (o : Option Rule). unless o (transferred h.insn fact h.state)) h.applies)
 
 -- what arrives isn't two things
-pub never : (a : Arrival) (state : State) → a ≡ Undefined → a ≡ Comes state → ⊥
+pub never : (a : InState) (state : State) → a ≡ Undefined → a ≡ Reached state → ⊥
 never a state p q = cc
 
-nothing_not : (a : Arrival) (state : State) → a ≡ Nothing → a ≡ Comes state → ⊥
+nothing_not : (a : InState) (state : State) → a ≡ Unreached → a ≡ Reached state → ⊥
 nothing_not a state p q = cc
 
-one_arrived : (a : Arrival) (s t : State) → a ≡ Comes s → a ≡ Comes t → s ≡ t
+one_arrived : (a : InState) (s t : State) → a ≡ Reached s → a ≡ Reached t → s ≡ t
 one_arrived a s t x y = cc
 
 -- an instruction that is passed is allowed
-allowed_passed : (p : Subject) (s : ℕ) (state : State) → IsPassed p s state → IsAllowedAt p s
+allowed_passed : (p : Subject) (s : ℕ) (state : State) → IsVisited p s state → IsAllowedAt p s
 allowed_passed p s state h i other there arrives =
     subst (λ (j : Insn). fault p.need p.helpers j other ≡ None) (one_some (insn_at p.code s) h.insn i h.there there)
-    (subst (λ (t : State). fault p.need p.helpers h.insn t ≡ None) (one_arrived (arrive p s) state other h.arrives arrives) h.allowed)
+    (subst (λ (t : State). fault p.need p.helpers h.insn t ≡ None) (one_arrived (in_state p s) state other h.arrives arrives) h.allowed)
 
-allowed_found : (p : Subject) (order : List ℕ) (n s : ℕ) → IsFound p order n s None → IsAllowedAt p s
+allowed_found : (p : Subject) (order : List ℕ) (n s : ℕ) → IsVisitResult p order n s None → IsAllowedAt p s
 allowed_found p order n s (inl (state, h)) = allowed_passed p s state h
-allowed_found p order n s (inr (undefined, h)) = λ i state there arrives. absurd (never (arrive p s) state undefined arrives)
+allowed_found p order n s (inr (undefined, h)) = λ i state there arrives. absurd (never (in_state p s) state undefined arrives)
 
-passed_found : (p : Subject) (order : List ℕ) (n s : ℕ) → ((k : ℕ) → IsAmong order n k → (state : State) × IsPassed p k state) →
-    IsFound p order n s None → (state : State) × IsPassed p s state
+passed_found : (p : Subject) (order : List ℕ) (n s : ℕ) → ((k : ℕ) → IsAmong order n k → (state : State) × IsVisited p k state) →
+    IsVisitResult p order n s None → (state : State) × IsVisited p s state
 passed_found p order n s told (inl h) = h
 passed_found p order n s told (inr (undefined, (k, among, blocked))) =
     let h = told k among in absurd (passed_not_blocked p k h.0 h.1 blocked)
 
 -- the slot's state goes, where what it passes on is undefined
 pub come_cleared : (p : Subject) (order : List ℕ) (n s : ℕ) (links : Links) (states : List (Option State)) → s ≡ slice_index order n → n < length order →
-    s < length states → HasCome p order n links states → IsBlocked p s → HasCome p order (suc n) links (slice_set states s None)
+    s < length states → HasPropagated p order n links states → IsBlocked p s → HasPropagated p order (suc n) links (slice_set states s None)
 come_cleared p order n s links states at lt room h blocked =
     come_blocked p order n links states (slice_set states s None) lt h (length-set states s None)
     (λ k ne. get_or-set_other states s k None None (λ e. ne (e ∙ at)))
@@ -205,10 +205,10 @@ come_cleared p order n s links states at lt room h blocked =
 -- ---- the first fault
 
 -- one more has none of its own
-pub first_same : (p : Subject) (order : List ℕ) (n : ℕ) (first : Option Fault) → IsFirst p order n first → IsFound p order n (slice_index order n) None →
+pub first_same : (p : Subject) (order : List ℕ) (n : ℕ) (first : Option Fault) → IsFirst p order n first → IsVisitResult p order n (slice_index order n) None →
     IsFirst p order (suc n) first
 first_same p order n None told found = λ s m. elim (cases_eq s (slice_index order n)) [
-  | inl e ↦ subst (λ (k : ℕ). (state : State) × IsPassed p k state) (sym e) (passed_found p order n (slice_index order n) told found)
+  | inl e ↦ subst (λ (k : ℕ). (state : State) × IsVisited p k state) (sym e) (passed_found p order n (slice_index order n) told found)
   | inr ne ↦ told s (among_before order n s m ne)
 ]
 first_same p order n (Some f) told found = (
@@ -237,7 +237,7 @@ earlier_below g f = grind (arith, nat_tests)
 
 -- one more has one
 pub first_fault : (p : Subject) (order : List ℕ) (n : ℕ) (first : Option Fault) (f : Fault) → IsFirst p order n first →
-    IsFound p order n (slice_index order n) (Some f) → IsFirst p order (suc n) (Some (earlier first f))
+    IsVisitResult p order n (slice_index order n) (Some f) → IsFirst p order (suc n) (Some (earlier first f))
 first_fault p order n None f told (at, h) = (
   h,
   λ s m below.
@@ -276,45 +276,45 @@ second_allowed : (p : Subject) (s : ℕ) → insn_at p.code s ≡ None → IsAll
 second_allowed p s none i state there arrives = absurd (none_some (insn_at p.code s) i none there)
 
 -- nothing leads to the second slot of a wide instruction
-second_arrives : (p : Subject) (s : ℕ) → IsJoined p.code → IsArrive p (arrive p) → s < length p.code → insn_at p.code s ≡ None → arrive p s ≡ Nothing
+second_arrives : (p : Subject) (s : ℕ) → IsJoined p.code → AreInStates p (in_state p) → s < length p.code → insn_at p.code s ≡ None → in_state p s ≡ Unreached
 second_arrives p zero j h lt none = absurd (none_some (insn_at p.code 0) j.opens.0 none j.opens.1)
 second_arrives p (suc s) j h lt none =
-    h (suc s) lt ∙ joined_over_stops p (arrive p) (suc s) 0 (length p.code) (length p.code) (omega arith)
+    h (suc s) lt ∙ joined_over_stops p (in_state p) (suc s) 0 (length p.code) (length p.code) (omega arith)
     (λ k from below fact edge. none_some (insn_at p.code (suc s)) (j.lands k fact (suc s) edge).1.0 none (j.lands k fact (suc s) edge).1.1)
 
 -- the list of what arrives
-pub arrived_at : (p : Subject) (s : ℕ) → s < length p.code → slice_index_or (arrived p) s None ≡ state_of (arrive p s)
-unfolding arrived
-arrived_at p s within = get_or-map-range_with_len (λ (k : ℕ). state_of (arrive p k)) 0 (length p.code) s s None within (omega arith)
+pub arrived_at : (p : Subject) (s : ℕ) → s < length p.code → slice_index_or (in_states p) s None ≡ state_of (in_state p s)
+unfolding in_states
+arrived_at p s within = get_or-map-range_with_len (λ (k : ℕ). state_of (in_state p k)) 0 (length p.code) s s None within (omega arith)
 
-pub arrived_long : (p : Subject) → length (arrived p) ≡ length p.code
-unfolding arrived
-arrived_long p = length-map-range_with_len (λ (k : ℕ). state_of (arrive p k)) 0 (length p.code)
+pub arrived_long : (p : Subject) → length (in_states p) ≡ length p.code
+unfolding in_states
+arrived_long p = length-map-range_with_len (λ (k : ℕ). state_of (in_state p k)) 0 (length p.code)
 
-arrival_back : (a : Arrival) → (a ≡ Undefined → ⊥) → arrival_of (state_of a) ≡ a
-arrival_back Nothing ne = refl
+arrival_back : (a : InState) → (a ≡ Undefined → ⊥) → in_state_of (state_of a) ≡ a
+arrival_back Unreached ne = refl
 arrival_back Undefined ne = absurd (ne refl)
-arrival_back (Comes state) ne = refl
+arrival_back (Reached state) ne = refl
 
 -- no instruction has a fault
-pub all_passed : (p : Subject) (order : List ℕ) (n : ℕ) → IsJoined p.code → IsOrder p.code order → IsArrive p (arrive p) → n ≡ length order →
-    IsFirst p order n None → IsTable p (arrived p)
+pub all_passed : (p : Subject) (order : List ℕ) (n : ℕ) → IsJoined p.code → IsOrder p.code order → AreInStates p (in_state p) → n ≡ length order →
+    IsFirst p order n None → IsTable p (in_states p)
 all_passed p order n j f solves all told = record {
   slots = arrived_long p;
-  each = λ s lt. ap arrival_of (arrived_at p s lt) ∙ arrival_back (arrive p s) (defined s lt);
+  each = λ s lt. ap in_state_of (arrived_at p s lt) ∙ arrival_back (in_state p s) (defined s lt);
   allowed = λ s. elim (begun_or_not p.code s) [
     | inl begins ↦ let h = told s (all_among p order n s f all begins) in allowed_passed p s h.0 h.1
     | inr none ↦ second_allowed p s none
   ];
 }
   where
-    defined : (s : ℕ) → s < length p.code → arrive p s ≡ Undefined → ⊥
+    defined : (s : ℕ) → s < length p.code → in_state p s ≡ Undefined → ⊥
     defined s lt undefined = elim (begun_or_not p.code s) [
-      | inl begins ↦ let h = told s (all_among p order n s f all begins) in never (arrive p s) h.0 undefined h.1.arrives
-      | inr none ↦ not_both (arrive p s) undefined (second_arrives p s j solves lt none)
+      | inl begins ↦ let h = told s (all_among p order n s f all begins) in never (in_state p s) h.0 undefined h.1.arrives
+      | inr none ↦ not_both (in_state p s) undefined (second_arrives p s j solves lt none)
     ]
       where
-        not_both : (a : Arrival) → a ≡ Undefined → a ≡ Nothing → ⊥
+        not_both : (a : InState) → a ≡ Undefined → a ≡ Unreached → ⊥
         not_both a x y = cc
 
 -- the first fault is at the lowest slot

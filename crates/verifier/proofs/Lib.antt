@@ -1,7 +1,6 @@
-pub mod StateLemmas
-pub mod ArgumentLemmas
 pub mod Options
 pub mod Arrivals
+pub mod Beginning
 pub mod Counting
 pub mod Linking
 pub mod Pulling

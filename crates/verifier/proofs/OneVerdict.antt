@@ -1,5 +1,5 @@
 -- A program has one verdict, but for want of memory.
-use Rattle.std.proofs.Common.{◌≡◌, ◌≢◌, ◌⊎◌, ℕ, suc, ◌+◌, ◌≤◌, ◌<◌, ◌==◌, List, [], ◌∷◌, ◌++◌, length, Some, None, Option, ap, sym, ◌∙◌, arith, refl, inl, inr, subst, if◌then◌else◌}
+use Rattle.std.proofs.Common.{◌≡◌, ◌≢◌, ◌⊎◌, ℕ, suc, ◌+◌, ◌≤◌, ◌<◌, List, [], ◌∷◌, ◌++◌, length, Some, None, Option, ap, sym, ◌∙◌, arith, refl, inl, inr, subst}
 use Rattle.std.specs.List.{AllByRecursion}
 use Rattle.std.proofs.lemmas.Bool.{cases_lt}
 use Rattle.std.proofs.lemmas.List.{length-append}
@@ -20,17 +20,17 @@ use Rattle.flow_graph.specs.Program.{code_of}
 use Rattle.flow_graph.specs.Refusals.{Refuses as RefusesFlow}
 use Rattle.flow_graph.proofs.OneRefusal.{one_refusal as one_flow}
 use Rattle.helpers.specs.Table.{Table}
-use Rattle.verifier.specs.declared.state.State.{State}
+use Rattle.instruction_rules.specs.declared.state.State.{State}
 use Rattle.verifier.specs.declared.refusals.Refusal.{Refusal}
 use Rattle.verifier.specs.declared.refusals.Refusal.TheVariants.{NeedTooLarge, Codec, Flow, UnsetRead, OutOfStack, OutOfPart, BadKind, PointerRange, FramePointer, NoHelper, NoMemory}
-use Rattle.verifier.specs.declared.rule.Rule.{Rule}
-use Rattle.verifier.specs.declared.rule.Rule.TheVariants as rule
-use Rattle.verifier.specs.Rules.{refusal_at}
-use Rattle.verifier.specs.States.{fault}
-use Rattle.verifier.specs.Arrive.{Subject, Arrival, Comes, arrive}
+use Rattle.instruction_rules.specs.declared.rule.Rule.{Rule}
+use Rattle.instruction_rules.specs.declared.rule.Rule.TheVariants as rule
+use Rattle.verifier.specs.RefusalCodes.{refusal_at}
+use Rattle.instruction_rules.specs.States.{fault}
+use Rattle.verifier.specs.InStates.{Subject, InState, Reached, in_state}
 use Rattle.verifier.specs.Verdict.{IsFirstFaulty, IsFaulty, IsTable, IsAllowedAt}
 use Rattle.verifier.specs.Checked.{Checked}
-use Rattle.verifier.specs.Refusals.{HasFlow, RefusesBytes, RefusesCode, Refuses, IsAccepted}
+use Rattle.verifier.specs.Refusals.{HasFlow, RefusesBytes, RefusesCode, RefusesProgram, IsAccepted}
 use Rattle.verifier.proofs.Options.{one_some}
 
 -- ---- bytes spell one program
@@ -95,7 +95,7 @@ not_flow code flow.NoMemory h r = r
 
 -- ---- the first fault of the states
 
-one_arrival : (a : Arrival) (s t : State) → a ≡ Comes s → a ≡ Comes t → s ≡ t
+one_arrival : (a : InState) (s t : State) → a ≡ Reached s → a ≡ Reached t → s ≡ t
 one_arrival a s t x y = cc
 
 one_rule : (o : Option Rule) (m n : Rule) → o ≡ Some m → o ≡ Some n → m ≡ n
@@ -110,7 +110,7 @@ not_allowed p slot rule f allowed = some_none (fault p.need p.helpers f.insn f.s
 same_rule : (p : Subject) (slot : ℕ) (m n : Rule) → IsFaulty p slot m → IsFaulty p slot n → m ≡ n
 same_rule p slot m n x y =
     let insn : x.insn ≡ y.insn = one_some (insn_at p.code slot) x.insn y.insn x.there y.there in
-    let state : x.state ≡ y.state = one_arrival (arrive p slot) x.state y.state x.arrives y.arrives in
+    let state : x.state ≡ y.state = one_arrival (in_state p slot) x.state y.state x.arrives y.arrives in
     one_rule (fault p.need p.helpers y.insn y.state) m n
     (subst (λ (s : State). fault p.need p.helpers y.insn s ≡ Some m) state (subst (λ (i : Insn). fault p.need p.helpers i x.state ≡ Some m) insn x.applies)) y.applies
 
@@ -154,7 +154,7 @@ abbrev IsOfKind : ℕ → List ℕ → Table → Refusal → Type 0
 IsOfKind need bytes helpers f =
     ((65536 < need) × (f ≡ NeedTooLarge)) ⊎ (OfCodec need bytes f ⊎ (OfFlow need bytes f ⊎ OfStates need bytes helpers f))
 
-kind_of : (need : ℕ) (bytes : List ℕ) (helpers : Table) (f : Refusal) → Refuses need bytes helpers f → f ≢ NoMemory → IsOfKind need bytes helpers f
+kind_of : (need : ℕ) (bytes : List ℕ) (helpers : Table) (f : Refusal) → RefusesProgram need bytes helpers f → f ≢ NoMemory → IsOfKind need bytes helpers f
 kind_of need bytes helpers NeedTooLarge r ne = inl (r, refl)
 kind_of need bytes helpers (Codec fault) r ne = inr (inl (record { small = r.0; fault = fault; refuses = r.1; is = refl }))
 kind_of need bytes helpers (Flow fault) r ne =
@@ -260,7 +260,7 @@ flow_states need bytes helpers f g x y =
     not_flow (code_of y.placed) x.fault y.flow (subst (λ (p : List Placed). RefusesCode (code_of p) x.fault) same x.refuses)
 
 -- two refusals of one program are one, but for want of memory
-pub one_refusal : (need : ℕ) (bytes : List ℕ) (helpers : Table) (f g : Refusal) → Refuses need bytes helpers f → Refuses need bytes helpers g →
+pub one_refusal : (need : ℕ) (bytes : List ℕ) (helpers : Table) (f g : Refusal) → RefusesProgram need bytes helpers f → RefusesProgram need bytes helpers g →
     f ≢ NoMemory → g ≢ NoMemory → f ≡ g
 one_refusal need bytes helpers f g r q fne gne = by_kind (kind_of need bytes helpers f r fne) (kind_of need bytes helpers g q gne)
   where
@@ -301,7 +301,7 @@ subjects m n s t c d x y z = cc
 
 -- a program that is accepted is refused for want of memory alone
 pub nothing_refused : (need : ℕ) (bytes : List ℕ) (helpers : Table) (v : Checked) (f : Refusal) → IsAccepted need bytes helpers v →
-    Refuses need bytes helpers f → f ≡ NoMemory
+    RefusesProgram need bytes helpers f → f ≡ NoMemory
 nothing_refused need bytes helpers v f a r = elim (memory_or f) [
   | inl e ↦ e
   | inr ne ↦ absurd (by_kind (kind_of need bytes helpers f r ne))

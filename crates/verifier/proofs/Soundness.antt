@@ -11,11 +11,11 @@ use Rattle.value_ranges.specs.declared.abs.Abs.TheVariants.{Unset}
 use Rattle.value_ranges.specs.Covers.{Covers}
 use Rattle.value_ranges.specs.Joins.{joined}
 use Rattle.value_ranges.proofs.MergeLemmas.{joined_covers}
-use Rattle.verifier.specs.declared.state.State.{State}
-use Rattle.verifier.specs.Covers.{abs_at, IsWithin}
-use Rattle.verifier.specs.States.{entry_state, passed, fault, of_registers, joined_state}
-use Rattle.verifier.specs.Arrive.{Subject, Arrival, Nothing, Undefined, Comes, met, over, joined_over, arrive}
-use Rattle.verifier.specs.Verdict.{IsTable, arrival_of}
+use Rattle.instruction_rules.specs.declared.state.State.{State}
+use Rattle.instruction_rules.specs.Covers.{abs_at, IsWithin}
+use Rattle.instruction_rules.specs.States.{entry_state, transferred, fault, of_registers, joined_state}
+use Rattle.verifier.specs.InStates.{Subject, InState, Unreached, Undefined, Reached, joined_in_state, edge_state, joined_edges, in_state}
+use Rattle.verifier.specs.Verdict.{IsTable, in_state_of}
 use Rattle.verifier.proofs.Arrivals.{arrive_is, no_edge_back}
 use Rattle.verifier.proofs.Pulling.{over_is, landed_at}
 
@@ -54,98 +54,98 @@ within_right s t r v h =
     (joined_covers (abs_at s r) (abs_at t r) (joined (abs_at s r) (abs_at t r)) refl v (inr h))
 
 -- what comes in the one way is covered by what comes in the other
-abbrev pub Below : Arrival → Arrival → Type 0
-Below Nothing b = Unit {0}
+abbrev pub Below : InState → InState → Type 0
+Below Unreached b = Unit {0}
 Below a Undefined = Unit {0}
-Below (Comes s) (Comes t) = IsWithin s t
+Below (Reached s) (Reached t) = IsWithin s t
 Below _ _ = ⊥
 
-below_self : (a : Arrival) → Below a a
-below_self Nothing = tt
+below_self : (a : InState) → Below a a
+below_self Unreached = tt
 below_self Undefined = tt
-below_self (Comes s) = λ r v h. h
+below_self (Reached s) = λ r v h. h
 
-below_trans : (a b c : Arrival) → Below a b → Below b c → Below a c
-below_trans Nothing b c p q = tt
+below_trans : (a b c : InState) → Below a b → Below b c → Below a c
+below_trans Unreached b c p q = tt
 below_trans Undefined Undefined Undefined p q = tt
-below_trans (Comes s) Undefined Undefined p q = tt
-below_trans (Comes s) (Comes t) Undefined p q = tt
-below_trans (Comes s) (Comes t) (Comes u) p q = λ r v h. q r v (p r v h)
-below_trans Undefined Nothing c p q = absurd p
-below_trans Undefined (Comes t) c p q = absurd p
-below_trans Undefined Undefined Nothing p q = absurd q
-below_trans Undefined Undefined (Comes u) p q = absurd q
-below_trans (Comes s) Nothing c p q = absurd p
-below_trans (Comes s) Undefined Nothing p q = absurd q
-below_trans (Comes s) Undefined (Comes u) p q = absurd q
-below_trans (Comes s) (Comes t) Nothing p q = absurd q
+below_trans (Reached s) Undefined Undefined p q = tt
+below_trans (Reached s) (Reached t) Undefined p q = tt
+below_trans (Reached s) (Reached t) (Reached u) p q = λ r v h. q r v (p r v h)
+below_trans Undefined Unreached c p q = absurd p
+below_trans Undefined (Reached t) c p q = absurd p
+below_trans Undefined Undefined Unreached p q = absurd q
+below_trans Undefined Undefined (Reached u) p q = absurd q
+below_trans (Reached s) Unreached c p q = absurd p
+below_trans (Reached s) Undefined Unreached p q = absurd q
+below_trans (Reached s) Undefined (Reached u) p q = absurd q
+below_trans (Reached s) (Reached t) Unreached p q = absurd q
 
-met_left : (a b : Arrival) → Below a (met a b)
-met_left Nothing b = tt
-met_left Undefined Nothing = tt
+met_left : (a b : InState) → Below a (joined_in_state a b)
+met_left Unreached b = tt
+met_left Undefined Unreached = tt
 met_left Undefined Undefined = tt
-met_left Undefined (Comes t) = tt
-met_left (Comes s) Nothing = below_self (Comes s)
-met_left (Comes s) Undefined = tt
-met_left (Comes s) (Comes t) = within_left s t
+met_left Undefined (Reached t) = tt
+met_left (Reached s) Unreached = below_self (Reached s)
+met_left (Reached s) Undefined = tt
+met_left (Reached s) (Reached t) = within_left s t
 
-met_right : (a b : Arrival) → Below b (met a b)
-met_right Nothing b = below_self b
-met_right Undefined Nothing = tt
+met_right : (a b : InState) → Below b (joined_in_state a b)
+met_right Unreached b = below_self b
+met_right Undefined Unreached = tt
 met_right Undefined Undefined = tt
-met_right Undefined (Comes t) = tt
-met_right (Comes s) Nothing = tt
-met_right (Comes s) Undefined = tt
-met_right (Comes s) (Comes t) = within_right s t
+met_right Undefined (Reached t) = tt
+met_right (Reached s) Unreached = tt
+met_right (Reached s) Undefined = tt
+met_right (Reached s) (Reached t) = within_right s t
 
 -- each of the three edges of a slot is below the join with them
-below_three : (x a b c : Arrival) (fact : Fact) (e : Fact → Arrival) → e Always ≡ a → e NotTaken ≡ b → e Taken ≡ c →
-    Below (e fact) (met (met (met x a) b) c)
+below_three : (x a b c : InState) (fact : Fact) (e : Fact → InState) → e Always ≡ a → e NotTaken ≡ b → e Taken ≡ c →
+    Below (e fact) (joined_in_state (joined_in_state (joined_in_state x a) b) c)
 below_three x a b c Always e p q r = rw p
-    (below_trans a (met x a) (met (met (met x a) b) c) (met_right x a)
-    (below_trans (met x a) (met (met x a) b) (met (met (met x a) b) c) (met_left (met x a) b) (met_left (met (met x a) b) c)))
+    (below_trans a (joined_in_state x a) (joined_in_state (joined_in_state (joined_in_state x a) b) c) (met_right x a)
+    (below_trans (joined_in_state x a) (joined_in_state (joined_in_state x a) b) (joined_in_state (joined_in_state (joined_in_state x a) b) c) (met_left (joined_in_state x a) b) (met_left (joined_in_state (joined_in_state x a) b) c)))
 below_three x a b c NotTaken e p q r = rw q
-    (below_trans b (met (met x a) b) (met (met (met x a) b) c) (met_right (met x a) b) (met_left (met (met x a) b) c))
-below_three x a b c Taken e p q r = rw r (met_right (met (met x a) b) c)
+    (below_trans b (joined_in_state (joined_in_state x a) b) (joined_in_state (joined_in_state (joined_in_state x a) b) c) (met_right (joined_in_state x a) b) (met_left (joined_in_state (joined_in_state x a) b) c))
+below_three x a b c Taken e p q r = rw r (met_right (joined_in_state (joined_in_state x a) b) c)
 
-below_before : (x a b c : Arrival) → Below x (met (met (met x a) b) c)
+below_before : (x a b c : InState) → Below x (joined_in_state (joined_in_state (joined_in_state x a) b) c)
 below_before x a b c =
-    below_trans x (met x a) (met (met (met x a) b) c) (met_left x a)
-    (below_trans (met x a) (met (met x a) b) (met (met (met x a) b) c) (met_left (met x a) b) (met_left (met (met x a) b) c))
+    below_trans x (joined_in_state x a) (joined_in_state (joined_in_state (joined_in_state x a) b) c) (met_left x a)
+    (below_trans (joined_in_state x a) (joined_in_state (joined_in_state x a) b) (joined_in_state (joined_in_state (joined_in_state x a) b) c) (met_left (joined_in_state x a) b) (met_left (joined_in_state (joined_in_state x a) b) c))
 
 -- what passes an edge is below the join over all slots
-pub over_below : (subject : Subject) (a : ℕ → Arrival) (s p n : ℕ) (fact : Fact) → p < n → Below (over subject a s p fact) (joined_over subject a s n)
+pub over_below : (subject : Subject) (a : ℕ → InState) (s p n : ℕ) (fact : Fact) → p < n → Below (edge_state subject a s p fact) (joined_edges subject a s n)
 over_below subject a s p zero fact lt = absurd (omega arith)
 over_below subject a s p (suc n) fact lt = elim (cases_lt p n) [
-  | inl h ↦ below_trans (over subject a s p fact) (joined_over subject a s n) (joined_over subject a s (suc n)) (over_below subject a s p n fact h)
-      (below_before (joined_over subject a s n) (over subject a s n Always) (over subject a s n NotTaken) (over subject a s n Taken))
+  | inl h ↦ below_trans (edge_state subject a s p fact) (joined_edges subject a s n) (joined_edges subject a s (suc n)) (over_below subject a s p n fact h)
+      (below_before (joined_edges subject a s n) (edge_state subject a s n Always) (edge_state subject a s n NotTaken) (edge_state subject a s n Taken))
   | inr h ↦ let same : n ≡ p = omega arith in
-      subst (λ (k : ℕ). Below (over subject a s k fact) (joined_over subject a s (suc n))) same
-      (below_three (joined_over subject a s n) (over subject a s n Always) (over subject a s n NotTaken) (over subject a s n Taken) fact
-      (over subject a s n) refl refl refl)
+      subst (λ (k : ℕ). Below (edge_state subject a s k fact) (joined_edges subject a s (suc n))) same
+      (below_three (joined_edges subject a s n) (edge_state subject a s n Always) (edge_state subject a s n NotTaken) (edge_state subject a s n Taken) fact
+      (edge_state subject a s n) refl refl refl)
 ]
 
 -- a state that is below an arrival of the table
-found : (inner : State) (o : Option State) → Below (Comes inner) (arrival_of o) → (outer : State) × (o ≡ Some outer) × IsWithin inner outer
+found : (inner : State) (o : Option State) → Below (Reached inner) (in_state_of o) → (outer : State) × (o ≡ Some outer) × IsWithin inner outer
 found inner None h = absurd h
 found inner (Some outer) h = (outer, refl, h)
 
 pub edge_covered : (subject : Subject) (order : List ℕ) (states : List (Option State)) (p s : ℕ) (i : Insn) (state : State) (fact : Fact) →
     IsFlow (record { code = subject.code; order = order }) → IsTable subject states → p < length subject.code → insn_at subject.code p ≡ Some i →
-    arrive subject p ≡ Comes state → fault subject.need subject.helpers i state ≡ None →
-    IsEdge subject.code p fact s → (outer : State) × (state_in states s ≡ Some outer) × IsWithin (passed i fact state) outer
+    in_state subject p ≡ Reached state → fault subject.need subject.helpers i state ≡ None →
+    IsEdge subject.code p fact s → (outer : State) × (state_in states s ≡ Some outer) × IsWithin (transferred i fact state) outer
 edge_covered subject order states p zero i state fact f t lt x y z edge = absurd (no_edge_back subject.code order p fact f edge)
 edge_covered subject order states p (suc s) i state fact f t lt x y z edge =
     let l = f.joined.lands p fact (suc s) edge in
     let inside : suc s < length subject.code = l.0 in
-    let a : over subject (arrive subject) (suc s) p fact ≡ Comes (passed i fact state) =
-    sym (over_is subject (arrive subject) (suc s) p i fact state x y z) ∙ landed_at (leads_at subject.code p fact) (suc s) (Comes (passed i fact state)) edge in
-    let b : joined_over subject (arrive subject) (suc s) (length subject.code) ≡ arrival_of (state_in states (suc s)) =
+    let a : edge_state subject (in_state subject) (suc s) p fact ≡ Reached (transferred i fact state) =
+    sym (over_is subject (in_state subject) (suc s) p i fact state x y z) ∙ landed_at (leads_at subject.code p fact) (suc s) (Reached (transferred i fact state)) edge in
+    let b : joined_edges subject (in_state subject) (suc s) (length subject.code) ≡ in_state_of (state_in states (suc s)) =
     sym (t.each (suc s) inside ∙ arrive_is subject order f.joined f.order f.short (suc s) inside) in
-    found (passed i fact state) (state_in states (suc s))
-    (subst (λ (u : Arrival). Below u (arrival_of (state_in states (suc s)))) a
-    (subst (λ (u : Arrival). Below (over subject (arrive subject) (suc s) p fact) u) b
-    (over_below subject (arrive subject) (suc s) p (length subject.code) fact lt)))
+    found (transferred i fact state) (state_in states (suc s))
+    (subst (λ (u : InState). Below u (in_state_of (state_in states (suc s)))) a
+    (subst (λ (u : InState). Below (edge_state subject (in_state subject) (suc s) p fact) u) b
+    (over_below subject (in_state subject) (suc s) p (length subject.code) fact lt)))
 
 -- what the table says of the entry and of each edge
 pub record IsSoundTable (subject : Subject) (states : List (Option State)) : Type 0 where
@@ -154,7 +154,7 @@ pub record IsSoundTable (subject : Subject) (states : List (Option State)) : Typ
       fault subject.need subject.helpers i state ≡ None
   pub covered : (slot : ℕ) (i : Insn) (state : State) → insn_at subject.code slot ≡ Some i → state_in states slot ≡ Some state →
       (fact : Fact) (next : ℕ) → IsEdge subject.code slot fact next →
-      (outer : State) × (state_in states next ≡ Some outer) × IsWithin (passed i fact state) outer
+      (outer : State) × (state_in states next ≡ Some outer) × IsWithin (transferred i fact state) outer
 
 pub sound_of : (subject : Subject) (order : List ℕ) (states : List (Option State)) → IsFlow (record { code = subject.code; order = order }) →
     IsTable subject states → IsSoundTable subject states
@@ -170,12 +170,12 @@ sound_of subject order states f t = record {
       (t.allowed p i state x (arrives p i state x y)) edge;
 }
   where
-    first_of_all : (o : Option State) → arrival_of o ≡ Comes (entry_state subject.need) → o ≡ Some (entry_state subject.need)
+    first_of_all : (o : Option State) → in_state_of o ≡ Reached (entry_state subject.need) → o ≡ Some (entry_state subject.need)
     first_of_all None e = absurd (cc)
     first_of_all (Some state) e = cc
 
     inside : (p : ℕ) (i : Insn) → insn_at subject.code p ≡ Some i → p < length subject.code
     inside p i x = begins_within subject.code p (i, x)
 
-    arrives : (p : ℕ) (i : Insn) (state : State) → insn_at subject.code p ≡ Some i → state_in states p ≡ Some state → arrive subject p ≡ Comes state
-    arrives p i state x y = sym (t.each p (inside p i x)) ∙ ap arrival_of y
+    arrives : (p : ℕ) (i : Insn) (state : State) → insn_at subject.code p ≡ Some i → state_in states p ≡ Some state → in_state subject p ≡ Reached state
+    arrives p i state x y = sym (t.each p (inside p i x)) ∙ ap in_state_of y

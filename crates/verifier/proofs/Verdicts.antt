@@ -18,12 +18,12 @@ use Rattle.verifier.specs.declared.refusals.Refusal.TheVariants.{NeedTooLarge, C
 use Rattle.verifier.specs.RefusalCodes.{from_codec, from_flow}
 use Rattle.verifier.specs.Checked.{Checked, IsVerified}
 use Rattle.verifier.specs.Verdict.{IsTable, RefusesStates}
-use Rattle.verifier.specs.Refusals.{HasFlow, Refuses, IsAccepted}
+use Rattle.verifier.specs.Refusals.{HasFlow, RefusesProgram, IsAccepted}
 use Rattle.verifier.proofs.Soundness.{sound_of}
 
 -- the decoder's refusal
 pub codec_refused : (need : ℕ) (bytes : List ℕ) (helpers : Table) (fault : CodecFault) → need ≤ 65536 → IsRefusal fault bytes →
-    Refuses need bytes helpers (from_codec fault)
+    RefusesProgram need bytes helpers (from_codec fault)
 codec_refused need bytes helpers codec.Empty small h = (small, h)
 codec_refused need bytes helpers codec.Ragged small h = (small, h)
 codec_refused need bytes helpers codec.TooLong small h = (small, h)
@@ -35,7 +35,7 @@ codec_refused need bytes helpers codec.NoMemory small h = tt
 
 -- the graph's refusal
 pub flow_refused : (need : ℕ) (bytes : List ℕ) (helpers : Table) (placed : List Placed) (fault : FlowFault) → need ≤ 65536 →
-    IsProgram placed bytes → RefusesFlow (code_of placed) fault → Refuses need bytes helpers (from_flow fault)
+    IsProgram placed bytes → RefusesFlow (code_of placed) fault → RefusesProgram need bytes helpers (from_flow fault)
 flow_refused need bytes helpers placed (flow.JumpOut slot) small decoded h =
     record { small = small; placed = placed; decoded = decoded; refused = h }
 flow_refused need bytes helpers placed (flow.IntoWide slot) small decoded h =
@@ -57,7 +57,7 @@ flow_of code graph built = record {
 
 subject_refused : (need : ℕ) (bytes : List ℕ) (helpers : Table) (placed : List Placed) (refusal : Refusal) → need ≤ 65536 →
     IsProgram placed bytes → HasFlow (code_of placed) →
-    RefusesStates (record { need = need; helpers = helpers; code = code_of placed }) refusal → Refuses need bytes helpers refusal
+    RefusesStates (record { need = need; helpers = helpers; code = code_of placed }) refusal → RefusesProgram need bytes helpers refusal
 subject_refused need bytes helpers placed (UnsetRead slot) small decoded flow h =
     record { small = small; placed = placed; decoded = decoded; refused = record { flow = flow; first = h } }
 subject_refused need bytes helpers placed (OutOfStack slot) small decoded flow h =
@@ -80,7 +80,7 @@ subject_refused need bytes helpers placed (Flow fault) small decoded flow h = ab
 -- the states' refusal
 pub states_refused : (need : ℕ) (bytes : List ℕ) (helpers : Table) (placed : List Placed) (graph : ProgramFlow) (refusal : Refusal) → need ≤ 65536 →
     IsProgram placed bytes → IsBuilt (code_of placed) graph →
-    RefusesStates (record { need = need; helpers = helpers; code = graph.code }) refusal → Refuses need bytes helpers refusal
+    RefusesStates (record { need = need; helpers = helpers; code = graph.code }) refusal → RefusesProgram need bytes helpers refusal
 states_refused need bytes helpers placed graph refusal small decoded built h =
     subject_refused need bytes helpers placed refusal small decoded (flow_of (code_of placed) graph built)
     (subst (λ (code : Code). RefusesStates (record { need = need; helpers = helpers; code = code }) refusal) built.same h)

@@ -9,7 +9,8 @@ one_to (Some t) s = if t == s then 1 else 0
 
 -- how many edges lead from slot p to s: two from a conditional jump to the next slot
 abbrev pub edges_from : Code → ℕ → ℕ → ℕ
-edges_from code p s = one_to (leads_at code p Always) s + one_to (leads_at code p NotTaken) s + one_to (leads_at code p Taken) s
+edges_from code p s = one_to (leads_at code p Always) s + one_to (leads_at code p NotTaken) s
+    + one_to (leads_at code p Taken) s
 
 -- how many edges lead to s from the slots below n
 abbrev pub edges_below : Code → ℕ → ℕ → ℕ

@@ -1,4 +1,4 @@
--- The numbers of the refusals, and their slots.
+-- The numbers of the refusals, their slots, and the rules that they tell of.
 use Rattle.std.specs.Prelude.{ℕ, Option, Some, None}
 use Rattle.insn_codec.specs.declared.fault.CodecFault.{CodecFault}
 use Rattle.insn_codec.specs.declared.fault.CodecFault.TheVariants as codec
@@ -6,8 +6,9 @@ use Rattle.insn_codec.specs.Fault.{code_of_fault as number_of_codec, slot_of_fau
 use Rattle.flow_graph.specs.declared.fault.FlowFault.{FlowFault}
 use Rattle.flow_graph.specs.declared.fault.FlowFault.TheVariants as flow
 use Rattle.flow_graph.specs.FaultCodes.{code_of_fault as number_of_flow, slot_of_fault as flow_slot}
-use Rattle.verifier.specs.declared.rule.Rule.TheVariants as rule
-use Rattle.verifier.specs.Rules.{number_of_rule}
+use Rattle.instruction_rules.specs.declared.rule.Rule.{Rule}
+use Rattle.instruction_rules.specs.declared.rule.Rule.TheVariants as rule
+use Rattle.instruction_rules.specs.Rules.{number_of_rule}
 use Rattle.verifier.specs.declared.refusals.Refusal.{Refusal}
 use Rattle.verifier.specs.declared.refusals.Refusal.TheVariants.{NeedTooLarge, Codec, Flow, UnsetRead, OutOfStack, OutOfPart, BadKind, PointerRange, FramePointer, NoHelper, NoMemory}
 
@@ -47,3 +48,13 @@ from_codec fault = Codec fault
 abbrev pub from_flow : FlowFault → Refusal
 from_flow flow.NoMemory = NoMemory
 from_flow fault = Flow fault
+
+-- the refusal of an instruction that breaks the rule
+abbrev pub refusal_at : ℕ → Rule → Refusal
+refusal_at slot rule.UnsetRead = UnsetRead slot
+refusal_at slot rule.OutOfStack = OutOfStack slot
+refusal_at slot rule.OutOfPart = OutOfPart slot
+refusal_at slot rule.BadKind = BadKind slot
+refusal_at slot rule.PointerRange = PointerRange slot
+refusal_at slot rule.FramePointer = FramePointer slot
+refusal_at slot rule.NoHelper = NoHelper slot

@@ -4,18 +4,17 @@
 ghost use Rattle.std.specs.Prelude.{◌≡◌, ◌↔◌, ℕ, ◌<◌, length, reverse, Some, IsTrue, IfOk, false};
 ghost use Rattle.machine_model.specs.Edges.{Begins, Fact, IsEdge, insn_at};
 ghost use Rattle.flow_graph.specs.Cycles.{IsJoint};
-ghost use Rattle.verifier.specs.Arrive.{arrive, sent, Comes};
+ghost use Rattle.verifier.specs.InStates.{in_state, out_state, Reached};
 ghost use Rattle.verifier.specs.Between.{IsKeptState, IsSingleWay, is_jump};
-ghost use Rattle.verifier.specs.Coming.{IsPassed};
-ghost use Rattle.verifier.specs.Kept.{AreKept, state_of};
+ghost use Rattle.verifier.specs.Propagation.{IsVisited};
+ghost use Rattle.verifier.specs.Kept.{AreKeptStates, state_of};
 ghost use Rattle.verifier.specs.Survey.{subject_of};
 ghost use Rattle.verifier.specs.Verdict.{IsAllowedAt};
 
 use crate::kept::Kept;
-use crate::passing::pass;
-use crate::state::State;
-use crate::states::{Passage, Survey, passage_again};
+use crate::states::{Survey, Visited, visit_again};
 use flow_graph::{Graph, Next};
+use instruction_rules::{State, transfer};
 use refusal::NoMemory;
 use std::alloc::Global;
 
@@ -55,30 +54,30 @@ fn is_jump(next: Next, to: u32) -> bool
 }
 
 /// A state becomes what passes the only edge to the next slot.
-fn pass_on(survey: &Survey<'_>, from: u32, state: &mut State, next: u32)
-    requires passed { IsPassed (subject_of survey.now) from state.old }
+fn transfer_along(survey: &Survey<'_>, from: u32, state: &mut State, next: u32)
+    requires transferred { IsVisited (subject_of survey.now) from state.old }
     requires joint { IsJoint survey.now.graph.now.code from next }
     ensures { (fact : Fact) × IsEdge survey.now.graph.now.code from fact next
-        × (sent (subject_of survey.now) (insn_at survey.now.graph.now.code from) fact
-        (Comes state.old) ≡ Comes state.new) }
+        × (out_state (subject_of survey.now) (insn_at survey.now.graph.now.code from) fact
+        (Reached state.old) ≡ Reached state.new) }
 {
-    let passage = passage_again(survey, from, state);
-    let taken = is_jump(passage.next, next);
-    pass(state, passage.insn, taken, &passage.left);
+    let visited = visit_again(survey, from, state);
+    let taken = is_jump(visited.next, next);
+    transfer(state, visited.insn, taken, &visited.left);
 }
 
 /// The state at the end of a way of only edges, from the one at its first slot.
 fn along(survey: &Survey<'_>, first: u32, state: State, mut path: Vec<u32>, slot: u32) -> State
     requires way { IsSingleWay survey.now.graph.now.code first (reverse path.items) slot }
-    requires arrives { arrive (subject_of survey.now) first ≡ Comes state }
+    requires arrives { in_state (subject_of survey.now) first ≡ Reached state }
     requires allowed { (s : ℕ) → IsAllowedAt (subject_of survey.now) s }
-    ensures { arrive (subject_of survey.now) slot ≡ Comes result }
+    ensures { in_state (subject_of survey.now) slot ≡ Reached result }
 {
     let _slots = survey.graph.slots();
     let mut from = first;
     let mut state = state;
     while let Some(next) = path.pop() {
-        pass_on(survey, from, &mut state, next);
+        transfer_along(survey, from, &mut state, next);
         from = next;
     }
     state
@@ -94,9 +93,10 @@ pub(crate) fn state_between(
     slot: u32,
 ) -> Result<Option<State>, NoMemory>
     requires slot { slot < length survey.now.graph.now.code }
-    requires kept { AreKept (subject_of survey.now) kept.now (length survey.now.graph.now.code) }
+    requires kept { AreKeptStates (subject_of survey.now) kept.now
+        (length survey.now.graph.now.code) }
     requires allowed { (s : ℕ) → IsAllowedAt (subject_of survey.now) s }
-    ensures { IfOk result (λ state. state ≡ state_of (arrive (subject_of survey.now) slot)) }
+    ensures { IfOk result (λ state. state ≡ state_of (in_state (subject_of survey.now) slot)) }
 {
     let _slots = survey.graph.slots();
     if let Some(state) = kept_at(kept, slot) {

@@ -2,13 +2,12 @@
 
 ghost use Rattle.std.specs.Prelude.{◌≡◌, IfOk, if◌then◌else◌};
 ghost use Rattle.machine_model.specs.Edges.{NotTaken, Taken};
-ghost use Rattle.verifier.specs.Joining.{come_to};
-ghost use Rattle.verifier.specs.Judged.{left_by};
-ghost use Rattle.verifier.specs.States.{joined_state, passed};
+ghost use Rattle.instruction_rules.specs.Joining.{joined_into};
+ghost use Rattle.instruction_rules.specs.Judged.{destination_left};
+ghost use Rattle.instruction_rules.specs.States.{joined_state, transferred};
 
-use crate::passing::pass;
-use crate::state::State;
 use insn_codec::Insn;
+use instruction_rules::{State, transfer};
 use refusal::NoMemory;
 use std::alloc::Global;
 use std::marker::Model;
@@ -21,7 +20,7 @@ pub(crate) struct Held {
 }
 
 impl Model for Held {
-    ghost use Rattle.verifier.specs.declared.state.State.{State};
+    ghost use Rattle.instruction_rules.specs.declared.state.State.{State};
 
     ghost Value = { State };
 
@@ -47,18 +46,18 @@ impl Held {
 
     /// The state becomes what is known after an instruction.
     #[inline(always)]
-    pub(crate) fn pass(&mut self, insn: &Insn, taken: bool, left: &Abs)
-        requires { left.now ≡ left_by insn.now self.old }
-        ensures { self.new ≡ passed insn.now (if taken then Taken else NotTaken) self.old }
+    pub(crate) fn transfer(&mut self, insn: &Insn, taken: bool, left: &Abs)
+        requires { left.now ≡ destination_left insn.now self.old }
+        ensures { self.new ≡ transferred insn.now (if taken then Taken else NotTaken) self.old }
     {
-        pass(&mut self.state, insn, taken, left);
+        transfer(&mut self.state, insn, taken, left);
     }
 
-    /// The state comes to a place, besides what came before. The box that is needed no longer
-    /// serves a later copy.
+    /// Joins the state into the one at a place. A box that is no longer needed is reused for the
+    /// next copy.
     #[inline(always)]
-    pub(crate) fn come(self, place: &mut Option<Held>, boxes: &mut Boxes)
-        ensures { place.new ≡ come_to place.old self }
+    pub(crate) fn join_into(self, place: &mut Option<Held>, boxes: &mut Boxes)
+        ensures { place.new ≡ joined_into place.old self }
     {
         match place {
             Some(before) => {

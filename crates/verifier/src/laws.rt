@@ -6,27 +6,27 @@ ghost use Rattle.helpers.specs.Table.{Table};
 ghost use Rattle.verifier.specs.declared.refusals.Refusal.{Refusal};
 ghost use Rattle.verifier.specs.declared.refusals.Refusal.TheVariants.{NoMemory};
 ghost use Rattle.verifier.specs.Checked.{Checked};
-ghost use Rattle.verifier.specs.Refusals.{Refuses, IsAccepted};
-ghost use Rattle.verifier.specs.Arrive.{Subject, Arrival, IsArrive, arrive};
+ghost use Rattle.verifier.specs.Refusals.{RefusesProgram, IsAccepted};
+ghost use Rattle.verifier.specs.InStates.{Subject, InState, AreInStates, in_state};
 
 /// Of a program that has a graph, `arrive` solves its equation: the entry state arrives at the
 /// first slot, and elsewhere the join over all edges arrives.
-pub fn arrivals_are_joined()
+pub fn in_states_are_joined()
     ensures { (p : Subject) (order : List ℕ) → IsFlow (record { code = p.code; order = order })
-        → IsArrive p (arrive p) }
+        → AreInStates p (in_state p) }
 {}
 
 /// And nothing else solves it.
-pub fn arrivals_are_unique()
-    ensures { (p : Subject) (order : List ℕ) (other : ℕ → Arrival)
-        → IsFlow (record { code = p.code; order = order }) → IsArrive p other →
-        (s : ℕ) → s < length p.code → other s ≡ arrive p s }
+pub fn in_states_are_unique()
+    ensures { (p : Subject) (order : List ℕ) (other : ℕ → InState)
+        → IsFlow (record { code = p.code; order = order }) → AreInStates p other →
+        (s : ℕ) → s < length p.code → other s ≡ in_state p s }
 {}
 
 /// A program has one refusal at most, but for want of memory.
 pub fn one_refusal()
     ensures { (need : ℕ) (bytes : List ℕ) (helpers : Table) (f g : Refusal)
-        → Refuses need bytes helpers f → Refuses need bytes helpers g
+        → RefusesProgram need bytes helpers f → RefusesProgram need bytes helpers g
         → f ≢ NoMemory → g ≢ NoMemory → f ≡ g }
 {}
 
@@ -34,5 +34,5 @@ pub fn one_refusal()
 pub fn nothing_refused()
     ensures { (need : ℕ) (bytes : List ℕ) (helpers : Table) (v : Checked) (f : Refusal)
         → IsAccepted need bytes helpers v
-        → Refuses need bytes helpers f → f ≡ NoMemory }
+        → RefusesProgram need bytes helpers f → f ≡ NoMemory }
 {}

@@ -1,14 +1,14 @@
 //! Why a program is refused.
 
 ghost use Rattle.std.specs.Prelude.{◌≡◌, Some};
-ghost use Rattle.verifier.specs.Arrive.{Subject};
-ghost use Rattle.verifier.specs.RefusalCodes.{number_of, slot_of};
-ghost use Rattle.verifier.specs.Rules.{number_of_rule, refusal_at};
+ghost use Rattle.verifier.specs.InStates.{Subject};
+ghost use Rattle.verifier.specs.RefusalCodes.{number_of, refusal_at, slot_of};
+ghost use Rattle.instruction_rules.specs.Rules.{number_of_rule};
 ghost use Rattle.verifier.specs.Verdict.{IsFirstFaulty, RefusesStates};
 
-use crate::rule::Rule;
 use flow_graph::FlowFault;
 use insn_codec::CodecFault;
+use instruction_rules::Rule;
 use refusal::NoMemory;
 use std::alloc::{AllocError, AllocFailed};
 use thiserror::Error;

@@ -4,7 +4,7 @@ ghost use Rattle.std.specs.Prelude.{◌≡◌, ◌+◌, ℕ, ◌<◌, ◌≤◌,
 ghost use Rattle.machine_model.specs.Edges.{Begins};
 ghost use Rattle.flow_graph.specs.Cycles.{IsJoint};
 ghost use Rattle.flow_graph.specs.Flow.{AreNext};
-ghost use Rattle.verifier.specs.Coming.{IsPast};
+ghost use Rattle.verifier.specs.Propagation.{IsPast};
 ghost use Rattle.verifier.specs.Merges.{is_kept};
 ghost use Rattle.verifier.specs.Sources.{AreLinked, IsLinked, link_of};
 
@@ -32,7 +32,12 @@ impl Model for Sources {
 
     ghost Value = { Links };
 
-    ghost view = { λ t. record { first = t.first.items; following = t.following.items; taken = t.taken.items; edges = t.edges.items } };
+    ghost view = { λ t. record {
+      first = t.first.items;
+      following = t.following.items;
+      taken = t.taken.items;
+      edges = t.edges.items;
+    } };
 }
 
 impl Sources {

@@ -1,33 +1,33 @@
-//! What arrives at each slot, along a program's order.
+//! The in-state of each slot: a dataflow analysis that visits a program's instructions in an order
+//! in which each edge leads to a later place.
 
 ghost use Rattle.std.specs.Prelude.{◌≡◌, ◌≢◌, ℕ, ◌+◌, ◌<◌, ◌≤◌, length, slice_index, slice_index_or, suc, Option, Some, None, true, IfOk, OnOk, MatchResult, if◌then◌else◌};
 ghost use Rattle.machine_model.specs.Edges.{Begins, insn_at, leads_at, Always, NotTaken, Taken};
 ghost use Rattle.predecoding.specs.declared.region.Region.TheVariants.{Stack};
 ghost use Rattle.flow_graph.specs.Cycles.{IsJoint};
 ghost use Rattle.flow_graph.specs.Flow.{AreNext};
-ghost use Rattle.verifier.specs.declared.state.State.{State};
-ghost use Rattle.verifier.specs.States.{entry_state, passed};
-ghost use Rattle.verifier.specs.Judged.{left_by};
-ghost use Rattle.verifier.specs.Arrive.{arrive, met, landed, Comes};
-ghost use Rattle.verifier.specs.Verdict.{RefusesStates, arrival_of};
-ghost use Rattle.verifier.specs.Coming.{HasCome, IsAmong, IsFound, IsPassed, earlier};
+ghost use Rattle.instruction_rules.specs.declared.state.State.{State};
+ghost use Rattle.instruction_rules.specs.States.{entry_state, transferred};
+ghost use Rattle.instruction_rules.specs.Judged.{destination_left};
+ghost use Rattle.verifier.specs.InStates.{in_state, joined_in_state, if_leads_to, Reached};
+ghost use Rattle.verifier.specs.Verdict.{RefusesStates, in_state_of};
+ghost use Rattle.verifier.specs.Propagation.{HasPropagated, IsAmong, IsVisitResult, IsVisited, earlier};
 ghost use Rattle.helpers.specs.Table.{Table};
-ghost use Rattle.verifier.specs.Kept.{AreKept};
+ghost use Rattle.verifier.specs.Kept.{AreKeptStates};
 ghost use Rattle.verifier.specs.Merges.{is_kept};
 ghost use Rattle.verifier.specs.Sources.{IsLinked, IsNextSource};
 ghost use Rattle.verifier.specs.Survey.{subject_of, IsRegionThere, IsSurveyed};
+ghost use Rattle.machine_model.specs.Limits.{max_part};
 
-use crate::allowed::judge;
 use crate::held::{Boxes, Held};
 use crate::kept::Kept;
 use crate::refusals::Refusal;
 use crate::regions::region_there;
-use crate::rule::Rule;
 use crate::sources::Sources;
-use crate::state::State;
 use flow_graph::{Graph, Next};
 use helpers::HelperTable;
 use insn_codec::Insn;
+use instruction_rules::{Rule, State, judge};
 use predecoding::Region;
 use refusal::NoMemory;
 use std::alloc::Global;
@@ -48,18 +48,19 @@ pub(crate) struct Survey<'a> {
     pub(crate) graph: &'a Graph,
 }
 
-/// An instruction that is passed: its slot, where it leads, and what it leaves in its destination.
+/// An instruction that was visited: its slot, where it leads, and what it leaves in its
+/// destination.
 #[derive(Clone, Copy)]
-pub(crate) struct Passage<'a> {
+pub(crate) struct Visited<'a> {
     pub(crate) from: u32,
     pub(crate) next: Next,
     pub(crate) insn: &'a Insn,
     pub(crate) left: Abs,
 }
 
-/// The state at a place, which stays there if it is needed further.
+/// The state at a place: a copy if the place keeps it, else the state itself.
 #[inline(always)]
-fn hand_over(
+fn take_or_copy(
     boxes: &mut Boxes,
     place: &mut Option<Held>,
     keep: bool,
@@ -76,134 +77,135 @@ fn hand_over(
     }
 }
 
-/// What the instruction at a slot passes on along one edge comes to another slot, besides what came
-/// before. Its state stays if it is needed further.
-fn send(
+/// Joins the state that leaves a visited instruction along one edge into the in-state of `to`. The
+/// visited slot keeps its own state if `keep`.
+fn propagate_edge(
     boxes: &mut Boxes,
     states: &mut [Option<Held>],
-    passage: &Passage<'_>,
+    visited: &Visited<'_>,
     to: u32,
     taken: bool,
     keep: bool,
 ) -> Result<(), NoMemory>
-    requires other { passage.now.from ≢ to }
-    requires from { passage.now.from < length states.old }
+    requires other { visited.now.from ≢ to }
+    requires from { visited.now.from < length states.old }
     requires to { to < length states.old }
-    requires left { (state : State) → Some state ≡ slice_index_or states.old passage.now.from None
-        → passage.now.left ≡ left_by passage.now.insn.now state }
+    requires left { (state : State) → Some state ≡ slice_index_or states.old visited.now.from None
+        → visited.now.left ≡ destination_left visited.now.insn.now state }
     ensures slots { OnOk result (length states.new ≡ length states.old) }
-    ensures others { OnOk result ((s : ℕ) → s ≢ to → s ≢ passage.now.from
+    ensures others { OnOk result ((s : ℕ) → s ≢ to → s ≢ visited.now.from
         → slice_index_or states.new s None ≡ slice_index_or states.old s None) }
-    ensures from { OnOk result (slice_index_or states.new passage.now.from None
-        ≡ if keep then slice_index_or states.old passage.now.from None else None) }
-    ensures met { OnOk result ((state : State)
-        → Some state ≡ slice_index_or states.old passage.now.from None →
-        arrival_of (slice_index_or states.new to None)
-        ≡ met (arrival_of (slice_index_or states.old to None))
-        (Comes (passed passage.now.insn.now (if taken then Taken else NotTaken) state))) }
+    ensures from { OnOk result (slice_index_or states.new visited.now.from None
+        ≡ if keep then slice_index_or states.old visited.now.from None else None) }
+    ensures joined { OnOk result ((state : State)
+        → Some state ≡ slice_index_or states.old visited.now.from None →
+        in_state_of (slice_index_or states.new to None)
+        ≡ joined_in_state (in_state_of (slice_index_or states.old to None))
+        (Reached (transferred visited.now.insn.now (if taken then Taken else NotTaken) state))) }
 {
-    let held = hand_over(boxes, &mut states[passage.from as usize], keep)?;
+    let held = take_or_copy(boxes, &mut states[visited.from as usize], keep)?;
     if let Some(mut state) = held {
-        state.pass(passage.insn, taken, &passage.left);
-        state.come(&mut states[to as usize], boxes);
+        state.transfer(visited.insn, taken, &visited.left);
+        state.join_into(&mut states[to as usize], boxes);
     }
     Ok(())
 }
 
-/// What the instruction at a slot passes on comes to another slot along each edge that leads there.
+/// Joins what leaves a visited instruction along each edge to `to` into the in-state of `to`.
 #[inline(always)]
-fn carry(
+fn propagate_edges(
     boxes: &mut Boxes,
     states: &mut [Option<Held>],
     graph: &Graph,
-    passage: &Passage<'_>,
+    visited: &Visited<'_>,
     to: u32,
     keep: bool,
 ) -> Result<(), NoMemory>
-    requires next { AreNext graph.now.code passage.now.from passage.now.next }
-    requires joint { IsJoint graph.now.code passage.now.from to }
-    requires other { passage.now.from ≢ to }
+    requires next { AreNext graph.now.code visited.now.from visited.now.next }
+    requires joint { IsJoint graph.now.code visited.now.from to }
+    requires other { visited.now.from ≢ to }
     requires slots { length states.old ≡ length graph.now.code }
-    requires from { passage.now.from < length states.old }
+    requires from { visited.now.from < length states.old }
     requires to { to < length states.old }
-    requires left { (state : State) → Some state ≡ slice_index_or states.old passage.now.from None
-        → passage.now.left ≡ left_by passage.now.insn.now state }
+    requires left { (state : State) → Some state ≡ slice_index_or states.old visited.now.from None
+        → visited.now.left ≡ destination_left visited.now.insn.now state }
     ensures slots { OnOk result (length states.new ≡ length states.old) }
-    ensures others { OnOk result ((s : ℕ) → s ≢ to → s ≢ passage.now.from
+    ensures others { OnOk result ((s : ℕ) → s ≢ to → s ≢ visited.now.from
         → slice_index_or states.new s None ≡ slice_index_or states.old s None) }
-    ensures from { OnOk result (slice_index_or states.new passage.now.from None
-        ≡ if keep then slice_index_or states.old passage.now.from None else None) }
-    ensures met { OnOk result ((state : State)
-        → Some state ≡ slice_index_or states.old passage.now.from None →
-        arrival_of (slice_index_or states.new to None)
-        ≡ met (met (met (arrival_of (slice_index_or states.old to None))
-        (landed (leads_at graph.now.code passage.now.from Always) to
-        (Comes (passed passage.now.insn.now Always state))))
-        (landed (leads_at graph.now.code passage.now.from NotTaken) to
-        (Comes (passed passage.now.insn.now NotTaken state))))
-        (landed (leads_at graph.now.code passage.now.from Taken) to
-        (Comes (passed passage.now.insn.now Taken state)))) }
+    ensures from { OnOk result (slice_index_or states.new visited.now.from None
+        ≡ if keep then slice_index_or states.old visited.now.from None else None) }
+    ensures joined { OnOk result ((state : State)
+        → Some state ≡ slice_index_or states.old visited.now.from None →
+        in_state_of (slice_index_or states.new to None)
+        ≡ joined_in_state (joined_in_state
+        (joined_in_state (in_state_of (slice_index_or states.old to None))
+        (if_leads_to (leads_at graph.now.code visited.now.from Always) to
+        (Reached (transferred visited.now.insn.now Always state))))
+        (if_leads_to (leads_at graph.now.code visited.now.from NotTaken) to
+        (Reached (transferred visited.now.insn.now NotTaken state))))
+        (if_leads_to (leads_at graph.now.code visited.now.from Taken) to
+        (Reached (transferred visited.now.insn.now Taken state)))) }
 {
-    match passage.next {
+    match visited.next {
         Next::Zero => unreachable!(),
-        Next::One(_) => send(boxes, states, passage, to, false, keep),
+        Next::One(_) => propagate_edge(boxes, states, visited, to, false, keep),
         Next::Two(following, target) => {
             if following != to {
-                return send(boxes, states, passage, to, true, keep);
+                return propagate_edge(boxes, states, visited, to, true, keep);
             }
             if target != to {
-                return send(boxes, states, passage, to, false, keep);
+                return propagate_edge(boxes, states, visited, to, false, keep);
             }
-            send(boxes, states, passage, to, false, true)?;
-            send(boxes, states, passage, to, true, keep)
+            propagate_edge(boxes, states, visited, to, false, true)?;
+            propagate_edge(boxes, states, visited, to, true, keep)
         }
     }
 }
 
-/// What the instruction at a slot passes on comes to another slot, which takes it next. The state
-/// at the first stays as long as it is needed.
+/// Propagates from a visited slot to `to`, whose next source it is. The visited slot keeps its
+/// state as long as another slot needs it.
 #[inline(always)]
-fn deliver(
+fn propagate_to(
     boxes: &mut Boxes,
     states: &mut [Option<Held>],
     sources: &mut Sources,
     graph: &Graph,
-    passage: &Passage<'_>,
+    visited: &Visited<'_>,
     to: u32,
 ) -> Result<(), NoMemory>
-    requires next { AreNext graph.now.code passage.now.from passage.now.next }
-    requires joint { IsJoint graph.now.code passage.now.from to }
+    requires next { AreNext graph.now.code visited.now.from visited.now.next }
+    requires joint { IsJoint graph.now.code visited.now.from to }
     requires linked { IsLinked graph.now.code sources.old }
     requires slots { length states.old ≡ length graph.now.code }
-    requires first { slice_index_or sources.old.first to None ≡ Some passage.now.from }
-    requires left { (state : State) → Some state ≡ slice_index_or states.old passage.now.from None
-        → passage.now.left ≡ left_by passage.now.insn.now state }
+    requires first { slice_index_or sources.old.first to None ≡ Some visited.now.from }
+    requires left { (state : State) → Some state ≡ slice_index_or states.old visited.now.from None
+        → visited.now.left ≡ destination_left visited.now.insn.now state }
     ensures linked { OnOk result (IsLinked graph.now.code sources.new) }
     ensures slots { OnOk result (length states.new ≡ length states.old) }
     ensures from { OnOk result ((state : State)
-        → Some state ≡ slice_index_or states.new passage.now.from None
-        → Some state ≡ slice_index_or states.old passage.now.from None) }
+        → Some state ≡ slice_index_or states.new visited.now.from None
+        → Some state ≡ slice_index_or states.old visited.now.from None) }
     ensures firsts { OnOk result ((s : ℕ) → s ≢ to
         → slice_index_or sources.new.first s None ≡ slice_index_or sources.old.first s None) }
     ensures first { OnOk result
-        (IsNextSource graph.now.code to (suc passage.now.from)
+        (IsNextSource graph.now.code to (suc visited.now.from)
         (slice_index_or sources.new.first to None)) }
-    ensures come { OnOk result ((need : ℕ) (helpers : Table) (n : ℕ) (state : State) →
-        HasCome (record { need = need; helpers = helpers; code = graph.now.code }) graph.now.order n
+    ensures propagated { OnOk result ((need : ℕ) (helpers : Table) (n : ℕ) (state : State) →
+        HasPropagated (record { need = need; helpers = helpers; code = graph.now.code }) graph.now.order n
         sources.old states.old →
-        IsAmong graph.now.order n passage.now.from → (IsAmong graph.now.order n to → ⊥) →
-        insn_at graph.now.code passage.now.from ≡ Some passage.now.insn.now →
-        slice_index_or states.old passage.now.from None ≡ Some state →
-        HasCome (record { need = need; helpers = helpers; code = graph.now.code }) graph.now.order n
+        IsAmong graph.now.order n visited.now.from → (IsAmong graph.now.order n to → ⊥) →
+        insn_at graph.now.code visited.now.from ≡ Some visited.now.insn.now →
+        slice_index_or states.old visited.now.from None ≡ Some state →
+        HasPropagated (record { need = need; helpers = helpers; code = graph.now.code }) graph.now.order n
         sources.new states.new) }
 {
     let slots = graph.slots();
-    prove!(passage.from < slots);
+    prove!(visited.from < slots);
     prove!(to < slots);
-    let keep = sources.is_kept(passage.from, graph)
-        || !sources.is_taken_beside(graph, passage.next, passage.from, to);
-    carry(boxes, states, graph, passage, to, keep)?;
-    sources.note(passage.next, passage.from, to);
+    let keep = sources.is_kept(visited.from, graph)
+        || !sources.is_taken_beside(graph, visited.next, visited.from, to);
+    propagate_edges(boxes, states, graph, visited, to, keep)?;
+    sources.note(visited.next, visited.from, to);
     Ok(())
 }
 
@@ -218,20 +220,20 @@ fn slot_at(graph: &Graph, place: usize) -> u32
     graph.order()[place]
 }
 
-/// An instruction that is passed with this state.
-pub(crate) fn passage_again<'a>(survey: &Survey<'a>, from: u32, state: &State) -> Passage<'a>
-    requires { IsPassed (subject_of survey.now) from state.now }
+/// The visit of an instruction with this in-state.
+pub(crate) fn visit_again<'a>(survey: &Survey<'a>, from: u32, state: &State) -> Visited<'a>
+    requires { IsVisited (subject_of survey.now) from state.now }
     ensures from { result.from ≡ from }
     ensures insn { insn_at survey.now.graph.now.code from ≡ Some result.insn.now }
     ensures next { AreNext survey.now.graph.now.code from result.next }
-    ensures left { result.left ≡ left_by result.insn.now state.now }
+    ensures left { result.left ≡ destination_left result.insn.now state.now }
 {
     let next = survey.graph.successors(from);
     match survey.graph.insn(from) {
         None => unreachable!(),
         Some(insn) => match judge(survey.need, survey.helpers, insn, state) {
             Err(_) => unreachable!(),
-            Ok(left) => Passage {
+            Ok(left) => Visited {
                 from,
                 next,
                 insn,
@@ -241,9 +243,9 @@ pub(crate) fn passage_again<'a>(survey: &Survey<'a>, from: u32, state: &State) -
     }
 }
 
-/// What came to the slot at a place out of turn comes there in turn, as far as it is there.
+/// Propagates to the slot at a place from those of its sources that were visited, lowest first.
 #[inline(always)]
-fn catch_up(
+fn propagate_waiting(
     boxes: &mut Boxes,
     states: &mut [Option<Held>],
     sources: &mut Sources,
@@ -251,10 +253,11 @@ fn catch_up(
     place: usize,
 ) -> Result<(), NoMemory>
     requires place { place < length survey.now.graph.now.order }
-    requires come { HasCome (subject_of survey.now) survey.now.graph.now.order place sources.old
+    requires propagated { HasPropagated (subject_of survey.now) survey.now.graph.now.order place
+        sources.old
         states.old }
-    ensures come { OnOk result
-        (HasCome (subject_of survey.now) survey.now.graph.now.order place sources.new
+    ensures propagated { OnOk result
+        (HasPropagated (subject_of survey.now) survey.now.graph.now.order place sources.new
         states.new) }
     ensures rest { OnOk result ((q : ℕ)
         → slice_index_or sources.new.first (slice_index survey.now.graph.now.order place) None
@@ -265,100 +268,99 @@ fn catch_up(
     let slots = survey.graph.slots();
     prove!(slot < slots);
     while let Some(from) = sources.first(slot) {
-        let passage = match &states[from as usize] {
+        let visited = match &states[from as usize] {
             None => return Ok(()),
-            Some(state) => passage_again(survey, from, state.get()),
+            Some(state) => visit_again(survey, from, state.get()),
         };
-        deliver(boxes, states, sources, survey.graph, &passage, slot)?;
+        propagate_to(boxes, states, sources, survey.graph, &visited, slot)?;
     }
     Ok(())
 }
 
-/// What the instruction at a slot passes on comes to a slot that it leads to, if it is its turn.
+/// Propagates from a visited slot to `to`, if it is the next source of `to`.
 #[inline(always)]
-fn reach(
+fn propagate_in_turn(
     boxes: &mut Boxes,
     states: &mut [Option<Held>],
     sources: &mut Sources,
     graph: &Graph,
-    passage: &Passage<'_>,
+    visited: &Visited<'_>,
     to: u32,
 ) -> Result<(), NoMemory>
-    requires next { AreNext graph.now.code passage.now.from passage.now.next }
-    requires joint { IsJoint graph.now.code passage.now.from to }
+    requires next { AreNext graph.now.code visited.now.from visited.now.next }
+    requires joint { IsJoint graph.now.code visited.now.from to }
     requires linked { IsLinked graph.now.code sources.old }
     requires slots { length states.old ≡ length graph.now.code }
-    requires left { (state : State) → Some state ≡ slice_index_or states.old passage.now.from None
-        → passage.now.left ≡ left_by passage.now.insn.now state }
+    requires left { (state : State) → Some state ≡ slice_index_or states.old visited.now.from None
+        → visited.now.left ≡ destination_left visited.now.insn.now state }
     ensures linked { OnOk result (IsLinked graph.now.code sources.new) }
     ensures slots { OnOk result (length states.new ≡ length states.old) }
     ensures from { OnOk result ((state : State)
-        → Some state ≡ slice_index_or states.new passage.now.from None
-        → Some state ≡ slice_index_or states.old passage.now.from None) }
-    ensures come { OnOk result ((need : ℕ) (helpers : Table) (n : ℕ) →
-        HasCome (record { need = need; helpers = helpers; code = graph.now.code }) graph.now.order n
+        → Some state ≡ slice_index_or states.new visited.now.from None
+        → Some state ≡ slice_index_or states.old visited.now.from None) }
+    ensures propagated { OnOk result ((need : ℕ) (helpers : Table) (n : ℕ) →
+        HasPropagated (record { need = need; helpers = helpers; code = graph.now.code }) graph.now.order n
         sources.old states.old →
-        IsAmong graph.now.order n passage.now.from → (IsAmong graph.now.order n to → ⊥) →
-        insn_at graph.now.code passage.now.from ≡ Some passage.now.insn.now →
-        HasCome (record { need = need; helpers = helpers; code = graph.now.code }) graph.now.order n
+        IsAmong graph.now.order n visited.now.from → (IsAmong graph.now.order n to → ⊥) →
+        insn_at graph.now.code visited.now.from ≡ Some visited.now.insn.now →
+        HasPropagated (record { need = need; helpers = helpers; code = graph.now.code }) graph.now.order n
         sources.new states.new) }
 {
     let slots = graph.slots();
-    prove!(passage.from < slots);
+    prove!(visited.from < slots);
     prove!(to < slots);
     match sources.first(to) {
-        Some(first) if first == passage.from => match &states[first as usize] {
-            Some(_) => deliver(boxes, states, sources, graph, passage, to),
+        Some(first) if first == visited.from => match &states[first as usize] {
+            Some(_) => propagate_to(boxes, states, sources, graph, visited, to),
             None => Ok(()),
         },
         _ => Ok(()),
     }
 }
 
-/// What the instruction at a slot passes on comes to the slots that it leads to, where it is its
-/// turn.
+/// Propagates from a visited slot to each slot that it leads to and whose next source it is.
 #[inline(always)]
-fn push_on(
+fn propagate(
     boxes: &mut Boxes,
     states: &mut [Option<Held>],
     sources: &mut Sources,
     graph: &Graph,
-    passage: &Passage<'_>,
+    visited: &Visited<'_>,
 ) -> Result<(), NoMemory>
-    requires next { AreNext graph.now.code passage.now.from passage.now.next }
-    requires insn { insn_at graph.now.code passage.now.from ≡ Some passage.now.insn.now }
+    requires next { AreNext graph.now.code visited.now.from visited.now.next }
+    requires insn { insn_at graph.now.code visited.now.from ≡ Some visited.now.insn.now }
     requires linked { IsLinked graph.now.code sources.old }
     requires slots { length states.old ≡ length graph.now.code }
-    requires left { (state : State) → Some state ≡ slice_index_or states.old passage.now.from None
-        → passage.now.left ≡ left_by passage.now.insn.now state }
-    ensures come { OnOk result ((need : ℕ) (helpers : Table) (n : ℕ) →
-        HasCome (record { need = need; helpers = helpers; code = graph.now.code }) graph.now.order
+    requires left { (state : State) → Some state ≡ slice_index_or states.old visited.now.from None
+        → visited.now.left ≡ destination_left visited.now.insn.now state }
+    ensures propagated { OnOk result ((need : ℕ) (helpers : Table) (n : ℕ) →
+        HasPropagated (record { need = need; helpers = helpers; code = graph.now.code }) graph.now.order
         (suc n) sources.old states.old →
-        n < length graph.now.order → slice_index graph.now.order n ≡ passage.now.from →
-        HasCome (record { need = need; helpers = helpers; code = graph.now.code }) graph.now.order
+        n < length graph.now.order → slice_index graph.now.order n ≡ visited.now.from →
+        HasPropagated (record { need = need; helpers = helpers; code = graph.now.code }) graph.now.order
         (suc n) sources.new states.new) }
 {
     let slots = graph.slots();
-    prove!(passage.from < slots);
-    match passage.next {
+    prove!(visited.from < slots);
+    match visited.next {
         Next::Zero => {
-            if !sources.is_kept(passage.from, graph) {
-                states[passage.from as usize] = None;
+            if !sources.is_kept(visited.from, graph) {
+                states[visited.from as usize] = None;
             }
             Ok(())
         }
-        Next::One(to) => reach(boxes, states, sources, graph, passage, to),
+        Next::One(to) => propagate_in_turn(boxes, states, sources, graph, visited, to),
         Next::Two(following, to) => {
-            reach(boxes, states, sources, graph, passage, following)?;
-            reach(boxes, states, sources, graph, passage, to)
+            propagate_in_turn(boxes, states, sources, graph, visited, following)?;
+            propagate_in_turn(boxes, states, sources, graph, visited, to)
         }
     }
 }
 
-/// What arrives at the slot at a place comes there, and its instruction is judged and passes it on.
-/// Tells its fault, if it has one of its own, and notes the region of its access.
+/// Visits the slot at a place: judges its instruction by its in-state, and propagates from there.
+/// Tells the instruction's fault if it has one, and notes the region of its access.
 #[inline(always)]
-fn examine(
+fn visit(
     boxes: &mut Boxes,
     states: &mut [Option<Held>],
     sources: &mut Sources,
@@ -367,14 +369,15 @@ fn examine(
     place: usize,
 ) -> Result<Option<Fault>, NoMemory>
     requires place { place < length survey.now.graph.now.order }
-    requires come { HasCome (subject_of survey.now) survey.now.graph.now.order place sources.old
+    requires propagated { HasPropagated (subject_of survey.now) survey.now.graph.now.order place
+        sources.old
         states.old }
     requires regions { length regions.old ≡ length survey.now.graph.now.code }
-    ensures come { OnOk result
-        (HasCome (subject_of survey.now) survey.now.graph.now.order (suc place) sources.new
+    ensures propagated { OnOk result
+        (HasPropagated (subject_of survey.now) survey.now.graph.now.order (suc place) sources.new
         states.new) }
     ensures found { IfOk result
-        (λ fault. IsFound (subject_of survey.now) survey.now.graph.now.order place
+        (λ fault. IsVisitResult (subject_of survey.now) survey.now.graph.now.order place
         (slice_index survey.now.graph.now.order place) fault) }
     ensures regions { OnOk result (length regions.new ≡ length regions.old) }
     ensures others { OnOk result ((s : ℕ) → s ≢ slice_index survey.now.graph.now.order place
@@ -383,7 +386,7 @@ fn examine(
         (IsRegionThere (subject_of survey.now) (slice_index survey.now.graph.now.order place)
         (slice_index_or regions.new (slice_index survey.now.graph.now.order place) Stack)) }
 {
-    catch_up(boxes, states, sources, survey, place)?;
+    propagate_waiting(boxes, states, sources, survey, place)?;
     let slot = slot_at(survey.graph, place);
     let slots = survey.graph.slots();
     prove!(slot < slots);
@@ -406,13 +409,13 @@ fn examine(
             Ok(Some(Fault { slot, rule }))
         }
         Ok(left) => {
-            let passage = Passage {
+            let visited = Visited {
                 from: slot,
                 next,
                 insn,
                 left,
             };
-            push_on(boxes, states, sources, survey.graph, &passage)?;
+            propagate(boxes, states, sources, survey.graph, &visited)?;
             Ok(None)
         }
     }
@@ -430,7 +433,7 @@ fn earlier(first: Option<Fault>, fault: Fault) -> Fault
 
 /// A place for the state at each slot, with the entry state at the first.
 fn places(alloc: Global, need: u32, slots: u32) -> Result<Vec<Option<Held>>, NoMemory>
-    requires need { need ≤ 65536 }
+    requires need { need ≤ max_part }
     requires slots { 0 < slots }
     ensures slots { IfOk result (λ states. length states.items ≡ slots) }
     ensures first { IfOk result (λ states. slice_index_or states.items 0 None
@@ -467,9 +470,10 @@ fn kept(
     requires there { (s : ℕ) → s < length survey.now.graph.now.code
         → is_kept survey.now.graph.now.code s ≡ true →
         (state : State) × (slice_index_or states.old s None ≡ Some state)
-        × (arrive (subject_of survey.now) s ≡ Comes state) }
+        × (in_state (subject_of survey.now) s ≡ Reached state) }
     ensures { IfOk result
-        (λ kept. AreKept (subject_of survey.now) kept.items (length survey.now.graph.now.code)) }
+        (λ kept. AreKeptStates (subject_of survey.now) kept.items
+        (length survey.now.graph.now.code)) }
 {
     let slots = survey.graph.slots();
     let mut kept = Vec::new(alloc);
@@ -492,7 +496,7 @@ pub(crate) fn states(
     helpers: &HelperTable,
     graph: &Graph,
 ) -> Result<Found, Refusal>
-    requires need { need ≤ 65536 }
+    requires need { need ≤ max_part }
     ensures { MatchResult result
         (λ found. IsSurveyed
         (record { need = need; helpers = helpers.now; code = graph.now.code }) found)
@@ -511,7 +515,7 @@ pub(crate) fn states(
     let mut boxes = Boxes::new(alloc);
     let mut first = None;
     for place in 0..graph.order().len() {
-        let fault = examine(
+        let fault = visit(
             &mut boxes,
             &mut states,
             &mut sources,

@@ -1,7 +1,8 @@
 //! Which programs are accepted.
 
 ghost use Rattle.std.specs.Prelude.{◌≤◌, ◌↔◌, IsTrue, MatchResult};
-ghost use Rattle.verifier.specs.Refusals.{Refuses, IsAccepted};
+ghost use Rattle.verifier.specs.Refusals.{RefusesProgram, IsAccepted};
+ghost use Rattle.machine_model.specs.Limits.{max_part};
 
 use crate::refusals::Refusal;
 use crate::regions::predecoded;
@@ -18,7 +19,7 @@ const GREATEST_NEED: u32 = 65536;
 
 /// A part may have the bytes that the program needs.
 fn is_small(need: u32) -> bool
-    ensures { IsTrue result ↔ (need ≤ 65536) }
+    ensures { IsTrue result ↔ (need ≤ max_part) }
 {
     need <= GREATEST_NEED
 }
@@ -33,7 +34,7 @@ pub fn verify(
     helpers: &HelperTable,
 ) -> Result<Verified, Refusal>
     ensures { MatchResult result (λ verified. IsAccepted need code.now helpers.now verified)
-        (λ refusal. Refuses need code.now helpers.now refusal) }
+        (λ refusal. RefusesProgram need code.now helpers.now refusal) }
 {
     if !is_small(need) {
         return Err(Refusal::NeedTooLarge);

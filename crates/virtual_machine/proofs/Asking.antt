@@ -1,13 +1,13 @@
 -- Whom a program may call.
 use Rattle.std.proofs.Common.{◌≡◌, ◌≢◌, ℕ, zero, suc, ◌-◌, ◌<◌, ◌==◌, nat_lt, refl, arith, Bool, true, false, List, Option, Some, None, slice_index_or, if◌then◌else◌}
-use Rattle.machine_model.specs.Machine.{State, Program, Entries, Effect, Goes, Ends, Spawns, Calls, Traps, spawned, paid, effect}
+use Rattle.machine_model.specs.Machine.{State, Program, Entries, Effect, Continues, Ends, Spawns, Calls, Traps, spawned, paid, effect}
 use Rattle.machine_model.proofs.Effects.{if_holds, effect_holds}
 use Rattle.helpers.specs.Table.{Table, own_arity, arity_in}
 use Rattle.virtual_machine.specs.Functions.{HaveFunctions, function_of}
 
 -- a call asks for a helper that is registered and isn't one of the machine's own, and leaves the part as it was
 abbrev pub Asks : Program → List ℕ → Effect → Type 0
-Asks p part (Goes s) = Unit {0}
+Asks p part (Continues s) = Unit {0}
 Asks p part (Ends r0 s) = Unit {0}
 Asks p part (Spawns birth taken refused) = Unit {0}
 Asks p part (Calls helper arguments caller) =
@@ -18,9 +18,9 @@ asks_spawned : (p : Program) (s : State) (program share cut arg answer : ℕ) �
 asks_spawned p s program share cut arg answer = if_holds (Asks p s.part) (answer == 0) _ _ (λ _. tt) (λ _. tt)
 
 pub asks_effect : (p : Program) (entries : Entries) (s : State) → Asks p s.part (effect p entries s)
-asks_effect p entries s = effect_holds (Asks p s.part) p entries s (λ _. tt) (λ i amount there le. record {
+asks_effect p entries s = effect_holds (Asks p s.part) p entries s (λ _. tt) (λ i amount there is_price le. record {
   traps = λ _. tt;
-  goes = λ next fact leads held size. tt;
+  goes = λ next fact leads left. tt;
   ends = λ r0. tt;
   spawns = λ program share cut arg on. asks_spawned p (paid s amount) program share cut arg _;
   calls = λ helper arity arguments on is other. (refl, other, arity, is);

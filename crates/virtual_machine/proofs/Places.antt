@@ -3,7 +3,7 @@ use Rattle.std.proofs.Common.{◌≡◌, ◌≢◌, ℕ, ◌+◌, ◌-◌, ◌<�
 use Rattle.std.proofs.lemmas.Bool.Decides.{nat_tests}
 use Rattle.std.proofs.lemmas.List.{get_or-set_same, get_or-set_other}
 use Rattle.helpers.specs.Table.{Table, arity_in}
-use Rattle.virtual_machine.specs.Functions.{HaveFunctions, function_of}
+use Rattle.virtual_machine.specs.Functions.{AreSameHelpers, HaveFunctions, function_of}
 
 over_64 : (place : ℕ) → nat_lt (place + 64) 64 ≡ false
 over_64 place = grind (arith, nat_tests)
@@ -24,6 +24,12 @@ pub have_same : {R : Type 0} (table : Table) (old new : List (Option R)) → Hav
     ((id : ℕ) → function_of new id ≡ function_of old id) → HaveFunctions table new
 have_same table old new have same place arity is none =
     have place arity is (sym (place_of old place) ∙ sym (same (place + 64)) ∙ place_of new place ∙ none)
+
+-- a table of the same helpers has the same functions
+pub have_alike : {R : Type 0} (table other : Table) (functions : List (Option R)) → AreSameHelpers table other → HaveFunctions other functions →
+    HaveFunctions table functions
+have_alike table other functions same have place arity is =
+    have place arity (sym (arity_place other place) ∙ sym (same (place + 64)) ∙ arity_place table place ∙ is)
 
 -- the function that was put at a place
 pub function_put : {R : Type 0} (functions : List (Option R)) (id : ℕ) (f : R) → 64 ≤ id → id - 64 < length functions →

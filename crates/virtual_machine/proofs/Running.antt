@@ -1,12 +1,12 @@
 -- The run of a single program, step by step.
 use Rattle.std.proofs.Common.{◌≡◌, ℕ, zero, suc, ◌<◌, ◌≤◌, ◌^◌, arith, length, refl, sym, subst, ap, ◌∙◌, List, Result, Some}
 use Rattle.machine_model.specs.Value.{Registers}
-use Rattle.machine_model.specs.Machine.{State, Effect, Goes, Ends, Spawns, Calls, Traps, answered, effect}
+use Rattle.machine_model.specs.Machine.{State, Effect, Continues, Ends, Spawns, Calls, Traps, answered, effect}
 use Rattle.virtual_machine.proofs.Asking.{Asks, asks_effect}
 use Rattle.machine_model.proofs.Splits.{Splits, splits_effect, Births, births_effect}
 use Rattle.machine_model.specs.Alone.{MayAnswer, Follows, EndsWithin, EndsAlone, no_entries}
 use Rattle.task_trees.specs.Solo.{entering}
-use Rattle.machine_model.specs.Job.{entry_registers}
+use Rattle.machine_model.specs.JobState.{entry_registers}
 use Rattle.helpers.specs.Piece.{Piece}
 use Rattle.helpers.specs.Table.{arity_in}
 use Rattle.helpers.specs.declared.spawner.SpawnRecord.{SpawnRecord}
@@ -14,15 +14,15 @@ use Rattle.verifier.specs.Checked.{Checked, IsVerified, program_of, cost_at}
 use Rattle.interpreter.specs.declared.frame.Frame.{Frame}
 use Rattle.interpreter.specs.declared.credit.Credit.{Credit}
 use Rattle.interpreter.specs.declared.frame.StepOut.TheVariants.{Went, Ended}
-use Rattle.interpreter.specs.Behind.{AreBehind, IsCovered, Did, state_of, entry_frame}
-use Rattle.interpreter.specs.Stretch.{GoesOn, spent_on}
+use Rattle.interpreter.specs.Representation.{RepresentsTask, IsCovered, StepEffect, state_of, entry_frame}
+use Rattle.interpreter.specs.Stretch.{ContinuesFor, spent_on}
 use Rattle.interpreter.proofs.Enters.{behind_entry, covered_entry}
 
 -- A task stands behind the frame, which leads from the start to wherever that task leads.
 pub record IsUnderWay (p : Checked) (may : MayAnswer) (start : State) (frame : Frame) (part : Piece) (credit : Credit) : Type 0 where
   pub covered : IsCovered p frame part credit
   pub registers : Registers
-  pub behind : AreBehind p frame registers
+  pub behind : RepresentsTask p frame registers
   pub leads : (r0 : ℕ) (last : State) → EndsAlone (program_of p) may (state_of frame part credit registers) r0 last →
       EndsAlone (program_of p) may start r0 last
   pub size : length part.bytes ≡ length start.part
@@ -36,7 +36,7 @@ more p may s next r0 last follows ends = (suc ends.0, follows ends.0 ends.1)
 -- what a step that went on leaves of a task: the next one, whose end is its own
 pub record Onward (p : Checked) (may : MayAnswer) (s : State) (frame : Frame) (part : Piece) (credit : Credit) (silent : Type 0) : Type 0 where
   pub registers : Registers
-  pub behind : AreBehind p frame registers
+  pub behind : RepresentsTask p frame registers
   pub leads : (r0 : ℕ) (last : State) → EndsAlone (program_of p) may (state_of frame part credit registers) r0 last →
       EndsAlone (program_of p) may s r0 last
   pub size : length part.bytes ≡ length s.part
@@ -50,8 +50,8 @@ AreAnswers p may asked quiet = (helper arity : ℕ) (arguments : List ℕ) (answ
 module _ (p : Checked) (may : MayAnswer) (s : State) (frame : Frame) (part : Piece) (credit : Credit) (quiet : Type 0)
     (told : SpawnRecord → Result (Unit {0}) SpawnRecord → Type 0) (asked : ℕ → List ℕ → ℕ → Type 0) (are : AreAnswers p may asked quiet) where
   went : (e : Effect) → effect (program_of p) no_entries s ≡ e → Splits s.part e → Births no_entries s.held e → Asks (program_of p) s.part e →
-      Did p e Went frame part credit quiet told asked → Onward p may s frame part credit quiet
-  went (Goes next) is splits births asks did = record {
+      StepEffect p e Went frame part credit quiet told asked → Onward p may s frame part credit quiet
+  went (Continues next) is splits births asks did = record {
     registers = next.registers;
     behind = did.0.1;
     leads = λ r0 last ends. more p may s next r0 last (λ n within. rw is within) (rw did.0.0 ends);
@@ -95,7 +95,7 @@ module _ (p : Checked) (may : MayAnswer) (start : State) (f : Frame) (part : Pie
   before = state_of f part credit way.registers
 
   -- a step that goes on
-  pub goes_on : AreAnswers p may asked quiet → Did p (effect (program_of p) no_entries before) Went f' part' credit' quiet told asked →
+  pub goes_on : AreAnswers p may asked quiet → StepEffect p (effect (program_of p) no_entries before) Went f' part' credit' quiet told asked →
       IsCovered p f' part' credit' → IsUnderWay p may start f' part' credit' × quiet
   goes_on are did covered =
       let on = went p may before f' part' credit' quiet told asked are (effect (program_of p) no_entries before) refl
@@ -112,10 +112,10 @@ module _ (p : Checked) (may : MayAnswer) (start : State) (f : Frame) (part : Pie
       )
 
   ended : (word : ℕ) (e : Effect) → effect (program_of p) no_entries before ≡ e → Splits part.bytes e →
-      Did p e (Ended word) f' part' credit' quiet told asked →
+      StepEffect p e (Ended word) f' part' credit' quiet told asked →
       (last : State) × EndsAlone (program_of p) may start word last × (part'.bytes ≡ last.part) × (length part'.bytes ≡ length start.part) × quiet
       × (credit'.used ≡ last.used)
-  ended word (Goes next) is splits did = absurd did
+  ended word (Continues next) is splits did = absurd did
   ended word (Ends r0 last) is splits did =
       let left : part'.bytes ≡ last.part = sym (ap (λ (t : State). t.part) did.1) in
       (last, way.leads word last (1, rw is (did.0, refl)), left, ap length (left ∙ splits) ∙ way.size, did.2, sym (ap (λ (t : State). t.used) did.1))
@@ -124,14 +124,14 @@ module _ (p : Checked) (may : MayAnswer) (start : State) (f : Frame) (part : Pie
   ended word (Traps trap) is splits did = absurd did
 
   -- a step at which the task ends
-  pub ends : (word : ℕ) → Did p (effect (program_of p) no_entries before) (Ended word) f' part' credit' quiet told asked →
+  pub ends : (word : ℕ) → StepEffect p (effect (program_of p) no_entries before) (Ended word) f' part' credit' quiet told asked →
       (last : State) × EndsAlone (program_of p) may start word last × (part'.bytes ≡ last.part) × (length part'.bytes ≡ length start.part) × quiet
       × (credit'.used ≡ last.used)
   ends word did = ended word (effect (program_of p) no_entries before) refl (splits_effect (program_of p) no_entries before) did
 
 -- a stretch of instructions that go on
 pub goes_far : (p : Checked) (may : MayAnswer) (start : State) (f : Frame) (part : Piece) (credit : Credit) → IsUnderWay p may start f part credit →
-    (n : ℕ) (mid : Frame) (mid_part : Piece) → GoesOn p credit n f part mid mid_part → IsUnderWay p may start mid mid_part (spent_on credit n)
+    (n : ℕ) (mid : Frame) (mid_part : Piece) → ContinuesFor p credit n f part mid mid_part → IsUnderWay p may start mid mid_part (spent_on credit n)
 goes_far p may start f part credit way zero mid mid_part goes =
     let none : credit ≡ spent_on credit zero = ap (λ u. let c : Credit = record { held = credit.held; used = u } in c) (omega arith) in
     rw (goes.0, goes.1) (subst (λ c. IsUnderWay p may start f part c) none way)

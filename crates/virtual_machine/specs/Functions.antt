@@ -1,6 +1,6 @@
 -- What the functions of a caller may answer.
 use Rattle.std.specs.Prelude.{◌≡◌, ◌≢◌, ℕ, ◌-◌, nat_lt, List, [], ◌∷◌, Option, Some, None, slice_index_or, if◌then◌else◌}
-use Rattle.helpers.specs.Table.{Table}
+use Rattle.helpers.specs.Table.{Table, arity_in}
 use Rattle.virtual_machine.specs.declared.registered.Registered.{Registered}
 
 -- what a function may answer to five arguments
@@ -19,7 +19,8 @@ to_list post (a ∷ b ∷ c ∷ d ∷ e ∷ f ∷ more) answer = ⊥
 
 -- what the function that a caller registered may answer
 abbrev pub answers : {X : Type 0} {g : _} → Registered X g → List ℕ → ℕ → Type 0
-answers {g = g} f = to_list (λ a b c d e answer. g.post f.function (a, (b, (c, (d, (e, tt))))) answer)
+answers {g = g} f = to_list (λ a b c d e answer.
+    g.post f.function (a, (b, (c, (d, (e, tt))))) answer)
 
 -- the function of this id, of which the first is 64
 abbrev pub function_of : {R : Type 0} → List (Option R) → ℕ → Option R
@@ -32,9 +33,15 @@ may_answer (Some f) arguments answer = answers f arguments answer
 
 -- there is a function of this id, which may answer so
 abbrev pub called : {X : Type 0} {g : _} → List (Option (Registered X g)) → ℕ → List ℕ → ℕ → Type 0
-called functions id arguments answer = (f : _) × (function_of functions id ≡ Some f) × answers f arguments answer
+called functions id arguments answer =
+    (f : _) × (function_of functions id ≡ Some f) × answers f arguments answer
+
+-- the same helpers, with the same numbers of arguments
+abbrev pub AreSameHelpers : Table → Table → Type 0
+AreSameHelpers table other = (id : ℕ) → arity_in table id ≡ arity_in other id
 
 -- each helper that was added to the table has a function
 abbrev pub HaveFunctions : {R : Type 0} → Table → List (Option R) → Type 0
 HaveFunctions table functions =
-    (place arity : ℕ) → slice_index_or table place None ≡ Some arity → slice_index_or functions place None ≢ None
+    (place arity : ℕ) → slice_index_or table place None ≡ Some arity
+    → slice_index_or functions place None ≢ None

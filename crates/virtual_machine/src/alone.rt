@@ -4,6 +4,7 @@ ghost use Rattle.std.specs.Prelude.{◌≡◌, ◌≤◌, length};
 ghost use Rattle.verifier.specs.Checked.{IsVerified, cost_at};
 ghost use Rattle.virtual_machine.specs.Functions.{HaveFunctions, called};
 ghost use Rattle.virtual_machine.specs.Executes.{RunsOn};
+ghost use Rattle.machine_model.specs.Limits.{max_part, max_credit};
 
 use crate::executed::Executed;
 use crate::functions::Functions;
@@ -21,10 +22,11 @@ pub fn run_alone(
     requires verified { IsVerified code.now }
     requires functions { HaveFunctions code.now.helpers functions.old.places.items }
     requires need { code.now.need ≤ length bytes.old }
-    requires small { length bytes.old ≤ 65536 }
+    requires small { length bytes.old ≤ max_part }
     requires cost { cost_at code.now 0 ≤ credit }
-    requires limit { credit ≤ 2147483647 }
-    ensures runs { RunsOn code.now (called functions.old.places.items) arg credit bytes.old result.r0
+    requires limit { credit ≤ max_credit }
+    ensures runs { RunsOn code.now (called functions.old.places.items) arg credit bytes.old
+        result.r0
         result.used bytes.new }
     ensures functions { functions.new ≡ functions.old }
 {

@@ -33,7 +33,7 @@ impl Functions {
     }
 
     /// Makes the places, where there are none.
-    pub fn make_room(&mut self, alloc: Global) -> Result<(), NoMemory>
+    pub(crate) fn make_room(&mut self, alloc: Global) -> Result<(), NoMemory>
         ensures room { OnOk result (64 ≤ length self.new.places.items) }
         ensures same { (id : ℕ)
             → function_of self.new.places.items id ≡ function_of self.old.places.items id }
@@ -45,7 +45,7 @@ impl Functions {
     }
 
     /// Registers the function of an id, in place of the one that it had.
-    pub fn put(&mut self, id: u32, registered: Registered)
+    pub(crate) fn put(&mut self, id: u32, registered: Registered)
         requires id { (64 ≤ id) × (id < 128) }
         requires room { 64 ≤ length self.old.places.items }
         ensures { self.new.places.items
@@ -79,7 +79,8 @@ impl Spawner for Functions {
 
     ghost spawns = { λ s child reply s'. (s' ≡ s) × (reply ≡ Err child) };
 
-    ghost calls = { λ s id arguments answer s'. (s' ≡ s) × may_answer (function_of s.places.items id) arguments answer };
+    ghost calls = { λ s id arguments answer s'. (s' ≡ s)
+        × may_answer (function_of s.places.items id) arguments answer };
 
     fn entry(&self, _program: u64) -> Option<Entry> {
         None

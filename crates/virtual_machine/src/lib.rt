@@ -9,7 +9,9 @@ mod registered;
 mod vm;
 mod vm_fault;
 
+pub use alone::run_alone;
 pub use executed::Executed;
+pub use functions::Functions;
 pub use register_fault::RegisterFault;
 pub use registered::Function;
 pub use vm::Vm;

@@ -3,10 +3,10 @@
 ghost use Rattle.std.specs.Prelude.{◌≡◌, ◌≢◌, ◌↔◌, ℕ, ◌==◌, ◌≤◌, ◌<◌, [], length, if◌then◌else◌, IsTrue, IsSome, IfOk, OnOk, OnErr, None, Some, MatchOption, MatchResult, option_map, IfErr};
 ghost use Rattle.helpers.specs.Table.{arity_in, job_table};
 ghost use Rattle.verifier.specs.Checked.{Checked};
-ghost use Rattle.verifier.specs.Refusals.{Refuses};
+ghost use Rattle.verifier.specs.Refusals.{RefusesProgram};
 ghost use Rattle.std.proofs.Props.{props};
-ghost use Rattle.virtual_machine.specs.Functions.{HaveFunctions, called, function_of};
-ghost use Rattle.virtual_machine.specs.Executes.{Executes, ExecutesOn, IsUnrunnable, IsSet};
+ghost use Rattle.virtual_machine.specs.Functions.{AreSameHelpers, HaveFunctions, called, function_of};
+ghost use Rattle.virtual_machine.specs.Executes.{Executes, ExecutesOn, IsUnrunnable, IsProgramOf};
 ghost use Rattle.virtual_machine.specs.Registering.{IsRegistrable, IsUnregistrable};
 
 use crate::alone::run_alone;
@@ -27,23 +27,25 @@ pub struct Vm {
     program: Option<Verified>,
     helpers: HelperTable,
     functions: Functions,
-    /// The program was verified with these helpers.
-    ghost same: { (p : Checked) → program ≡ Some p → p.helpers ≡ helpers } by { Prim.hlevel props },
+    /// The program was verified with the same helpers.
+    ghost same: { (p : Checked) → program ≡ Some p
+        → AreSameHelpers p.helpers helpers } by { Prim.hlevel props },
     /// Each helper that was registered has its function.
     ghost have: { HaveFunctions helpers functions.places.items },
 }
 
 impl Vm {
     ghost use Rattle.virtual_machine.specs.Holding.{program_in, helpers_in, functions_in};
+    ghost use Rattle.machine_model.specs.Limits.{max_part, max_credit};
 
     /// A machine with the program of this need and code, if they are given, and with the helpers of
     /// a job. The program's refusal is [`Refusal`]'s.
     pub fn new(alloc: Global, program: Option<(u32, &[u8])>) -> Result<Vm, Refusal>
         ensures program { MatchResult result
             (λ vm. MatchOption program.entry (program_in vm
-            ≡ None) (λ given. IsSet given.0 given.1.now job_table (program_in vm)))
+            ≡ None) (λ given. IsProgramOf given.0 given.1.now job_table (program_in vm)))
             (λ refusal. MatchOption program.entry ⊥
-            (λ given. Refuses given.0 given.1.now job_table refusal)) }
+            (λ given. RefusesProgram given.0 given.1.now job_table refusal)) }
         ensures helpers { IfOk result (λ vm. (helpers_in vm ≡ job_table) × (functions_in vm ≡ [])) }
     {
         let helpers = HelperTable::job();
@@ -62,8 +64,8 @@ impl Vm {
     /// refused, by the refusals of [`Refusal`], the program that was set stays.
     pub fn set_program(&mut self, alloc: Global, need: u32, code: &[u8]) -> Result<(), Refusal>
         ensures program { MatchResult result
-            (λ _. IsSet need code.now (helpers_in self.old) (program_in self.new))
-            (λ refusal. Refuses need code.now (helpers_in self.old) refusal
+            (λ _. IsProgramOf need code.now (helpers_in self.old) (program_in self.new))
+            (λ refusal. RefusesProgram need code.now (helpers_in self.old) refusal
             × (program_in self.new ≡ program_in self.old)) }
         ensures helpers { (helpers_in self.new ≡ helpers_in self.old)
             × (functions_in self.new ≡ functions_in self.old) }
@@ -72,9 +74,10 @@ impl Vm {
         Ok(())
     }
 
-    /// Sets a program that was verified before, which asks that it was with the machine's helpers.
+    /// Sets a program that was verified before, which asks that it was with the machine's helpers:
+    /// by each id a helper with as many arguments, or none.
     pub fn set_verified(&mut self, program: Verified)
-        requires { program.helpers ≡ helpers_in self.old }
+        requires { AreSameHelpers program.helpers (helpers_in self.old) }
         ensures program { program_in self.new ≡ Some program }
         ensures helpers { (helpers_in self.new ≡ helpers_in self.old)
             × (functions_in self.new ≡ functions_in self.old) }
@@ -148,7 +151,8 @@ impl Vm {
     ) -> Result<(), RegisterFault>
         requires callable { Function.IsAlwaysCallable function }
         ensures may { OnOk result (IsRegistrable id arity (program_in self.old)) }
-        ensures may_not { IfErr result (λ fault. IsUnregistrable id arity (program_in self.old) fault) }
+        ensures may_not { IfErr result (λ fault.
+            IsUnregistrable id arity (program_in self.old) fault) }
         ensures arity { OnOk result ((other : ℕ) →
             arity_in (helpers_in self.new) other
             ≡ (if other == id then Some arity else arity_in (helpers_in self.old) other)) }
@@ -184,8 +188,8 @@ impl Vm {
     /// and this credit, and gives R0 and what it used of the credit. Otherwise it is
     /// [`Vm::execute_program`].
     pub fn execute(&mut self, mem: &mut [u8], arg: u64, credit: u32) -> Result<Executed, VmFault>
-        requires small { length mem.old ≤ 65536 }
-        requires limit { credit ≤ 2147483647 }
+        requires small { length mem.old ≤ max_part }
+        requires limit { credit ≤ max_credit }
         ensures runs { MatchResult result
             (λ done. ExecutesOn (program_in self.old) (called (functions_in self.old)) arg credit
             mem.old done.r0 done.used mem.new)
@@ -222,8 +226,8 @@ impl Vm {
     /// the credit is under the program's cost, 43 the memory is shorter than the program's need.
     /// The run takes no memory of its own, so that 99 never comes.
     pub fn execute_program(&mut self, mem: &mut [u8], credit: u32) -> Result<u64, VmFault>
-        requires small { length mem.old ≤ 65536 }
-        requires limit { credit ≤ 2147483647 }
+        requires small { length mem.old ≤ max_part }
+        requires limit { credit ≤ max_credit }
         ensures runs { MatchResult result
             (λ r0. Executes (program_in self.old) (called (functions_in self.old)) credit mem.old r0
             mem.new)

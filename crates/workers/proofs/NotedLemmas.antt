@@ -6,7 +6,7 @@ use Rattle.verifier.specs.Checked.{Checked}
 use Rattle.credit_book.specs.declared.event.TaskEnd.{TaskEnd}
 use Rattle.credit_book.specs.declared.task.Outcome.{Outcome}
 use Rattle.credit_book.specs.declared.task.Ticket.{Ticket}
-use Rattle.task_trees.specs.Solo.{Asked}
+use Rattle.task_trees.specs.Solo.{SpawnRequest}
 use Rattle.workers.specs.declared.noting.Note.{Note}
 use Rattle.workers.specs.Outcomes.{IsOutcome, IsRunOf, IsUnrun, by_ran}
 use Rattle.workers.specs.Noted.{GivesAlone, NotedAlone, IsNoted, IsNoteOf, EndedAs, EndedAlone, as_noted, ended_alone}
@@ -20,13 +20,14 @@ pub all_snoc : {A : Type 0} (P : A → Type 0) (xs : List A) (x : A) → All P x
 all_snoc P xs x h here = All-append P xs (x ∷ []) h (all_one P x here)
 
 -- what a run is noted as
-pub noted_of : (programs : List Checked) (ticket : Ticket) (through : List Asked → Type 0) (outcome : Outcome) (program arg given : ℕ) →
+pub noted_of : (programs : List Checked) (ticket : Ticket) (through : List SpawnRequest → Type 0) (outcome : Outcome) (program arg given : ℕ) →
     program ≡ ticket.program → arg ≡ ticket.arg → given ≡ ticket.held → IsRunOf programs ticket through outcome →
     GivesAlone programs program arg given outcome.r0 outcome.used
 noted_of programs ticket through outcome program arg given e f g run = rw (e, f, g) record {
   program = run.program;
   named = run.named;
   bytes = ticket.part.bytes;
+  suffices = run.suffices;
   asked = run.run.alone.asked;
   last = run.run.alone.last;
   alone = run.run.alone.alone;
@@ -34,7 +35,7 @@ noted_of programs ticket through outcome program arg given e f g run = rw (e, f,
 }
 
 -- the same of an outcome that says that it ran
-pub noted_run : (programs : List Checked) (ticket : Ticket) (through : List Asked → Type 0) (silent : Type 0) (outcome : Outcome) (program arg given : ℕ) →
+pub noted_run : (programs : List Checked) (ticket : Ticket) (through : List SpawnRequest → Type 0) (silent : Type 0) (outcome : Outcome) (program arg given : ℕ) →
     program ≡ ticket.program → arg ≡ ticket.arg → given ≡ ticket.held → outcome.ran ≡ true → IsOutcome programs ticket through silent outcome →
     GivesAlone programs program arg given outcome.r0 outcome.used
 noted_run programs ticket through silent outcome program arg given e f g ran is =

@@ -3,17 +3,17 @@ use Rattle.std.proofs.Common.{◌≡◌, ℕ, ◌<◌, ◌≤◌, ◌^◌, List,
 use Rattle.std.specs.Prelude.{slice_get}
 use Rattle.machine_model.specs.Machine.{Entries}
 use Rattle.machine_model.specs.Value.{Registers}
-use Rattle.machine_model.specs.Job.{entries_of, entry_registers}
+use Rattle.machine_model.specs.JobState.{entries_of, entry_registers}
 use Rattle.helpers.specs.Piece.{Piece}
 use Rattle.verifier.specs.Checked.{Checked, IsVerified, program_of}
 use Rattle.interpreter.specs.declared.frame.Frame.{Frame}
 use Rattle.interpreter.specs.declared.credit.Credit.{Credit}
-use Rattle.interpreter.specs.Behind.{AreBehind, IsCovered, at_slot, state_of, entry_frame}
+use Rattle.interpreter.specs.Representation.{RepresentsTask, IsCovered, at_slot, state_of, entry_frame}
 use Rattle.interpreter.proofs.Enters.{behind_entry, covered_entry}
 use Rattle.credit_book.specs.declared.task.Outcome.{Outcome}
 use Rattle.credit_book.specs.declared.task.Ticket.{Ticket}
-use Rattle.task_trees.specs.Solo.{Asked, entering}
-use Rattle.solo.specs.Through.{RunsAlone}
+use Rattle.task_trees.specs.Solo.{SpawnRequest, entering}
+use Rattle.task_run.specs.Through.{RunsAlone}
 use Rattle.workers.specs.Outcomes.{IsOutcome, IsRunBy, IsRunOf, IsUnrun, Suffices, by_ran}
 
 module _ (c : Checked) (ticket : Ticket) (verified : IsVerified c) (suffices : Suffices c ticket) (small : length ticket.part.bytes ≤ 65536)
@@ -26,14 +26,14 @@ module _ (c : Checked) (ticket : Ticket) (verified : IsVerified c) (suffices : S
       (subst (λ (f : Frame). IsCovered c (at_slot f 0) ticket.part (record { held = ticket.held; used = 0 })) (sym entered)
       (covered_entry c ticket.part ticket.held ticket.arg verified suffices.fits small suffices.affords suffices.limit fits)))
 
-  pub alone_of : (entries : Entries) (through : ℕ → List Asked → Type 0) (r0 used : ℕ) (bytes : List ℕ) →
-      ((registers : Registers) → AreBehind c (at_slot frame 0) registers →
+  pub alone_of : (entries : Entries) (through : ℕ → List SpawnRequest → Type 0) (r0 used : ℕ) (bytes : List ℕ) →
+      ((registers : Registers) → RepresentsTask c (at_slot frame 0) registers →
       RunsAlone (program_of c) entries (state_of (at_slot frame 0) part credit registers) (through part.base) r0 used bytes) →
       RunsAlone (program_of c) entries (entering ticket.arg ticket.held ticket.part.bytes) (through ticket.part.base) r0 used bytes
   alone_of entries through r0 used bytes alone =
       let registers = entry_registers (length ticket.part.bytes) ticket.arg in
-      let behind : AreBehind c (at_slot frame 0) registers =
-      subst (λ (f : Frame). AreBehind c (at_slot f 0) registers) (sym entered)
+      let behind : RepresentsTask c (at_slot frame 0) registers =
+      subst (λ (f : Frame). RepresentsTask c (at_slot f 0) registers) (sym entered)
       (behind_entry c (length ticket.part.bytes) ticket.arg verified suffices.fits small fits) in
       subst (λ (k : Credit). RunsAlone (program_of c) entries
       (state_of (at_slot (entry_frame (length ticket.part.bytes) ticket.arg) 0) ticket.part k registers) (through ticket.part.base) r0 used bytes) paid
@@ -43,7 +43,7 @@ module _ (c : Checked) (ticket : Ticket) (verified : IsVerified c) (suffices : S
       (alone registers behind)))
 
 -- the outcome of a task that ran, whose spawner came back as it was left
-pub outcome_of : {S : Type 0} (programs : List Checked) (c : Checked) (entries : Entries) (ticket : Ticket) (through : S → List Asked → Type 0)
+pub outcome_of : {S : Type 0} (programs : List Checked) (c : Checked) (entries : Entries) (ticket : Ticket) (through : S → List SpawnRequest → Type 0)
     (silent : Type 0) (left back : S) (outcome : Outcome) → left ≡ back → entries ≡ entries_of (map program_of programs) →
     slice_get programs ticket.program ≡ Some c → Suffices c ticket → IsRunBy c entries ticket (through back) outcome →
     IsOutcome programs ticket (through left) silent outcome

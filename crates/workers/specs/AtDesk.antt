@@ -1,4 +1,5 @@
--- What a call at the desk leaves of the book under its lock, and whether the desk remembers a refusal.
+-- What a call at the desk leaves of the book under its lock, and whether the desk remembers a
+-- refusal.
 use Rattle.std.specs.Prelude.{◌≡◌, ◌⊎◌, List, [], ◌∷◌, ◌++◌, true, false}
 use Rattle.credit_book.specs.declared.event.Event.{Event}
 use Rattle.credit_book.specs.declared.event.Event.TheVariants.{Park, Claim}
@@ -6,34 +7,42 @@ use Rattle.credit_book.specs.declared.fault.BookFault.{BookFault}
 use Rattle.credit_book.specs.declared.task.Outcome.{Outcome}
 use Rattle.credit_book.specs.declared.task.Ticket.{Ticket}
 use Rattle.credit_book.specs.Books.{Account, IsEndFault, IsParkFault, end_event}
-use Rattle.workers.specs.declared.desk.Desk.{Desk}
-use Rattle.workers.specs.declared.desk.Found.{Found}
-use Rattle.workers.specs.declared.desk.Found.TheVariants.{Ready, Nothing, Refusal}
+use Rattle.workers.specs.declared.locked_book.LockedBook.{LockedBook}
+use Rattle.workers.specs.declared.locked_book.Found.{Found}
+use Rattle.workers.specs.declared.locked_book.Found.TheVariants.{Ready, Nothing, Refusal}
 
 -- the same book, to whose history this event has come
 abbrev pub HasMore : Account → Event → Account → Type 0
-HasMore old event new = (new.board ≡ old.board) × (new.size ≡ old.size) × (new.history ≡ old.history ++ event ∷ [])
+HasMore old event new =
+    (new.board ≡ old.board) × (new.size ≡ old.size) × (new.history ≡ old.history ++ event ∷ [])
 
 -- the ticket waits behind the others; or the book has refused it, and the desk remembers that
-abbrev pub IsParked : Desk → Ticket → Desk → Type 0
+abbrev pub IsParked : LockedBook → Ticket → LockedBook → Type 0
 IsParked old ticket new =
-    ((new.has_refused ≡ old.has_refused) × (new.book.waiting ≡ old.book.waiting ++ ticket ∷ []) × HasMore old.book (Park ticket.number) new.book)
-    ⊎ ((fault : BookFault) × IsParkFault old.book ticket fault × (new.has_refused ≡ true) × (new.book ≡ old.book))
+    ((new.has_refused ≡ old.has_refused) × (new.book.waiting ≡ old.book.waiting ++ ticket ∷ [])
+    × HasMore old.book (Park ticket.number) new.book)
+    ⊎ ((fault : BookFault) × IsParkFault old.book ticket fault × (new.has_refused ≡ true)
+    × (new.book ≡ old.book))
 
 -- the task has ended; or the book has refused that, and the desk remembers it
-abbrev pub IsEnded : Desk → Outcome → Desk → Type 0
+abbrev pub IsEnded : LockedBook → Outcome → LockedBook → Type 0
 IsEnded old outcome new =
-    ((new.has_refused ≡ old.has_refused) × (new.book.waiting ≡ old.book.waiting) × HasMore old.book (end_event outcome) new.book)
-    ⊎ ((fault : BookFault) × IsEndFault old.book outcome fault × (new.has_refused ≡ true) × (new.book ≡ old.book))
+    ((new.has_refused ≡ old.has_refused) × (new.book.waiting ≡ old.book.waiting)
+    × HasMore old.book (end_event outcome) new.book)
+    ⊎ ((fault : BookFault) × IsEndFault old.book outcome fault × (new.has_refused ≡ true)
+    × (new.book ≡ old.book))
 
 -- each of these tasks, in this order
-abbrev pub AreEnded : Desk → List Outcome → Desk → Type 0
+abbrev pub AreEnded : LockedBook → List Outcome → LockedBook → Type 0
 AreEnded old [] new = new ≡ old
-AreEnded old (outcome ∷ outcomes) new = (between : Desk) × IsEnded old outcome between × AreEnded between outcomes new
+AreEnded old (outcome ∷ outcomes) new =
+    (between : LockedBook) × IsEnded old outcome between × AreEnded between outcomes new
 
 -- the ticket that waited first, none where none waits, and a refusal where the desk remembers one
-abbrev pub IsFoundAt : Desk → Found → Desk → Type 0
+abbrev pub IsFoundAt : LockedBook → Found → LockedBook → Type 0
 IsFoundAt old (Ready ticket) new =
-    (old.has_refused ≡ false) × (new.has_refused ≡ false) × (old.book.waiting ≡ ticket ∷ new.book.waiting) × HasMore old.book (Claim ticket.number) new.book
+    (old.has_refused ≡ false) × (new.has_refused ≡ false)
+    × (old.book.waiting ≡ ticket ∷ new.book.waiting)
+    × HasMore old.book (Claim ticket.number) new.book
 IsFoundAt old Nothing new = (old.has_refused ≡ false) × (old.book.waiting ≡ []) × (new ≡ old)
 IsFoundAt old Refusal new = (old.has_refused ≡ true) × (new ≡ old)

@@ -6,12 +6,13 @@ use Rattle.credit_book.specs.declared.book.Report.{Report}
 use Rattle.credit_book.specs.History.{IsHistoryOf, IsComplete, table_of}
 use Rattle.credit_book.specs.Books.{IsReport}
 
--- The report is that of a legal history of this job with no live task, and of so many bytes. What was spent and returned adds up to what was
--- issued, and the tasks are numbered from 0 up.
+-- The report is that of a legal history of this job with no live task, and of so many bytes. What
+-- was spent and returned adds up to what was issued, and the tasks are numbered from 0 up.
 pub record IsFinal (job issued size : ℕ) (report : Report) : Type 0 where
   pub history : List Event
   pub legal : IsHistoryOf job issued history
   pub complete : IsComplete (table_of history)
   pub report_of : IsReport size history report
   pub whole : report.spent + report.returned ≡ issued
-  pub numbered : (n : ℕ) (task : TaskEnd) → slice_get report.tasks.items n ≡ Some task → task.number ≡ n
+  pub numbered : (n : ℕ) (task : TaskEnd) → slice_get report.tasks.items n ≡ Some task
+      → task.number ≡ n

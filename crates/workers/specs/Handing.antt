@@ -1,21 +1,55 @@
--- Where a new task's ticket goes, and the outcome of one that has run.
-use Rattle.std.specs.Prelude.{◌≡◌, ◌⊎◌, ℕ, List, [], ◌∷◌, ◌++◌}
+-- What a worker finds to run, where a new task's ticket goes, and the outcome of one that has run.
+use Rattle.std.specs.Prelude.{◌≡◌, ◌⊎◌, ℕ, List, [], ◌∷◌, ◌++◌, length}
 use Rattle.helpers.specs.declared.spawner.SpawnRecord.{SpawnRecord}
 use Rattle.credit_book.specs.declared.task.Outcome.{Outcome}
 use Rattle.credit_book.specs.declared.task.Ticket.{Ticket}
-use Rattle.credit_book.specs.Books.{ticket_of}
-use Rattle.lanes.specs.Interleaving.{with_pushed}
-use Rattle.lanes.specs.Sharing.{Moved}
+use Rattle.credit_book.specs.Books.{spawn_event, ticket_of}
+use Rattle.credit_book.specs.History.{table_of}
+use Rattle.lanes.specs.Sharing.{IsIdle, IsTaken, Moved, Puts}
+use Rattle.workers.specs.AtDesk.{HasMore, IsParked}
+use Rattle.workers.specs.declared.locked_book.LockedBook.{LockedBook}
+use Rattle.workers.specs.declared.locked_book.Found.{Found}
+use Rattle.workers.specs.declared.locked_book.Found.TheVariants.{Ready, Nothing, Refusal}
 
--- into the worker's own lane, or, where there was no room for it, elsewhere; no lane lost anything by it
+-- The ticket is of a lane, or was parked where the worker's own lane had none. It is the task whose
+-- turn it is. Where the book has refused an end a ticket may have been taken, which nobody runs any
+-- more.
+abbrev pub Finds : Moved → Found → Moved → ℕ → Type 0
+Finds old (Ready ticket) new turn =
+    (turn ≡ ticket.number) × (IsTaken old ticket new ⊎ IsIdle old new)
+Finds old Nothing new turn = IsIdle old new
+Finds old Refusal new turn = IsIdle old new ⊎ ((ticket : Ticket) × IsTaken old ticket new)
+
+-- into the worker's own lane, or, where there was no room for it, elsewhere; no lane lost anything
+-- by it
 abbrev pub IsKept : Moved → Ticket → Moved → Type 0
-IsKept old ticket new = (new ≡ record { own = with_pushed old.own (ticket ∷ []); others = old.others }) ⊎ (new ≡ old)
+IsKept old ticket new = Puts old (ticket ∷ []) new ⊎ (new ≡ old)
 
 -- the ticket of this child, whatever its number in its job
 pub record IsHanded (old : Moved) (child : SpawnRecord) (new : Moved) : Type 0 where
   pub job : ℕ
   pub number : ℕ
   pub kept : IsKept old (ticket_of job number child) new
+
+-- into the worker's own lane, and the desk is as it was; or it is parked at the desk, and the lanes
+-- are as they were
+abbrev pub IsKeptBeside : Moved → LockedBook → Ticket → Moved → LockedBook → Type 0
+IsKeptBeside lanes desk ticket lanes_after desk_after =
+    (Puts lanes (ticket ∷ []) lanes_after × (desk_after ≡ desk))
+    ⊎ ((lanes_after ≡ lanes) × IsParked desk ticket desk_after)
+
+-- The book at the desk has this child, whose parent is the task whose turn it is. Its ticket is
+-- kept.
+pub record IsHandedAt (turn : ℕ) (child : SpawnRecord) (lanes : Moved) (desk : LockedBook)
+    (lanes_after : Moved) (desk_after : LockedBook) : Type 0 where
+  pub spawned : LockedBook
+  pub refused : spawned.has_refused ≡ desk.has_refused
+  pub waiting : spawned.book.waiting ≡ desk.book.waiting
+  pub event : HasMore desk.book
+      (spawn_event turn (length (table_of desk.book.history).standings) child) spawned.book
+  pub kept : IsKeptBeside lanes spawned
+      (ticket_of desk.book.board.job (length (table_of desk.book.history).standings) child)
+      lanes_after desk_after
 
 -- behind those that are held back, or to the book, with all of them
 abbrev pub IsHeldBack : List Outcome → Outcome → List Outcome → Type 0

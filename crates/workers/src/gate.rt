@@ -1,6 +1,6 @@
 //! Who is told of the tasks that run.
 
-use solo::Listener;
+use task_run::Listener;
 
 /// Is told of each task ahead of its first step and past its last one, by the worker that runs it.
 pub trait Gate {

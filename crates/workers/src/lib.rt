@@ -7,20 +7,23 @@ mod outcome;
 mod work;
 
 pub use gate::{Gate, OpenGate};
-pub use outcome::unrun_outcome;
+pub use outcome::unrun;
 pub use work::{entry_in, work_one};
 
 // what lies under the job's lock
-mod desk;
 mod fault;
+mod locked_book;
 mod noting;
 
 pub use fault::PoolFault;
 
 // the threads
-mod hands;
+mod held_lock;
 mod pool;
-mod stay;
 mod watch;
+mod worker;
 
 pub use pool::run_job;
+
+// the deque of one worker, for whoever runs tasks in threads of their own
+pub use lanes::{Lane, Owning, Pass, Stealing, Stolen, Thief, lane};

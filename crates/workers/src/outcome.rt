@@ -6,7 +6,7 @@ use credit_book::{Outcome, Ticket};
 
 /// The outcome of a task that isn't run: it used nothing, its R0 is 0, and its part is as it was.
 /// It takes no memory.
-pub fn unrun_outcome(ticket: Ticket) -> Outcome
+pub fn unrun(ticket: Ticket) -> Outcome
     ensures { IsUnrun ticket result }
 {
     let (job, number) = (ticket.job(), ticket.number());

@@ -1,16 +1,17 @@
 //! The threads of a pool, each of which runs tasks of the job until no task is alive.
 
 ghost use Rattle.std.specs.Prelude.{◌≡◌, ◌≤◌, All, IfOk, IfSome, length};
+ghost use Rattle.std.specs.List.{flat_map};
 ghost use Rattle.workers.specs.Final.{IsFinal};
 ghost use Rattle.workers.specs.Noted.{NotedAlone, EndedAlone};
 
-use crate::desk::{Desk, Found};
 use crate::fault::PoolFault;
 use crate::gate::{Gate, Heard};
-use crate::hands::{Hands, Shared};
+use crate::held_lock::HeldLock;
+use crate::locked_book::{Found, LockedBook};
 use crate::noting::{Note, agrees, run_noted};
-use crate::stay::Stay;
 use crate::watch::Watch;
+use crate::worker::{Shared, Worker};
 use credit_book::{Book, Post, Report};
 use crossbeam_utils::CachePadded;
 use helpers::Part;
@@ -25,7 +26,7 @@ use task_arena::Frames;
 
 /// A worker ahead of its thread: its view of how far the job is, and its lanes.
 #[derive(Drop)]
-struct Worker {
+struct Station {
     watch: Watch,
     lanes: Lanes,
 }
@@ -36,21 +37,21 @@ fn work<'s, R: Wait, G: Gate>(
     rt: &'s R,
     shared: &'s Shared,
     gate: &'s G,
-    worker: Worker,
+    worker: Station,
     alloc: Global,
 ) -> Vec<Note>
     ensures { All (NotedAlone shared.now.programs.items) result.items }
 {
-    let Worker { watch, lanes } = worker;
+    let Station { watch, lanes } = worker;
     let mut watch = watch;
     let mut notes = Vec::new(alloc);
     let mut frames = Frames::new(alloc);
-    let stay = Stay::away();
+    let stay = HeldLock::away();
     let heard = Heard {
         gate,
         listener: &stay,
     };
-    let mut hands = Hands::new(rt, alloc, shared, &stay, lanes);
+    let mut hands = Worker::new(rt, alloc, shared, &stay, lanes);
     for _ in rt.forever() {
         match hands.find() {
             Found::Ready(ticket) => {
@@ -96,7 +97,7 @@ fn start<'s, E: 's, R: Threads + Wait + Sync, G: Gate + Sync>(
     scope: &Scope<'s, E>,
     shared: &'s Shared,
     gate: &'s G,
-    worker: Worker,
+    worker: Station,
     alloc: Global,
 ) -> Option<Started<'s>>
     ensures { IfSome result (λ thread. thread.promise.0.now ≡ shared.now) }
@@ -116,7 +117,7 @@ fn run_all<'s, E: 's, R: Threads + Wait + Sync, G: Gate + Sync>(
     scope: &Scope<'s, E>,
     shared: &'s Shared,
     gate: &'s G,
-    workers: Vec<Worker>,
+    workers: Vec<Station>,
     alloc: Global,
 ) -> Result<Vec<Vec<Note>>, PoolFault>
     ensures { IfOk result
@@ -140,7 +141,8 @@ fn run_all<'s, E: 's, R: Threads + Wait + Sync, G: Gate + Sync>(
 /// The notes of all workers, one after the other, each of a run of one of the programs.
 fn gather(alloc: Global, shared: &Shared, lists: &[Vec<Note>]) -> Result<Vec<Note>, NoMemory>
     requires { All (λ notes. All (NotedAlone shared.now.programs.items) notes.items) lists.now }
-    ensures { IfOk result (λ notes. All (NotedAlone shared.now.programs.items) notes.items) }
+    ensures all { IfOk result (λ notes. notes.items ≡ flat_map (λ list. list.items) lists.now) }
+    ensures alone { IfOk result (λ notes. All (NotedAlone shared.now.programs.items) notes.items) }
 {
     let _ = shared;
     let mut notes = Vec::new(alloc);
@@ -151,14 +153,14 @@ fn gather(alloc: Global, shared: &Shared, lists: &[Vec<Note>]) -> Result<Vec<Not
 }
 
 /// So many workers: each has its own watch over the post's board, and its own lane.
-fn open_workers(alloc: Global, post: &mut Post, count: u32) -> Result<Vec<Worker>, NoMemory>
+fn open_workers(alloc: Global, post: &mut Post, count: u32) -> Result<Vec<Station>, NoMemory>
     requires { count ≤ 16 }
     ensures { post.new ≡ post.old }
 {
     let mut workers = Vec::new(alloc);
     for lanes in lanes_between(alloc, count)? {
         let watch = Watch::over(post)?;
-        workers.push(Worker { watch, lanes })?;
+        workers.push(Station { watch, lanes })?;
     }
     Ok(workers)
 }
@@ -168,7 +170,7 @@ fn run_in_threads<R: Threads + Wait + Sync, G: Gate + Sync>(
     rt: &R,
     alloc: Global,
     shared: &Shared,
-    workers: Vec<Worker>,
+    workers: Vec<Station>,
     gate: &G,
 ) -> Result<Vec<Note>, PoolFault>
     ensures { IfOk result (λ notes. All (NotedAlone shared.now.programs.items) notes.items) }
@@ -207,7 +209,8 @@ pub fn run_job<R: Threads + Wait + Sync, G: Gate + Sync>(
 ) -> Result<Report, PoolFault>
     requires workers { (1 ≤ workers) × (workers ≤ 16) }
     requires post { post.board.issued ≡ job.credit }
-    ensures report { IfOk result (λ report. IsFinal post.board.job job.credit (length job.buffer) report) }
+    ensures report { IfOk result (λ report.
+        IsFinal post.board.job job.credit (length job.buffer) report) }
     ensures alone { IfOk result (λ report. All (EndedAlone job.programs) report.tasks.items) }
 {
     let mut post = post;
@@ -218,7 +221,7 @@ pub fn run_job<R: Threads + Wait + Sync, G: Gate + Sync>(
     let number = book.job();
     let shared = Shared {
         programs,
-        desk: CachePadded::new(Mutex::new(CachePadded::new(Desk::open(book, root)))),
+        desk: CachePadded::new(Mutex::new(CachePadded::new(LockedBook::open(book, root)))),
     };
     let notes = run_in_threads(rt, alloc, &shared, crew, gate)?;
     let Shared { programs: _, desk } = shared;

@@ -1,23 +1,24 @@
 //! One task, from its ticket to its outcome.
 
 ghost use Rattle.std.specs.Prelude.{◌≡◌, ◌≤◌, ◌^◌, ◌<◌, ◌↔◌, IsTrue, IsSome, length, map};
-ghost use Rattle.machine_model.specs.Job.{entries_of};
+ghost use Rattle.machine_model.specs.JobState.{entries_of};
 ghost use Rattle.helpers.specs.Table.{job_table};
-ghost use Rattle.helpers.specs.declared.spawner.SpawnRecord.{SpawnRecord};
 ghost use Rattle.verifier.specs.Checked.{program_of, IsVerified};
 ghost use Rattle.job_core.specs.Admitted.{AreOwn};
-ghost use Rattle.interpreter.specs.Behind.{zeroed};
-ghost use Rattle.solo.specs.Through.{GoesThrough};
+ghost use Rattle.interpreter.specs.Representation.{zeroed};
+ghost use Rattle.interpreter.specs.Children.{MayHandOver};
+ghost use Rattle.task_run.specs.Through.{GoesThrough};
 ghost use Rattle.workers.specs.Outcomes.{IsOutcome, IsRunBy, Suffices};
 
 use crate::gate::{Gate, Heard};
-use crate::outcome::unrun_outcome;
+use crate::outcome::unrun;
 use credit_book::{Outcome, Ticket};
 use helpers::{Entry, Spawner};
 use interpreter::{Credit, Frame};
-use solo::{Listener, Nobody, run_to_end};
+use machine_model::MAX_CREDIT;
 use std::alloc::Global;
 use task_arena::Frames;
+use task_run::{Listener, Nobody, run_to_end};
 use verifier::Verified;
 
 /// What a spawn has to know of the program of this number, if the list has it. The call asks for at
@@ -41,7 +42,7 @@ fn suffices(code: &Verified, ticket: &Ticket) -> bool
     ensures verified { IsVerified code.now }
 {
     let need = code.need() as usize;
-    code.cost() <= ticket.held() && ticket.held() <= 2_147_483_647 && need <= ticket.part().len()
+    code.cost() <= ticket.held() && ticket.held() <= MAX_CREDIT && need <= ticket.part().len()
 }
 
 /// Runs the ticket's task on a frame of zeros, and hands the spawner back.
@@ -53,7 +54,8 @@ fn run_ticket<'c, 's, 'g, S: Spawner, G: Gate + Listener>(
     requires verified { IsVerified task.1.now }
     requires own { task.1.now.helpers ≡ job_table }
     requires suffices { Suffices task.1.now task.0 }
-    requires takes_any { (s : S) (child : SpawnRecord) → S.asks s child }
+    requires children { (s : S) → S.entries s ≡ S.entries task.2.now
+        → MayHandOver (S.entries task.2.now) task.0.held (S.asks s) }
     ensures alone { IsRunBy task.entry.1.now (S.entries task.entry.2.now) task.entry.0
         (λ asked. GoesThrough S.spawns task.entry.0.part.base task.entry.2.now asked result.1.now)
         result.0 }
@@ -82,13 +84,14 @@ fn run_ticket<'c, 's, 'g, S: Spawner, G: Gate + Listener>(
     (outcome, spawner)
 }
 
-/// Runs the ticket's task to its end, by itself, on a frame of zeros, or not at all. The gate is told
-/// how it goes on as well.
+/// Runs the ticket's task to its end, by itself, on a frame of zeros, or not at all. The gate is
+/// told how it goes on as well.
 ///
 /// The task isn't run where no frame can be had, or where the list has no program of its number,
 /// its credit is under the program's cost or over 2,147,483,647, or its part is shorter than the
 /// program's need. The call asks for programs that may call a job's helpers alone, and for a
-/// spawner that takes any record and knows the programs of the list.
+/// spawner that knows the programs of the list and takes each child which a task with so much
+/// credit may hand over, whatever it has taken before.
 pub(crate) fn work_heard<S: Spawner, G: Gate + Listener>(
     alloc: Global,
     ticket: Ticket,
@@ -99,17 +102,18 @@ pub(crate) fn work_heard<S: Spawner, G: Gate + Listener>(
 ) -> Outcome
     requires own { AreOwn programs.now }
     requires knows { S.entries spawner.old ≡ entries_of (map program_of programs.now) }
-    requires takes_any { (s : S) (child : SpawnRecord) → S.asks s child }
+    requires children { (s : S) → S.entries s ≡ S.entries spawner.old
+        → MayHandOver (S.entries spawner.old) ticket.held (S.asks s) }
     ensures outcome { IsOutcome programs.now ticket
         (λ asked. GoesThrough S.spawns ticket.part.base spawner.old asked spawner.new)
         (spawner.new ≡ spawner.old) result }
     ensures entries { S.entries spawner.new ≡ S.entries spawner.old }
 {
     let Some(code) = programs.get(ticket.program() as usize) else {
-        return unrun_outcome(ticket);
+        return unrun(ticket);
     };
     if !suffices(code, &ticket) {
-        return unrun_outcome(ticket);
+        return unrun(ticket);
     }
     match frames.with_frame(
         ticket.job(),
@@ -122,7 +126,7 @@ pub(crate) fn work_heard<S: Spawner, G: Gate + Listener>(
         }
         Err((ticket, _, back, _, _)) => {
             let _ = back;
-            unrun_outcome(ticket)
+            unrun(ticket)
         }
     }
 }
@@ -132,7 +136,8 @@ pub(crate) fn work_heard<S: Spawner, G: Gate + Listener>(
 /// The task isn't run where no frame can be had, or where the list has no program of its number,
 /// its credit is under the program's cost or over 2,147,483,647, or its part is shorter than the
 /// program's need. The call asks for programs that may call a job's helpers alone, and for a
-/// spawner that takes any record and knows the programs of the list.
+/// spawner that knows the programs of the list and takes each child which a task with so much
+/// credit may hand over, whatever it has taken before.
 pub fn work_one<S: Spawner, G: Gate>(
     alloc: Global,
     ticket: Ticket,
@@ -143,7 +148,8 @@ pub fn work_one<S: Spawner, G: Gate>(
 ) -> Outcome
     requires own { AreOwn programs.now }
     requires knows { S.entries spawner.old ≡ entries_of (map program_of programs.now) }
-    requires takes_any { (s : S) (child : SpawnRecord) → S.asks s child }
+    requires children { (s : S) → S.entries s ≡ S.entries spawner.old
+        → MayHandOver (S.entries spawner.old) ticket.held (S.asks s) }
     ensures outcome { IsOutcome programs.now ticket
         (λ asked. GoesThrough S.spawns ticket.part.base spawner.old asked spawner.new)
         (spawner.new ≡ spawner.old) result }

@@ -1,7 +1,7 @@
 use Rattle.std.proofs.Common.{◌≡◌, length, arith, refl, subst}
 use Rattle.std.proofs.lemmas.Option.{slice_get_read}
 use Rattle.helpers.specs.Table.{job_table}
-use Rattle.verifier.specs.Refusals.{IsAccepted, Refuses}
+use Rattle.verifier.specs.Refusals.{IsAccepted, RefusesProgram}
 use Rattle.job_core.proofs.Admissions.{accepted_none, accepted_more, accepted_all, accepted_own, first_fault}
 use Rattle.job_core.proofs.admission.verify_each.Goals as goal
 
@@ -18,8 +18,8 @@ returns-in-Err-clause-refused c =
     (first_fault c.args.programs.now c.loop-program.program-index c.loop-program.accepted.items c.program-item.result c.in-Err.refusal
     c.loop-program.invariant
     (slice_get_read c.args.programs.now (length c.args.programs.now) c.loop-program.program-index c.program-item.result refl c.loop-program-test.true c.program-item.is)
-    (subst (λ bytes. Refuses c.program-item.result.need bytes job_table c.in-Err.refusal) c.deref.ensures.value
-    (subst (λ table. Refuses c.program-item.result.need c.deref.result.now table c.in-Err.refusal) c.job-helpers.ensures
+    (subst (λ bytes. RefusesProgram c.program-item.result.need bytes job_table c.in-Err.refusal) c.deref.ensures.value
+    (subst (λ table. RefusesProgram c.program-item.result.need c.deref.result.now table c.in-Err.refusal) c.job-helpers.ensures
     (c.in-Err.ensures)))))
 
 pub loop-program-preserved : goal.loop-program-preserved

@@ -1,5 +1,5 @@
 use Rattle.std.proofs.Common.{◌≡◌, ◌≤◌, List, ◌++◌, length, reverse, slice_get, Some}
-use Rattle.machine_model.specs.Job.{Member}
+use Rattle.machine_model.specs.JobState.{Member}
 use Rattle.task_trees.specs.Families.{AreParents, place_of}
 use Rattle.job_core.proofs.place.place_in.Given as goal
 

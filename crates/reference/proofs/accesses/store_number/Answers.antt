@@ -2,7 +2,7 @@ use Rattle.std.proofs.Common.{◌≡◌, ◌∙◌, ◌+◌, ℕ, List, length, 
 use Rattle.std.proofs.lemmas.List.{with_items_is}
 use Rattle.machine_model.proofs.Ranges.{length-written, length-little_bytes}
 use Rattle.std.proofs.lemmas.Int.{to_z-of_z}
-use Rattle.machine_model.specs.Machine.{Effect, Goes, State, landing, located}
+use Rattle.machine_model.specs.Machine.{Effect, Continues, State, landing, located}
 use Rattle.machine_model.specs.Memory.{little_bytes, store_bytes, written}
 use Rattle.reference.specs.declared.records.Place.TheVariants as place
 use Rattle.reference.specs.Records.{placing, state_of, value_of}
@@ -25,7 +25,7 @@ returns-in-Ok-Stack c = λ i lead.
     let law : (stack part : ℕ → Effect) → located s (value_of c.args.pointer) c.args.offset c.store_bytes.result stack part
     ≡ placing stack part (Ok (place.Stack c.in-Ok-Stack.at)) =
     λ stack part. rw (to_z-of_z w16 c.args.offset c.ranges.offset, c.in-Ok-Stack.field-0-is) at (c.in-Ok-Stack.ensures.leads stack part) in
-    ap (λ (m : List ℕ). Goes (record s { slot = s.slot + 1; stack = m })) c.store.ensures
+    ap (λ (m : List ℕ). Continues (record s { slot = s.slot + 1; stack = m })) c.store.ensures
     ∙ ap (landing (record s { stack = written s.stack c.in-Ok-Stack.at bytes })) (sym lead)
     ∙ store_done i s (value_of c.args.pointer) c.args.offset c.store_bytes.result (store_bytes c.args.size) c.args.number
     (Ok (place.Stack c.in-Ok-Stack.at)) c.store_bytes.ensures law
@@ -42,7 +42,7 @@ returns-in-Ok-Part c = λ i lead.
     ap length after ∙ length-written s.part c.in-Ok-Part.at bytes
     (omega (arith, length-little_bytes (store_bytes c.args.size) c.args.number, c.store_bytes.ensures, c.in-Ok-Part.ensures.part c.in-Ok-Part.at (ap Ok c.in-Ok-Part.field-0-is)))
     ∙ sym c.args.state.part.ok.0 in
-    ap (λ (m : List ℕ). Goes (record s { slot = s.slot + 1; part = m })) (with_items_is c.args.state.part c.store-in-Ok-Part.new.memory long ∙ after)
+    ap (λ (m : List ℕ). Continues (record s { slot = s.slot + 1; part = m })) (with_items_is c.args.state.part c.store-in-Ok-Part.new.memory long ∙ after)
     ∙ ap (landing (record s { part = written s.part c.in-Ok-Part.at bytes })) (sym lead)
     ∙ store_done i s (value_of c.args.pointer) c.args.offset c.store_bytes.result (store_bytes c.args.size) c.args.number
     (Ok (place.Part c.in-Ok-Part.at)) c.store_bytes.ensures law

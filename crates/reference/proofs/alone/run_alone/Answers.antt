@@ -7,7 +7,7 @@ use Rattle.reference.proofs.AloneLemmas.{Leads, leads_same, leads_goes, leads_ca
 use Rattle.reference.proofs.RunLemmas.{same_error}
 use Rattle.std.proofs.lemmas.Result.{err_from_is_err_and}
 use Rattle.reference.proofs.alone.run_alone.Goals as goal
-use Rattle.reference.proofs.alone.run_alone.Goals.{in-Goes, in-Calls+in_ok-state-in-Calls}
+use Rattle.reference.proofs.alone.run_alone.Goals.{in-Continues, in-Calls+in_ok-state-in-Calls}
 
 pub loop-init : goal.loop-init
 loop-init g c = leads_same _ _ _ _ _ _ (omega arith) c.start_alone-state.ensures
@@ -58,10 +58,10 @@ loop-preserved g c =
     let less : ℕ = c.args.steps - (c.loop.counter + 1) in
     let one : left ≡ suc less = omega (arith, c.loop-test.true) in
     elim c.match-branch-2.branch [
-      | in-Goes w ↦
+      | in-Continues w ↦
           subst (λ (t : Running). Leads p may c.args.steps first less (state_of t)) (sym w.state-is)
-          (leads_goes p may c.args.steps first left less s one c.loop.invariant (state_of w.in-Goes.next)
-          (rw w.in-Goes.is at c.in_ok-next.ensures.value))
+          (leads_goes p may c.args.steps first left less s one c.loop.invariant (state_of w.in-Continues.next)
+          (rw w.in-Continues.is at c.in_ok-next.ensures.value))
       | in-Calls+in_ok-state-in-Calls w ↦
           let called = w.in_ok-state-in-Calls.ensures.next in
           subst (λ (t : Running). Leads p may c.args.steps first less (state_of t)) (sym w.state-is)

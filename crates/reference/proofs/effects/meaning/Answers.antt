@@ -1,7 +1,7 @@
 use Rattle.std.specs.Result.{is_err}
 use Rattle.std.proofs.Common.{ap, map, w16, w32, SFits, rules}
 use Rattle.std.proofs.lemmas.Int.{to_z-of_z}
-use Rattle.machine_model.specs.Job.{entries_of}
+use Rattle.machine_model.specs.JobState.{entries_of}
 use Rattle.reference.specs.Records.{program_of}
 use Rattle.reference.proofs.effects.meaning.Goals as goal
 

@@ -1,5 +1,5 @@
 use Rattle.std.proofs.Common.{◌≡◌, map, drop, take, Some}
-use Rattle.machine_model.specs.Job.{run}
+use Rattle.machine_model.specs.JobState.{run}
 use Rattle.reference.specs.Records.{job_of, move_of, program_of}
 use Rattle.reference.proofs.runs.run.Given as goal
 

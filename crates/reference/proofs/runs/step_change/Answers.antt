@@ -1,7 +1,7 @@
 use Rattle.std.proofs.Common.{◌≡◌, ◌∙◌, ap, subst, arith, inl, inr, length, refl, Some, slice_get, List, ℕ}
 use Rattle.std.proofs.lemmas.Option.{slice_get_read}
 use Rattle.std.proofs.lemmas.Result.{err_from_is_err_and}
-use Rattle.machine_model.specs.Job.{state_in}
+use Rattle.machine_model.specs.JobState.{state_in}
 use Rattle.machine_model.specs.Machine.{State, Effect}
 use Rattle.reference.specs.Records.{BearsFar, task_of}
 use Rattle.reference.specs.declared.records.JobMember.{JobMember}

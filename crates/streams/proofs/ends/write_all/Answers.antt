@@ -1,4 +1,4 @@
-use Rattle.std.proofs.Common.{rules, ◌≡◌, ◌≤◌, ◌++◌, ℕ, List, length, take, drop, false, sym, ap, ◌∙◌, arith, append_assoc}
+use Rattle.std.proofs.Common.{rules, ◌++◌, take, drop, sym, ap, ◌∙◌, arith, append_assoc}
 use Rattle.std.proofs.lemmas.List.{length-drop}
 use Rattle.std.proofs.Math.Seq.{take-add, take-length}
 use Rattle.streams.proofs.ends.write_all.Goals as goal
@@ -12,6 +12,6 @@ loop-done-preserved g c =
     let rest = ap (λ k. take k (drop d bytes)) (sym (length-drop d bytes)) ∙ take-length (drop d bytes) in
     let taken = ap (take n) rest in (
       omega (arith, c.in-Ok.ensures.count, length-drop d bytes, inv.0),
-      c.in-Ok.ensures.bytes ∙ ap (λ xs. g.W.Sink.told c.loop-done.sink ++ xs) taken ∙ ap (λ xs. xs ++ take n (drop d bytes)) inv.1 ∙ append_assoc (g.W.Sink.told c.args.sink.now) (take d bytes) (take n (drop d bytes)) ∙ ap (λ xs. g.W.Sink.told c.args.sink.now ++ xs) (sym (take-add d n bytes)),
+      c.in-Ok.ensures.bytes ∙ ap (λ xs. g.W.Sink.transcript c.loop-done.sink ++ xs) taken ∙ ap (λ xs. xs ++ take n (drop d bytes)) inv.1 ∙ append_assoc (g.W.Sink.transcript c.args.sink.now) (take d bytes) (take n (drop d bytes)) ∙ ap (λ xs. g.W.Sink.transcript c.args.sink.now ++ xs) (sym (take-add d n bytes)),
       search rules,
     )

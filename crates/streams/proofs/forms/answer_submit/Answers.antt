@@ -1,5 +1,5 @@
-use Rattle.std.proofs.Common.{refl, inl, inr, ap, sym, ◌∙◌}
-use Rattle.sessions.specs.Replies.{reply_data, submit_data, refusal_data}
+use Rattle.std.proofs.Common.{refl, inl, inr, ap}
+use Rattle.sessions.specs.Replies.{submit_data}
 use Rattle.sessions.specs.declared.reply.Reply.TheVariants.{Submit, Refused}
 use Rattle.streams.proofs.Answered.{opened}
 use Rattle.streams.proofs.forms.answer_submit.Goals as goal

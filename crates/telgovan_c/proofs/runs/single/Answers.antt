@@ -3,7 +3,7 @@ use Rattle.telgovan_c.specs.Runs.{ran, refused}
 use Rattle.telgovan_c.proofs.runs.single.Goals as goal
 
 pub returns-in-Ok : goal.returns-in-Ok
-returns-in-Ok c = ran c.in-Ok.program (rw c.job.ensures at c.in-Ok.ensures) c.run_single.ensures
+returns-in-Ok c = ran c.in-Ok.program (rw c.job.ensures at c.in-Ok.ensures) c.run_program.ensures
 
 pub returns : goal.returns
 returns c =

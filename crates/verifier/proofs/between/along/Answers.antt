@@ -9,5 +9,5 @@ loop-next-preserved c =
     record {
       way = w.2;
       arrives = arrives_next (subject_of c.args.survey.now) c.args.survey.now.graph.now.order c.loop-next.from c.in-Some.next c.loop-next.state
-          c.pass_on.new.state c.slots-slots.ensures.flow w.1 c.loop-next.invariant.arrives c.pass_on.ensures;
+          c.transfer_along.new.state c.slots-slots.ensures.flow w.1 c.loop-next.invariant.arrives c.transfer_along.ensures;
     }

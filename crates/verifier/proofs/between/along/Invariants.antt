@@ -1,5 +1,5 @@
 use Rattle.std.proofs.Common.{◌≡◌, length, reverse}
-use Rattle.verifier.specs.Arrive.{Comes, arrive}
+use Rattle.verifier.specs.InStates.{Reached, in_state}
 use Rattle.verifier.specs.Between.{IsSingleWay}
 use Rattle.verifier.specs.Survey.{subject_of}
 use Rattle.verifier.proofs.between.along.Given as goal
@@ -7,7 +7,7 @@ use Rattle.verifier.proofs.between.along.Given as goal
 abbrev pub invariant-loop-next : goal.invariant-loop-next
 invariant-loop-next l = record {
   way : IsSingleWay l.survey.graph.now.code l.from (reverse l.path.items) l.slot;
-  arrives : arrive (subject_of l.survey) l.from ≡ Comes l.state;
+  arrives : in_state (subject_of l.survey) l.from ≡ Reached l.state;
 }
 
 abbrev pub decreases-loop-next : goal.decreases-loop-next

@@ -1,7 +1,7 @@
 use Rattle.std.proofs.Common.{◌≡◌, ◌+◌, ◌-◌, ◌++◌, ◌∷◌, [], ◌∙◌, ℕ, List, Option, ap, arith, replicate, Some, None}
 use Rattle.std.proofs.lemmas.List.{replicate_more}
-use Rattle.verifier.specs.declared.state.State.{State}
-use Rattle.verifier.specs.States.{entry_state}
+use Rattle.instruction_rules.specs.declared.state.State.{State}
+use Rattle.instruction_rules.specs.States.{entry_state}
 use Rattle.verifier.proofs.states.places.Goals as goal
 
 pub loop-slot-preserved : goal.loop-slot-preserved

@@ -1,5 +1,5 @@
 use Rattle.std.proofs.Common.{◌≡◌, ◌-◌, ◌∷◌, replicate, Some, None}
-use Rattle.verifier.specs.States.{entry_state}
+use Rattle.instruction_rules.specs.States.{entry_state}
 use Rattle.verifier.proofs.states.places.Given as goal
 
 abbrev pub invariant-loop-slot : goal.invariant-loop-slot

@@ -1,6 +1,6 @@
 use Rattle.std.proofs.Common.{◌∙◌, refl, ap, arith}
 use Rattle.interpreter.specs.declared.frame.Frame.{Frame}
-use Rattle.interpreter.specs.Behind.{at_slot, lent}
+use Rattle.interpreter.specs.Representation.{at_slot, lent}
 use Rattle.virtual_machine.specs.Functions.{called}
 use Rattle.virtual_machine.proofs.Running.{enters, goes_far, goes_on, ends}
 use Rattle.virtual_machine.proofs.Answering.{are_answers}

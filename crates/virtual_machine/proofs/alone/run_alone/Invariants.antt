@@ -1,7 +1,7 @@
 use Rattle.std.proofs.Common.{◌≡◌, ◌-◌}
 use Rattle.task_trees.specs.Solo.{entering}
 use Rattle.virtual_machine.specs.Functions.{called}
-use Rattle.interpreter.specs.Behind.{at_slot, lent}
+use Rattle.interpreter.specs.Representation.{at_slot, lent}
 use Rattle.virtual_machine.proofs.Running.{IsUnderWay}
 use Rattle.virtual_machine.proofs.alone.run_alone.Given as goal
 

@@ -1,5 +1,5 @@
 use Rattle.std.proofs.Common.{◌≡◌, All, map}
-use Rattle.machine_model.specs.Job.{entries_of}
+use Rattle.machine_model.specs.JobState.{entries_of}
 use Rattle.verifier.specs.Checked.{program_of}
 use Rattle.workers.specs.Noted.{NotedAlone}
 use Rattle.workers.proofs.pool.work.Given as goal

@@ -2,7 +2,7 @@ use Rattle.std.proofs.Common.{ℕ, ◌-◌, ◌≤◌, sym, ap, ◌∙◌, subst
 use Rattle.std.specs.VecDeque.{deque_capacity}
 use Rattle.credit_book.specs.Boards.{Sign}
 use Rattle.credit_book.specs.Books.{Account, end_event}
-use Rattle.credit_book.proofs.Books.{gone, Read, read, end_legal, posted_prefix, posted-all, end_within_tasks, end_fits, issued_small, end_amount, end_book_as, book_complete, on_board}
+use Rattle.credit_book.proofs.Books.{gone, Read, read, end_legal, posted_end, posted-all, end_within_tasks, end_fits, issued_small, end_amount, end_book_as, book_complete, on_board}
 use Rattle.credit_book.proofs.BufferLemmas.{collected-end, length-collected}
 use Rattle.credit_book.proofs.book.Book.end.Goals as goal
 
@@ -26,8 +26,8 @@ publish-requires-clause-legal c =
     let r : Read c.self.inside.standings.items c.args.outcome.number c.args.outcome.used c.standing_of-standing.result = read _ _ _ _ _ _ c.as_slice.ensures.value c.standing_of-standing.ensures c.may_work.ensures c.if-not-may_work.false c.if-outcome-standing.false in
     end_legal _ _ _ _ _ _ _ c.self.invariant.0 c.args.outcome r.works r.le
 
-pub publish-requires-clause-longer : goal.publish-requires-clause-longer
-publish-requires-clause-longer c = posted_prefix _ _ _ c.self.invariant.2
+pub publish-requires-clause-grows : goal.publish-requires-clause-grows
+publish-requires-clause-grows c = posted_end _ _ c.args.outcome c.self.invariant.2
 
 pub publish-requires-clause-amount : goal.publish-requires-clause-amount
 publish-requires-clause-amount c =

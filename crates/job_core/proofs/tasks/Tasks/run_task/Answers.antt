@@ -1,12 +1,9 @@
-use Rattle.std.proofs.Common.{◌≡◌, ◌<◌, ◌≤◌, ◌+◌, ◌∙◌, ℕ, suc, refl, sym, ap, subst, rules, arith, length, take, replicate, slice_get, set, Some, None}
+use Rattle.std.proofs.Common.{◌≡◌, ◌<◌, ◌+◌, ◌∙◌, suc, refl, sym, ap, subst, rules, arith, length, take, replicate, slice_get, set, Some, None}
 use Rattle.std.proofs.lemmas.Option.{get_or_from_slice_get, slice_get_read, slice_get_within}
 use Rattle.std.proofs.lemmas.List.{get_or-replicate, length-replicate, set-set, take-replicate}
 use Rattle.verifier.specs.Checked.{Checked}
-use Rattle.interpreter.specs.Behind.{IsCovered}
+use Rattle.interpreter.specs.Representation.{IsCovered}
 use Rattle.job_core.specs.Keeping.{kept_of}
-use Rattle.job_core.specs.Behind.{Kept, LeadsOn, Steps}
-use Rattle.machine_model.specs.Job.{Job}
-use Rattle.job_core.specs.OneTask.{RunsTask}
 use Rattle.job_core.proofs.Simulates.{live_at, skipped, unknown}
 use Rattle.job_core.specs.declared.tasks.Stepped.TheVariants as stepped
 use Rattle.job_core.proofs.Booking.{standings_alike}
@@ -59,6 +56,17 @@ returns-in_default-take-clause-idle c =
     slice_get_read lives (length lives) number c.in-Some.place.now refl lt c.in-Some.ensures.value ∙ ap Some none_is in
     let same : set lives number None ≡ lives = same_set lives number None here in
     rw (c.take.ensures.after, same) (λ none some. record { same = refl; skips = λ j behind. skipped kept j number behind here })
+
+pub returns-in_default-take-clause-skipped : goal.returns-in_default-take-clause-skipped
+returns-in_default-take-clause-skipped c =
+    let lives = c.args.self.now.ledger.lives.items in
+    let number = c.args.number in
+    let lt : number < length lives = c.in-Some.ensures.item.3.0 in
+    let none_is : c.in-Some.place.now ≡ None = sym c.take.ensures.value ∙ c.in_default-take.is in
+    let here : slice_get lives number ≡ Some None =
+    slice_get_read lives (length lives) number c.in-Some.place.now refl lt c.in-Some.ensures.value ∙ ap Some none_is in
+    let same : set lives number None ≡ lives = same_set lives number None here in
+    λ _. rw (c.take.ensures.after, same) refl
 
 pub returns-in_default-take-clause-booked : goal.returns-in_default-take-clause-booked
 returns-in_default-take-clause-booked c =

@@ -3,7 +3,7 @@ use Rattle.credit_book.specs.Buffers.{buffer_of}
 use Rattle.job_core.specs.declared.live.Live.{Live}
 use Rattle.job_core.specs.Filled.{filled}
 use Rattle.job_core.specs.Keeping.{kept_of}
-use Rattle.job_core.specs.Behind.{Kept, IsBehind}
+use Rattle.job_core.specs.Representation.{WorldState, RepresentsJob}
 use Rattle.job_core.proofs.Buffers.{filled_behind, part_inside}
 use Rattle.job_core.proofs.world.World.buffer.Goals as goal
 
@@ -20,4 +20,4 @@ returns c = λ j behind.
     let start : c.extend_from_slice.new.self.items ≡ buffer_of c.self.inside.tasks.ledger.book.size c.self.inside.tasks.ledger.book.history = search rules in
     c.fill.ensures ∙ ap (λ (ls : List (Option Live)). filled ls c.extend_from_slice.new.self.items) c.deref.ensures.value
     ∙ ap (filled c.self.inside.tasks.ledger.lives.items) start
-    ∙ filled_behind (kept_of c.self.inside.tasks) j (subst (λ (k : Kept). IsBehind k j) (sym c.self.view_is) behind)
+    ∙ filled_behind (kept_of c.self.inside.tasks) j (subst (λ (k : WorldState). RepresentsJob k j) (sym c.self.view_is) behind)

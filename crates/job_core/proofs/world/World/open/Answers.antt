@@ -1,10 +1,10 @@
 use Rattle.std.proofs.Common.{◌≤◌, ◌∙◌, ap, sym, refl, arith, rules, length, slice_get}
 use Rattle.std.proofs.lemmas.Option.{slice_get_read}
 use Rattle.credit_book.specs.Boards.{Sign}
-use Rattle.machine_model.specs.Job.{start}
-use Rattle.job_core.specs.Admitted.{Order}
+use Rattle.machine_model.specs.JobState.{start}
+use Rattle.job_core.specs.Admitted.{AdmittedJob}
 use Rattle.job_core.proofs.Ledgers.{cost_some}
-use Rattle.job_core.proofs.Starts.{entries_none, entries_more, entries_past, entries_long, entry_is, opened}
+use Rattle.job_core.proofs.Starts.{entries_none, entries_more, entries_past, entries_long, opened}
 use Rattle.job_core.proofs.world.World.open.Goals as goal
 
 pub loop-program-init : goal.loop-program-init
@@ -14,11 +14,11 @@ pub loop-program-preserved : goal.loop-program-preserved
 loop-program-preserved c =
     rw (c.in_ok-push.ensures.items)
     (entries_more c.deref-program-items.result.now c.loop-program.program-index c.loop-program.entries.items c.program-item.result _
-    c.loop-program-test.true c.program-item.is c.need-need.ensures.verified
+    c.loop-program-test.true c.program-item.is c.entry.ensures.verified
     (c.job.invariant.own c.loop-program.program-index c.program-item.result
     (ap (λ ps. slice_get ps c.loop-program.program-index) (sym c.deref-program-items.ensures.value)
     ∙ slice_get_read c.deref-program-items.result.now (length c.deref-program-items.result.now) c.loop-program.program-index c.program-item.result refl c.loop-program-test.true c.program-item.is))
-    (entry_is c.program-item.result c.cost_at.result c.need-need.result c.cost_at.ensures c.need-need.ensures.need) c.loop-program.invariant)
+    c.entry.ensures.entry c.loop-program.invariant)
 
 pub invariant_of-result : goal.invariant_of-result
 invariant_of-result c =
@@ -42,7 +42,7 @@ invariant_of-result-2 c =
     let past : length c.deref-program-items.result.now ≤ c.loop-program.program-index = omega (arith, c.loop-program-test.false) in
     let are = entries_past c.deref-program-items.result.now c.job.inside.programs.items c.loop-program.program-index c.loop-program.entries.items
     c.deref-program-items.ensures.value past c.loop-program.invariant in
-    let order : Order = record { programs = c.job.inside.programs.items; credit = c.job.inside.credit; buffer = c.job.inside.buffer.items } in
+    let order : AdmittedJob = record { programs = c.job.inside.programs.items; credit = c.job.inside.credit; buffer = c.job.inside.buffer.items } in
     let post = c.in_ok-post.ensures.post in
     let book = c.in_ok-book.ensures.book in
     let issued = ap (λ (b : Sign). b.issued) post.0 ∙ c.in_ok-post.ensures.board.1 in
@@ -57,7 +57,7 @@ returns-clause-start c =
     let past : length c.deref-program-items.result.now ≤ c.loop-program.program-index = omega (arith, c.loop-program-test.false) in
     let are = entries_past c.deref-program-items.result.now c.job.inside.programs.items c.loop-program.program-index c.loop-program.entries.items
     c.deref-program-items.ensures.value past c.loop-program.invariant in
-    let order : Order = record { programs = c.job.inside.programs.items; credit = c.job.inside.credit; buffer = c.job.inside.buffer.items } in
+    let order : AdmittedJob = record { programs = c.job.inside.programs.items; credit = c.job.inside.credit; buffer = c.job.inside.buffer.items } in
     let post = c.in_ok-post.ensures.post in
     let book = c.in_ok-book.ensures.book in
     let issued = ap (λ (b : Sign). b.issued) post.0 ∙ c.in_ok-post.ensures.board.1 in

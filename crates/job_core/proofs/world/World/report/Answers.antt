@@ -1,5 +1,5 @@
 use Rattle.std.proofs.Common.{sym, subst}
-use Rattle.job_core.specs.Behind.{Kept, IsBehind}
+use Rattle.job_core.specs.Representation.{WorldState, RepresentsJob}
 use Rattle.job_core.proofs.Completion.{complete_book}
 use Rattle.job_core.proofs.Reports.{report_of, in_some}
 use Rattle.job_core.proofs.world.World.report.Goals as goal
@@ -13,5 +13,5 @@ returns-clause-some c = rw (← c.self.view_is) (λ j behind.
 pub returns-clause-value : goal.returns-clause-value
 returns-clause-value c = λ j behind.
     in_some c.report.result c.report.ensures.report (λ report some is.
-    report_of c.self.inside.tasks j report.now (subst (λ (k : Kept). IsBehind k j) (sym c.self.view_is) behind)
+    report_of c.self.inside.tasks j report.now (subst (λ (k : WorldState). RepresentsJob k j) (sym c.self.view_is) behind)
     ((returns-clause-some c j behind).0 some) is)

@@ -1,5 +1,9 @@
-use Rattle.lanes.proofs.Moving.{takes}
+use Rattle.crossbeam_deque.specs.Handles.{worker_view}
+use Rattle.lanes.proofs.Moving.{owner_takes, finds_none}
 use Rattle.lanes.proofs.ends.Lane.next.Goals as goal
 
 pub pop_as-requires-clause-fifo : goal.pop_as-requires-clause-fifo
-pop_as-requires-clause-fifo c = λ _. takes _ _ 1
+pop_as-requires-clause-fifo c = λ _. rw c.args.self.now.owner (owner_takes (worker_view c.args.self.now.ready) 1)
+
+pub pop_as-requires-clause-empty : goal.pop_as-requires-clause-empty
+pop_as-requires-clause-empty c = rw c.args.self.now.owner (finds_none (worker_view c.args.self.now.ready))

@@ -1,0 +1,177 @@
+/* Refuses each request for memory in turn, alone or with all that follow. A call that is refused
+ * answers 99, holds no more blocks than before, and leaves what it was lent as it was. Links the
+ * static library, with malloc, realloc and free wrapped. */
+#include <stdint.h>
+#include <stdio.h>
+#include <stdlib.h>
+#include <string.h>
+
+#include "telgovan.h"
+
+enum { ROOM = 4096, BYTES = 64, JOB_CREDIT = 2000, TASKS = 8 };
+
+static long granted = -1; /* how many requests are granted before one is refused; -1: all */
+static int then_all;      /* whether all that follow are refused too */
+static int refused;       /* whether one was */
+static long blocks;       /* how many blocks are held */
+
+void *__real_malloc(size_t size);
+void *__real_realloc(void *old, size_t size);
+void __real_free(void *block);
+
+static int grants(void) {
+    if (granted != 0) {
+        if (granted > 0) granted--;
+        return 1;
+    }
+    refused = 1;
+    if (!then_all) granted = -1;
+    return 0;
+}
+
+void *__wrap_malloc(size_t size) {
+    void *block = grants() ? __real_malloc(size) : NULL;
+    blocks += block != NULL;
+    return block;
+}
+
+void *__wrap_realloc(void *old, size_t size) {
+    void *block = grants() ? __real_realloc(old, size) : NULL;
+    blocks += old == NULL && block != NULL;
+    return block;
+}
+
+void __wrap_free(void *block) {
+    blocks -= block != NULL;
+    __real_free(block);
+}
+
+#define HOLDS(condition)                                                                           \
+    do {                                                                                           \
+        if (!(condition)) {                                                                        \
+            printf("%s:%d: %s\n", __FILE__, __LINE__, #condition);                                 \
+            exit(1);                                                                               \
+        }                                                                                          \
+    } while (0)
+
+struct code {
+    uint8_t bytes[ROOM];
+    size_t length;
+};
+
+static void assemble(const char *source, struct code *code) {
+    struct telgovan_written written;
+    HOLDS(telgovan_assemble((const uint8_t *)source, strlen(source), code->bytes, ROOM, &written) ==
+          0);
+    code->length = written.length;
+}
+
+static uint32_t load(const struct code *code, struct telgovan_program *program) {
+    struct telgovan_verdict verdict;
+    uint32_t status = telgovan_program_load(0, code->bytes, code->length, program, &verdict);
+    HOLDS(status == verdict.status);
+    return status;
+}
+
+/* What the program that is held answers, which takes no memory. */
+static uint64_t answer(struct telgovan_program *program) {
+    struct telgovan_outcome outcome;
+    uint8_t none;
+    long before = blocks;
+    granted = 0, then_all = 1, refused = 0;
+    HOLDS(telgovan_program_run(program, 10, 0, &none, 0, &outcome) == 0);
+    granted = -1;
+    HOLDS(!refused && blocks == before);
+    return outcome.r0;
+}
+
+/* A load leaves the program that was held where it is refused. Whether a request was refused. */
+static int try_load(long request, int all, const struct code *seven, const struct code *eight) {
+    struct telgovan_program program = {0};
+    HOLDS(load(seven, &program) == 0);
+    long before = blocks;
+    granted = request, then_all = all, refused = 0;
+    uint32_t status = load(eight, &program);
+    granted = -1;
+    int was_refused = refused;
+    HOLDS(status == (was_refused ? 99 : 0));
+    HOLDS(!was_refused || blocks == before);
+    HOLDS(answer(&program) == (was_refused ? 7 : 8));
+    telgovan_program_unload(&program);
+    return was_refused;
+}
+
+/* A share leaves both handles where it is refused. */
+static int try_share(long request, int all, const struct code *seven, const struct code *eight) {
+    struct telgovan_program program = {0}, other = {0};
+    HOLDS(load(seven, &program) == 0 && load(eight, &other) == 0);
+    long before = blocks;
+    granted = request, then_all = all, refused = 0;
+    uint32_t status = telgovan_program_share(&program, &other);
+    granted = -1;
+    int was_refused = refused;
+    HOLDS(status == (was_refused ? 99 : 0));
+    HOLDS(!was_refused || blocks == before);
+    HOLDS(answer(&program) == 7 && answer(&other) == (was_refused ? 8 : 7));
+    telgovan_program_unload(&program);
+    HOLDS(answer(&other) == (was_refused ? 8 : 7));
+    telgovan_program_unload(&other);
+    return was_refused;
+}
+
+/* A job leaves the buffer and the tasks where it is refused. A spawn that is refused is an answer
+ * to the task, and no refusal of the job. */
+static int try_job(long request, int all, const struct code *sum, const struct code *none) {
+    uint8_t buffer[BYTES], same[BYTES];
+    struct telgovan_task tasks[TASKS], blank[TASKS];
+    struct telgovan_report report;
+    struct telgovan_piece piece = {.start = 0, .length = sum->length, .need = 8};
+    (void)none;
+    for (int n = 0; n < BYTES; n++) buffer[n] = same[n] = (uint8_t)(n + 1);
+    memset(tasks, 0, sizeof tasks);
+    memset(blank, 0, sizeof blank);
+    long before = blocks;
+    granted = request, then_all = all, refused = 0;
+    uint32_t status = telgovan_job(sum->bytes, sum->length, &piece, 1, JOB_CREDIT, buffer, BYTES,
+                                   tasks, TASKS, &report);
+    granted = -1;
+    HOLDS(blocks == before && status == report.status);
+    if (status == 0) {
+        HOLDS(report.spent + report.returned == JOB_CREDIT && (refused || report.tasks == 8));
+    } else {
+        HOLDS(refused && status == 99);
+        HOLDS(memcmp(buffer, same, BYTES) == 0 && memcmp(tasks, blank, sizeof tasks) == 0);
+    }
+    return refused;
+}
+
+typedef int trial(long request, int all, const struct code *one, const struct code *other);
+
+static void try_each(const char *name, trial *one, const struct code *first,
+                     const struct code *second) {
+    for (int all = 0; all < 2; all++) {
+        long request = 0;
+        while (one(request, all, first, second)) request++;
+        printf("%s: %ld requests, each refused %s\n", name, request,
+               all ? "with all that follow" : "alone");
+    }
+    HOLDS(blocks == 0);
+}
+
+int main(int count, char **words) {
+    static struct code seven, eight, sum;
+    static char text[ROOM];
+    FILE *file = count > 1 ? fopen(words[1], "rb") : NULL;
+    if (file == NULL) return 2;
+    text[fread(text, 1, sizeof text - 1, file)] = 0;
+    fclose(file);
+    blocks = 0;
+    assemble("mov64 r0, 7\nexit", &seven);
+    assemble("mov64 r0, 8\nexit", &eight);
+    assemble(text, &sum);
+    HOLDS(blocks == 0);
+    try_each("load", try_load, &seven, &eight);
+    try_each("share", try_share, &seven, &eight);
+    try_each("job", try_job, &sum, &sum);
+    return 0;
+}

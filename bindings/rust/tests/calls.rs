@@ -1,0 +1,236 @@
+//! The library's calls, through the wrapper.
+
+use std::sync::mpsc;
+use std::thread;
+
+use telgovan::{assemble, disassemble, Error, Executed, Job, JobError, Piece, Program, Task};
+
+fn code(source: &str) -> Vec<u8> {
+    assemble(source).expect("a program")
+}
+
+fn program(need: u32, source: &str) -> Program {
+    Program::verify(need, &code(source)).expect("accepted")
+}
+
+fn filter() -> Program {
+    program(40, include_str!("../../../examples/filter.bpf"))
+}
+
+fn packet(port: u8) -> [u8; 64] {
+    let mut packet = [0; 64];
+    packet[12] = 8;
+    packet[14] = 0x45;
+    packet[23] = 17;
+    packet[37] = port;
+    packet
+}
+
+#[test]
+fn runs_the_filter() {
+    let mut filter = filter();
+    assert_eq!((filter.need(), filter.cost()), (40, 16));
+    for _ in 0..3 {
+        assert_eq!(
+            filter.execute(&mut packet(53), 0, 16),
+            Ok(Executed { r0: 1, used: 16 })
+        );
+        assert_eq!(filter.execute(&mut packet(54), 0, 16).expect("ran").r0, 0);
+    }
+}
+
+#[test]
+fn refuses_what_is_too_little() {
+    let mut filter = filter();
+    let number = |result: Result<Executed, Error>| result.expect_err("refused").number;
+    assert_eq!(number(filter.execute(&mut packet(53), 0, 15)), 42);
+    assert_eq!(number(filter.execute(&mut [0; 39], 0, 16)), 43);
+    assert_eq!(number(filter.execute(&mut vec![0; 65_537], 0, 16)), 65);
+    assert_eq!(
+        filter
+            .execute(&mut packet(53), 0, 16)
+            .expect("held as before")
+            .r0,
+        1
+    );
+}
+
+#[test]
+fn runs_pieces_in_turn() {
+    let mut memory = [packet(53), packet(54), packet(53)].concat();
+    let piece = |start, length| Piece {
+        start,
+        length,
+        argument: 0,
+    };
+    let pieces = [
+        piece(0, 64),
+        piece(64, 64),
+        piece(128, 64),
+        piece(128, 65),
+        piece(usize::MAX, 1),
+    ];
+    let told = filter().burst(&mut memory, &pieces, 16);
+    let r0s: Vec<Option<u64>> = told
+        .iter()
+        .map(|run| run.ok().map(|done| done.r0))
+        .collect();
+    assert_eq!(r0s, [Some(1), Some(0), Some(1), None, None]);
+    assert!(told[3..]
+        .iter()
+        .all(|run| run.expect_err("no such piece").number == 43));
+}
+
+#[test]
+fn leaves_what_a_run_leaves() {
+    let mut store = program(1, "stxb [r1+0], r3\nmov64 r0, 0\nexit");
+    let mut memory = [9, 9, 9];
+    let piece = |start, argument| Piece {
+        start,
+        length: 1,
+        argument,
+    };
+    store.burst(&mut memory, &[piece(2, 7), piece(0, 8)], 3);
+    assert_eq!(memory, [8, 9, 7]);
+}
+
+#[test]
+fn tells_where_a_refusal_stands() {
+    assert_eq!(
+        assemble("exit\nhalt"),
+        Err(Error {
+            number: 11,
+            place: Some(2)
+        })
+    );
+    let refusal = |need, source| Program::verify(need, &code(source)).expect_err("refused");
+    assert_eq!(
+        refusal(0, "ja -1"),
+        Error {
+            number: 23,
+            place: Some(0)
+        }
+    );
+    assert_eq!(
+        refusal(65_537, "ja -1"),
+        Error {
+            number: 38,
+            place: None
+        }
+    );
+    let told = refusal(0, "ja -1").to_string();
+    assert_eq!(
+        told,
+        "23: a path of jumps leads back to where it began at 0"
+    );
+}
+
+#[test]
+fn reads_back_what_it_writes() {
+    let bytes = code(include_str!("../../../examples/filter.bpf"));
+    let text = disassemble(&bytes).expect("a listing");
+    assert_eq!(text.lines().count(), 16);
+    assert_eq!(code(&text), bytes);
+    assert_eq!(
+        disassemble(&[0; 7]),
+        Err(Error {
+            number: 2,
+            place: None
+        })
+    );
+}
+
+#[test]
+fn threads_share_a_program() {
+    let mut first = filter();
+    let owners: Vec<Program> = (0..4).map(|_| first.share().expect("room")).collect();
+    drop(first);
+    let run = |mut owner: Program| move || owner.execute(&mut packet(53), 0, 16).expect("ran").r0;
+    let threads: Vec<_> = owners
+        .into_iter()
+        .map(|owner| thread::spawn(run(owner)))
+        .collect();
+    let answers: Vec<u64> = threads
+        .into_iter()
+        .map(|it| it.join().expect("joined"))
+        .collect();
+    assert_eq!(answers, [1; 4]);
+}
+
+#[test]
+fn a_program_goes_through_a_channel() {
+    let (sender, receiver) = mpsc::channel();
+    sender.send(filter()).expect("sent");
+    let other = thread::spawn(move || receiver.recv().expect("received"));
+    let mut back = other.join().expect("joined");
+    assert_eq!(back.execute(&mut packet(53), 0, 16).expect("ran").r0, 1);
+}
+
+#[test]
+fn plays_a_job() {
+    let sum = code(include_str!("../../../examples/sum.bpf"));
+    let mut buffer: Vec<u8> = (1..=64).collect();
+    let mut tasks = [Task::default(); 6];
+    let report = Job::new(8, &sum)
+        .play(2000, &mut buffer, &mut tasks)
+        .expect("played");
+    assert_eq!(
+        (report.tasks, report.spent, report.returned),
+        (8, 513, 1487)
+    );
+    let sums: Vec<u16> = buffer
+        .chunks(8)
+        .map(|it| u16::from_le_bytes([it[0], it[1]]))
+        .collect();
+    assert_eq!(sums, [36, 100, 164, 228, 292, 356, 420, 484]);
+    let numbers: Vec<u32> = tasks.iter().map(|task| task.number).collect();
+    assert_eq!(numbers, [0, 1, 2, 3, 4, 5]);
+    assert_eq!((tasks[0].given, tasks[0].r0), (2000, 36));
+}
+
+#[test]
+fn a_job_spawns_another_program() {
+    let spawn = code(include_str!("../../../examples/spawn.bpf"));
+    let child = code(include_str!("../../../examples/child.bpf"));
+    let mut buffer = [0; 8];
+    let mut tasks = [Task::default(); 3];
+    let job = Job::new(4, &spawn).program(4, &child);
+    let report = job.play(34, &mut buffer, &mut tasks).expect("played");
+    assert_eq!((report.tasks, report.spent, report.returned), (2, 27, 7));
+    assert_eq!(buffer, [0, 0, 0, 0, 9, 0, 0, 0]);
+    assert_eq!(
+        (tasks[1].program, tasks[1].spent, tasks[1].returned),
+        (1, 3, 7)
+    );
+    assert_eq!(tasks[2], Task::default());
+}
+
+#[test]
+fn tells_why_a_job_is_refused() {
+    let exit = code("mov64 r0, 0\nexit");
+    let unset = code("exit");
+    let mut buffer = [7; 4];
+    let mut refusal = |job: Job, credit| {
+        let error = job.play(credit, &mut buffer, &mut []).expect_err("refused");
+        assert_eq!(buffer, [7; 4]);
+        error
+    };
+    let at = |program, number, place| JobError {
+        program,
+        error: Error { number, place },
+    };
+    assert_eq!(refusal(Job::new(0, &exit), 1), at(None, 63, None));
+    assert_eq!(refusal(Job::new(5, &exit), 2), at(None, 64, None));
+    assert_eq!(refusal(Job::new(0, &exit), 1 << 31), at(None, 65, None));
+    assert_eq!(
+        refusal(Job::new(0, &exit).program(0, &unset), 2),
+        at(Some(1), 31, Some(0))
+    );
+    let many = (0..16).fold(Job::new(0, &exit), |job, _| job.program(0, &exit));
+    assert_eq!(refusal(many, 2), at(None, 62, None));
+    let told = at(Some(1), 31, Some(0)).to_string();
+    assert_eq!(
+        told,
+        "program 1: 31: a register is read that may be unset at 0"
+    );
+}

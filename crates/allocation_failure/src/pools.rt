@@ -1,0 +1,132 @@
+//! The job on two workers, in this thread and in a thread of its own.
+
+use crate::stop::{Stop, holds};
+use crate::tree::{CREDIT, job, told};
+use credit_book::{Board, Progress, Report};
+use job_core::Job;
+use job_server::{JobRequest, JobThread, PoolRunner, start_thread};
+use std::alloc::Global;
+use std::sync::Wait;
+use std::thread::Threads;
+use streams::Runner;
+use workers::{OpenGate, PoolFault, run_job};
+
+const WORKERS: u32 = 2;
+
+/// How often a runner is asked for its job.
+const PATIENCE: u32 = 1_000_000_000;
+
+/// What a task that wasn't run leaves, beside one that was: nothing is spent of what it was given.
+fn told_by_pool(alloc: Global, report: &Report) -> Result<Vec<u64>, Stop> {
+    let mut spent = 0u32;
+    let mut rest = 0u32;
+    let mut all_ran = true;
+    for end in &report.tasks {
+        spent = spent.saturating_add(end.spent);
+        rest = rest.saturating_add(end.rest);
+        all_ran &= end.ran;
+        holds(end.ran || end.spent == 0, "a task that didn't run spent")?;
+    }
+    let sums = spent == report.spent && rest == report.returned;
+    holds(sums, "the tasks' sums are not the report's")?;
+    holds(
+        report.spent.checked_add(report.returned) == Some(CREDIT),
+        "the report doesn't add up",
+    )?;
+    if all_ran {
+        told(alloc, report)
+    } else {
+        Err(Stop::Refused)
+    }
+}
+
+/// The job on two workers, under a board that is looked at when it is over.
+pub fn run_by_two<R: Threads + Wait + Sync>(rt: &R, alloc: Global) -> Result<Vec<u64>, Stop> {
+    let job = job(alloc)?;
+    let credit = job.credit();
+    if credit < 1 || credit > 2_147_483_647 {
+        return Err(Stop::Differs("the job has another credit"));
+    }
+    let (board, post, mut reader) = Board::open(alloc, 1, credit)?;
+    match run_job(rt, alloc, job, post, WORKERS, &OpenGate) {
+        Ok(report) => {
+            let seen = board.look(&mut reader);
+            let same = seen.complete
+                && (seen.spent, seen.returned) == (report.spent, report.returned);
+            holds(same, "the board doesn't say what the report does")?;
+            told_by_pool(alloc, &report)
+        }
+        Err(PoolFault::NoMemory) | Err(PoolFault::NoWorker) => Err(Stop::Refused),
+        Err(PoolFault::BookRefused) => Err(Stop::Differs("the book refused an end")),
+    }
+}
+
+/// Gives the job to a runner as number 1. `false`: the start was refused, and the runner holds
+/// nothing.
+fn is_started<N: Runner>(alloc: Global, runner: &mut N) -> Result<bool, Stop>
+    requires { N.ready runner.old }
+    ensures { N.ready runner.new }
+{
+    let nothing = Progress {
+        spent: 0,
+        returned: 0,
+        complete: false,
+    };
+    match runner.start(alloc, 1, job(alloc)?) {
+        Ok(()) => return Ok(true),
+        Err(code) => holds(
+            code == 81 || code == 99,
+            "a start is refused by another number",
+        )?,
+    }
+    holds(
+        runner.take().is_none(),
+        "a start that was refused gives a job",
+    )?;
+    holds(
+        runner.look(1) == nothing,
+        "a start that was refused is seen",
+    )?;
+    Ok(false)
+}
+
+/// Gives the job to a runner, again where that is refused.
+fn start<N: Runner>(alloc: Global, runner: &mut N) -> Result<(), Stop>
+    requires { N.ready runner.old }
+    ensures { N.ready runner.new }
+{
+    if is_started(alloc, runner)? || is_started(alloc, runner)? {
+        Ok(())
+    } else {
+        Err(Stop::Differs("a start is refused twice"))
+    }
+}
+
+/// The job in a thread of its own, taken when it has ended.
+pub fn run_by_runner<R>(rt: R, alloc: Global) -> Result<Vec<u64>, Stop>
+where
+    R: Threads + Wait + Copy + Send + Sync + Drop + 'static,
+{
+    let starter = move |request: JobRequest| -> Option<JobThread> {
+        start_thread(rt, request, WORKERS)
+    };
+    let mut runner = PoolRunner::new(rt, alloc, starter);
+    let mut given = None;
+    if let Err(stop) = start(alloc, &mut runner) {
+        runner.join_all();
+        return Err(stop);
+    }
+    for _ in 0..PATIENCE {
+        given = runner.take();
+        if given.is_some() {
+            break;
+        }
+    }
+    runner.join_all();
+    match given {
+        Some((1, Ok(report))) => told_by_pool(alloc, &report),
+        Some((1, Err(81))) | Some((1, Err(99))) => Err(Stop::Refused),
+        Some(_) => Err(Stop::Differs("the job fails by another number")),
+        None => Err(Stop::Differs("the job isn't given")),
+    }
+}

@@ -1,0 +1,107 @@
+-- Each line that clap takes says a command, with its numbers.
+use Rattle.std.proofs.Common.{◌≡◌, ◌≤◌, ◌<◌, ◌&&◌, length, ℕ, codes, true, false, refl, sym, subst, inl, inr, arith, List, [], Some, is_some, true≢false}
+use Rattle.std.specs.Prelude.{pos}
+use Rattle.clap.specs.Facts.{unwrap_or_range}
+use Rattle.clap.specs.Walk.{Row, Rule, Text, action_of, nothing_held, rows_after}
+use Rattle.clap.specs.Simple.{App, Shape, argument_words, built, built_leaf, filled, help_shape, inherited, is_simple, marked_built, new_app, with_leaf_noted, subcommand_of, with_index}
+use Rattle.clap.specs.Kinds.{HasKind}
+use Rattle.clap.specs.declared.error.Error.{Error}
+use Rattle.clap.specs.Faults.{fault_of, is_simple_and_free, level_fault}
+use Rattle.clap.specs.declared.builder.action.ArgAction.TheVariants as action
+use Rattle.clap.specs.declared.builder.value_parser.ValueParser.TheVariants as vp
+use Rattle.clap.proofs.OnLiterals.{clap_on_literals}
+use Rattle.bpfjobs_cli.specs.Commands.{IsNumberIn, SaysCommand}
+use Rattle.bpfjobs_cli.specs.Program.{bpfjobs_app, need_rule, port_rule, run_app, serve_app, sessions_rule, verify_app, workers_rule}
+use Rattle.bpfjobs_cli.specs.declared.commands.Command.TheVariants.{Assemble, Disassemble, Verify, Play, Run, Serve}
+use Rattle.bpfjobs_cli.proofs.NumberLemmas.{signed_number}
+use Rattle.bpfjobs_cli.proofs.RowLemmas.{Among, Each, IsOnly, On, both, default_value, required_value}
+use Rattle.bpfjobs_cli.proofs.SubcommandLemmas.{Gives, HasNoAlias, subcommand_gives}
+
+-- the rules as clap builds them
+abbrev rule : Rule → Rule
+rule r = with_index 1 (filled r)
+
+-- a rule with another id
+other : {x y : Rule} → false ≡ true → x ≡ y
+other e = absurd (true≢false (sym e))
+
+-- an argument of a subcommand that takes a number
+module _ (a : Rule) (low high : ℕ) (sets : action_of a ≡ action.Set) (wants : 1 ≤ (unwrap_or_range a.range).start_inclusive) (parser : a.parser ≡ Some (vp.Signed (pos low) (pos high)))
+    (s : Shape) (words : List Text) (only : Each (IsOnly a) s.rules) (among : Among a s.rules) (none : level_fault s [] nothing_held words false [] ≡ []) where
+  wanted : (s.subcommand_negates_reqs && false) ≡ false → a.required ≡ true → (n : ℕ) × IsNumberIn (rows_after s.rules [] words) a.id low high n
+  wanted needed required = signed_number a low high _ parser (required_value a sets wants s [] words false [] only none needed among required)
+
+  left_out : 0 < length a.defaults → (n : ℕ) × IsNumberIn (rows_after s.rules [] words) a.id low high n
+  left_out there = signed_number a low high _ parser (default_value a sets wants s [] words false [] only none among there)
+
+-- a subcommand as clap builds it
+abbrev leaf : Shape → Shape
+leaf s = built_leaf (inherited (with_leaf_noted (marked_built bpfjobs_app.top)) s)
+
+pub plain : is_simple_and_free bpfjobs_app ≡ true
+unfolding clap_on_literals
+plain = refl
+
+assemble : Gives SaysCommand (leaf (new_app (codes "assemble")).top)
+assemble words own none = (Assemble, refl)
+
+disassemble : Gives SaysCommand (leaf (new_app (codes "disassemble")).top)
+disassemble words own none = (Disassemble, refl)
+
+verify : Gives SaysCommand (leaf verify_app.top)
+verify words own none =
+    let need = wanted (rule need_rule) 0 4294967295 refl (omega arith) refl (leaf verify_app.top) words
+    ((λ same. refl), (other, tt)) (inl refl) none refl refl in
+    (Verify need.0, (refl, need.1))
+
+play : Gives SaysCommand (leaf (new_app (codes "play")).top)
+play words own none = (Play, refl)
+
+run : Gives SaysCommand (leaf run_app.top)
+run words own none =
+    let workers = left_out (rule workers_rule) 1 16 refl (omega arith) refl (leaf run_app.top) words
+    ((λ same. refl), (other, tt)) (inl refl) none (omega arith) in
+    (Run workers.0, (refl, workers.1))
+
+serve : Gives SaysCommand (leaf serve_app.top)
+serve words own none =
+    let port = wanted (rule port_rule) 1 65535 refl (omega arith) refl (leaf serve_app.top) words
+    ((λ same. refl), (other, (other, (other, tt)))) (inl refl) none refl refl in
+    let workers = left_out (rule workers_rule) 1 16 refl (omega arith) refl (leaf serve_app.top) words
+    (other, ((λ same. refl), (other, (other, tt)))) (inr (inl refl)) none (omega arith) in
+    let sessions = left_out (rule sessions_rule) 1 1000000 refl (omega arith) refl (leaf serve_app.top) words
+    (other, (other, ((λ same. refl), (other, tt)))) (inr (inr (inl refl))) none (omega arith) in
+    (Serve port.0 workers.0 sessions.0, (refl, port.1, workers.1, sessions.1))
+
+-- clap's own subcommand, which gives help
+help : Gives SaysCommand (built_leaf help_shape)
+help words own none = absurd (true≢false own)
+
+gives : Each (Gives SaysCommand) (built bpfjobs_app).subs
+gives = (assemble, (disassemble, (verify, (play, (run, (serve, (help, tt)))))))
+
+aliases : Each HasNoAlias (built bpfjobs_app).subs
+aliases = (refl, (refl, (refl, (refl, (refl, (refl, (refl, tt)))))))
+
+-- clap fails, or the line says a command
+pub says_command : (words : List Text) → fault_of bpfjobs_app words ≡ [] → (is_some (subcommand_of bpfjobs_app words) ≡ true) × On (λ p. SaysCommand p.0 p.1) (subcommand_of bpfjobs_app words)
+says_command words none = subcommand_gives SaysCommand (built bpfjobs_app) (argument_words bpfjobs_app words) refl refl aliases gives none
+
+-- the program is one of which clap's laws tell the matches
+pub is_plain : is_simple bpfjobs_app ≡ true
+is_plain = (both (is_simple bpfjobs_app) _ plain).0
+
+module _ (words : List Text) (a : App) (is : a ≡ bpfjobs_app) (none : fault_of a words ≡ []) where
+  said : (is_some (subcommand_of a words) ≡ true) × On (λ p. SaysCommand p.0 p.1) (subcommand_of a words)
+  said = subst (λ b. fault_of b words ≡ [] → (is_some (subcommand_of b words) ≡ true) × On (λ p. SaysCommand p.0 p.1) (subcommand_of b words)) (sym is) (says_command words) none
+
+  -- a subcommand is entered, and with its rows it is a command
+  pub is_entered : is_some (subcommand_of a words) ≡ true
+  is_entered = said.0
+
+  pub entered_says : (name : Text) (rows : List Row) → subcommand_of a words ≡ Some (name, rows) → SaysCommand name rows
+  entered_says name rows found = subst (On (λ p. SaysCommand p.0 p.1)) found said.1
+
+-- an error of this program's is one of its line's
+pub of_kind : (words : List Text) (a : App) (e : Error) → a ≡ bpfjobs_app → HasKind (fault_of a words) e → HasKind (fault_of bpfjobs_app words) e
+of_kind words a e is has = subst (λ b. HasKind (fault_of b words) e) is has

@@ -1,0 +1,61 @@
+-- The command that a subcommand and its matches are.
+use Rattle.std.specs.Prelude.{◌≡◌, ◌⊎◌, ℕ, ◌≤◌, List, codes, Some, true}
+use Rattle.std.specs.Str.Parse.{IsNumeral, digits_value, without_leading_plus}
+use Rattle.clap.specs.Faults.{fault_of}
+use Rattle.clap.specs.Words.{HasKind, Row, Text, kind_of, one_of, takes}
+use Rattle.clap.specs.declared.error.kind.ErrorKind.TheVariants.{DisplayHelp, DisplayVersion, OutOfMemory}
+use Rattle.bpfjobs_cli.specs.declared.commands.Command.{Command}
+use Rattle.bpfjobs_cli.specs.declared.commands.Command.TheVariants.{Assemble, Disassemble, Verify, Play, Run, Serve}
+use Rattle.bpfjobs_cli.specs.declared.commands.Usage.{Usage}
+use Rattle.bpfjobs_cli.specs.declared.commands.Usage.TheVariants as usage
+use Rattle.bpfjobs_cli.specs.Program.{bpfjobs_app}
+
+-- the value of an argument, read as a number from low to high; clap reads a leading plus
+pub record IsNumberIn (rows : List Row) (id : Text) (low high number : ℕ) : Type 0 where
+  pub text : Text
+  pub is_value : one_of id rows ≡ Some text
+  pub digits : IsNumeral 10 (without_leading_plus text)
+  pub value : number ≡ digits_value 10 (without_leading_plus text)
+  pub least : low ≤ number
+  pub most : number ≤ high
+
+abbrev pub IsCommandOf : Text → List Row → Command → Type 0
+IsCommandOf name rows Assemble = name ≡ codes "assemble"
+IsCommandOf name rows Disassemble = name ≡ codes "disassemble"
+IsCommandOf name rows (Verify need) =
+    (name ≡ codes "verify") × IsNumberIn rows (codes "need") 0 4294967295 need
+IsCommandOf name rows Play = name ≡ codes "play"
+IsCommandOf name rows (Run workers) =
+    (name ≡ codes "run") × IsNumberIn rows (codes "workers") 1 16 workers
+IsCommandOf name rows (Serve port workers sessions) =
+    (name ≡ codes "serve") × IsNumberIn rows (codes "port") 1 65535 port
+    × IsNumberIn rows (codes "workers") 1 16 workers
+    × IsNumberIn rows (codes "sessions") 1 1000000 sessions
+
+-- they are those of a command
+abbrev pub SaysCommand : Text → List Row → Type 0
+SaysCommand name rows = (command : Command) × IsCommandOf name rows command
+
+-- its numbers are in range
+abbrev pub IsInRange : Command → Type 0
+IsInRange Assemble = Unit {0}
+IsInRange Disassemble = Unit {0}
+IsInRange (Verify need) = Unit {0}
+IsInRange Play = Unit {0}
+IsInRange (Run workers) = (1 ≤ workers) × (workers ≤ 16)
+IsInRange (Serve port workers sessions) =
+    (1 ≤ port) × (port ≤ 65535) × (1 ≤ workers) × (workers ≤ 16) × (1 ≤ sessions)
+    × (sessions ≤ 1000000)
+
+-- Words that clap takes are refused for want of memory alone. Any others are refused for that, or
+-- for a fault that clap finds in them.
+abbrev pub IsUsage : Usage → List Text → Type 0
+IsUsage (usage.Refused error) words =
+    (takes bpfjobs_app words ≡ true → kind_of error ≡ OutOfMemory)
+    × HasKind (fault_of bpfjobs_app words) error
+IsUsage usage.NoMemory words = Unit {0}
+
+-- the words ask for help, or for the version: that is no mistake
+abbrev pub AsksHelp : Usage → Type 0
+AsksHelp (usage.Refused error) = (kind_of error ≡ DisplayHelp) ⊎ (kind_of error ≡ DisplayVersion)
+AsksHelp usage.NoMemory = ⊥

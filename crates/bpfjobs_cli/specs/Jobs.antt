@@ -1,0 +1,56 @@
+-- What is printed of a job.
+use Rattle.std.specs.Prelude.{◌≡◌, ◌↔◌, ℕ, List, Bool, true, IsTrue, Option, Some, None, Ok, Err}
+use Rattle.machine_model.specs.JobState.{JobState, IsComplete, start}
+use Rattle.sessions.specs.Answers.{ObjectAnswer}
+use Rattle.sessions.specs.Faults.{code_of}
+use Rattle.sessions.specs.Replies.{play_data}
+use Rattle.sessions.specs.declared.request.JobObject.{JobObject}
+use Rattle.job_core.specs.declared.totals.Totals.{Totals}
+use Rattle.job_core.specs.Admission.{IsAdmittedFrom, RefusesJob, number_of, place_of, slot_of}
+use Rattle.job_core.specs.Admitted.{AdmittedJob}
+use Rattle.job_core.specs.Answers.{AreTotals}
+use Rattle.job_core.specs.Representation.{WorldState, Plays}
+use Rattle.bpfjobs_cli.specs.declared.declined.Declined.{Declined}
+use Rattle.bpfjobs_cli.specs.declared.declined.Declined.TheVariants as declined
+use Rattle.bpfjobs_cli.specs.Printed.{Prints, refusal_reply, reply_line}
+
+-- the input says a job, with a schedule where one is wanted, and it is admitted
+pub record IsOrdered (wants : Bool) (input : List ℕ) (order : AdmittedJob) (schedule : List ℕ) :
+    Type 0 where
+  pub object : JobObject
+  pub read : ObjectAnswer wants (Ok object) input
+  pub admitted : IsAdmittedFrom object.programs.items object.credit object.buffer.items order
+  pub same_schedule : schedule ≡ object.schedule.items
+
+-- the input says no job, or one that isn't admitted
+abbrev pub IsDeclined : Bool → List ℕ → Declined → Type 0
+IsDeclined wants input (declined.Object fault) = ObjectAnswer wants (Err fault) input
+IsDeclined wants input (declined.Job fault) =
+    (object : JobObject) × ObjectAnswer wants (Ok object) input
+    × RefusesJob object.programs.items object.credit object.buffer.items fault
+
+abbrev pub declined_line : Declined → List ℕ
+declined_line (declined.Object fault) = refusal_reply (code_of fault) None None
+declined_line (declined.Job fault) =
+    refusal_reply (number_of fault) (place_of fault) (slot_of fault)
+
+-- how far a job is
+pub record PrintsProgress (j : JobState) (text : List ℕ) (status : ℕ) : Type 0 where
+  pub complete : Bool
+  pub is_complete : IsTrue complete ↔ IsComplete j
+  pub totals : Totals
+  pub are_totals : AreTotals totals j
+  pub line : Prints text status
+      (reply_line
+      (play_data j.buffer complete totals.held totals.returned totals.spent totals.used)) 0
+
+-- a job's schedule leads to what is told, or there is no job, or no memory for it
+pub data PrintsPlay (input text : List ℕ) (status : ℕ) : Type 0 where
+  played : (order : AdmittedJob) (schedule : List ℕ) (kept : WorldState)
+      → IsOrdered true input order schedule
+      → (plays : Plays order.programs (start order.credit order.buffer) schedule kept)
+      → PrintsProgress plays.last text status → PrintsPlay input text status
+  no_memory : (order : AdmittedJob) (schedule : List ℕ) → IsOrdered true input order schedule
+      → Prints text status (refusal_reply 99 None None) 1 → PrintsPlay input text status
+  no_job : (why : Declined) → IsDeclined true input why → Prints text status (declined_line why) 1
+      → PrintsPlay input text status

@@ -1,0 +1,40 @@
+-- What a command answers, and what is left where an end fails.
+use Rattle.std.specs.Prelude.{◌≡◌, ◌≤◌, ◌<◌, ◌⊎◌, ◌-◌, ◌^◌, ℕ, List, ◌++◌, length, take}
+use Rattle.streams.specs.declared.fault.StreamFault.{StreamFault}
+use Rattle.streams.specs.declared.fault.StreamFault.TheVariants.{ReadFailed, WriteFailed, NoMemory}
+use Rattle.bpfjobs_cli.specs.declared.commands.Command.{Command}
+use Rattle.bpfjobs_cli.specs.declared.commands.Command.TheVariants.{Assemble, Disassemble, Verify, Play, Run, Serve}
+use Rattle.bpfjobs_cli.specs.Jobs.{PrintsPlay}
+use Rattle.bpfjobs_cli.specs.Programs.{PrintsAssembly, PrintsListing, PrintsVerdict}
+
+-- the command needs no thread
+abbrev pub NeedsNoThread : Command → Type 0
+NeedsNoThread Assemble = Unit {0}
+NeedsNoThread Disassemble = Unit {0}
+NeedsNoThread (Verify need) = Unit {0}
+NeedsNoThread Play = Unit {0}
+NeedsNoThread (Run workers) = ⊥
+NeedsNoThread (Serve port workers sessions) = ⊥
+
+-- the text and the status that a command answers to its input
+abbrev pub IsAnswer : Command → List ℕ → List ℕ → ℕ → Type 0
+IsAnswer Assemble input text status = PrintsAssembly input text status
+IsAnswer Disassemble input text status = PrintsListing input text status
+IsAnswer (Verify need) input text status = PrintsVerdict need input text status
+IsAnswer Play input text status = PrintsPlay input text status
+IsAnswer (Run workers) input text status = ⊥
+IsAnswer (Serve port workers sessions) input text status = ⊥
+
+-- What is left where a command is given up by this. Where the reader failed, or there was no
+-- memory, nothing is written; where the writer failed all input was read, and of the answer a part
+-- is written, but not all of it.
+abbrev pub IsGivenUpBy : StreamFault → (List ℕ → ℕ → Type 0) → Type 0 → List ℕ → List ℕ → Type 0
+IsGivenUpBy ReadFailed answers over before after = after ≡ before
+IsGivenUpBy WriteFailed answers over before after =
+    over × (text : List ℕ) × (status : ℕ) × answers text status × (n : ℕ) × (n < length text)
+    × (after ≡ before ++ take n text)
+IsGivenUpBy NoMemory answers over before after = after ≡ before
+
+-- the reader is over, or has given so many bytes
+abbrev pub IsAllRead : Type 0 → List ℕ → Type 0
+IsAllRead over input = over ⊎ (2 ^ 64 - 1 ≤ length input)

@@ -1,0 +1,27 @@
+-- What is printed, and the status.
+use Rattle.std.specs.Prelude.{◌≡◌, ℕ, List, [], ◌∷◌, ◌++◌, codes, Option, Some, None}
+use Rattle.std.specs.Fmt.{decimal}
+use Rattle.serde_json.specs.Data.{Data}
+use Rattle.serde_json.specs.Written.{compact_text}
+use Rattle.sessions.specs.Replies.{refusal_data}
+
+-- a text and a status are these
+abbrev pub Prints : List ℕ → ℕ → List ℕ → ℕ → Type 0
+Prints text status line number = (text ≡ line) × (status ≡ number)
+
+-- `refused N`, or `refused N at K`
+abbrev pub refusal_line : ℕ → Option ℕ → List ℕ
+refusal_line number None = codes "refused " ++ (decimal number ++ codes "\n")
+refusal_line number (Some place) =
+    codes "refused " ++ (decimal number ++ (codes " at " ++ (decimal place ++ codes "\n")))
+
+-- `accepted cost C`
+abbrev pub accepted_line : ℕ → List ℕ
+accepted_line cost = codes "accepted cost " ++ (decimal cost ++ codes "\n")
+
+-- a reply's JSON
+abbrev pub reply_line : Data → List ℕ
+reply_line value = compact_text value ++ 10 ∷ []
+
+abbrev pub refusal_reply : ℕ → Option ℕ → Option ℕ → List ℕ
+refusal_reply code program slot = reply_line (refusal_data code program slot)

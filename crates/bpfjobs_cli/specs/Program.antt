@@ -1,0 +1,58 @@
+-- The program's command line, in clap's plain words.
+use Rattle.std.specs.Prelude.{[], ◌∷◌, codes, pos, Some, true}
+use Rattle.clap.specs.Words.{App, Rule, new_app, new_rule, with_rule, with_subcommand}
+use Rattle.clap.specs.declared.builder.value_parser.ValueParser.TheVariants as vp
+
+abbrev pub need_rule : Rule
+need_rule = record (new_rule (codes "need")) {
+  long = Some (codes "need");
+  value_names = 1;
+  required = true;
+  parser = Some (vp.Signed (pos 0) (pos 4294967295));
+}
+
+abbrev pub port_rule : Rule
+port_rule = record (new_rule (codes "port")) {
+  long = Some (codes "port");
+  value_names = 1;
+  required = true;
+  parser = Some (vp.Signed (pos 1) (pos 65535));
+}
+
+abbrev pub workers_rule : Rule
+workers_rule = record (new_rule (codes "workers")) {
+  long = Some (codes "workers");
+  value_names = 1;
+  defaults = codes "1" ∷ [];
+  parser = Some (vp.Signed (pos 1) (pos 16));
+}
+
+abbrev pub sessions_rule : Rule
+sessions_rule = record (new_rule (codes "sessions")) {
+  long = Some (codes "sessions");
+  value_names = 1;
+  defaults = codes "1" ∷ [];
+  parser = Some (vp.Signed (pos 1) (pos 1000000));
+}
+
+abbrev pub verify_app : App
+verify_app = with_rule (new_app (codes "verify")) need_rule
+
+abbrev pub run_app : App
+run_app = with_rule (new_app (codes "run")) workers_rule
+
+abbrev pub serve_app : App
+serve_app = with_rule (with_rule (with_rule (new_app (codes "serve")) port_rule) workers_rule)
+    sessions_rule
+
+-- a subcommand is required
+abbrev pub requiring : App → App
+requiring a = record a { top = record a.top { subcommand_required = true } }
+
+abbrev pub bpfjobs_app : App
+bpfjobs_app =
+    with_subcommand (with_subcommand
+    (with_subcommand
+    (with_subcommand (with_subcommand (with_subcommand (requiring (new_app (codes "bpfjobs")))
+    (new_app (codes "assemble")).top) (new_app (codes "disassemble")).top) verify_app.top)
+    (new_app (codes "play")).top) run_app.top) serve_app.top

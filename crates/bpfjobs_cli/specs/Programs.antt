@@ -1,0 +1,55 @@
+-- What is printed of a program: its bytes, its lines or its cost, or the refusal.
+use Rattle.std.specs.Prelude.{ℕ, List, [], ◌∷◌, ◌++◌, None}
+use Rattle.std.specs.Str.{IsUtf8}
+use Rattle.hex.specs.Hex.{encode_lower}
+use Rattle.insn_codec.specs.declared.insn.Insn.{Insn}
+use Rattle.insn_codec.specs.declared.fault.CodecFault.{CodecFault}
+use Rattle.insn_codec.specs.Fault.{code_of_fault as codec_number, slot_of_fault as codec_slot}
+use Rattle.insn_codec.specs.Spelling.{IsRefusal}
+use Rattle.disassembler.specs.Line.{IsListing}
+use Rattle.assembler.specs.declared.fault.TextFault.{TextFault}
+use Rattle.assembler.specs.Fault.{code_of_fault as text_number, line_of}
+use Rattle.assembler.specs.Source.{IsAssembly, IsTextRefusal, source_lines}
+use Rattle.helpers.specs.Table.{job_table}
+use Rattle.verifier.specs.declared.refusals.Refusal.{Refusal}
+use Rattle.verifier.specs.Checked.{Checked, cost_at}
+use Rattle.verifier.specs.RefusalCodes.{number_of, slot_of}
+use Rattle.verifier.specs.Refusals.{IsAccepted, RefusesProgram}
+use Rattle.bpfjobs_cli.specs.Hexadecimal.{IsHexadecimal, IsNoHexadecimal}
+use Rattle.bpfjobs_cli.specs.Printed.{Prints, accepted_line, refusal_line}
+
+-- of a source text
+pub data PrintsAssembly (source text : List ℕ) (status : ℕ) : Type 0 where
+  assembled : (bytes : List ℕ) (insns : List Insn) → IsUtf8 source
+      → IsAssembly bytes insns (source_lines source)
+      → Prints text status (encode_lower bytes ++ 10 ∷ []) 0 → PrintsAssembly source text status
+  refused : (fault : TextFault) → IsUtf8 source → IsTextRefusal fault (source_lines source)
+      → Prints text status (refusal_line (text_number fault) (line_of fault)) 1
+      → PrintsAssembly source text status
+  no_text : (IsUtf8 source → ⊥) → Prints text status (refusal_line 73 None) 1
+      → PrintsAssembly source text status
+
+-- of bytes in hexadecimal, as lines
+pub data PrintsListing (input text : List ℕ) (status : ℕ) : Type 0 where
+  listed : (bytes listing : List ℕ) (insns : List Insn) → IsHexadecimal input bytes
+      → IsListing listing bytes insns → Prints text status listing 0
+      → PrintsListing input text status
+  refused : (bytes : List ℕ) (fault : CodecFault) → IsHexadecimal input bytes
+      → IsRefusal fault bytes
+      → Prints text status (refusal_line (codec_number fault) (codec_slot fault)) 1
+      → PrintsListing input text status
+  no_hexadecimal : IsNoHexadecimal input → Prints text status (refusal_line 73 None) 1
+      → PrintsListing input text status
+
+-- the verdict on bytes in hexadecimal
+pub data PrintsVerdict (need : ℕ) (input text : List ℕ) (status : ℕ) : Type 0 where
+  accepted : (bytes : List ℕ) (program : Checked) → IsHexadecimal input bytes
+      → IsAccepted need bytes job_table program
+      → Prints text status (accepted_line (cost_at program 0)) 0
+      → PrintsVerdict need input text status
+  refused : (bytes : List ℕ) (refusal : Refusal) → IsHexadecimal input bytes
+      → RefusesProgram need bytes job_table refusal
+      → Prints text status (refusal_line (number_of refusal) (slot_of refusal)) 1
+      → PrintsVerdict need input text status
+  no_hexadecimal : IsNoHexadecimal input → Prints text status (refusal_line 73 None) 1
+      → PrintsVerdict need input text status

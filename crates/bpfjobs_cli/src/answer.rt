@@ -1,0 +1,54 @@
+//! What is printed, and the status that goes with it.
+
+ghost use Rattle.std.specs.Prelude.{◌≡◌, IfOk};
+ghost use Rattle.sessions.specs.Replies.{reply_data};
+ghost use Rattle.bpfjobs_cli.specs.Printed.{Prints, refusal_line, reply_line};
+
+use refusal::NoMemory;
+use sessions::{Reply, reply_text};
+use std::alloc::Global;
+
+/// What is printed, and the status: 0 answered, 1 refused.
+#[derive(Drop)]
+pub struct Answer {
+    pub text: Vec<u8>,
+    pub status: u8,
+}
+
+/// The line of a refusal: `refused N`, or `refused N at K`, where K is the line or the slot.
+pub(crate) fn answer_refusal(
+    alloc: Global,
+    number: u8,
+    place: Option<u64>,
+) -> Result<Answer, NoMemory>
+    ensures { IfOk result
+        (λ answer. Prints answer.text.items answer.status (refusal_line number place) 1) }
+{
+    match place {
+        Some(place) => {
+            let line = format!(in alloc; "refused {number} at {place}\n")?;
+            Ok(Answer {
+                text: line.into_bytes(),
+                status: 1,
+            })
+        }
+        None => {
+            let line = format!(in alloc; "refused {number}\n")?;
+            Ok(Answer {
+                text: line.into_bytes(),
+                status: 1,
+            })
+        }
+    }
+}
+
+/// A reply as JSON, in a line.
+pub fn answer_reply(alloc: Global, reply: &Reply, status: u8) -> Result<Answer, NoMemory>
+    ensures { IfOk result
+        (λ answer. Prints answer.text.items answer.status (reply_line (reply_data reply.now))
+        status) }
+{
+    let mut text = reply_text(alloc, reply)?;
+    text.push(b'\n')?;
+    Ok(Answer { text, status })
+}

@@ -1,0 +1,67 @@
+//! The job that the input says, or why there is none.
+
+ghost use Rattle.std.specs.Prelude.{◌≡◌, IfOk, IfErr, Bool};
+ghost use Rattle.bpfjobs_cli.specs.Printed.{Prints};
+ghost use Rattle.bpfjobs_cli.specs.Jobs.{IsOrdered, IsDeclined, declined_line};
+
+use crate::answer::{Answer, answer_reply};
+use job_core::{AdmitFault, Job, admit};
+use refusal::NoMemory;
+use sessions::{JobObject, Reply, SessionFault, job_object};
+use std::alloc::Global;
+
+/// Why there is no job.
+#[derive(Clone, Copy, Debug, PartialEq, Eq)]
+pub enum Declined {
+    /// The input says none.
+    Object(SessionFault),
+    /// It isn't admitted.
+    Job(AdmitFault),
+}
+
+impl Declined {
+    /// The refusal as a reply.
+    pub fn answer(&self, alloc: Global) -> Result<Answer, NoMemory>
+        ensures { IfOk result
+            (λ answer. Prints answer.text.items answer.status (declined_line self.now) 1) }
+    {
+        let refusal = match self {
+            Declined::Object(fault) => Reply::Refused {
+                code: fault.code(),
+                program: None,
+                slot: None,
+            },
+            Declined::Job(fault) => Reply::Refused {
+                code: fault.code(),
+                program: fault.program(),
+                slot: fault.slot(),
+            },
+        };
+        answer_reply(alloc, &refusal, 1)
+    }
+}
+
+/// The job that the input says, as it is admitted, and its schedule where one is wanted.
+pub fn read_job(
+    alloc: Global,
+    input: &[u8],
+    wants_schedule: bool,
+) -> Result<(Job, Vec<u32>), Declined>
+    ensures ok { IfOk result (λ r. IsOrdered wants_schedule input.now r.0 r.1.items) }
+    ensures err { IfErr result (λ why. IsDeclined wants_schedule input.now why) }
+{
+    let object = match job_object(alloc, input, wants_schedule) {
+        Ok(object) => object,
+        Err(fault) => return Err(Declined::Object(fault)),
+    };
+    let JobObject {
+        programs,
+        credit,
+        buffer,
+        schedule,
+    } = object;
+    match admit(alloc, &programs, credit, buffer) {
+        Ok(job) => Ok((job, schedule)),
+        Err(fault) => Err(Declined::Job(fault)),
+    }
+}

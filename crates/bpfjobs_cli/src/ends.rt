@@ -1,0 +1,114 @@
+//! A command from a source to a sink.
+
+ghost use Rattle.std.specs.Prelude.{◌≡◌, ◌≢◌, ◌<◌, ◌++◌, ℕ, List, true, false, take, length, is_err, OnOk, OnErr, IfOk, IfErr, Err};
+ghost use Rattle.bpfjobs_cli.specs.Performing.{IsAllRead, NeedsNoThread, IsAnswer, IsGivenUpBy};
+
+use crate::Command;
+use crate::answer::Answer;
+use crate::code::{answer_assemble, answer_disassemble, answer_verify};
+use crate::job::answer_play;
+use refusal::NoMemory;
+use std::alloc::Global;
+use streams::{Sink, Source, StreamFault, write_all};
+
+// The most bytes that a read asks for.
+const PIECE_LEN: usize = 4096;
+
+/// All that the reader gives, in pieces of at most 4,096 bytes, at most `2^64 - 1` of them.
+pub fn read_all<R: Source>(alloc: Global, reader: &mut R) -> Result<Vec<u8>, StreamFault>
+    requires { R.has_failed reader.old ≡ false }
+    ensures told { IfOk result (λ bytes. R.transcript reader.new ≡ R.transcript reader.old
+        ++ bytes.items) }
+    ensures over { IfOk result
+        (λ bytes. IsAllRead (R.is_over reader.new ≡ true) bytes.items) }
+    ensures well { OnOk result (R.has_failed reader.new ≡ false) }
+    ensures stopped { OnErr result ((input : List ℕ)
+        × (R.transcript reader.new ≡ R.transcript reader.old ++ input)) }
+    ensures read_failed { result ≡ Err StreamFault.ReadFailed → R.has_failed reader.new ≡ true }
+    ensures no_memory { result ≡ Err StreamFault.NoMemory → R.has_failed reader.new ≡ false }
+    ensures no_other { result ≢ Err StreamFault.WriteFailed }
+{
+    let mut bytes = Vec::new(alloc);
+    let mut piece = [0u8; PIECE_LEN];
+    'reads: for _ in 0..u64::MAX {
+        let count = match reader.read(&mut piece) {
+            Ok(count) => count,
+            Err(_) => return Err(StreamFault::ReadFailed),
+        };
+        if count == 0 {
+            return Ok(bytes);
+        }
+        if bytes.extend_from_slice(&piece[..count]).is_err() {
+            return Err(StreamFault::NoMemory);
+        }
+    }
+    Ok(bytes)
+}
+
+/// Writes an answer, and gives its status. It is refused where the writer fails, by 84: of the
+/// answer a beginning is written then, and not all.
+pub fn tell<W: Sink>(writer: &mut W, answer: &Answer) -> Result<u8, StreamFault>
+    requires { W.has_failed writer.old ≡ false }
+    ensures status { IfOk result (λ status. status ≡ answer.now.status) }
+    ensures ok { OnOk result (W.transcript writer.new ≡ W.transcript writer.old
+        ++ answer.now.text.items) }
+    ensures err { IfErr result (λ fault. (fault ≡ StreamFault.WriteFailed)
+        × (n : ℕ) × (n < length answer.now.text.items)
+        × (W.transcript writer.new ≡ W.transcript writer.old ++ take n answer.now.text.items)) }
+    ensures failed { W.has_failed writer.new ≡ is_err result }
+{
+    match write_all(writer, &answer.text) {
+        Ok(()) => Ok(answer.status),
+        Err(_) => Err(StreamFault::WriteFailed),
+    }
+}
+
+/// What is answered to the input, by a command that needs no thread.
+pub fn answer_to(alloc: Global, command: Command, input: &[u8]) -> Result<Answer, NoMemory>
+    requires { NeedsNoThread command }
+    ensures { IfOk result (λ answer. IsAnswer command input.now answer.text.items answer.status) }
+{
+    match command {
+        Command::Assemble => answer_assemble(alloc, input),
+        Command::Disassemble => answer_disassemble(alloc, input),
+        Command::Verify { need } => answer_verify(alloc, need, input),
+        Command::Play => answer_play(alloc, input),
+        Command::Run { .. } | Command::Serve { .. } => unreachable!(),
+    }
+}
+
+/// Reads the whole input, writes the answer of a command that needs no thread, and gives the
+/// status: 0 answered, 1 refused.
+///
+/// 83 where the reader failed, and 99 where the input or the answer found no memory and neither end
+/// has failed: nothing is written. 84 where the writer failed, once all input was read: of the
+/// answer a beginning is written, and not all.
+pub fn perform<R: Source, W: Sink>(
+    alloc: Global,
+    command: Command,
+    reader: &mut R,
+    writer: &mut W,
+) -> Result<u8, StreamFault>
+    requires alone { NeedsNoThread command }
+    requires source { R.has_failed reader.old ≡ false }
+    requires sink { W.has_failed writer.old ≡ false }
+    ensures done { IfOk result (λ status. (input text : List ℕ)
+        × (R.transcript reader.new ≡ R.transcript reader.old ++ input)
+        × IsAllRead (R.is_over reader.new ≡ true) input
+        × IsAnswer command input text status
+        × (W.transcript writer.new ≡ W.transcript writer.old ++ text)) }
+    ensures stopped { IfErr result (λ fault. (input : List ℕ)
+        × (R.transcript reader.new ≡ R.transcript reader.old ++ input)
+        × IsGivenUpBy fault (IsAnswer command input) (IsAllRead (R.is_over reader.new ≡ true) input)
+        (W.transcript writer.old) (W.transcript writer.new)) }
+    ensures read_failed { result ≡ Err StreamFault.ReadFailed → R.has_failed reader.new ≡ true }
+    ensures write_failed { result ≡ Err StreamFault.WriteFailed → W.has_failed writer.new ≡ true }
+    ensures no_memory { result ≡ Err StreamFault.NoMemory → (R.has_failed reader.new ≡ false)
+        × (W.has_failed writer.new ≡ false) }
+    ensures well { OnOk result ((R.has_failed reader.new ≡ false)
+        × (W.has_failed writer.new ≡ false)) }
+{
+    let input = read_all(alloc, reader)?;
+    let answer = answer_to(alloc, command, &input)?;
+    tell(writer, &answer)
+}

@@ -1,0 +1,37 @@
+//! The command line of `bpfjobs`, and its commands that need no thread: from the words and the
+//! bytes of the input to the text of the answer and the status.
+#![tactic(auto)]
+
+mod commands;
+mod process;
+mod program;
+mod reading;
+mod texts;
+
+pub use commands::{Command, Usage};
+pub use process::{FAILED, UNREAD, print_usage, words};
+pub use reading::command;
+
+// what is printed
+mod answer;
+
+pub use answer::{Answer, answer_reply};
+
+// programs, as text and in hexadecimal
+mod code;
+mod hexadecimal;
+
+pub use code::{answer_assemble, answer_disassemble, answer_verify};
+pub use hexadecimal::{Unread, read_hexadecimal};
+
+// jobs, as JSON
+mod declined;
+mod job;
+
+pub use declined::{Declined, read_job};
+pub use job::answer_play;
+
+// from a source to a sink
+mod ends;
+
+pub use ends::{answer_to, perform, read_all, tell};

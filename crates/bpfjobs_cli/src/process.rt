@@ -1,0 +1,35 @@
+//! What the programs do with the words of their process.
+
+ghost use Rattle.std.specs.Prelude.{◌≡◌};
+ghost use Rattle.bpfjobs_cli.specs.Commands.{AsksHelp};
+
+use crate::commands::Usage;
+use std::env::Env;
+use std::{env, io};
+
+/// The status where the words can't be read.
+pub const UNREAD: u8 = 2;
+
+/// The status where a file, the input, the output or a socket fails, or there is no memory.
+pub const FAILED: u8 = 3;
+
+/// The words of the command line, the program's name first.
+pub fn words<R: Env + AllocGlobal>(rt: &R) -> io::Result<Vec<String>> {
+    let mut words = Vec::new(rt.alloc());
+    for word in env::args(rt)? {
+        words.push(word)?;
+    }
+    Ok(words)
+}
+
+/// Prints why the words are wrong, or the help that they ask for, and gives the status: 0 where
+/// help was asked for, and else 2.
+pub fn print_usage<R: Print + Eprint>(rt: &R, usage: Usage) -> u8
+    ensures help { AsksHelp usage → result ≡ 0 }
+    ensures mistake { (AsksHelp usage → ⊥) → result ≡ 2 }
+{
+    if let Usage::Refused(error) = &usage {
+        let _ = error.print(rt);
+    }
+    usage.status()
+}

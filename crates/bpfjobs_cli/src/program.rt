@@ -1,0 +1,115 @@
+//! What clap is told of the words.
+
+ghost use Rattle.std.specs.Prelude.{◌≡◌, false, IfOk};
+ghost use Rattle.clap.specs.Words.{app_of, new_app, rule_of};
+ghost use Rattle.clap.specs.declared.builder.command.Command.TheViews.{out-Command as fields_of};
+ghost use Rattle.bpfjobs_cli.specs.Program.{need_rule, port_rule, workers_rule, sessions_rule, verify_app, run_app, serve_app, bpfjobs_app};
+
+use crate::texts;
+use clap::{Arg, Command};
+use std::alloc::{AllocError, Global};
+
+fn need<'a>(alloc: Global) -> Arg<'a>
+    ensures rule { rule_of result ≡ need_rule }
+    ensures local { result.global ≡ false }
+{
+    Arg::new(alloc, "need")
+        .long("need")
+        .value_name("BYTES")
+        .help(texts::NEED)
+        .required(true)
+        .value_parser(clap::value_parser!(u32).range(0..=4294967295))
+}
+
+fn port<'a>(alloc: Global) -> Arg<'a>
+    ensures rule { rule_of result ≡ port_rule }
+    ensures local { result.global ≡ false }
+{
+    Arg::new(alloc, "port")
+        .long("port")
+        .value_name("PORT")
+        .help(texts::PORT)
+        .required(true)
+        .value_parser(clap::value_parser!(u32).range(1..=65535))
+}
+
+fn workers<'a>(alloc: Global) -> Arg<'a>
+    ensures rule { rule_of result ≡ workers_rule }
+    ensures local { result.global ≡ false }
+{
+    Arg::new(alloc, "workers")
+        .long("workers")
+        .value_name("COUNT")
+        .help(texts::WORKERS)
+        .value_parser(clap::value_parser!(u32).range(1..=16))
+        .default_value("1")
+}
+
+fn sessions<'a>(alloc: Global) -> Arg<'a>
+    ensures rule { rule_of result ≡ sessions_rule }
+    ensures local { result.global ≡ false }
+{
+    Arg::new(alloc, "sessions")
+        .long("sessions")
+        .value_name("COUNT")
+        .help(texts::SESSIONS)
+        .value_parser(clap::value_parser!(u32).range(1..=1000000))
+        .default_value("1")
+}
+
+// A command that has no argument yet.
+fn named<'a>(alloc: Global, name: &'a str, about: &'a str, more: &'a str) -> Command<'a>
+    ensures app { app_of result ≡ new_app name.now }
+    ensures local { (fields_of result).has_globals ≡ false }
+{
+    Command::new(alloc, name).about(about).after_help(more)
+}
+
+fn verify<'a>(alloc: Global) -> Result<Command<'a>, AllocError>
+    ensures app { IfOk result (λ c. app_of c ≡ verify_app) }
+    ensures local { IfOk result (λ c. (fields_of c).has_globals ≡ false) }
+{
+    named(alloc, "verify", texts::VERIFY, texts::VERIFY_MORE).arg(need(alloc))
+}
+
+fn run<'a>(alloc: Global) -> Result<Command<'a>, AllocError>
+    ensures app { IfOk result (λ c. app_of c ≡ run_app) }
+    ensures local { IfOk result (λ c. (fields_of c).has_globals ≡ false) }
+{
+    named(alloc, "run", texts::RUN, texts::RUN_MORE).arg(workers(alloc))
+}
+
+fn serve<'a>(alloc: Global) -> Result<Command<'a>, AllocError>
+    ensures app { IfOk result (λ c. app_of c ≡ serve_app) }
+    ensures local { IfOk result (λ c. (fields_of c).has_globals ≡ false) }
+{
+    named(alloc, "serve", texts::SERVE, texts::SERVE_MORE)
+        .arg(port(alloc))?
+        .arg(workers(alloc))?
+        .arg(sessions(alloc))
+}
+
+/// The program with its commands, as clap reads them.
+pub(crate) fn bpfjobs<'a>(alloc: Global) -> Result<Command<'a>, AllocError>
+    ensures { IfOk result (λ c. app_of c ≡ bpfjobs_app) }
+{
+    let assemble = named(alloc, "assemble", texts::ASSEMBLE, texts::ASSEMBLE_MORE);
+    let disassemble = named(
+        alloc,
+        "disassemble",
+        texts::DISASSEMBLE,
+        texts::DISASSEMBLE_MORE,
+    );
+    let verify = verify(alloc)?;
+    let play = named(alloc, "play", texts::PLAY, texts::PLAY_MORE);
+    let run = run(alloc)?;
+    let serve = serve(alloc)?;
+    named(alloc, "bpfjobs", texts::BPFJOBS, texts::BPFJOBS_MORE)
+        .subcommand_required(true)
+        .subcommand(assemble)?
+        .subcommand(disassemble)?
+        .subcommand(verify)?
+        .subcommand(play)?
+        .subcommand(run)?
+        .subcommand(serve)
+}

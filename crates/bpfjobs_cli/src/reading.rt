@@ -1,0 +1,84 @@
+//! The command that words say.
+
+ghost use Rattle.std.specs.Prelude.{◌≡◌, ℕ, map, IfOk, IfErr, Some, string_bytes, List};
+ghost use Rattle.clap.specs.Words.{Row, Text, found_of, rows_of, subcommand_of};
+ghost use Rattle.bpfjobs_cli.specs.Program.{bpfjobs_app};
+ghost use Rattle.bpfjobs_cli.specs.Commands.{IsNumberIn, IsCommandOf, IsInRange, IsUsage, SaysCommand};
+
+use crate::commands::{Command, Usage};
+use crate::program::bpfjobs;
+use clap::ArgMatches;
+use std::alloc::Global;
+
+// The number of an argument that has one, from low to high.
+fn number(matches: &ArgMatches<'_>, id: &str, low: u32, high: u32) -> u32
+    requires { (n : ℕ) × IsNumberIn (rows_of (found_of matches.now)) id.now low high n }
+    ensures { IsNumberIn (rows_of (found_of matches.now)) id.now low high result }
+{
+    match matches.get_one::<u32>(id) {
+        Some(number) => number,
+        None => unreachable!(),
+    }
+}
+
+fn command_of(name: &str, matches: &ArgMatches<'_>) -> Command
+    requires { SaysCommand name.now (rows_of (found_of matches.now)) }
+    ensures named { IsCommandOf name.now (rows_of (found_of matches.now)) result }
+    ensures range { IsInRange result }
+{
+    match name {
+        "assemble" => Command::Assemble,
+        "disassemble" => Command::Disassemble,
+        "verify" => {
+            let need = number(matches, "need", 0, u32::MAX);
+            Command::Verify { need }
+        }
+        "play" => Command::Play,
+        "run" => {
+            let workers = number(matches, "workers", 1, 16);
+            Command::Run { workers }
+        }
+        "serve" => {
+            let port = number(matches, "port", 1, 65535);
+            let workers = number(matches, "workers", 1, 16);
+            let sessions = number(matches, "sessions", 1, 1000000);
+            Command::Serve {
+                port,
+                workers,
+                sessions,
+            }
+        }
+        _ => unreachable!(),
+    }
+}
+
+// The command that the words say.
+fn command_in(alloc: Global, words: &[String]) -> Result<Command, Usage>
+    ensures ok { IfOk result (λ command. (name : Text) × (rows : List Row)
+        × (subcommand_of bpfjobs_app (map string_bytes words.now) ≡ Some (name, rows))
+        × IsCommandOf name rows command) }
+    ensures range { IfOk result (λ command. IsInRange command) }
+    ensures err { IfErr result (λ usage. IsUsage usage (map string_bytes words.now)) }
+{
+    let matches = match bpfjobs(alloc)?.try_get_matches_from(words) {
+        Ok(matches) => matches,
+        Err(error) => return Err(Usage::Refused(error)),
+    };
+    match matches.subcommand() {
+        Some((name, inner)) => Ok(command_of(name, inner)),
+        None => unreachable!(),
+    }
+}
+
+/// The command that the words say, of which the first is the program's name: the subcommand and its
+/// numbers are those that clap's matches of the words give. Words that clap takes are refused only
+/// for want of memory.
+pub fn command(alloc: Global, words: Vec<String>) -> Result<Command, Usage>
+    ensures ok { IfOk result (λ command. (name : Text) × (rows : List Row)
+        × (subcommand_of bpfjobs_app (map string_bytes words.items) ≡ Some (name, rows))
+        × IsCommandOf name rows command) }
+    ensures range { IfOk result (λ command. IsInRange command) }
+    ensures err { IfErr result (λ usage. IsUsage usage (map string_bytes words.items)) }
+{
+    command_in(alloc, &words)
+}

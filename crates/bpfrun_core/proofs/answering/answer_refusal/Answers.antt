@@ -1,0 +1,7 @@
+use Rattle.bpfrun_core.specs.Answered.{explained}
+use Rattle.bpfrun_core.proofs.answering.answer_refusal.Goals as goal
+
+pub returns-in-Some : goal.returns-in-Some
+returns-in-Some c =
+    let why = rw c.in-Some.is at c.in_ok-answer.ensures in
+    explained c.if-asked.true why.0.0 why.0.1 why.1

@@ -1,0 +1,13 @@
+use Rattle.std.proofs.Common.{ap₂, ◌∙◌}
+use Rattle.std.proofs.lemmas.Result.{IfOk-weaker}
+use Rattle.clap.specs.Words.{with_rule}
+use Rattle.bpfrun_core.proofs.program.bpfrun.Goals as goal
+
+pub returns : goal.returns
+returns c =
+    let first = c.in_ok-arg.ensures.shape c.file.ensures.local ∙ ap₂ with_rule c.named.ensures.app c.file.ensures.rule in
+    let second = c.in_ok-arg-2.ensures.shape c.need.ensures.local ∙ ap₂ with_rule first c.need.ensures.rule in
+    let third = c.in_ok-arg-3.ensures.shape c.credit.ensures.local ∙ ap₂ with_rule second c.credit.ensures.rule in
+    let fourth = c.in_ok-arg-4.ensures.shape c.argument.ensures.local ∙ ap₂ with_rule third c.argument.ensures.rule in
+    let fifth = c.in_ok-arg-5.ensures.shape c.memory.ensures.local ∙ ap₂ with_rule fourth c.memory.ensures.rule in
+    IfOk-weaker c.arg-6.result _ _ (λ r h. h.shape c.explain.ensures.local ∙ ap₂ with_rule fifth c.explain.ensures.rule) c.arg-6.ensures

@@ -1,0 +1,74 @@
+-- What is answered to a program.
+use Rattle.std.specs.Prelude.{◌≡◌, ◌≢◌, ℕ, min, List, length, [], Bool, true, Option, Some, None, option_map, if◌then◌else◌}
+use Rattle.std.proofs.Math.ListN.{replicate}
+use Rattle.machine_model.specs.Limits.{max_part}
+use Rattle.helpers.specs.Table.{job_table}
+use Rattle.verifier.specs.declared.refusals.Refusal.{Refusal}
+use Rattle.verifier.specs.Refusals.{RefusesProgram}
+use Rattle.bpfjobs_cli.specs.Printed.{Prints}
+use Rattle.bpfrun_core.specs.declared.answering.Asked.{Asked}
+use Rattle.bpfrun_core.specs.declared.fault.Fault.{Fault}
+use Rattle.bpfrun_core.specs.declared.fault.Fault.TheVariants as fault
+use Rattle.bpfrun_core.specs.declared.form.Form.{Form}
+use Rattle.bpfrun_core.specs.declared.lines.Line.{Line}
+use Rattle.bpfrun_core.specs.Forms.{IsRead, IsUnread}
+use Rattle.bpfrun_core.specs.Places.{IsFaultPlace, IsQuote, told}
+use Rattle.bpfrun_core.specs.Printed.{IsRefusalText, ran_text}
+use Rattle.bpfrun_core.specs.Runs.{IsProgramRun, IsStopped}
+
+-- how many bytes of its part a program needs: what is said, or else all of its memory
+abbrev pub need_of : Option ℕ → Option (List ℕ) → ℕ
+need_of (Some need) memory = need
+need_of None (Some bytes) = min (length bytes) max_part
+need_of None None = 0
+
+-- its memory, or else as many zeros as it needs
+abbrev pub part_of : Option ℕ → Option (List ℕ) → List ℕ
+part_of need (Some bytes) = bytes
+part_of need None = replicate (min (need_of need None) max_part) 0
+
+-- a memory that is shown
+abbrev pub shown : Bool → List ℕ → Option (List ℕ)
+shown is_shown left = if is_shown then Some left else None
+
+-- The lines of the refusal, with what it quotes and the place that it is about.
+pub record PrintsRefusal (form : Form) (input code : List ℕ) (why : Fault) (text : List ℕ)
+    (status : ℕ) : Type 0 where
+  pub lasting : why ≢ fault.NoMemory
+  pub quote : Option (List ℕ)
+  pub quotes : IsQuote why input quote
+  pub place : Option Line
+  pub about : IsFaultPlace form why input code place
+  pub lines : IsRefusalText why quote (option_map told place) text
+  pub one : status ≡ 1
+
+-- The verifier's refusal is told, or explained.
+pub data IsRejected (asked : Asked) (need : ℕ) (input code : List ℕ) (why : Refusal) (text : List ℕ)
+    (status : ℕ) : Type 0 where
+  declined : PrintsRefusal asked.form input code (fault.Program why) text status
+      → IsRejected asked need input code why text status
+  explained : asked.explains ≡ true → (other : Refusal) → RefusesProgram need code job_table other
+      → status ≡ 1 → IsRejected asked need input code why text status
+
+-- A program of these bytes that needs so much, on this memory, and what its run leaves of it.
+pub data IsJudged (asked : Asked) (need : ℕ) (input code old left : List ℕ) (is_shown : Bool)
+    (text : List ℕ) (status : ℕ) : Type 0 where
+  ran : (r0 used : ℕ) → IsProgramRun need code asked.arg asked.credit old r0 used left
+      → Prints text status (ran_text r0 used (shown is_shown left)) 0
+      → IsJudged asked need input code old left is_shown text status
+  rejected : (why : Refusal) → IsStopped need code asked.credit old (fault.Program why) → left ≡ old
+      → IsRejected asked need input code why text status
+      → IsJudged asked need input code old left is_shown text status
+  stopped : (why : Fault) → IsStopped need code asked.credit old why → left ≡ old
+      → PrintsRefusal asked.form input code why text status
+      → IsJudged asked need input code old left is_shown text status
+
+-- What is answered to a program as its file has it.
+pub data IsTried (asked : Asked) (need : ℕ) (input old left : List ℕ) (is_shown : Bool)
+    (text : List ℕ) (status : ℕ) : Type 0 where
+  judged : (code : List ℕ) → IsRead asked.form input code
+      → IsJudged asked need input code old left is_shown text status
+      → IsTried asked need input old left is_shown text status
+  unread : (why : Fault) → IsUnread asked.form input why → left ≡ old
+      → PrintsRefusal asked.form input [] why text status
+      → IsTried asked need input old left is_shown text status

@@ -1,0 +1,80 @@
+-- The line of a source text that a refusal is about.
+use Rattle.std.specs.Prelude.{◌≡◌, ◌≢◌, ℕ, ◌==◌, List, [], ◌∷◌, length, Option, Some, None, option_map, slice_get, if◌then◌else◌}
+use Rattle.std.specs.Str.{IsUtf8}
+use Rattle.insn_codec.specs.declared.insn.Placed.{Placed}
+use Rattle.insn_codec.specs.Spelling.{IsProgram, IsRefusal}
+use Rattle.insn_codec.specs.declared.fault.CodecFault.{CodecFault}
+use Rattle.assembler.specs.Source.{source_lines}
+use Rattle.assembler.specs.Fault.{line_of}
+use Rattle.assembler.specs.Quoted.{line_numbered, quoted_of}
+use Rattle.verifier.specs.RefusalCodes.{slot_of}
+use Rattle.bpfrun_core.specs.declared.fault.Fault.{Fault}
+use Rattle.bpfrun_core.specs.declared.fault.Fault.TheVariants as fault
+use Rattle.bpfrun_core.specs.declared.form.Form.{Form}
+use Rattle.bpfrun_core.specs.declared.form.Form.TheVariants.{Text, Hexadecimal, Bytes}
+use Rattle.bpfrun_core.specs.declared.lines.Line.{Line}
+
+-- a line as the definitions have it
+abbrev pub told : Line → ℕ × List ℕ
+told line = (line.number, line.text.now)
+
+-- a line with nothing left counts, but says nothing
+abbrev pub said : ℕ → List ℕ → List (ℕ × List ℕ)
+said number text = if length text == 0 then [] else (number, text) ∷ []
+
+-- the line of this number
+abbrev pub IsNumbered : ℕ → List (ℕ × List ℕ) → Option Line → Type 0
+IsNumbered number lines place =
+    option_map told place ≡ option_map (λ text. (number, text)) (line_numbered number lines)
+
+-- the number of the instruction at this slot
+abbrev pub IsIndex : ℕ → List Placed → Option ℕ → Type 0
+IsIndex slot placed None = (k : ℕ) (p : Placed) → slice_get placed k ≡ Some p → p.slot ≢ slot
+IsIndex slot placed (Some k) = (p : Placed) × (slice_get placed k ≡ Some p) × (p.slot ≡ slot)
+
+-- the line of the instruction at this slot, where the bytes are a program and it has one there
+pub data IsAtSlot (slot : ℕ) (code : List ℕ) (lines : List (ℕ × List ℕ)) (place : Option Line) :
+    Type 0 where
+  there : (placed : List Placed) (k : ℕ) → IsProgram placed code → IsIndex slot placed (Some k)
+      → option_map told place ≡ slice_get lines k → IsAtSlot slot code lines place
+  between : (placed : List Placed) → IsProgram placed code → IsIndex slot placed None → place ≡ None
+      → IsAtSlot slot code lines place
+  no_program : (why : CodecFault) → IsRefusal why code → place ≡ None
+      → IsAtSlot slot code lines place
+
+abbrev pub IsLineOf : Option ℕ → List (ℕ × List ℕ) → Option Line → Type 0
+IsLineOf None lines place = place ≡ None
+IsLineOf (Some number) lines place = IsNumbered number lines place
+
+abbrev pub IsAtInsn : Option ℕ → List ℕ → List (ℕ × List ℕ) → Option Line → Type 0
+IsAtInsn None code lines place = place ≡ None
+IsAtInsn (Some slot) code lines place = IsAtSlot slot code lines place
+
+-- the line that a refusal of a source text is about
+abbrev pub IsTextPlace : Fault → List ℕ → List ℕ → Option Line → Type 0
+IsTextPlace fault.NotText input code place = place ≡ None
+IsTextPlace fault.NotHexadecimal input code place = place ≡ None
+IsTextPlace (fault.Text why) input code place = IsLineOf (line_of why) (source_lines input) place
+IsTextPlace fault.MemoryTooLarge input code place = place ≡ None
+IsTextPlace (fault.Program why) input code place =
+    IsAtInsn (slot_of why) code (source_lines input) place
+IsTextPlace (fault.CreditLow wanted given) input code place = place ≡ None
+IsTextPlace (fault.MemoryShort wanted given) input code place = place ≡ None
+IsTextPlace fault.NoMemory input code place = place ≡ None
+
+-- no other file has lines
+abbrev pub IsFaultPlace : Form → Fault → List ℕ → List ℕ → Option Line → Type 0
+IsFaultPlace Text why input code place = IsTextPlace why input code place
+IsFaultPlace Hexadecimal why input code place = place ≡ None
+IsFaultPlace Bytes why input code place = place ≡ None
+
+-- what a refusal quotes of a source text, which is UTF-8
+abbrev pub IsQuote : Fault → List ℕ → Option (List ℕ) → Type 0
+IsQuote fault.NotText input quote = quote ≡ None
+IsQuote fault.NotHexadecimal input quote = quote ≡ None
+IsQuote (fault.Text why) input quote = IsUtf8 input → quote ≡ quoted_of why input
+IsQuote fault.MemoryTooLarge input quote = quote ≡ None
+IsQuote (fault.Program why) input quote = quote ≡ None
+IsQuote (fault.CreditLow wanted given) input quote = quote ≡ None
+IsQuote (fault.MemoryShort wanted given) input quote = quote ≡ None
+IsQuote fault.NoMemory input quote = quote ≡ None

@@ -1,0 +1,184 @@
+//! What is answered to whoever tries a program.
+
+ghost use Rattle.std.specs.Prelude.{◌≡◌, ◌≢◌, ◌≤◌, List, ℕ, Bool, option_map, is_some, true, IfOk, IfSome};
+ghost use Rattle.helpers.specs.Table.{job_table};
+ghost use Rattle.verifier.specs.Refusals.{RefusesProgram};
+ghost use Rattle.bpfrun_core.specs.Answered.{PrintsRefusal, IsJudged, IsRejected, IsTried, need_of, part_of};
+ghost use Rattle.bpfrun_core.specs.declared.fault.Fault.TheVariants as fault_variant;
+ghost use Rattle.machine_model.specs.Limits.{max_credit};
+
+use crate::fault::Fault;
+use crate::form::Form;
+use crate::place::{place_of, quote_of};
+use crate::reading::bytes_of;
+use crate::running::run;
+use crate::telling::{tell_refusal, tell_run};
+use bpfjobs_cli::Answer;
+use explain::explain;
+use helpers::HelperTable;
+use machine_model::MAX_PART;
+use refusal::NoMemory;
+use std::alloc::Global;
+use verifier::Refusal;
+
+/// How a program is tried.
+#[derive(Clone, Copy, Debug, PartialEq, Eq)]
+pub struct Asked {
+    pub form: Form,
+    /// How many bytes of its part it needs; if that isn't said, all of its memory, and none without
+    /// one.
+    pub need: Option<u32>,
+    pub arg: u64,
+    pub credit: u32,
+    /// A refusal of the verifier is to be explained.
+    pub explains: bool,
+}
+
+// The need that holds.
+fn need_of(need: Option<u32>, memory: Option<&[u8]>) -> u32
+    ensures { result ≡ need_of need (option_map (λ bytes. bytes.now) memory.entry) }
+{
+    match need {
+        Some(need) => need,
+        None => match memory {
+            Some(memory) => memory.len().min(MAX_PART) as u32,
+            None => 0,
+        },
+    }
+}
+
+// Why the verifier refuses a program; none where it doesn't.
+fn explain_refusal(
+    alloc: Global,
+    form: Form,
+    need: u32,
+    input: &[u8],
+    code: &[u8],
+) -> Result<Option<Answer>, NoMemory>
+    ensures { IfOk result (λ told. IfSome told (λ answer. ((why : Refusal)
+        × RefusesProgram need code.now job_table why) × (answer.status ≡ 1))) }
+{
+    let source = match form {
+        Form::Text => str::from_utf8(input).ok(),
+        Form::Hexadecimal | Form::Bytes => None,
+    };
+    match explain(alloc, need, code, &HelperTable::job(), source)? {
+        Some(explanation) => Ok(Some(Answer {
+            text: explanation.text.into_bytes(),
+            status: 1,
+        })),
+        None => Ok(None),
+    }
+}
+
+// The lines of a refusal.
+fn print_refusal(
+    alloc: Global,
+    form: Form,
+    input: &[u8],
+    code: &[u8],
+    fault: &Fault,
+) -> Result<Answer, NoMemory>
+    requires { fault.now ≢ fault_variant.NoMemory }
+    ensures { IfOk result
+        (λ answer. PrintsRefusal form input.now code.now fault.now answer.text.items
+        answer.status) }
+{
+    let place = place_of(alloc, form, input, code, fault)?;
+    tell_refusal(alloc, fault, quote_of(input, fault), place)
+}
+
+// What is answered where the verifier refuses a program.
+fn answer_refusal(
+    alloc: Global,
+    asked: &Asked,
+    need: u32,
+    input: &[u8],
+    code: &[u8],
+    refusal: Refusal,
+) -> Result<Answer, NoMemory>
+    ensures { IfOk result
+        (λ answer. IsRejected asked.now need input.now code.now refusal answer.text.items
+        answer.status) }
+{
+    if asked.explains {
+        if let Some(answer) = explain_refusal(alloc, asked.form, need, input, code)? {
+            return Ok(answer);
+        }
+    }
+    print_refusal(alloc, asked.form, input, code, &Fault::Program(refusal))
+}
+
+// What is answered to the bytes of a program.
+fn answer_code(
+    alloc: Global,
+    asked: &Asked,
+    need: u32,
+    input: &[u8],
+    code: &[u8],
+    memory: &mut [u8],
+    is_shown: bool,
+) -> Result<Answer, NoMemory>
+    requires limit { asked.now.credit ≤ max_credit }
+    ensures { IfOk result
+        (λ answer. IsJudged asked.now need input.now code.now memory.old memory.new is_shown
+        answer.text.items answer.status) }
+{
+    match run(alloc, need, code, memory, asked.arg, asked.credit) {
+        Ok(done) if is_shown => tell_run(alloc, done, Some(memory)),
+        Ok(done) => tell_run(alloc, done, None),
+        Err(Fault::NoMemory) => Err(NoMemory),
+        Err(Fault::Program(refusal)) => answer_refusal(alloc, asked, need, input, code, refusal),
+        Err(fault) => print_refusal(alloc, asked.form, input, code, &fault),
+    }
+}
+
+// What is answered to a program with this memory, which is shown or not.
+fn answer_input(
+    alloc: Global,
+    asked: &Asked,
+    need: u32,
+    input: &[u8],
+    memory: &mut [u8],
+    is_shown: bool,
+) -> Result<Answer, NoMemory>
+    requires limit { asked.now.credit ≤ max_credit }
+    ensures { IfOk result
+        (λ answer. IsTried asked.now need input.now memory.old memory.new is_shown
+        answer.text.items answer.status) }
+{
+    match bytes_of(alloc, asked.form, input) {
+        Ok(code) => answer_code(alloc, asked, need, input, &code, memory, is_shown),
+        Err(Fault::NoMemory) => Err(NoMemory),
+        Err(fault) => print_refusal(alloc, asked.form, input, &[], &fault),
+    }
+}
+
+/// What is answered to a program: what its run comes to on the memory, or the refusal, with its
+/// line or the verifier's explanation. Without a memory its part is as many zeros as it needs, and
+/// without a need it needs the whole memory. The call asks for a credit of at most 2,147,483,647.
+pub fn answer(
+    alloc: Global,
+    asked: &Asked,
+    input: &[u8],
+    memory: Option<Vec<u8>>,
+) -> Result<Answer, NoMemory>
+    requires limit { asked.now.credit ≤ max_credit }
+    ensures { IfOk result (λ answer. (left : List ℕ)
+        × IsTried asked.now (need_of asked.now.need (option_map (λ m. m.items) memory))
+        input.now
+        (part_of asked.now.need (option_map (λ m. m.items) memory)) left (is_some memory)
+        answer.text.items answer.status) }
+{
+    match memory {
+        Some(mut memory) => {
+            let need = need_of(asked.need, Some(&memory));
+            answer_input(alloc, asked, need, input, &mut memory, true)
+        }
+        None => {
+            let need = need_of(asked.need, None);
+            let mut zeros = vec![in alloc; 0u8; (need as usize).min(MAX_PART)]?;
+            answer_input(alloc, asked, need, input, &mut zeros, false)
+        }
+    }
+}

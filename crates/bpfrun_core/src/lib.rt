@@ -1,0 +1,36 @@
+//! One program tried: how its file is read, whether it is accepted, and what its run by itself
+//! comes to; with the command line of `bpfrun`.
+#![tactic(auto)]
+
+// the program's bytes, and their run
+mod fault;
+mod form;
+mod reading;
+mod running;
+
+pub use fault::Fault;
+pub use form::{Form, form_of};
+pub use reading::bytes_of;
+pub use running::run;
+
+// the line that a refusal is about, and what it quotes
+mod lines;
+mod place;
+
+pub use lines::{Line, lines_of};
+pub use place::{place_of, quote_of};
+
+// what is printed
+mod answering;
+mod telling;
+
+pub use answering::{Asked, answer};
+
+// the words of the command line
+mod asked;
+mod program;
+mod texts;
+mod words;
+
+pub use asked::Request;
+pub use words::request;

@@ -1,0 +1,98 @@
+//! What clap is told of the words.
+
+ghost use Rattle.std.specs.Prelude.{◌≡◌, false, codes, IfOk};
+ghost use Rattle.clap.specs.Words.{app_of, new_app, rule_of};
+ghost use Rattle.clap.specs.declared.builder.command.Command.TheViews.{out-Command as fields_of};
+ghost use Rattle.bpfrun_core.specs.Program.{file_rule, need_rule, credit_rule, arg_rule, memory_rule, explain_rule, bpfrun_app};
+
+use crate::texts;
+use clap::{Arg, ArgAction, Command};
+use std::alloc::{AllocError, Global};
+
+fn file<'a>(alloc: Global) -> Arg<'a>
+    ensures rule { rule_of result ≡ file_rule }
+    ensures local { result.global ≡ false }
+{
+    Arg::new(alloc, "file")
+        .value_name("FILE")
+        .help(texts::FILE)
+        .required(true)
+}
+
+fn need<'a>(alloc: Global) -> Arg<'a>
+    ensures rule { rule_of result ≡ need_rule }
+    ensures local { result.global ≡ false }
+{
+    Arg::new(alloc, "need")
+        .long("need")
+        .value_name("BYTES")
+        .help(texts::NEED)
+        .value_parser(clap::value_parser!(u32).range(0..=4294967295))
+}
+
+fn credit<'a>(alloc: Global) -> Arg<'a>
+    ensures rule { rule_of result ≡ credit_rule }
+    ensures local { result.global ≡ false }
+{
+    Arg::new(alloc, "credit")
+        .long("credit")
+        .value_name("CREDIT")
+        .help(texts::CREDIT)
+        .value_parser(clap::value_parser!(u32).range(0..=2147483647))
+        .default_value("2147483647")
+}
+
+fn argument<'a>(alloc: Global) -> Arg<'a>
+    ensures rule { rule_of result ≡ arg_rule }
+    ensures local { result.global ≡ false }
+{
+    Arg::new(alloc, "arg")
+        .long("arg")
+        .value_name("NUMBER")
+        .help(texts::ARG)
+        .value_parser(clap::value_parser!(u64))
+        .default_value("0")
+}
+
+fn memory<'a>(alloc: Global) -> Arg<'a>
+    ensures rule { rule_of result ≡ memory_rule }
+    ensures local { result.global ≡ false }
+{
+    Arg::new(alloc, "memory")
+        .long("memory")
+        .value_name("FILE")
+        .help(texts::MEMORY)
+}
+
+fn explain<'a>(alloc: Global) -> Arg<'a>
+    ensures rule { rule_of result ≡ explain_rule }
+    ensures local { result.global ≡ false }
+{
+    Arg::new(alloc, "explain")
+        .long("explain")
+        .action(ArgAction::SetTrue)
+        .help(texts::EXPLAIN)
+}
+
+// The program without its arguments.
+fn named<'a>(alloc: Global) -> Command<'a>
+    ensures app { app_of result ≡ new_app (codes "bpfrun") }
+    ensures local { (fields_of result).has_globals ≡ false }
+{
+    Command::new(alloc, "bpfrun")
+        .about(texts::BPFRUN)
+        .after_help(texts::BPFRUN_MORE)
+}
+
+/// The program with its arguments, as clap reads them.
+pub(crate) fn bpfrun<'a>(alloc: Global) -> Result<Command<'a>, AllocError>
+    ensures { IfOk result (λ c. app_of c ≡ bpfrun_app) }
+{
+    named(alloc)
+        .arg(file(alloc))?
+        .arg(need(alloc))?
+        .arg(credit(alloc))?
+        .arg(argument(alloc))?
+        .arg(memory(alloc))?
+        .arg(explain(alloc))
+}

@@ -1,4 +1,0 @@
-pub mod LineLemmas
-pub mod NumberLemmas
-pub mod RowLemmas
-pub mod SubcommandLemmas

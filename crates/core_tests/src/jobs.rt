@@ -1,0 +1,152 @@
+//! Jobs over a schedule, by the reference and by a world: what is there of each task then.
+
+use crate::machines::reference_program;
+use crate::row::text_of;
+use crate::trees::{Tree, place_text, widened};
+use job_core::{World, admit};
+use reference::{Content, JobMember, ReferenceJob, ReferenceMove, run};
+use std::alloc::Global;
+
+/// What is told of a task that has ended.
+#[derive(Clone, Copy)]
+struct End<'a> {
+    place: &'a str,
+    program: u64,
+    arg: u64,
+    given: u32,
+    r0: u64,
+    spent: u32,
+    rest: u32,
+}
+
+fn end_text(alloc: Global, end: &End) -> anyhow::Result<String> {
+    let End {
+        place,
+        program,
+        arg,
+        given,
+        r0,
+        spent,
+        rest,
+    } = end;
+    Ok(format!(in alloc;
+        ", {place} program {program} on {arg} with {given} gives {r0} spent {spent} rest {rest}"
+    )?)
+}
+
+fn content_text(alloc: Global, content: Content) -> anyhow::Result<String> {
+    match content {
+        Content::Num(number) => Ok(format!(in alloc; "{number}")?),
+        Content::Unset => Ok(String::from_str(alloc, "unset")?),
+        _ => Ok(String::from_str(alloc, "pointer")?),
+    }
+}
+
+/// A task of the reference: its end, or where its part lies, what it holds and its R0.
+fn member_text(alloc: Global, member: &JobMember) -> anyhow::Result<String> {
+    match member {
+        JobMember::Ended(end) => {
+            let place = place_text(alloc, &end.place)?;
+            let told = End {
+                place: place.as_str(),
+                program: end.program,
+                arg: end.arg,
+                given: end.given,
+                r0: end.r0,
+                spent: end.spent,
+                rest: end.rest,
+            };
+            end_text(alloc, &told)
+        }
+        JobMember::Live(task) => {
+            let place = place_text(alloc, &task.place)?;
+            let r0 = content_text(alloc, task.registers[0])?;
+            Ok(format!(in alloc;
+                ", {place} program {} on {} alive at {}+{} holds {} r0 {r0}",
+                task.program, task.arg, task.base, task.size, task.held
+            )?)
+        }
+    }
+}
+
+fn job_text(alloc: Global, job: &ReferenceJob) -> anyhow::Result<String> {
+    let mut text = text_of(alloc, &job.buffer)?;
+    for member in &job.tasks {
+        text.push_str(member_text(alloc, member)?.as_str())?;
+    }
+    Ok(text)
+}
+
+fn copied(alloc: Global, bytes: &[u8]) -> anyhow::Result<Vec<u8>> {
+    let mut copy = Vec::new(alloc);
+    copy.extend_from_slice(bytes)?;
+    Ok(copy)
+}
+
+/// The job after the turns by the reference, or that a task trapped.
+fn by_reference(alloc: Global, tree: &Tree, turns: &[(u32, bool)]) -> anyhow::Result<String> {
+    let mut programs = Vec::new(alloc);
+    for program in &tree.programs {
+        let none = Vec::new(alloc);
+        programs.push(reference_program(alloc, program.need, &program.code, none)?)?;
+    }
+    let mut moves = Vec::new(alloc);
+    for (number, refuses) in turns {
+        moves.push(ReferenceMove {
+            number: *number as usize,
+            refuses: *refuses,
+        })?;
+    }
+    let buffer = copied(alloc, &tree.buffer)?;
+    match run(alloc, &programs, tree.credit, buffer, &moves) {
+        Ok(Some(job)) => job_text(alloc, &job),
+        Ok(None) => Ok(String::from_str(alloc, "trap")?),
+        Err(why) => Ok(format!(in alloc; "{why:?}")?),
+    }
+}
+
+/// The same by a world that is stepped, where it is complete.
+fn by_world(alloc: Global, tree: &Tree, turns: &[(u32, bool)]) -> anyhow::Result<Option<String>> {
+    let buffer = copied(alloc, &tree.buffer)?;
+    let job = admit(alloc, &tree.programs, tree.credit, buffer)?;
+    let mut world = World::open(alloc, job)?;
+    for (number, _) in turns {
+        let _ = world.step(alloc, *number);
+    }
+    let Some(report) = world.report() else {
+        return Ok(None);
+    };
+    let mut text = text_of(alloc, &report.buffer)?;
+    for end in &report.tasks {
+        let place = match world.place(alloc, end.number)? {
+            Some(place) => place_text(alloc, &widened(alloc, &place)?)?,
+            None => String::from_str(alloc, "nowhere")?,
+        };
+        let told = End {
+            place: place.as_str(),
+            program: u64::from(end.program),
+            arg: end.arg,
+            given: end.given,
+            r0: end.r0,
+            spent: end.spent,
+            rest: end.rest,
+        };
+        text.push_str(end_text(alloc, &told)?.as_str())?;
+    }
+    Ok(Some(text))
+}
+
+/// What a job comes to by the reference, where a world comes to the same once it is complete. A
+/// world refuses no spawn that passes its tests, so it isn't asked where one is refused.
+pub fn after(alloc: Global, tree: &Tree, turns: &[(u32, bool)]) -> anyhow::Result<String> {
+    let expected = by_reference(alloc, tree, turns)?;
+    if turns.iter().any(|(_, refuses)| *refuses) {
+        return Ok(expected);
+    }
+    match by_world(alloc, tree, turns)? {
+        Some(told) if told.as_str() != expected.as_str() => {
+            Ok(format!(in alloc; "world {told}; reference {expected}")?)
+        }
+        _ => Ok(expected),
+    }
+}

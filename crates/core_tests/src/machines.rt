@@ -1,0 +1,146 @@
+//! Helpers of a caller's own: verdicts on programs that call them, and their runs.
+
+use crate::callers::{added, answered, greatest, registered, weighed};
+use crate::graphs::refused;
+use crate::row::{memory_of, text_of};
+use anyhow::bail;
+use cost_bound::costs;
+use flow_graph::build;
+use helpers::HelperTable;
+use insn_codec::decode;
+use reference::{ReferenceProgram, run_alone};
+use std::alloc::Global;
+use verifier::{Refusal, verify};
+use virtual_machine::Vm;
+
+/// A program as the reference takes it.
+pub fn reference_program(
+    alloc: Global,
+    need: u32,
+    code: &[u8],
+    registered: Vec<Option<u32>>,
+) -> anyhow::Result<ReferenceProgram> {
+    let placed = decode(alloc, code)?;
+    let graph = build(alloc, &placed)?;
+    let table = costs(alloc, &graph)?;
+    Ok(ReferenceProgram {
+        need,
+        code: graph.into_code(),
+        costs: table.into_table(),
+        registered,
+    })
+}
+
+/// The job's helpers, and those of the words `ID/ARITY`.
+fn helpers_of(alloc: Global, words: &[&str]) -> anyhow::Result<HelperTable> {
+    let mut helpers = HelperTable::job();
+    for word in words {
+        let (id, arity) = word.split_once('/').unwrap_or((word, "0"));
+        let id = id.parse::<u32>()?.clamp(64, 127);
+        helpers.add(alloc, id, arity.parse::<u32>()?.min(5))?;
+    }
+    Ok(helpers)
+}
+
+/// `mov64 r0, 42`, `exit`
+const ANSWERING: [u8; 16] = [0xb7, 0, 0, 0, 42, 0, 0, 0, 0x95, 0, 0, 0, 0, 0, 0, 0];
+
+/// Whether a machine with these helpers, which has a program, refuses another for this reason and
+/// keeps its own.
+fn keeps_its_program(
+    alloc: Global,
+    words: &[&str],
+    need: u32,
+    code: &[u8],
+    refusal: &Refusal,
+) -> anyhow::Result<bool> {
+    let mut vm = Vm::new(alloc, None)?;
+    for word in words {
+        let (id, arity) = word.split_once('/').unwrap_or((word, "0"));
+        vm.try_register_helper(alloc, id.parse::<u32>()?, arity.parse::<u32>()?, added)?;
+    }
+    vm.set_program(alloc, 0, &ANSWERING)?;
+    let is_told = match vm.set_program(alloc, need, code) {
+        Ok(()) => false,
+        Err(told) => told == *refusal,
+    };
+    let mut memory = [0; 1];
+    Ok(is_told && vm.execute_program(&mut memory, 2)? == 42)
+}
+
+/// The cost of a program that may call these helpers, or its refusal, where a machine that has a
+/// program refuses it alike.
+pub fn verdict(alloc: Global, need: &str, words: &[&str], code: &[u8]) -> anyhow::Result<String> {
+    let helpers = helpers_of(alloc, words)?;
+    let need = need.parse::<u32>()?;
+    match verify(alloc, need, code, &helpers) {
+        Ok(verified) => Ok(format!(in alloc; "cost {}", verified.cost())?),
+        Err(refusal) => {
+            if !keeps_its_program(alloc, words, need, code, &refusal)? {
+                return Ok(format!(in alloc; "{refusal}, and another by a machine")?);
+            }
+            refused(alloc, refusal.code(), refusal.slot())
+        }
+    }
+}
+
+/// R0, the credit used and the memory after a run by the reference.
+fn by_reference(
+    alloc: Global,
+    arities: [u32; 3],
+    credit: u32,
+    memory: &[u8],
+    code: &[u8],
+) -> anyhow::Result<(u64, u32, Vec<u8>)> {
+    let need = u32::try_from(memory.len())?;
+    let program = reference_program(alloc, need, code, registered(alloc, arities)?)?;
+    let mut part = Vec::new(alloc);
+    part.extend_from_slice(memory)?;
+    let steps = u32::try_from(code.len())?;
+    let helper = |id: u32, arguments: [u64; 5]| answered(id, arguments);
+    match run_alone(alloc, &program, credit, part, steps, &helper) {
+        Ok(Some((r0, last))) => Ok((r0, last.used, last.part)),
+        _ => bail!("the run has no end"),
+    }
+}
+
+/// Runs a program by a machine with helpers 64, 65 and 127, which take so many arguments, and by
+/// the reference: R0, the credit used and the memory then.
+pub fn called(
+    alloc: Global,
+    [first, second, last]: [&str; 3],
+    credit: &str,
+    memory: &str,
+    code: &[u8],
+) -> anyhow::Result<String> {
+    let arities = [
+        first.parse::<u32>()?.min(5),
+        second.parse::<u32>()?.min(5),
+        last.parse::<u32>()?.min(5),
+    ];
+    let memory = memory_of(alloc, memory)?;
+    let credit = credit.parse::<u32>()?;
+    let [first, second, last] = arities;
+    let mut vm = Vm::new(alloc, None)?;
+    vm.register_helper(alloc, 64, first.min(5), added)?;
+    vm.register_helper(alloc, 65, second.min(5), weighed)?;
+    vm.register_helper(alloc, 127, last.min(5), greatest)?;
+    if let Err(refusal) = vm.set_program(alloc, u32::try_from(memory.len())?, code) {
+        return refused(alloc, refusal.code(), refusal.slot());
+    }
+    let mut lent = Vec::new(alloc);
+    lent.extend_from_slice(&memory)?;
+    lent.truncate(65536);
+    let answer = vm.execute_program(&mut lent, credit.min(2_147_483_647));
+    let text = text_of(alloc, &lent)?;
+    let alone = match answer {
+        Ok(r0) => format!(in alloc; "r0 {r0} memory {text}")?,
+        Err(fault) => return Ok(format!(in alloc; "{} memory {text}", fault.code())?),
+    };
+    let (r0, used, left) = by_reference(alloc, arities, credit, &memory, code)?;
+    let left = text_of(alloc, &left)?;
+    if format!(in alloc; "r0 {r0} memory {left}")?.as_str() != alone.as_str() {
+        return Ok(format!(in alloc; "vm {alone}, reference r0 {r0} memory {left}")?);
+    }
+    Ok(format!(in alloc; "r0 {r0} used {used} memory {left}")?)
+}

@@ -1,0 +1,125 @@
+//! Rows: what is asked, a program and the answer, with bars between them. A line that begins with
+//! `#` is a comment.
+
+use assembler::assemble;
+use job_core::ProgramBytes;
+use std::alloc::Global;
+
+/// What is asked of which program, and the answer that is wanted.
+#[derive(Drop)]
+pub struct Row<'a> {
+    /// From 1 on.
+    pub line: usize,
+    pub question: Vec<&'a str>,
+    pub program: &'a str,
+    pub answer: &'a str,
+}
+
+/// The words between spaces.
+pub fn words_of<'a>(alloc: Global, text: &'a str) -> anyhow::Result<Vec<&'a str>> {
+    let mut words = Vec::new(alloc);
+    for word in text.split(' ') {
+        if !word.is_empty() {
+            words.push(word)?;
+        }
+    }
+    Ok(words)
+}
+
+/// All rows of a text. Of a line without two bars the program or the answer is empty.
+pub fn rows_of<'a>(alloc: Global, text: &'a str) -> anyhow::Result<Vec<Row<'a>>> {
+    let mut rows = Vec::new(alloc);
+    for (index, line) in text.lines().enumerate() {
+        let line = line.trim();
+        if line.is_empty() || line.starts_with('#') {
+            continue;
+        }
+        let (question, rest) = line.split_once('|').unwrap_or((line, ""));
+        let (program, answer) = rest.split_once('|').unwrap_or((rest, ""));
+        rows.push(Row {
+            line: index.saturating_add(1),
+            question: words_of(alloc, question)?,
+            program: program.trim(),
+            answer: answer.trim(),
+        })?;
+    }
+    Ok(rows)
+}
+
+/// A part of a program, and how often it stands there.
+fn repeated(part: &str) -> (u32, &str) {
+    match part.split_once('*') {
+        Some((times, line)) => (times.trim().parse::<u32>().unwrap_or(1), line.trim()),
+        None => (1, part.trim()),
+    }
+}
+
+/// The bytes of a program, a line after the other with slashes between them; `4 * exit` is that
+/// line four times. Where there is a `0x`, each line is bytes as hexadecimal behind it.
+pub fn bytes_of(alloc: Global, program: &str) -> anyhow::Result<Vec<u8>> {
+    let is_hexadecimal = program.contains("0x");
+    let mut source = String::new(alloc);
+    for part in program.split('/') {
+        let (times, line) = repeated(part);
+        let line = if is_hexadecimal {
+            line.trim_start_matches("0x")
+        } else {
+            line
+        };
+        for _ in 0..times {
+            source.push_str(line)?;
+            if !is_hexadecimal {
+                source.push('\n')?;
+            }
+        }
+    }
+    if is_hexadecimal {
+        return Ok(hex::decode(alloc, source.as_str())?);
+    }
+    Ok(assemble(alloc, source.as_str())?)
+}
+
+/// Programs with `;` between them, each after the bytes that it needs and a colon.
+pub fn programs_of(alloc: Global, text: &str) -> anyhow::Result<Vec<ProgramBytes>> {
+    let mut programs = Vec::new(alloc);
+    for part in text.split(';') {
+        let (need, program) = part.split_once(':').unwrap_or(("0", part));
+        programs.push(ProgramBytes {
+            need: need.trim().parse::<u32>()?,
+            code: bytes_of(alloc, program)?,
+        })?;
+    }
+    Ok(programs)
+}
+
+/// Numbers of tasks, each as often as it is told: `0*5` is task 0 five times. Behind a number with
+/// a `!` a spawn is refused.
+pub fn turns_of(alloc: Global, turns: &[&str]) -> anyhow::Result<Vec<(u32, bool)>> {
+    let mut numbers = Vec::new(alloc);
+    for turn in turns {
+        let refuses = turn.ends_with('!');
+        let turn = turn.trim_end_matches('!');
+        let (number, times) = turn.split_once('*').unwrap_or((turn, "1"));
+        let number = number.parse::<u32>()?;
+        for _ in 0..times.parse::<u32>()? {
+            numbers.push((number, refuses))?;
+        }
+    }
+    Ok(numbers)
+}
+
+/// Bytes as hexadecimal, and none as `-`.
+pub fn memory_of(alloc: Global, text: &str) -> anyhow::Result<Vec<u8>> {
+    if text == "-" {
+        return Ok(Vec::new(alloc));
+    }
+    Ok(hex::decode(alloc, text)?)
+}
+
+/// The text of these bytes.
+pub fn text_of(alloc: Global, bytes: &[u8]) -> anyhow::Result<String> {
+    if bytes.is_empty() {
+        return Ok(String::from_str(alloc, "-")?);
+    }
+    Ok(hex::encode(alloc, bytes)?)
+}

@@ -1,0 +1,97 @@
+//! What is told of refusals that no built program prints, and the limits of spelled instructions.
+
+use crate::scenarios::Findings;
+use assembler::{TextFault, nothing_refused, one_program, one_refusal, read_back};
+use disassembler::one_line;
+use flow_graph::FlowFault;
+use insn_codec::{CodecFault, Insn, Register, encode};
+use std::alloc::Global;
+use verifier::Refusal;
+use virtual_machine::VmFault;
+
+fn refusals_without_memory(alloc: Global, findings: &mut Findings) -> anyhow::Result<()> {
+    let text = "99: out of memory";
+    let told = format!(in alloc; "{}", Refusal::NoMemory)?;
+    let codes = (Refusal::NoMemory.code(), Refusal::NoMemory.slot());
+    findings.holds(told.as_str() == text && codes == (99, None), "a verdict");
+    let told = format!(in alloc; "{}", VmFault::NoMemory)?;
+    findings.holds(
+        told.as_str() == text && VmFault::NoMemory.code() == 99,
+        "a run",
+    );
+    let told = format!(in alloc; "{}", CodecFault::NoMemory)?;
+    findings.holds(
+        told.as_str() == text && CodecFault::NoMemory.code() == 99,
+        "bytes",
+    );
+    let told = format!(in alloc; "{}", TextFault::NoMemory)?;
+    findings.holds(
+        told.as_str() == text && TextFault::NoMemory.code() == 99,
+        "a text",
+    );
+    let told = format!(in alloc; "{}", FlowFault::NoMemory)?;
+    findings.holds(
+        told.as_str() == text && FlowFault::NoMemory.code() == 99,
+        "a graph",
+    );
+    let told = format!(in alloc; "{}", VmFault::NoProgram)?;
+    let is_told = told.as_str() == "41: no program is set" && VmFault::NoProgram.code() == 41;
+    findings.holds(is_told, "no program");
+    Ok(())
+}
+
+fn refusals_of_single_programs(alloc: Global, findings: &mut Findings) -> anyhow::Result<()> {
+    let fault = VmFault::CreditLow {
+        wanted: 9,
+        given: 8,
+    };
+    let told = format!(in alloc; "{fault}")?;
+    let text = "42: a credit of 8, under the program's cost of 9";
+    findings.holds(told.as_str() == text && fault.code() == 42, "a credit");
+    let fault = VmFault::MemoryShort {
+        wanted: 7,
+        given: 6,
+    };
+    let told = format!(in alloc; "{fault}")?;
+    let text = "43: a memory of 6 bytes, under the program's need of 7";
+    findings.holds(told.as_str() == text && fault.code() == 43, "a memory");
+    Ok(())
+}
+
+/// 4,096 slots are spelled, and no more; and none are refused.
+fn limits_of_spelling(alloc: Global, findings: &mut Findings) -> anyhow::Result<()> {
+    let mut insns = vec![in alloc; Insn::Exit; 4096]?;
+    findings.holds(encode(alloc, &insns)?.len() == 8 * 4096, "4,096 slots");
+    insns[0] = Insn::LoadWide {
+        dst: Register::new(0),
+        value: 0,
+    };
+    let is_long = encode(alloc, &insns).is_err_and(|fault| fault == CodecFault::TooLong);
+    findings.holds(is_long, "4,097 slots");
+    let is_empty = encode(alloc, &[]).is_err_and(|fault| fault == CodecFault::Empty);
+    findings.holds(is_empty, "no slot");
+    Ok(())
+}
+
+/// A refusal that isn't of this text quotes nothing of it.
+fn quotes_of_other_texts(_alloc: Global, findings: &mut Findings) -> anyhow::Result<()> {
+    let quotes_none = TextFault::UnknownWord(2).quoted("exit").is_none()
+        && TextFault::UnknownWord(2)
+            .quoted("exit\n; nothing\n")
+            .is_none();
+    findings.holds(quotes_none, "a line that isn't there is quoted");
+    Ok(())
+}
+
+/// Goes through all of it, and calls the laws of texts.
+pub fn go_through(alloc: Global, findings: &mut Findings) -> anyhow::Result<()> {
+    one_line();
+    one_program();
+    nothing_refused();
+    one_refusal();
+    read_back();
+    refusals_without_memory(alloc, findings)?;
+    refusals_of_single_programs(alloc, findings)?;
+    limits_of_spelling(alloc, findings)?;
+    quotes_of_other_texts(alloc, findings)
+}

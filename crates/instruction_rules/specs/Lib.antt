@@ -1,0 +1,5 @@
+pub mod Covers
+pub mod Rules
+pub mod States
+pub mod Joining
+pub mod Judged

@@ -1,0 +1,19 @@
+-- What a job's thread comes to.
+use Rattle.std.specs.Prelude.{◌≡◌, ℕ, Result, Ok, Err, All, length}
+use Rattle.credit_book.specs.declared.book.Report.{Report}
+use Rattle.job_core.specs.Admitted.{AdmittedJob}
+use Rattle.workers.specs.declared.fault.PoolFault.{PoolFault}
+use Rattle.workers.specs.PoolFaultCodes.{number_of}
+use Rattle.workers.specs.Final.{IsFinal}
+use Rattle.workers.specs.Noted.{EndedAlone}
+
+-- the report of a whole run of this job under this number, each of whose tasks gives what it gives
+-- by itself
+pub record IsRun (number : ℕ) (job : AdmittedJob) (report : Report) : Type 0 where
+  pub final : IsFinal number job.credit (length job.buffer) report
+  pub alone : All (EndedAlone job.programs) report.tasks.items
+
+-- such a report, or the number of a pool's refusal
+abbrev pub IsEndOf : ℕ → AdmittedJob → Result Report ℕ → Type 0
+IsEndOf number job (Ok report) = IsRun number job report
+IsEndOf number job (Err code) = (fault : PoolFault) × (code ≡ number_of fault)

@@ -1,0 +1,9 @@
+pub mod Endings
+pub mod Holding
+pub mod Holds
+pub mod Starting
+pub mod Addresses
+pub mod Passages
+pub mod Serving
+pub mod Visits
+pub mod Runs

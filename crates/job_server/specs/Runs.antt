@@ -1,0 +1,49 @@
+-- What is printed of a job that threads run, and what a command answers.
+use Rattle.std.specs.Prelude.{◌≤◌, ℕ, List, All, length, false, None}
+use Rattle.credit_book.specs.declared.book.Report.{Report}
+use Rattle.job_core.specs.Admitted.{AdmittedJob}
+use Rattle.sessions.specs.Replies.{result_data}
+use Rattle.workers.specs.declared.fault.PoolFault.{PoolFault}
+use Rattle.workers.specs.Final.{IsFinal}
+use Rattle.workers.specs.Noted.{EndedAlone}
+use Rattle.workers.specs.PoolFaultCodes.{number_of}
+use Rattle.bpfjobs_cli.specs.declared.commands.Command.{Command}
+use Rattle.bpfjobs_cli.specs.declared.commands.Command.TheVariants.{Assemble, Disassemble, Verify, Play, Run, Serve}
+use Rattle.bpfjobs_cli.specs.declared.declined.Declined.{Declined}
+use Rattle.bpfjobs_cli.specs.Jobs.{IsDeclined, IsOrdered, PrintsPlay, declined_line}
+use Rattle.bpfjobs_cli.specs.Printed.{Prints, refusal_reply, reply_line}
+use Rattle.bpfjobs_cli.specs.Programs.{PrintsAssembly, PrintsListing, PrintsVerdict}
+
+-- the report of the job's complete history, each of whose tasks gives what it gives by itself; or
+-- no report, or no job
+pub data PrintsRun (input text : List ℕ) (status : ℕ) : Type 0 where
+  ran : (order : AdmittedJob) (schedule : List ℕ) (report : Report)
+      → IsOrdered false input order schedule → IsFinal 0 order.credit (length order.buffer) report
+      → All (EndedAlone order.programs) report.tasks.items
+      → Prints text status
+      (reply_line (result_data report.buffer.items report.returned report.spent report.tasks.items))
+      0 → PrintsRun input text status
+  failed : (order : AdmittedJob) (schedule : List ℕ) (fault : PoolFault)
+      → IsOrdered false input order schedule
+      → Prints text status (refusal_reply (number_of fault) None None) 1
+      → PrintsRun input text status
+  no_job : (why : Declined) → IsDeclined false input why → Prints text status (declined_line why) 1
+      → PrintsRun input text status
+
+-- the command is over once it has answered; a job has 1 to 16 workers
+abbrev pub IsOver : Command → Type 0
+IsOver Assemble = Unit {0}
+IsOver Disassemble = Unit {0}
+IsOver (Verify need) = Unit {0}
+IsOver Play = Unit {0}
+IsOver (Run workers) = (1 ≤ workers) × (workers ≤ 16)
+IsOver (Serve port workers sessions) = ⊥
+
+-- the text and the status that a command answers to its input
+abbrev pub IsPoolAnswer : Command → List ℕ → List ℕ → ℕ → Type 0
+IsPoolAnswer Assemble input text status = PrintsAssembly input text status
+IsPoolAnswer Disassemble input text status = PrintsListing input text status
+IsPoolAnswer (Verify need) input text status = PrintsVerdict need input text status
+IsPoolAnswer Play input text status = PrintsPlay input text status
+IsPoolAnswer (Run workers) input text status = PrintsRun input text status
+IsPoolAnswer (Serve port workers sessions) input text status = ⊥

@@ -1,0 +1,51 @@
+//! What connections come from.
+
+ghost use Rattle.std.specs.Prelude.{OnOk, OnErr};
+ghost use Rattle.job_server.specs.Passages.{passage_of};
+
+use std::net::{OpenListener, TcpStream};
+use streams::{Failed, Tap};
+
+/// Gives connections, one after the other, and is told what went through each.
+pub trait Listener {
+    ghost use Rattle.job_server.specs.Visits.{Passage};
+
+    // What a call may do, from a listener to the next: a connection came; none could be taken; what
+    // went through one is noted.
+    ghost opens: { Self → Self → Type 0 };
+
+    ghost fails: { Self → Self → Type 0 };
+
+    ghost notes: { Self → Passage → Self → Type 0 };
+
+    /// Takes the next connection.
+    fn accept(&mut self) -> Result<TcpStream, Failed>
+        ensures opens { OnOk result (opens self.old self.new) }
+        ensures fails { OnErr result (fails self.old self.new) };
+
+    /// Is told of a connection that is over, by its two ends.
+    fn note(&mut self, reader: &Tap<&TcpStream>, writer: &Tap<&TcpStream>)
+        ensures { notes self.old (passage_of reader.now writer.now) self.new };
+}
+
+/// A listener of std, of whose connections nothing is known.
+impl<'a, L: OpenListener<Stream = TcpStream>> Listener for &'a L {
+    ghost opens = { λ _ _. Unit {0} };
+
+    ghost fails = { λ _ _. Unit {0} };
+
+    ghost notes = { λ _ _ _. Unit {0} };
+
+    fn accept(&mut self) -> Result<TcpStream, Failed> {
+        match OpenListener::accept(*self) {
+            Ok((stream, _)) => {
+                // a reply is one write, which waits for nothing
+                let _ = stream.set_nodelay(true);
+                Ok(stream)
+            }
+            Err(_) => Err(Failed),
+        }
+    }
+
+    fn note(&mut self, _reader: &Tap<&TcpStream>, _writer: &Tap<&TcpStream>) {}
+}

@@ -1,5 +1,0 @@
-use Rattle.interpreter.specs.Behind.{IsCovered}
-use Rattle.job_tests.proofs.refusing.ended.Given as goal
-
-abbrev pub invariant-loop : goal.invariant-loop
-invariant-loop l = IsCovered l.program l.frame l.part l.credit

@@ -1,5 +1,0 @@
-use Rattle.lanes.proofs.Moving.{admits}
-use Rattle.lanes.proofs.ends.Lane.owner.Goals as goal
-
-pub pass-seat-requires : goal.pass-seat-requires
-pass-seat-requires c = admits

@@ -1,5 +1,0 @@
-pub mod Printed
-pub mod Hexadecimal
-pub mod Programs
-pub mod Jobs
-pub mod Performing

@@ -1,4 +1,0 @@
-pub mod Endings
-pub mod Holding
-pub mod Holds
-pub mod Starting

@@ -1,0 +1,5 @@
+pub mod Parts
+pub mod Steps
+pub mod OneAnswer
+pub mod WholeStream
+pub mod Opening

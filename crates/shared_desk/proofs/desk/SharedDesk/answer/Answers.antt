@@ -1,0 +1,28 @@
+use Rattle.std.proofs.Common.{ap}
+use Rattle.shared_desk.proofs.OneAnswer.{has_entry, same_entry, replays_on, shared_answer, answer_ok, answer_err}
+use Rattle.shared_desk.proofs.desk.SharedDesk.answer.Goals as goal
+
+pub add-requires : goal.add-requires
+add-requires g c =
+    rw (c.of-desk_before.ensures, c.of-handler_before.ensures, c.of-asked.ensures)
+    (has_entry g.H.Handler.answers g.J.Origin.begins _ _ _ c.args.seat.now.number _ c.answer-reply.ensures.ok c.answer-reply.ensures.err)
+
+pub invariant_of-self : goal.invariant_of-self
+invariant_of-self g c =
+    let n = c.add.ensures in
+    let is = same_entry g.H.Handler.answers g.J.Origin.begins _ (c.self.inside.desk, c.self.inside.handler) _ c.args.request _ _ n.0 (λ i. (c.of-desk_before.ensures i, c.of-handler_before.ensures i)) c.of-asked.ensures n.1 in
+    (c.answer-reply.ensures.ready, replays_on g.H.Handler.answers g.J.Origin.begins _ _ _ _ _ n.0 _ c.self.invariant.1 is n.4)
+
+pub returns-clause-ok : goal.returns-clause-ok
+returns-clause-ok g c =
+    let n = c.add.ensures in
+    let is = same_entry g.H.Handler.answers g.J.Origin.begins _ (c.self.inside.desk, c.self.inside.handler) _ c.args.request _ _ n.0 (λ i. (c.of-desk_before.ensures i, c.of-handler_before.ensures i)) c.of-asked.ensures n.1 in
+    let shared = shared_answer g.H.Handler.answers g.J.Origin.begins c.args.seat.now c.add.new.seat _ _ _ _ _ n.0 c.self.invariant.1 is n.2 n.3 n.5 n.6 n.7 n.8 in
+    answer_ok g.H.Handler.answers g.J.Origin.begins _ _ _ _ _ _ n.0 (same_entry g.H.Handler.answers g.J.Origin.begins _ _ _ _ _ _ n.0 (ap (λ v. v.0) c.self.view_is) (λ i. c.args.request) is) shared
+
+pub returns-clause-err : goal.returns-clause-err
+returns-clause-err g c =
+    let n = c.add.ensures in
+    let is = same_entry g.H.Handler.answers g.J.Origin.begins _ (c.self.inside.desk, c.self.inside.handler) _ c.args.request _ _ n.0 (λ i. (c.of-desk_before.ensures i, c.of-handler_before.ensures i)) c.of-asked.ensures n.1 in
+    let shared = shared_answer g.H.Handler.answers g.J.Origin.begins c.args.seat.now c.add.new.seat _ _ _ _ _ n.0 c.self.invariant.1 is n.2 n.3 n.5 n.6 n.7 n.8 in
+    answer_err g.H.Handler.answers g.J.Origin.begins _ _ _ _ _ _ n.0 (same_entry g.H.Handler.answers g.J.Origin.begins _ _ _ _ _ _ n.0 (ap (λ v. v.0) c.self.view_is) (λ i. c.args.request) is) shared

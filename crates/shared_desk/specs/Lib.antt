@@ -1,0 +1,6 @@
+pub mod Histories
+pub mod ClientViews
+pub mod Rule
+pub mod Answered
+pub mod Parts
+pub mod Together

@@ -1,0 +1,101 @@
+-- What went through the two ends of a connection, by the connection's part of the history.
+use Rattle.std.specs.Prelude.{◌≡◌, ◌≤◌, ◌-◌, ◌^◌, ℕ, List, [], ◌∷◌, ◌++◌, length, min, Bool, true, false, Result, MatchResult}
+use Rattle.sessions.specs.Frames.{front, whole, partial}
+use Rattle.sessions.specs.Grammar.{Asked}
+use Rattle.sessions.specs.Answers.{Hears}
+use Rattle.streams.specs.Stops.{EndsWith, StopsAt, IsDue, IsPartWritten}
+use Rattle.streams.specs.declared.fault.StreamFault.{StreamFault}
+use Rattle.streams.specs.declared.fault.StreamFault.TheVariants.{ReadFailed, WriteFailed, NoMemory}
+use Rattle.shared_desk.specs.Histories.{Entry, queries_of, replies_of}
+use Rattle.shared_desk.specs.ClientViews.{ClientView, Extends}
+
+-- The first frames of the bytes ask this, one after the other, and these bytes are left.
+abbrev pub Asks : List ℕ → List (Result Asked ℕ) → List ℕ → Type 0
+Asks bytes [] left = left ≡ bytes
+Asks bytes (query ∷ queries) left =
+    (payload rest : List ℕ) × (front bytes ≡ whole payload rest) × Hears payload query
+    × Asks rest queries left
+
+-- Nothing failed: every frame of the bytes is asked in the part, and what was written are the
+-- replies of the part, in order, with one 71 behind them, where a length over the limit came.
+pub record IsWritten (part : List Entry) (bytes before : List ℕ) (over : Type 0) (number : ℕ)
+    (after : List ℕ) : Type 0 where
+  pub left : List ℕ
+  pub asked : Asks bytes (queries_of part) left
+  pub counts : number ≡ min (length part) (2 ^ 64 - 1)
+  pub last : EndsWith (front left) (before ++ replies_of part) after
+  pub stops : StopsAt (front left) over bytes
+
+-- The reader failed: every frame that is whole in the bytes is asked in the part, and what was
+-- written are the whole replies of the part.
+pub record IsWrittenToTheFault (part : List Entry) (bytes before after : List ℕ) : Type 0 where
+  pub left : List ℕ
+  pub asked : Asks bytes (queries_of part) left
+  pub waits : front left ≡ partial
+  pub written : after ≡ before ++ replies_of part
+
+-- The writer failed. The part begins with what was asked before the last piece came, of at most
+-- 4,096 bytes, and those replies are written. Of what is due to the rest of the part, with the last
+-- 71, a beginning is written, and not all.
+pub record IsWrittenInPart (part : List Entry) (bytes before after : List ℕ) : Type 0 where
+  pub early : List ℕ
+  pub piece : List ℕ
+  pub came : bytes ≡ early ++ piece
+  pub short : length piece ≤ 4096
+  pub first : List Entry
+  pub rest : List Entry
+  pub both : part ≡ first ++ rest
+  pub waiting : List ℕ
+  pub asked_early : Asks early (queries_of first) waiting
+  pub waits : front waiting ≡ partial
+  pub left : List ℕ
+  pub asked : Asks bytes (queries_of part) left
+  pub due : List ℕ
+  pub is_due : IsDue (front left) (before ++ replies_of part) due
+  pub cut : IsPartWritten (before ++ replies_of first) due after
+
+-- There was no memory. What was written are whole replies, of all of the part or of all but its
+-- last entry: that request was carried out, and nothing of its reply is written.
+pub record IsWrittenButOne (part : List Entry) (bytes before after : List ℕ) : Type 0 where
+  pub first : List Entry
+  pub unwritten : List Entry
+  pub both : part ≡ first ++ unwritten
+  pub one_at_most : length unwritten ≤ 1
+  pub left : List ℕ
+  pub asked : Asks bytes (queries_of part) left
+  pub written : after ≡ before ++ replies_of first
+
+-- what was written of a part, where the stream was given up by this
+abbrev pub IsWrittenUpTo : StreamFault → List Entry → List ℕ → List ℕ → List ℕ → Type 0
+IsWrittenUpTo ReadFailed part bytes before after = IsWrittenToTheFault part bytes before after
+IsWrittenUpTo WriteFailed part bytes before after = IsWrittenInPart part bytes before after
+IsWrittenUpTo NoMemory part bytes before after = IsWrittenButOne part bytes before after
+
+-- the fault names the end that failed, or neither did
+abbrev pub NamesTheEnd : StreamFault → Bool → Bool → Type 0
+NamesTheEnd ReadFailed reader_failed writer_failed = reader_failed ≡ true
+NamesTheEnd WriteFailed reader_failed writer_failed = writer_failed ≡ true
+NamesTheEnd NoMemory reader_failed writer_failed =
+    (reader_failed ≡ false) × (writer_failed ≡ false)
+
+-- what contracts see of the two ends of a connection: what was read, whether that was all and
+-- whether a read failed; what was written, and whether a write failed
+module _ {R W : Type 0} (read : R → List ℕ) (over read_failed : R → Bool) (written : W → List ℕ)
+    (write_failed : W → Bool) where
+  -- Between two states of a connection's ends, what came asks this part of the history, and what
+  -- was written are its replies.
+  pub record IsServedPart (v : R × W) (part : List Entry) (w : R × W)
+      (outcome : Result ℕ StreamFault) : Type 0 where
+    pub bytes : List ℕ
+    pub came : read w.0 ≡ read v.0 ++ bytes
+    pub replies : MatchResult outcome
+        (λ number. IsWritten part bytes (written v.1) (over w.0 ≡ true) number (written w.1)
+        × (read_failed w.0 ≡ false) × (write_failed w.1 ≡ false))
+        (λ fault. IsWrittenUpTo fault part bytes (written v.1) (written w.1)
+        × NamesTheEnd fault (read_failed w.0) (write_failed w.1))
+
+  -- the connection's part is longer by what is served between these states of its ends
+  abbrev pub IsServedClient : (R × W) × ClientView → (R × W) × ClientView → Result ℕ StreamFault
+      → Type 0
+  IsServedClient v w outcome =
+      (part : List Entry) × Extends v.1 part w.1 × IsServedPart v.0 part w.0 outcome

@@ -1,0 +1,120 @@
+-- The rule of the history's table, and what its steps tell.
+use Rattle.std.specs.Prelude.{◌≡◌, ℕ, ◌+◌, ◌<◌, ◌≤◌, true, false, List, [], ◌∷◌, ◌++◌}
+use mathlib.Core.Option.{some}
+use mathlib.Core.List.{IsPrefix}
+use lib.ListN.{get_elem?}
+use Rattle.atomic_table.specs.Table.{Me, Step}
+use Rattle.atomic_table.specs.Seated.{TableId}
+use Rattle.shared_desk.specs.declared.seats.View.{View}
+use Rattle.shared_desk.specs.Histories.{Entry, part_of}
+
+-- the name of no table
+abbrev pub no_table : TableId
+no_table = record {
+  words = 0;
+  slots = 0;
+  views_name = 0;
+  atom = 0;
+  block = 0;
+  offset = 0;
+  slot_names = [];
+}
+
+-- ---- who sits where
+
+-- a seat that knows nothing
+abbrev pub nobody : View
+nobody = record {
+  is_client = false;
+  number = 0;
+  seen = [];
+  part = [];
+  is_opener = false;
+  opened = 0;
+  is_recorder = false;
+  history = [];
+}
+
+-- the recorder, who knows the whole history
+abbrev pub recorder : List Entry → View
+recorder history = record nobody { is_recorder = true; history = history }
+
+-- the opener, who knows how many connections were opened
+abbrev pub opener : ℕ → View
+opener opened = record nobody { is_opener = true; opened = opened }
+
+-- the first seat, which is both
+abbrev pub founder : View
+founder = record nobody { is_opener = true; is_recorder = true }
+
+-- a connection
+abbrev pub client : ℕ → List Entry → List Entry → View
+client n seen part = record nobody { is_client = true; number = n; seen = seen; part = part }
+
+-- a seat that becomes the recorder, or is it no more
+abbrev pub with_recorder : View → View → View
+with_recorder v w = record v { is_recorder = w.is_recorder; history = w.history }
+
+abbrev pub without_recorder : View → View
+without_recorder v = record v { is_recorder = false; history = [] }
+
+abbrev pub only_recorder : View → View
+only_recorder v = record nobody { is_recorder = v.is_recorder; history = v.history }
+
+-- the opener has opened one more, which has seen nothing
+abbrev pub one_more_opened : View → View
+one_more_opened v = record v { opened = v.opened + 1 }
+
+abbrev pub newcomer : View → View
+newcomer v = client v.opened [] []
+
+-- ---- the rule
+
+-- what the view at a seat says is so
+pub record Fits (recorder_at opener_at : ℕ) (seat_of : ℕ → ℕ) (opened : ℕ) (history : List Entry)
+    (seat : ℕ) (v : View) : Type 0 where
+  pub recording : v.is_recorder ≡ true → (seat ≡ recorder_at) × (v.history ≡ history)
+  pub opening : v.is_opener ≡ true → (seat ≡ opener_at) × (v.opened ≡ opened)
+  pub serving : v.is_client ≡ true → (seat ≡ seat_of v.number) × (v.number < opened)
+      × (part_of v.number history ≡ v.part) × IsPrefix v.seen history
+
+-- There is one history. One seat knows it whole, and one knows how many connections were opened.
+-- Each connection has one seat, which knows its part of the history. A connection that was not
+-- opened has no part.
+pub record IsShared (views : List View) : Type 0 where
+  pub recorder_at : ℕ
+  pub opener_at : ℕ
+  pub seat_of : ℕ → ℕ
+  pub opened : ℕ
+  pub history : List Entry
+  pub each : (seat : ℕ) (v : View) → get_elem? views seat ≡ some v
+      → Fits recorder_at opener_at seat_of opened history seat v
+  pub others : (n : ℕ) → opened ≤ n → part_of n history ≡ []
+
+-- ---- the steps
+
+-- a connection, as the recorder, adds an entry of its own
+abbrev pub AddsEntry : {S : Type 0} → (Entry → Type 0) → Step S → Me S View → ℕ → Me S View → Type 0
+AddsEntry allows s v found w =
+    (e : Entry) × allows e × (e.connection ≡ v.0.number) × IsPrefix v.0.seen v.0.history
+    × (part_of v.0.number (v.0.history ++ e ∷ []) ≡ v.0.part ++ e ∷ [])
+    × (w ≡ (
+      with_recorder (client v.0.number (v.0.history ++ e ∷ []) (v.0.part ++ e ∷ []))
+          (recorder (v.0.history ++ e ∷ [])),
+      v.1,
+    ))
+
+-- a connection, as the recorder, sees the whole history, of which it knows its part
+abbrev pub SeesAll : {S : Type 0} → Step S → Me S View → ℕ → Me S View → Type 0
+SeesAll s v found w =
+    IsPrefix v.0.seen v.0.history × (part_of v.0.number v.0.history ≡ v.0.part)
+    × (w ≡ (with_recorder (client v.0.number v.0.history v.0.part) (recorder v.0.history), v.1))
+
+-- a connection, as the recorder, compares its part with the whole history
+abbrev pub KnowsItsPart : {S : Type 0} → Step S → Me S View → ℕ → Me S View → Type 0
+KnowsItsPart s v found w = (w ≡ v) × (part_of v.0.number v.0.history ≡ v.0.part)
+
+-- the opener, as the recorder, sees that a connection that was not opened has no part
+abbrev pub KnowsTheCount : {S : Type 0} → Step S → Me S View → ℕ → Me S View → Type 0
+KnowsTheCount s v found w =
+    (w ≡ v) × ((n : ℕ) → v.0.opened ≤ n → part_of n v.0.history ≡ [])

@@ -1,0 +1,128 @@
+//! One connection's way to the desk that all share.
+
+ghost use Rattle.std.specs.Prelude.{◌≡◌, false};
+ghost use Rattle.shared_desk.specs.Histories.{Replays, part_of};
+ghost use Rattle.shared_desk.specs.Parts.{IsServedClient};
+
+use crate::desk::SharedDesk;
+use crate::seats::Origin;
+use crate::shared_history::{ClientSeat, SharedHistory};
+use refusal::NoMemory;
+use sessions::Request;
+use std::alloc::Global;
+use std::marker::Model;
+use std::sync::{Mutex, Wait};
+use streams::{Handler, Sink, Source, StreamFault, serve_stream};
+
+/// Answers one connection's requests at the shared desk, each under the lock. Contracts see it as
+/// what the connection knows of the history.
+#[derive(Drop)]
+pub struct Client<'a, R, D, H: Handler<D>, J: Origin<D, H>> {
+    rt: &'a R,
+    history: &'a SharedHistory<J>,
+    lock: &'a Mutex<SharedDesk<D, H, J>>,
+    seat: ClientSeat<J>,
+}
+
+impl<'a, R, D, H: Handler<D>, J: Origin<D, H>> Model for Client<'a, R, D, H, J> {
+    ghost use Rattle.std.specs.Prelude.{◌≡◌};
+    ghost use Rattle.shared_desk.specs.ClientViews.{ClientView};
+    ghost use Rattle.shared_desk.specs.Histories.{Replays, part_of};
+
+    ghost Value = { ClientView };
+
+    ghost view = { λ c. c.seat };
+
+    ghost invariant = { λ c. ((s : D × H) × Replays H.answers J.begins c.seat.seen s)
+        × (part_of c.seat.number c.seat.seen ≡ c.seat.part) };
+}
+
+impl<'a, R, D, H: Handler<D>, J: Origin<D, H>> Client<'a, R, D, H, J> {
+    /// A connection that has seen a legal history.
+    pub fn of(
+        rt: &'a R,
+        history: &'a SharedHistory<J>,
+        lock: &'a Mutex<SharedDesk<D, H, J>>,
+        seat: ClientSeat<J>,
+    ) -> Client<'a, R, D, H, J>
+        requires legal { (s : D × H) × Replays H.answers J.begins seat.seen s }
+        requires own { part_of seat.number seat.seen ≡ seat.part }
+        ensures { result ≡ seat }
+    {
+        Client {
+            rt,
+            history,
+            lock,
+            seat,
+        }
+    }
+
+    /// What the connection knows.
+    pub fn into_seat(self) -> ClientSeat<J>
+        ensures same { result ≡ self.entry }
+        ensures legal { (s : D × H) × Replays H.answers J.begins result.seen s }
+        ensures own { part_of result.number result.seen ≡ result.part }
+    {
+        let Client { seat, .. } = self;
+        seat
+    }
+}
+
+impl<'a, R: Wait, D, H: Handler<D>, J: Origin<D, H>> Client<'a, R, D, H, J> {
+    /// A connection that was opened. It sees all that was answered so far.
+    pub fn new(
+        rt: &'a R,
+        history: &'a SharedHistory<J>,
+        lock: &'a Mutex<SharedDesk<D, H, J>>,
+        mut seat: ClientSeat<J>,
+    ) -> Client<'a, R, D, H, J>
+        ensures { (result.number ≡ seat.number) × (result.part ≡ seat.part) }
+    {
+        lock.lock(rt).look(history, &mut seat);
+        Client::of(rt, history, lock, seat)
+    }
+}
+
+impl<R: Wait, D, H: Handler<D>, J: Origin<D, H>> Handler<()> for Client<'_, R, D, H, J> {
+    ghost use Rattle.shared_desk.specs.Answered.{IsSharedAnswer};
+
+    ghost ready = { λ _. Unit {0} };
+
+    ghost answers = { λ s query reply t.
+        IsSharedAnswer H.answers J.begins s.1 query reply t.1 };
+
+    fn answer(
+        &mut self,
+        alloc: Global,
+        _desk: &mut (),
+        request: Result<Request, u8>,
+    ) -> Result<Vec<u8>, NoMemory> {
+        self.lock
+            .lock(self.rt)
+            .answer(self.history, &mut self.seat, alloc, request)
+    }
+}
+
+/// Serves a connection's stream, as `serve_stream` does. What came asks the connection's own part
+/// of the history, and what was written are the replies of that part, in order.
+///
+/// 83 where the reader failed: all replies of the part are written. 84 where the writer failed: a
+/// beginning of them. 99 where there was no memory, and neither failed: all of them, or all but the
+/// last one.
+pub fn serve_client<S: Source, W: Sink, R: Wait, D, H: Handler<D>, J: Origin<D, H>>(
+    alloc: Global,
+    reader: &mut S,
+    writer: &mut W,
+    client: &mut Client<'_, R, D, H, J>,
+) -> Result<u64, StreamFault>
+    requires source { S.has_failed reader.old ≡ false }
+    requires sink { W.has_failed writer.old ≡ false }
+    ensures served { IsServedClient S.transcript S.is_over S.has_failed W.transcript W.has_failed
+        ((reader.old, writer.old), client.old) ((reader.new, writer.new), client.new) result }
+    ensures legal { (s : D × H) × Replays H.answers J.begins client.new.seen s }
+    ensures own { part_of client.new.number client.new.seen ≡ client.new.part }
+{
+    let served = serve_stream(alloc, reader, writer, &mut (), client);
+    let _ = &client.seat; // for the proof
+    served
+}

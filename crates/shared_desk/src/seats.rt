@@ -1,0 +1,168 @@
+//! What each seat knows of the history, and the kinds of step.
+
+use atomic_table::{Join, Play, Split, TableRule};
+use sessions::Request;
+use std::collections::LinkedList;
+use std::marker::{Brand, Model, PhantomData};
+
+/// An entry of the history: a connection, what it asked, and the reply. No value of it is made.
+pub struct LogEntry {
+    pub connection: u64,
+    pub request: Result<Request, u8>,
+    pub reply: LinkedList<u8>,
+}
+
+impl Model for LogEntry {
+    ghost use Rattle.streams.specs.Hearing.{query_of};
+    ghost use Rattle.shared_desk.specs.Histories.{Entry};
+
+    ghost Value = { Entry };
+
+    ghost view = { λ e. record {
+      connection = e.connection;
+      query = query_of e.request;
+      reply = e.reply;
+    } };
+}
+
+/// What a seat knows. No value of it is made.
+///
+/// The seat of a connection knows a beginning of the history, and the connection's part of it. The
+/// recorder knows the whole history, and the opener how many connections were opened. For the time
+/// of a step the seat of a connection or of the opener is the recorder too.
+pub struct View {
+    pub is_client: bool,
+    pub number: u64,
+    pub seen: LinkedList<LogEntry>,
+    pub part: LinkedList<LogEntry>,
+    pub is_opener: bool,
+    pub opened: u64,
+    pub is_recorder: bool,
+    pub history: LinkedList<LogEntry>,
+}
+
+/// Names one history, by its table. Each call of a program picks it.
+pub trait HistoryId {
+    ghost use Rattle.atomic_table.specs.Seated.{TableId};
+
+    ghost table: { TableId };
+}
+
+impl HistoryId for Brand {
+    ghost use Rattle.shared_desk.specs.Rule.{no_table};
+
+    ghost table = { no_table };
+}
+
+/// Says what the desk and the handler may be at the start of the history.
+pub trait Origin<D, H>: HistoryId {
+    ghost begins: { D × H → Type 0 };
+}
+
+impl<D, H> Origin<D, H> for Brand {
+    ghost begins = { λ _. Unit {0} };
+}
+
+/// There is one history, of which each connection knows its part.
+pub struct Ruled;
+
+impl TableRule<(), View, ()> for Ruled {
+    ghost use Rattle.shared_desk.specs.Rule.{IsShared, founder};
+
+    ghost holds = { λ _ s. IsShared s.views };
+
+    ghost first = { λ _. founder };
+}
+
+/// A seat becomes the recorder too.
+pub struct TakesRecorder;
+
+impl Join<View> for TakesRecorder {
+    ghost use Rattle.shared_desk.specs.Rule.{with_recorder, nobody};
+
+    ghost both = { with_recorder };
+
+    ghost spent = { nobody };
+}
+
+/// A seat is the recorder no more.
+pub struct LeavesRecorder;
+
+impl Split<View> for LeavesRecorder {
+    ghost use Rattle.shared_desk.specs.Rule.{without_recorder, only_recorder};
+
+    ghost left = { without_recorder };
+
+    ghost right = { only_recorder };
+}
+
+/// A seat that knows nothing.
+pub struct Spares;
+
+impl Split<View> for Spares {
+    ghost use Rattle.shared_desk.specs.Rule.{nobody};
+
+    ghost left = { λ v. v };
+
+    ghost right = { λ _. nobody };
+}
+
+/// The opener opens a connection.
+pub struct Opens;
+
+impl Split<View> for Opens {
+    ghost use Rattle.shared_desk.specs.Rule.{one_more_opened, newcomer};
+
+    ghost left = { one_more_opened };
+
+    ghost right = { newcomer };
+}
+
+/// Says which entry a step may add. Each call picks it.
+pub trait EntryRule {
+    ghost use Rattle.shared_desk.specs.Histories.{Entry};
+
+    ghost allows: { Entry → Type 0 };
+}
+
+impl EntryRule for Brand {
+    ghost allows = { λ _. Unit {0} };
+}
+
+/// One entry more, of the connection whose seat steps.
+pub struct Adds<E: EntryRule> {
+    of: PhantomData<E>,
+}
+
+impl<E: EntryRule> Play<(), View> for Adds<E> {
+    ghost use Rattle.shared_desk.specs.Rule.{AddsEntry};
+
+    ghost then = { AddsEntry E.allows };
+}
+
+/// A connection sees the whole history.
+pub struct Looks;
+
+impl Play<(), View> for Looks {
+    ghost use Rattle.shared_desk.specs.Rule.{SeesAll};
+
+    ghost then = { SeesAll };
+}
+
+/// A connection compares what it knows with the whole history.
+pub struct Compares;
+
+impl Play<(), View> for Compares {
+    ghost use Rattle.shared_desk.specs.Rule.{KnowsItsPart};
+
+    ghost then = { KnowsItsPart };
+}
+
+/// The opener looks at the whole history.
+pub struct Counts;
+
+impl Play<(), View> for Counts {
+    ghost use Rattle.shared_desk.specs.Rule.{KnowsTheCount};
+
+    ghost then = { KnowsTheCount };
+}

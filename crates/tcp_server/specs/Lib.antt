@@ -1,4 +1,0 @@
-pub mod Addresses
-pub mod Passages
-pub mod Serving
-pub mod Visits

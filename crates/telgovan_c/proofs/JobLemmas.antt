@@ -1,0 +1,142 @@
+-- The programs of a job's pieces, its tasks as they are written, and the length of its buffer.
+use Rattle.std.proofs.Common.{◌≡◌, ◌≢◌, ◌⊎◌, ℕ, ◌<◌, ◌≤◌, ◌+◌, inl, inr, List, [], ◌∷◌, ◌++◌, length, map, set, slice_get, refl, sym, ◌∙◌, arith, ap, subst, Some}
+use Rattle.std.proofs.lemmas.List.{length-append, length-set}
+use Rattle.std.proofs.lemmas.Option.{slice_get_within}
+use Rattle.machine_model.specs.Machine.{Program}
+use Rattle.machine_model.specs.JobState.{JobState, Live, AreTiles, start}
+use Rattle.machine_model.proofs.Places.{by_number, pushed, set_same, set_other}
+use Rattle.machine_model.proofs.Tiles.{Tiled, tiles_step}
+use Rattle.task_trees.specs.Eval.{root}
+use Rattle.task_trees.proofs.TreeAnswers.{start_tiles}
+use Rattle.verifier.specs.Checked.{program_of}
+use Rattle.credit_book.specs.declared.book.Report.{Report}
+use Rattle.credit_book.specs.declared.event.TaskEnd.{TaskEnd}
+use Rattle.job_core.specs.declared.admission.ProgramBytes.{ProgramBytes}
+use Rattle.job_core.specs.Admitted.{AdmittedJob}
+use Rattle.job_core.specs.PlaysLowest.{GoesLowest, none_yet, one_more, IsPlayed}
+use Rattle.job_core.proofs.Simulates.{some_within}
+use Rattle.telgovan_c.specs.declared.jobs.CodePiece.{CodePiece}
+use Rattle.telgovan_c.specs.declared.jobs.EndedTask.{EndedTask}
+use Rattle.telgovan_c.specs.Jobs.{AreCut, AreCutTo, AreWritten, IsCut, task_of}
+
+-- ---- the programs of the pieces
+
+-- so many of the first pieces are cut out
+pub record AreCutSoFar (code : List ℕ) (pieces : List CodePiece) (count : ℕ) (programs : List ProgramBytes) : Type 0 where
+  pub many : length programs ≡ count
+  pub each : AreCut code pieces programs
+
+pub cut_none : (code : List ℕ) (pieces : List CodePiece) → AreCutSoFar code pieces 0 []
+cut_none code pieces = record { many = refl; each = λ n piece program e f. absurd (omega (arith, slice_get_within [] n program f)) }
+
+pub cut_more : (code : List ℕ) (pieces : List CodePiece) (count : ℕ) (programs : List ProgramBytes) (piece : CodePiece) (program : ProgramBytes) →
+    AreCutSoFar code pieces count programs → slice_get pieces count ≡ Some piece → IsCut code piece program →
+    AreCutSoFar code pieces (count + 1) (programs ++ program ∷ [])
+cut_more code pieces count programs piece program so_far is cut = record {
+  many = length-append programs (program ∷ []) ∙ ap (λ k. k + 1) so_far.many;
+  each = λ n other q e f. by_place n other q e (pushed programs n program q f);
+} where
+  by_place : (n : ℕ) (other : CodePiece) (q : ProgramBytes) → slice_get pieces n ≡ Some other →
+      (slice_get programs n ≡ Some q) ⊎ ((n ≡ length programs) × (q ≡ program)) → IsCut code other q
+  by_place n other q e (inl before) = so_far.each n other q e before
+  by_place n other q e (inr (last, same)) =
+      let at : slice_get pieces n ≡ Some piece = rw (last ∙ so_far.many) is in
+      let same_piece : piece ≡ other = cc in
+      subst (λ (x : CodePiece). IsCut code x q) same_piece (subst (λ (x : ProgramBytes). IsCut code piece x) (sym same) cut)
+
+pub cut_all : (code : List ℕ) (pieces : List CodePiece) (count : ℕ) (programs : List ProgramBytes) → AreCutSoFar code pieces count programs →
+    count ≡ length pieces → AreCutTo code pieces programs
+cut_all code pieces count programs so_far all = record {
+  each = so_far.each;
+  most = omega (arith, so_far.many, all);
+  stops = λ less. absurd (omega (arith, so_far.many, all, less));
+}
+
+pub cut_stops : (code : List ℕ) (pieces : List CodePiece) (count : ℕ) (programs : List ProgramBytes) (piece : CodePiece) →
+    AreCutSoFar code pieces count programs → slice_get pieces count ≡ Some piece → length code < piece.start + piece.length →
+    AreCutTo code pieces programs
+cut_stops code pieces count programs piece so_far is outside =
+    let within = slice_get_within pieces count piece is in
+    record {
+      each = so_far.each;
+      most = omega (arith, so_far.many, within);
+      stops = λ less. record {
+        piece = piece;
+        there = ap (slice_get pieces) so_far.many ∙ is;
+        outside = outside;
+        earlier = λ n before lt e.
+            let program = some_within programs n lt in (so_far.each n before program.0 e program.1).inside;
+      };
+    }
+
+-- ---- the tasks as they are written
+
+-- the first so many are written, and the others are as they were
+pub record AreWrittenTo (ends : List TaskEnd) (old : List EndedTask) (done : ℕ) (new : List EndedTask) : Type 0 where
+  pub most : done ≤ length ends
+  pub count : length new ≡ length old
+  pub written : (n : ℕ) (ended : TaskEnd) → n < done → slice_get ends n ≡ Some ended → slice_get new n ≡ Some (task_of ended)
+  pub kept : (n : ℕ) → done ≤ n → slice_get new n ≡ slice_get old n
+
+pub written_none : (ends : List TaskEnd) (old : List EndedTask) → AreWrittenTo ends old 0 old
+written_none ends old = record {
+  most = omega arith;
+  count = refl;
+  written = λ n ended lt e. absurd (omega (arith, lt));
+  kept = λ n le. refl;
+}
+
+pub written_more : (ends : List TaskEnd) (old : List EndedTask) (done : ℕ) (new : List EndedTask) (ended : TaskEnd) →
+    AreWrittenTo ends old done new → done < length new → slice_get ends done ≡ Some ended →
+    AreWrittenTo ends old (done + 1) (set new done (task_of ended))
+written_more ends old done new ended so_far within there = record {
+  most = let below = slice_get_within ends done ended there in omega (arith, below);
+  count = length-set new done (task_of ended) ∙ so_far.count;
+  written = λ n other lt e. by_number
+      (λ k. (x : TaskEnd) → slice_get ends k ≡ Some x → k < done + 1 → slice_get (set new done (task_of ended)) k ≡ Some (task_of x))
+      done n (λ x is below. last x is) (λ ne x is below. earlier n ne x is below) other e lt;
+  kept = λ n from. set_other new done n (task_of ended) (λ is. omega (arith, is, from)) ∙ so_far.kept n (omega (arith, from));
+} where
+  last : (x : TaskEnd) → slice_get ends done ≡ Some x → slice_get (set new done (task_of ended)) done ≡ Some (task_of x)
+  last x is =
+      let same : ended ≡ x = cc in
+      set_same new done (task_of ended) within ∙ ap (λ (y : TaskEnd). Some (task_of y)) same
+
+  earlier : (n : ℕ) → n ≢ done → (x : TaskEnd) → slice_get ends n ≡ Some x → n < done + 1 →
+      slice_get (set new done (task_of ended)) n ≡ Some (task_of x)
+  earlier n ne x is below = set_other new done n (task_of ended) ne ∙ so_far.written n x (omega (arith, ne, below)) is
+
+-- there is no room for more
+pub written_room : (ends : List TaskEnd) (old : List EndedTask) (done : ℕ) (new : List EndedTask) → AreWrittenTo ends old done new →
+    length new ≤ done → AreWritten ends old new
+written_room ends old done new so_far full = record {
+  count = so_far.count;
+  written = λ n ended lt e. so_far.written n ended (omega (arith, lt, full, so_far.count)) e;
+  kept = λ n from. so_far.kept n (omega (arith, from, so_far.most));
+}
+
+-- there are no more tasks
+pub written_all : (ends : List TaskEnd) (old : List EndedTask) (done : ℕ) (new : List EndedTask) → AreWrittenTo ends old done new →
+    done ≡ length ends → AreWritten ends old new
+written_all ends old done new so_far all = record {
+  count = so_far.count;
+  written = λ n ended lt e. let below = slice_get_within ends n ended e in so_far.written n ended (omega (arith, all, below)) e;
+  kept = λ n from. so_far.kept n (omega (arith, from, all));
+}
+
+-- ---- the length of the buffer
+
+tiled_lowest : (programs : List Program) (first last : JobState) → AreTiles first.tasks (length first.buffer) → GoesLowest programs first last →
+    Tiled first last
+tiled_lowest programs first last tiles none_yet = (tiles, refl)
+tiled_lowest programs first last tiles (one_more j k n refuses before lowest is) =
+    let so_far = tiled_lowest programs first j tiles before in
+    let next = tiles_step programs j k n refuses is (subst (λ (i : ℕ). AreTiles j.tasks i) (sym so_far.1) so_far.0) in
+    (subst (λ (i : ℕ). AreTiles k.tasks i) so_far.1 next.0, next.1 ∙ so_far.1)
+
+-- a job that is played leaves as many bytes as its buffer had
+pub buffer_stays : (order : AdmittedJob) (report : Report) → IsPlayed order report → length report.buffer.items ≡ length order.buffer
+buffer_stays order report played =
+    let begin : AreTiles (start order.credit order.buffer).tasks (length order.buffer) = start_tiles (Live (root order.credit order.buffer)) (length order.buffer) refl refl in
+    let tiled = tiled_lowest (map program_of order.programs) (start order.credit order.buffer) played.last begin played.steps in
+    ap length played.reported.buffer ∙ tiled.1

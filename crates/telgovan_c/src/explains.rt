@@ -1,0 +1,87 @@
+//! Why a program is refused, as text.
+
+ghost use Rattle.std.specs.Prelude.{◌≡◌, length, None};
+ghost use Rattle.verifier.specs.RefusalCodes.{number_of, slot_of};
+ghost use Rattle.telgovan_c.specs.Explains.{IsExplained, IsPlaced, explained_as};
+
+use crate::texts::Written;
+use explain::explain;
+use helpers::HelperTable;
+use std::alloc::Global;
+use verifier::Refusal;
+
+// No memory was left.
+const NO_MEMORY: u32 = 99;
+
+/// Copies the bytes to the beginning of the room, if they fit.
+pub(crate) fn place_into(bytes: &[u8], room: &mut [u8])
+    ensures { IsPlaced bytes.now room.old room.new }
+{
+    if bytes.len() <= room.len() {
+        room[..bytes.len()].copy_from_slice(bytes);
+    }
+}
+
+// No text is told, for this status.
+fn without_text(status: u32) -> Written
+    ensures { result ≡ explained_as 0 status None }
+{
+    Written {
+        length: 0,
+        place: 0,
+        status,
+        has_place: false,
+    }
+}
+
+// What is told of a refusal whose text has so many bytes.
+fn with_text(text: &[u8], refusal: &Refusal) -> Written
+    ensures { result
+        ≡ explained_as (length text.now) (number_of refusal.now) (slot_of refusal.now) }
+{
+    let slot = refusal.slot();
+    Written {
+        length: text.len() as u64,
+        place: u64::from(slot.unwrap_or(0)),
+        status: u32::from(refusal.code()),
+        has_place: slot.is_some(),
+    }
+}
+
+// Why a program is refused, into the room. A source text that isn't UTF-8 counts as none.
+fn explain_into(alloc: Global, need: u32, code: &[u8], source: &[u8], room: &mut [u8]) -> Written
+    ensures { IsExplained need code.now room.old room.new result }
+{
+    let source = match str::from_utf8(source) {
+        Ok(source) => Some(source),
+        Err(_) => None,
+    };
+    match explain(alloc, need, code, &HelperTable::job(), source) {
+        Ok(Some(told)) => {
+            let text = told.text.as_bytes();
+            place_into(text, room);
+            with_text(text, &told.refusal)
+        }
+        Ok(None) => without_text(0),
+        Err(_) => without_text(NO_MEMORY),
+    }
+}
+
+/// Writes why a program of this need is refused, and answers the status: 0 where it is accepted,
+/// 99, else the number of the refusal, with its slot as the place. `length` is how many bytes the
+/// text has. Where they don't fit, nothing is written. A source text gives the line of the slot.
+#[unsafe(no_mangle)]
+pub extern "C" fn telgovan_explain(
+    alloc: Global,
+    need: u32,
+    code: &[u8],
+    source: &[u8],
+    room: &mut [u8],
+    told: &mut Written,
+) -> u32
+    ensures explained { IsExplained need code.now room.old room.new told.new }
+    ensures status { result ≡ told.new.status }
+{
+    *told = explain_into(alloc, need, code, source, room);
+    told.status
+}

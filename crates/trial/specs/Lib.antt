@@ -1,6 +1,0 @@
-pub mod Faults
-pub mod Forms
-pub mod Runs
-pub mod Places
-pub mod Printed
-pub mod Answered

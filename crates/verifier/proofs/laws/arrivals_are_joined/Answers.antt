@@ -1,5 +1,0 @@
-use Rattle.verifier.proofs.Arrivals.{arrive_is}
-use Rattle.verifier.proofs.laws.arrivals_are_joined.Goals as goal
-
-pub returns : goal.returns
-returns c = λ p order flow. arrive_is p order flow.joined flow.order flow.short

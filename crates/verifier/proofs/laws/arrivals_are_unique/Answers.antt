@@ -1,7 +1,0 @@
-use Rattle.verifier.specs.Arrive.{arrive}
-use Rattle.verifier.proofs.Arrivals.{arrive_is, arrive_unique}
-use Rattle.verifier.proofs.laws.arrivals_are_unique.Goals as goal
-
-pub returns : goal.returns
-returns c = λ p order other flow solves s within.
-    arrive_unique p other (arrive p) order s flow.joined flow.order solves (arrive_is p order flow.joined flow.order flow.short) within

@@ -1,6 +1,0 @@
-use Rattle.std.specs.Prelude.{◌≡◌}
-use Rattle.verifier.proofs.StateLemmas.{joined_below}
-use Rattle.verifier.proofs.state.State.join.Given as goal
-
-abbrev pub invariant-loop-number : goal.invariant-loop-number
-invariant-loop-number l = l.self ≡ joined_below l.fn.self l.other l.number

@@ -1,0 +1,40 @@
+# Completes the words of bpfjobs in bash.
+_bpfjobs() {
+    local word=${COMP_WORDS[COMP_CWORD]} previous=${COMP_WORDS[COMP_CWORD - 1]}
+    COMPREPLY=()
+    if ((COMP_CWORD == 1)); then
+        mapfile -t COMPREPLY < <(compgen -W "assemble disassemble verify play run serve help --help" -- "$word")
+        return
+    fi
+    case ${COMP_WORDS[1]} in
+    assemble)
+        mapfile -t COMPREPLY < <(compgen -W "--help" -- "$word")
+        ;;
+    disassemble)
+        mapfile -t COMPREPLY < <(compgen -W "--help" -- "$word")
+        ;;
+    verify)
+        case $previous in
+        --need) return ;;
+        esac
+        mapfile -t COMPREPLY < <(compgen -W "--need --help" -- "$word")
+        ;;
+    play)
+        mapfile -t COMPREPLY < <(compgen -W "--help" -- "$word")
+        ;;
+    run)
+        case $previous in
+        --workers) return ;;
+        esac
+        mapfile -t COMPREPLY < <(compgen -W "--workers --help" -- "$word")
+        ;;
+    serve)
+        case $previous in
+        --port | --workers | --sessions) return ;;
+        esac
+        mapfile -t COMPREPLY < <(compgen -W "--port --workers --sessions --help" -- "$word")
+        ;;
+    help) mapfile -t COMPREPLY < <(compgen -W "assemble disassemble verify play run serve" -- "$word") ;;
+    esac
+}
+complete -o filenames -F _bpfjobs bpfjobs

@@ -1,0 +1,178 @@
+"""The built programs and the library, and a server in a process of its own."""
+
+import json
+import os
+import socket
+import struct
+import subprocess
+import sys
+import threading
+import time
+
+TOP = os.path.dirname(os.path.dirname(os.path.abspath(__file__)))
+BPFJOBS = os.environ.get("BPFJOBS", os.path.join(TOP, "crates/bpfjobs/out/bpfjobs"))
+BPFRUN = os.environ.get("BPFRUN", os.path.join(TOP, "crates/bpfrun/out/bpfrun"))
+PATIENCE = 60
+SHORT = 10_000
+
+sys.path.insert(0, os.path.join(TOP, "bindings/python"))
+import telgovan  # noqa: E402  (the module stands in the folder that was just added)
+
+assemble, disassemble = telgovan.assemble, telgovan.disassemble
+
+
+def told(program, words, given=b""):
+    """The status of a program, and what it prints."""
+    ran = subprocess.run([program, *words], input=given, capture_output=True, timeout=PATIENCE, check=False)
+    return ran.returncode, ran.stdout.decode()
+
+
+def bpfjobs(*words, given=""):
+    return told(BPFJOBS, words, given.encode() if isinstance(given, str) else given)
+
+
+def job_text(programs, credit, buffer, **more):
+    """A job as `bpfjobs play` and `run` read it. The programs are pairs of a need and the bytes."""
+    listed = [{"need": need, "code": code.hex()} for need, code in programs]
+    return json.dumps({"programs": listed, "credit": credit, "buffer": buffer.hex(), **more})
+
+
+def submit_text(programs, credit, buffer):
+    """The request of tenant `t` to run a job."""
+    return '{"op":"submit","tenant":"t",' + job_text(programs, credit, buffer)[1:]
+
+
+def play(programs, credit, buffer, schedule):
+    """What a job comes to over a schedule, by `bpfjobs play`."""
+    return json.loads(bpfjobs("play", given=job_text(programs, credit, buffer, schedule=list(schedule)))[1])
+
+
+def frame(text):
+    """A text behind its length."""
+    payload = text.encode() if isinstance(text, str) else text
+    return struct.pack(">I", len(payload)) + payload
+
+
+def frames(texts):
+    return b"".join(map(frame, texts))
+
+
+def is_read(stream, count):
+    """So many bytes, or fewer at the stream's end."""
+    parts = b""
+    while len(parts) < count:
+        part = stream.recv(count - len(parts))
+        if not part:
+            break
+        parts += part
+    return parts
+
+
+def free_port():
+    with socket.socket() as probe:
+        probe.bind(("127.0.0.1", 0))
+        return probe.getsockname()[1]
+
+
+def may_listen(port):
+    """Whether this process may listen on a port, where nobody else does."""
+    with socket.socket() as probe:
+        probe.setsockopt(socket.SOL_SOCKET, socket.SO_REUSEADDR, 1)
+        try:
+            probe.bind(("127.0.0.1", port))
+        except OSError:
+            return False
+    return True
+
+
+class Server:
+    """`bpfjobs serve`, until so many connections have ended."""
+
+    def __init__(self, sessions=1_000_000, workers=2, words=None, port=None):
+        self.port = port or free_port()
+        words = words or ["serve", "--port", self.port, "--workers", workers, "--sessions", sessions]
+        nothing = {"stdin": subprocess.DEVNULL, "stdout": subprocess.DEVNULL}
+        self.process = subprocess.Popen([BPFJOBS, *map(str, words)], **nothing)
+
+    def __enter__(self):
+        return self
+
+    def __exit__(self, *_why):
+        self.process.kill()
+        self.process.wait()
+
+    def connect(self):
+        """A connection. A server that doesn't listen yet is asked again."""
+        until = time.monotonic() + PATIENCE
+        while True:
+            try:
+                stream = socket.create_connection(("127.0.0.1", self.port), timeout=PATIENCE)
+                stream.setsockopt(socket.IPPROTO_TCP, socket.TCP_NODELAY, 1)
+                return stream
+            except ConnectionRefusedError:
+                if time.monotonic() > until or self.process.poll() is not None:
+                    raise
+                time.sleep(0.001)
+
+    def exchange(self, *pieces):
+        """Sends pieces over a connection of their own, closes its side, and gives all that is answered."""
+        with self.connect() as stream:
+            # what is short is taken by the system; behind more, the server waits until its answers are read
+            sender = threading.Thread(target=_send, args=(stream, pieces))
+            if sum(map(len, pieces)) < SHORT:
+                sender.run()
+            else:
+                sender.start()
+            answer = b""
+            while part := stream.recv(1 << 20):
+                answer += part
+            if sender.is_alive():
+                sender.join()
+        return answer
+
+    def exchange_past(self, pieces, answered, rest):
+        """Sends pieces, takes their answer of so many bytes, sends the rest, and gives all that came."""
+        with self.connect() as stream:
+            for piece in pieces:
+                stream.sendall(piece)
+            answer = is_read(stream, answered)
+            _send(stream, [rest])
+            try:
+                return answer + stream.recv(1 << 20)
+            except ConnectionResetError:
+                return answer  # the server closed the stream ahead of the rest
+
+    def ask(self, *requests):
+        """The replies to requests, by one connection."""
+        replies = []
+        with self.connect() as stream:
+            for request in requests:
+                stream.sendall(frame(request if isinstance(request, (str, bytes)) else json.dumps(request)))
+                replies.append(_reply(stream))
+        return replies
+
+    def result(self, job):
+        """The result of a job, once it is over."""
+        until = time.monotonic() + PATIENCE
+        while True:
+            (reply,) = self.ask({"op": "result", "job": job})
+            if reply.get("code") != 77 or time.monotonic() > until:
+                return reply
+
+    def status(self):
+        """The status of the process, once it has ended."""
+        return self.process.wait(PATIENCE)
+
+
+def _send(stream, pieces):
+    try:
+        for piece in pieces:
+            stream.sendall(piece)
+        stream.shutdown(socket.SHUT_WR)
+    except OSError:
+        pass  # the server may have closed the stream behind refusal 71
+
+
+def _reply(stream):
+    (length,) = struct.unpack(">I", is_read(stream, 4))
+    return json.loads(is_read(stream, length))

@@ -1,0 +1,55 @@
+"""Puts the page together: its markup, style and scripts, the examples and the module, in one file.
+
+    python3 web/assemble_page.py telgovan.wasm telgovan.html
+"""
+
+import base64
+import gzip
+import json
+import sys
+from pathlib import Path
+
+HERE = Path(__file__).resolve().parent
+EXAMPLES = HERE.parent / "examples"
+
+
+def filled(example: dict) -> dict:
+    """An example with its source and its memory, where these are files."""
+    made = {name: text for name, text in example.items() if not name.endswith("file")}
+    if "file" in example:
+        made["source"] = (EXAMPLES / example["file"]).read_text(encoding="utf-8")
+    if "memory_file" in example:
+        made["memory"] = (EXAMPLES / example["memory_file"]).read_bytes().hex(" ")
+    return made
+
+
+def page(module: bytes) -> str:
+    def text(name: str) -> str:
+        return (HERE / name).read_text(encoding="utf-8")
+
+    examples = [filled(example) for example in json.loads(text("examples.json"))]
+    parts = {
+        "/*STYLE*/": text("page.css"),
+        "/*LIBRARY*/": text("telgovan.js"),
+        "/*FLOW*/": text("flow.js"),
+        "/*PAGE*/": text("page.js"),
+        "/*EXAMPLES*/[]": json.dumps(examples).replace("</", "<\\/"),
+        "/*MODULE*/": base64.b64encode(gzip.compress(module, 9, mtime=0)).decode(),
+    }
+    made = text("page.html")
+    for place, part in parts.items():
+        if made.count(place) != 1:
+            raise ValueError(f"page.html has {made.count(place)} places {place}")
+        made = made.replace(place, part)
+    return made
+
+
+def main(wasm: str, html: str) -> None:
+    module = Path(wasm).read_bytes()
+    made = page(module)
+    Path(html).write_text(made, encoding="utf-8")
+    print(f"the module has {len(module)} bytes, the page {len(made.encode())}")
+
+
+if __name__ == "__main__":
+    main(*sys.argv[1:])

@@ -1,0 +1,322 @@
+// The page: what is typed is assembled, verified, explained and run by the library. All of it is kept
+// in the page's address, behind the #.
+"use strict";
+
+const at = (id) => document.getElementById(id);
+const FIELDS = { need: "0", argument: "0", credit: "2147483647", memory: "" };
+const MOST_QUOTED = 200; // of a line that says nothing known
+const MOST_BYTES = 1 << 20; // the library refuses over 65,536
+const WORDS = {
+    1: "no instruction", 2: "a length that is no multiple of 8", 3: "more than 4,096 slots",
+    11: "an unknown word", 12: "operands that aren't the word's", 13: "a number out of range",
+    42: "the credit is under the cost", 43: "the memory is shorter than the need", 65: "over a limit",
+    99: "no memory",
+};
+
+let library;
+let program = null; // what is known of the text: its bytes, its listing, its flow and its verdict
+let written = ""; // the address that the page wrote last
+
+// ---- what is typed
+
+function number(id, limit) {
+    const text = at(id).value.trim();
+    if (!/^[0-9]+$/.test(text) || BigInt(text) >= limit) throw new Error(`${id}: a number from 0 to ${limit - 1n}`);
+    return BigInt(text);
+}
+
+// Bytes in hexadecimal, in which a pair may be repeated, as 00*64.
+function bytes() {
+    const found = [];
+    for (const word of at("memory").value.trim().split(/\s+/)) {
+        if (!word) continue;
+        const parts = /^((?:[0-9a-fA-F]{2})+)(?:\*([0-9]{1,7}))?$/.exec(word);
+        if (!parts) throw new Error(`memory: pairs of hexadecimal digits, and not ${word.slice(0, 20)}`);
+        const piece = parts[1].match(/../g).map((pair) => parseInt(pair, 16));
+        const times = parts[2] === undefined ? 1 : Number(parts[2]);
+        if (found.length + piece.length * times > MOST_BYTES) throw new Error("memory: over 1,048,576 bytes");
+        for (let time = 0; time < times; time++) for (const one of piece) found.push(one);
+    }
+    return Uint8Array.from(found);
+}
+
+function given() {
+    return {
+        need: Number(number("need", 2n ** 32n)),
+        argument: number("argument", 2n ** 64n),
+        credit: Number(number("credit", 2n ** 32n)),
+        memory: bytes(),
+    };
+}
+
+// ---- what is told
+
+function made(name, text, className = "") {
+    const one = document.createElement(name);
+    one.textContent = text;
+    if (className) one.className = className;
+    return one;
+}
+
+function tell(verdict, kind, facts = []) {
+    at("verdict").textContent = verdict;
+    at("verdict").className = kind;
+    at("facts").replaceChildren(...facts.flatMap(([name, value]) => [made("dt", name), made("dd", String(value))]));
+}
+
+function hide(...ids) {
+    for (const id of ids) at(id).hidden = true;
+}
+
+function number_lines(bad) {
+    const text = at("source").value;
+    const count = Math.max(1, text.split("\n").length - text.endsWith("\n"));
+    const lines = [];
+    for (let line = 1; line <= count; line++) {
+        lines.push(made("span", String(line), line === bad ? "bad" : ""));
+    }
+    at("lines").replaceChildren(...lines);
+    const widest = text.split("\n").reduce((most, line) => Math.max(most, line.replace(/\t/g, "        ").length), 0);
+    at("source").style.height = `${count * 20 + 36}px`;
+    at("source").style.width = `${widest + 3}ch`;
+    const marked = lines[(bad ?? 0) - 1];
+    if (marked) {
+        const [editor, top] = [at("editor"), marked.offsetTop - at("lines").offsetTop];
+        if (top < editor.scrollTop || top + 40 > editor.scrollTop + editor.clientHeight) {
+            editor.scrollTop = Math.max(0, top - editor.clientHeight / 2);
+        }
+    }
+}
+
+// Bytes as lines of hexadecimal, with what changed marked.
+function tell_bytes(room, before, now) {
+    const wide = matchMedia("(max-width: 30rem)").matches ? 8 : 16;
+    const pieces = [];
+    let text = "";
+    for (let start = 0; start < now.length; start += wide) {
+        const end = Math.min(start + wide, now.length);
+        text += start.toString(16).padStart(4, "0") + " ";
+        for (let place = start; place < end; place++) {
+            const pair = now[place].toString(16).padStart(2, "0");
+            if (before[place] === now[place]) {
+                text += ` ${pair}`;
+            } else {
+                pieces.push(text + " ", made("mark", pair));
+                text = "";
+            }
+        }
+        text += "\n";
+    }
+    room.replaceChildren(...pieces, text);
+    const first = room.querySelector("mark");
+    if (first) room.scrollTop = Math.max(0, first.offsetTop - room.offsetTop - 60);
+}
+
+function tell_memory(before, now) {
+    const changed = now.reduce((count, one, place) => count + (one !== before[place]), 0);
+    at("memory_facts").textContent = `${now.length} bytes, ${changed} changed`;
+    at("memories").hidden = false;
+    at("memory_now").hidden = now.length === 0;
+    tell_bytes(at("memory_now"), before, now);
+}
+
+// ---- verdicts
+
+function refused_text(code) {
+    const where = code.place === null ? "" : ` in line ${code.place}`;
+    tell(`refused ${code.status}${where}: ${WORDS[code.status] ?? ""}`, "bad");
+    const line = code.place === null ? "" : at("source").value.split("\n")[code.place - 1];
+    at("explained").textContent = line.length > MOST_QUOTED ? `${line.slice(0, MOST_QUOTED)} ..` : line;
+    at("explained").hidden = code.place === null;
+    at("flows").hidden = true;
+    number_lines(code.place);
+}
+
+function show_flow(verdict, explanation) {
+    const listing = library.disassemble(program.code).text;
+    program.flow = draw_flow(at("flow"), listing, instruction_lines(program.source));
+    const way = /^way: (.*)$/m.exec(explanation);
+    program.bad = verdict.status && verdict.slot !== null ? verdict.slot : null;
+    mark_flow(program.flow, way ? way[1].split(" ").map(Number) : [], program.bad);
+    const counted = (count, word) => `${count} ${word}${count === 1 ? "" : "s"}`;
+    const { found, arcs, jumps } = program.flow;
+    const drawn = arcs.length < jumps ? `, ${arcs.length} of them drawn` : "";
+    at("flow_facts").textContent = `${counted(found.length, "instruction")}, ${counted(jumps, "jump")}${drawn}`;
+    at("flows").hidden = false;
+}
+
+// Assembles and verifies what is typed, and tells the verdict.
+function judge() {
+    const source = at("source").value;
+    const need = Number(number("need", 2n ** 32n));
+    program = null;
+    hide("memories");
+    const code = library.assemble(source);
+    if (code.status) {
+        refused_text(code);
+        return;
+    }
+    const began = performance.now();
+    const verdict = library.verify(need, code.bytes);
+    const took = performance.now() - began;
+    program = { source, need, code: code.bytes, verdict };
+    const explanation = verdict.status ? library.explain(need, code.bytes, source).text : "";
+    show_flow(verdict, explanation);
+    const [first, ...others] = explanation.split("\n");
+    at("explained").textContent = others.join("\n").trimEnd();
+    at("explained").hidden = !explanation;
+    if (verdict.status) {
+        tell(first || `refused ${verdict.status}: ${WORDS[verdict.status] ?? ""}`, "bad");
+    } else {
+        const slots = code.bytes.length / 8;
+        tell(`accepted, cost ${verdict.cost}`, "good", [["slots", slots], ["verified in", `${took.toFixed(2)} ms`]]);
+    }
+    number_lines(program.bad === null ? null : line_of_slot(program.flow, program.bad));
+}
+
+function refused_run(status) {
+    tell(`refused ${status}: ${WORDS[status] ?? ""}`, "bad", [["cost", program.verdict.cost]]);
+}
+
+function number_text(word) {
+    if (word < 10n) return String(word);
+    const signed = word >= 2n ** 63n ? `, ${BigInt.asIntN(64, word)}` : "";
+    return `${word} (0x${word.toString(16)}${signed})`;
+}
+
+function run() {
+    const { argument, credit, memory, need } = given();
+    judge();
+    if (!program || program.verdict.status) return;
+    const done = library.run(need, program.code, credit, argument, memory);
+    if (done.status) {
+        refused_run(done.status);
+        return;
+    }
+    tell("ran to its end", "good", [["R0", number_text(done.r0)], ["spent", `${done.used} of at most ${program.verdict.cost}`]]);
+    tell_memory(memory, done.memory);
+}
+
+// ---- the address
+
+// What is typed, and whether it was run, as the part of the address behind the #.
+function keep(is_run = false) {
+    const told = new URLSearchParams();
+    for (const [id, usual] of Object.entries(FIELDS)) if (at(id).value !== usual) told.set(id, at(id).value);
+    if (is_run) told.set("do", "run");
+    told.set("source", at("source").value);
+    written = `#${told}`;
+    try {
+        history.replaceState(null, "", written);
+    } catch {
+        // A browser that is asked too often, or for too long an address, keeps the old one.
+    }
+}
+
+function show(source, fields) {
+    at("source").value = source;
+    for (const [id, usual] of Object.entries(FIELDS)) at(id).value = fields[id] ?? usual;
+    number_lines(null);
+}
+
+function guarded(work) {
+    return () => {
+        try {
+            work();
+        } catch (wrong) {
+            hide("memories", "explained", "flows");
+            program = null;
+            number_lines(null);
+            tell(wrong.message, "bad");
+        }
+    };
+}
+
+// Does what the address says; without a program there, shows the first example.
+function read_address() {
+    const told = new URLSearchParams(location.hash.slice(1));
+    if (!told.has("source")) {
+        show_example(0);
+        return;
+    }
+    show(told.get("source"), Object.fromEntries(told));
+    at("examples").value = "";
+    if (told.get("do") === "run") do_run();
+    else guarded(judge)();
+    written = location.hash;
+}
+
+function show_example(place) {
+    at("examples").value = place;
+    show(EXAMPLES[place].source, EXAMPLES[place]);
+    do_verify();
+}
+
+// (a verdict on what was typed that is still to come would hide what is asked for now)
+function at_once(work, is_run) {
+    clearTimeout(typed.timer);
+    guarded(work)();
+    keep(is_run);
+}
+
+const do_verify = () => at_once(judge, false);
+const do_run = () => at_once(run, true);
+
+async function copy_link() {
+    const told = (text) => { at("shared").textContent = text; };
+    try {
+        await navigator.clipboard.writeText(location.href);
+        told("copied");
+    } catch {
+        told("the address of this page is the link");
+    }
+    setTimeout(() => told(""), 3000);
+}
+
+function typed() {
+    at("examples").value = "";
+    number_lines(null);
+    clearTimeout(typed.timer);
+    typed.timer = setTimeout(do_verify, 300);
+}
+
+function listen() {
+    at("examples").append(new Option("(your own)", ""));
+    at("examples").append(...EXAMPLES.map((one, place) => new Option(one.name, place)));
+    at("examples").onchange = () => { if (at("examples").value !== "") show_example(Number(at("examples").value)); };
+    at("source").oninput = typed;
+    for (const id of Object.keys(FIELDS)) at(id).oninput = typed;
+    at("verify").onclick = do_verify;
+    at("run").onclick = do_run;
+    at("share").onclick = copy_link;
+    document.onkeydown = (event) => {
+        if (!event.ctrlKey && !event.metaKey) return;
+        if (event.key !== "Enter") return;
+        event.preventDefault();
+        if (event.shiftKey) do_run();
+        else do_verify();
+    };
+    window.onhashchange = () => { if (location.hash !== written) read_address(); };
+}
+
+async function module_bytes() {
+    const packed = Uint8Array.from(atob(MODULE), (one) => one.charCodeAt(0));
+    const stream = new Blob([packed]).stream().pipeThrough(new DecompressionStream("gzip"));
+    return new Uint8Array(await new Response(stream).arrayBuffer());
+}
+
+async function start() {
+    try {
+        const body = await module_bytes();
+        library = new Telgovan(await WebAssembly.compile(body));
+        const imports = library.imports.length ? library.imports.map((one) => one.name).join(", ") : "nothing";
+        at("about").textContent = `The module has ${body.length.toLocaleString("en")} bytes and imports ${imports}. ` +
+            "The page asks no network for anything: what you type stays in this page and in its address.";
+    } catch (wrong) {
+        tell(`This browser can't run the library, which wants WebAssembly with a memory of 64 bits: ${wrong.message}`, "bad");
+        return;
+    }
+    listen();
+    read_address();
+    document.documentElement.dataset.ready = "yes";
+}
