@@ -16,4 +16,4 @@ mod stretch;
 
 pub use credit::Credit;
 pub use frame::{Frame, Next, StepOut};
-pub use stretch::Ran;
+pub use stretch::{Pause, Ran, Stretch};
