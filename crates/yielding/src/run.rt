@@ -1,0 +1,59 @@
+//! A run whose pieces are answered by a function of the host's.
+
+ghost use Rattle.std.specs.Prelude.{◌≡◌, ◌<◌, ◌≤◌, length, Some, MatchResult};
+ghost use Rattle.std.specs.Arc.{arc_value};
+ghost use Rattle.machine_model.specs.Limits.{max_part, max_credit};
+ghost use Rattle.virtual_machine.specs.Executes.{ExecutesOn, IsUnrunnable};
+ghost use Rattle.yielding.specs.Answering.{may_answer_by};
+
+use crate::event::{Event, Question};
+use crate::task::Task;
+use std::alloc::Global;
+use std::sync::Arc;
+use verifier::Verified;
+use virtual_machine::{Executed, VmFault};
+
+/// Runs a program alone from its entry to its end, in pieces of `limit` instructions at most, and
+/// answers each call of a helper of the host's by the function. Whatever the limit is, the pieces
+/// come to the run of the definition under what the function may answer.
+///
+/// The refusals are those of [`Task::start`], after which the memory is as it was.
+pub fn run_with_answers<F: FnMut(Question) -> u64>(
+    program: Arc<Verified, Global>,
+    memory: &mut [u8],
+    argument: u64,
+    credit: u32,
+    limit: u32,
+    mut answer: F,
+) -> Result<Executed, VmFault>
+    requires callable { F.IsAlwaysCallable answer }
+    requires some { 0 < limit }
+    requires small { length memory.old ≤ max_part }
+    requires limit { credit ≤ max_credit }
+    ensures runs { MatchResult result
+        (λ done. ExecutesOn (Some (arc_value program)) (may_answer_by F.step) argument credit
+        memory.old done.r0 done.used memory.new)
+        (λ fault. IsUnrunnable (Some (arc_value program)) credit (length memory.old) fault
+        × (memory.new ≡ memory.old)) }
+{
+    let mut task = match Task::start(program, credit, argument, memory.len()) {
+        Ok(task) => task,
+        Err(fault) => return Err(fault),
+    };
+    let mut word = 0;
+    'pieces: loop {
+        match task.go(word, memory, limit) {
+            Ok(event) => match event {
+                Event::AtLimit => {}
+                Event::Asks(question) => word = answer(question),
+                Event::Ended(r0) => {
+                    return Ok(Executed {
+                        r0,
+                        used: task.used(),
+                    });
+                }
+            },
+            Err(_) => unreachable!(),
+        }
+    }
+}
