@@ -1,4 +1,4 @@
-/* The library for C: verdicts, texts, runs and jobs over the caller's memory.
+/* The library for C: verdicts, texts, runs, tasks and jobs over the caller's memory.
  *
  * bindings/build makes libtelgovan.a and libtelgovan.so, bindings/install puts them in place.
  *
@@ -119,14 +119,15 @@ uint32_t telgovan_program_load(uint32_t need, const uint8_t *code, size_t code_l
                                struct telgovan_verdict *verdict);
 
 /* Runs the program that the handle holds once, in place, with the memory as its part, and takes no
- * memory of its own. It answers the outcome's status: 41 where the handle holds none, else as
- * telgovan_run. */
+ * memory of its own. It answers the outcome's status: 41 where the handle holds none, 48 where the
+ * program may call helpers of the host's (below), else as telgovan_run. */
 uint32_t telgovan_program_run(struct telgovan_program *program, uint32_t credit, uint64_t argument,
                               uint8_t *memory, size_t memory_length,
                               struct telgovan_outcome *outcome);
 
 /* Runs the program that the handle holds on each piece of the memory in turn, as telgovan_burst. It
- * answers 0, or 41 where the handle holds none, after which nothing changed. */
+ * answers 0; or 41 where the handle holds none, or 48 where the program may call helpers of the
+ * host's, after which nothing changed. */
 uint32_t telgovan_program_burst(struct telgovan_program *program, uint32_t credit, uint8_t *memory,
                                 size_t memory_length, struct telgovan_run *runs,
                                 size_t runs_length);
@@ -143,6 +144,68 @@ uint32_t telgovan_program_cost(struct telgovan_program *program, uint32_t *cost)
 /* Lets go of the program that the handle holds, and frees it where no other handle holds it. The
  * handle holds none from then on, so that a second call does nothing. */
 void telgovan_program_unload(struct telgovan_program *program);
+
+/* ---- Tasks, which stop where they ask their host */
+
+/* A program may call helpers of the host's, of ids 64 to 127. The library calls nothing of C, so a
+ * task stops ahead of such a call and tells of it. The host goes on with the answer, whenever it
+ * likes. A task also stops after so many instructions, which gives time slices. */
+
+/* No helper is of this id. */
+#define TELGOVAN_NO_HELPER UINT32_MAX
+
+/* As telgovan_program_load, with helpers of the host's beside those of a job. `arities` says how
+ * many arguments each of them takes, by its id from 64 on: 0 to 5, or TELGOVAN_NO_HELPER. The first
+ * refusals are 44 for more than 64 of them, and 45 for another number. */
+uint32_t telgovan_program_load_with(uint32_t need, const uint8_t *code, size_t code_length,
+                                    const uint32_t *arities, size_t arities_length,
+                                    struct telgovan_program *program,
+                                    struct telgovan_verdict *verdict);
+
+/* A handle of a task, or of none. What is said of struct telgovan_program holds of it too: it
+ * begins as {0}, it is moved and not copied, one call at a time uses it, and its fields are the
+ * library's. */
+struct telgovan_task_handle {
+    void *held;
+    bool started;
+};
+
+/* Why a task stopped. */
+enum telgovan_kind {
+    TELGOVAN_AT_LIMIT = 0, /* as many instructions ran as may */
+    TELGOVAN_ASKS = 1,     /* it waits for the answer of a helper */
+    TELGOVAN_ENDED = 2     /* it has ended */
+};
+
+struct telgovan_event {
+    uint64_t r0;           /* where it has ended, R0 */
+    uint64_t arguments[5]; /* where it asks; those past the helper's own are 0 */
+    uint32_t status;       /* 0, or the number of the refusal, after which all is as it was */
+    uint32_t kind;         /* an enum telgovan_kind */
+    uint32_t helper;       /* where it asks, the helper's id */
+    uint32_t used;         /* what the task has used of its credit so far */
+};
+
+/* Starts a task of the program that the handle holds, on a memory of this length, and lets `task`
+ * hold it in place of the one that it held. Nothing runs yet. The task holds the program too, so
+ * that the program's handle may be unloaded. It answers 0; or 41 where there is no program, 65
+ * where the length is over 65,536 or the credit is over 2,147,483,647, 42 where the credit is under
+ * the cost, 43 where the length is under the need, or 99, after which `task` holds what it held. */
+uint32_t telgovan_task_start(struct telgovan_program *program, uint32_t credit, uint64_t argument,
+                             size_t memory_length, struct telgovan_task_handle *task);
+
+/* Goes on with the task. Where it waits for an answer, the helper gives this one; elsewhere the
+ * answer is ignored. Then `limit` instructions run at most, of which the call that was answered
+ * isn't one, until one ends the task or calls a helper of the host's. The memory is that of the
+ * task's start or another one of the same length: between two calls the host may change its bytes.
+ * It answers the event's status: 47 where the handle holds no task, or its task has ended, 43 where
+ * the memory has another length than at the start, or 0. No memory is asked for. */
+uint32_t telgovan_task_go(struct telgovan_task_handle *task, uint64_t answer, uint8_t *memory,
+                          size_t memory_length, uint32_t limit, struct telgovan_event *event);
+
+/* Lets go of the task, whether it has ended or not. The handle holds none from then on, so that a
+ * second call does nothing. */
+void telgovan_task_drop(struct telgovan_task_handle *task);
 
 /* ---- Whole jobs */
 

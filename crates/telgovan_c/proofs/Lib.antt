@@ -3,3 +3,4 @@ pub mod Helpless
 pub mod JobLemmas
 pub mod Pieces
 pub mod Turns
+pub mod HostedLemmas

@@ -5,3 +5,6 @@ pub mod Explains
 pub mod Holding
 pub mod Programs
 pub mod Jobs
+pub mod Tasks
+pub mod Hosted
+pub mod HelperFaults

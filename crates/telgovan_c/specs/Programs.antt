@@ -1,5 +1,5 @@
 -- What a handle holds, and what C's calls do with it.
-use Rattle.std.specs.Prelude.{◌≡◌, ℕ, List, length, Option, None, Some}
+use Rattle.std.specs.Prelude.{◌≡◌, ◌≢◌, ℕ, List, length, Option, None, Some}
 use Rattle.std.specs.Arc.{arc_value}
 use Rattle.helpers.specs.Table.{job_table}
 use Rattle.verifier.specs.declared.refusals.Refusal.{Refusal}
@@ -31,20 +31,26 @@ pub data IsLoaded (need : ℕ) (code : List ℕ) (old new : Option Checked) (ver
   refused : (refusal : Refusal) → RefusesProgram need code job_table refusal → new ≡ old
       → verdict ≡ refused_verdict refusal → IsLoaded need code old new verdict
 
--- a run of the program that the handle holds, if it holds one
+-- A run of the program that the handle holds, if it holds one. One that may call helpers of the
+-- host's isn't run.
 pub data IsHeldRun (program : Option Checked) (argument credit : ℕ) (old new : List ℕ)
     (told : RunOutcome) : Type 0 where
-  ran : (p : Checked) → program ≡ Some p → IsRunOutcome p argument credit old new told
+  ran : (p : Checked) → program ≡ Some p → p.helpers ≡ job_table
+      → IsRunOutcome p argument credit old new told
       → IsHeldRun program argument credit old new told
+  may_ask : (p : Checked) → program ≡ Some p → p.helpers ≢ job_table → new ≡ old
+      → told ≡ refused_run 48 → IsHeldRun program argument credit old new told
   empty : program ≡ None → new ≡ old → told ≡ refused_run 41
       → IsHeldRun program argument credit old new told
 
 -- the program that the handle holds, if it holds one, run on each piece in turn
 pub data IsHeldBurst (program : Option Checked) (credit : ℕ) (old new : List ℕ)
     (asked told : List Run) (status : ℕ) : Type 0 where
-  ran : (p : Checked) → program ≡ Some p → length told ≡ length asked
+  ran : (p : Checked) → program ≡ Some p → p.helpers ≡ job_table → length told ≡ length asked
       → RunInTurn p credit old asked told (length asked) new → status ≡ 0
       → IsHeldBurst program credit old new asked told status
+  may_ask : (p : Checked) → program ≡ Some p → p.helpers ≢ job_table → told ≡ asked → new ≡ old
+      → status ≡ 48 → IsHeldBurst program credit old new asked told status
   empty : program ≡ None → told ≡ asked → new ≡ old → status ≡ 41
       → IsHeldBurst program credit old new asked told status
 

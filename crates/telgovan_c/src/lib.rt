@@ -10,20 +10,27 @@ mod boxed;
 mod explains;
 mod handle;
 mod held;
+mod helper_fault;
+mod hosted;
 mod jobs;
 mod parts;
 mod programs;
 mod runs;
+mod task_handle;
+mod tasks;
 mod texts;
 mod verdicts;
 
 pub use explains::telgovan_explain;
 pub use handle::Program;
+pub use hosted::telgovan_program_load_with;
 pub use jobs::{CodePiece, EndedTask, JobReport, telgovan_job};
 pub use programs::{
     telgovan_program_burst, telgovan_program_cost, telgovan_program_load, telgovan_program_run,
     telgovan_program_share, telgovan_program_unload,
 };
 pub use runs::{Run, RunOutcome, telgovan_burst, telgovan_run};
+pub use task_handle::TaskHandle;
+pub use tasks::{TaskEvent, telgovan_task_drop, telgovan_task_go, telgovan_task_start};
 pub use texts::{Written, telgovan_assemble, telgovan_disassemble};
 pub use verdicts::{Verdict, telgovan_verify};

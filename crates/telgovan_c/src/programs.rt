@@ -14,6 +14,8 @@ use verifier::{Refusal, verify};
 
 // The handle holds no program.
 const NO_PROGRAM: u32 = 41;
+// The program may ask its host, so that it runs as a task alone.
+const MAY_ASK: u32 = 48;
 // A growth was refused.
 const NO_MEMORY: u32 = 99;
 
@@ -31,7 +33,7 @@ fn load(alloc: Global, need: u32, code: &[u8], program: &mut Program) -> Verdict
     match verify(alloc, need, code, &HelperTable::job()) {
         Ok(verified) => {
             let verdict = accepted_verdict(&verified);
-            match Boxed::of(alloc, verified) {
+            match Boxed::of(alloc, verified, false) {
                 Ok(boxed) => {
                     *program = Program::of(boxed);
                     verdict
@@ -56,6 +58,9 @@ fn run_held(
 {
     match program.into_box() {
         Some(boxed) => {
+            if boxed.is_hosted() {
+                return (Program::of(boxed), refused_run(MAY_ASK));
+            }
             let outcome = run_program(alloc, boxed.program(), memory, argument, credit);
             (Program::of(boxed), outcome)
         }
@@ -77,6 +82,9 @@ fn run_held_all(
 {
     match program.into_box() {
         Some(boxed) => {
+            if boxed.is_hosted() {
+                return (Program::of(boxed), MAY_ASK);
+            }
             run_all(alloc, boxed.program(), memory, runs, credit);
             (Program::of(boxed), 0)
         }
@@ -136,7 +144,8 @@ pub extern "C" fn telgovan_program_load(
 }
 
 /// Runs the program that the handle holds once, with the memory as its part. It answers the
-/// outcome's status: 41 where the handle holds none, else as `telgovan_run`.
+/// outcome's status: 41 where the handle holds none, 48 where the program may call helpers of the
+/// host's, else as `telgovan_run`.
 #[unsafe(no_mangle)]
 pub extern "C" fn telgovan_program_run(
     alloc: Global,
@@ -159,8 +168,8 @@ pub extern "C" fn telgovan_program_run(
 }
 
 /// Runs the program that the handle holds on each piece of the memory in turn, each time with this
-/// credit. It answers 0, or 41 where the handle holds none, after which nothing changed. The runs
-/// are told as by `telgovan_burst`.
+/// credit. It answers 0, or 41 where the handle holds none or 48 where the program may call helpers
+/// of the host's, after which nothing changed. The runs are told as by `telgovan_burst`.
 #[unsafe(no_mangle)]
 pub extern "C" fn telgovan_program_burst(
     alloc: Global,
