@@ -119,6 +119,53 @@ static int try_share(long request, int all, const struct code *seven, const stru
     return was_refused;
 }
 
+/* A load with helpers of the host's leaves the program that was held where it is refused. */
+static int try_load_with(long request, int all, const struct code *seven,
+                         const struct code *eight) {
+    static const uint32_t arities[] = {TELGOVAN_NO_HELPER, 2};
+    struct telgovan_program program = {0};
+    struct telgovan_verdict verdict;
+    struct telgovan_outcome outcome;
+    uint8_t none;
+    HOLDS(load(seven, &program) == 0);
+    long before = blocks;
+    granted = request, then_all = all, refused = 0;
+    uint32_t status = telgovan_program_load_with(0, eight->bytes, eight->length, arities, 2,
+                                                 &program, &verdict);
+    granted = -1;
+    int was_refused = refused;
+    HOLDS(status == (was_refused ? 99 : 0) && status == verdict.status);
+    HOLDS(!was_refused || blocks == before);
+    HOLDS(telgovan_program_run(&program, 10, 0, &none, 0, &outcome) == (was_refused ? 0 : 48));
+    telgovan_program_unload(&program);
+    return was_refused;
+}
+
+/* A start leaves the task that was held where it is refused. A task goes on without memory. */
+static int try_start(long request, int all, const struct code *seven, const struct code *eight) {
+    struct telgovan_program program = {0}, other = {0};
+    struct telgovan_task_handle task = {0};
+    struct telgovan_event event;
+    uint8_t none;
+    HOLDS(load(seven, &program) == 0 && load(eight, &other) == 0);
+    HOLDS(telgovan_task_start(&other, 10, 0, 0, &task) == 0);
+    long before = blocks;
+    granted = request, then_all = all, refused = 0;
+    uint32_t status = telgovan_task_start(&program, 10, 0, 0, &task);
+    granted = -1;
+    int was_refused = refused;
+    HOLDS(status == (was_refused ? 99 : 0));
+    HOLDS(!was_refused || blocks == before);
+    telgovan_program_unload(&program);
+    telgovan_program_unload(&other);
+    granted = 0, then_all = 1, refused = 0;
+    HOLDS(telgovan_task_go(&task, 0, &none, 0, 9, &event) == 0);
+    granted = -1;
+    HOLDS(!refused && event.kind == TELGOVAN_ENDED && event.r0 == (was_refused ? 8 : 7));
+    telgovan_task_drop(&task);
+    return was_refused;
+}
+
 /* A job leaves the buffer and the tasks where it is refused. A spawn that is refused is an answer
  * to the task, and no refusal of the job. */
 static int try_job(long request, int all, const struct code *sum, const struct code *none) {
@@ -172,6 +219,8 @@ int main(int count, char **words) {
     HOLDS(blocks == 0);
     try_each("load", try_load, &seven, &eight);
     try_each("share", try_share, &seven, &eight);
+    try_each("load with helpers", try_load_with, &seven, &eight);
+    try_each("start", try_start, &seven, &eight);
     try_each("job", try_job, &sum, &sum);
     return 0;
 }

@@ -18,8 +18,10 @@ import threading
 from collections import namedtuple
 
 __all__ = [
+    "Asked",
     "Error",
     "Executed",
+    "HostedTask",
     "Job",
     "Machine",
     "Program",
@@ -46,6 +48,10 @@ _LIBRARY = _library()
 
 Executed = namedtuple("Executed", "r0 used")
 Executed.__doc__ = "What a run came to: R0, and what it used of its credit."
+
+Asked = namedtuple("Asked", "helper arguments")
+Asked.__doc__ = """A call of a helper of the host's: its id, and its five arguments, of which those past
+the ones that it takes are 0."""
 
 Task = namedtuple("Task", "number program argument given spent returned r0")
 Task.__doc__ = """A task that ended: its number, its program's place, its argument, the credit that
@@ -85,6 +91,18 @@ class _Program(ctypes.Structure):
     _fields_ = [("held", ctypes.c_void_p), ("loaded", _BOOL)]
 
 
+class _TaskHandle(ctypes.Structure):
+    _fields_ = [("held", ctypes.c_void_p), ("started", _BOOL)]
+
+
+class _Event(ctypes.Structure):
+    _fields_ = [
+        ("r0", _U64),
+        ("arguments", _U64 * 5),
+        *_fields(u32="status kind helper used"),
+    ]
+
+
 class _Piece(ctypes.Structure):
     _fields_ = _fields(u64="start length", u32="need")
 
@@ -122,6 +140,14 @@ _burst_held = _export(
 )
 _share = _export("telgovan_program_share", _HANDLE, _HANDLE)
 _unload = _export("telgovan_program_unload", _HANDLE, answers=None)
+_ARITIES = [ctypes.POINTER(_U32), ctypes.c_size_t]
+_TASK = ctypes.POINTER(_TaskHandle)
+_load_with = _export(
+    "telgovan_program_load_with", _U32, *_BYTES, *_ARITIES, _HANDLE, ctypes.POINTER(_Verdict)
+)
+_start = _export("telgovan_task_start", _HANDLE, _U32, _U64, ctypes.c_size_t, _TASK)
+_go = _export("telgovan_task_go", _TASK, _U64, *_ROOM, _U32, ctypes.POINTER(_Event))
+_drop = _export("telgovan_task_drop", _TASK, answers=None)
 _job = _export(
     "telgovan_job",
     *_BYTES,
@@ -212,18 +238,39 @@ def run_once(need, code, memory, argument=0, credit=2**31 - 1):
     return _told(outcome)
 
 
+_FIRST_HELPER, _NO_HELPER, _ASKS, _ENDED = 64, _WORD - 1, 1, 2
+
+
+def _arities(helpers):
+    """How many arguments each helper of a host's takes, by its id from 64 on."""
+    if not all(_FIRST_HELPER <= helper < 128 for helper in helpers):
+        raise Error(44)
+    words = (_U32 * 64)(*[_NO_HELPER] * 64)
+    for helper, arity in helpers.items():
+        words[helper - _FIRST_HELPER] = _number(arity, _WORD - 1, "a number of arguments")
+    return words
+
+
 class Program:
     """A program that was accepted, and that the library holds: the bytes of memory that a run
     needs, the most that it uses of its credit, and its code.
 
+    `helpers` says how many arguments each helper of the host's takes, by its id, 64 to 127. Such a
+    program runs as a HostedTask.
+
     One call at a time uses a program. Calls from several threads wait for each other; share gives
     each thread one of its own, and those run side by side."""
 
-    def __init__(self, need, code):
+    def __init__(self, need, code, helpers=None):
         self._lock, self._handle = threading.Lock(), _Program()
         self.need, self.code = _number(need, _WORD, "need"), bytes(code)
-        verdict = _Verdict()
-        if _load(self.need, self.code, len(self.code), self._handle, verdict):
+        verdict, given = _Verdict(), (self.need, self.code, len(self.code))
+        if helpers:
+            words = _arities(helpers)
+            status = _load_with(*given, words, len(words), self._handle, verdict)
+        else:
+            status = _load(*given, self._handle, verdict)
+        if status:
             raise Error(verdict.status, verdict.slot if verdict.has_slot else None)
         self.cost = verdict.cost
 
@@ -285,6 +332,66 @@ class Program:
 
     def __reduce__(self):
         raise TypeError("a program that the library holds can't be copied: share it")
+
+
+class HostedTask:
+    """A task whose run stops where it asks its host, on a memory of so many bytes. It holds its
+    program, which may be closed. One call at a time uses a task."""
+
+    def __init__(self, program, length, argument=0, credit=None):
+        self._lock, self._handle = threading.Lock(), _TaskHandle()
+        credit = program.cost if credit is None else _number(credit, _WORD, "credit")
+        argument = _number(argument, 2**64, "argument")
+        length = _number(length, 2**63, "length")
+        with program._lock:
+            status = _start(program._handle, credit, argument, length, self._handle)
+        if status:
+            raise Error(status)
+
+    def go(self, memory, answer=0, limit=_WORD - 1):
+        """Goes on, with this answer where the task waits for one. Then as many instructions run as
+        the limit says, until one ends the task or asks. Answers an Executed, an Asked, or None at
+        the limit."""
+        event = _Event()
+        answer = _number(answer, 2**64, "answer")
+        limit = _number(limit, _WORD, "limit")
+        room, size = _lent(memory)
+        with self._lock:
+            status = _go(self._handle, answer, room, size, limit, event)
+        if status:
+            raise Error(status)
+        if event.kind == _ENDED:
+            return Executed(event.r0, event.used)
+        return Asked(event.helper, tuple(event.arguments)) if event.kind == _ASKS else None
+
+    def run(self, memory, helpers):
+        """Runs the task to its end. Each call of a helper is answered by its callable, which is
+        given the five arguments. What it answers is cut to 64 bits."""
+        answer = 0
+        while True:
+            told = self.go(memory, answer)
+            if isinstance(told, Executed):
+                return told
+            if told is not None:
+                answer = int(helpers[told.helper](*told.arguments)) % 2**64
+
+    def close(self):
+        """Lets go of the task. From then on it is refused by 47."""
+        with self._lock:
+            _drop(self._handle)
+
+    def __enter__(self):
+        return self
+
+    def __exit__(self, *_):
+        self.close()
+
+    def __del__(self):
+        if hasattr(self, "_handle") and _drop is not None:
+            _drop(self._handle)
+
+    def __reduce__(self):
+        raise TypeError("a task that the library holds can't be copied")
 
 
 class Machine:

@@ -15,12 +15,14 @@
 //! ```
 
 mod error;
+mod hosted;
 mod job;
 mod program;
 mod raw;
 mod text;
 
 pub use error::{Error, JobError};
+pub use hosted::{Event, Helpers, HostedTask, Question};
 pub use job::{Job, Report, Task};
 pub use program::{Executed, Piece, Program};
 pub use text::{assemble, disassemble};

@@ -3,6 +3,7 @@
 use std::fmt;
 
 use crate::error::Error;
+use crate::hosted::Helpers;
 use crate::raw;
 
 /// A program that was accepted, as the library holds it.
@@ -48,6 +49,40 @@ impl Program {
         }
         program.cost = verdict.cost;
         Ok(program)
+    }
+
+    /// As [`Program::verify`], for a program that may call these helpers beside those of a job. It
+    /// runs as a [`HostedTask`](crate::HostedTask): `execute` refuses it by 48.
+    pub fn verify_with(need: u32, code: &[u8], helpers: &Helpers<'_>) -> Result<Program, Error> {
+        let mut program = Program {
+            handle: raw::Program::none(),
+            need,
+            cost: 0,
+        };
+        let mut verdict = raw::Verdict::default();
+        let arities = helpers.arities();
+        // The library reads the code and the arities, and writes the handle and the verdict alone.
+        let status = unsafe {
+            raw::telgovan_program_load_with(
+                need,
+                code.as_ptr(),
+                code.len(),
+                arities.as_ptr(),
+                arities.len(),
+                &mut program.handle,
+                &mut verdict,
+            )
+        };
+        if status != 0 {
+            return Err(Error::at(status, verdict.has_slot, verdict.slot.into()));
+        }
+        program.cost = verdict.cost;
+        Ok(program)
+    }
+
+    /// The handle, for the calls of tasks.
+    pub(crate) fn handle(&mut self) -> &mut raw::Program {
+        &mut self.handle
     }
 
     /// The bytes of memory that a run needs.

@@ -59,6 +59,42 @@ impl Program {
     }
 }
 
+/// No helper is of this id.
+pub const NO_HELPER: u32 = u32::MAX;
+
+/// The kinds of event, beside the one at the limit, which is 0.
+pub const ASKS: u32 = 1;
+pub const ENDED: u32 = 2;
+
+/// A handle of a task. Its fields are the library's.
+#[repr(C)]
+pub struct TaskHandle {
+    held: *mut c_void,
+    started: bool,
+}
+
+impl TaskHandle {
+    /// A handle that holds none.
+    pub fn none() -> TaskHandle {
+        TaskHandle {
+            held: ptr::null_mut(),
+            started: false,
+        }
+    }
+}
+
+/// Why a task stopped.
+#[repr(C)]
+#[derive(Clone, Copy, Default)]
+pub struct Event {
+    pub r0: u64,
+    pub arguments: [u64; 5],
+    pub status: u32,
+    pub kind: u32,
+    pub helper: u32,
+    pub used: u32,
+}
+
 /// A program of a job, as a piece of the code.
 #[repr(C)]
 #[derive(Clone, Copy, Debug)]
@@ -142,6 +178,35 @@ extern "C" {
     pub fn telgovan_program_share(program: *mut Program, other: *mut Program) -> u32;
 
     pub fn telgovan_program_unload(program: *mut Program);
+
+    pub fn telgovan_program_load_with(
+        need: u32,
+        code: *const u8,
+        code_length: usize,
+        arities: *const u32,
+        arities_length: usize,
+        program: *mut Program,
+        verdict: *mut Verdict,
+    ) -> u32;
+
+    pub fn telgovan_task_start(
+        program: *mut Program,
+        credit: u32,
+        argument: u64,
+        memory_length: usize,
+        task: *mut TaskHandle,
+    ) -> u32;
+
+    pub fn telgovan_task_go(
+        task: *mut TaskHandle,
+        answer: u64,
+        memory: *mut u8,
+        memory_length: usize,
+        limit: u32,
+        event: *mut Event,
+    ) -> u32;
+
+    pub fn telgovan_task_drop(task: *mut TaskHandle);
 
     pub fn telgovan_job(
         code: *const u8,
