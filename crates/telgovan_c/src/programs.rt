@@ -19,8 +19,8 @@ const MAY_ASK: u32 = 48;
 // A growth was refused.
 const NO_MEMORY: u32 = 99;
 
-// The same value, which may go to another thread: no other type is taken.
-fn sendable<T: Send>(value: T) -> T
+/// The same value, which may go to another thread: no other type is taken.
+pub(crate) fn sendable<T: Send>(value: T) -> T
     ensures { result ≡ value }
 {
     value

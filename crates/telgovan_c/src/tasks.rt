@@ -7,6 +7,7 @@ ghost use Rattle.telgovan_c.specs.Tasks.{IsGone, IsBegun, event_told, refused_ev
 
 use crate::boxed::Boxed;
 use crate::handle::Program;
+use crate::programs::sendable;
 use crate::task_handle::TaskHandle;
 use machine_model::{MAX_CREDIT, MAX_PART};
 use std::alloc::Global;
@@ -113,7 +114,7 @@ fn start_boxed(
     match Task::start(owner, credit, argument, length) {
         Ok(started) => match boxed.running(alloc, started) {
             Ok(running) => {
-                *task = TaskHandle::of(running);
+                *task = sendable(TaskHandle::of(running));
                 0
             }
             Err(_) => NO_MEMORY,
