@@ -27,6 +27,7 @@ __all__ = [
     "Task",
     "assemble",
     "disassemble",
+    "explain",
     "run_once",
 ]
 
@@ -114,6 +115,7 @@ def _export(name, *shape, answers=ctypes.c_uint32):
 
 _assemble = _export("telgovan_assemble", *_BYTES, *_ROOM, ctypes.POINTER(_Written))
 _disassemble = _export("telgovan_disassemble", *_BYTES, *_ROOM, ctypes.POINTER(_Written))
+_explain = _export("telgovan_explain", _U32, *_BYTES, *_BYTES, *_ROOM, ctypes.POINTER(_Written))
 _run = _export("telgovan_run", _U32, *_BYTES, _U32, _U64, *_ROOM, ctypes.POINTER(_Outcome))
 _load = _export("telgovan_program_load", _U32, *_BYTES, _HANDLE, ctypes.POINTER(_Verdict))
 _run_held = _export("telgovan_program_run", _HANDLE, _U32, _U64, *_ROOM, ctypes.POINTER(_Outcome))
@@ -187,6 +189,27 @@ def disassemble(code):
     """The lines of the program that the bytes spell."""
     code = bytes(code)
     return _write(_disassemble, code, 8 * len(code)).decode("ascii")
+
+
+def explain(need, code, source=""):
+    """Why a program of this need is refused, as text for whoever wrote it, or None where it is
+    accepted. A source text gives the line of the slot.
+
+    >>> print(explain(9, assemble("ldxb r0, [r1+9]\\nexit")).splitlines()[0])
+    refused 33: access out of the part at slot 0
+    """
+    code, source, told, size = bytes(code), source.encode(), _Written(), 4096
+    need = _number(need, _WORD, "need")
+    while True:
+        room = ctypes.create_string_buffer(size)
+        status = _explain(need, code, len(code), source, len(source), room, size, told)
+        if status == 0:
+            return None
+        if status == 99:
+            raise Error(status)
+        if told.length <= size:
+            return room.raw[: told.length].decode()
+        size = told.length
 
 
 def _executed(outcome):

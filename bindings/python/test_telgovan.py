@@ -9,7 +9,7 @@ import threading
 import unittest
 
 import telgovan
-from telgovan import Error, Executed, Job, Machine, Program, assemble, disassemble, run_once
+from telgovan import Error, Executed, Job, Machine, Program, assemble, disassemble, explain, run_once
 
 EXAMPLES = os.path.join(os.path.dirname(os.path.abspath(__file__)), "../../examples")
 
@@ -80,6 +80,18 @@ class Calls(Refusing):
         self.assertEqual(len(text.splitlines()), 16)
         self.assertEqual(assemble(text), self.program.code)
         self.refused(2, None, disassemble, bytes(7))
+
+    def test_explains_a_refusal(self):
+        source = source_of("byte_at.bpf")
+        code = assemble(source)
+        told = explain(15, code, source).splitlines()
+        self.assertEqual(told[0], "refused 33: access out of the part at slot 2")
+        self.assertIn("slot 2, line 5: ldxb r0, [r1+0]", told)
+        self.assertIn("slot 2: ldxb r0, [r1+0]", explain(15, code).splitlines())
+        self.assertIsNone(explain(16, code))
+        # a text that is longer than the first room
+        ladder = assemble("mov64 r0, 0\n" + "jeq r0, 0, +0\n" * 2000 + "ldxb r0, [r1+0]\nexit")
+        self.assertGreater(len(explain(0, ladder)), 4096)
 
     def test_takes_no_number_that_is_cut(self):
         self.assertRaises(ValueError, Machine(self.program).execute, packet(53), credit=2**32)

@@ -18,9 +18,10 @@ mod error;
 mod job;
 mod program;
 mod raw;
+pub mod rbpf;
 mod text;
 
 pub use error::{Error, JobError};
 pub use job::{Job, Report, Task};
 pub use program::{Executed, Piece, Program};
-pub use text::{assemble, disassemble};
+pub use text::{assemble, disassemble, explain};

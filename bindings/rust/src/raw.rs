@@ -113,6 +113,17 @@ extern "C" {
         written: *mut Written,
     ) -> u32;
 
+    pub fn telgovan_explain(
+        need: u32,
+        code: *const u8,
+        code_length: usize,
+        source: *const u8,
+        source_length: usize,
+        room: *mut u8,
+        room_length: usize,
+        written: *mut Written,
+    ) -> u32;
+
     pub fn telgovan_program_load(
         need: u32,
         code: *const u8,
