@@ -14,6 +14,7 @@
 //! # Ok::<(), telgovan::Error>(())
 //! ```
 
+mod desk;
 mod error;
 mod job;
 mod program;
@@ -21,6 +22,7 @@ mod raw;
 pub mod rbpf;
 mod text;
 
+pub use desk::{Desk, HandedJob, Sent};
 pub use error::{Error, JobError};
 pub use job::{Job, Report, Task};
 pub use program::{Executed, Piece, Program};

@@ -1,7 +1,10 @@
-pub mod Verdicts
-pub mod Texts
-pub mod Runs
+pub mod DeskHolding
+pub mod Desks
 pub mod Explains
+pub mod Finishing
 pub mod Holding
-pub mod Programs
 pub mod Jobs
+pub mod Programs
+pub mod Runs
+pub mod Texts
+pub mod Verdicts
