@@ -18,7 +18,8 @@ from concurrent.futures import ThreadPoolExecutor
 sys.path.insert(0, os.path.join(os.path.dirname(os.path.abspath(__file__)), "../bindings/python"))
 import telgovan  # noqa: E402  (the module stands in the folder that was just added)
 
-PIECE = 65536
+# Little, since the replies to a piece are held until they are sent.
+PIECE = 4096
 NO_MEMORY = 99
 
 

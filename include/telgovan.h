@@ -228,7 +228,11 @@ uint32_t telgovan_desk_connect(struct telgovan_desk *desk, uint64_t *connection)
  * whole now, in order, by one reply, which waits to be sent. It answers 0; 71 where a length over
  * the limit came, which is answered too, or 99 where there was no memory: after both the
  * conversation is over, and each later piece is answered the same. Or 41 where the handle holds no
- * desk, or 78 where there is no such connection, after which nothing changed. */
+ * desk, or 78 where there is no such connection, after which nothing changed.
+ *
+ * The replies to a piece are held until they are sent, and a request of 27 bytes may ask for the
+ * report of a job of any size. So give pieces of a few thousand bytes at most, and send what is due
+ * before the next. */
 uint32_t telgovan_desk_feed(struct telgovan_desk *desk, uint64_t connection, const uint8_t *bytes,
                             size_t length);
 

@@ -438,7 +438,8 @@ class Desk:
 
     def feed(self, connection, piece):
         """Takes bytes that came on a connection, and answers each frame that is whole now. The
-        conversation is over after an Error of 71 or 99; the reply to what was 71 waits too."""
+        conversation is over after an Error of 71 or 99; the reply to what was 71 waits too. The
+        replies to a piece are held until they are sent, so give few bytes at once."""
         piece, connection = bytes(piece), _number(connection, 2**64, "connection")
         with self._lock:
             self._check(_feed(self._handle, connection, piece, len(piece)))

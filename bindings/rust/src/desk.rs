@@ -84,7 +84,8 @@ impl Desk {
     /// wait to be sent.
     ///
     /// 78 where there is no such connection. 71 where a length over the limit came, which is
-    /// answered too, or 99: the conversation is over then.
+    /// answered too, or 99: the conversation is over then. The replies to a piece are held until
+    /// they are sent, so give few bytes at once.
     pub fn feed(&mut self, connection: u64, piece: &[u8]) -> Result<(), Error> {
         // The library reads the piece, and writes the handle alone.
         told(unsafe {

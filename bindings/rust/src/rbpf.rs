@@ -19,11 +19,11 @@
 //! | | There | Here |
 //! |---|---|---|
 //! | a program is checked | for its form | as well: it ends, and stays in its memory |
-//! | an access | is tested as it runs | was proved to be inside, for memories of the need and more |
+//! | an access | is tested as it runs | was proved to be inside, from the need on |
 //! | a memory under the need | | is refused |
 //! | a loop | runs as long as it likes | is refused (23) |
 //! | a run's steps | aren't counted | are at most the program's cost, which each run is given |
-//! | an address of the host's memory | may be reached, where it was allowed | can't be written down |
+//! | an address of the host's memory | may be reached, where allowed | can't be written down |
 //! | R1, R2, R3 at entry | the memory's address | the memory, its length, and 0 |
 //!
 //! Not here: `register_helper`, the machines with a metadata buffer, `jit_compile`, `set_verifier`,
