@@ -5,3 +5,4 @@ pub mod Handed
 pub mod Hearing
 pub mod Hosting
 pub mod Objects
+pub mod Writable

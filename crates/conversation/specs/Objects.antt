@@ -4,7 +4,7 @@ use Rattle.std.specs.declared.alloc.Global.{Global}
 use Rattle.hex.specs.Hex.{encode_lower}
 use Rattle.serde_json.specs.Data.{Data, string, array, object, no_members, member}
 use Rattle.serde_json.specs.Written.{compact_text}
-use Rattle.sessions.specs.Grammar.{Asked, grant, account, submit, status, result, ProgramText, JobText}
+use Rattle.sessions.specs.Grammar.{Asked, grant, account, submit, status, result, ProgramText, JobText, ReadsJson}
 use Rattle.sessions.specs.Replies.{items, whole}
 
 unfoldable pub program_data : ProgramText → Data
@@ -22,10 +22,14 @@ order_data order =
 abbrev pub object_text : JobText → List ℕ
 object_text order = compact_text (order_data order)
 
+-- the text is the object, and is read as that
+abbrev pub IsObject : JobText → List ℕ → Type 0
+IsObject order text = (text ≡ object_text order) × ReadsJson text (order_data order)
+
 -- there is none, or it is that of the job that a submit asks for
 abbrev pub IsObjectFor : Option (Vec ℕ Global) → Result Asked ℕ → Type 0
 IsObjectFor None query = Unit {0}
-IsObjectFor (Some text) (Ok (submit name order)) = text.items ≡ object_text order
+IsObjectFor (Some text) (Ok (submit name order)) = IsObject order text.items
 IsObjectFor (Some text) (Ok (grant name amount)) = ⊥
 IsObjectFor (Some text) (Ok (account name)) = ⊥
 IsObjectFor (Some text) (Ok (status number)) = ⊥

@@ -13,8 +13,10 @@ pub use ended::Ended;
 mod clerk;
 mod handed_jobs;
 mod host_desk;
+mod law;
 mod object;
 
 pub use clerk::Clerk;
 pub use handed_jobs::HandedJobs;
 pub use host_desk::{HostDesk, Sent};
+pub use law::object_says_its_job;

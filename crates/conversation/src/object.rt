@@ -4,7 +4,7 @@ ghost use Rattle.std.specs.Prelude.{◌≡◌, Ok, IfOk, map};
 ghost use Rattle.serde_json.specs.View.{view};
 ghost use Rattle.sessions.specs.Grammar.{asked, program_asked};
 ghost use Rattle.streams.specs.Hearing.{query_of};
-ghost use Rattle.conversation.specs.Objects.{IsObjectFor, object_text, order_data, program_data};
+ghost use Rattle.conversation.specs.Objects.{IsObject, IsObjectFor, order_data, program_data};
 
 use job_core::ProgramBytes;
 use refusal::NoMemory;
@@ -50,18 +50,17 @@ fn order_value(
 }
 
 // The object of a job.
-#[tactic(auto, using(crate::proofs::Plain::order_plain))]
 fn object_text(
     alloc: Global,
     programs: &[ProgramBytes],
     credit: u32,
     buffer: &[u8],
 ) -> Result<Vec<u8>, NoMemory>
-    ensures { IfOk result (λ text. text.items ≡ object_text (record {
+    ensures { IfOk result (λ text. IsObject (record {
       programs = map program_asked programs.now;
       credit = credit;
       buffer = buffer.now;
-    })) }
+    }) text.items) }
 {
     let value = order_value(alloc, programs, credit, buffer)?;
     let text = value.to_vec(alloc)?;
