@@ -1,4 +1,4 @@
-/* The library for C: verdicts, texts, runs, tasks and jobs over the caller's memory.
+/* The library for C: verdicts, texts, runs, tasks and jobs over the caller's memory, and desks.
  *
  * bindings/build makes libtelgovan.a and libtelgovan.so, bindings/install puts them in place.
  *
@@ -252,6 +252,83 @@ uint32_t telgovan_job(const uint8_t *code, size_t code_length, const struct telg
                       size_t pieces_length, uint32_t credit, uint8_t *buffer, size_t buffer_length,
                       struct telgovan_task *tasks, size_t tasks_length,
                       struct telgovan_report *report);
+
+/* ---- Desks: accounts and jobs of many clients, whatever carries their bytes */
+
+/* A handle: a desk, or none. It begins as {0}, which holds none. What is said of struct
+ * telgovan_program holds of it too: its fields are the library's, no copy of it is used, one call
+ * at a time uses it, and one that is overwritten or forgotten leaks.
+ *
+ * A desk speaks the protocol of docs/protocol.md with each of its connections. The host carries the
+ * bytes, by sockets, TLS or what it likes. It runs the jobs that clients submit, where it likes. */
+struct telgovan_desk {
+    void *held;
+    bool made;
+};
+
+/* What was given of the replies on a connection. */
+struct telgovan_sent {
+    uint64_t count; /* how many bytes were written into the room */
+    uint64_t left;  /* how many are still to be sent */
+};
+
+/* A job that is handed over to the host. */
+struct telgovan_handed {
+    uint64_t job;    /* its number, counted from 1; 0 where no job waits */
+    uint64_t length; /* how many bytes its object has */
+};
+
+/* Makes a desk without tenants, jobs and connections, and lets the handle hold it in place of the
+ * one that it held. It answers 0; or 99, after which the handle holds what it held. */
+uint32_t telgovan_desk_new(struct telgovan_desk *desk);
+
+/* Begins a conversation with a client, and tells the number of its connection, counted from 1. No
+ * number is given twice. It answers 0; or 41 where the handle holds no desk, or 99, after which
+ * nothing changed. */
+uint32_t telgovan_desk_connect(struct telgovan_desk *desk, uint64_t *connection);
+
+/* Takes bytes that came on a connection, in pieces of any size, and answers each frame that is
+ * whole now, in order, by one reply, which waits to be sent. It answers 0; 71 where a length over
+ * the limit came, which is answered too, or 99 where there was no memory: after both the
+ * conversation is over, and each later piece is answered the same. Or 41 where the handle holds no
+ * desk, or 78 where there is no such connection, after which nothing changed.
+ *
+ * The replies to a piece are held until they are sent, and a request of 27 bytes may ask for the
+ * report of a job of any size. So give pieces of a few thousand bytes at most, and send what is due
+ * before the next. */
+uint32_t telgovan_desk_feed(struct telgovan_desk *desk, uint64_t connection, const uint8_t *bytes,
+                            size_t length);
+
+/* Writes bytes that are to be sent on a connection into the room, as many as there is room for.
+ * They count as sent. It answers 0; or 41 or 78 as above, after which nothing changed. */
+uint32_t telgovan_desk_replies(struct telgovan_desk *desk, uint64_t connection, uint8_t *room,
+                               size_t room_length, struct telgovan_sent *sent);
+
+/* Ends the conversation of a connection, and drops what was still to be sent. Its jobs stay. It
+ * answers 0; or 41 or 78 as above. */
+uint32_t telgovan_desk_disconnect(struct telgovan_desk *desk, uint64_t connection);
+
+/* Hands the job of lowest number that waits over, once, and writes its object into the room: the
+ * JSON that `bpfjobs run` reads. It answers 0, and number 0 where no job waits; 65 where the room
+ * is too short, with the length that it needs, after which the job waits as before; or 41 as
+ * above. */
+uint32_t telgovan_desk_next_job(struct telgovan_desk *desk, uint8_t *room, size_t room_length,
+                                struct telgovan_handed *handed);
+
+/* Ends a job that was handed over with what it came to: what its report spent and returned, its
+ * buffer and the tasks that are to be told. A report that doesn't add up to the job's credit counts
+ * as 82. Where the report's status isn't 0, the job failed by that number, and its whole credit
+ * goes back. It answers 0; 76 where no job of this number was handed over and is open, so that a
+ * second report is refused; 65 where the status is over 255 or a task's program over 65,535; 41 as
+ * above, or 99. After a refusal nothing changed. */
+uint32_t telgovan_desk_finish(struct telgovan_desk *desk, uint64_t job,
+                              const struct telgovan_report *report, const uint8_t *buffer,
+                              size_t buffer_length, const struct telgovan_task *tasks,
+                              size_t tasks_length);
+
+/* Lets go of the desk, with its accounts, its jobs and its conversations. The handle holds none
+ * from then on, so that a second call does nothing. */
+void telgovan_desk_free(struct telgovan_desk *desk);
 
 #ifdef __cplusplus
 }

@@ -192,6 +192,57 @@ static int try_job(long request, int all, const struct code *sum, const struct c
     return refused;
 }
 
+/* Puts a text behind its length, and answers how many bytes both have. */
+static size_t put_frame(uint8_t *bytes, const char *text) {
+    size_t length = strlen(text);
+    for (int n = 0; n < 4; n++) bytes[n] = (uint8_t)(length >> (24 - 8 * n));
+    memcpy(bytes + 4, text, length);
+    return length + 4;
+}
+
+/* A grant, and a submit of a job of this program. */
+static size_t put_requests(uint8_t *bytes, const struct code *code) {
+    static char text[4 * ROOM], hex[2 * ROOM + 1];
+    for (size_t n = 0; n < code->length; n++) sprintf(hex + 2 * n, "%02x", code->bytes[n]);
+    size_t length = put_frame(bytes, "{\"op\":\"grant\",\"tenant\":\"t\",\"amount\":2000}");
+    sprintf(text,
+            "{\"op\":\"submit\",\"tenant\":\"t\",\"programs\":[{\"need\":8,\"code\":\"%s\"}],"
+            "\"credit\":%d,\"buffer\":\"%0*d\"}",
+            hex, JOB_CREDIT, 2 * BYTES, 0);
+    return length + put_frame(bytes + length, text);
+}
+
+/* A desk answers, or says that there was no memory. What it holds is let go of with it. */
+static int try_desk(long request, int all, const struct code *sum, const struct code *none) {
+    static uint8_t frames[6 * ROOM], room[4 * ROOM];
+    struct telgovan_desk desk = {0};
+    struct telgovan_handed handed = {0};
+    struct telgovan_sent sent = {0};
+    struct telgovan_report report = {.spent = JOB_CREDIT};
+    struct telgovan_task task = {0};
+    uint8_t buffer[BYTES] = {0};
+    uint64_t client = 0;
+    (void)none;
+    size_t length = put_requests(frames, sum);
+    long before = blocks;
+    granted = request, then_all = all, refused = 0;
+    uint32_t status = telgovan_desk_new(&desk);
+    if (status == 0) status = telgovan_desk_connect(&desk, &client);
+    if (status == 0) status = telgovan_desk_feed(&desk, client, frames, length);
+    if (status == 0) status = telgovan_desk_next_job(&desk, room, sizeof room, &handed);
+    if (status == 0 && handed.job != 0)
+        status = telgovan_desk_finish(&desk, handed.job, &report, buffer, BYTES, &task, 1);
+    if (status == 0) status = telgovan_desk_replies(&desk, client, room, sizeof room, &sent);
+    granted = -1;
+    int was_refused = refused;
+    HOLDS(status == 0 || (was_refused && status == 99));
+    HOLDS(was_refused || (handed.job == 1 && sent.count > 0 && sent.left == 0));
+    telgovan_desk_free(&desk);
+    telgovan_desk_free(&desk);
+    HOLDS(blocks == before);
+    return was_refused;
+}
+
 typedef int trial(long request, int all, const struct code *one, const struct code *other);
 
 static void try_each(const char *name, trial *one, const struct code *first,
@@ -222,5 +273,6 @@ int main(int count, char **words) {
     try_each("load with helpers", try_load_with, &seven, &eight);
     try_each("start", try_start, &seven, &eight);
     try_each("job", try_job, &sum, &sum);
+    try_each("desk", try_desk, &sum, &sum);
     return 0;
 }

@@ -13,14 +13,17 @@ Executed(r0=40, used=5)
 """
 
 import ctypes
+import json
 import os
 import threading
 from collections import namedtuple
 
 __all__ = [
     "Asked",
+    "Desk",
     "Error",
     "Executed",
+    "HandedJob",
     "HostedTask",
     "Job",
     "Machine",
@@ -29,6 +32,8 @@ __all__ = [
     "Task",
     "assemble",
     "disassemble",
+    "explain",
+    "play_text",
     "run_once",
 ]
 
@@ -132,6 +137,7 @@ def _export(name, *shape, answers=ctypes.c_uint32):
 
 _assemble = _export("telgovan_assemble", *_BYTES, *_ROOM, ctypes.POINTER(_Written))
 _disassemble = _export("telgovan_disassemble", *_BYTES, *_ROOM, ctypes.POINTER(_Written))
+_explain = _export("telgovan_explain", _U32, *_BYTES, *_BYTES, *_ROOM, ctypes.POINTER(_Written))
 _run = _export("telgovan_run", _U32, *_BYTES, _U32, _U64, *_ROOM, ctypes.POINTER(_Outcome))
 _load = _export("telgovan_program_load", _U32, *_BYTES, _HANDLE, ctypes.POINTER(_Verdict))
 _run_held = _export("telgovan_program_run", _HANDLE, _U32, _U64, *_ROOM, ctypes.POINTER(_Outcome))
@@ -213,6 +219,27 @@ def disassemble(code):
     """The lines of the program that the bytes spell."""
     code = bytes(code)
     return _write(_disassemble, code, 8 * len(code)).decode("ascii")
+
+
+def explain(need, code, source=""):
+    """Why a program of this need is refused, as text for whoever wrote it, or None where it is
+    accepted. A source text gives the line of the slot.
+
+    >>> print(explain(9, assemble("ldxb r0, [r1+9]\\nexit")).splitlines()[0])
+    refused 33: access out of the part at slot 0
+    """
+    code, source, told, size = bytes(code), source.encode(), _Written(), 4096
+    need = _number(need, _WORD, "need")
+    while True:
+        room = ctypes.create_string_buffer(size)
+        status = _explain(need, code, len(code), source, len(source), room, size, told)
+        if status == 0:
+            return None
+        if status == 99:
+            raise Error(status)
+        if told.length <= size:
+            return room.raw[: told.length].decode()
+        size = told.length
 
 
 def _executed(outcome):
@@ -426,3 +453,169 @@ class Job:
         count = min(room, report.tasks)
         told = [Task(*(getattr(task, name) for name in Task._fields)) for task in tasks[:count]]
         return Report(report.spent, report.returned, report.tasks, told)
+
+
+# ---- desks
+
+
+class _Desk(ctypes.Structure):
+    _fields_ = [("held", ctypes.c_void_p), ("made", _BOOL)]
+
+
+class _Sent(ctypes.Structure):
+    _fields_ = _fields(u64="count left")
+
+
+class _Handed(ctypes.Structure):
+    _fields_ = _fields(u64="job length")
+
+
+_DESK = ctypes.POINTER(_Desk)
+_desk_new = _export("telgovan_desk_new", _DESK)
+_connect = _export("telgovan_desk_connect", _DESK, ctypes.POINTER(_U64))
+_feed = _export("telgovan_desk_feed", _DESK, _U64, *_BYTES)
+_replies = _export("telgovan_desk_replies", _DESK, _U64, *_ROOM, ctypes.POINTER(_Sent))
+_disconnect = _export("telgovan_desk_disconnect", _DESK, _U64)
+_next_job = _export("telgovan_desk_next_job", _DESK, *_ROOM, ctypes.POINTER(_Handed))
+_finish = _export(
+    "telgovan_desk_finish",
+    *(_DESK, _U64),
+    ctypes.POINTER(_Report),
+    *_BYTES,
+    *(ctypes.POINTER(_Task), ctypes.c_size_t),
+)
+_desk_free = _export("telgovan_desk_free", _DESK, answers=None)
+
+HandedJob = namedtuple("HandedJob", "number text")
+HandedJob.__doc__ = "A job that a desk handed over: its number, and its object as JSON."
+
+
+def play_text(text):
+    """Plays a job object in this thread, as Job.play does. It answers the report, with all tasks,
+    and the buffer as the job left it: what Desk.finish takes."""
+    said = json.loads(text)
+    job = Job(*((program["need"], bytes.fromhex(program["code"])) for program in said["programs"]))
+    room = 64
+    while True:
+        buffer = bytearray.fromhex(said["buffer"])
+        report = job.play(buffer, said["credit"], room)
+        if report.count <= room:
+            return report, bytes(buffer)
+        room = report.count
+
+
+class Desk:
+    """Accounts and jobs of many clients, whatever carries their bytes: the protocol of the server,
+    as bytes in and bytes out. The host runs the jobs.
+
+    One call at a time uses a desk. Calls from several threads wait for each other.
+
+    >>> desk = Desk()
+    >>> client = desk.connect()
+    >>> def ask(text):
+    ...     desk.feed(client, len(text).to_bytes(4, "big") + text)
+    ...     return desk.replies(client)[4:].decode()
+    >>> ask(b'{"op":"grant","tenant":"t","amount":100}')
+    '{"balance":100,"granted":100,"ok":true,"open":0,"spent":0}'
+    >>> code = assemble("mov64 r0, 42\\nexit").hex()
+    >>> job = '"programs":[{"need":0,"code":"%s"}],"credit":9,"buffer":""' % code
+    >>> ask(b'{"op":"submit","tenant":"t",%s}' % job.encode())
+    '{"job":1,"ok":true}'
+    >>> number, text = desk.next_job()
+    >>> desk.finish(number, *play_text(text))
+    >>> ask(b'{"op":"account","tenant":"t"}')
+    '{"balance":98,"granted":100,"ok":true,"open":0,"spent":2}'
+    """
+
+    def __init__(self):
+        self._lock, self._handle, self._room = threading.Lock(), _Desk(), 4096
+        self._check(_desk_new(self._handle))
+
+    @staticmethod
+    def _check(status):
+        if status:
+            raise Error(status)
+
+    def connect(self):
+        """Begins a conversation with a client, and answers the number of its connection."""
+        number = _U64()
+        with self._lock:
+            self._check(_connect(self._handle, number))
+        return number.value
+
+    def feed(self, connection, piece):
+        """Takes bytes that came on a connection, and answers each frame that is whole now. The
+        conversation is over after an Error of 71 or 99; the reply to what was 71 waits too. The
+        replies to a piece are held until they are sent, so give few bytes at once."""
+        piece, connection = bytes(piece), _number(connection, 2**64, "connection")
+        with self._lock:
+            self._check(_feed(self._handle, connection, piece, len(piece)))
+
+    def replies(self, connection, most=65536):
+        """Bytes that are to be sent on a connection, at most so many. They count as sent."""
+        room, sent = ctypes.create_string_buffer(max(most, 1)), _Sent()
+        connection = _number(connection, 2**64, "connection")
+        with self._lock:
+            self._check(_replies(self._handle, connection, room, most, sent))
+        return room.raw[: sent.count]
+
+    def disconnect(self, connection):
+        """Ends the conversation of a connection, and drops what was still to be sent."""
+        with self._lock:
+            self._check(_disconnect(self._handle, _number(connection, 2**64, "connection")))
+
+    def next_job(self):
+        """The job of lowest number that waits, handed over once, or None."""
+        handed = _Handed()
+        with self._lock:
+            while True:
+                room = ctypes.create_string_buffer(self._room)
+                status = _next_job(self._handle, room, self._room, handed)
+                if status != 65:
+                    break
+                self._room = handed.length
+        self._check(status)
+        if handed.job == 0:
+            return None
+        return HandedJob(handed.job, room.raw[: handed.length].decode())
+
+    def finish(self, number, report, buffer):
+        """Ends a job that was handed over with its report, and the buffer as the job left it. A
+        second report is refused by 76."""
+        told = _Report(spent=report.spent, returned=report.returned, tasks=report.count)
+        tasks = (_Task * max(len(report.tasks), 1))()
+        for task, ended in zip(tasks, report.tasks):
+            for name, value in ended._asdict().items():
+                setattr(task, name, value)
+        self._end(number, told, bytes(buffer), tasks, len(report.tasks))
+
+    def fail(self, number, code):
+        """Ends a job that was handed over by the number of what it failed by. Its whole credit goes
+        back."""
+        told = _Report(status=_number(code, 256, "code"))
+        if code == 0:
+            raise ValueError("0 is no failure")
+        self._end(number, told, b"", (_Task * 1)(), 0)
+
+    def _end(self, number, told, buffer, tasks, count):
+        number = _number(number, 2**64, "number")
+        with self._lock:
+            self._check(_finish(self._handle, number, told, buffer, len(buffer), tasks, count))
+
+    def close(self):
+        """Lets go of the desk. From then on calls are refused by 41."""
+        with self._lock:
+            _desk_free(self._handle)
+
+    def __enter__(self):
+        return self
+
+    def __exit__(self, *_):
+        self.close()
+
+    def __del__(self):
+        if hasattr(self, "_handle") and _desk_free is not None:
+            _desk_free(self._handle)
+
+    def __reduce__(self):
+        raise TypeError("a desk can't be copied")

@@ -3,13 +3,26 @@
 import array
 import copy
 import doctest
+import json
 import os
 import pickle
 import threading
 import unittest
 
 import telgovan
-from telgovan import Error, Executed, Job, Machine, Program, assemble, disassemble, run_once
+from telgovan import (
+    Desk,
+    Error,
+    Executed,
+    Job,
+    Machine,
+    Program,
+    assemble,
+    disassemble,
+    explain,
+    play_text,
+    run_once,
+)
 
 EXAMPLES = os.path.join(os.path.dirname(os.path.abspath(__file__)), "../../examples")
 
@@ -80,6 +93,18 @@ class Calls(Refusing):
         self.assertEqual(len(text.splitlines()), 16)
         self.assertEqual(assemble(text), self.program.code)
         self.refused(2, None, disassemble, bytes(7))
+
+    def test_explains_a_refusal(self):
+        source = source_of("byte_at.bpf")
+        code = assemble(source)
+        told = explain(15, code, source).splitlines()
+        self.assertEqual(told[0], "refused 33: access out of the part at slot 2")
+        self.assertIn("slot 2, line 5: ldxb r0, [r1+0]", told)
+        self.assertIn("slot 2: ldxb r0, [r1+0]", explain(15, code).splitlines())
+        self.assertIsNone(explain(16, code))
+        # a text that is longer than the first room
+        ladder = assemble("mov64 r0, 0\n" + "jeq r0, 0, +0\n" * 2000 + "ldxb r0, [r1+0]\nexit")
+        self.assertGreater(len(explain(0, ladder)), 4096)
 
     def test_takes_no_number_that_is_cut(self):
         self.assertRaises(ValueError, Machine(self.program).execute, packet(53), credit=2**32)
@@ -175,6 +200,154 @@ class Jobs(Refusing):
         self.refused(64, None, Job((5, code)).play, buffer, 2)
         self.assertEqual(buffer, bytearray([7] * 4))
         self.assertEqual(str(Error(31, 0, 1)), "refused 31 at 0 in program 1")
+
+
+def framed(text):
+    payload = text.encode()
+    return len(payload).to_bytes(4, "big") + payload
+
+
+def unframed(given):
+    """The replies that the bytes are the frames of."""
+    told = []
+    while given:
+        size = int.from_bytes(given[:4], "big")
+        told.append(json.loads(given[4 : 4 + size]))
+        given = given[4 + size :]
+    return told
+
+
+class Desks(Refusing):
+    def setUp(self):
+        self.desk = Desk()
+        self.client = self.desk.connect()
+        self.sum = {"need": 8, "code": assemble(source_of("sum.bpf")).hex()}
+
+    def ask(self, *requests, client=None):
+        client = client or self.client
+        self.desk.feed(client, b"".join(framed(json.dumps(request)) for request in requests))
+        return unframed(self.desk.replies(client))
+
+    def grant(self, amount, tenant="t"):
+        return {"op": "grant", "tenant": tenant, "amount": amount}
+
+    def submit(self, credit=2000, tenant="t"):
+        buffer = bytes(range(1, 65)).hex()
+        job = {"programs": [self.sum], "credit": credit, "buffer": buffer}
+        return {"op": "submit", "tenant": tenant, **job}
+
+    def test_a_job_goes_out_and_its_report_comes_back(self):
+        told = self.ask(self.grant(5000), self.submit(), {"op": "status", "job": 1})
+        self.assertEqual(told[1], {"job": 1, "ok": True})
+        self.assertEqual(told[2], {"complete": False, "ok": True, "returned": 0, "spent": 0})
+        number, text = self.desk.next_job()
+        self.assertIsNone(self.desk.next_job())
+        asked = self.submit()
+        wanted = {name: asked[name] for name in ("programs", "credit", "buffer")}
+        self.assertEqual((number, json.loads(text)), (1, wanted))
+        report, buffer = play_text(text)
+        self.desk.finish(number, report, buffer)
+        result, account = self.ask({"op": "result", "job": 1}, {"op": "account", "tenant": "t"})
+        self.assertEqual(result["buffer"], buffer.hex())
+        self.assertEqual((result["spent"], result["returned"], len(result["tasks"])), (513, 1487, 8))
+        self.assertEqual(
+            result["tasks"][0],
+            {"number": 0, "program": 0, "r0": 36, "ran": True, "rest": 171, "spent": 121},
+        )
+        self.assertEqual((account["spent"], account["open"], account["balance"]), (513, 0, 4487))
+
+    def test_a_second_report_is_refused(self):
+        self.ask(self.grant(5000), self.submit(), self.submit())
+        self.refused(76, None, self.desk.fail, 1, 99)  # it still waits
+        number, text = self.desk.next_job()
+        told = play_text(text)
+        self.desk.finish(number, *told)
+        self.refused(76, None, self.desk.finish, number, *told)
+        self.refused(76, None, self.desk.fail, number, 99)
+        self.refused(76, None, self.desk.fail, 3, 99)
+        self.assertEqual(self.ask({"op": "account", "tenant": "t"})[0]["open"], 2000)
+        self.desk.next_job()
+        self.desk.fail(2, 99)
+        account = self.ask({"op": "account", "tenant": "t"})[0]
+        self.assertEqual((account["open"], account["spent"]), (0, 513))
+        self.assertEqual(self.ask({"op": "result", "job": 2}), [{"code": 99, "ok": False}])
+
+    def test_a_report_that_does_not_add_up_is_82(self):
+        self.ask(self.grant(5000), self.submit())
+        number, text = self.desk.next_job()
+        report, buffer = play_text(text)
+        self.desk.finish(number, report._replace(spent=report.spent - 1), buffer)
+        self.assertEqual(self.ask({"op": "result", "job": 1}), [{"code": 82, "ok": False}])
+        self.assertEqual(self.ask({"op": "account", "tenant": "t"})[0]["balance"], 5000)
+
+    def test_pieces_of_any_size_say_the_same(self):
+        requests = [self.grant(9), self.submit(), {"op": "account", "tenant": "t"}, {"op": "x"}]
+        whole = b"".join(framed(json.dumps(request)) for request in requests) + framed("no json")
+        told = []
+        for size in (1, 2, 3, 7, 64, len(whole)):
+            desk = Desk()
+            client, said = desk.connect(), b""
+            for start in range(0, len(whole), size):
+                desk.feed(client, whole[start : start + size])
+                said += desk.replies(client, 5)
+            while more := desk.replies(client, 11):
+                said += more
+            told.append(said)
+        self.assertEqual(set(told), {told[0]})
+        codes = [reply.get("code") for reply in unframed(told[0])]
+        self.assertEqual(codes, [None, 75, None, 73, 72])
+
+    def test_a_length_over_the_limit_is_the_last(self):
+        self.refused(71, None, self.desk.feed, self.client, framed("[]") + b"\xff" * 9)
+        codes = [reply["code"] for reply in unframed(self.desk.replies(self.client))]
+        self.assertEqual(codes, [73, 71])
+        self.refused(71, None, self.desk.feed, self.client, framed("[]"))
+        self.assertEqual(self.desk.replies(self.client), b"")
+        # the others go on
+        other = self.desk.connect()
+        self.assertEqual(self.ask(self.grant(1), client=other)[0]["granted"], 1)
+
+    def test_connections_share_the_accounts(self):
+        other = self.desk.connect()
+        self.assertNotEqual(other, self.client)
+        self.ask(self.grant(5000))
+        self.assertEqual(self.ask(self.submit(), client=other), [{"job": 1, "ok": True}])
+        self.desk.disconnect(other)
+        self.refused(78, None, self.desk.feed, other, b"")
+        self.refused(78, None, self.desk.replies, other)
+        self.refused(78, None, self.desk.disconnect, other)
+        self.refused(78, None, self.desk.feed, 0, b"")
+        # its job is still there, and its number isn't given again
+        self.assertEqual(self.desk.next_job().number, 1)
+        self.assertEqual(self.desk.connect(), other + 1)
+
+    def test_a_desk_that_is_closed(self):
+        self.ask(self.grant(5000), self.submit())
+        self.desk.close()
+        self.desk.close()
+        self.refused(41, None, self.desk.connect)
+        self.refused(41, None, self.desk.next_job)
+        self.refused(41, None, self.desk.feed, self.client, b"")
+        self.refused(41, None, self.desk.replies, self.client)
+        self.refused(41, None, self.desk.fail, 1, 99)
+        self.assertRaises(ValueError, self.desk.fail, 1, 0)
+        self.assertRaises(ValueError, self.desk.fail, 1, 256)
+        self.assertRaises(TypeError, copy.copy, self.desk)
+
+    def test_objects_and_replies_longer_than_a_room(self):
+        self.ask(self.grant(10**6))
+        buffer = bytes(60000).hex()
+        code = {"need": 0, "code": assemble("mov64 r0, 0\nexit").hex()}
+        job = {"op": "submit", "tenant": "t", "programs": [code], "credit": 2, "buffer": buffer}
+        self.assertEqual(self.ask(job), [{"job": 1, "ok": True}])
+        number, text = self.desk.next_job()
+        self.assertEqual(json.loads(text)["buffer"], buffer)
+        self.desk.finish(number, *play_text(text))
+        self.desk.feed(self.client, framed('{"op":"result","job":1}'))
+        said = b""
+        while more := self.desk.replies(self.client, 1000):
+            said += more
+        self.assertEqual(unframed(said)[0]["buffer"], buffer)
 
 
 if __name__ == "__main__":

@@ -44,6 +44,7 @@ impl Error {
             36 => "register 10 is written",
             37 => "no such helper",
             38 => "a need over 65,536",
+            41 => "nothing is held",
             42 => "a credit under the program's cost",
             43 => "a memory that is too short",
             44 => "the id of a host's helper is 64 to 127",
@@ -55,7 +56,10 @@ impl Error {
             63 => "a credit under the cost of the root",
             64 => "a buffer under the need of the root",
             65 => "over the limit",
+            71 => "a frame over 1,048,576 bytes",
             73 => "no text",
+            76 => "no such job",
+            78 => "no such connection",
             99 => "out of memory",
             _ => "refused",
         }

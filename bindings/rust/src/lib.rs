@@ -14,15 +14,18 @@
 //! # Ok::<(), telgovan::Error>(())
 //! ```
 
+mod desk;
 mod error;
 mod hosted;
 mod job;
 mod program;
 mod raw;
+pub mod rbpf;
 mod text;
 
+pub use desk::{Desk, HandedJob, Sent};
 pub use error::{Error, JobError};
 pub use hosted::{Event, Helpers, HostedTask, Question};
 pub use job::{Job, Report, Task};
 pub use program::{Executed, Piece, Program};
-pub use text::{assemble, disassemble};
+pub use text::{assemble, disassemble, explain};

@@ -132,6 +132,39 @@ pub struct Report {
     pub has_slot: bool,
 }
 
+/// A handle of a desk. Its fields are the library's.
+#[repr(C)]
+pub struct Desk {
+    held: *mut c_void,
+    made: bool,
+}
+
+impl Desk {
+    /// A handle that holds none.
+    pub fn none() -> Desk {
+        Desk {
+            held: ptr::null_mut(),
+            made: false,
+        }
+    }
+}
+
+/// How many bytes of the replies were given, and how many are still to be sent.
+#[repr(C)]
+#[derive(Clone, Copy, Debug, Default, PartialEq, Eq)]
+pub struct Sent {
+    pub count: u64,
+    pub left: u64,
+}
+
+/// A job that is handed over, and how many bytes its object has.
+#[repr(C)]
+#[derive(Clone, Copy, Default)]
+pub struct Handed {
+    pub job: u64,
+    pub length: u64,
+}
+
 extern "C" {
     pub fn telgovan_assemble(
         source: *const u8,
@@ -144,6 +177,17 @@ extern "C" {
     pub fn telgovan_disassemble(
         code: *const u8,
         code_length: usize,
+        room: *mut u8,
+        room_length: usize,
+        written: *mut Written,
+    ) -> u32;
+
+    pub fn telgovan_explain(
+        need: u32,
+        code: *const u8,
+        code_length: usize,
+        source: *const u8,
+        source_length: usize,
         room: *mut u8,
         room_length: usize,
         written: *mut Written,
@@ -220,4 +264,44 @@ extern "C" {
         tasks_length: usize,
         report: *mut Report,
     ) -> u32;
+
+    pub fn telgovan_desk_new(desk: *mut Desk) -> u32;
+
+    pub fn telgovan_desk_connect(desk: *mut Desk, connection: *mut u64) -> u32;
+
+    pub fn telgovan_desk_feed(
+        desk: *mut Desk,
+        connection: u64,
+        bytes: *const u8,
+        length: usize,
+    ) -> u32;
+
+    pub fn telgovan_desk_replies(
+        desk: *mut Desk,
+        connection: u64,
+        room: *mut u8,
+        room_length: usize,
+        sent: *mut Sent,
+    ) -> u32;
+
+    pub fn telgovan_desk_disconnect(desk: *mut Desk, connection: u64) -> u32;
+
+    pub fn telgovan_desk_next_job(
+        desk: *mut Desk,
+        room: *mut u8,
+        room_length: usize,
+        handed: *mut Handed,
+    ) -> u32;
+
+    pub fn telgovan_desk_finish(
+        desk: *mut Desk,
+        job: u64,
+        report: *const Report,
+        buffer: *const u8,
+        buffer_length: usize,
+        tasks: *const Task,
+        tasks_length: usize,
+    ) -> u32;
+
+    pub fn telgovan_desk_free(desk: *mut Desk);
 }

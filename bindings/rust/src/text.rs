@@ -1,4 +1,4 @@
-//! Source text to bytes, and back.
+//! Source text to bytes, and back; and why a program is refused, as text.
 
 use crate::error::Error;
 use crate::raw;
@@ -31,6 +31,51 @@ pub fn disassemble(code: &[u8]) -> Result<String, Error> {
         )
     })?;
     Ok(String::from_utf8(lines).expect("lines are ASCII"))
+}
+
+/// Why a program of this need is refused, as text for whoever wrote it: the rule that it breaks, a
+/// way that leads there, and what is known of each register there. `None` where it is accepted. A
+/// source text gives the line of the slot.
+///
+/// ```
+/// let source = "ldxb r0, [r1+9]\nexit";
+/// let code = telgovan::assemble(source)?;
+/// let told = telgovan::explain(9, &code, Some(source))?.expect("refused");
+/// assert!(told.starts_with("refused 33: access out of the part at slot 0\n"));
+/// assert!(told.contains("line 1: ldxb r0, [r1+9]"));
+/// assert_eq!(telgovan::explain(10, &code, Some(source))?, None);
+/// # Ok::<(), telgovan::Error>(())
+/// ```
+pub fn explain(need: u32, code: &[u8], source: Option<&str>) -> Result<Option<String>, Error> {
+    let source = source.unwrap_or("");
+    let mut told = raw::Written::default();
+    let mut room = vec![0; 4096];
+    loop {
+        // The library reads the code and the source, and writes the room and what is told alone.
+        let status = unsafe {
+            raw::telgovan_explain(
+                need,
+                code.as_ptr(),
+                code.len(),
+                source.as_ptr(),
+                source.len(),
+                room.as_mut_ptr(),
+                room.len(),
+                &mut told,
+            )
+        };
+        match status {
+            0 => return Ok(None),
+            99 => return Err(Error::at(99, false, 0)),
+            _ => {}
+        }
+        let length = told.length as usize;
+        if length <= room.len() {
+            room.truncate(length);
+            return Ok(Some(String::from_utf8(room).expect("the text is UTF-8")));
+        }
+        room.resize(length, 0);
+    }
 }
 
 /// What a call writes into a room of this size, or into one of the size that the call asks for.

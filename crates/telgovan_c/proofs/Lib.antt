@@ -1,4 +1,6 @@
 pub mod AsBox
+pub mod AsDeskBox
+pub mod DeskLemmas
 pub mod Helpless
 pub mod JobLemmas
 pub mod Pieces

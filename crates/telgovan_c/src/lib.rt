@@ -1,13 +1,17 @@
 //! The library as C sees it: verdicts, texts, runs and jobs over the caller's memory, and programs
-//! that C holds between calls. No thread and no lock is in it, nothing else is kept between calls,
-//! and nothing is touched but what a call lends.
+//! and desks that C holds between calls. No thread and no lock is in it, nothing else is kept
+//! between calls, and nothing is touched but what a call lends.
 //!
 //! `include/telgovan.h` declares what is exported here. Each answer has a status: 0, or the number
 //! of the refusal.
 #![tactic(auto)]
 
 mod boxed;
+mod desk_handle;
+mod desk_held;
+mod desks;
 mod explains;
+mod finishing;
 mod handle;
 mod held;
 mod helper_fault;
@@ -21,7 +25,13 @@ mod tasks;
 mod texts;
 mod verdicts;
 
+pub use desk_handle::DeskHandle;
+pub use desks::{
+    HandedJob, SentReplies, telgovan_desk_connect, telgovan_desk_disconnect, telgovan_desk_feed,
+    telgovan_desk_free, telgovan_desk_new, telgovan_desk_next_job, telgovan_desk_replies,
+};
 pub use explains::telgovan_explain;
+pub use finishing::telgovan_desk_finish;
 pub use handle::Program;
 pub use hosted::telgovan_program_load_with;
 pub use jobs::{CodePiece, EndedTask, JobReport, telgovan_job};

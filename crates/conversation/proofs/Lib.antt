@@ -1,0 +1,3 @@
+pub mod Plain
+pub mod ReadBack
+pub mod Taking

@@ -1,0 +1,8 @@
+pub mod Clerks
+pub mod Conversations
+pub mod Ends
+pub mod Handed
+pub mod Hearing
+pub mod Hosting
+pub mod Objects
+pub mod Writable

@@ -1,0 +1,5 @@
+use Rattle.telgovan_c.proofs.desks.telgovan_desk_feed.Goals as goal
+
+-- what was taken is what the handle held
+pub returns : goal.returns
+returns c = rw c.replace-taken.ensures.value at c.feed_held-kept.ensures
