@@ -64,7 +64,7 @@ fn explain_refusal(
     };
     match explain(alloc, need, code, &HelperTable::job(), source)? {
         Some(explanation) => Ok(Some(Answer {
-            text: explanation.text.into_bytes(),
+            text: format!(in alloc; "{explanation}")?.into_bytes(),
             status: 1,
         })),
         None => Ok(None),

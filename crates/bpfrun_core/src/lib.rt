@@ -14,10 +14,8 @@ pub use reading::bytes_of;
 pub use running::run;
 
 // the line that a refusal is about, and what it quotes
-mod lines;
 mod place;
 
-pub use lines::{Line, lines_of};
 pub use place::{place_of, quote_of};
 
 // what is printed

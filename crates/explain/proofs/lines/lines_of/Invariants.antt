@@ -1,8 +1,8 @@
 use Rattle.std.proofs.Common.{◌≡◌, ◌≤◌, ◌+◌, ◌++◌, length, map}
 use Rattle.std.specs.List.{slice_split}
 use Rattle.assembler.specs.Source.{is_line_feed, numbered, source_lines}
-use Rattle.bpfrun_core.specs.Places.{told}
-use Rattle.bpfrun_core.proofs.lines.lines_of.Given as goal
+use Rattle.explain.specs.Lines.{told}
+use Rattle.explain.proofs.lines.lines_of.Given as goal
 
 abbrev pub invariant-loop-lines : goal.invariant-loop-lines
 invariant-loop-lines l = record {

@@ -6,7 +6,7 @@ use Rattle.std.proofs.lemmas.List.{append-nil}
 use Rattle.disassembler.specs.Cut.{IsFree, StopsAtOnce}
 use Rattle.assembler.specs.Source.{is_line_feed, numbered, stripped}
 use Rattle.assembler.proofs.SourceLines.{cut_at, left_of}
-use Rattle.bpfrun_core.specs.Places.{said}
+use Rattle.explain.specs.Lines.{said}
 
 by_test : (b : Bool) (x : ℕ × List ℕ) (more : List (ℕ × List ℕ)) → if◌then◌else◌ {A = List (ℕ × List ℕ)} b more (x ∷ more) ≡ if◌then◌else◌ {A = List (ℕ × List ℕ)} b [] (x ∷ []) ++ more
 by_test true x more = refl

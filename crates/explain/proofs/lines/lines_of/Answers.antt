@@ -2,9 +2,9 @@ use Rattle.std.proofs.Common.{◌≡◌, ◌+◌, ◌++◌, ℕ, List, length, m
 use Rattle.std.proofs.lemmas.List.{length-append}
 use Rattle.assembler.specs.Source.{numbered, source_lines}
 use Rattle.assembler.proofs.SourceLines.{left_none, left_some}
-use Rattle.bpfrun_core.specs.Places.{told}
-use Rattle.bpfrun_core.proofs.LineLemmas.{finish, more}
-use Rattle.bpfrun_core.proofs.lines.lines_of.Goals as goal
+use Rattle.explain.specs.Lines.{told}
+use Rattle.explain.proofs.LineLemmas.{finish, more}
+use Rattle.explain.proofs.lines.lines_of.Goals as goal
 
 pub returns-then-is_empty : goal.returns-then-is_empty
 returns-then-is_empty c =
