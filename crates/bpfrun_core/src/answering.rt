@@ -35,7 +35,7 @@ pub struct Asked {
 }
 
 // The need that holds.
-fn need_of(need: Option<u32>, memory: Option<&[u8]>) -> u32
+pub(crate) fn need_of(need: Option<u32>, memory: Option<&[u8]>) -> u32
     ensures { result ≡ need_of need (option_map (λ bytes. bytes.now) memory.entry) }
 {
     match need {

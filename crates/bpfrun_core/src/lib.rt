@@ -24,6 +24,11 @@ mod telling;
 
 pub use answering::{Asked, answer};
 
+// the steps of the run
+mod tracing;
+
+pub use tracing::{step_lines, step_objects, trace};
+
 // the words of the command line
 mod asked;
 mod program;
