@@ -3,10 +3,10 @@ _bpfrun() {
     local word=${COMP_WORDS[COMP_CWORD]} previous=${COMP_WORDS[COMP_CWORD - 1]}
     COMPREPLY=()
     case $previous in
-    --memory) mapfile -t COMPREPLY < <(compgen -f -- "$word"); return ;;
+    --memory | --trace-json) mapfile -t COMPREPLY < <(compgen -f -- "$word"); return ;;
     --need | --credit | --arg) return ;;
     esac
     [[ $word == -* ]] || { mapfile -t COMPREPLY < <(compgen -f -- "$word"); return; }
-    mapfile -t COMPREPLY < <(compgen -W "--need --credit --arg --memory --explain --help" -- "$word")
+    mapfile -t COMPREPLY < <(compgen -W "--need --credit --arg --memory --explain --trace --trace-json --help" -- "$word")
 }
 complete -o filenames -F _bpfrun bpfrun

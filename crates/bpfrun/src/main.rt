@@ -6,7 +6,7 @@ ghost use Rattle.std.specs.Prelude.{◌≤◌};
 ghost use Rattle.machine_model.specs.Limits.{max_credit};
 
 use bpfjobs_cli::{Answer, FAILED, UNREAD, print_usage, tell, words};
-use bpfrun_core::{Asked, Request, answer, form_of, request};
+use bpfrun_core::{Asked, Request, answer, form_of, request, step_lines, step_objects, trace};
 use std::alloc::Global;
 use std::process::ExitCode;
 use std::rt::Files;
@@ -33,6 +33,53 @@ fn told<R: Print>(rt: &R, answer: &Answer) -> u8 {
     }
 }
 
+// Prints the steps of the run, or writes them into a file, as the words ask for; nothing where the
+// program doesn't run. Tells whether that went well.
+fn traced<R: Files + Print + Eprint + AllocGlobal>(
+    rt: &R,
+    request: &Request<'_>,
+    asked: &Asked,
+    input: &[u8],
+    memory: Option<&[u8]>,
+) -> bool
+    requires { asked.now.credit ≤ max_credit }
+{
+    let alloc = rt.alloc();
+    let Ok(found) = trace(alloc, asked, input, memory) else {
+        return false;
+    };
+    let Some(steps) = found else {
+        return true;
+    };
+    if request.traces {
+        let Ok(lines) = step_lines(alloc, &steps) else {
+            return false;
+        };
+        let text = lines.into_bytes();
+        if told(rt, &Answer { text, status: 0 }) != 0 {
+            return false;
+        }
+    }
+    match request.trace_json {
+        Some(path) => match step_objects(alloc, &steps) {
+            Ok(objects) => written(rt, path, objects.as_str()),
+            Err(_) => false,
+        },
+        None => true,
+    }
+}
+
+// Writes a file, or prints a line that tells why it can't be written. Tells which.
+fn written<R: Files + Eprint>(rt: &R, path: &str, text: &str) -> bool {
+    match fs::write(rt, path, text) {
+        Ok(()) => true,
+        Err(error) => {
+            let _ = eprintln!(rt; "bpfrun: {path}: {error}");
+            false
+        }
+    }
+}
+
 // Tries the program on its memory, prints what it comes to, and gives the status.
 fn tried<R: Files + Print + Eprint + AllocGlobal>(
     rt: &R,
@@ -51,6 +98,15 @@ fn tried<R: Files + Print + Eprint + AllocGlobal>(
         credit: request.credit,
         explains: request.explains,
     };
+    if request.traces || request.trace_json.is_some() {
+        let lent: Option<&[u8]> = match &memory {
+            Some(bytes) => Some(bytes),
+            None => None,
+        };
+        if !traced(rt, request, &asked, &input, lent) {
+            return FAILED;
+        }
+    }
     match answer(rt.alloc(), &asked, &input, memory) {
         Ok(answer) => told(rt, &answer),
         Err(_) => FAILED,

@@ -8,7 +8,7 @@ use Rattle.virtual_machine.specs.Functions.{called}
 use Rattle.virtual_machine.specs.declared.registered.Registered.{Registered}
 use Rattle.task_trees.specs.Solo.{entering}
 use Rattle.verifier.specs.Checked.{program_of}
-use Rattle.bpfrun_core.specs.Runs.{unanswered}
+use Rattle.run_trace.specs.Traces.{unanswered}
 
 none_there : {R : Type 0} (is_low : Bool) (place : ℕ) → if◌then◌else◌ {A = Option R} is_low None (slice_index_or [] place None) ≡ None
 none_there true place = refl

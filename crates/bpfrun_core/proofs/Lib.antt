@@ -1,5 +1,3 @@
-pub mod LineLemmas
 pub mod Helpless
-pub mod PlaceLemmas
 pub mod WordLemmas
 pub mod RequestLemmas

@@ -6,13 +6,14 @@ use Rattle.helpers.specs.Table.{job_table}
 use Rattle.verifier.specs.declared.refusals.Refusal.{Refusal}
 use Rattle.verifier.specs.Refusals.{RefusesProgram}
 use Rattle.bpfjobs_cli.specs.Printed.{Prints}
+use Rattle.explain.specs.declared.lines.Line.{Line}
+use Rattle.explain.specs.Lines.{told}
 use Rattle.bpfrun_core.specs.declared.answering.Asked.{Asked}
 use Rattle.bpfrun_core.specs.declared.fault.Fault.{Fault}
 use Rattle.bpfrun_core.specs.declared.fault.Fault.TheVariants as fault
 use Rattle.bpfrun_core.specs.declared.form.Form.{Form}
-use Rattle.bpfrun_core.specs.declared.lines.Line.{Line}
 use Rattle.bpfrun_core.specs.Forms.{IsRead, IsUnread}
-use Rattle.bpfrun_core.specs.Places.{IsFaultPlace, IsQuote, told}
+use Rattle.bpfrun_core.specs.Places.{IsFaultPlace, IsQuote}
 use Rattle.bpfrun_core.specs.Printed.{IsRefusalText, ran_text}
 use Rattle.bpfrun_core.specs.Runs.{IsProgramRun, IsStopped}
 

@@ -4,5 +4,6 @@ pub mod Runs
 pub mod Places
 pub mod Printed
 pub mod Answered
+pub mod Traced
 pub mod Program
 pub mod Requests

@@ -1,5 +1,5 @@
 -- The line of a source text that a refusal is about.
-use Rattle.std.specs.Prelude.{◌≡◌, ◌≢◌, ℕ, ◌==◌, List, [], ◌∷◌, length, Option, Some, None, option_map, slice_get, if◌then◌else◌}
+use Rattle.std.specs.Prelude.{◌≡◌, ℕ, List, Option, Some, None, option_map, slice_get}
 use Rattle.std.specs.Str.{IsUtf8}
 use Rattle.insn_codec.specs.declared.insn.Placed.{Placed}
 use Rattle.insn_codec.specs.Spelling.{IsProgram, IsRefusal}
@@ -8,29 +8,17 @@ use Rattle.assembler.specs.Source.{source_lines}
 use Rattle.assembler.specs.Fault.{line_of}
 use Rattle.assembler.specs.Quoted.{line_numbered, quoted_of}
 use Rattle.verifier.specs.RefusalCodes.{slot_of}
+use Rattle.explain.specs.declared.lines.Line.{Line}
+use Rattle.explain.specs.Lines.{IsIndex, told}
 use Rattle.bpfrun_core.specs.declared.fault.Fault.{Fault}
 use Rattle.bpfrun_core.specs.declared.fault.Fault.TheVariants as fault
 use Rattle.bpfrun_core.specs.declared.form.Form.{Form}
 use Rattle.bpfrun_core.specs.declared.form.Form.TheVariants.{Text, Hexadecimal, Bytes}
-use Rattle.bpfrun_core.specs.declared.lines.Line.{Line}
-
--- a line as the definitions have it
-abbrev pub told : Line → ℕ × List ℕ
-told line = (line.number, line.text.now)
-
--- a line with nothing left counts, but says nothing
-abbrev pub said : ℕ → List ℕ → List (ℕ × List ℕ)
-said number text = if length text == 0 then [] else (number, text) ∷ []
 
 -- the line of this number
 abbrev pub IsNumbered : ℕ → List (ℕ × List ℕ) → Option Line → Type 0
 IsNumbered number lines place =
     option_map told place ≡ option_map (λ text. (number, text)) (line_numbered number lines)
-
--- the number of the instruction at this slot
-abbrev pub IsIndex : ℕ → List Placed → Option ℕ → Type 0
-IsIndex slot placed None = (k : ℕ) (p : Placed) → slice_get placed k ≡ Some p → p.slot ≢ slot
-IsIndex slot placed (Some k) = (p : Placed) × (slice_get placed k ≡ Some p) × (p.slot ≡ slot)
 
 -- the line of the instruction at this slot, where the bytes are a program and it has one there
 pub data IsAtSlot (slot : ℕ) (code : List ℕ) (lines : List (ℕ × List ℕ)) (place : Option Line) :

@@ -40,8 +40,20 @@ explain_rule = record (new_rule (codes "explain")) {
   action = Some SetTrue;
 }
 
+abbrev pub trace_rule : Rule
+trace_rule = record (new_rule (codes "trace")) {
+  long = Some (codes "trace");
+  action = Some SetTrue;
+}
+
+abbrev pub trace_json_rule : Rule
+trace_json_rule = record (new_rule (codes "trace-json")) {
+  long = Some (codes "trace-json");
+  value_names = 1;
+}
+
 abbrev pub bpfrun_app : App
-bpfrun_app = with_rule
+bpfrun_app = with_rule (with_rule (with_rule
     (with_rule
     (with_rule (with_rule (with_rule (with_rule (new_app (codes "bpfrun")) file_rule) need_rule)
-    credit_rule) arg_rule) memory_rule) explain_rule
+    credit_rule) arg_rule) memory_rule) explain_rule) trace_rule) trace_json_rule

@@ -22,6 +22,9 @@ pub record IsRequestOf (rows : List Row) (request : Request) : Type 0 where
   pub need : IsMaybeNumber rows (codes "need") 4294967295 request.need
   pub credit : IsNumberIn rows (codes "credit") 0 max_credit request.credit
   pub arg : IsNumberIn rows (codes "arg") 0 18446744073709551615 request.arg
+  pub traces : IsTrue request.traces ↔ (first_of (codes "trace") rows ≡ Some (codes "true"))
+  pub trace_json : first_of (codes "trace-json") rows
+      ≡ option_map (λ path. path.now) request.trace_json
   pub explains : IsTrue request.explains ↔ (first_of (codes "explain") rows ≡ Some (codes "true"))
 
 -- they are those of a request

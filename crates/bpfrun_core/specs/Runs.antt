@@ -2,18 +2,14 @@
 use Rattle.std.specs.Prelude.{◌≡◌, ◌≢◌, ℕ, ◌<◌, ◌≤◌, List, length, Some}
 use Rattle.machine_model.specs.Limits.{max_part}
 use Rattle.helpers.specs.Table.{job_table}
-use Rattle.machine_model.specs.Alone.{MayAnswer}
 use Rattle.verifier.specs.declared.refusals.Refusal.{Refusal}
 use Rattle.verifier.specs.declared.refusals.Refusal.TheVariants as refusal
 use Rattle.verifier.specs.Checked.{Checked, cost_at}
 use Rattle.verifier.specs.Refusals.{IsAccepted, RefusesProgram}
 use Rattle.virtual_machine.specs.Executes.{ExecutesOn}
+use Rattle.run_trace.specs.Traces.{unanswered}
 use Rattle.bpfrun_core.specs.declared.fault.Fault.{Fault}
 use Rattle.bpfrun_core.specs.declared.fault.Fault.TheVariants as fault
-
--- nobody answers a helper of a caller's, which no program may call
-abbrev pub unanswered : MayAnswer
-unanswered helper arguments answer = ⊥
 
 -- the program is accepted, and runs with R0 and what it used of the credit, and leaves these bytes
 pub record IsProgramRun (need : ℕ) (code : List ℕ) (arg credit : ℕ) (old : List ℕ) (r0 used : ℕ)

@@ -35,7 +35,7 @@ pub struct Asked {
 }
 
 // The need that holds.
-fn need_of(need: Option<u32>, memory: Option<&[u8]>) -> u32
+pub(crate) fn need_of(need: Option<u32>, memory: Option<&[u8]>) -> u32
     ensures { result ≡ need_of need (option_map (λ bytes. bytes.now) memory.entry) }
 {
     match need {
@@ -64,7 +64,7 @@ fn explain_refusal(
     };
     match explain(alloc, need, code, &HelperTable::job(), source)? {
         Some(explanation) => Ok(Some(Answer {
-            text: explanation.text.into_bytes(),
+            text: format!(in alloc; "{explanation}")?.into_bytes(),
             status: 1,
         })),
         None => Ok(None),

@@ -14,4 +14,8 @@ pub struct Request<'a> {
     pub arg: u64,
     /// A refusal of the verifier is to be explained.
     pub explains: bool,
+    /// The steps of the run are to be printed.
+    pub traces: bool,
+    /// The path of a file that gets the steps as JSON, if the words name one.
+    pub trace_json: Option<&'a str>,
 }

@@ -14,10 +14,8 @@ pub use reading::bytes_of;
 pub use running::run;
 
 // the line that a refusal is about, and what it quotes
-mod lines;
 mod place;
 
-pub use lines::{Line, lines_of};
 pub use place::{place_of, quote_of};
 
 // what is printed
@@ -25,6 +23,11 @@ mod answering;
 mod telling;
 
 pub use answering::{Asked, answer};
+
+// the steps of the run
+mod tracing;
+
+pub use tracing::{step_lines, step_objects, trace};
 
 // the words of the command line
 mod asked;

@@ -1,14 +1,14 @@
 //! The line of the source text that a refusal is about, and what it quotes of it.
 
-ghost use Rattle.std.specs.Prelude.{◌≡◌, option_map, slice_get, IfOk};
+ghost use Rattle.std.specs.Prelude.{option_map, IfOk};
 ghost use Rattle.assembler.specs.Source.{source_lines};
-ghost use Rattle.bpfrun_core.specs.Places.{IsAtSlot, IsIndex, IsNumbered, IsFaultPlace, IsQuote};
+ghost use Rattle.bpfrun_core.specs.Places.{IsAtSlot, IsNumbered, IsFaultPlace, IsQuote};
 
 use crate::fault::Fault;
 use crate::form::Form;
-use crate::lines::{Line, lines_of};
 use assembler::line_with_number;
-use insn_codec::{CodecFault, Placed, decode};
+use explain::{Line, index_of, line_at, lines_of};
+use insn_codec::{CodecFault, decode};
 use refusal::NoMemory;
 use std::alloc::Global;
 
@@ -18,31 +18,6 @@ fn numbered(source: &[u8], number: u64) -> Option<Line<'_>>
 {
     let text = line_with_number(source, number)?;
     Some(Line { number, text })
-}
-
-// The number of the instruction at a slot, from 0 on.
-fn index_of(placed: &[Placed], slot: u32) -> Option<usize>
-    ensures { IsIndex slot placed.now result }
-{
-    let mut index = 0;
-    while index < placed.len() {
-        if placed[index].slot == slot {
-            return Some(index);
-        }
-        index += 1;
-    }
-    None
-}
-
-// The line at a place, from 0 on.
-fn line_at<'a>(lines: &[Line<'a>], place: usize) -> Option<Line<'a>>
-    ensures { result ≡ slice_get lines.now place }
-{
-    if place < lines.len() {
-        Some(lines[place])
-    } else {
-        None
-    }
 }
 
 // The line of the instruction at a slot.

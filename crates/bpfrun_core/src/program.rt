@@ -3,7 +3,7 @@
 ghost use Rattle.std.specs.Prelude.{◌≡◌, false, codes, IfOk};
 ghost use Rattle.clap.specs.Words.{app_of, new_app, rule_of};
 ghost use Rattle.clap.specs.declared.builder.command.Command.TheViews.{out-Command as fields_of};
-ghost use Rattle.bpfrun_core.specs.Program.{file_rule, need_rule, credit_rule, arg_rule, memory_rule, explain_rule, bpfrun_app};
+ghost use Rattle.bpfrun_core.specs.Program.{file_rule, need_rule, credit_rule, arg_rule, memory_rule, explain_rule, trace_rule, trace_json_rule, bpfrun_app};
 
 use crate::texts;
 use clap::{Arg, ArgAction, Command};
@@ -74,6 +74,26 @@ fn explain<'a>(alloc: Global) -> Arg<'a>
         .help(texts::EXPLAIN)
 }
 
+fn trace<'a>(alloc: Global) -> Arg<'a>
+    ensures rule { rule_of result ≡ trace_rule }
+    ensures local { result.global ≡ false }
+{
+    Arg::new(alloc, "trace")
+        .long("trace")
+        .action(ArgAction::SetTrue)
+        .help(texts::TRACE)
+}
+
+fn trace_json<'a>(alloc: Global) -> Arg<'a>
+    ensures rule { rule_of result ≡ trace_json_rule }
+    ensures local { result.global ≡ false }
+{
+    Arg::new(alloc, "trace-json")
+        .long("trace-json")
+        .value_name("FILE")
+        .help(texts::TRACE_JSON)
+}
+
 // The program without its arguments.
 fn named<'a>(alloc: Global) -> Command<'a>
     ensures app { app_of result ≡ new_app (codes "bpfrun") }
@@ -94,5 +114,7 @@ pub(crate) fn bpfrun<'a>(alloc: Global) -> Result<Command<'a>, AllocError>
         .arg(credit(alloc))?
         .arg(argument(alloc))?
         .arg(memory(alloc))?
-        .arg(explain(alloc))
+        .arg(explain(alloc))?
+        .arg(trace(alloc))?
+        .arg(trace_json(alloc))
 }

@@ -2,12 +2,12 @@
 
 ghost use Rattle.std.specs.Prelude.{◌≡◌, option_map, string_bytes, IfOk};
 ghost use Rattle.bpfjobs_cli.specs.Printed.{Prints};
-ghost use Rattle.bpfrun_core.specs.Places.{told};
+ghost use Rattle.explain.specs.Lines.{told};
 ghost use Rattle.bpfrun_core.specs.Printed.{IsRefusalText, memory_line, place_line, quote_text, ran_text};
 
 use crate::fault::Fault;
-use crate::lines::Line;
 use bpfjobs_cli::Answer;
+use explain::Line;
 use refusal::NoMemory;
 use std::alloc::Global;
 use virtual_machine::Executed;

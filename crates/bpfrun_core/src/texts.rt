@@ -30,4 +30,9 @@ pub(crate) const ARG: &str = "The argument, which R3 has at the start";
 pub(crate) const MEMORY: &str =
     "Bytes that are its part, at most 65536; if not given, as many zeros as it needs";
 
+pub(crate) const TRACE: &str =
+    "Prints each instruction that runs, what it changes, and the credit used";
+
+pub(crate) const TRACE_JSON: &str = "Writes the same into a file, a JSON object a line";
+
 pub(crate) const EXPLAIN: &str = "Explains why the verifier refuses the program";

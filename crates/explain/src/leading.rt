@@ -1,107 +1,98 @@
-//! The instructions that lead to a slot, and a way from the first of them.
+//! A way from slot 0 to a slot, through the slots that lead there.
+
+ghost use Rattle.std.specs.Prelude.{◌≡◌, ◌<◌, ◌≤◌, ◌↔◌, ℕ, length, IfOk, IsTrue, MatchOption};
+ghost use Rattle.machine_model.specs.Edges.{Begins};
+ghost use Rattle.flow_graph.specs.Cycles.{IsJoint};
+ghost use Rattle.flow_graph.specs.Reached.{IsMarked};
+ghost use Rattle.explain.specs.Leading.{AreLeading};
+ghost use Rattle.explain.specs.Ways.{IsWayTo};
 
 use flow_graph::{Graph, Next};
 use refusal::NoMemory;
 use std::alloc::Global;
 
-/// Slots that are marked.
-#[derive(Drop)]
-pub(crate) struct Marks {
-    marks: Vec<bool>,
+/// Whether the slot is marked.
+fn is_marked(marks: &[bool], slot: u32) -> bool
+    requires { slot < length marks.now }
+    ensures { IsTrue result ↔ IsMarked marks.now slot }
+{
+    marks[slot as usize]
 }
 
-impl Marks {
-    /// None of so many slots is marked.
-    pub(crate) fn none(alloc: Global, slots: u32) -> Result<Marks, NoMemory> {
-        let marks = vec![in alloc; false; slots as usize]?;
-        Ok(Marks { marks })
-    }
-
-    /// Whether the slot is marked.
-    pub(crate) fn has(&self, slot: u32) -> bool {
-        match self.marks.get(slot as usize) {
-            Some(mark) => *mark,
-            None => false,
+/// A marked slot that the instruction at a slot leads to: the following one, where both are.
+fn marked_after(graph: &Graph, marks: &[bool], from: u32) -> Option<u32>
+    requires begins { Begins graph.now.code from }
+    requires slots { length marks.now ≡ length graph.now.code }
+    ensures { MatchOption result ((next : ℕ) → IsJoint graph.now.code from next
+        → IsMarked marks.now next → ⊥)
+        (λ next. IsJoint graph.now.code from next × IsMarked marks.now next) }
+{
+    let _slots = graph.slots();
+    match graph.successors(from) {
+        Next::Zero => None,
+        Next::One(to) => {
+            if is_marked(marks, to) {
+                return Some(to);
+            }
+            None
+        }
+        Next::Two(following, to) => {
+            if is_marked(marks, following) {
+                return Some(following);
+            }
+            if is_marked(marks, to) {
+                return Some(to);
+            }
+            None
         }
     }
-
-    /// Marks the slot.
-    pub(crate) fn set(&mut self, slot: u32) {
-        if (slot as usize) < self.marks.len() {
-            self.marks[slot as usize] = true;
-        }
-    }
 }
 
-/// Where the instruction at the slot leads, if one begins there.
-pub(crate) fn next_of(graph: &Graph, slot: u32) -> Next {
-    match graph.insn(slot) {
-        Some(_) => graph.successors(slot),
-        None => Next::Zero,
-    }
-}
-
-/// Whether one of these slots is marked.
-fn has_one(marks: &Marks, next: Next) -> bool {
-    match next {
-        Next::Zero => false,
-        Next::One(to) => marks.has(to),
-        Next::Two(following, to) => marks.has(following) || marks.has(to),
-    }
-}
-
-/// The slot, and each from which a path leads there.
-pub(crate) fn leading(alloc: Global, graph: &Graph, slot: u32) -> Result<Marks, NoMemory> {
-    let mut marks = Marks::none(alloc, graph.slots())?;
-    marks.set(slot);
+/// Marks the slots from which a way leads to the slot.
+fn leading(alloc: Global, graph: &Graph, slot: u32) -> Result<Vec<bool>, NoMemory>
+    requires begins { Begins graph.now.code slot }
+    ensures { IfOk result (λ marks. AreLeading graph.now.code slot marks.items) }
+{
+    let slots = graph.slots();
+    let mut marks = vec![in alloc; false; slots as usize]?;
+    marks[slot as usize] = true;
     let order = graph.order();
     let mut place = order.len();
     while place > 0 {
         place -= 1;
-        if let Some(from) = order.get(place) {
-            if has_one(&marks, next_of(graph, *from)) {
-                marks.set(*from);
-            }
+        let from = order[place];
+        match marked_after(graph, &marks, from) {
+            None => {}
+            Some(_) => marks[from as usize] = true,
         }
     }
     Ok(marks)
 }
 
-/// The slot after this one on the way through marked slots.
-fn next_marked(marks: &Marks, next: Next) -> Option<u32> {
-    match next {
-        Next::Zero => None,
-        Next::One(to) => Some(to),
-        Next::Two(following, to) => {
-            if marks.has(following) {
-                Some(following)
-            } else {
-                Some(to)
-            }
-        }
-    }
-}
-
-/// The slots of one way from slot 0 to the slot.
-pub(crate) fn way_text(
-    alloc: Global,
-    graph: &Graph,
-    marks: &Marks,
-    slot: u32,
-) -> Result<String, NoMemory> {
-    let mut text = format!(in alloc; "0")?;
+/// The slots of a way from slot 0 to the slot.
+pub(crate) fn way_to(alloc: Global, graph: &Graph, slot: u32) -> Result<Vec<u32>, NoMemory>
+    requires begins { Begins graph.now.code slot }
+    ensures { IfOk result (λ way. IsWayTo graph.now.code slot way.items) }
+{
+    let _slots = graph.slots();
+    let marks = leading(alloc, graph, slot)?;
+    let order = graph.order();
+    let mut way = Vec::new(alloc);
+    way.push(0)?;
     let mut at = 0;
-    for _ in 0..graph.slots() {
+    for place in 0..order.len() {
         if at == slot {
-            return Ok(text);
+            return Ok(way);
         }
-        match next_marked(marks, next_of(graph, at)) {
-            None => return Ok(text),
-            Some(next) => {
-                text.push_str(format!(in alloc; " {next}")?.as_str())?;
-                at = next;
+        if order[place] == at {
+            match marked_after(graph, &marks, at) {
+                None => unreachable!(),
+                Some(next) => {
+                    way.push(next)?;
+                    at = next;
+                }
             }
         }
     }
-    Ok(text)
+    Ok(way)
 }

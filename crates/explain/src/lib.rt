@@ -1,19 +1,24 @@
-//! Why a program is refused, as text: the instruction, the rule that it breaks, the way that leads
-//! there and what is known of each register there.
+//! Why a program is refused: the instruction, the rule that it breaks, a way that leads there and
+//! what is known of each register there, as a value and as text.
 #![tactic(auto)]
 
-// the verdict and its text
+// the verdict, and why
 mod explaining;
+mod explanation;
 mod rules;
 
-pub use explaining::{Explanation, explain};
+pub use explaining::explain;
+pub use explanation::{Explanation, Known, Place};
 
 // what leads to a slot, and what is known there
+mod arriving;
+mod knowing;
 mod leading;
-mod part;
 mod registers;
 
-// a source text's lines
+// a slot's line in a source text
 mod lines;
-#[cfg(test)]
-mod tests;
+mod places;
+
+pub use lines::{Line, lines_of};
+pub use places::{index_of, line_at, lines_in, place_in};

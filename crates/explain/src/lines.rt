@@ -1,33 +1,51 @@
-//! The lines of a source text that have an instruction.
+//! The lines of a source text that say an instruction.
 
-/// The line, from 1 on, of the instruction of this number, from 0 on.
-pub(crate) fn line_of(source: &str, number: u32) -> Option<u32> {
-    let bytes = source.as_bytes();
-    let mut line = 1u32;
-    let mut before = 0u32;
-    let mut is_comment = false;
-    let mut has_insn = false;
-    for byte in bytes {
-        match *byte {
-            b'\n' => {
-                if has_insn {
-                    before = u32::saturating_add(before, 1);
-                }
-                line = u32::saturating_add(line, 1);
-                is_comment = false;
-                has_insn = false;
-            }
-            b';' => is_comment = true,
-            b' ' | b'\t' | b'\r' => {}
-            _ => {
-                if !is_comment {
-                    has_insn = true;
-                    if before == number {
-                        return Some(line);
-                    }
-                }
-            }
-        }
+ghost use Rattle.std.specs.Prelude.{◌≡◌, ◌++◌, map, IfOk};
+ghost use Rattle.assembler.specs.Source.{source_lines};
+ghost use Rattle.explain.specs.Lines.{said, told};
+
+use assembler::{split_before, stripped_line};
+use refusal::NoMemory;
+use std::alloc::Global;
+
+/// A line that says something.
+#[derive(Clone, Copy)]
+pub struct Line<'a> {
+    /// From 1 on.
+    pub number: u64,
+    /// What stands on it, without its comment and the blanks at both ends.
+    pub text: &'a [u8],
+}
+
+// The lines, with this one if it says something.
+fn extended<'a>(
+    mut lines: Vec<Line<'a>>,
+    number: u64,
+    text: &'a [u8],
+) -> Result<Vec<Line<'a>>, NoMemory>
+    ensures { IfOk result (λ more. map told more.items ≡ map told lines.entry.items
+        ++ said number text.now) }
+{
+    if !text.is_empty() {
+        lines.push(Line { number, text })?;
     }
-    None
+    Ok(lines)
+}
+
+/// The lines of a source text that say something, in their order: those that the assembler reads.
+pub fn lines_of(alloc: Global, source: &[u8]) -> Result<Vec<Line<'_>>, NoMemory>
+    ensures { IfOk result (λ lines. map told lines.items ≡ source_lines source.now) }
+{
+    let mut lines = Vec::new(alloc);
+    let mut rest = source;
+    let mut number = 1;
+    loop {
+        let (line, tail) = split_before(rest, b'\n', b'\n');
+        lines = extended(lines, number, stripped_line(line))?;
+        if tail.is_empty() {
+            return Ok(lines);
+        }
+        rest = tail.split_at(1).1;
+        number += 1;
+    }
 }

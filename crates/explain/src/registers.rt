@@ -1,57 +1,172 @@
 //! What is known of each register, as text.
 
+ghost use Rattle.std.specs.Prelude.{◌≡◌, ◌≤◌};
+ghost use Rattle.instruction_rules.specs.Covers.{abs_at};
+ghost use Rattle.explain.specs.Texts.{is_any, is_narrow};
+
 use insn_codec::Register;
-use refusal::NoMemory;
-use std::alloc::Global;
-use value_ranges::{Abs, Numbers, Reach};
+use std::fmt;
+use value_ranges::{Abs, Numbers, Reach, SignedRange};
 use verifier::State;
 
-/// What is known of a number: its unsigned range, and its signed one where that says more.
-fn number_text(alloc: Global, numbers: Numbers) -> Result<String, NoMemory> {
-    let unsigned = numbers.unsigned();
-    let signed = numbers.signed();
-    if unsigned.is_single() {
-        return Ok(format!(in alloc; "{}", unsigned.lo())?);
+/// Whether some of the signed readings are ruled out.
+fn is_narrow(range: SignedRange) -> bool
+    ensures { result ≡ is_narrow range }
+{
+    i64::MIN < range.lo() || range.hi() < i64::MAX
+}
+
+/// Whether no number of 64 bits is ruled out.
+fn is_any(numbers: Numbers) -> bool
+    ensures { result ≡ is_any numbers }
+{
+    if numbers.unsigned().lo() != 0 {
+        return false;
     }
-    if unsigned.hi() < 9_223_372_036_854_775_808 {
-        return Ok(format!(in alloc; "{} to {}", unsigned.lo(), unsigned.hi())?);
+    if numbers.unsigned().hi() != u64::MAX {
+        return false;
     }
-    Ok(format!(in alloc;
-        "{} to {}, signed {} to {}",
-        unsigned.lo(),
-        unsigned.hi(),
-        signed.lo(),
-        signed.hi()
-    )?)
+    !is_narrow(numbers.signed())
+}
+
+/// A number: its unsigned range, and its signed one where that says more.
+#[derive(Clone, Copy)]
+struct Number(Numbers);
+
+impl fmt::Display for Number {
+    ghost use Rattle.std.specs.Prelude.{Some};
+    ghost use Rattle.explain.specs.Texts.{number_text};
+
+    ghost output = { λ number. Some (number_text number.0) };
+
+    fn fmt<W: fmt::Write>(&self, f: &mut fmt::Formatter<W>) -> fmt::Result {
+        let unsigned = self.0.unsigned();
+        let (lo, hi) = (unsigned.lo(), unsigned.hi());
+        if lo == hi {
+            return write!(f, "{lo}");
+        }
+        if hi < 9_223_372_036_854_775_808 {
+            return write!(f, "{lo} to {hi}");
+        }
+        if is_any(self.0) {
+            return write!(f, "any number");
+        }
+        let signed = self.0.signed();
+        let (least, most) = (signed.lo(), signed.hi());
+        write!(f, "{lo} to {hi}, signed {least} to {most}")
+    }
+}
+
+/// A position with its sign, also before zero.
+#[derive(Clone, Copy)]
+struct Position(i32);
+
+impl fmt::Display for Position {
+    ghost use Rattle.std.specs.Prelude.{Some};
+    ghost use Rattle.disassembler.specs.Line.{signed_text};
+
+    ghost output = { λ position. Some (signed_text position.0) };
+
+    fn fmt<W: fmt::Write>(&self, f: &mut fmt::Formatter<W>) -> fmt::Result {
+        let size = self.0.unsigned_abs();
+        if self.0 < 0 {
+            write!(f, "-{size}")
+        } else {
+            write!(f, "+{size}")
+        }
+    }
 }
 
 /// Where a pointer leads, in bytes from its region's first.
-fn pointer_text(alloc: Global, region: &str, reach: Reach) -> Result<String, NoMemory> {
-    if reach.lo() == reach.hi() {
-        return Ok(format!(in alloc; "{region}{:+}", reach.lo())?);
+#[derive(Clone, Copy)]
+struct Positions(Reach);
+
+impl fmt::Display for Positions {
+    ghost use Rattle.std.specs.Prelude.{Some};
+    ghost use Rattle.explain.specs.Texts.{reach_text};
+
+    ghost output = { λ positions. Some (reach_text positions.0) };
+
+    fn fmt<W: fmt::Write>(&self, f: &mut fmt::Formatter<W>) -> fmt::Result {
+        let (lo, hi) = (self.0.lo(), self.0.hi());
+        if lo < hi {
+            write!(f, "{} to {}", Position(lo), Position(hi))
+        } else {
+            write!(f, "{}", Position(lo))
+        }
     }
-    Ok(format!(in alloc; "{region}{:+} to {:+}", reach.lo(), reach.hi())?)
 }
 
-/// What is known of one register.
-fn known_text(alloc: Global, abs: Abs) -> Result<String, NoMemory> {
-    if abs == Abs::any_number() {
-        return Ok(format!(in alloc; "any number")?);
+/// What is known of a register.
+#[derive(Clone, Copy)]
+struct Content(Abs);
+
+impl fmt::Display for Content {
+    ghost use Rattle.std.specs.Prelude.{Some};
+    ghost use Rattle.explain.specs.Texts.{known_text};
+
+    ghost output = { λ content. Some (known_text content.0) };
+
+    fn fmt<W: fmt::Write>(&self, f: &mut fmt::Formatter<W>) -> fmt::Result {
+        match self.0 {
+            Abs::Unset => write!(f, "unset"),
+            Abs::Num(numbers) => write!(f, "{}", Number(numbers)),
+            Abs::Stack(reach) => write!(f, "stack{}", Positions(reach)),
+            Abs::Part(reach) => write!(f, "part{}", Positions(reach)),
+        }
     }
-    match abs {
-        Abs::Unset => Ok(format!(in alloc; "unset")?),
-        Abs::Num(numbers) => number_text(alloc, numbers),
-        Abs::Stack(reach) => pointer_text(alloc, "stack", reach),
-        Abs::Part(reach) => pointer_text(alloc, "part", reach),
+}
+
+/// The line of a register.
+#[derive(Clone, Copy)]
+struct RegisterLine(u8, Abs);
+
+impl fmt::Display for RegisterLine {
+    ghost use Rattle.std.specs.Prelude.{Some};
+    ghost use Rattle.explain.specs.Texts.{register_line};
+
+    ghost output = { λ line. Some (register_line line.0 line.1) };
+
+    fn fmt<W: fmt::Write>(&self, f: &mut fmt::Formatter<W>) -> fmt::Result {
+        write!(f, "  r{} {}\n", self.0, Content(self.1))
     }
+}
+
+/// The line of a register in a state.
+fn line_of(state: &State, number: u8) -> RegisterLine
+    requires { number ≤ 10 }
+    ensures number { result.0 ≡ number }
+    ensures known { result.1 ≡ abs_at state.now number }
+{
+    RegisterLine(number, state.at(Register::new(number)))
 }
 
 /// A line for each register.
-pub(crate) fn registers_text(alloc: Global, state: &State) -> Result<String, NoMemory> {
-    let mut text = String::new(alloc);
-    for number in 0u8..11 {
-        let known = known_text(alloc, state.at(Register::new(number)))?;
-        text.push_str(format!(in alloc; "  r{number} {}\n", known.as_str())?.as_str())?;
+#[derive(Clone, Copy)]
+pub(crate) struct Registers(pub(crate) State);
+
+impl fmt::Display for Registers {
+    ghost use Rattle.std.specs.Prelude.{Some};
+    ghost use Rattle.explain.specs.Texts.{registers_text};
+
+    ghost output = { λ registers. Some (registers_text registers.0) };
+
+    fn fmt<W: fmt::Write>(&self, f: &mut fmt::Formatter<W>) -> fmt::Result {
+        let state = &self.0;
+        write!(
+            f,
+            "{}{}{}{}{}{}{}{}{}{}{}",
+            line_of(state, 0),
+            line_of(state, 1),
+            line_of(state, 2),
+            line_of(state, 3),
+            line_of(state, 4),
+            line_of(state, 5),
+            line_of(state, 6),
+            line_of(state, 7),
+            line_of(state, 8),
+            line_of(state, 9),
+            line_of(state, 10)
+        )
     }
-    Ok(text)
 }

@@ -5,8 +5,9 @@ ghost use Rattle.verifier.specs.RefusalCodes.{number_of, slot_of};
 ghost use Rattle.telgovan_c.specs.Explains.{IsExplained, IsPlaced, explained_as};
 
 use crate::texts::Written;
-use explain::explain;
+use explain::{Explanation, explain};
 use helpers::HelperTable;
+use refusal::NoMemory;
 use std::alloc::Global;
 use verifier::Refusal;
 
@@ -48,6 +49,11 @@ fn with_text(text: &[u8], refusal: &Refusal) -> Written
     }
 }
 
+// The text of an explanation.
+fn text_of(alloc: Global, why: &Explanation) -> Result<String, NoMemory> {
+    Ok(format!(in alloc; "{why}")?)
+}
+
 // Why a program is refused, into the room. A source text that isn't UTF-8 counts as none.
 fn explain_into(alloc: Global, need: u32, code: &[u8], source: &[u8], room: &mut [u8]) -> Written
     ensures { IsExplained need code.now room.old room.new result }
@@ -57,11 +63,14 @@ fn explain_into(alloc: Global, need: u32, code: &[u8], source: &[u8], room: &mut
         Err(_) => None,
     };
     match explain(alloc, need, code, &HelperTable::job(), source) {
-        Ok(Some(told)) => {
-            let text = told.text.as_bytes();
-            place_into(text, room);
-            with_text(text, &told.refusal)
-        }
+        Ok(Some(why)) => match text_of(alloc, &why) {
+            Ok(text) => {
+                let text = text.as_bytes();
+                place_into(text, room);
+                with_text(text, &why.refusal)
+            }
+            Err(_) => without_text(NO_MEMORY),
+        },
         Ok(None) => without_text(0),
         Err(_) => without_text(NO_MEMORY),
     }

@@ -1,6 +1,6 @@
 use Rattle.std.proofs.Common.{refl}
 use Rattle.bpfrun_core.specs.Places.{between, no_program, there}
-use Rattle.bpfrun_core.proofs.PlaceLemmas.{line_there}
+use Rattle.explain.proofs.PlaceLemmas.{line_there}
 use Rattle.bpfrun_core.proofs.place.at_slot.Goals as goal
 
 pub returns-in-Err : goal.returns-in-Err

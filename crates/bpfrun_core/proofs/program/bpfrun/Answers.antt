@@ -10,4 +10,6 @@ returns c =
     let third = c.in_ok-arg-3.ensures.shape c.credit.ensures.local ∙ ap₂ with_rule second c.credit.ensures.rule in
     let fourth = c.in_ok-arg-4.ensures.shape c.argument.ensures.local ∙ ap₂ with_rule third c.argument.ensures.rule in
     let fifth = c.in_ok-arg-5.ensures.shape c.memory.ensures.local ∙ ap₂ with_rule fourth c.memory.ensures.rule in
-    IfOk-weaker c.arg-6.result _ _ (λ r h. h.shape c.explain.ensures.local ∙ ap₂ with_rule fifth c.explain.ensures.rule) c.arg-6.ensures
+    let sixth = c.in_ok-arg-6.ensures.shape c.explain.ensures.local ∙ ap₂ with_rule fifth c.explain.ensures.rule in
+    let seventh = c.in_ok-arg-7.ensures.shape c.trace.ensures.local ∙ ap₂ with_rule sixth c.trace.ensures.rule in
+    IfOk-weaker c.arg-8.result _ _ (λ r h. h.shape c.trace_json.ensures.local ∙ ap₂ with_rule seventh c.trace_json.ensures.rule) c.arg-8.ensures

@@ -1,0 +1,96 @@
+//! The steps of a program's run, to be shown beside what it comes to.
+
+ghost use Rattle.std.specs.Prelude.{◌≡◌, ◌≤◌, option_map, IfOk, MatchOption};
+ghost use Rattle.machine_model.specs.Limits.{max_credit};
+ghost use Rattle.bpfrun_core.specs.Answered.{need_of, part_of};
+ghost use Rattle.bpfrun_core.specs.Traced.{IsTraced, IsUntraced};
+
+use crate::answering::{Asked, need_of};
+use crate::fault::Fault;
+use crate::form::Form;
+use crate::reading::bytes_of;
+use crate::running::run;
+use machine_model::MAX_PART;
+use reference::Unanswered;
+use refusal::NoMemory;
+use run_trace::{Json, Trace, trace_run};
+use std::alloc::Global;
+
+/// The source text of a file, if it is one.
+fn source_of(form: Form, input: &[u8]) -> Option<&str> {
+    match form {
+        Form::Text => str::from_utf8(input).ok(),
+        Form::Hexadecimal | Form::Bytes => None,
+    }
+}
+
+/// The part of a program at its start: its memory, or else as many zeros as it needs.
+fn part_of(alloc: Global, need: Option<u32>, memory: Option<&[u8]>) -> Result<Vec<u8>, NoMemory>
+    ensures { IfOk result (λ part. part.items
+        ≡ part_of need (option_map (λ bytes. bytes.now) memory.entry)) }
+{
+    match memory {
+        Some(memory) => {
+            let mut part = Vec::new(alloc);
+            part.extend_from_slice(memory)?;
+            Ok(part)
+        }
+        None => {
+            let need = need_of(need, None);
+            let part = vec![in alloc; 0u8; (need as usize).min(MAX_PART)]?;
+            Ok(part)
+        }
+    }
+}
+
+/// The steps of a program's run, as [`answer`](crate::answer) tells what it comes to; none where
+/// the program doesn't run. Refused for want of memory, and where a pointer's position on the way
+/// has more than 64 bits.
+pub fn trace(
+    alloc: Global,
+    asked: &Asked,
+    input: &[u8],
+    memory: Option<&[u8]>,
+) -> Result<Option<Trace>, Unanswered>
+    requires limit { asked.now.credit ≤ max_credit }
+    ensures { IfOk result (λ told. MatchOption told
+        (IsUntraced asked.now input.now (option_map (λ bytes. bytes.now) memory.entry))
+        (λ trace. IsTraced asked.now input.now (option_map (λ bytes. bytes.now) memory.entry)
+        trace)) }
+{
+    let code = match bytes_of(alloc, asked.form, input) {
+        Ok(code) => code,
+        Err(Fault::NoMemory) => return Err(Unanswered::NoMemory),
+        Err(_) => return Ok(None),
+    };
+    let need = need_of(asked.need, memory);
+    let start = part_of(alloc, asked.need, memory)?;
+    let mut part = part_of(alloc, asked.need, memory)?;
+    match run(alloc, need, &code, &mut part, asked.arg, asked.credit) {
+        Ok(_) => {
+            let source = source_of(asked.form, input);
+            let steps = trace_run(alloc, &code, source, &start, asked.arg, asked.credit)?;
+            Ok(Some(steps))
+        }
+        Err(Fault::NoMemory) => Err(Unanswered::NoMemory),
+        Err(_) => Ok(None),
+    }
+}
+
+/// A line for each step.
+pub fn step_lines(alloc: Global, trace: &Trace) -> Result<String, NoMemory> {
+    let mut text = String::new(alloc);
+    for step in &trace.steps {
+        text.push_str(format!(in alloc; "{step}\n")?.as_str())?;
+    }
+    Ok(text)
+}
+
+/// A JSON object for each step, on a line each.
+pub fn step_objects(alloc: Global, trace: &Trace) -> Result<String, NoMemory> {
+    let mut text = String::new(alloc);
+    for step in &trace.steps {
+        text.push_str(format!(in alloc; "{}\n", Json(step))?.as_str())?;
+    }
+    Ok(text)
+}

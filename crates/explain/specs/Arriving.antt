@@ -1,0 +1,49 @@
+-- What arrives at each slot, as a table, and what is known at a slot that is refused.
+use Rattle.std.specs.Prelude.{◌≡◌, ℕ, ◌≤◌, ◌<◌, List, length, slice_index, slice_index_or, Some}
+use Rattle.machine_model.specs.Edges.{Always, NotTaken, Taken}
+use Rattle.insn_codec.specs.declared.insn.Placed.{Placed}
+use Rattle.insn_codec.specs.Spelling.{IsProgram}
+use Rattle.flow_graph.specs.Program.{code_of}
+use Rattle.helpers.specs.Table.{Table}
+use Rattle.verifier.specs.InStates.{Subject, InState, Unreached, Undefined, Reached, joined_in_state, edge_state, in_state}
+use Rattle.explain.specs.declared.arriving.Arrival.{Arrival}
+use Rattle.explain.specs.declared.arriving.Arrival.TheVariants as arrival
+use Rattle.explain.specs.declared.arriving.Survey.{Survey}
+
+abbrev pub subject_of : Survey → Subject
+subject_of survey = record {
+  need = survey.need;
+  helpers = survey.helpers.now;
+  code = survey.graph.now.code;
+}
+
+-- an arrival as the definition has it
+abbrev pub arriving : Arrival → InState
+arriving arrival.Unreached = Unreached
+arriving arrival.Undefined = Undefined
+arriving (arrival.Reached state) = Reached state
+
+-- what the table has of a slot
+abbrev pub arriving_at : List Arrival → ℕ → InState
+arriving_at table s = arriving (slice_index_or table s arrival.Unreached)
+
+-- what passes the edges from slot k to s joins what has come there
+abbrev pub joined_from : Subject → (ℕ → InState) → ℕ → ℕ → InState → InState
+joined_from p f s k a =
+    joined_in_state (joined_in_state (joined_in_state a (edge_state p f s k Always))
+    (edge_state p f s k NotTaken)) (edge_state p f s k Taken)
+
+-- the table has what arrives at each slot
+pub record AreArrivals (p : Subject) (table : List Arrival) : Type 0 where
+  pub slots : length table ≡ length p.code
+  pub each : (s : ℕ) → s < length p.code → arriving_at table s ≡ in_state p s
+
+-- it has it for the slots at the first places of the order, and nothing of the others
+pub record AreFilled (p : Subject) (order : List ℕ) (place : ℕ) (table : List Arrival) :
+    Type 0 where
+  pub slots : length table ≡ length p.code
+  pub few : place ≤ length order
+  pub each : (q : ℕ) → q < place → arriving_at table (slice_index order q)
+      ≡ in_state p (slice_index order q)
+  pub others : (s : ℕ) → ((q : ℕ) → q < place → slice_index order q ≡ s → ⊥)
+      → arriving_at table s ≡ Unreached

@@ -1,0 +1,207 @@
+//! What arrives at each slot of a program that has a graph, by the definition: what passes each
+//! edge that leads to a slot, joined.
+
+ghost use Rattle.std.specs.Prelude.{◌≡◌, ℕ, ◌<◌, ◌≤◌, length, slice_index_or, IfOk, Some, if◌then◌else◌};
+ghost use Rattle.machine_model.specs.Edges.{NotTaken, Taken, insn_at};
+ghost use Rattle.machine_model.specs.Limits.{max_part};
+ghost use Rattle.instruction_rules.specs.declared.state.State.{State};
+ghost use Rattle.verifier.specs.InStates.{Reached, if_leads_to, in_state, in_state_by, joined_edges, joined_in_state, out_state};
+ghost use Rattle.explain.specs.Arriving.{AreArrivals, arriving, arriving_at, joined_from, subject_of};
+ghost use Rattle.explain.specs.declared.arriving.Arrival.TheVariants as arrival;
+
+use flow_graph::{Graph, Next};
+use helpers::HelperTable;
+use insn_codec::Insn;
+use instruction_rules::{State, judge, transfer};
+use refusal::NoMemory;
+use std::alloc::Global;
+use value_ranges::Abs;
+
+/// What arrives at a slot.
+#[derive(Drop)]
+pub(crate) enum Arrival {
+    /// No path leads there.
+    Unreached,
+    /// An instruction ahead isn't allowed.
+    Undefined,
+    /// This is known of the registers.
+    Reached(State),
+}
+
+/// A program, the bytes that it needs and the helpers that it may call.
+#[derive(Clone, Copy)]
+pub(crate) struct Survey<'a> {
+    pub(crate) need: u32,
+    pub(crate) helpers: &'a HelperTable,
+    pub(crate) graph: &'a Graph,
+}
+
+impl Arrival {
+    /// What arrives where this comes one way, and more comes another.
+    fn join(self, more: Arrival) -> Arrival
+        ensures { arriving result ≡ joined_in_state (arriving self) (arriving more) }
+    {
+        match self {
+            Arrival::Unreached => more,
+            Arrival::Undefined => Arrival::Undefined,
+            Arrival::Reached(mut state) => match more {
+                Arrival::Unreached => Arrival::Reached(state),
+                Arrival::Undefined => Arrival::Undefined,
+                Arrival::Reached(other) => {
+                    state.join(&other);
+                    Arrival::Reached(state)
+                }
+            },
+        }
+    }
+}
+
+/// What passes an instruction along an edge, where this arrives at it.
+fn pass(survey: &Survey<'_>, arrival: &Arrival, insn: &Insn, taken: bool) -> Arrival
+    ensures { arriving result
+        ≡ out_state (subject_of survey.now) (Some insn.now) (if taken then Taken else NotTaken)
+        (arriving arrival.now) }
+{
+    match arrival {
+        Arrival::Unreached => Arrival::Unreached,
+        Arrival::Undefined => Arrival::Undefined,
+        Arrival::Reached(state) => match judge(survey.need, survey.helpers, insn, state) {
+            Err(_) => Arrival::Undefined,
+            Ok(left) => {
+                let mut next = *state;
+                transfer(&mut next, insn, taken, &left);
+                Arrival::Reached(next)
+            }
+        },
+    }
+}
+
+/// An instruction, and what arrives at it.
+#[derive(Clone, Copy)]
+struct Visit<'a> {
+    insn: &'a Insn,
+    arrival: &'a Arrival,
+}
+
+/// Joins what passes an edge to `next`, if that is the slot.
+fn join_edge(
+    survey: &Survey<'_>,
+    visit: &Visit<'_>,
+    taken: bool,
+    next: u32,
+    slot: u32,
+    joined: Arrival,
+) -> Arrival
+    ensures { arriving result
+        ≡ joined_in_state (arriving joined) (if_leads_to (Some next) slot
+        (out_state (subject_of survey.now) (Some visit.now.insn.now)
+        (if taken then Taken else NotTaken) (arriving visit.now.arrival.now))) }
+{
+    if next == slot {
+        joined.join(pass(survey, visit.arrival, visit.insn, taken))
+    } else {
+        joined
+    }
+}
+
+/// Joins what passes the edges from one slot to another.
+fn join_from(
+    survey: &Survey<'_>,
+    table: &[Arrival],
+    from: u32,
+    slot: u32,
+    joined: Arrival,
+) -> Arrival
+    requires from { from < length survey.now.graph.now.code }
+    requires slots { length table.now ≡ length survey.now.graph.now.code }
+    ensures { arriving result
+        ≡ joined_from (subject_of survey.now) (arriving_at table.now) slot from (arriving joined) }
+{
+    let Some(insn) = survey.graph.insn(from) else {
+        return joined;
+    };
+    let visit = Visit {
+        insn,
+        arrival: &table[from as usize],
+    };
+    match survey.graph.successors(from) {
+        Next::Zero => joined,
+        Next::One(to) => join_edge(survey, &visit, false, to, slot, joined),
+        Next::Two(following, to) => {
+            let joined = join_edge(survey, &visit, false, following, slot, joined);
+            join_edge(survey, &visit, true, to, slot, joined)
+        }
+    }
+}
+
+/// What passes all edges to a slot, joined.
+fn join_all(survey: &Survey<'_>, table: &[Arrival], slot: u32) -> Arrival
+    requires slots { length table.now ≡ length survey.now.graph.now.code }
+    ensures { arriving result
+        ≡ joined_edges (subject_of survey.now) (arriving_at table.now) slot
+        (length survey.now.graph.now.code) }
+{
+    let mut joined = Arrival::Unreached;
+    for from in 0..survey.graph.slots() {
+        joined = join_from(survey, table, from, slot, joined);
+    }
+    joined
+}
+
+/// What arrives at a slot, where the table has what arrives at those that lead there.
+fn arrive(survey: &Survey<'_>, table: &[Arrival], slot: u32) -> Arrival
+    requires need { survey.now.need ≤ max_part }
+    requires slots { length table.now ≡ length survey.now.graph.now.code }
+    ensures { arriving result
+        ≡ in_state_by (subject_of survey.now) (arriving_at table.now) slot
+        (length survey.now.graph.now.code) }
+{
+    if slot == 0 {
+        return Arrival::Reached(State::entry(survey.need));
+    }
+    join_all(survey, table, slot)
+}
+
+/// A table in which nothing arrives.
+fn nowhere(alloc: Global, slots: u32) -> Result<Vec<Arrival>, NoMemory>
+    ensures slots { IfOk result (λ table. length table.items ≡ slots) }
+    ensures each { IfOk result (λ table. (s : ℕ)
+        → slice_index_or table.items s arrival.Unreached ≡ arrival.Unreached) }
+{
+    // The borrow checker's part of the proof has to hear of the types.
+    let _known: Option<(State, Abs)> = None;
+    let mut table = Vec::with_capacity(alloc, slots as usize)?;
+    for _ in 0..slots {
+        table.push(Arrival::Unreached)?;
+    }
+    Ok(table)
+}
+
+/// What arrives at each slot.
+pub(crate) fn arrivals(alloc: Global, survey: &Survey<'_>) -> Result<Vec<Arrival>, NoMemory>
+    requires need { survey.now.need ≤ max_part }
+    ensures { IfOk result (λ table. AreArrivals (subject_of survey.now) table.items) }
+{
+    let mut table = nowhere(alloc, survey.graph.slots())?;
+    let order = survey.graph.order();
+    for place in 0..order.len() {
+        let slot = order[place];
+        let arrival = arrive(survey, &table, slot);
+        table[slot as usize] = arrival;
+    }
+    Ok(table)
+}
+
+/// The state that arrives at a slot where one does.
+pub(crate) fn state_at(alloc: Global, survey: &Survey<'_>, slot: u32) -> Result<State, NoMemory>
+    requires need { survey.now.need ≤ max_part }
+    requires slot { slot < length survey.now.graph.now.code }
+    requires arrives { (state : State) × (in_state (subject_of survey.now) slot ≡ Reached state) }
+    ensures { IfOk result (λ state. in_state (subject_of survey.now) slot ≡ Reached state) }
+{
+    let table = arrivals(alloc, survey)?;
+    match &table[slot as usize] {
+        Arrival::Reached(state) => Ok(*state),
+        _ => unreachable!(),
+    }
+}

@@ -1,0 +1,112 @@
+//! The instruction at a slot, and its line in a source text.
+
+ghost use Rattle.std.specs.Prelude.{◌≡◌, map, option_map, slice_get, IfOk};
+ghost use Rattle.explain.specs.Lines.{IsIndex, IsPlaceAt, IsPlaceIn, IsPlaceOf, lines_in, told};
+
+use crate::explanation::Place;
+use crate::lines::{Line, lines_of};
+use disassembler::line;
+use insn_codec::{CodecFault, Placed, decode};
+use refusal::NoMemory;
+use std::alloc::Global;
+
+/// The number of the instruction at a slot, from 0 on.
+pub fn index_of(placed: &[Placed], slot: u32) -> Option<usize>
+    ensures { IsIndex slot placed.now result }
+{
+    let mut index = 0;
+    while index < placed.len() {
+        if placed[index].slot == slot {
+            return Some(index);
+        }
+        index += 1;
+    }
+    None
+}
+
+/// The line at a place, from 0 on.
+pub fn line_at<'a>(lines: &[Line<'a>], place: usize) -> Option<Line<'a>>
+    ensures { result ≡ slice_get lines.now place }
+{
+    if place < lines.len() {
+        Some(lines[place])
+    } else {
+        None
+    }
+}
+
+/// The number of the line at a place, from 0 on.
+fn number_at(lines: &[Line<'_>], index: usize) -> Option<u64>
+    ensures { result ≡ option_map (λ line. line.0) (slice_get (map told lines.now) index) }
+{
+    match line_at(lines, index) {
+        Some(line) => Some(line.number),
+        None => None,
+    }
+}
+
+/// The instruction at a slot of a program, if one begins there, with the number of its line.
+pub fn place_in(
+    alloc: Global,
+    placed: &[Placed],
+    lines: &[Line<'_>],
+    slot: u32,
+) -> Result<Option<Place>, NoMemory>
+    ensures { IfOk result (λ place. IsPlaceIn placed.now (map told lines.now) slot place) }
+{
+    let Some(index) = index_of(placed, slot) else {
+        return Ok(None);
+    };
+    let text = line(alloc, &placed[index].insn)?;
+    Ok(Some(Place {
+        slot,
+        line: number_at(lines, index),
+        text,
+    }))
+}
+
+/// The lines of a source text, if there is one.
+pub fn lines_in<'a>(alloc: Global, source: Option<&'a str>) -> Result<Vec<Line<'a>>, NoMemory>
+    ensures { IfOk result (λ lines. map told lines.items
+        ≡ lines_in (option_map (λ text. text.now) source.entry)) }
+{
+    match source {
+        Some(source) => lines_of(alloc, source.as_bytes()),
+        None => Ok(Vec::new(alloc)),
+    }
+}
+
+/// The instruction at a slot, where the bytes are a program that has one there.
+fn place_at(
+    alloc: Global,
+    code: &[u8],
+    source: Option<&str>,
+    slot: u32,
+) -> Result<Option<Place>, NoMemory>
+    ensures { IfOk result (λ place. IsPlaceAt code.now
+        (option_map (λ text. text.now) source.entry) slot place) }
+{
+    let placed = match decode(alloc, code) {
+        Ok(placed) => placed,
+        Err(CodecFault::NoMemory) => return Err(NoMemory),
+        Err(_) => return Ok(None),
+    };
+    let lines = lines_in(alloc, source)?;
+    place_in(alloc, &placed, &lines, slot)
+}
+
+/// The instruction at the slot that a refusal tells, if it tells one.
+pub(crate) fn place_of(
+    alloc: Global,
+    code: &[u8],
+    source: Option<&str>,
+    slot: Option<u32>,
+) -> Result<Option<Place>, NoMemory>
+    ensures { IfOk result (λ place. IsPlaceOf code.now
+        (option_map (λ text. text.now) source.entry) slot place) }
+{
+    match slot {
+        Some(slot) => place_at(alloc, code, source, slot),
+        None => Ok(None),
+    }
+}

@@ -1,0 +1,4 @@
+pub mod Steps
+pub mod Traces
+pub mod Following
+pub mod Texts
