@@ -2,6 +2,7 @@
 """How many requests a second one connection gets answered, by how many are sent at once.
 
     .ci/in_flight.py PORT [BPFJOBS]
+    .ci/in_flight.py PORT BPFJOBS --clients 4    the server takes these words too
 
 It starts a server on the port, asks for an account again and again, and prints a line for each number in flight.
 """
@@ -44,8 +45,8 @@ def rate(port, in_flight, total):
         return total / (time.perf_counter() - start)
 
 
-def main(port, program):
-    words = [program, "serve", "--port", str(port), "--workers", "1", "--sessions", str(len(CASES))]
+def main(port, program, more):
+    words = [program, "serve", "--port", str(port), "--workers", "1", "--sessions", str(len(CASES)), *more]
     with subprocess.Popen(words) as server:
         time.sleep(0.5)
         for in_flight, total in CASES:
@@ -56,4 +57,5 @@ def main(port, program):
 if __name__ == "__main__":
     if len(sys.argv) < 2:
         sys.exit(__doc__)
-    sys.exit(main(int(sys.argv[1]), sys.argv[2] if len(sys.argv) > 2 else f"{TOP}/crates/bpfjobs/out/bpfjobs"))
+    built = f"{TOP}/crates/bpfjobs/out/bpfjobs"
+    sys.exit(main(int(sys.argv[1]), sys.argv[2] if len(sys.argv) > 2 else built, sys.argv[3:]))

@@ -1,10 +1,11 @@
 #!/usr/bin/env python3
 """Keeps `bpfjobs serve` busy with good and bad clients for a while, and looks at what is left of it.
 
-    .ci/soak.py [--seconds N] [--clients N] [--seed N] [--workers N] [--program FILE]
+    .ci/soak.py [--seconds N] [--clients N] [--seed N] [--workers N] [--at-once K] [--timeout T] [--silent N] [--program FILE]
 
 It starts the server on a free port of 127.0.0.1, the only address that it speaks to. The clients grant, give good and bad jobs, ask,
-cut connections at any byte and send rubbish, as the seed says; an auditor asks now and then how many jobs there are. At the end each account
+cut connections at any byte and send rubbish, as the seed says. The server serves K of them at once, and N more connections say nothing, each until
+it is given up, and begin anew. An auditor asks now and then how many jobs there are. At the end each account
 has to add up, against what was granted and against the reports of its jobs; the server has to have no thread and no socket but those that it
 began with; and its memory is told as bytes a job, by the line that fits best. Status: 0, or 1 where something doesn't hold.
 """
@@ -272,8 +273,8 @@ def free_port():
         return probe.getsockname()[1]
 
 
-def start(program, port, workers):
-    words = [program, "serve", "--port", str(port), "--workers", str(workers), "--sessions", str(SESSIONS)]
+def start(program, port, workers, more):
+    words = [program, "serve", "--port", str(port), "--workers", str(workers), "--sessions", str(SESSIONS), *more]
     process = subprocess.Popen(words, stdin=subprocess.DEVNULL, stdout=subprocess.PIPE, stderr=subprocess.STDOUT)
     until = time.monotonic() + 10
     while time.monotonic() < until:
@@ -302,12 +303,28 @@ def keep_busy(process, clients, seconds):
     return points
 
 
+def say_nothing(port, until):
+    """Connections that are taken and say nothing, one after the other."""
+    while time.monotonic() < until:
+        with socket.create_connection(("127.0.0.1", port)) as stream:
+            stream.settimeout(max(0.1, until - time.monotonic()))
+            try:
+                stream.recv(1)
+            except OSError:
+                pass
+
+
 def soak(words, process, port):
     threads, size = status_of(process)
     sockets = sockets_of(process)
     until = time.monotonic() + words.seconds
     clients = [Client(port, number, words.seed, until) for number in range(words.clients)]
+    silent = [threading.Thread(target=say_nothing, args=(port, until)) for _ in range(words.silent)]
+    for thread in silent:
+        thread.start()
     points = keep_busy(process, clients, words.seconds)
+    for thread in silent:
+        thread.join()
     wrong = [text for client in clients for text in client.wrong]
     wrong += audit(port, clients)
     time.sleep(1)
@@ -329,12 +346,16 @@ def main():
     reader.add_argument("--clients", type=int, default=8)
     reader.add_argument("--seed", type=int, default=1)
     reader.add_argument("--workers", type=int, default=4)
+    reader.add_argument("--at-once", type=int, default=1)
+    reader.add_argument("--timeout", type=int, default=0)
+    reader.add_argument("--silent", type=int, default=0)
     reader.add_argument("--program", default=os.path.join(TOP, "crates/bpfjobs/out/bpfjobs"))
     words = reader.parse_args()
     if not (1 <= words.seconds <= 3600 and 1 <= words.clients <= 64):
         reader.error("--seconds is 1 to 3600, --clients 1 to 64")
     port = free_port()
-    process = start(words.program, port, words.workers)
+    more = ["--clients", str(words.at_once), "--timeout", str(words.timeout)]
+    process = start(words.program, port, words.workers, more if words.at_once > 1 or words.timeout else [])
     try:
         wrong = soak(words, process, port)
     finally:

@@ -37,9 +37,9 @@ def job_text(programs, credit, buffer, **more):
     return json.dumps({"programs": listed, "credit": credit, "buffer": buffer.hex(), **more})
 
 
-def submit_text(programs, credit, buffer):
-    """The request of tenant `t` to run a job."""
-    return '{"op":"submit","tenant":"t",' + job_text(programs, credit, buffer)[1:]
+def submit_text(programs, credit, buffer, tenant="t"):
+    """The request of a tenant to run a job."""
+    return f'{{"op":"submit","tenant":"{tenant}",' + job_text(programs, credit, buffer)[1:]
 
 
 def play(programs, credit, buffer, schedule):
@@ -88,9 +88,9 @@ def may_listen(port):
 class Server:
     """`bpfjobs serve`, until so many connections have ended."""
 
-    def __init__(self, sessions=1_000_000, workers=2, words=None, port=None):
+    def __init__(self, sessions=1_000_000, workers=2, words=None, port=None, more=()):
         self.port = port or free_port()
-        words = words or ["serve", "--port", self.port, "--workers", workers, "--sessions", sessions]
+        words = words or ["serve", "--port", self.port, "--workers", workers, "--sessions", sessions, *more]
         nothing = {"stdin": subprocess.DEVNULL, "stdout": subprocess.DEVNULL}
         self.process = subprocess.Popen([BPFJOBS, *map(str, words)], **nothing)
 

@@ -9,7 +9,7 @@ ghost use Rattle.std.specs.Prelude.{◌≤◌};
 mod serving;
 
 use bpfjobs_cli::{Command, FAILED, UNREAD, command, print_usage, words};
-use serving::serve;
+use serving::{serve, serve_clients};
 use std::alloc::Global;
 use std::io;
 use std::net::{Net, TcpStream};
@@ -57,6 +57,13 @@ where
             workers,
             sessions,
         } => serve(rt, alloc, port, workers, sessions),
+        Command::ServeClients {
+            port,
+            workers,
+            sessions,
+            clients,
+            timeout,
+        } => serve_clients(&rt, alloc, port, workers, clients, sessions, timeout),
         Command::Run { workers } => run(&rt, alloc, workers),
         Command::Verify { need } => answer(&rt, alloc, Command::Verify { need }),
         Command::Assemble => answer(&rt, alloc, Command::Assemble),

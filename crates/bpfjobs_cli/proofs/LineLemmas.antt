@@ -1,6 +1,7 @@
 -- Each line that clap takes says a command, with its numbers.
 use Rattle.std.proofs.Common.{◌≡◌, ◌≤◌, ◌<◌, ◌&&◌, length, ℕ, codes, true, false, refl, sym, subst, inl, inr, arith, List, [], Some, is_some, true≢false}
 use Rattle.std.specs.Prelude.{pos}
+use Rattle.std.proofs.lemmas.Bool.{cases_eq}
 use Rattle.clap.specs.Facts.{unwrap_or_range}
 use Rattle.clap.specs.Walk.{Row, Rule, Text, action_of, nothing_held, rows_after}
 use Rattle.clap.specs.Simple.{App, Shape, argument_words, built, built_leaf, filled, help_shape, inherited, is_simple, marked_built, new_app, with_leaf_noted, subcommand_of, with_index}
@@ -11,8 +12,8 @@ use Rattle.clap.specs.declared.builder.action.ArgAction.TheVariants as action
 use Rattle.clap.specs.declared.builder.value_parser.ValueParser.TheVariants as vp
 use Rattle.clap.proofs.OnLiterals.{clap_on_literals}
 use Rattle.bpfjobs_cli.specs.Commands.{IsNumberIn, SaysCommand}
-use Rattle.bpfjobs_cli.specs.Program.{bpfjobs_app, need_rule, port_rule, run_app, serve_app, sessions_rule, verify_app, workers_rule}
-use Rattle.bpfjobs_cli.specs.declared.commands.Command.TheVariants.{Assemble, Disassemble, Verify, Play, Run, Serve}
+use Rattle.bpfjobs_cli.specs.Program.{bpfjobs_app, need_rule, port_rule, run_app, serve_app, sessions_rule, clients_rule, timeout_rule, verify_app, workers_rule}
+use Rattle.bpfjobs_cli.specs.declared.commands.Command.TheVariants.{Assemble, Disassemble, Verify, Play, Run, Serve, ServeClients}
 use Rattle.bpfjobs_cli.proofs.NumberLemmas.{signed_number}
 use Rattle.bpfjobs_cli.proofs.RowLemmas.{Among, Each, IsOnly, On, both, default_value, required_value}
 use Rattle.bpfjobs_cli.proofs.SubcommandLemmas.{Gives, HasNoAlias, subcommand_gives}
@@ -66,12 +67,36 @@ run words own none =
 serve : Gives SaysCommand (leaf serve_app.top)
 serve words own none =
     let port = wanted (rule port_rule) 1 65535 refl (omega arith) refl (leaf serve_app.top) words
-    ((λ same. refl), (other, (other, (other, tt)))) (inl refl) none refl refl in
+    ((λ same. refl), (other, (other, (other, (other, (other, tt)))))) (inl refl) none refl refl in
     let workers = left_out (rule workers_rule) 1 16 refl (omega arith) refl (leaf serve_app.top) words
-    (other, ((λ same. refl), (other, (other, tt)))) (inr (inl refl)) none (omega arith) in
+    (other, ((λ same. refl), (other, (other, (other, (other, tt)))))) (inr (inl refl)) none (omega arith) in
     let sessions = left_out (rule sessions_rule) 1 1000000 refl (omega arith) refl (leaf serve_app.top) words
-    (other, (other, ((λ same. refl), (other, tt)))) (inr (inr (inl refl))) none (omega arith) in
-    (Serve port.0 workers.0 sessions.0, (refl, port.1, workers.1, sessions.1))
+    (other, (other, ((λ same. refl), (other, (other, (other, tt)))))) (inr (inr (inl refl))) none (omega arith) in
+    let clients = left_out (rule clients_rule) 1 64 refl (omega arith) refl (leaf serve_app.top) words
+    (other, (other, (other, ((λ same. refl), (other, (other, tt)))))) (inr (inr (inr (inl refl)))) none (omega arith) in
+    let timeout = left_out (rule timeout_rule) 0 3600 refl (omega arith) refl (leaf serve_app.top) words
+    (other, (other, (other, (other, ((λ same. refl), (other, tt)))))) (inr (inr (inr (inr (inl refl))))) none (omega arith) in
+    let rows = rows_after (leaf serve_app.top).rules [] words in
+    elim (cases_eq clients.0 1) [
+      | inl one ↦
+          elim (cases_eq timeout.0 0) [
+            | inl never ↦ (
+              Serve port.0 workers.0 sessions.0,
+              (
+                refl,
+                port.1,
+                workers.1,
+                sessions.1,
+                subst (λ (n : ℕ). IsNumberIn rows (codes "clients") 1 64 n) one clients.1,
+                subst (λ (n : ℕ). IsNumberIn rows (codes "timeout") 0 3600 n) never timeout.1,
+              ),
+            )
+            | inr once ↦
+                (ServeClients port.0 workers.0 sessions.0 clients.0 timeout.0, (refl, port.1, workers.1, sessions.1, clients.1, timeout.1, (λ a b. once b)))
+          ]
+      | inr many ↦
+          (ServeClients port.0 workers.0 sessions.0 clients.0 timeout.0, (refl, port.1, workers.1, sessions.1, clients.1, timeout.1, (λ a b. many a)))
+    ]
 
 -- clap's own subcommand, which gives help
 help : Gives SaysCommand (built_leaf help_shape)

@@ -5,7 +5,7 @@ use Rattle.clap.specs.Faults.{fault_of}
 use Rattle.clap.specs.Words.{HasKind, Row, Text, kind_of, one_of, takes}
 use Rattle.clap.specs.declared.error.kind.ErrorKind.TheVariants.{DisplayHelp, DisplayVersion, OutOfMemory}
 use Rattle.bpfjobs_cli.specs.declared.commands.Command.{Command}
-use Rattle.bpfjobs_cli.specs.declared.commands.Command.TheVariants.{Assemble, Disassemble, Verify, Play, Run, Serve}
+use Rattle.bpfjobs_cli.specs.declared.commands.Command.TheVariants.{Assemble, Disassemble, Verify, Play, Run, Serve, ServeClients}
 use Rattle.bpfjobs_cli.specs.declared.commands.Usage.{Usage}
 use Rattle.bpfjobs_cli.specs.declared.commands.Usage.TheVariants as usage
 use Rattle.bpfjobs_cli.specs.Program.{bpfjobs_app}
@@ -31,6 +31,14 @@ IsCommandOf name rows (Serve port workers sessions) =
     (name ≡ codes "serve") × IsNumberIn rows (codes "port") 1 65535 port
     × IsNumberIn rows (codes "workers") 1 16 workers
     × IsNumberIn rows (codes "sessions") 1 1000000 sessions
+    × IsNumberIn rows (codes "clients") 1 64 1 × IsNumberIn rows (codes "timeout") 0 3600 0
+IsCommandOf name rows (ServeClients port workers sessions clients timeout) =
+    (name ≡ codes "serve") × IsNumberIn rows (codes "port") 1 65535 port
+    × IsNumberIn rows (codes "workers") 1 16 workers
+    × IsNumberIn rows (codes "sessions") 1 1000000 sessions
+    × IsNumberIn rows (codes "clients") 1 64 clients
+    × IsNumberIn rows (codes "timeout") 0 3600 timeout
+    × (clients ≡ 1 → timeout ≡ 0 → ⊥)
 
 -- they are those of a command
 abbrev pub SaysCommand : Text → List Row → Type 0
@@ -46,6 +54,9 @@ IsInRange (Run workers) = (1 ≤ workers) × (workers ≤ 16)
 IsInRange (Serve port workers sessions) =
     (1 ≤ port) × (port ≤ 65535) × (1 ≤ workers) × (workers ≤ 16) × (1 ≤ sessions)
     × (sessions ≤ 1000000)
+IsInRange (ServeClients port workers sessions clients timeout) =
+    (1 ≤ port) × (port ≤ 65535) × (1 ≤ workers) × (workers ≤ 16) × (1 ≤ sessions)
+    × (sessions ≤ 1000000) × (1 ≤ clients) × (clients ≤ 64) × (timeout ≤ 3600)
 
 -- Words that clap takes are refused for want of memory alone. Any others are refused for that, or
 -- for a fault that clap finds in them.

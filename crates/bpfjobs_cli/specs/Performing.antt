@@ -3,7 +3,7 @@ use Rattle.std.specs.Prelude.{◌≡◌, ◌≤◌, ◌<◌, ◌⊎◌, ◌-◌,
 use Rattle.streams.specs.declared.fault.StreamFault.{StreamFault}
 use Rattle.streams.specs.declared.fault.StreamFault.TheVariants.{ReadFailed, WriteFailed, NoMemory}
 use Rattle.bpfjobs_cli.specs.declared.commands.Command.{Command}
-use Rattle.bpfjobs_cli.specs.declared.commands.Command.TheVariants.{Assemble, Disassemble, Verify, Play, Run, Serve}
+use Rattle.bpfjobs_cli.specs.declared.commands.Command.TheVariants.{Assemble, Disassemble, Verify, Play, Run, Serve, ServeClients}
 use Rattle.bpfjobs_cli.specs.Jobs.{PrintsPlay}
 use Rattle.bpfjobs_cli.specs.Programs.{PrintsAssembly, PrintsListing, PrintsVerdict}
 
@@ -15,6 +15,7 @@ NeedsNoThread (Verify need) = Unit {0}
 NeedsNoThread Play = Unit {0}
 NeedsNoThread (Run workers) = ⊥
 NeedsNoThread (Serve port workers sessions) = ⊥
+NeedsNoThread (ServeClients port workers sessions clients timeout) = ⊥
 
 -- the text and the status that a command answers to its input
 abbrev pub IsAnswer : Command → List ℕ → List ℕ → ℕ → Type 0
@@ -24,6 +25,7 @@ IsAnswer (Verify need) input text status = PrintsVerdict need input text status
 IsAnswer Play input text status = PrintsPlay input text status
 IsAnswer (Run workers) input text status = ⊥
 IsAnswer (Serve port workers sessions) input text status = ⊥
+IsAnswer (ServeClients port workers sessions clients timeout) input text status = ⊥
 
 -- What is left where a command is given up by this. Where the reader failed, or there was no
 -- memory, nothing is written; where the writer failed all input was read, and of the answer a part

@@ -35,6 +35,22 @@ sessions_rule = record (new_rule (codes "sessions")) {
   parser = Some (vp.Signed (pos 1) (pos 1000000));
 }
 
+abbrev pub clients_rule : Rule
+clients_rule = record (new_rule (codes "clients")) {
+  long = Some (codes "clients");
+  value_names = 1;
+  defaults = codes "1" ∷ [];
+  parser = Some (vp.Signed (pos 1) (pos 64));
+}
+
+abbrev pub timeout_rule : Rule
+timeout_rule = record (new_rule (codes "timeout")) {
+  long = Some (codes "timeout");
+  value_names = 1;
+  defaults = codes "0" ∷ [];
+  parser = Some (vp.Signed (pos 0) (pos 3600));
+}
+
 abbrev pub verify_app : App
 verify_app = with_rule (new_app (codes "verify")) need_rule
 
@@ -42,8 +58,10 @@ abbrev pub run_app : App
 run_app = with_rule (new_app (codes "run")) workers_rule
 
 abbrev pub serve_app : App
-serve_app = with_rule (with_rule (with_rule (new_app (codes "serve")) port_rule) workers_rule)
-    sessions_rule
+serve_app =
+    with_rule (with_rule
+    (with_rule (with_rule (with_rule (new_app (codes "serve")) port_rule) workers_rule)
+    sessions_rule) clients_rule) timeout_rule
 
 -- a subcommand is required
 abbrev pub requiring : App → App

@@ -27,6 +27,15 @@ pub enum Command {
         workers: u32,
         sessions: u32,
     },
+    /// The same from 1 to 64 clients at once, with 1 to 16 threads for all jobs. A client that keeps a
+    /// read or a write waiting for so many seconds, 1 to 3600, is given up; 0: none is.
+    ServeClients {
+        port: u32,
+        workers: u32,
+        sessions: u32,
+        clients: u32,
+        timeout: u32,
+    },
 }
 
 /// Why the words are no command.

@@ -73,7 +73,9 @@ pub fn answer_to(alloc: Global, command: Command, input: &[u8]) -> Result<Answer
         Command::Disassemble => answer_disassemble(alloc, input),
         Command::Verify { need } => answer_verify(alloc, need, input),
         Command::Play => answer_play(alloc, input),
-        Command::Run { .. } | Command::Serve { .. } => unreachable!(),
+        Command::Run { .. } => unreachable!(),
+        Command::Serve { .. } => unreachable!(),
+        Command::ServeClients { .. } => unreachable!(),
     }
 }
 

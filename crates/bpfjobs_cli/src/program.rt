@@ -3,7 +3,7 @@
 ghost use Rattle.std.specs.Prelude.{◌≡◌, false, IfOk};
 ghost use Rattle.clap.specs.Words.{app_of, new_app, rule_of};
 ghost use Rattle.clap.specs.declared.builder.command.Command.TheViews.{out-Command as fields_of};
-ghost use Rattle.bpfjobs_cli.specs.Program.{need_rule, port_rule, workers_rule, sessions_rule, verify_app, run_app, serve_app, bpfjobs_app};
+ghost use Rattle.bpfjobs_cli.specs.Program.{need_rule, port_rule, workers_rule, sessions_rule, clients_rule, timeout_rule, verify_app, run_app, serve_app, bpfjobs_app};
 
 use crate::texts;
 use clap::{Arg, Command};
@@ -57,6 +57,30 @@ fn sessions<'a>(alloc: Global) -> Arg<'a>
         .default_value("1")
 }
 
+fn clients<'a>(alloc: Global) -> Arg<'a>
+    ensures rule { rule_of result ≡ clients_rule }
+    ensures local { result.global ≡ false }
+{
+    Arg::new(alloc, "clients")
+        .long("clients")
+        .value_name("COUNT")
+        .help(texts::CLIENTS)
+        .value_parser(clap::value_parser!(u32).range(1..=64))
+        .default_value("1")
+}
+
+fn timeout<'a>(alloc: Global) -> Arg<'a>
+    ensures rule { rule_of result ≡ timeout_rule }
+    ensures local { result.global ≡ false }
+{
+    Arg::new(alloc, "timeout")
+        .long("timeout")
+        .value_name("SECONDS")
+        .help(texts::TIMEOUT)
+        .value_parser(clap::value_parser!(u32).range(0..=3600))
+        .default_value("0")
+}
+
 // A command that has no argument yet.
 fn named<'a>(alloc: Global, name: &'a str, about: &'a str, more: &'a str) -> Command<'a>
     ensures app { app_of result ≡ new_app name.now }
@@ -86,7 +110,9 @@ fn serve<'a>(alloc: Global) -> Result<Command<'a>, AllocError>
     named(alloc, "serve", texts::SERVE, texts::SERVE_MORE)
         .arg(port(alloc))?
         .arg(workers(alloc))?
-        .arg(sessions(alloc))
+        .arg(sessions(alloc))?
+        .arg(clients(alloc))?
+        .arg(timeout(alloc))
 }
 
 /// The program with its commands, as clap reads them.

@@ -42,10 +42,23 @@ fn command_of(name: &str, matches: &ArgMatches<'_>) -> Command
             let port = number(matches, "port", 1, 65535);
             let workers = number(matches, "workers", 1, 16);
             let sessions = number(matches, "sessions", 1, 1000000);
-            Command::Serve {
+            let clients = number(matches, "clients", 1, 64);
+            let timeout = number(matches, "timeout", 0, 3600);
+            if clients == 1 {
+                if timeout == 0 {
+                    return Command::Serve {
+                        port,
+                        workers,
+                        sessions,
+                    };
+                }
+            }
+            Command::ServeClients {
                 port,
                 workers,
                 sessions,
+                clients,
+                timeout,
             }
         }
         _ => unreachable!(),

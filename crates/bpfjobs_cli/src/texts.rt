@@ -72,6 +72,7 @@ pub(crate) const SERVE: &str = "Answers requests over TCP on 127.0.0.1";
 
 pub(crate) const SERVE_MORE: &str =
     "Takes connections, one after the other, with one desk of accounts and jobs.
+With --clients or --timeout it serves so many at once, and starts its threads once.
 Reads no input and writes no output: clients send requests and get replies as frames.
 Status: 0 once so many connections have ended, 3 where one of them or the socket failed.
 
@@ -83,3 +84,8 @@ Example:
 pub(crate) const PORT: &str = "The port to listen on, 1 to 65535";
 
 pub(crate) const SESSIONS: &str = "Connections to take before it ends, 1 to 1000000";
+
+pub(crate) const CLIENTS: &str = "Connections to serve at once, 1 to 64";
+
+pub(crate) const TIMEOUT: &str =
+    "Seconds after which a client that sends or takes nothing is given up, 0 for never, to 3600";

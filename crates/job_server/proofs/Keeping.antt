@@ -7,7 +7,7 @@ use Rattle.std.specs.Ordering.{nat_cmp}
 use Rattle.credit_book.specs.declared.board.Progress.{Progress}
 use Rattle.job_server.specs.declared.places.Places.{Places}
 use Rattle.job_server.specs.Holding.{Held, AreKept, job_by}
-use Rattle.job_server.specs.Holds.{held_at, Sees, looks_at, TellsProgress}
+use Rattle.job_server.specs.Holds.{held_at, count_of, Sees, looks_by, TellsProgress}
 
 -- another number isn't at this place of a tree
 pub not_at : (k n : ℕ) → n ≢ k → is_at (nat_cmp k) n ≡ false
@@ -121,5 +121,5 @@ is_there keys jobs number key kept here = is_job (jobs key) number (kept number 
 
 -- what is told of a job that is held
 pub looks_held : (old : Places) (number : ℕ) (held : Held) (told : Progress) (new : Places) → held_at old number ≡ Some held → Sees old number held told new → TellsProgress old number told new
-unfolding looks_at
-looks_held old number held told new was sees = subst (λ o. looks_at old number o told new) (sym was) sees
+unfolding looks_by
+looks_held old number held told new was sees = subst (λ o. looks_by held_at count_of old number o told new) (sym was) sees

@@ -11,6 +11,61 @@ use Rattle.job_server.specs.declared.places.Places.{Places}
 use Rattle.job_server.specs.Endings.{IsEndOf}
 use Rattle.job_server.specs.Holding.{Held, IsFresh, IsSeen, job_by}
 
+-- by what is held under a number, and by how many are held
+module _ {P : Type 0} (held_by : P → ℕ → Option Held) (count_by : P → ℕ) where
+  -- under this number this is held, and under each other what was
+  pub record ChangesBy (old : P) (number : ℕ) (held : Option Held) (new : P) : Type 0 where
+    pub here : held_by new number ≡ held
+    pub others : (n : ℕ) → n ≢ number → held_by new n ≡ held_by old n
+
+  -- all are as they were
+  pub record IsUnchangedBy (old new : P) : Type 0 where
+    pub each : (n : ℕ) → held_by new n ≡ held_by old n
+    pub count : count_by new ≡ count_by old
+
+  -- one job more
+  pub record AddsBy (old : P) (number : ℕ) (job : AdmittedJob) (new : P) : Type 0 where
+    pub held : Held
+    pub was_none : held_by old number ≡ None
+    pub fresh : IsFresh number job held
+    pub changes : ChangesBy old number (Some held) new
+    pub count : count_by new ≡ count_by old + 1
+
+  -- a job is held, or the start is refused by 81 or 99
+  abbrev pub StartsBy : P → ℕ → AdmittedJob → Result (Unit {0}) ℕ → P → Type 0
+  StartsBy old number job (Ok _) new = AddsBy old number job new
+  StartsBy old number job (Err code) new = ((code ≡ 81) ⊎ (code ≡ 99)) × IsUnchangedBy old new
+
+  -- a job is seen
+  pub record SeesBy (old : P) (number : ℕ) (held : Held) (told : Progress) (new : P) : Type 0 where
+    pub later : Held
+    pub seen : IsSeen held told later
+    pub changes : ChangesBy old number (Some later) new
+    pub count : count_by new ≡ count_by old
+
+  -- what is told of what is held under the number
+  unfoldable pub looks_by : P → ℕ → Option Held → Progress → P → Type 0
+  looks_by old number (Some held) told new = SeesBy old number held told new
+  looks_by old number None told new = (told ≡ record { spent = 0; returned = 0; complete = false })
+      × IsUnchangedBy old new
+
+  abbrev pub TellsBy : P → ℕ → Progress → P → Type 0
+  TellsBy old number told new = looks_by old number (held_by old number) told new
+
+  -- one job fewer, with what it came to
+  pub record GivesBy (old : P) (number : ℕ) (outcome : Result Report ℕ) (new : P) : Type 0 where
+    pub held : Held
+    pub was : held_by old number ≡ Some held
+    pub end : IsEndOf number held.job outcome
+    pub changes : ChangesBy old number None new
+    pub count : count_by new + 1 ≡ count_by old
+
+  abbrev pub TakesBy : P → Option (ℕ × Result Report ℕ) → P → Type 0
+  TakesBy old (Some taken) new = GivesBy old taken.0 taken.1 new
+  TakesBy old None new = IsUnchangedBy old new
+
+-- ---- jobs in places of their own
+
 -- the job that is held under a number
 abbrev pub held_at : Places → ℕ → Option Held
 held_at p n = job_by (slots.get p.jobs) (tree.get nat_cmp p.keys n)
@@ -19,55 +74,14 @@ held_at p n = job_by (slots.get p.jobs) (tree.get nat_cmp p.keys n)
 abbrev pub count_of : Places → ℕ
 count_of p = btree_map_len p.keys
 
--- under this number this is held, and under each other what was
-pub record Changes (old : Places) (number : ℕ) (held : Option Held) (new : Places) : Type 0 where
-  pub here : held_at new number ≡ held
-  pub others : (n : ℕ) → n ≢ number → held_at new n ≡ held_at old n
+abbrev pub Sees : Places → ℕ → Held → Progress → Places → Type 0
+Sees old number held told new = SeesBy held_at count_of old number held told new
 
--- all are as they were
-pub record IsUnchanged (old new : Places) : Type 0 where
-  pub each : (n : ℕ) → held_at new n ≡ held_at old n
-  pub count : count_of new ≡ count_of old
-
--- one job more
-pub record Adds (old : Places) (number : ℕ) (job : AdmittedJob) (new : Places) : Type 0 where
-  pub held : Held
-  pub was_none : held_at old number ≡ None
-  pub fresh : IsFresh number job held
-  pub changes : Changes old number (Some held) new
-  pub count : count_of new ≡ count_of old + 1
-
--- a job is held, or the start is refused by 81 or 99
 abbrev pub Starts : Places → ℕ → AdmittedJob → Result (Unit {0}) ℕ → Places → Type 0
-Starts old number job (Ok _) new = Adds old number job new
-Starts old number job (Err code) new = ((code ≡ 81) ⊎ (code ≡ 99)) × IsUnchanged old new
-
--- a job is seen
-pub record Sees (old : Places) (number : ℕ) (held : Held) (told : Progress) (new : Places) :
-    Type 0 where
-  pub later : Held
-  pub seen : IsSeen held told later
-  pub changes : Changes old number (Some later) new
-  pub count : count_of new ≡ count_of old
-
--- what is told of what is held under the number
-unfoldable pub looks_at : Places → ℕ → Option Held → Progress → Places → Type 0
-looks_at old number (Some held) told new = Sees old number held told new
-looks_at old number None told new = (told ≡ record { spent = 0; returned = 0; complete = false })
-    × IsUnchanged old new
+Starts old number job result new = StartsBy held_at count_of old number job result new
 
 abbrev pub TellsProgress : Places → ℕ → Progress → Places → Type 0
-TellsProgress old number told new = looks_at old number (held_at old number) told new
-
--- one job fewer, with what it came to
-pub record Gives (old : Places) (number : ℕ) (outcome : Result Report ℕ) (new : Places) :
-    Type 0 where
-  pub held : Held
-  pub was : held_at old number ≡ Some held
-  pub end : IsEndOf number held.job outcome
-  pub changes : Changes old number None new
-  pub count : count_of new + 1 ≡ count_of old
+TellsProgress old number told new = TellsBy held_at count_of old number told new
 
 abbrev pub TakesReport : Places → Option (ℕ × Result Report ℕ) → Places → Type 0
-TakesReport old (Some taken) new = Gives old taken.0 taken.1 new
-TakesReport old None new = IsUnchanged old new
+TakesReport old taken new = TakesBy held_at count_of old taken new

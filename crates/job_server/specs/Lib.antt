@@ -1,6 +1,9 @@
 pub mod Endings
 pub mod Holding
 pub mod Holds
+pub mod Started
+pub mod JobRule
+pub mod AtOnce
 pub mod Starting
 pub mod Addresses
 pub mod Passages

@@ -8,7 +8,7 @@ use Rattle.workers.specs.Final.{IsFinal}
 use Rattle.workers.specs.Noted.{EndedAlone}
 use Rattle.workers.specs.PoolFaultCodes.{number_of}
 use Rattle.bpfjobs_cli.specs.declared.commands.Command.{Command}
-use Rattle.bpfjobs_cli.specs.declared.commands.Command.TheVariants.{Assemble, Disassemble, Verify, Play, Run, Serve}
+use Rattle.bpfjobs_cli.specs.declared.commands.Command.TheVariants.{Assemble, Disassemble, Verify, Play, Run, Serve, ServeClients}
 use Rattle.bpfjobs_cli.specs.declared.declined.Declined.{Declined}
 use Rattle.bpfjobs_cli.specs.Jobs.{IsDeclined, IsOrdered, PrintsPlay, declined_line}
 use Rattle.bpfjobs_cli.specs.Printed.{Prints, refusal_reply, reply_line}
@@ -38,6 +38,7 @@ IsOver (Verify need) = Unit {0}
 IsOver Play = Unit {0}
 IsOver (Run workers) = (1 ≤ workers) × (workers ≤ 16)
 IsOver (Serve port workers sessions) = ⊥
+IsOver (ServeClients port workers sessions clients timeout) = ⊥
 
 -- the text and the status that a command answers to its input
 abbrev pub IsPoolAnswer : Command → List ℕ → List ℕ → ℕ → Type 0
@@ -47,3 +48,4 @@ IsPoolAnswer (Verify need) input text status = PrintsVerdict need input text sta
 IsPoolAnswer Play input text status = PrintsPlay input text status
 IsPoolAnswer (Run workers) input text status = PrintsRun input text status
 IsPoolAnswer (Serve port workers sessions) input text status = ⊥
+IsPoolAnswer (ServeClients port workers sessions clients timeout) input text status = ⊥

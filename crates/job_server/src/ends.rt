@@ -30,6 +30,7 @@ fn answer_of<T: Threads + Wait + Sync>(
         Command::Verify { need } => answer_to(alloc, Command::Verify { need }, input),
         Command::Play => answer_to(alloc, Command::Play, input),
         Command::Serve { .. } => unreachable!(),
+        Command::ServeClients { .. } => unreachable!(),
     }
 }
 

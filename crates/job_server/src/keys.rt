@@ -1,4 +1,4 @@
-//! The places of jobs, by number.
+//! What jobs have, by number.
 
 ghost use Rattle.std.specs.Prelude.{◌≡◌, ◌≢◌, ◌+◌, ℕ, None, Some, OnOk, OnErr};
 ghost use Rattle.std.specs.BTreeMap as tree;
@@ -14,28 +14,33 @@ pub(crate) fn key_of(keys: &BTreeMap<u64, usize>, number: u64) -> Option<usize>
     keys.get(&number).copied()
 }
 
-/// Notes the key of a number that has none.
-pub(crate) fn note(keys: &mut BTreeMap<u64, usize>, number: u64, key: usize) -> Result<(), NoMemory>
-    requires { tree.get nat_cmp keys.old number ≡ None }
-    ensures here { OnOk result (tree.get nat_cmp keys.new number ≡ Some key) }
+/// Notes a value under a number that has none.
+pub(crate) fn note<V: Drop>(
+    values: &mut BTreeMap<u64, V>,
+    number: u64,
+    value: V,
+) -> Result<(), NoMemory>
+    requires { tree.get nat_cmp values.old number ≡ None }
+    ensures here { OnOk result (tree.get nat_cmp values.new number ≡ Some value) }
     ensures others { OnOk result ((n : ℕ) → n ≢ number
-        → tree.get nat_cmp keys.new n ≡ tree.get nat_cmp keys.old n) }
-    ensures count { OnOk result (tree.btree_map_len keys.new ≡ tree.btree_map_len keys.old + 1) }
-    ensures same { OnErr result (keys.new.entries ≡ keys.old.entries) }
+        → tree.get nat_cmp values.new n ≡ tree.get nat_cmp values.old n) }
+    ensures count { OnOk result (tree.btree_map_len values.new
+        ≡ tree.btree_map_len values.old + 1) }
+    ensures same { OnErr result (values.new.entries ≡ values.old.entries) }
 {
-    match keys.insert(number, key) {
+    match values.insert(number, value) {
         Ok(_) => Ok(()),
         Err(_) => Err(NoMemory),
     }
 }
 
-/// Forgets the key of a number that has one.
-pub(crate) fn forget(keys: &mut BTreeMap<u64, usize>, number: u64)
-    requires { (key : ℕ) × (tree.get nat_cmp keys.old number ≡ Some key) }
-    ensures gone { tree.get nat_cmp keys.new number ≡ None }
+/// Forgets the value of a number that has one.
+pub(crate) fn forget<V: Drop>(values: &mut BTreeMap<u64, V>, number: u64)
+    requires { (value : V) × (tree.get nat_cmp values.old number ≡ Some value) }
+    ensures gone { tree.get nat_cmp values.new number ≡ None }
     ensures others { (n : ℕ) → n ≢ number
-        → tree.get nat_cmp keys.new n ≡ tree.get nat_cmp keys.old n }
-    ensures count { tree.btree_map_len keys.new + 1 ≡ tree.btree_map_len keys.old }
+        → tree.get nat_cmp values.new n ≡ tree.get nat_cmp values.old n }
+    ensures count { tree.btree_map_len values.new + 1 ≡ tree.btree_map_len values.old }
 {
-    keys.remove(&number);
+    values.remove(&number);
 }

@@ -25,6 +25,19 @@ mod pool;
 
 pub use pool::PoolRunner;
 
+// a pool that lasts: which job was started under a number, and the workers
+mod job_register;
+mod job_seats;
+mod lasting_pool;
+mod pool_threads;
+mod queued_job;
+mod watched;
+
+pub use job_register::{JobRegister, JobSeat, Keeper, NewRegister};
+pub use job_seats::{JobView, RegisterId, StartedJob};
+pub use lasting_pool::LastingPool;
+pub use queued_job::{EndedJob, QueuedJob};
+
 // streams over TCP, on this machine alone
 mod address;
 mod connections;
@@ -37,6 +50,16 @@ pub use connections::serve_connections;
 pub use fault::{ServeFault, status_of};
 pub use listener::Listener;
 pub use server::{serve, serve_on};
+
+// many connections at once
+mod at_once;
+mod entrance;
+mod serving_clients;
+mod timed_listener;
+
+pub use at_once::serve_at_once;
+pub use serving_clients::{serve_clients, serve_clients_on};
+pub use timed_listener::TimedListener;
 
 // the commands of `bpfjobs`, with the one that runs a job on threads
 mod ends;

@@ -111,7 +111,7 @@ impl Places {
     }
 
     /// What the board of the job tells now; 0, 0 and not complete where the job isn't held.
-    #[tactic(auto, unfolding(crate::specs::Holds::looks_at))]
+    #[tactic(auto, unfolding(crate::specs::Holds::looks_by))]
     pub fn look(&mut self, number: u64) -> Progress
         ensures { TellsProgress self.old number result self.new }
     {

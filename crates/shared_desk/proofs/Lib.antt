@@ -1,4 +1,5 @@
 pub mod Parts
+pub mod Closing
 pub mod Steps
 pub mod OneAnswer
 pub mod WholeStream

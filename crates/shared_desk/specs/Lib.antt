@@ -3,4 +3,5 @@ pub mod ClientViews
 pub mod Rule
 pub mod Answered
 pub mod Parts
+pub mod Closed
 pub mod Together

@@ -6,7 +6,9 @@ use lib.ListN.{get_elem?}
 use Rattle.atomic_table.specs.Table.{Me, Step}
 use Rattle.atomic_table.specs.Seated.{TableId}
 use Rattle.shared_desk.specs.declared.seats.View.{View}
+use Rattle.shared_desk.specs.declared.closed.ClosedConnection.{ClosedConnection}
 use Rattle.shared_desk.specs.Histories.{Entry, part_of}
+use Rattle.shared_desk.specs.Closed.{AreClosed, is_among}
 
 -- the name of no table
 abbrev pub no_table : TableId
@@ -33,11 +35,13 @@ nobody = record {
   opened = 0;
   is_recorder = false;
   history = [];
+  closed = [];
 }
 
--- the recorder, who knows the whole history
-abbrev pub recorder : List Entry → View
-recorder history = record nobody { is_recorder = true; history = history }
+-- the recorder, who knows the whole history, and which connections are over
+abbrev pub recorder : List Entry → List ClosedConnection → View
+recorder history closed =
+    record nobody { is_recorder = true; history = history; closed = closed }
 
 -- the opener, who knows how many connections were opened
 abbrev pub opener : ℕ → View
@@ -53,13 +57,15 @@ client n seen part = record nobody { is_client = true; number = n; seen = seen; 
 
 -- a seat that becomes the recorder, or is it no more
 abbrev pub with_recorder : View → View → View
-with_recorder v w = record v { is_recorder = w.is_recorder; history = w.history }
+with_recorder v w =
+    record v { is_recorder = w.is_recorder; history = w.history; closed = w.closed }
 
 abbrev pub without_recorder : View → View
-without_recorder v = record v { is_recorder = false; history = [] }
+without_recorder v = record v { is_recorder = false; history = []; closed = [] }
 
 abbrev pub only_recorder : View → View
-only_recorder v = record nobody { is_recorder = v.is_recorder; history = v.history }
+only_recorder v =
+    record nobody { is_recorder = v.is_recorder; history = v.history; closed = v.closed }
 
 -- the opener has opened one more, which has seen nothing
 abbrev pub one_more_opened : View → View
@@ -72,23 +78,27 @@ newcomer v = client v.opened [] []
 
 -- what the view at a seat says is so
 pub record Fits (recorder_at opener_at : ℕ) (seat_of : ℕ → ℕ) (opened : ℕ) (history : List Entry)
-    (seat : ℕ) (v : View) : Type 0 where
+    (closed : List ClosedConnection) (seat : ℕ) (v : View) : Type 0 where
   pub recording : v.is_recorder ≡ true → (seat ≡ recorder_at) × (v.history ≡ history)
+      × (v.closed ≡ closed)
   pub opening : v.is_opener ≡ true → (seat ≡ opener_at) × (v.opened ≡ opened)
   pub serving : v.is_client ≡ true → (seat ≡ seat_of v.number) × (v.number < opened)
       × (part_of v.number history ≡ v.part) × IsPrefix v.seen history
+      × (is_among v.number closed ≡ false)
 
 -- There is one history. One seat knows it whole, and one knows how many connections were opened.
--- Each connection has one seat, which knows its part of the history. A connection that was not
--- opened has no part.
+-- Each connection that isn't over has one seat, which knows its part of the history. One that is
+-- over has no seat, and its part is known. A connection that was not opened has no part.
 pub record IsShared (views : List View) : Type 0 where
   pub recorder_at : ℕ
   pub opener_at : ℕ
   pub seat_of : ℕ → ℕ
   pub opened : ℕ
   pub history : List Entry
+  pub closed : List ClosedConnection
   pub each : (seat : ℕ) (v : View) → get_elem? views seat ≡ some v
-      → Fits recorder_at opener_at seat_of opened history seat v
+      → Fits recorder_at opener_at seat_of opened history closed seat v
+  pub ended : AreClosed opened history closed
   pub others : (n : ℕ) → opened ≤ n → part_of n history ≡ []
 
 -- ---- the steps
@@ -100,7 +110,7 @@ AddsEntry allows s v found w =
     × (part_of v.0.number (v.0.history ++ e ∷ []) ≡ v.0.part ++ e ∷ [])
     × (w ≡ (
       with_recorder (client v.0.number (v.0.history ++ e ∷ []) (v.0.part ++ e ∷ []))
-          (recorder (v.0.history ++ e ∷ [])),
+          (recorder (v.0.history ++ e ∷ []) v.0.closed),
       v.1,
     ))
 
@@ -108,13 +118,25 @@ AddsEntry allows s v found w =
 abbrev pub SeesAll : {S : Type 0} → Step S → Me S View → ℕ → Me S View → Type 0
 SeesAll s v found w =
     IsPrefix v.0.seen v.0.history × (part_of v.0.number v.0.history ≡ v.0.part)
-    × (w ≡ (with_recorder (client v.0.number v.0.history v.0.part) (recorder v.0.history), v.1))
+    × (w ≡ (
+      with_recorder (client v.0.number v.0.history v.0.part) (recorder v.0.history v.0.closed),
+      v.1,
+    ))
 
 -- a connection, as the recorder, compares its part with the whole history
 abbrev pub KnowsItsPart : {S : Type 0} → Step S → Me S View → ℕ → Me S View → Type 0
 KnowsItsPart s v found w = (w ≡ v) × (part_of v.0.number v.0.history ≡ v.0.part)
 
--- the opener, as the recorder, sees that a connection that was not opened has no part
+-- a connection, as the recorder, is over, and has no seat from then on
+abbrev pub ClosesItself : {S : Type 0} → (ClosedConnection → Type 0) → Step S → Me S View → ℕ
+    → Me S View → Type 0
+ClosesItself allows s v found w =
+    (c : ClosedConnection) × allows c × (c.connection ≡ v.0.number) × (c.part ≡ v.0.part)
+    × (w ≡ (recorder v.0.history (c ∷ v.0.closed), v.1))
+
+-- the opener, as the recorder, sees that a connection that was not opened has no part, and that
+-- those that are over were opened and have their parts
 abbrev pub KnowsTheCount : {S : Type 0} → Step S → Me S View → ℕ → Me S View → Type 0
 KnowsTheCount s v found w =
     (w ≡ v) × ((n : ℕ) → v.0.opened ≤ n → part_of n v.0.history ≡ [])
+    × AreClosed v.0.opened v.0.history v.0.closed

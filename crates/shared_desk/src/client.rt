@@ -1,6 +1,6 @@
 //! One connection's way to the desk that all share.
 
-ghost use Rattle.std.specs.Prelude.{◌≡◌, false};
+ghost use Rattle.std.specs.Prelude.{◌≡◌, [], false};
 ghost use Rattle.shared_desk.specs.Histories.{Replays, part_of};
 ghost use Rattle.shared_desk.specs.Parts.{IsServedClient};
 
@@ -125,4 +125,25 @@ pub fn serve_client<S: Source, W: Sink, R: Wait, D, H: Handler<D>, J: Origin<D, 
     let served = serve_stream(alloc, reader, writer, &mut (), client);
     let _ = &client.seat; // for the proof
     served
+}
+
+/// Serves a connection that was opened, of which nothing came and nothing was written yet, and
+/// closes it: the history then has its part, and what went through its ends.
+pub fn serve_opened<S: Source, W: Sink, R: Wait, D, H: Handler<D>, J: Origin<D, H>>(
+    rt: &R,
+    alloc: Global,
+    history: &SharedHistory<J>,
+    lock: &Mutex<SharedDesk<D, H, J>>,
+    seat: ClientSeat<J>,
+    reader: &mut S,
+    writer: &mut W,
+)
+    requires source { (S.has_failed reader.old ≡ false) × (S.transcript reader.old ≡ []) }
+    requires sink { (W.has_failed writer.old ≡ false) × (W.transcript writer.old ≡ []) }
+    requires fresh { seat.part ≡ [] }
+{
+    let mut client = Client::new(rt, history, lock, seat);
+    let outcome = serve_client(alloc, reader, writer, &mut client);
+    let seat = client.into_seat();
+    lock.lock(rt).close(history, seat, reader, writer, &outcome);
 }

@@ -1,10 +1,11 @@
 //! What lies under the lock.
 
-ghost use Rattle.std.specs.Prelude.{◌≡◌, ◌≤◌, [], ℕ, List, IfOk, OnErr};
+ghost use Rattle.std.specs.Prelude.{◌≡◌, ◌≤◌, ◌-◌, ◌^◌, [], ◌∷◌, ℕ, List, All, Ok, length, min, IfOk, OnErr};
 ghost use mathlib.Core.List.{IsPrefix};
 ghost use Rattle.streams.specs.Hearing.{query_of};
 ghost use Rattle.shared_desk.specs.Histories.{Replays, part_of};
 ghost use Rattle.shared_desk.specs.Answered.{IsSharedAnswer};
+ghost use Rattle.shared_desk.specs.Closed as closed;
 
 use crate::seats::Origin;
 use crate::shared_history::{ClientSeat, Opener, Recorder, SharedHistory};
@@ -13,27 +14,50 @@ use sessions::Request;
 use std::alloc::Global;
 use std::marker::{Brand, Model};
 use std::snapshot::Snapshot;
-use streams::Handler;
+use streams::{Handler, Sink, Source, StreamFault};
 
-/// A desk and its handler, with the history that leads to them. Contracts see it as the two and the
-/// history.
+/// A desk and its handler, with the history that leads to them, and the connections that are over.
+/// Contracts see it as the two, the history, and these connections, of which the last one stands
+/// first.
 #[derive(Drop)]
 pub struct SharedDesk<D, H: Handler<D>, J: Origin<D, H>> {
     desk: D,
     handler: H,
     recorder: Recorder<J>,
+    over: u64,
+    outcome: Result<(), StreamFault>,
 }
 
 impl<D, H: Handler<D>, J: Origin<D, H>> Model for SharedDesk<D, H, J> {
-    ghost use Rattle.std.specs.Prelude.{List};
+    ghost use Rattle.std.specs.Prelude.{◌≡◌, ◌-◌, ◌^◌, List, All, length, min};
+    ghost use Rattle.shared_desk.specs.declared.closed.ClosedConnection.{ClosedConnection};
+    ghost use Rattle.shared_desk.specs.Closed.{IsServedWhole, first_fault};
     ghost use Rattle.shared_desk.specs.Histories.{Entry, Replays};
 
-    ghost Value = { (D × H) × List Entry };
+    ghost Value = { (D × H) × List Entry × List ClosedConnection };
 
-    ghost view = { λ s. ((s.desk, s.handler), s.recorder) };
+    ghost view = { λ s. ((s.desk, s.handler), s.recorder.0, s.recorder.1) };
 
     ghost invariant = { λ s. H.ready s.handler
-        × Replays H.answers J.begins s.recorder (s.desk, s.handler) };
+        × Replays H.answers J.begins s.recorder.0 (s.desk, s.handler)
+        × All IsServedWhole s.recorder.1 × (s.over ≡ min (length s.recorder.1) (2 ^ 64 - 1))
+        × (s.outcome ≡ first_fault s.recorder.1) };
+}
+
+// The fault that was there first.
+fn earlier_fault(
+    earlier: Result<(), StreamFault>,
+    later: &Result<u64, StreamFault>,
+) -> Result<(), StreamFault>
+    ensures { result ≡ closed.earlier_fault earlier later.now }
+{
+    match earlier {
+        Err(fault) => Err(fault),
+        Ok(()) => match later {
+            Ok(_) => Ok(()),
+            Err(fault) => Err(*fault),
+        },
+    }
 }
 
 impl<D, H: Handler<D>, J: Origin<D, H>> SharedDesk<D, H, J> {
@@ -41,13 +65,15 @@ impl<D, H: Handler<D>, J: Origin<D, H>> SharedDesk<D, H, J> {
     pub fn new(desk: D, handler: H, recorder: Recorder<J>) -> SharedDesk<D, H, J>
         requires ready { H.ready handler }
         requires begins { J.begins (desk, handler) }
-        requires empty { recorder ≡ [] }
-        ensures { (result.0 ≡ (desk, handler)) × (result.1 ≡ recorder) }
+        requires empty { recorder ≡ ([], []) }
+        ensures { (result.0 ≡ (desk, handler)) × (result.1 ≡ []) × (result.2 ≡ []) }
     {
         SharedDesk {
             desk,
             handler,
             recorder,
+            over: 0,
+            outcome: Ok(()),
         }
     }
 
@@ -79,6 +105,7 @@ impl<D, H: Handler<D>, J: Origin<D, H>> SharedDesk<D, H, J> {
             × H.answers self.old.0 (query_of request) reply self.new.0
             × IsSharedAnswer H.answers J.begins seat.old (query_of request) reply seat.new) }
         ensures history { self.new.1 ≡ seat.new.seen }
+        ensures over { self.new.2 ≡ self.old.2 }
     {
         let asked = Snapshot::of(&request);
         let desk_before = Snapshot::of(&self.desk);
@@ -97,6 +124,40 @@ impl<D, H: Handler<D>, J: Origin<D, H>> SharedDesk<D, H, J> {
         reply
     }
 
+    /// A connection is over: its seat, its two ends, and how its stream ended.
+    pub fn close<S: Source, W: Sink>(
+        &mut self,
+        history: &SharedHistory<J>,
+        seat: ClientSeat<J>,
+        reader: &S,
+        writer: &W,
+        outcome: &Result<u64, StreamFault>,
+    )
+        requires served { closed.IsServedWhole (closed.closed_of S.transcript S.is_over S.has_failed
+            W.transcript W.has_failed seat reader.now writer.now outcome.now) }
+        ensures same { (self.new.0 ≡ self.old.0) × (self.new.1 ≡ self.old.1) }
+        ensures over { self.new.2 ≡ closed.closed_of S.transcript S.is_over S.has_failed
+            W.transcript W.has_failed seat reader.now writer.now outcome.now ∷ self.old.2 }
+    {
+        history.close::<Brand, S, W>(seat, &mut self.recorder, reader, writer, outcome);
+        self.outcome = earlier_fault(self.outcome, outcome);
+        self.over = self.over.saturating_add(1);
+    }
+
+    /// How many connections are over; it stays at `2^64 - 1`.
+    pub fn over(&self) -> u64
+        ensures { result ≡ min (length self.now.2) (2 ^ 64 - 1) }
+    {
+        self.over
+    }
+
+    /// The first fault by which a connection was given up.
+    pub fn outcome(&self) -> Result<(), StreamFault>
+        ensures { result ≡ closed.first_fault self.now.2 }
+    {
+        self.outcome
+    }
+
     /// What a connection knows is its part of the whole history.
     pub fn compare(&mut self, history: &SharedHistory<J>, seat: &mut ClientSeat<J>)
         ensures same { (seat.new ≡ seat.old) × (self.new ≡ self.old) }
@@ -105,17 +166,21 @@ impl<D, H: Handler<D>, J: Origin<D, H>> SharedDesk<D, H, J> {
         history.compare(seat, &mut self.recorder);
     }
 
-    /// The history has no part of a connection that was not opened.
+    /// The history has no part of a connection that was not opened. Those that are over were opened,
+    /// each of them is there once, and each has its part of the history.
     pub fn count(&mut self, history: &SharedHistory<J>, opener: &mut Opener<J>)
         ensures same { (self.new ≡ self.old) × (opener.new ≡ opener.old) }
         ensures others { (n : ℕ) → opener.old ≤ n → part_of n self.old.1 ≡ [] }
+        ensures over { closed.AreClosed opener.old self.old.1 self.old.2 }
     {
         history.count(opener, &mut self.recorder);
     }
 
-    // for the proof
-    pub(crate) fn is_legal(&self)
-        ensures { Replays H.answers J.begins self.now.1 self.now.0 }
+    /// The history is legal, and leads to the desk and the handler. Each connection that is over was
+    /// served by its part. (For proofs alone.)
+    pub fn is_legal(&self)
+        ensures legal { Replays H.answers J.begins self.now.1 self.now.0 }
+        ensures served { All closed.IsServedWhole self.now.2 }
     {
         let _ = &self.desk;
     }
@@ -126,11 +191,7 @@ impl<D, H: Handler<D>, J: Origin<D, H>> SharedDesk<D, H, J> {
         ensures ready { H.ready result.1 }
         ensures legal { Replays H.answers J.begins self.1 (result.0, result.1) }
     {
-        let SharedDesk {
-            desk,
-            handler,
-            recorder: _,
-        } = self;
+        let SharedDesk { desk, handler, .. } = self;
         (desk, handler)
     }
 }

@@ -6,17 +6,19 @@
 #![tactic(auto)]
 
 // the history, and what each seat knows of it
+mod closed;
 mod seats;
 mod shared_history;
 
-pub use seats::{EntryRule, HistoryId, LogEntry, Origin};
+pub use closed::ClosedConnection;
+pub use seats::{ClosingRule, EntryRule, HistoryId, LogEntry, Origin};
 pub use shared_history::{ClientSeat, NewHistory, Opener, Recorder, SharedHistory};
 
 // what lies under the lock, and one connection's way to it
 mod client;
 mod desk;
 
-pub use client::{Client, serve_client};
+pub use client::{Client, serve_client, serve_opened};
 pub use desk::SharedDesk;
 
 // many connections at once

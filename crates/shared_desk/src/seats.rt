@@ -1,5 +1,6 @@
 //! What each seat knows of the history, and the kinds of step.
 
+use crate::closed::ClosedConnection;
 use atomic_table::{Join, Play, Split, TableRule};
 use sessions::Request;
 use std::collections::LinkedList;
@@ -28,8 +29,9 @@ impl Model for LogEntry {
 /// What a seat knows. No value of it is made.
 ///
 /// The seat of a connection knows a beginning of the history, and the connection's part of it. The
-/// recorder knows the whole history, and the opener how many connections were opened. For the time
-/// of a step the seat of a connection or of the opener is the recorder too.
+/// recorder knows the whole history and which connections are over, and the opener how many
+/// connections were opened. For the time of a step the seat of a connection or of the opener is the
+/// recorder too.
 pub struct View {
     pub is_client: bool,
     pub number: u64,
@@ -39,6 +41,7 @@ pub struct View {
     pub opened: u64,
     pub is_recorder: bool,
     pub history: LinkedList<LogEntry>,
+    pub closed: LinkedList<ClosedConnection>,
 }
 
 /// Names one history, by its table. Each call of a program picks it.
@@ -138,6 +141,28 @@ impl<E: EntryRule> Play<(), View> for Adds<E> {
     ghost use Rattle.shared_desk.specs.Rule.{AddsEntry};
 
     ghost then = { AddsEntry E.allows };
+}
+
+/// Says which connection a step may close. Each call picks it.
+pub trait ClosingRule {
+    ghost use Rattle.shared_desk.specs.declared.closed.ClosedConnection.{ClosedConnection};
+
+    ghost closes: { ClosedConnection → Type 0 };
+}
+
+impl ClosingRule for Brand {
+    ghost closes = { λ _. Unit {0} };
+}
+
+/// A connection is over.
+pub struct Closes<E: ClosingRule> {
+    of: PhantomData<E>,
+}
+
+impl<E: ClosingRule> Play<(), View> for Closes<E> {
+    ghost use Rattle.shared_desk.specs.Rule.{ClosesItself};
+
+    ghost then = { ClosesItself E.closes };
 }
 
 /// A connection sees the whole history.

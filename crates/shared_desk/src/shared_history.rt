@@ -3,10 +3,12 @@
 ghost use Rattle.std.specs.Prelude.{◌≡◌, ◌+◌, ◌≤◌, [], ◌∷◌, ◌++◌, ℕ};
 ghost use mathlib.Core.List.{IsPrefix};
 ghost use Rattle.shared_desk.specs.Histories.{Entry, part_of};
+ghost use Rattle.shared_desk.specs.Closed.{AreClosed};
+ghost use Rattle.shared_desk.specs.declared.closed.ClosedConnection.{ClosedConnection};
 
 use crate::seats::{
-    Adds, Compares, Counts, EntryRule, HistoryId, LeavesRecorder, Looks, Opens, Ruled, Spares,
-    TakesRecorder, View,
+    Adds, Closes, ClosingRule, Compares, Counts, EntryRule, HistoryId, LeavesRecorder, Looks,
+    Opens, Ruled, Spares, TakesRecorder, View,
 };
 use atomic_table::{Seat, Table};
 use refusal::NoMemory;
@@ -15,6 +17,7 @@ use std::alloc::Global;
 use std::marker::{Model, PhantomData};
 use std::mem;
 use std::snapshot::Snapshot;
+use streams::StreamFault;
 
 /// An empty history that has no name yet, with its first seat.
 #[derive(Drop)]
@@ -78,7 +81,8 @@ impl<J: HistoryId> Model for ClientSeat<J> {
         × (c.seat.me ≡ (client c.seat.me.0.number c.seat.me.0.seen c.seat.me.0.part, [])) };
 }
 
-/// Knows the whole history, and alone adds to it. Contracts see it as the history.
+/// Knows the whole history, and alone adds to it. Contracts see it as the history and the
+/// connections that are over.
 #[derive(Drop)]
 pub struct Recorder<J: HistoryId> {
     seat: Seat<(), View>,
@@ -89,13 +93,14 @@ impl<J: HistoryId> Model for Recorder<J> {
     ghost use Rattle.std.specs.Prelude.{◌≡◌, [], List};
     ghost use Rattle.shared_desk.specs.Rule.{recorder};
     ghost use Rattle.shared_desk.specs.Histories.{Entry};
+    ghost use Rattle.shared_desk.specs.declared.closed.ClosedConnection.{ClosedConnection};
 
-    ghost Value = { List Entry };
+    ghost Value = { List Entry × List ClosedConnection };
 
-    ghost view = { λ r. r.seat.me.0.history };
+    ghost view = { λ r. (r.seat.me.0.history, r.seat.me.0.closed) };
 
     ghost invariant = { λ r. (r.seat.table_id ≡ J.table)
-        × (r.seat.me ≡ (recorder r.seat.me.0.history, [])) };
+        × (r.seat.me ≡ (recorder r.seat.me.0.history r.seat.me.0.closed, [])) };
 }
 
 /// Opens connections, and knows how many it has opened. Contracts see it as that number.
@@ -129,7 +134,7 @@ impl NewHistory {
     /// The history under a name, its recorder and its opener.
     pub fn named<J: HistoryId>(self) -> (SharedHistory<J>, Recorder<J>, Opener<J>)
         requires { self ≡ J.table }
-        ensures { (result.1 ≡ []) × (result.2 ≡ 0) }
+        ensures { (result.1 ≡ ([], [])) × (result.2 ≡ 0) }
     {
         let NewHistory { table, mut seat } = self;
         let recording = table.shared.split_seat::<LeavesRecorder>(&mut seat);
@@ -177,11 +182,12 @@ impl<J: HistoryId> SharedHistory<J> {
     )
         requires { (e : Entry) × E.allows e × (e.connection ≡ seat.old.number) }
         ensures { (e : Entry) × E.allows e × (e.connection ≡ seat.old.number)
-            × IsPrefix seat.old.seen recorder.old
-            × (recorder.new ≡ recorder.old ++ e ∷ []) × (seat.new.number ≡ seat.old.number)
-            × (seat.new.seen ≡ recorder.old ++ e ∷ [])
+            × IsPrefix seat.old.seen recorder.old.0
+            × (recorder.new ≡ (recorder.old.0 ++ e ∷ [], recorder.old.1))
+            × (seat.new.number ≡ seat.old.number)
+            × (seat.new.seen ≡ recorder.old.0 ++ e ∷ [])
             × (seat.new.part ≡ seat.old.part ++ e ∷ [])
-            × (part_of seat.old.number (recorder.old ++ e ∷ []) ≡ seat.old.part ++ e ∷ []) }
+            × (part_of seat.old.number (recorder.old.0 ++ e ∷ []) ≡ seat.old.part ++ e ∷ []) }
     {
         let _ = request;
         let _ = desk_before;
@@ -205,10 +211,10 @@ impl<J: HistoryId> SharedHistory<J> {
     /// A connection sees the whole history, of which it knows its part.
     pub fn look(&self, seat: &mut ClientSeat<J>, recorder: &mut Recorder<J>)
         ensures same { recorder.new ≡ recorder.old }
-        ensures seat { (seat.new.number ≡ seat.old.number) × (seat.new.seen ≡ recorder.old)
+        ensures seat { (seat.new.number ≡ seat.old.number) × (seat.new.seen ≡ recorder.old.0)
             × (seat.new.part ≡ seat.old.part) }
-        ensures own { part_of seat.old.number recorder.old ≡ seat.old.part }
-        ensures later { IsPrefix seat.old.seen recorder.old }
+        ensures own { part_of seat.old.number recorder.old.0 ≡ seat.old.part }
+        ensures later { IsPrefix seat.old.seen recorder.old.0 }
     {
         let spare = self.table.shared.split_seat::<Spares>(&mut seat.seat);
         let held = mem::replace(&mut recorder.seat, spare);
@@ -226,7 +232,7 @@ impl<J: HistoryId> SharedHistory<J> {
     /// What a connection knows is its part of the whole history.
     pub fn compare(&self, seat: &mut ClientSeat<J>, recorder: &mut Recorder<J>)
         ensures same { (seat.new ≡ seat.old) × (recorder.new ≡ recorder.old) }
-        ensures own { part_of seat.old.number recorder.old ≡ seat.old.part }
+        ensures own { part_of seat.old.number recorder.old.0 ≡ seat.old.part }
     {
         let spare = self.table.shared.split_seat::<Spares>(&mut seat.seat);
         let held = mem::replace(&mut recorder.seat, spare);
@@ -241,10 +247,41 @@ impl<J: HistoryId> SharedHistory<J> {
         recorder.seat = left;
     }
 
-    /// The history has no part of a connection that was not opened.
+    /// A connection is over. The last arguments are for the proof of the caller alone, which says by
+    /// them what went through its ends.
+    pub fn close<E: ClosingRule, S, W>(
+        &self,
+        seat: ClientSeat<J>,
+        recorder: &mut Recorder<J>,
+        reader: &S,
+        writer: &W,
+        outcome: &Result<u64, StreamFault>,
+    )
+        requires { (c : ClosedConnection) × E.closes c × (c.connection ≡ seat.number)
+            × (c.part ≡ seat.part) }
+        ensures { (c : ClosedConnection) × E.closes c
+            × (recorder.new ≡ (recorder.old.0, c ∷ recorder.old.1)) }
+    {
+        let _ = reader;
+        let _ = writer;
+        let _ = outcome;
+        let ClientSeat { mut seat, of: _ } = seat;
+        let spare = self.table.shared.split_seat::<Spares>(&mut seat);
+        let held = mem::replace(&mut recorder.seat, spare);
+        self.table
+            .shared
+            .join_seat::<TakesRecorder>(&mut seat, held);
+        self.table.shared.load::<Closes<E>>(&mut seat, 0);
+        let left = self.table.shared.split_seat::<LeavesRecorder>(&mut seat);
+        recorder.seat = left;
+    }
+
+    /// The history has no part of a connection that was not opened. Those that are over were opened,
+    /// and have their parts.
     pub fn count(&self, opener: &mut Opener<J>, recorder: &mut Recorder<J>)
         ensures same { (opener.new ≡ opener.old) × (recorder.new ≡ recorder.old) }
-        ensures others { (n : ℕ) → opener.old ≤ n → part_of n recorder.old ≡ [] }
+        ensures others { (n : ℕ) → opener.old ≤ n → part_of n recorder.old.0 ≡ [] }
+        ensures closed { AreClosed opener.old recorder.old.0 recorder.old.1 }
     {
         let spare = self.table.shared.split_seat::<Spares>(&mut opener.seat);
         let held = mem::replace(&mut recorder.seat, spare);

@@ -23,7 +23,7 @@ mod pool;
 mod watch;
 mod worker;
 
-pub use pool::run_job;
+pub use pool::{run_here, run_job};
 
 // the deque of one worker, for whoever runs tasks in threads of their own
 pub use lanes::{Lane, Owning, Pass, Stealing, Stolen, Thief, lane};

@@ -188,6 +188,31 @@ fn run_in_threads<R: Threads + Wait + Sync, G: Gate + Sync>(
     Ok(gather(alloc, shared, &lists)?)
 }
 
+/// The report of a job whose workers have left. 82 where the book has refused an end, or where what
+/// was closed isn't the job's, or isn't as the workers noted; 99 where there was no memory.
+#[tactic(auto, using(crate::proofs::NotedLemmas::all_alone))]
+fn report_of(
+    alloc: Global,
+    shared: Shared,
+    number: u64,
+    credit: u32,
+    size: usize,
+    notes: &[Note],
+) -> Result<Report, PoolFault>
+    requires { All (NotedAlone shared.programs.items) notes.now }
+    ensures report { IfOk result (λ report. IsFinal number credit size report) }
+    ensures alone { IfOk result
+        (λ report. All (EndedAlone shared.programs.items) report.tasks.items) }
+{
+    let Shared { programs: _, desk } = shared;
+    let desk = desk.into_inner().into_inner().into_inner();
+    let report = desk.close(number, credit, size)?;
+    if !agrees(alloc, &report.tasks, notes)? {
+        return Err(PoolFault::BookRefused);
+    }
+    Ok(report)
+}
+
 /// Runs the job in so many threads, 1 to 16, and gives the report of its book once no task is
 /// alive. The post is that of the job, opened with its credit.
 ///
@@ -198,7 +223,6 @@ fn run_in_threads<R: Threads + Wait + Sync, G: Gate + Sync>(
 /// has refused an end, upon which all workers leave, or where what was closed isn't the job's, or
 /// isn't as the workers noted. 99 where there was no memory ahead of the first thread, or for what
 /// the workers noted, once all have left. The call returns if its waits do.
-#[tactic(auto, using(crate::proofs::NotedLemmas::all_alone))]
 pub fn run_job<R: Threads + Wait + Sync, G: Gate + Sync>(
     rt: &R,
     alloc: Global,
@@ -224,11 +248,38 @@ pub fn run_job<R: Threads + Wait + Sync, G: Gate + Sync>(
         desk: CachePadded::new(Mutex::new(CachePadded::new(LockedBook::open(book, root)))),
     };
     let notes = run_in_threads(rt, alloc, &shared, crew, gate)?;
-    let Shared { programs: _, desk } = shared;
-    let desk = desk.into_inner().into_inner().into_inner();
-    let report = desk.close(number, credit, size)?;
-    if !agrees(alloc, &report.tasks, &notes)? {
-        return Err(PoolFault::BookRefused);
-    }
-    Ok(report)
+    report_of(alloc, shared, number, credit, size, &notes)
+}
+
+/// Runs the job in the calling thread alone, and gives the report of its book once no task is
+/// alive, as [`run_job`] does. The post is that of the job, opened with its credit.
+///
+/// 82 and 99 as there. It starts no thread, and returns if its waits do.
+pub fn run_here<R: Wait, G: Gate>(
+    rt: &R,
+    alloc: Global,
+    job: Job,
+    post: Post,
+    gate: &G,
+) -> Result<Report, PoolFault>
+    requires post { post.board.issued ≡ job.credit }
+    ensures report { IfOk result (λ report.
+        IsFinal post.board.job job.credit (length job.buffer) report) }
+    ensures alone { IfOk result (λ report. All (EndedAlone job.programs) report.tasks.items) }
+{
+    let mut post = post;
+    let mut crew = open_workers(alloc, &mut post, 1)?;
+    let Some(worker) = crew.pop() else {
+        return Err(PoolFault::NoWorker);
+    };
+    let (programs, credit, buffer) = job.into_parts();
+    let size = buffer.len();
+    let (book, root) = Book::open(alloc, post, Part::whole(buffer))?;
+    let number = book.job();
+    let shared = Shared {
+        programs,
+        desk: CachePadded::new(Mutex::new(CachePadded::new(LockedBook::open(book, root)))),
+    };
+    let notes = work(rt, &shared, gate, worker, alloc);
+    report_of(alloc, shared, number, credit, size, &notes)
 }

@@ -7,11 +7,15 @@ pub returns-clause-app : goal.returns-clause-app
 returns-clause-app c =
     let first = c.in_ok-arg.ensures.shape c.port.ensures.local ∙ ap₂ with_rule c.named.ensures.app c.port.ensures.rule in
     let second = c.in_ok-arg-2.ensures.shape c.workers.ensures.local ∙ ap₂ with_rule first c.workers.ensures.rule in
-    IfOk-weaker c.arg-3.result _ _ (λ r h. h.shape c.sessions.ensures.local ∙ ap₂ with_rule second c.sessions.ensures.rule) c.arg-3.ensures
+    let third = c.in_ok-arg-3.ensures.shape c.sessions.ensures.local ∙ ap₂ with_rule second c.sessions.ensures.rule in
+    let fourth = c.in_ok-arg-4.ensures.shape c.clients.ensures.local ∙ ap₂ with_rule third c.clients.ensures.rule in
+    IfOk-weaker c.arg-5.result _ _ (λ r h. h.shape c.timeout.ensures.local ∙ ap₂ with_rule fourth c.timeout.ensures.rule) c.arg-5.ensures
 
 pub returns-clause-local : goal.returns-clause-local
 returns-clause-local c =
     let either : Bool → Bool → Bool = λ a b. a || b in
     let first = c.in_ok-arg.ensures.globals ∙ ap₂ either c.named.ensures.local c.port.ensures.local in
     let second = c.in_ok-arg-2.ensures.globals ∙ ap₂ either first c.workers.ensures.local in
-    IfOk-weaker c.arg-3.result _ _ (λ r h. h.globals ∙ ap₂ either second c.sessions.ensures.local) c.arg-3.ensures
+    let third = c.in_ok-arg-3.ensures.globals ∙ ap₂ either second c.sessions.ensures.local in
+    let fourth = c.in_ok-arg-4.ensures.globals ∙ ap₂ either third c.clients.ensures.local in
+    IfOk-weaker c.arg-5.result _ _ (λ r h. h.globals ∙ ap₂ either fourth c.timeout.ensures.local) c.arg-5.ensures

@@ -22,4 +22,4 @@ returns-clause-others g c n le =
     rw (c.compare_all.ensures.desk, c.count.ensures.same.0) (c.count.ensures.others n (omega (arith, o, le)))
 
 pub returns-clause-legal : goal.returns-clause-legal
-returns-clause-legal g c = rw c.compare_all.ensures.desk c.is_legal.ensures
+returns-clause-legal g c = rw c.compare_all.ensures.desk c.is_legal.ensures.legal

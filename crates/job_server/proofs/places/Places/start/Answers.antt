@@ -13,9 +13,9 @@ invariant_of-self-in-Ok-begin g c =
     let kept : AreKept keys jobs =
     kept_same keys keys (slots.get c.args.self.now.jobs) jobs c.args.self.now.kept (λ n. refl) (λ k. ap (λ s. slots.get s k) c.reserve.ensures.rest_kept) in
     let key = c.insert_reserved.result in
-    let here : tree.get nat_cmp c.note.new.keys c.args.number ≡ Some key = search rules in
+    let here : tree.get nat_cmp c.note.new.values c.args.number ≡ Some key = search rules in
     record {
-      kept = kept_added keys (tree.get nat_cmp c.note.new.keys) jobs (slots.get c.insert_reserved.new.self) c.args.number key c.in-Ok-begin.running kept
+      kept = kept_added keys (tree.get nat_cmp c.note.new.values) jobs (slots.get c.insert_reserved.new.self) c.args.number key c.in-Ok-begin.running kept
           c.insert_reserved.ensures.was_vacant here c.in-Ok.ensures.others c.insert_reserved.ensures.updates.changed c.insert_reserved.ensures.updates.others
           c.in-Ok-begin.ensures.fresh.numbered;
     }
@@ -23,7 +23,7 @@ invariant_of-self-in-Ok-begin g c =
 pub returns-in-Ok-begin : goal.returns-in-Ok-begin
 returns-in-Ok-begin g c =
     let keys = tree.get nat_cmp c.args.self.now.keys in
-    let keys' = tree.get nat_cmp c.note.new.keys in
+    let keys' = tree.get nat_cmp c.note.new.values in
     let before = slots.get c.args.self.now.jobs in
     let jobs = slots.get c.reserve.new.self in
     let jobs' = slots.get c.insert_reserved.new.self in

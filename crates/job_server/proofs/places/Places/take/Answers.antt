@@ -11,7 +11,7 @@ pub invariant_of-self-2 : goal.invariant_of-self-2
 invariant_of-self-2 g c =
     let found = c.in_ok-number.ensures in
     record {
-      kept = kept_removed (tree.get nat_cmp c.args.self.now.keys) (tree.get nat_cmp c.forget.new.keys) (slots.get c.args.self.now.jobs) (slots.get c.try_remove.new.self)
+      kept = kept_removed (tree.get nat_cmp c.args.self.now.keys) (tree.get nat_cmp c.forget.new.values) (slots.get c.args.self.now.jobs) (slots.get c.try_remove.new.self)
           c.in_ok-number.number c.in_ok-number.key c.args.self.now.kept found.0 c.forget.ensures.gone c.forget.ensures.others c.try_remove.ensures.updates.others;
     }
 
@@ -22,7 +22,7 @@ returns g c =
     let key = c.in_ok-number.key in
     let held = c.in-Some.running in
     let keys = tree.get nat_cmp c.args.self.now.keys in
-    let keys' = tree.get nat_cmp c.forget.new.keys in
+    let keys' = tree.get nat_cmp c.forget.new.values in
     let jobs = slots.get c.args.self.now.jobs in
     let jobs' = slots.get c.try_remove.new.self in
     let kept : AreKept keys jobs = c.args.self.now.kept in

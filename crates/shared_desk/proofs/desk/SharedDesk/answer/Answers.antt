@@ -1,4 +1,5 @@
 use Rattle.std.proofs.Common.{ap}
+use Rattle.shared_desk.proofs.Closing.{told_of}
 use Rattle.shared_desk.proofs.OneAnswer.{has_entry, same_entry, replays_on, shared_answer, answer_ok, answer_err}
 use Rattle.shared_desk.proofs.desk.SharedDesk.answer.Goals as goal
 
@@ -11,7 +12,9 @@ pub invariant_of-self : goal.invariant_of-self
 invariant_of-self g c =
     let n = c.add.ensures in
     let is = same_entry g.H.Handler.answers g.J.Origin.begins _ (c.self.inside.desk, c.self.inside.handler) _ c.args.request _ _ n.0 (λ i. (c.of-desk_before.ensures i, c.of-handler_before.ensures i)) c.of-asked.ensures n.1 in
-    (c.answer-reply.ensures.ready, replays_on g.H.Handler.answers g.J.Origin.begins _ _ _ _ _ n.0 _ c.self.invariant.1 is n.4)
+    let known = c.self.invariant in
+    let told = told_of c.self.inside.recorder.1 c.add.new.recorder.1 c.self.inside.over c.self.inside.outcome (ap (λ r. r.1) n.4) (known.2, known.3, known.4) in
+    (c.answer-reply.ensures.ready, replays_on g.H.Handler.answers g.J.Origin.begins _ _ _ _ _ n.0 _ known.1 is (ap (λ r. r.0) n.4), told.0, told.1, told.2)
 
 pub returns-clause-ok : goal.returns-clause-ok
 returns-clause-ok g c =

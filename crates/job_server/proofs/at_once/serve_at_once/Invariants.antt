@@ -1,0 +1,10 @@
+use Rattle.std.proofs.Common.{◌≡◌}
+use Rattle.job_server.proofs.at_once.serve_at_once.Given as goal
+
+-- the history is the new one
+abbrev pub ghosts-serve_named-J-HistoryId : goal.ghosts-serve_named-J-HistoryId
+ghosts-serve_named-J-HistoryId g a = record { table = a.new_history }
+
+-- it begins with this desk and this runner
+abbrev pub ghosts-serve_named-J-Origin : goal.ghosts-serve_named-J-Origin
+ghosts-serve_named-J-Origin g a = record { begins = λ s. s ≡ (a.desk, a.runner) }

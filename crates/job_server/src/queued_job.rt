@@ -1,0 +1,101 @@
+//! A job that waits for a worker, and what it came to.
+
+ghost use Rattle.std.specs.Prelude.{◌≡◌, ◌≤◌};
+ghost use Rattle.job_server.specs.Endings.{IsEndOf};
+
+use crate::job_register::JobSeat;
+use crate::job_seats::RegisterId;
+use credit_book::{Post, Report};
+use job_core::Job;
+use std::alloc::Global;
+use std::marker::Model;
+use std::sync::Wait;
+use std::thread::Threads;
+use workers::{OpenGate, run_here, run_job};
+
+/// The most credit of a job that one worker runs by itself.
+const SMALL: u32 = 1_000_000;
+
+/// A job that waits for a worker, with the post of its board.
+#[derive(Drop)]
+pub struct QueuedJob<J: RegisterId> {
+    pub(crate) alloc: Global,
+    pub(crate) number: u64,
+    pub(crate) job: Job,
+    pub(crate) post: Post,
+    pub(crate) seat: JobSeat<J>,
+    ghost board: { post.board.job ≡ number },
+    ghost credit: { post.board.issued ≡ job.credit },
+    ghost numbered: { seat.number ≡ number },
+    ghost entered: { seat.job ≡ job },
+}
+
+/// A job that is over: its number and what it came to, which its seat knows to be the end of the
+/// very job that was started.
+#[derive(Drop)]
+pub struct EndedJob<J: RegisterId> {
+    pub(crate) number: u64,
+    pub(crate) end: Result<Report, u8>,
+    pub(crate) seat: JobSeat<J>,
+}
+
+impl<J: RegisterId> Model for EndedJob<J> {
+    ghost use Rattle.std.specs.Prelude.{◌≡◌};
+    ghost use Rattle.job_server.specs.Endings.{IsEndOf};
+
+    ghost Value = { Unit {0} };
+
+    ghost view = { λ _. tt };
+
+    ghost invariant = { λ e. (e.seat.number ≡ e.number) × IsEndOf e.number e.seat.job e.end };
+}
+
+impl<J: RegisterId> EndedJob<J> {
+    /// Its number, what it came to, and its seat.
+    pub(crate) fn into_parts(self) -> (u64, Result<Report, u8>, JobSeat<J>)
+        ensures { (result.2.number ≡ result.0) × IsEndOf result.0 result.2.job result.1 }
+    {
+        let EndedJob { number, end, seat } = self;
+        (number, end, seat)
+    }
+}
+
+// What the job comes to, by the calling thread alone, or on so many workers.
+fn end_of<R: Threads + Wait + Sync>(
+    rt: &R,
+    alloc: Global,
+    job: Job,
+    post: Post,
+    workers: u32,
+) -> Result<Report, u8>
+    requires workers { (1 ≤ workers) × (workers ≤ 16) }
+    requires post { post.board.issued ≡ job.credit }
+    ensures { IsEndOf post.board.job job result }
+{
+    let ended = if workers == 1 || job.credit() <= SMALL {
+        run_here(rt, alloc, job, post, &OpenGate)
+    } else {
+        run_job(rt, alloc, job, post, workers, &OpenGate)
+    };
+    match ended {
+        Ok(report) => Ok(report),
+        Err(fault) => Err(fault.code()),
+    }
+}
+
+impl<J: RegisterId> QueuedJob<J> {
+    /// Runs the job, a large one on so many workers, 1 to 16. What it came to.
+    pub(crate) fn run<R: Threads + Wait + Sync>(self, rt: &R, workers: u32) -> EndedJob<J>
+        requires { (1 ≤ workers) × (workers ≤ 16) }
+    {
+        let QueuedJob {
+            alloc,
+            number,
+            job,
+            post,
+            seat,
+        } = self;
+        let end = end_of(rt, alloc, job, post, workers);
+        EndedJob { number, end, seat }
+    }
+}
