@@ -12,7 +12,7 @@ use bpfjobs_cli::{Command, FAILED, UNREAD, command, print_usage, words};
 use serving::{serve, serve_clients};
 use std::alloc::Global;
 use std::io;
-use std::net::{Net, TcpStream};
+use std::net::{Net, TcpListener, TcpStream};
 use std::process::ExitCode;
 use std::sync::Wait;
 use std::thread::Threads;
@@ -47,7 +47,7 @@ fn run<R: Input + Print + Threads + Wait + Sync>(rt: &R, alloc: Global, workers:
 // Does what a command says, and gives the status.
 fn act<R>(rt: R, alloc: Global, command: Command) -> u8
 where
-    R: Input + Print + Net<Stream = TcpStream> + Threads + Wait,
+    R: Input + Print + Net<Stream = TcpStream, Listener = TcpListener> + Threads + Wait,
     R: Copy + Send + Sync + Drop + 'static,
     requires { IsInRange command }
 {

@@ -3,7 +3,7 @@
 ghost use Rattle.std.specs.Prelude.{◌≤◌};
 
 use std::alloc::Global;
-use std::net::{Net, TcpStream};
+use std::net::{Net, TcpListener, TcpStream};
 use std::sync::Wait;
 use std::thread::Threads;
 
@@ -26,7 +26,7 @@ pub fn serve<R: Net<Stream = TcpStream> + Threads + Wait + Copy + Send + Sync + 
 
 /// The same from so many clients at once, of which one is given up that keeps a read or a write
 /// waiting for `timeout` seconds; 0: none is.
-pub fn serve_clients<R: Net<Stream = TcpStream> + Threads + Wait + Sync>(
+pub fn serve_clients<R: Net<Stream = TcpStream, Listener = TcpListener> + Threads + Wait + Sync>(
     rt: &R,
     alloc: Global,
     port: u32,

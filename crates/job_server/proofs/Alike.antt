@@ -1,5 +1,5 @@
 -- What is said of a state is said of what it comes to by a function, where that answers alike.
-use Rattle.std.proofs.Common.{◌≡◌, ◌⊎◌, ◌+◌, ◌++◌, ℕ, List, [], Option, Some, None, Result, Ok, Err, inl, inr, ap, suc, take}
+use Rattle.std.proofs.Common.{◌++◌, ℕ, List, [], Option, Some, None, Result, Ok, Err, inl, inr, ap}
 use Rattle.credit_book.specs.declared.book.Report.{Report}
 use Rattle.credit_book.specs.declared.board.Progress.{Progress}
 use Rattle.job_core.specs.Admitted.{AdmittedJob}
@@ -9,10 +9,10 @@ use Rattle.accounts.specs.Ledgers.{Ledger}
 use Rattle.sessions.specs.Grammar.{Asked, grant, account, submit, status, result}
 use Rattle.streams.specs.Passing.{Passes, Taken}
 use Rattle.streams.specs.Passing as passing
-use Rattle.streams.specs.Answering.{Answers, Replies, Submits, TakesJob, TakesNone}
+use Rattle.streams.specs.Answering.{Replies, Submits}
 use Rattle.streams.specs.Serves.{Serves}
 use Rattle.streams.specs.Serves as serving
-use Rattle.streams.specs.Stops.{IsCutOff, IsReadOut, IsServed, IsStarved, IsStoppedBy, ahead_of_reply, between}
+use Rattle.streams.specs.Stops.{IsCutOff, IsServed, IsStarved, IsStoppedBy, ahead_of_reply, between}
 use Rattle.streams.specs.declared.fault.StreamFault.{StreamFault}
 use Rattle.streams.specs.declared.fault.StreamFault.TheVariants.{ReadFailed, WriteFailed, NoMemory}
 use Rattle.job_server.specs.declared.fault.ServeFault.{ServeFault}

@@ -1,5 +1,5 @@
 -- Many connections at once, over two state types.
-use Rattle.std.proofs.Common.{◌≡◌, ◌<◌, ◌-◌, ◌^◌, ℕ, List, length, min, Result, Ok, Err, refl, sym, ap, ◌∙◌, subst, arith}
+use Rattle.std.proofs.Common.{◌≡◌, ◌<◌, ◌-◌, ◌^◌, ℕ, List, length, min, Result, Ok, Err, sym, ap, ◌∙◌, subst, arith}
 use Rattle.std.specs.Prelude.{OnOk, IfErr}
 use Rattle.std.specs.BTreeMap.{BTreeMap}
 use Rattle.sessions.specs.Grammar.{Asked}
@@ -13,7 +13,6 @@ use Rattle.job_server.specs.declared.fault.ServeFault.{ServeFault}
 use Rattle.job_server.specs.declared.job_seats.StartedJob.{StartedJob}
 use Rattle.job_server.specs.Holds.{StartsBy, TellsBy, TakesBy}
 use Rattle.job_server.specs.Started.{pooled_at, pooled_count}
-use Rattle.job_server.specs.Serving.{new_desk}
 use Rattle.job_server.specs.Visits.{answers_by}
 use Rattle.job_server.specs.AtOnce.{EndsBy, IsServingFrom, pool_answers}
 use Rattle.job_server.proofs.Alike.{beside, answers_alike}
@@ -39,14 +38,14 @@ module _ {S T : Type 0} (g : S → T) (answers : S → Result Asked ℕ → List
   }
 
 -- the pool's own state is forgotten, but for the jobs that it was given and the boards that it watches
-pub pool_serving : {R : Type 0} (f : R → List StartedJob × BTreeMap ℕ Sight) (first : R) (end : Ledger × R) (sessions : ℕ) (outcome : Result (Unit {0}) ServeFault)
+pub pool_serving : {R : Type 0} (f : R → List StartedJob × BTreeMap ℕ Sight) (desk : Ledger) (first : R) (end : Ledger × R) (sessions : ℕ) (outcome : Result (Unit {0}) ServeFault)
     → IsServingFrom (answers_by (λ r number job result q. StartsBy pooled_at pooled_count (f r) number job result (f q)) (λ r number progress q. TellsBy pooled_at pooled_count (f r) number progress (f q)) (λ r result q. TakesBy pooled_at pooled_count (f r) result (f q)))
-    (λ s. s ≡ (new_desk, first)) end sessions outcome
-    → IsServingFrom pool_answers (λ s. s ≡ (new_desk, f first)) (beside f end) sessions outcome
-pool_serving f first end sessions outcome serving =
+    (λ s. s ≡ (desk, first)) end sessions outcome
+    → IsServingFrom pool_answers (λ s. s ≡ (desk, f first)) (beside f end) sessions outcome
+pool_serving f desk first end sessions outcome serving =
     serving_alike (beside f) _ pool_answers
     (answers_alike f _ _ _ (StartsBy pooled_at pooled_count) (TellsBy pooled_at pooled_count) (TakesBy pooled_at pooled_count) (λ r n o x s h. h) (λ r n p s h. h) (λ r x s h. h))
-    (λ s. s ≡ (new_desk, first)) (λ s. s ≡ (new_desk, f first)) (λ s is. ap (beside f) is) end sessions outcome serving
+    (λ s. s ≡ (desk, first)) (λ s. s ≡ (desk, f first)) (λ s is. ap (beside f) is) end sessions outcome serving
 
 -- ---- what a server tells of those that are over
 

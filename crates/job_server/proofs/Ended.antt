@@ -1,5 +1,5 @@
 -- One connection, by how its stream ended.
-use Rattle.std.proofs.Common.{◌≡◌, ◌∙◌, ◌++◌, ℕ, List, [], Bool, true, false, Result, Ok, Err, IfOk, IfErr, ap, refl, sym, subst}
+use Rattle.std.proofs.Common.{◌≡◌, ◌∙◌, ◌++◌, ℕ, List, [], true, false, Result, Ok, Err, IfOk, IfErr, ap, refl, sym, subst}
 use Rattle.sessions.specs.Grammar.{Asked}
 use Rattle.streams.specs.Stops.{IsServed, IsStoppedBy}
 use Rattle.streams.specs.declared.fault.StreamFault.{StreamFault}

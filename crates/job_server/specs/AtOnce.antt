@@ -1,5 +1,5 @@
 -- Many connections that are served at once.
-use Rattle.std.specs.Prelude.{◌≡◌, ◌<◌, ◌≤◌, ◌⊎◌, ℕ, List, [], All, length, Result, Ok, Err, OnOk, IfErr}
+use Rattle.std.specs.Prelude.{◌≡◌, ◌≤◌, ◌⊎◌, ℕ, List, [], All, length, Result, Ok, Err, OnOk, IfErr}
 use Rattle.sessions.specs.Grammar.{Asked}
 use Rattle.streams.specs.declared.fault.StreamFault.{StreamFault}
 use Rattle.streams.specs.declared.fault.StreamFault.TheVariants as stream

@@ -1,4 +1,16 @@
+use Rattle.std.proofs.Common.{[], refl, inr, arith}
+use Rattle.shared_desk.specs.Histories.{none_yet}
 use Rattle.job_server.proofs.at_once.serve_at_once.Goals as goal
 
 pub returns-in_default : goal.returns-in_default
-returns-in_default g c = ?
+returns-in_default g c = record {
+  history = [];
+  opened = 0;
+  closed = [];
+  legal = none_yet (c.args.desk, c.args.runner) refl;
+  others = λ n le. refl;
+  parts = tt;
+  served = λ k d lt. absurd (omega (arith, lt));
+  well = tt;
+  fault = inr refl;
+}

@@ -1,4 +1,23 @@
+use Rattle.std.proofs.Common.{ap, ◌∙◌, arith}
+use Rattle.shared_desk.specs.Histories.{part_of}
+use Rattle.job_server.proofs.AtOnceAlike.{fault_of_all, well_of}
 use Rattle.job_server.proofs.at_once.serve_named.Goals as goal
 
 pub returns : goal.returns
-returns g c = ?
+returns g c =
+    let now = c.count.new.self in
+    let is = c.count.ensures.same.0 in
+    let opened = c.into_parts-opened.result.0 in
+    let counted = c.into_parts-opened.ensures in
+    let few = c.ranges.sessions.fits in
+    record {
+      history = now.1;
+      opened = opened;
+      closed = now.2;
+      legal = c.into_parts-desk.ensures.legal;
+      others = λ n le. ap (λ s. part_of n s.1) is ∙ c.count.ensures.others n (omega (arith, counted, le));
+      parts = rw (is, counted) c.count.ensures.over;
+      served = c.is_legal.ensures.served;
+      well = well_of now.2 opened c.args.sessions c.over.result c.outcome.result c.outcome_of-outcome.result c.over.ensures (omega (arith, few)) c.outcome.ensures c.outcome_of-outcome.ensures.well;
+      fault = fault_of_all now.2 c.outcome.result c.outcome_of-outcome.result c.outcome.ensures c.outcome_of-outcome.ensures.fault;
+    }

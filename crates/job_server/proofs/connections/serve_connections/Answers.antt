@@ -1,4 +1,4 @@
-use Rattle.std.proofs.Common.{◌≡◌, ℕ, ◌+◌, sym, subst, arith}
+use Rattle.std.proofs.Common.{◌≡◌, arith}
 use Rattle.job_server.specs.Visits.{none_yet, one_more}
 use Rattle.job_server.proofs.connections.serve_connections.Goals as goal
 

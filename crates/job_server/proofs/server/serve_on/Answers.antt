@@ -1,4 +1,3 @@
-use Rattle.std.proofs.Common.{subst}
 use Rattle.job_server.proofs.Alike.{pool_visits}
 use Rattle.job_server.proofs.server.serve_on.Goals as goal
 
