@@ -30,9 +30,9 @@ _bpfjobs() {
         ;;
     serve)
         case $previous in
-        --port | --workers | --sessions) return ;;
+        --port | --workers | --sessions | --clients | --timeout) return ;;
         esac
-        mapfile -t COMPREPLY < <(compgen -W "--port --workers --sessions --help" -- "$word")
+        mapfile -t COMPREPLY < <(compgen -W "--port --workers --sessions --clients --timeout --help" -- "$word")
         ;;
     help) mapfile -t COMPREPLY < <(compgen -W "assemble disassemble verify play run serve" -- "$word") ;;
     esac
