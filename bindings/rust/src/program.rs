@@ -28,51 +28,42 @@ unsafe impl Send for Program {}
 impl Program {
     /// Verifies a program that needs so many bytes of memory, at most 65,536.
     pub fn verify(need: u32, code: &[u8]) -> Result<Program, Error> {
-        let mut program = Program {
-            handle: raw::Program::none(),
-            need,
-            cost: 0,
-        };
-        let mut verdict = raw::Verdict::default();
         // The library reads the code, and writes the handle and the verdict alone.
-        let status = unsafe {
-            raw::telgovan_program_load(
-                need,
-                code.as_ptr(),
-                code.len(),
-                &mut program.handle,
-                &mut verdict,
-            )
-        };
-        if status != 0 {
-            return Err(Error::at(status, verdict.has_slot, verdict.slot.into()));
-        }
-        program.cost = verdict.cost;
-        Ok(program)
+        Program::loaded(need, |handle, verdict| unsafe {
+            raw::telgovan_program_load(need, code.as_ptr(), code.len(), handle, verdict)
+        })
     }
 
     /// As [`Program::verify`], for a program that may call these helpers beside those of a job. It
     /// runs as a [`HostedTask`](crate::HostedTask): `execute` refuses it by 48.
     pub fn verify_with(need: u32, code: &[u8], helpers: &Helpers<'_>) -> Result<Program, Error> {
-        let mut program = Program {
-            handle: raw::Program::none(),
-            need,
-            cost: 0,
-        };
-        let mut verdict = raw::Verdict::default();
         let arities = helpers.arities();
         // The library reads the code and the arities, and writes the handle and the verdict alone.
-        let status = unsafe {
+        Program::loaded(need, |handle, verdict| unsafe {
             raw::telgovan_program_load_with(
                 need,
                 code.as_ptr(),
                 code.len(),
                 arities.as_ptr(),
                 arities.len(),
-                &mut program.handle,
-                &mut verdict,
+                handle,
+                verdict,
             )
+        })
+    }
+
+    // What a call of the library puts into a handle, or the refusal that it answers.
+    fn loaded(
+        need: u32,
+        load: impl FnOnce(&mut raw::Program, &mut raw::Verdict) -> u32,
+    ) -> Result<Program, Error> {
+        let mut program = Program {
+            handle: raw::Program::none(),
+            need,
+            cost: 0,
         };
+        let mut verdict = raw::Verdict::default();
+        let status = load(&mut program.handle, &mut verdict);
         if status != 0 {
             return Err(Error::at(status, verdict.has_slot, verdict.slot.into()));
         }
