@@ -160,8 +160,7 @@ int LLVMFuzzerTestOneInput(const uint8_t *data, size_t size) {
     uint32_t alone = telgovan_verify(asked.need, code, length, &plain);
     uint32_t status = telgovan_program_load_with(asked.need, code, length, asked.arities, HELPERS,
                                                  &program, &verdict);
-    /* What is accepted without the host's helpers is accepted with them, at the
-     * same cost. */
+    /* What is accepted without the host's helpers is accepted with them, at the same cost. */
     if (alone == 0) holds(status == 0 && verdict.cost == plain.cost);
     if (status == 0) compare(&asked, &program, lent, verdict.cost);
     telgovan_program_unload(&program);
