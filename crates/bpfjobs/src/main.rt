@@ -16,6 +16,7 @@ use std::net::{Net, TcpListener, TcpStream};
 use std::process::ExitCode;
 use std::sync::Wait;
 use std::thread::Threads;
+use std::time::Clock;
 use streams::Tap;
 
 // Reads the input, prints the answer of a command that needs no thread, and gives the status. It
@@ -47,7 +48,7 @@ fn run<R: Input + Print + Threads + Wait + Sync>(rt: &R, alloc: Global, workers:
 // Does what a command says, and gives the status.
 fn act<R>(rt: R, alloc: Global, command: Command) -> u8
 where
-    R: Input + Print + Net<Stream = TcpStream, Listener = TcpListener> + Threads + Wait,
+    R: Input + Print + Net<Stream = TcpStream, Listener = TcpListener> + Threads + Wait + Clock,
     R: Copy + Send + Sync + Drop + 'static,
     requires { IsInRange command }
 {
@@ -61,9 +62,8 @@ where
             port,
             workers,
             sessions,
-            clients,
-            timeout,
-        } => serve_clients(&rt, alloc, port, workers, clients, sessions, timeout),
+            bounds,
+        } => serve_clients(rt, alloc, port, workers, sessions, bounds),
         Command::Run { workers } => run(&rt, alloc, workers),
         Command::Verify { need } => answer(&rt, alloc, Command::Verify { need }),
         Command::Assemble => answer(&rt, alloc, Command::Assemble),
