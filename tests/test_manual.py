@@ -1,6 +1,7 @@
 """The man pages and the completions are what docs/man/make.py makes of the programs' own --help."""
 
 import os
+import re
 import shutil
 import subprocess
 import sys
@@ -43,6 +44,11 @@ class Manual(unittest.TestCase):
                     self.assertIn(make.roff(option), page)
             for command in commands:
                 self.assertIn(f".SS {command}\n", page)
+
+    def test_the_version_is_that_of_the_library(self):
+        told = (Path(programs.TOP) / "bindings/rust/Cargo.toml").read_text(encoding="utf-8")
+        version = re.search(r'^version = "(.*)"$', told, re.MULTILINE).group(1)
+        self.assertEqual(programs.told(programs.BPFRUN, ["--version"]), (0, f"bpfrun {version}\n"))
 
     @unittest.skipUnless(shutil.which("man"), "there is no man")
     def test_the_pages_are_read_without_a_warning(self):

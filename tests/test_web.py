@@ -99,7 +99,7 @@ class Verdicts(InBrowser):
         self.assertEqual(self.marked_lines(), [5])
         told = self.text("explained").split("\n")
         self.assertEqual(told[0], "rule: an access lies within the bytes of the part that the program needs")
-        self.assertEqual(told[1:3], ["slot 2, line 5: ldxb r0, [r1+0]", "way: 0 1 2"])
+        self.assertEqual(told[1:4], ["slot 2, line 5: ldxb r0, [r1+0]", "least need here: 16", "way: 0 1 2"])
         bad = "[...document.querySelectorAll('#flow .bad')].map((one) => one.textContent.trim())"
         self.assertEqual(self.tab.evaluate(bad), ["2  ldxb r0, [r1+0]"])
         self.picture("refused")

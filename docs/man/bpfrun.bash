@@ -7,6 +7,6 @@ _bpfrun() {
     --need | --credit | --arg) return ;;
     esac
     [[ $word == -* ]] || { mapfile -t COMPREPLY < <(compgen -f -- "$word"); return; }
-    mapfile -t COMPREPLY < <(compgen -W "--need --credit --arg --memory --explain --trace --trace-json --help" -- "$word")
+    mapfile -t COMPREPLY < <(compgen -W "--need --credit --arg --memory --explain --explain-all --graph --trace --trace-json --help --version" -- "$word")
 }
 complete -o filenames -F _bpfrun bpfrun

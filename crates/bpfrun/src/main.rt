@@ -6,7 +6,9 @@ ghost use Rattle.std.specs.Prelude.{◌≤◌};
 ghost use Rattle.machine_model.specs.Limits.{max_credit};
 
 use bpfjobs_cli::{Answer, FAILED, UNREAD, print_usage, tell, words};
-use bpfrun_core::{Asked, Request, answer, form_of, request, step_lines, step_objects, trace};
+use bpfrun_core::{
+    Asked, Request, answer, draw, form_of, request, step_lines, step_objects, trace,
+};
 use std::alloc::Global;
 use std::process::ExitCode;
 use std::rt::Files;
@@ -97,12 +99,19 @@ fn tried<R: Files + Print + Eprint + AllocGlobal>(
         arg: request.arg,
         credit: request.credit,
         explains: request.explains,
+        explains_all: request.explains_all,
     };
-    if request.traces || request.trace_json.is_some() {
-        let lent: Option<&[u8]> = match &memory {
-            Some(bytes) => Some(bytes),
-            None => None,
+    let lent: Option<&[u8]> = match &memory {
+        Some(bytes) => Some(bytes),
+        None => None,
+    };
+    if request.draws {
+        return match draw(rt.alloc(), &asked, &input, lent) {
+            Ok(answer) => told(rt, &answer),
+            Err(_) => FAILED,
         };
+    }
+    if request.traces || request.trace_json.is_some() {
         if !traced(rt, request, &asked, &input, lent) {
             return FAILED;
         }

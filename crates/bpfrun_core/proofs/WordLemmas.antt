@@ -38,12 +38,12 @@ module _ (words : List Text) (has : Bool) (below : Kinds) (none : level_fault to
   file : (path : Text) × (first_of (codes "file") rows ≡ Some path)
   file =
       let value : HasValue (rule file_rule) rows = required_value (rule file_rule) refl (omega arith) top (names_of (built bpfrun_app)) words has below
-      ((λ same. refl), (other, (other, (other, (other, (other, (other, (other, (other, tt))))))))) none refl (inl refl) refl in
+      ((λ same. refl), (other, (other, (other, (other, (other, (other, (other, (other, (other, (other, (other, tt)))))))))))) none refl (inl refl) refl in
       (value.0, value.2)
 
   need : (number : Option ℕ) × IsMaybeNumber rows (codes "need") 4294967295 number
   need = go (maybe_value (rule need_rule) refl (omega arith) top (names_of (built bpfrun_app)) words has below
-      (other, ((λ same. refl), (other, (other, (other, (other, (other, (other, (other, tt))))))))) none)
+      (other, ((λ same. refl), (other, (other, (other, (other, (other, (other, (other, (other, (other, (other, tt)))))))))))) none)
     where
       go : (one_of (codes "need") rows ≡ None) ⊎ HasValue (rule need_rule) rows → (number : Option ℕ) × IsMaybeNumber rows (codes "need") 4294967295 number
       go (inl e) = (None, e)
@@ -54,12 +54,12 @@ module _ (words : List Text) (has : Bool) (below : Kinds) (none : level_fault to
   credit : (number : ℕ) × IsNumberIn rows (codes "credit") 0 2147483647 number
   credit = signed_number (rule credit_rule) 0 2147483647 rows refl
       (default_value (rule credit_rule) refl (omega arith) top (names_of (built bpfrun_app)) words has below
-      (other, (other, ((λ same. refl), (other, (other, (other, (other, (other, (other, tt))))))))) none (inr (inr (inl refl))) (omega arith))
+      (other, (other, ((λ same. refl), (other, (other, (other, (other, (other, (other, (other, (other, (other, tt)))))))))))) none (inr (inr (inl refl))) (omega arith))
 
   arg : (number : ℕ) × IsNumberIn rows (codes "arg") 0 18446744073709551615 number
   arg = unsigned_number (rule arg_rule) 0 18446744073709551615 rows refl
       (default_value (rule arg_rule) refl (omega arith) top (names_of (built bpfrun_app)) words has below
-      (other, (other, (other, ((λ same. refl), (other, (other, (other, (other, (other, tt))))))))) none (inr (inr (inr (inl refl)))) (omega arith))
+      (other, (other, (other, ((λ same. refl), (other, (other, (other, (other, (other, (other, (other, (other, tt)))))))))))) none (inr (inr (inr (inl refl)))) (omega arith))
 
   says : SaysRequest rows
   says = record { file = file; need = need; credit = credit; arg = arg }

@@ -6,7 +6,9 @@ use Rattle.helpers.specs.Table.{job_table}
 use Rattle.verifier.specs.declared.refusals.Refusal.{Refusal}
 use Rattle.verifier.specs.Refusals.{RefusesProgram}
 use Rattle.bpfjobs_cli.specs.Printed.{Prints}
+use Rattle.explain.specs.declared.explanation.Explanation.{Explanation}
 use Rattle.explain.specs.declared.lines.Line.{Line}
+use Rattle.explain.specs.Faults.{AreTold}
 use Rattle.explain.specs.Lines.{told}
 use Rattle.bpfrun_core.specs.declared.answering.Asked.{Asked}
 use Rattle.bpfrun_core.specs.declared.fault.Fault.{Fault}
@@ -43,13 +45,22 @@ pub record PrintsRefusal (form : Form) (input code : List ℕ) (why : Fault) (te
   pub lines : IsRefusalText why quote (option_map told place) text
   pub one : status ≡ 1
 
--- The verifier's refusal is told, or explained.
+-- some instructions aren't allowed, or the program has no graph, and that is explained
+pub record AreExplained (need : ℕ) (code : List ℕ) : Type 0 where
+  pub source : Option (List ℕ)
+  pub list : List Explanation
+  pub told : AreTold need code job_table source list
+  pub some : list ≢ []
+
+-- The verifier's refusal is told, or explained, or each instruction that isn't allowed is.
 pub data IsRejected (asked : Asked) (need : ℕ) (input code : List ℕ) (why : Refusal) (text : List ℕ)
     (status : ℕ) : Type 0 where
   declined : PrintsRefusal asked.form input code (fault.Program why) text status
       → IsRejected asked need input code why text status
   explained : asked.explains ≡ true → (other : Refusal) → RefusesProgram need code job_table other
       → status ≡ 1 → IsRejected asked need input code why text status
+  all_explained : asked.explains_all ≡ true → AreExplained need code → status ≡ 1
+      → IsRejected asked need input code why text status
 
 -- A program of these bytes that needs so much, on this memory, and what its run leaves of it.
 pub data IsJudged (asked : Asked) (need : ℕ) (input code old left : List ℕ) (is_shown : Bool)

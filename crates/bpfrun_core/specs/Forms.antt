@@ -3,7 +3,6 @@ use Rattle.std.specs.Prelude.{◌≡◌, ◌≢◌, ℕ, List, codes, eqb, if◌
 use Rattle.std.specs.List.{ends_with}
 use Rattle.std.specs.Str.{IsUtf8}
 use Rattle.insn_codec.specs.declared.insn.Insn.{Insn}
-use Rattle.assembler.specs.declared.fault.TextFault.{TextFault}
 use Rattle.assembler.specs.declared.fault.TextFault.TheVariants as text_fault
 use Rattle.assembler.specs.Source.{IsAssembly, IsTextRefusal, source_lines}
 use Rattle.bpfjobs_cli.specs.Hexadecimal.{IsHexadecimal, IsNoHexadecimal}

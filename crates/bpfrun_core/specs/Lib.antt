@@ -7,3 +7,4 @@ pub mod Answered
 pub mod Traced
 pub mod Program
 pub mod Requests
+pub mod Drawn

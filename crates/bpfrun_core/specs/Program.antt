@@ -40,6 +40,18 @@ explain_rule = record (new_rule (codes "explain")) {
   action = Some SetTrue;
 }
 
+abbrev pub explain_all_rule : Rule
+explain_all_rule = record (new_rule (codes "explain-all")) {
+  long = Some (codes "explain-all");
+  action = Some SetTrue;
+}
+
+abbrev pub graph_rule : Rule
+graph_rule = record (new_rule (codes "graph")) {
+  long = Some (codes "graph");
+  action = Some SetTrue;
+}
+
 abbrev pub trace_rule : Rule
 trace_rule = record (new_rule (codes "trace")) {
   long = Some (codes "trace");
@@ -52,8 +64,16 @@ trace_json_rule = record (new_rule (codes "trace-json")) {
   value_names = 1;
 }
 
+-- the program without its arguments, which tells its version
+abbrev pub named_app : App
+named_app = record {
+  top = record (new_app (codes "bpfrun")).top { has_version = true };
+  subs = [];
+}
+
 abbrev pub bpfrun_app : App
 bpfrun_app = with_rule (with_rule (with_rule
-    (with_rule
-    (with_rule (with_rule (with_rule (with_rule (new_app (codes "bpfrun")) file_rule) need_rule)
-    credit_rule) arg_rule) memory_rule) explain_rule) trace_rule) trace_json_rule
+    (with_rule (with_rule (with_rule
+    (with_rule (with_rule (with_rule (with_rule named_app file_rule) need_rule)
+    credit_rule) arg_rule) memory_rule) explain_rule) explain_all_rule) graph_rule)
+    trace_rule) trace_json_rule

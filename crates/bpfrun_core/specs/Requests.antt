@@ -26,6 +26,9 @@ pub record IsRequestOf (rows : List Row) (request : Request) : Type 0 where
   pub trace_json : first_of (codes "trace-json") rows
       ≡ option_map (λ path. path.now) request.trace_json
   pub explains : IsTrue request.explains ↔ (first_of (codes "explain") rows ≡ Some (codes "true"))
+  pub explains_all : IsTrue request.explains_all
+      ↔ (first_of (codes "explain-all") rows ≡ Some (codes "true"))
+  pub draws : IsTrue request.draws ↔ (first_of (codes "graph") rows ≡ Some (codes "true"))
 
 -- they are those of a request
 pub record SaysRequest (rows : List Row) : Type 0 where

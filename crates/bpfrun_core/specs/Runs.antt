@@ -2,7 +2,6 @@
 use Rattle.std.specs.Prelude.{◌≡◌, ◌≢◌, ℕ, ◌<◌, ◌≤◌, List, length, Some}
 use Rattle.machine_model.specs.Limits.{max_part}
 use Rattle.helpers.specs.Table.{job_table}
-use Rattle.verifier.specs.declared.refusals.Refusal.{Refusal}
 use Rattle.verifier.specs.declared.refusals.Refusal.TheVariants as refusal
 use Rattle.verifier.specs.Checked.{Checked, cost_at}
 use Rattle.verifier.specs.Refusals.{IsAccepted, RefusesProgram}

@@ -1,5 +1,5 @@
 -- The steps of a run that are shown, and where there are none.
-use Rattle.std.specs.Prelude.{◌≡◌, ℕ, List, Option}
+use Rattle.std.specs.Prelude.{ℕ, List, Option}
 use Rattle.run_trace.specs.declared.tracing.Trace.{Trace}
 use Rattle.run_trace.specs.Traces.{IsTrace}
 use Rattle.bpfrun_core.specs.declared.answering.Asked.{Asked}

@@ -3,18 +3,18 @@
 ghost use Rattle.std.specs.Prelude.{◌≡◌, ◌≢◌, ◌≤◌, List, ℕ, Bool, option_map, is_some, true, IfOk, IfSome};
 ghost use Rattle.helpers.specs.Table.{job_table};
 ghost use Rattle.verifier.specs.Refusals.{RefusesProgram};
-ghost use Rattle.bpfrun_core.specs.Answered.{PrintsRefusal, IsJudged, IsRejected, IsTried, need_of, part_of};
+ghost use Rattle.bpfrun_core.specs.Answered.{AreExplained, PrintsRefusal, IsJudged, IsRejected, IsTried, need_of, part_of};
 ghost use Rattle.bpfrun_core.specs.declared.fault.Fault.TheVariants as fault_variant;
 ghost use Rattle.machine_model.specs.Limits.{max_credit};
 
 use crate::fault::Fault;
 use crate::form::Form;
 use crate::place::{place_of, quote_of};
-use crate::reading::bytes_of;
+use crate::reading::{bytes_of, source_of};
 use crate::running::run;
 use crate::telling::{tell_refusal, tell_run};
 use bpfjobs_cli::Answer;
-use explain::explain;
+use explain::{Explanation, explain, explain_all};
 use helpers::HelperTable;
 use machine_model::MAX_PART;
 use refusal::NoMemory;
@@ -32,6 +32,8 @@ pub struct Asked {
     pub credit: u32,
     /// A refusal of the verifier is to be explained.
     pub explains: bool,
+    /// Each instruction that isn't allowed is to be explained.
+    pub explains_all: bool,
 }
 
 // The need that holds.
@@ -58,11 +60,13 @@ fn explain_refusal(
     ensures { IfOk result (λ told. IfSome told (λ answer. ((why : Refusal)
         × RefusesProgram need code.now job_table why) × (answer.status ≡ 1))) }
 {
-    let source = match form {
-        Form::Text => str::from_utf8(input).ok(),
-        Form::Hexadecimal | Form::Bytes => None,
-    };
-    match explain(alloc, need, code, &HelperTable::job(), source)? {
+    match explain(
+        alloc,
+        need,
+        code,
+        &HelperTable::job(),
+        source_of(form, input),
+    )? {
         Some(explanation) => Ok(Some(Answer {
             text: format!(in alloc; "{explanation}")?.into_bytes(),
             status: 1,
@@ -71,8 +75,47 @@ fn explain_refusal(
     }
 }
 
+// The explanations, with an empty line between two.
+fn text_of(alloc: Global, list: &[Explanation]) -> Result<String, NoMemory> {
+    let mut text = String::new(alloc);
+    for why in list {
+        if !text.is_empty() {
+            text.push('\n')?;
+        }
+        text.push_str(format!(in alloc; "{why}")?.as_str())?;
+    }
+    Ok(text)
+}
+
+// Why each instruction isn't allowed that isn't; none where all are.
+fn explain_faults(
+    alloc: Global,
+    form: Form,
+    need: u32,
+    input: &[u8],
+    code: &[u8],
+) -> Result<Option<Answer>, NoMemory>
+    ensures { IfOk result (λ told. IfSome told (λ answer. AreExplained need code.now
+        × (answer.status ≡ 1))) }
+{
+    let list = explain_all(
+        alloc,
+        need,
+        code,
+        &HelperTable::job(),
+        source_of(form, input),
+    )?;
+    if list.is_empty() {
+        return Ok(None);
+    }
+    Ok(Some(Answer {
+        text: text_of(alloc, &list)?.into_bytes(),
+        status: 1,
+    }))
+}
+
 // The lines of a refusal.
-fn print_refusal(
+pub(crate) fn print_refusal(
     alloc: Global,
     form: Form,
     input: &[u8],
@@ -89,7 +132,7 @@ fn print_refusal(
 }
 
 // What is answered where the verifier refuses a program.
-fn answer_refusal(
+pub(crate) fn answer_refusal(
     alloc: Global,
     asked: &Asked,
     need: u32,
@@ -101,6 +144,11 @@ fn answer_refusal(
         (λ answer. IsRejected asked.now need input.now code.now refusal answer.text.items
         answer.status) }
 {
+    if asked.explains_all {
+        if let Some(answer) = explain_faults(alloc, asked.form, need, input, code)? {
+            return Ok(answer);
+        }
+    }
     if asked.explains {
         if let Some(answer) = explain_refusal(alloc, asked.form, need, input, code)? {
             return Ok(answer);

@@ -14,6 +14,10 @@ pub struct Request<'a> {
     pub arg: u64,
     /// A refusal of the verifier is to be explained.
     pub explains: bool,
+    /// Each instruction that isn't allowed is to be explained.
+    pub explains_all: bool,
+    /// The program's graph is to be drawn, in place of a run.
+    pub draws: bool,
     /// The steps of the run are to be printed.
     pub traces: bool,
     /// The path of a file that gets the steps as JSON, if the words name one.

@@ -29,6 +29,11 @@ mod tracing;
 
 pub use tracing::{step_lines, step_objects, trace};
 
+// the program's graph
+mod drawing;
+
+pub use drawing::draw;
+
 // the words of the command line
 mod asked;
 mod program;

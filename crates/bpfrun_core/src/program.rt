@@ -1,9 +1,9 @@
 //! What clap is told of the words.
 
-ghost use Rattle.std.specs.Prelude.{◌≡◌, false, codes, IfOk};
-ghost use Rattle.clap.specs.Words.{app_of, new_app, rule_of};
+ghost use Rattle.std.specs.Prelude.{◌≡◌, false, IfOk};
+ghost use Rattle.clap.specs.Words.{app_of, rule_of};
 ghost use Rattle.clap.specs.declared.builder.command.Command.TheViews.{out-Command as fields_of};
-ghost use Rattle.bpfrun_core.specs.Program.{file_rule, need_rule, credit_rule, arg_rule, memory_rule, explain_rule, trace_rule, trace_json_rule, bpfrun_app};
+ghost use Rattle.bpfrun_core.specs.Program.{file_rule, need_rule, credit_rule, arg_rule, memory_rule, explain_rule, trace_rule, trace_json_rule, bpfrun_app, explain_all_rule, graph_rule, named_app};
 
 use crate::texts;
 use clap::{Arg, ArgAction, Command};
@@ -74,6 +74,26 @@ fn explain<'a>(alloc: Global) -> Arg<'a>
         .help(texts::EXPLAIN)
 }
 
+fn explain_all<'a>(alloc: Global) -> Arg<'a>
+    ensures rule { rule_of result ≡ explain_all_rule }
+    ensures local { result.global ≡ false }
+{
+    Arg::new(alloc, "explain-all")
+        .long("explain-all")
+        .action(ArgAction::SetTrue)
+        .help(texts::EXPLAIN_ALL)
+}
+
+fn graph<'a>(alloc: Global) -> Arg<'a>
+    ensures rule { rule_of result ≡ graph_rule }
+    ensures local { result.global ≡ false }
+{
+    Arg::new(alloc, "graph")
+        .long("graph")
+        .action(ArgAction::SetTrue)
+        .help(texts::GRAPH)
+}
+
 fn trace<'a>(alloc: Global) -> Arg<'a>
     ensures rule { rule_of result ≡ trace_rule }
     ensures local { result.global ≡ false }
@@ -96,10 +116,11 @@ fn trace_json<'a>(alloc: Global) -> Arg<'a>
 
 // The program without its arguments.
 fn named<'a>(alloc: Global) -> Command<'a>
-    ensures app { app_of result ≡ new_app (codes "bpfrun") }
+    ensures app { app_of result ≡ named_app }
     ensures local { (fields_of result).has_globals ≡ false }
 {
     Command::new(alloc, "bpfrun")
+        .version(texts::VERSION)
         .about(texts::BPFRUN)
         .after_help(texts::BPFRUN_MORE)
 }
@@ -115,6 +136,8 @@ pub(crate) fn bpfrun<'a>(alloc: Global) -> Result<Command<'a>, AllocError>
         .arg(argument(alloc))?
         .arg(memory(alloc))?
         .arg(explain(alloc))?
+        .arg(explain_all(alloc))?
+        .arg(graph(alloc))?
         .arg(trace(alloc))?
         .arg(trace_json(alloc))
 }

@@ -45,3 +45,11 @@ pub fn bytes_of(alloc: Global, form: Form, input: &[u8]) -> Result<Vec<u8>, Faul
         }
     }
 }
+
+/// The source text of a file, if it is one.
+pub(crate) fn source_of(form: Form, input: &[u8]) -> Option<&str> {
+    match form {
+        Form::Text => str::from_utf8(input).ok(),
+        Form::Hexadecimal | Form::Bytes => None,
+    }
+}

@@ -7,7 +7,7 @@ pub(crate) const BPFRUN_MORE: &str =
     "Writes R0, what the run spent of the credit, and, where a memory is given, that memory behind
 the run, in hexadecimal. A program that is refused is told with the number of the refusal and,
 where it is text, with its line.
-Status: 0 ran; 1 refused; 2 wrong words; 3 where input or output fails, or there is no memory.
+Status: 0 ran, or drawn and accepted; 1 refused; 2 wrong words; 3 where input or output fails, or there is no memory.
 
 Example:
   $ bpfrun examples/byte_at.bpf --need 16 --arg 3
@@ -36,3 +36,11 @@ pub(crate) const TRACE: &str =
 pub(crate) const TRACE_JSON: &str = "Writes the same into a file, a JSON object a line";
 
 pub(crate) const EXPLAIN: &str = "Explains why the verifier refuses the program";
+
+pub(crate) const EXPLAIN_ALL: &str =
+    "Explains each instruction that isn't allowed, but for those behind another one";
+
+pub(crate) const GRAPH: &str =
+    "Writes the program's graph in place of a run, in the language DOT; red is why it is refused";
+
+pub(crate) const VERSION: &str = "0.1.0";

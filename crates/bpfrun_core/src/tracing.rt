@@ -7,22 +7,13 @@ ghost use Rattle.bpfrun_core.specs.Traced.{IsTraced, IsUntraced};
 
 use crate::answering::{Asked, need_of};
 use crate::fault::Fault;
-use crate::form::Form;
-use crate::reading::bytes_of;
+use crate::reading::{bytes_of, source_of};
 use crate::running::run;
 use machine_model::MAX_PART;
 use reference::Unanswered;
 use refusal::NoMemory;
 use run_trace::{Json, Trace, trace_run};
 use std::alloc::Global;
-
-/// The source text of a file, if it is one.
-fn source_of(form: Form, input: &[u8]) -> Option<&str> {
-    match form {
-        Form::Text => str::from_utf8(input).ok(),
-        Form::Hexadecimal | Form::Bytes => None,
-    }
-}
 
 /// The part of a program at its start: its memory, or else as many zeros as it needs.
 fn part_of(alloc: Global, need: Option<u32>, memory: Option<&[u8]>) -> Result<Vec<u8>, NoMemory>

@@ -70,6 +70,8 @@ fn request_of<'a>(matches: &ArgMatches<'a>) -> Request<'a>
         credit: number(matches, "credit", u64::from(MAX_CREDIT)) as u32,
         arg: number(matches, "arg", u64::MAX),
         explains: flag(matches, "explain"),
+        explains_all: flag(matches, "explain-all"),
+        draws: flag(matches, "graph"),
         traces: flag(matches, "trace"),
         trace_json: matches.get_str("trace-json"),
     }

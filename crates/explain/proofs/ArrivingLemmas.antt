@@ -1,11 +1,11 @@
 -- What arrives at each slot, from what arrives at the slots that lead there.
-use Rattle.std.proofs.Common.{◌≡◌, ◌≢◌, ◌⊎◌, ℕ, zero, suc, ◌+◌, ◌≤◌, ◌<◌, List, length, slice_set, slice_index, slice_index_or, Option, Some, None, option_and_then, inl, inr, refl, sym, subst, ap, ◌∙◌, arith}
-use Rattle.std.proofs.lemmas.Bool.{cases_eq, cases_lt}
+use Rattle.std.proofs.Common.{◌≡◌, ◌≢◌, ℕ, zero, suc, ◌≤◌, ◌<◌, List, length, slice_set, slice_index, slice_index_or, Option, Some, None, option_and_then, inl, inr, refl, sym, subst, ap, ◌∙◌, arith}
+use Rattle.std.proofs.lemmas.Bool.{cases_lt}
 use Rattle.std.proofs.lemmas.List.{get_or-set_same, get_or-set_other}
 use Rattle.std.proofs.Math.ListN.{length-set}
 use Rattle.insn_codec.specs.declared.insn.Insn.{Insn}
 use Rattle.insn_codec.specs.declared.insn.Insn.TheVariants.{Alu, Mov, MovSx, Neg, End, LoadWide, Load, Store, StoreRegister, Jump, Jump32, JumpIf, Call, Exit}
-use Rattle.machine_model.specs.Edges.{Code, Fact, Always, NotTaken, Taken, IsEdge, Begins, insn_at, leads_at, leads}
+use Rattle.machine_model.specs.Edges.{Fact, Always, NotTaken, Taken, Begins, insn_at, leads_at, leads}
 use Rattle.machine_model.proofs.Codes.{begins_within}
 use Rattle.flow_graph.specs.Flow.{AreNext, IsFlow}
 use Rattle.flow_graph.specs.declared.graph.Next.TheVariants.{Zero, One, Two}

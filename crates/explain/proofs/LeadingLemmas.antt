@@ -1,16 +1,15 @@
 -- Marks at the slots that lead to a slot, and a walk through them.
-use Rattle.std.proofs.Common.{◌≡◌, ◌≢◌, ◌⊎◌, ℕ, suc, ◌+◌, ◌≤◌, ◌<◌, List, [], ◌∷◌, ◌++◌, length, slice_set, slice_index, Bool, true, false, replicate, inl, inr, refl, sym, subst, ap, ◌∙◌, arith}
+use Rattle.std.proofs.Common.{◌≡◌, ◌≢◌, ◌⊎◌, ℕ, suc, ◌≤◌, ◌<◌, List, [], ◌∷◌, ◌++◌, length, slice_set, slice_index, Bool, true, false, replicate, inl, inr, sym, subst, ap, ◌∙◌, arith}
 use Rattle.std.proofs.lemmas.Bool.{cases_eq}
 use Rattle.std.proofs.lemmas.List.{get_or-set_same, get_or-set_other}
 use Rattle.std.proofs.Math.ListN.{length-set}
-use Rattle.machine_model.specs.Edges.{Code, Fact, IsEdge, Begins}
+use Rattle.machine_model.specs.Edges.{Code, IsEdge, Begins}
 use Rattle.flow_graph.specs.Cycles.{IsJoint}
-use Rattle.flow_graph.specs.Flow.{IsFlow, IsOrder}
+use Rattle.flow_graph.specs.Flow.{IsFlow}
 use Rattle.flow_graph.specs.Reached.{IsMarked}
 use Rattle.flow_graph.proofs.Marks.{none_marked}
-use Rattle.flow_graph.proofs.OrderLemmas.{joint_begins}
 use Rattle.explain.specs.Ways.{IsWay, IsWayTo}
-use Rattle.explain.specs.Leading.{LeadsTo, LeadsOn, AreLeading, LeadFrom, IsAhead, HasComeTo}
+use Rattle.explain.specs.Leading.{AreLeading, LeadFrom, IsAhead, HasComeTo}
 use Rattle.explain.proofs.WayLemmas.{way_start, way_longer, from_path}
 
 -- ---- one mark more

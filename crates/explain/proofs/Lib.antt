@@ -3,4 +3,7 @@ pub mod PlaceLemmas
 pub mod WayLemmas
 pub mod LeadingLemmas
 pub mod ArrivingLemmas
+pub mod NeedLemmas
 pub mod RefusedLemmas
+pub mod FaultLemmas
+pub mod BlockLemmas

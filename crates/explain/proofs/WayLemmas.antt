@@ -1,5 +1,5 @@
 -- Ways along edges, made longer at their end.
-use Rattle.std.proofs.Common.{◌≡◌, ℕ, List, [], ◌∷◌, ◌++◌, refl, sym, subst, ap}
+use Rattle.std.proofs.Common.{ℕ, List, [], ◌∷◌, ◌++◌, refl, sym, subst, ap}
 use Rattle.machine_model.specs.Edges.{Code}
 use Rattle.machine_model.specs.Paths.{IsPathTo}
 use Rattle.flow_graph.specs.Cycles.{IsJoint}

@@ -1,10 +1,6 @@
 -- What arrives at each slot, as a table, and what is known at a slot that is refused.
-use Rattle.std.specs.Prelude.{◌≡◌, ℕ, ◌≤◌, ◌<◌, List, length, slice_index, slice_index_or, Some}
+use Rattle.std.specs.Prelude.{◌≡◌, ℕ, ◌≤◌, ◌<◌, List, length, slice_index, slice_index_or}
 use Rattle.machine_model.specs.Edges.{Always, NotTaken, Taken}
-use Rattle.insn_codec.specs.declared.insn.Placed.{Placed}
-use Rattle.insn_codec.specs.Spelling.{IsProgram}
-use Rattle.flow_graph.specs.Program.{code_of}
-use Rattle.helpers.specs.Table.{Table}
 use Rattle.verifier.specs.InStates.{Subject, InState, Unreached, Undefined, Reached, joined_in_state, edge_state, in_state}
 use Rattle.explain.specs.declared.arriving.Arrival.{Arrival}
 use Rattle.explain.specs.declared.arriving.Arrival.TheVariants as arrival

@@ -2,6 +2,11 @@ pub mod Lines
 pub mod Ways
 pub mod Leading
 pub mod Arriving
+pub mod Needs
 pub mod Texts
 pub mod Refused
 pub mod Told
+pub mod Whole
+pub mod Faults
+pub mod Blocks
+pub mod Pictures

@@ -11,6 +11,8 @@ use Rattle.value_ranges.specs.declared.abs.Abs.{Abs}
 use Rattle.value_ranges.specs.declared.abs.Abs.TheVariants.{Unset, Num, Stack, Part}
 use Rattle.instruction_rules.specs.declared.state.State.{State}
 use Rattle.instruction_rules.specs.Covers.{abs_at}
+use Rattle.explain.specs.declared.needs.Enough.{Enough}
+use Rattle.explain.specs.declared.needs.Enough.TheVariants.{From, Never}
 use Rattle.explain.specs.declared.explanation.Known.{Known}
 use Rattle.explain.specs.declared.explanation.Place.{Place}
 
@@ -68,10 +70,17 @@ registers_text s =
 abbrev pub way_text : List ℕ → List ℕ
 way_text way = flat_map (λ slot. codes " " ++ decimal slot) way
 
--- the way, and what is known at its end
+-- the least need, where one is told
+abbrev pub need_text : Option Enough → List ℕ
+need_text None = []
+need_text (Some (From least)) = codes "least need here: " ++ (decimal least ++ codes "\n")
+need_text (Some Never) = codes "least need here: none up to 65536\n"
+
+-- the least need, the way, and what is known at its end
 abbrev pub state_text : Known → List ℕ
-state_text known = codes "way:"
-    ++ (way_text known.way.items ++ (codes "\nknown there:\n" ++ registers_text known.state))
+state_text known = need_text known.enough
+    ++ (codes "way:"
+    ++ (way_text known.way.items ++ (codes "\nknown there:\n" ++ registers_text known.state)))
 
 abbrev pub line_part : Option ℕ → List ℕ
 line_part None = []

@@ -1,18 +1,20 @@
 -- What is told of a program: that it is accepted, or its one refusal and why.
 use Rattle.std.specs.Prelude.{◌≡◌, ◌≢◌, ℕ, List, Option, Some, None}
 use Rattle.helpers.specs.Table.{Table}
+use Rattle.insn_codec.specs.declared.insn.Insn.{Insn}
 use Rattle.insn_codec.specs.declared.insn.Placed.{Placed}
 use Rattle.insn_codec.specs.Spelling.{IsProgram}
+use Rattle.machine_model.specs.Edges.{insn_at}
 use Rattle.flow_graph.specs.Program.{code_of}
-use Rattle.instruction_rules.specs.declared.state.State.{State}
 use Rattle.verifier.specs.declared.refusals.Refusal.{Refusal}
 use Rattle.verifier.specs.declared.refusals.Refusal.TheVariants.{NeedTooLarge, Codec, Flow, UnsetRead, OutOfStack, OutOfPart, BadKind, PointerRange, FramePointer, NoHelper, NoMemory}
 use Rattle.verifier.specs.Checked.{Checked}
-use Rattle.verifier.specs.InStates.{Reached, in_state}
+use Rattle.verifier.specs.InStates.{Subject, Reached, in_state}
 use Rattle.verifier.specs.RefusalCodes.{slot_of}
 use Rattle.verifier.specs.Refusals.{RefusesProgram, IsAccepted}
 use Rattle.explain.specs.declared.explanation.Explanation.{Explanation}
 use Rattle.explain.specs.declared.explanation.Known.{Known}
+use Rattle.explain.specs.Needs.{IsEnoughOf}
 use Rattle.explain.specs.Lines.{IsPlaceOf}
 use Rattle.explain.specs.Ways.{IsWayTo}
 
@@ -34,13 +36,20 @@ ruled_slot (NoHelper slot) = Some slot
 ruled_slot NoMemory = None
 
 -- A way along the program's edges leads to the slot, and the state is the one that arrives there.
+-- Where the instruction leaves the part there, it is told with which needs it doesn't.
+pub record IsKnownIn (p : Subject) (slot : ℕ) (known : Known) : Type 0 where
+  pub way : IsWayTo p.code slot known.way.items
+  pub arrives : in_state p slot ≡ Reached known.state
+  pub enough : (i : Insn) → insn_at p.code slot ≡ Some i
+      → IsEnoughOf p.helpers i known.state p.need known.enough
+
+-- the same of the program that the bytes spell
 pub record IsKnownAt (need : ℕ) (code : List ℕ) (helpers : Table) (slot : ℕ) (known : Known) :
     Type 0 where
   pub placed : List Placed
   pub program : IsProgram placed code
-  pub way : IsWayTo (code_of placed) slot known.way.items
-  pub arrives : in_state (record { need = need; helpers = helpers; code = code_of placed }) slot
-      ≡ Reached known.state
+  pub there : IsKnownIn (record { need = need; helpers = helpers; code = code_of placed }) slot
+      known
 
 -- what is known at the slot, if there is one
 abbrev pub IsKnownOf : ℕ → List ℕ → Table → Option ℕ → Option Known → Type 0

@@ -14,7 +14,7 @@ use std::alloc::Global;
 use verifier::{Refusal, verify};
 
 /// Why the program is refused so.
-fn explain_refusal(
+pub(crate) fn explain_refusal(
     alloc: Global,
     need: u32,
     code: &[u8],
@@ -24,8 +24,9 @@ fn explain_refusal(
 ) -> Result<Explanation, NoMemory>
     requires refused { RefusesProgram need code.now helpers.now refusal }
     requires lasting { refusal ≢ refused.NoMemory }
-    ensures { IfOk result (λ why. IsTold need code.now helpers.now
+    ensures told { IfOk result (λ why. IsTold need code.now helpers.now
         (option_map (λ text. text.now) source.entry) why) }
+    ensures same { IfOk result (λ why. why.refusal ≡ refusal) }
 {
     let place = place_of(alloc, code, source, refusal.slot())?;
     let known = known_of(alloc, need, code, helpers, &refusal)?;

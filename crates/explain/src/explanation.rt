@@ -1,5 +1,6 @@
 //! Why a program is refused, as a value.
 
+use crate::needs::Enough;
 use crate::registers::Registers;
 use crate::rules::rule;
 use std::fmt;
@@ -22,11 +23,13 @@ pub struct Known {
     pub way: Vec<u32>,
     /// What is known of each register there, on every way.
     pub state: State,
+    /// Where it leaves the part, the needs with which it doesn't, where this is known.
+    pub enough: Option<Enough>,
 }
 
 /// Why a program is refused. Its text tells the rule that is broken, and of one instruction that
-/// breaks it the line of the source, if there is one, a way from slot 0 there, and what is known of
-/// each register ahead of it.
+/// breaks it the line of the source, if there is one, the least need where it leaves the part, a
+/// way from slot 0 there, and what is known of each register ahead of it.
 #[derive(Drop)]
 pub struct Explanation {
     pub refusal: Refusal,
@@ -69,6 +72,25 @@ impl<'a> fmt::Display for Way<'a> {
     }
 }
 
+/// The least need with which an access lies within the part, on a line, where one doesn't.
+#[derive(Clone, Copy)]
+struct NeedLine(Option<Enough>);
+
+impl fmt::Display for NeedLine {
+    ghost use Rattle.std.specs.Prelude.{Some};
+    ghost use Rattle.explain.specs.Texts.{need_text};
+
+    ghost output = { λ line. Some (need_text line.0) };
+
+    fn fmt<W: fmt::Write>(&self, f: &mut fmt::Formatter<W>) -> fmt::Result {
+        match self.0 {
+            Some(Enough::From(least)) => write!(f, "least need here: {least}\n"),
+            Some(Enough::Never) => write!(f, "least need here: none up to 65536\n"),
+            None => Ok(()),
+        }
+    }
+}
+
 impl fmt::Display for Known {
     ghost use Rattle.std.specs.Prelude.{Some};
     ghost use Rattle.explain.specs.Texts.{state_text};
@@ -76,8 +98,9 @@ impl fmt::Display for Known {
     ghost output = { λ known. Some (state_text known) };
 
     fn fmt<W: fmt::Write>(&self, f: &mut fmt::Formatter<W>) -> fmt::Result {
-        let (way, state) = (Way(&self.way), Registers(self.state));
-        write!(f, "way:{way}\nknown there:\n{state}")
+        let (need, way) = (NeedLine(self.enough), Way(&self.way));
+        let state = Registers(self.state);
+        write!(f, "{need}way:{way}\nknown there:\n{state}")
     }
 }
 

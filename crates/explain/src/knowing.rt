@@ -1,16 +1,22 @@
 //! What is known ahead of an instruction that isn't allowed, and a way there.
 
-ghost use Rattle.std.specs.Prelude.{◌≡◌, IfOk};
+ghost use Rattle.std.specs.Prelude.{◌≡◌, ◌≤◌, Some, IfOk};
+ghost use Rattle.machine_model.specs.Edges.{insn_at};
+ghost use Rattle.machine_model.specs.Limits.{max_part};
+ghost use Rattle.verifier.specs.InStates.{Reached, in_state};
 ghost use Rattle.verifier.specs.Refusals.{RefusesProgram};
+ghost use Rattle.explain.specs.Arriving.{subject_of};
 ghost use Rattle.explain.specs.Refused.{IsRefusedAt};
-ghost use Rattle.explain.specs.Told.{IsKnownAt, IsKnownOf, ruled_slot};
+ghost use Rattle.explain.specs.Told.{IsKnownAt, IsKnownIn, IsKnownOf, ruled_slot};
 
 use crate::arriving::{Survey, state_at};
 use crate::explanation::Known;
 use crate::leading::way_to;
+use crate::needs::least_need;
 use flow_graph::{FlowFault, build};
 use helpers::HelperTable;
-use insn_codec::{CodecFault, decode};
+use insn_codec::{CodecFault, Insn, decode};
+use instruction_rules::State;
 use refusal::NoMemory;
 use std::alloc::Global;
 use verifier::Refusal;
@@ -29,6 +35,24 @@ fn ruled_slot(refusal: &Refusal) -> Option<u32>
         | Refusal::NoHelper(slot) => Some(*slot),
         Refusal::NeedTooLarge | Refusal::Codec(_) | Refusal::Flow(_) | Refusal::NoMemory => None,
     }
+}
+
+/// What is known at a slot where this instruction stands and this state arrives.
+pub(crate) fn known_in(
+    alloc: Global,
+    survey: &Survey<'_>,
+    insn: &Insn,
+    slot: u32,
+    state: State,
+) -> Result<Known, NoMemory>
+    requires need { survey.now.need ≤ max_part }
+    requires there { insn_at survey.now.graph.now.code slot ≡ Some insn.now }
+    requires arrives { in_state (subject_of survey.now) slot ≡ Reached state }
+    ensures { IfOk result (λ known. IsKnownIn (subject_of survey.now) slot known) }
+{
+    let way = way_to(alloc, survey.graph, slot)?;
+    let enough = least_need(survey.need, survey.helpers, insn, &state);
+    Ok(Known { way, state, enough })
 }
 
 /// What is known at the slot, of a program that is refused there.
@@ -57,9 +81,11 @@ fn known_at(
         helpers,
         graph: &graph,
     };
-    let way = way_to(alloc, &graph, slot)?;
     let state = state_at(alloc, &survey, slot)?;
-    Ok(Known { way, state })
+    match graph.insn(slot) {
+        Some(insn) => known_in(alloc, &survey, insn, slot, state),
+        None => unreachable!(),
+    }
 }
 
 /// What is known where a program is refused, if that is for an instruction that isn't allowed.

@@ -5,16 +5,30 @@
 // the verdict, and why
 mod explaining;
 mod explanation;
+mod faults;
 mod rules;
 
 pub use explaining::explain;
 pub use explanation::{Explanation, Known, Place};
+pub use faults::explain_all;
 
 // what leads to a slot, and what is known there
 mod arriving;
 mod knowing;
 mod leading;
+mod needs;
 mod registers;
+mod whole;
+
+pub use needs::Enough;
+pub use registers::Content;
+
+// the graph, by basic blocks
+mod blocks;
+mod picture;
+
+pub use blocks::Block;
+pub use picture::{Picture, picture_of};
 
 // a slot's line in a source text
 mod lines;

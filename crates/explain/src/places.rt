@@ -36,7 +36,7 @@ pub fn line_at<'a>(lines: &[Line<'a>], place: usize) -> Option<Line<'a>>
 }
 
 /// The number of the line at a place, from 0 on.
-fn number_at(lines: &[Line<'_>], index: usize) -> Option<u64>
+pub(crate) fn number_at(lines: &[Line<'_>], index: usize) -> Option<u64>
     ensures { result ≡ option_map (λ line. line.0) (slice_get (map told lines.now) index) }
 {
     match line_at(lines, index) {

@@ -97,9 +97,9 @@ impl fmt::Display for Positions {
     }
 }
 
-/// What is known of a register.
+/// What is known of a register. Its text is one line.
 #[derive(Clone, Copy)]
-struct Content(Abs);
+pub struct Content(pub Abs);
 
 impl fmt::Display for Content {
     ghost use Rattle.std.specs.Prelude.{Some};

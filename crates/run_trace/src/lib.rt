@@ -1,5 +1,5 @@
 //! The steps of one program's run, as the definitions have them: the instruction of each, and what
-//! it changed.
+//! it changed; and the program's graph as a drawing.
 #![tactic(auto)]
 
 // a step, and what it changed
@@ -18,3 +18,8 @@ mod json;
 mod telling;
 
 pub use json::Json;
+
+// a picture of a program, drawn
+mod drawing;
+
+pub use drawing::Drawing;

@@ -11,5 +11,7 @@ returns c =
     let fourth = c.in_ok-arg-4.ensures.shape c.argument.ensures.local ∙ ap₂ with_rule third c.argument.ensures.rule in
     let fifth = c.in_ok-arg-5.ensures.shape c.memory.ensures.local ∙ ap₂ with_rule fourth c.memory.ensures.rule in
     let sixth = c.in_ok-arg-6.ensures.shape c.explain.ensures.local ∙ ap₂ with_rule fifth c.explain.ensures.rule in
-    let seventh = c.in_ok-arg-7.ensures.shape c.trace.ensures.local ∙ ap₂ with_rule sixth c.trace.ensures.rule in
-    IfOk-weaker c.arg-8.result _ _ (λ r h. h.shape c.trace_json.ensures.local ∙ ap₂ with_rule seventh c.trace_json.ensures.rule) c.arg-8.ensures
+    let seventh = c.in_ok-arg-7.ensures.shape c.explain_all.ensures.local ∙ ap₂ with_rule sixth c.explain_all.ensures.rule in
+    let eighth = c.in_ok-arg-8.ensures.shape c.graph.ensures.local ∙ ap₂ with_rule seventh c.graph.ensures.rule in
+    let ninth = c.in_ok-arg-9.ensures.shape c.trace.ensures.local ∙ ap₂ with_rule eighth c.trace.ensures.rule in
+    IfOk-weaker c.arg-10.result _ _ (λ r h. h.shape c.trace_json.ensures.local ∙ ap₂ with_rule ninth c.trace_json.ensures.rule) c.arg-10.ensures

@@ -15,6 +15,8 @@ returns-clause-parts c =
       credit = subst P limit c.number.ensures.number;
       arg = c.number-2.ensures.number;
       explains = c.flag.ensures;
-      traces = c.flag-2.ensures;
+      explains_all = c.flag-2.ensures;
+      draws = c.flag-3.ensures;
+      traces = c.flag-4.ensures;
       trace_json = first_is (λ s. s.now) (found_of c.args.matches.now) (codes "trace-json") c.get_str-2.result c.get_str-2.ensures;
     }

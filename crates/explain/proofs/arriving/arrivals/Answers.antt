@@ -1,7 +1,7 @@
 use Rattle.std.proofs.Common.{◌<◌, length, arith, add-one}
 use Rattle.machine_model.proofs.Codes.{begins_within}
 use Rattle.explain.specs.Arriving.{subject_of}
-use Rattle.explain.proofs.ArrivingLemmas.{fill_all, fill_first, fill_next}
+use Rattle.explain.proofs.ArrivingLemmas.{fill_all, fill_next}
 use Rattle.explain.proofs.arriving.arrivals.Goals as goal
 
 pub index_mut-requires : goal.index_mut-requires

@@ -1,12 +1,12 @@
-use Rattle.std.proofs.Common.{◌≡◌, ◌∙◌, ap, subst, sym, rules}
+use Rattle.std.proofs.Common.{◌≡◌, ◌∙◌, Some, ap, subst, sym, rules}
 use Rattle.insn_codec.specs.declared.fault.CodecFault.TheVariants as codec
 use Rattle.flow_graph.specs.declared.fault.FlowFault.TheVariants as flow
 use Rattle.flow_graph.specs.Program.{code_of}
 use Rattle.flow_graph.proofs.Decoded.{decoded_of}
-use Rattle.machine_model.specs.Edges.{Begins, Code}
+use Rattle.machine_model.specs.Edges.{Begins, Code, insn_at}
 use Rattle.machine_model.proofs.Codes.{begins_within}
 use Rattle.verifier.specs.InStates.{Reached, in_state}
-use Rattle.explain.specs.Ways.{IsWayTo}
+use Rattle.explain.proofs.FaultLemmas.{no_insn}
 use Rattle.explain.proofs.RefusedLemmas.{not_codec, not_flow, same_code}
 use Rattle.explain.proofs.knowing.known_at.Goals as goal
 
@@ -26,13 +26,6 @@ unreachable-requires-in-Err-build c =
     not_flow (code_of c.requires.placed) c.in-Err-build.field-0 c.requires.flow (rw (c.deref.ensures.value, sym code) at c.in-Err-build.ensures) in
     search (rules, same)
 
-pub way_to-requires : goal.way_to-requires
-way_to-requires c =
-    let code : c.in-Ok-build.graph.code ≡ code_of c.requires.placed =
-    c.in-Ok-build.ensures.same ∙ (ap code_of c.deref.ensures.value
-    ∙ sym (same_code c.args.need c.args.code.now c.args.helpers.now c.args.slot c.in-Ok.placed.items c.requires c.in-Ok.ensures.found)) in
-    record { begins = subst (λ (k : Code). Begins k c.args.slot) (sym code) (c.requires.faulty.insn, c.requires.faulty.there) }
-
 pub state_at-requires-clause-slot : goal.state_at-requires-clause-slot
 state_at-requires-clause-slot c =
     let code : c.in-Ok-build.graph.code ≡ code_of c.requires.placed =
@@ -49,3 +42,11 @@ state_at-requires-clause-arrives c =
       subst (λ (k : Code). in_state (record { need = c.args.need; helpers = c.args.helpers.now; code = k }) c.args.slot ≡ Reached c.requires.faulty.state) (sym code)
           c.requires.faulty.arrives,
     )
+
+pub unreachable-requires-in-None : goal.unreachable-requires-in-None
+unreachable-requires-in-None c =
+    let code : c.in-Ok-build.graph.code ≡ code_of c.requires.placed =
+    c.in-Ok-build.ensures.same ∙ (ap code_of c.deref.ensures.value
+    ∙ sym (same_code c.args.need c.args.code.now c.args.helpers.now c.args.slot c.in-Ok.placed.items c.requires c.in-Ok.ensures.found)) in
+    no_insn _ c.requires.faulty.insn (rw c.in-None.is at c.insn.ensures)
+    (subst (λ (k : Code). insn_at k c.args.slot ≡ Some c.requires.faulty.insn) (sym code) c.requires.faulty.there)

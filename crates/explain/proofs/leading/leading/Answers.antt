@@ -1,4 +1,4 @@
-use Rattle.std.proofs.Common.{◌≡◌, ◌-◌, ◌<◌, ◌∙◌, suc, ℕ, length, replicate, false, ap, subst, arith, rules}
+use Rattle.std.proofs.Common.{◌≡◌, ◌-◌, ◌<◌, suc, ℕ, length, replicate, false, subst, arith, rules}
 use Rattle.machine_model.proofs.Codes.{begins_within}
 use Rattle.explain.specs.Leading.{LeadFrom}
 use Rattle.explain.proofs.LeadingLemmas.{lead_all, lead_first, lead_marked, lead_unmarked}

@@ -1,4 +1,4 @@
-use Rattle.std.proofs.Common.{◌<◌, ◌∙◌, ℕ, length, subst, sym, add-one, arith}
+use Rattle.std.proofs.Common.{◌<◌, length, subst, add-one}
 use Rattle.machine_model.specs.Edges.{Begins}
 use Rattle.explain.proofs.LeadingLemmas.{come_end, come_on, come_past, come_start, come_there, never_stuck}
 use Rattle.explain.proofs.leading.way_to.Goals as goal

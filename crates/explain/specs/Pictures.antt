@@ -1,0 +1,26 @@
+-- What a picture of a program shows.
+use Rattle.std.specs.Prelude.{ℕ, ◌≤◌, List, Option, MatchOption}
+use Rattle.machine_model.specs.Limits.{max_part}
+use Rattle.helpers.specs.Table.{Table}
+use Rattle.insn_codec.specs.declared.insn.Placed.{Placed}
+use Rattle.insn_codec.specs.Spelling.{IsProgram}
+use Rattle.flow_graph.specs.Program.{code_of}
+use Rattle.verifier.specs.Refusals.{HasFlow}
+use Rattle.explain.specs.declared.picture.Picture.{Picture}
+use Rattle.explain.specs.Blocks.{AreBlocks, ArePlaces}
+use Rattle.explain.specs.Lines.{lines_in}
+use Rattle.explain.specs.Told.{IsAllowed, IsTold}
+
+-- The program has a graph. Shown are its instructions, its basic blocks, and why it is refused, if
+-- it is.
+pub record IsPicture (need : ℕ) (code : List ℕ) (helpers : Table) (source : Option (List ℕ))
+    (picture : Picture) : Type 0 where
+  pub small : need ≤ max_part
+  pub placed : List Placed
+  pub program : IsProgram placed code
+  pub flow : HasFlow (code_of placed)
+  pub places : ArePlaces placed (lines_in source) picture.places.items
+  pub blocks : AreBlocks (record { need = need; helpers = helpers; code = code_of placed }) placed
+      picture.blocks.items
+  pub why : MatchOption picture.why (IsAllowed need code helpers)
+      (λ why. IsTold need code helpers source why)
