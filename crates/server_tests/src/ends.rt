@@ -98,37 +98,31 @@ const REPLIES: [&str; 4] = [
     "{\"balance\":400,\"granted\":400,\"ok\":true,\"open\":0,\"spent\":0}",
 ];
 
-/// The ends of a sweep's turn in which so many calls go well.
-fn ends_of(alloc: Global, sweep: Sweep, bytes: &[u8], calls: u64) -> (Dripping<'_>, Filling) {
+/// What a stream comes to where so many calls go well: the number of its fault or how many frames
+/// were answered, how many bytes of the replies were written, and what was granted.
+fn came(
+    alloc: Global,
+    sweep: Sweep,
+    calls: u64,
+    bytes: &[u8],
+    replies: &[u8],
+) -> Result<[u64; 3], Stop> {
     let (reads, writes) = if sweep.of_reader {
         (calls, ALWAYS)
     } else {
         (ALWAYS, calls)
     };
-    let reader = Dripping {
+    let mut reader = Tap::new(Dripping {
         rest: bytes,
         step: sweep.step,
         calls: reads,
-    };
-    let writer = Filling {
+    });
+    let mut writer = Tap::new(Filling {
         bytes: Vec::new(alloc),
         step: sweep.room,
         calls: writes,
         fails: sweep.fails,
-    };
-    (reader, writer)
-}
-
-/// What a stream comes to: the number of its fault or how many frames were answered, how many bytes
-/// of the replies were written, and what was granted.
-fn came(
-    alloc: Global,
-    reader: Dripping,
-    writer: Filling,
-    replies: &[u8],
-) -> Result<[u64; 3], Stop> {
-    let mut reader = Tap::new(reader);
-    let mut writer = Tap::new(writer);
+    });
     let mut desk = Desk::new(alloc);
     let mut runner = InlineRunner::new(alloc);
     let answer = serve_stream(alloc, &mut reader, &mut writer, &mut desk, &mut runner);
@@ -155,8 +149,7 @@ fn swept(alloc: Global, sweep: Sweep) -> Result<Vec<u64>, Stop> {
     let replies = frames(alloc, REPLIES.get(..sweep.grants).unwrap_or(&[]))?;
     let mut numbers = Vec::new(alloc);
     for calls in 0..=sweep.most {
-        let (reader, writer) = ends_of(alloc, sweep, &bytes, calls);
-        for number in came(alloc, reader, writer, &replies)? {
+        for number in came(alloc, sweep, calls, &bytes, &replies)? {
             numbers.push(number)?;
         }
     }
@@ -181,27 +174,40 @@ pub fn swept_by_name(alloc: Global, name: &str) -> Result<Vec<u64>, Stop> {
     Err(Stop::Differs("no such sweep"))
 }
 
-/// A number for what an end answers: the bytes, or 84.
-fn count_of(answer: Result<usize, Failed>) -> u64 {
-    match answer {
-        Ok(count) => count as u64,
-        Err(Failed) => 84,
-    }
-}
-
-/// Each end by itself: what a reader gives and what a writer takes.
+/// Each end by itself: what a reader gives and what a writer takes, and 84 for what it doesn't.
 pub fn handed_on(alloc: Global) -> Result<Vec<u64>, Stop> {
+    let failed = Stop::Differs("an end in memory failed");
     let mut numbers = Vec::new(alloc);
     let mut reader = Tap::new(b"abc".as_slice());
     let mut piece = [0u8; 2];
-    numbers.push(count_of(reader.read(&mut piece)))?;
+    let Ok(first) = reader.read(&mut piece) else {
+        return Err(failed);
+    };
     holds(piece == *b"ab", "another piece is read first")?;
-    numbers.push(count_of(reader.read(&mut piece)))?;
+    let Ok(second) = reader.read(&mut piece) else {
+        return Err(failed);
+    };
     holds(piece == *b"cb", "another piece is read then")?;
-    numbers.push(count_of(reader.read(&mut piece)))?;
+    let Ok(third) = reader.read(&mut piece) else {
+        return Err(failed);
+    };
+    for count in [first, second, third] {
+        numbers.push(count as u64)?;
+    }
+    take(alloc, &mut numbers)?;
+    Ok(numbers)
+}
+
+/// Adds what a writer takes of three bytes and of none, and one that takes none at all.
+fn take(alloc: Global, numbers: &mut Vec<u64>) -> Result<(), Stop> {
+    let failed = Stop::Differs("an end in memory failed");
     let mut writer = Tap::new(Vec::new(alloc));
-    numbers.push(count_of(writer.write(b"abc")))?;
-    numbers.push(count_of(writer.write(b"")))?;
+    let Ok(three) = writer.write(b"abc") else {
+        return Err(failed);
+    };
+    let Ok(none) = writer.write(b"") else {
+        return Err(failed);
+    };
     holds(
         writer.into_inner().as_slice() == b"abc".as_slice(),
         "other bytes are written",
@@ -212,7 +218,16 @@ pub fn handed_on(alloc: Global) -> Result<Vec<u64>, Stop> {
         calls: 0,
         fails: false,
     });
-    numbers.push(count_of(full.write(b"")))?;
-    numbers.push(count_of(full.write(b"a")))?;
-    Ok(numbers)
+    let Ok(empty) = full.write(b"") else {
+        return Err(failed);
+    };
+    for count in [three, none, empty] {
+        numbers.push(count as u64)?;
+    }
+    let last = match full.write(b"a") {
+        Ok(count) => count as u64,
+        Err(Failed) => 84,
+    };
+    numbers.push(last)?;
+    Ok(())
 }
