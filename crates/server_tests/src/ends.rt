@@ -144,9 +144,10 @@ fn came(
 
 /// What the streams of a sweep come to, by the calls that go well.
 fn swept(alloc: Global, sweep: Sweep) -> Result<Vec<u64>, Stop> {
-    let requests = [GRANT; 4];
-    let bytes = frames(alloc, requests.get(..sweep.grants).unwrap_or(&[]))?;
-    let replies = frames(alloc, REPLIES.get(..sweep.grants).unwrap_or(&[]))?;
+    let mut bytes = frames(alloc, &[GRANT; 4])?;
+    bytes.truncate(sweep.grants.saturating_mul(44));
+    let mut replies = frames(alloc, &REPLIES)?;
+    replies.truncate(sweep.grants.saturating_mul(62));
     let mut numbers = Vec::new(alloc);
     for calls in 0..=sweep.most {
         for number in came(alloc, sweep, calls, &bytes, &replies)? {
