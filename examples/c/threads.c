@@ -13,10 +13,11 @@
 #include "packets.h"
 #include "telgovan.h"
 
-enum { MOST = 64 };
+enum { MOST = 64, LINE = 128 };
 
+/* Each begins on lines of the processor's cache that no other writes: a call writes its handle. */
 struct worker {
-    pthread_t thread;
+    _Alignas(LINE) pthread_t thread;
     struct telgovan_program program;
     uint8_t memory[PACKETS * SIZE];
     long rounds, passed;
@@ -53,8 +54,10 @@ int main(int count, char **words) {
     if (threads < 1 || threads > MOST || length == 0) return 1;
     if (telgovan_program_load(NEED, code, length, &program, &verdict) != 0) return 1;
 
-    struct worker *workers = calloc((size_t)threads, sizeof *workers);
+    size_t room = (size_t)threads * sizeof(struct worker);
+    struct worker *workers = aligned_alloc(LINE, room);
     if (workers == NULL) return 1;
+    memset(workers, 0, room);
     double start = now();
     for (int n = 0; n < threads; n++) {
         struct worker *worker = &workers[n];

@@ -26,8 +26,28 @@
 //! | an address of the host's memory | may be reached, where allowed | can't be written down |
 //! | R1, R2, R3 at entry | the memory's address | the memory, its length, and 0 |
 //!
-//! Not here: `register_helper`, the machines with a metadata buffer, `jit_compile`, `set_verifier`,
+//! | a helper's id | any | 64 to 127, and it is registered before the program is set |
+//! | a helper's arguments | R1 to R5, whatever they hold | have to be set where it is called |
+//!
+//! Not here: the machines with a metadata buffer, `jit_compile`, `set_verifier`, `rbpf::helpers`,
 //! and the modules `assembler` and `disassembler`, whose texts differ (`telgovan::assemble`).
+//!
+//! Helpers are functions, as there:
+//!
+//! ```
+//! use telgovan::rbpf::EbpfVmNoData;
+//!
+//! fn add(a: u64, b: u64, _: u64, _: u64, _: u64) -> u64 {
+//!     a.wrapping_add(b)
+//! }
+//!
+//! let code = telgovan::assemble("mov64 r1, 40\nmov64 r2, 2\ncall 64\nexit")?;
+//! let mut vm = EbpfVmNoData::new(None).expect("a machine");
+//! vm.register_helper_with(64, 2, add).expect("64 to 127"); // it takes two of its arguments
+//! vm.set_program(&code).expect("accepted");
+//! assert_eq!(vm.execute_program().expect("ran"), 42);
+//! # Ok::<(), telgovan::Error>(())
+//! ```
 //!
 //! An error has the refusal within:
 //!
@@ -45,14 +65,36 @@ use std::fmt;
 use std::io::{Error, ErrorKind};
 use std::marker::PhantomData;
 
+use crate::hosted::{Event, Helpers, HostedTask};
 use crate::program::Program;
+
+/// A helper, as that crate has them.
+pub type Helper = fn(u64, u64, u64, u64, u64) -> u64;
+
+/// How many arguments a helper takes whose number isn't said.
+const ALL: u32 = 5;
+
+/// A helper that was registered: its id, how many arguments it takes, and the function.
+#[derive(Clone, Copy)]
+struct Registered {
+    id: u32,
+    arity: u32,
+    function: Helper,
+}
+
+/// A program that was set, and whether it was verified with helpers of the host's.
+struct Loaded {
+    program: Program,
+    is_hosted: bool,
+}
 
 /// A machine for programs that work on a memory.
 ///
 /// It may go to another thread, and one thread at a time uses it.
 pub struct EbpfVmRaw<'a> {
     need: u32,
-    program: RefCell<Option<Program>>,
+    program: RefCell<Option<Loaded>>,
+    helpers: Vec<Registered>,
     // a machine of that crate borrows its program
     borrowed: PhantomData<&'a [u8]>,
 }
@@ -68,6 +110,7 @@ impl<'a> EbpfVmRaw<'a> {
         let mut vm = EbpfVmRaw {
             need,
             program: RefCell::new(None),
+            helpers: Vec::new(),
             borrowed: PhantomData,
         };
         if let Some(prog) = prog {
@@ -79,24 +122,86 @@ impl<'a> EbpfVmRaw<'a> {
     /// Verifies a program, and lets the machine run it in place of the one that it had. A program
     /// that is refused leaves the machine as it was.
     pub fn set_program(&mut self, prog: &'a [u8]) -> Result<(), Error> {
-        let verified = Program::verify(self.need, prog).map_err(refused)?;
-        *self.program.get_mut() = Some(verified);
+        let is_hosted = !self.helpers.is_empty();
+        let program = if is_hosted {
+            let mut helpers = Helpers::new();
+            for known in &self.helpers {
+                let registered = helpers.register(known.id, known.arity, known.function);
+                registered.map_err(refused)?;
+            }
+            Program::verify_with(self.need, prog, &helpers).map_err(refused)?
+        } else {
+            Program::verify(self.need, prog).map_err(refused)?
+        };
+        *self.program.get_mut() = Some(Loaded { program, is_hosted });
+        Ok(())
+    }
+
+    /// Registers a helper under an id of 64 to 127, in place of the one that it had. A program that
+    /// is set from then on may call it where R1 to R5 are set.
+    pub fn register_helper(&mut self, key: u32, function: Helper) -> Result<(), Error> {
+        self.register_helper_with(key, ALL, function)
+    }
+
+    /// As [`EbpfVmRaw::register_helper`], for a helper that takes so many arguments, 0 to 5: where it
+    /// is called, a program has set as many of R1 to R5, and the others are 0 for the function.
+    pub fn register_helper_with(
+        &mut self,
+        key: u32,
+        arity: u32,
+        function: Helper,
+    ) -> Result<(), Error> {
+        // the library's own test of id and number
+        Helpers::new()
+            .register(key, arity, function)
+            .map_err(refused)?;
+        self.helpers.retain(|known| known.id != key);
+        self.helpers.push(Registered {
+            id: key,
+            arity,
+            function,
+        });
         Ok(())
     }
 
     /// Runs the program once on the memory, in place, and answers R0.
     ///
     /// Refused without a program, and where the memory has under the need or over 65,536 bytes.
-    /// Then the memory is as it was.
+    /// Then the memory is as it was. Refused too where a helper of this very run asks for it.
     pub fn execute_program(&self, mem: &mut [u8]) -> Result<u64, Error> {
-        // No call of a program leads back here, so that nothing else has borrowed it.
-        let mut program = self.program.borrow_mut();
-        let Some(program) = program.as_mut() else {
+        let Ok(mut loaded) = self.program.try_borrow_mut() else {
+            return Err(Error::new(ErrorKind::Other, "the machine runs"));
+        };
+        let Some(loaded) = loaded.as_mut() else {
             return Err(Error::new(ErrorKind::Other, "no program was set"));
         };
+        let program = &mut loaded.program;
         let credit = program.cost();
+        if loaded.is_hosted {
+            return self.run_hosted(program, mem);
+        }
         let done = program.execute(mem, 0, credit).map_err(refused)?;
         Ok(done.r0)
+    }
+
+    // Runs a program that may call helpers, each answered by its function.
+    fn run_hosted(&self, program: &mut Program, mem: &mut [u8]) -> Result<u64, Error> {
+        let credit = program.cost();
+        let mut task = HostedTask::start(program, credit, 0, mem.len()).map_err(refused)?;
+        let mut answer = 0;
+        loop {
+            match task.go(answer, mem, u32::MAX).map_err(refused)? {
+                Event::AtLimit => {}
+                Event::Asks(question) => {
+                    let asked = |known: &&Registered| known.id == question.helper;
+                    let [a, b, c, d, e] = question.arguments;
+                    // one that the program was verified with stays registered
+                    let known = self.helpers.iter().find(asked);
+                    answer = known.map_or(0, |known| (known.function)(a, b, c, d, e));
+                }
+                Event::Ended(done) => return Ok(done.r0),
+            }
+        }
     }
 }
 
@@ -104,8 +209,7 @@ impl fmt::Debug for EbpfVmRaw<'_> {
     fn fmt(&self, f: &mut fmt::Formatter<'_>) -> fmt::Result {
         f.debug_struct("EbpfVmRaw")
             .field("need", &self.need)
-            .field("program", &self.program)
-            .finish()
+            .finish_non_exhaustive()
     }
 }
 
@@ -125,6 +229,21 @@ impl<'a> EbpfVmNoData<'a> {
     /// As [`EbpfVmRaw::set_program`].
     pub fn set_program(&mut self, prog: &'a [u8]) -> Result<(), Error> {
         self.parent.set_program(prog)
+    }
+
+    /// As [`EbpfVmRaw::register_helper`].
+    pub fn register_helper(&mut self, key: u32, function: Helper) -> Result<(), Error> {
+        self.parent.register_helper(key, function)
+    }
+
+    /// As [`EbpfVmRaw::register_helper_with`].
+    pub fn register_helper_with(
+        &mut self,
+        key: u32,
+        arity: u32,
+        function: Helper,
+    ) -> Result<(), Error> {
+        self.parent.register_helper_with(key, arity, function)
     }
 
     /// Runs the program once, and answers R0. Refused without a program.

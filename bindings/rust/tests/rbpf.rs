@@ -103,3 +103,72 @@ fn a_machine_goes_to_a_thread() {
     });
     assert_eq!(ran, 42);
 }
+
+fn add(a: u64, b: u64, c: u64, d: u64, e: u64) -> u64 {
+    a.wrapping_add(b).wrapping_add(c + d + e)
+}
+
+fn nine(_: u64, _: u64, _: u64, _: u64, _: u64) -> u64 {
+    9
+}
+
+#[test]
+fn calls_helpers() {
+    let five =
+        code("mov64 r1, 1\nmov64 r2, 2\nmov64 r3, 3\nmov64 r4, 4\nmov64 r5, 5\ncall 64\nexit");
+    let two = code("mov64 r1, 40\nmov64 r2, 2\ncall 127\nexit");
+    let mut vm = rbpf::EbpfVmRaw::new(None).expect("a machine");
+    assert_eq!(
+        number(vm.set_program(&five).expect_err("unknown")),
+        Some(37)
+    );
+    vm.register_helper(64, add).expect("an id");
+    vm.set_program(&five).expect("accepted");
+    assert_eq!(vm.execute_program(&mut []).expect("ran"), 15);
+    assert_eq!(vm.execute_program(&mut []).expect("ran again"), 15);
+    vm.register_helper(64, nine).expect("another function");
+    assert_eq!(vm.execute_program(&mut []).expect("ran"), 9);
+
+    // where one takes all five, all have to be set
+    vm.register_helper(127, add).expect("an id");
+    assert_eq!(number(vm.set_program(&two).expect_err("unset")), Some(31));
+    assert_eq!(vm.execute_program(&mut []).expect("the old one"), 9);
+}
+
+#[test]
+fn helpers_see_the_memory_that_a_program_wrote_for_its_caller() {
+    let prog = code("mov64 r6, r1\nmov64 r1, 40\nmov64 r2, 2\ncall 64\nstxb [r6+1], r0\nexit");
+    let mut vm = rbpf::EbpfVmRaw::with_need(2, None).expect("a machine");
+    vm.register_helper_with(64, 2, add).expect("an id");
+    vm.set_program(&prog).expect("accepted");
+    let mem = &mut [1, 2, 3];
+    assert_eq!(vm.execute_program(mem).expect("ran"), 42);
+    assert_eq!(mem, &[1, 42, 3]);
+    assert_eq!(
+        number(vm.execute_program(&mut [1]).expect_err("short")),
+        Some(43)
+    );
+}
+
+#[test]
+fn refuses_helpers_that_it_cannot_have() {
+    let mut vm = rbpf::EbpfVmNoData::new(None).expect("a machine");
+    for key in [0, 1, 63, 128, u32::MAX] {
+        assert_eq!(
+            number(vm.register_helper(key, nine).expect_err("id")),
+            Some(44)
+        );
+    }
+    assert_eq!(
+        number(vm.register_helper_with(64, 6, nine).expect_err("arity")),
+        Some(45)
+    );
+    let prog = code("call 64\nexit");
+    assert_eq!(
+        number(vm.set_program(&prog).expect_err("unknown")),
+        Some(37)
+    );
+    vm.register_helper_with(64, 0, nine).expect("an id");
+    vm.set_program(&prog).expect("accepted");
+    assert_eq!(vm.execute_program().expect("ran"), 9);
+}

@@ -26,6 +26,12 @@ pub five : (o p1 p2 p3 p4 p5 y1 y2 y3 y4 y5 : List ℕ) → y1 ≡ o ++ p1 → y
 five o p1 p2 p3 p4 p5 y1 y2 y3 y4 y5 e1 e2 e3 e4 e5 =
     behind o y1 y5 p1 (p2 ++ (p3 ++ (p4 ++ p5))) e1 (four y1 p2 p3 p4 p5 y2 y3 y4 y5 e2 e3 e4 e5)
 
+pub seven : (o p1 p2 p3 p4 p5 p6 p7 y1 y2 y3 y4 y5 y6 y7 : List ℕ) → y1 ≡ o ++ p1 → y2 ≡ y1 ++ p2 → y3 ≡ y2 ++ p3 → y4 ≡ y3 ++ p4 → y5 ≡ y4 ++ p5 → y6 ≡ y5 ++ p6 → y7 ≡ y6 ++ p7 →
+    y7 ≡ o ++ (p1 ++ (p2 ++ (p3 ++ (p4 ++ (p5 ++ (p6 ++ p7))))))
+seven o p1 p2 p3 p4 p5 p6 p7 y1 y2 y3 y4 y5 y6 y7 e1 e2 e3 e4 e5 e6 e7 =
+    behind o y1 y7 p1 (p2 ++ (p3 ++ (p4 ++ (p5 ++ (p6 ++ p7))))) e1
+    (behind y1 y2 y7 p2 (p3 ++ (p4 ++ (p5 ++ (p6 ++ p7)))) e2 (five y2 p3 p4 p5 p6 p7 y3 y4 y5 y6 y7 e3 e4 e5 e6 e7))
+
 -- ---- a refusal
 
 pub refused : (o y1 y2 : List ℕ) (n code : ℕ) (program slot : Option ℕ) → n ≡ code → program ≡ None → y1 ≡ o ++ (codes "{\"code\":" ++ decimal n) → y2 ≡ y1 ++ codes ",\"ok\":false}" → y2 ≡ o ++ compact_text (refusal_data code program slot)

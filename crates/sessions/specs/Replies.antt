@@ -80,8 +80,15 @@ reply_data (reply.Play buffer complete held returned spent used) =
 abbrev pub text_of : Reply → List ℕ
 text_of reply = compact_text (reply_data reply)
 
+-- the longest text that a frame holds
+abbrev pub longest_reply : ℕ
+longest_reply = 4294967295
+
 -- a reply whose length no four bytes write is answered by refusal 65
-unfoldable pub frame_of : Reply → List ℕ
-frame_of reply =
-    if nat_le (length (text_of reply)) 4294967295 then framed (text_of reply)
+unfoldable pub frame_or_refusal : Data → List ℕ
+frame_or_refusal told =
+    if nat_le (length (compact_text told)) longest_reply then framed (compact_text told)
     else framed (compact_text (refusal_data 65 None None))
+
+unfoldable pub frame_of : Reply → List ℕ
+frame_of reply = frame_or_refusal (reply_data reply)

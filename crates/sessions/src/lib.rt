@@ -19,6 +19,7 @@ pub use request::{JobObject, Request, job_object};
 
 // what is answered
 mod reply;
+mod result;
 
 pub use reply::{Reply, reply_frame, reply_text};
 

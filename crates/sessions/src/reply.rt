@@ -1,11 +1,13 @@
 //! Replies, and the JSON that says them.
 
-ghost use Rattle.std.specs.Prelude.{◌≡◌, ◌≤◌, ◌++◌, false, IfOk, OnOk, decimal, length, map};
+ghost use Rattle.std.specs.Prelude.{◌≡◌, ◌≤◌, ◌++◌, None, false, IfOk, OnOk, decimal, length};
 ghost use Rattle.serde_json.specs.View.{view};
 ghost use Rattle.serde_json.specs.Written.{compact_text, has_float};
 ghost use Rattle.sessions.specs.Frames.{framed};
-ghost use Rattle.sessions.specs.Replies.{refusal_data, account_data, submit_data, status_data, play_data, task_data, result_data, reply_data, text_of, frame_of};
+ghost use Rattle.sessions.specs.Replies.{refusal_data, account_data, submit_data, status_data, play_data, text_of, frame_of, frame_or_refusal, longest_reply};
+ghost use Rattle.sessions.specs.Outcomes.{outcome_data};
 
+use crate::result::{Outcome, result_frame, write_result};
 use credit_book::TaskEnd;
 use itoa::Buffer;
 use refusal::NoMemory;
@@ -62,7 +64,7 @@ pub enum Reply<'a> {
 }
 
 // Some JSON, and a number after it.
-fn put_number(out: &mut Vec<u8>, lead: &[u8], number: u64) -> Result<(), AllocError>
+pub(crate) fn put_number(out: &mut Vec<u8>, lead: &[u8], number: u64) -> Result<(), AllocError>
     ensures { OnOk result (out.new.items ≡ out.old.items ++ (lead.now ++ decimal number)) }
 {
     out.extend_from_slice(lead)?;
@@ -132,48 +134,6 @@ fn status_value(
     json!(in alloc; {"complete": complete, "ok": true, "returned": returned, "spent": spent})
 }
 
-#[tactic(auto, unfolding(crate::specs::Replies::task_data))]
-fn task_value(alloc: Global, task: &TaskEnd) -> Result<Value, AllocError>
-    ensures { IfOk result (λ v. view v ≡ task_data task.now) }
-{
-    let TaskEnd {
-        number,
-        program,
-        arg: _,
-        given: _,
-        spent,
-        rest,
-        r0,
-        ran,
-    } = *task;
-    json!(in alloc; {"number": number, "program": program, "r0": r0, "ran": ran, "rest": rest, "spent": spent})
-}
-
-fn task_values(alloc: Global, tasks: &[TaskEnd]) -> Result<Vec<Value>, AllocError>
-    ensures { IfOk result (λ vs. map view vs.items ≡ map task_data tasks.now) }
-{
-    let mut values = Vec::new(alloc);
-    for task in tasks {
-        values.push(task_value(alloc, task)?)?;
-    }
-    Ok(values)
-}
-
-#[tactic(auto, unfolding(crate::specs::Replies::result_data))]
-fn result_value(
-    alloc: Global,
-    buffer: &[u8],
-    returned: u32,
-    spent: u32,
-    tasks: &[TaskEnd],
-) -> Result<Value, AllocError>
-    ensures { IfOk result (λ v. view v ≡ result_data buffer.now returned spent tasks.now) }
-{
-    let buffer = hex::encode(alloc, buffer)?;
-    let tasks = Value::Array(task_values(alloc, tasks)?);
-    json!(in alloc; {"buffer": buffer.as_str(), "ok": true, "returned": returned, "spent": spent, "tasks": tasks})
-}
-
 #[tactic(auto, unfolding(crate::specs::Replies::play_data))]
 fn play_value(
     alloc: Global,
@@ -190,7 +150,7 @@ fn play_value(
     json!(in alloc; {"buffer": buffer.as_str(), "complete": complete, "held": held, "ok": true, "returned": returned, "spent": spent, "used": used})
 }
 
-// A reply that holds bytes or tasks goes by a value: its text is long beside what that costs.
+// A reply that is asked for seldom goes by a value.
 fn write_value(alloc: Global, out: &mut Vec<u8>, value: &Value) -> Result<(), AllocError>
     requires { has_float (view value.now) ≡ false }
     ensures { OnOk result (out.new.items ≡ out.old.items ++ compact_text (view value.now)) }
@@ -226,10 +186,15 @@ fn write_reply(alloc: Global, out: &mut Vec<u8>, reply: &Reply) -> Result<(), Al
             returned,
             spent,
             tasks,
-        } => write_value(
+        } => write_result(
             alloc,
             out,
-            &result_value(alloc, buffer, returned, spent, tasks)?,
+            &Outcome {
+                buffer,
+                returned,
+                spent,
+                tasks,
+            },
         ),
         Reply::Play {
             buffer,
@@ -257,7 +222,7 @@ pub fn reply_text(alloc: Global, reply: &Reply) -> Result<Vec<u8>, NoMemory>
 
 // A text behind its length.
 fn framed(alloc: Global, text: &[u8]) -> Result<Vec<u8>, AllocError>
-    requires { length text.now ≤ 4294967295 }
+    requires { length text.now ≤ longest_reply }
     ensures { IfOk result (λ frame. frame.items ≡ framed text.now) }
 {
     let mut frame = Vec::new(alloc);
@@ -266,17 +231,10 @@ fn framed(alloc: Global, text: &[u8]) -> Result<Vec<u8>, AllocError>
     Ok(frame)
 }
 
-/// The reply's JSON behind its length of four bytes, the highest first; where it is over
-/// 4,294,967,295 bytes, the frame of refusal 65.
-#[tactic(auto, unfolding(crate::specs::Replies::frame_of))]
-pub fn reply_frame(alloc: Global, reply: &Reply) -> Result<Vec<u8>, NoMemory>
-    ensures { IfOk result (λ frame. frame.items ≡ frame_of reply.now) }
+// The frame of refusal 65, for a reply that no frame holds.
+fn refused_frame(alloc: Global) -> Result<Vec<u8>, NoMemory>
+    ensures { IfOk result (λ frame. frame.items ≡ framed (compact_text (refusal_data 65 None None))) }
 {
-    let text = reply_text(alloc, reply)?;
-    if text.len() <= u32::MAX as usize {
-        let frame = framed(alloc, text.as_slice())?;
-        return Ok(frame);
-    }
     let too_long = Reply::Refused {
         code: 65,
         program: None,
@@ -285,4 +243,55 @@ pub fn reply_frame(alloc: Global, reply: &Reply) -> Result<Vec<u8>, NoMemory>
     let refusal = reply_text(alloc, &too_long)?;
     let frame = framed(alloc, refusal.as_slice())?;
     Ok(frame)
+}
+
+// The frame of a reply that isn't long, or of refusal 65.
+#[tactic(auto, unfolding(crate::specs::Replies::frame_or_refusal, crate::specs::Replies::frame_of))]
+fn short_frame(alloc: Global, reply: &Reply) -> Result<Vec<u8>, NoMemory>
+    ensures { IfOk result (λ frame. frame.items ≡ frame_of reply.now) }
+{
+    let text = reply_text(alloc, reply)?;
+    if text.len() <= u32::MAX as usize {
+        let frame = framed(alloc, text.as_slice())?;
+        return Ok(frame);
+    }
+    refused_frame(alloc)
+}
+
+// The frame of what a job came to, or of refusal 65.
+#[tactic(auto, unfolding(crate::specs::Replies::frame_or_refusal))]
+fn frame_of_result(alloc: Global, outcome: &Outcome<'_>) -> Result<Vec<u8>, NoMemory>
+    ensures { IfOk result
+        (λ frame. frame.items ≡ frame_or_refusal (outcome_data outcome.now)) }
+{
+    match result_frame(alloc, outcome)? {
+        Some(frame) => Ok(frame),
+        None => refused_frame(alloc),
+    }
+}
+
+/// The reply's JSON behind its length of four bytes, the highest first; where it is over
+/// 4,294,967,295 bytes, the frame of refusal 65. What a job came to is written once, and refused
+/// before there is room for its tasks.
+#[tactic(auto, unfolding(crate::specs::Replies::frame_of))]
+pub fn reply_frame(alloc: Global, reply: &Reply) -> Result<Vec<u8>, NoMemory>
+    ensures { IfOk result (λ frame. frame.items ≡ frame_of reply.now) }
+{
+    match *reply {
+        Reply::Result {
+            buffer,
+            returned,
+            spent,
+            tasks,
+        } => frame_of_result(
+            alloc,
+            &Outcome {
+                buffer,
+                returned,
+                spent,
+                tasks,
+            },
+        ),
+        _ => short_frame(alloc, reply),
+    }
 }

@@ -1,15 +1,11 @@
 use Rattle.std.proofs.Common.{ap, ◌∙◌}
 use Rattle.serde_json.specs.Written.{has_float}
-use Rattle.sessions.proofs.Texts.{status_plain, result_plain, play_plain}
+use Rattle.sessions.proofs.Texts.{status_plain, play_plain}
 use Rattle.sessions.proofs.reply.write_reply.Goals as goal
 
 pub write_value-requires : goal.write_value-requires
 write_value-requires c =
     ap has_float c.in_ok-status_value-in-Status.ensures ∙ status_plain c.in-Status.complete c.in-Status.returned c.in-Status.spent
-
-pub write_value-requires-in-Result : goal.write_value-requires-in-Result
-write_value-requires-in-Result c =
-    ap has_float c.in_ok-result_value-in-Result.ensures ∙ result_plain c.in-Result.buffer.now c.in-Result.returned c.in-Result.spent c.in-Result.tasks.now
 
 pub write_value-requires-in-Play : goal.write_value-requires-in-Play
 write_value-requires-in-Play c =
