@@ -1,13 +1,15 @@
 #!/usr/bin/env python3
 """Keeps `bpfjobs serve` busy with good and bad clients for a while, and looks at what is left of it.
 
-    .ci/soak.py [--seconds N] [--clients N] [--seed N] [--workers N] [--at-once K] [--timeout T] [--silent N] [--program FILE]
+    .ci/soak.py [--seconds N] [--clients N] [--seed N] [--workers N] [--at-once K] [--timeout T] [--open-jobs N] [--keep N] [--silent N]
+                [--program FILE]
 
 It starts the server on a free port of 127.0.0.1, the only address that it speaks to. The clients grant, give good and bad jobs, ask,
 cut connections at any byte and send rubbish, as the seed says. The server serves K of them at once, and N more connections say nothing, each until
 it is given up, and begin anew. An auditor asks now and then how many jobs there are. At the end each account
 has to add up, against what was granted and against the reports of its jobs; the server has to have no thread and no socket but those that it
-began with; and its memory is told as bytes a job, by the line that fits best. Status: 0, or 1 where something doesn't hold.
+began with; and its memory is told as bytes a job, by the line that fits best, and as it was after the first minute and at the end. Status: 0, or 1
+where something doesn't hold.
 """
 
 import argparse
@@ -107,9 +109,11 @@ class Connection:
 class Client(threading.Thread):
     """One tenant. What it knows of its account is what it was answered, and at most what it sent."""
 
-    def __init__(self, port, number, seed, until):
+    def __init__(self, port, number, seed, until, keeps, limited):
         super().__init__(daemon=True)
         self.port = port
+        # what else may be told of a job: that it is forgotten, or that it was one too many
+        self.others = (76,) * keeps + (81,) * limited
         self.tenant = f"tenant-{number}"
         self.random = random.Random(seed * 1000003 + number)
         self.until = until
@@ -178,13 +182,13 @@ class Client(threading.Thread):
             self.expect(sums == reply["granted"], f"an account: {reply}")
         if self.jobs:
             reply = self.asked(connection, {"op": "status", "job": self.random.choice(self.jobs)})
-            self.expect(reply.get("ok"), f"a status: {reply}")
+            self.expect(reply.get("ok") or reply["code"] in self.others, f"a status: {reply}")
         return True
 
     def result(self, connection):
         if self.jobs:
             reply = self.asked(connection, {"op": "result", "job": self.random.choice(self.jobs)})
-            self.expect(is_right(reply) or reply.get("code") == 77, f"a result: {reply}")
+            self.expect(is_right(reply) or reply.get("code") in (77, *self.others), f"a result: {reply}")
         return True
 
     def burst(self, connection):
@@ -244,14 +248,16 @@ def audit(port, clients):
     wrong = []
     connection = Connection(port)
     for client in clients:
+        refused = 0
         for job in client.jobs:
             until = time.monotonic() + PATIENCE
             reply = connection.ask({"op": "result", "job": job})
             while reply.get("code") == 77 and time.monotonic() < until:
                 time.sleep(0.01)
                 reply = connection.ask({"op": "result", "job": job})
-            if not is_right(reply):
+            if not is_right(reply) and reply.get("code") not in client.others:
                 wrong.append(f"job {job} of {client.tenant}: {reply}")
+            refused += reply.get("code") == 81
         reply = connection.ask({"op": "account", "tenant": client.tenant})
         if not reply.get("ok"):
             if client.granted:
@@ -259,8 +265,10 @@ def audit(port, clients):
             continue
         known = client.granted <= reply["granted"] <= client.granted + client.unsure
         # a job whose reply didn't come isn't known to its client
-        more, odd = divmod(reply["spent"] - SPENT * len(client.jobs), SPENT)
+        more, odd = divmod(reply["spent"] - SPENT * (len(client.jobs) - refused), SPENT)
         adds = reply["balance"] + reply["spent"] == reply["granted"] and reply["open"] == 0
+        if 81 in client.others and 76 in client.others:
+            more = 0  # of a job that is forgotten nobody knows whether it was one too many
         if not (known and adds and odd == 0 and more >= 0):
             wrong.append(f"{client.tenant}: {reply}, of {client.granted} granted and {len(client.jobs)} jobs")
     connection.close()
@@ -315,10 +323,12 @@ def say_nothing(port, until):
 
 
 def soak(words, process, port):
+    time.sleep(1)  # all threads that it starts with are there then
     threads, size = status_of(process)
     sockets = sockets_of(process)
     until = time.monotonic() + words.seconds
-    clients = [Client(port, number, words.seed, until) for number in range(words.clients)]
+    bounds = (words.keep > 0, words.open_jobs > 0)
+    clients = [Client(port, number, words.seed, until, *bounds) for number in range(words.clients)]
     silent = [threading.Thread(target=say_nothing, args=(port, until)) for _ in range(words.silent)]
     for thread in silent:
         thread.start()
@@ -337,6 +347,9 @@ def soak(words, process, port):
     print("soak: " + ", ".join(f"{count} {name}" for name, count in counts.items()))
     later = points[len(points) // 5 :]
     print(f"soak: {size} bytes at first, {after_size} at the end, {slope(later):.0f} a job by the line that fits best")
+    sizes = [point[1] for point in points]
+    minute = sizes[: 120 if len(sizes) > 240 else len(sizes) // 4]
+    print(f"soak: {max(minute)} bytes at most in the first minute, or quarter, and {max(sizes[len(minute) :])} behind it")
     return wrong
 
 
@@ -348,14 +361,17 @@ def main():
     reader.add_argument("--workers", type=int, default=4)
     reader.add_argument("--at-once", type=int, default=1)
     reader.add_argument("--timeout", type=int, default=0)
+    reader.add_argument("--open-jobs", type=int, default=0)
+    reader.add_argument("--keep", type=int, default=0)
     reader.add_argument("--silent", type=int, default=0)
     reader.add_argument("--program", default=os.path.join(TOP, "crates/bpfjobs/out/bpfjobs"))
     words = reader.parse_args()
     if not (1 <= words.seconds <= 3600 and 1 <= words.clients <= 64):
         reader.error("--seconds is 1 to 3600, --clients 1 to 64")
     port = free_port()
-    more = ["--clients", str(words.at_once), "--timeout", str(words.timeout)]
-    process = start(words.program, port, words.workers, more if words.at_once > 1 or words.timeout else [])
+    bounds = {"--clients": words.at_once, "--timeout": words.timeout, "--open-jobs": words.open_jobs, "--keep": words.keep}
+    more = [word for name, value in bounds.items() for word in (name, str(value)) if value != (name == "--clients")]
+    process = start(words.program, port, words.workers, more)
     try:
         wrong = soak(words, process, port)
     finally:

@@ -88,11 +88,10 @@ def may_listen(port):
 class Server:
     """`bpfjobs serve`, until so many connections have ended."""
 
-    def __init__(self, sessions=1_000_000, workers=2, words=None, port=None, more=()):
+    def __init__(self, sessions=1_000_000, workers=2, words=None, port=None, more=(), stdin=subprocess.DEVNULL):
         self.port = port or free_port()
         words = words or ["serve", "--port", self.port, "--workers", workers, "--sessions", sessions, *more]
-        nothing = {"stdin": subprocess.DEVNULL, "stdout": subprocess.DEVNULL}
-        self.process = subprocess.Popen([BPFJOBS, *map(str, words)], **nothing)
+        self.process = subprocess.Popen([BPFJOBS, *map(str, words)], stdin=stdin, stdout=subprocess.DEVNULL)
 
     def __enter__(self):
         return self
@@ -100,6 +99,8 @@ class Server:
     def __exit__(self, *_why):
         self.process.kill()
         self.process.wait()
+        if self.process.stdin:
+            self.process.stdin.close()
 
     def connect(self):
         """A connection. A server that doesn't listen yet is asked again."""

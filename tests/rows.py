@@ -39,25 +39,25 @@ REFUSALS = {
 Row = namedtuple("Row", "place question program answer")
 
 
-def lines(name):
+def lines(name, folder=DATA):
     """Each line that says something, with its place."""
-    with open(os.path.join(DATA, name), encoding="utf-8", newline="\n") as file:
+    with open(os.path.join(folder, name), encoding="utf-8", newline="\n") as file:
         for number, line in enumerate(file, 1):
             text = line.strip(" \n")
             if text and not text.startswith("#"):
                 yield f"{name}, line {number}", text
 
 
-def fields(name, count):
+def fields(name, count, folder=DATA):
     """The place of each row and its fields, of which missing ones are empty."""
-    for place, text in lines(name):
+    for place, text in lines(name, folder):
         parts = [part.strip() for part in text.split("|", count - 1)]
         yield place, parts + [""] * (count - len(parts))
 
 
-def rows(name):
+def rows(name, folder=DATA):
     """Rows of a question, as words, a program and the answer."""
-    for place, (question, program, answer) in fields(name, 3):
+    for place, (question, program, answer) in fields(name, 3, folder):
         yield Row(place, question.split(), program, answer)
 
 

@@ -2,6 +2,8 @@
 
 import json
 import os
+import socket
+import subprocess
 import threading
 import time
 import unittest
@@ -75,6 +77,144 @@ class Worker(threading.Thread):
             self.wrong.append(account)
         client.stream.close()
         self.slowest = client.slowest
+
+
+def long_job():
+    """Programs and a credit that keep one worker busy for a while: 60 tasks of 500 tasks of 4,001 steps."""
+    spawn = ["mov64 r1, {}", "mov64 r2, {}", "mov64 r3, 0", "mov64 r4, 0", "call 1"]
+    leaf = " / ".join(["mov64 r0, 0"] * 4000 + ["exit"])
+
+    def spawner(count, program, credit):
+        lines = [line.format(program if k == 0 else credit) for k, line in enumerate(spawn)]
+        return " / ".join(lines * count + ["mov64 r0, 0", "exit"])
+
+    middle_credit = 500 * 4001 + 500 * 100
+    root_credit = 60 * middle_credit + 60 * 100
+    programs = [spawner(60, 1, middle_credit), spawner(500, 2, 4001), leaf]
+    return [(0, code_of(text)) for text in programs], root_credit
+
+
+def result_of(client, job):
+    """The result of a job, once it is over."""
+    until = time.monotonic() + PATIENCE
+    while (reply := client.ask({"op": "result", "job": job})).get("code") == 77 and time.monotonic() < until:
+        time.sleep(0.001)
+    return reply
+
+
+class Bounds(unittest.TestCase):
+    """What a host bounds."""
+
+    def test_a_start_over_the_limit_is_refused(self):
+        """While a job is open, a second one fails by 81, with its whole credit back. Then there is room again."""
+        programs, credit = long_job()
+        with Server(sessions=1, workers=1, more=("--open-jobs", 1)) as server:
+            client = Client(server)
+            client.ask({"op": "grant", "tenant": "t", "amount": credit + 10})
+            first = client.ask(submit_text(programs, credit, b"", tenant="t"))["job"]
+            second = client.ask(submit_text([(0, code_of(ADD))], 3, b"", tenant="t"))["job"]
+            self.assertEqual(client.ask({"op": "result", "job": second}), {"code": 81, "ok": False})
+            self.assertEqual(client.ask({"op": "status", "job": second}), {"code": 81, "ok": False})
+            account = client.ask({"op": "account", "tenant": "t"})
+            self.assertEqual((account["open"], account["balance"]), (credit, 10))
+            self.assertTrue(result_of(client, first)["ok"])
+            third = client.ask(submit_text([(0, code_of(ADD))], 3, b"", tenant="t"))["job"]
+            self.assertEqual(result_of(client, third)["spent"], 3)
+            client.stream.close()
+            self.assertEqual(server.status(), 0)
+
+    def test_reports_beyond_the_last_are_forgotten(self):
+        """The accounts still have what the forgotten jobs spent."""
+        with Server(sessions=1, workers=2, more=("--keep", 3)) as server:
+            client = Client(server)
+            client.ask({"op": "grant", "tenant": "t", "amount": 100})
+            for number in range(1, 11):
+                self.assertEqual(client.ask(submit_text([(0, code_of(ADD))], 3, b"", tenant="t")), {"job": number, "ok": True})
+                self.assertEqual(result_of(client, number)["spent"], 3)
+            for number in range(1, 11):
+                for op in ("result", "status"):
+                    reply = client.ask({"op": op, "job": number})
+                    self.assertEqual(reply.get("code"), 76 if number <= 7 else None, (op, number))
+            sums = {"balance": 70, "granted": 100, "ok": True, "open": 0, "spent": 30}
+            self.assertEqual(client.ask({"op": "account", "tenant": "t"}), sums)
+            client.stream.close()
+            self.assertEqual(server.status(), 0)
+
+    def test_an_open_job_is_not_forgotten(self):
+        """Nor are those behind it, until it is over."""
+        programs, credit = long_job()
+        with Server(sessions=1, workers=2, more=("--keep", 1)) as server:
+            client = Client(server)
+            client.ask({"op": "grant", "tenant": "t", "amount": credit + 100})
+            client.ask(submit_text(programs, credit, b"", tenant="t"))
+            for number in (2, 3, 4):
+                client.ask(submit_text([(0, code_of(ADD))], 3, b"", tenant="t"))
+                self.assertEqual(result_of(client, number)["spent"], 3)
+            self.assertEqual(client.ask({"op": "result", "job": 1}).get("code"), 77)
+            self.assertEqual(client.ask({"op": "result", "job": 2})["spent"], 3)
+            until = time.monotonic() + PATIENCE
+            while client.ask({"op": "result", "job": 1}).get("code") != 76 and time.monotonic() < until:
+                time.sleep(0.01)
+            codes = [client.ask({"op": "result", "job": number}).get("code") for number in (1, 2, 3, 4)]
+            self.assertEqual(codes, [76, 76, 76, None])
+            client.stream.close()
+            self.assertEqual(server.status(), 0)
+
+    def test_a_frame_has_to_come_in_time(self):
+        """A byte now and then keeps no connection: a whole frame has to come within the timeout."""
+        with Server(sessions=2, more=("--timeout", 2, "--clients", 2)) as server:
+            text = frame('{"op":"account","tenant":"t"}')
+            slow = server.connect()
+            began = time.monotonic()
+            given_up = False
+            try:
+                for byte in text:
+                    slow.sendall(bytes([byte]))
+                    slow.settimeout(0.5)
+                    try:
+                        given_up = slow.recv(1) == b""
+                        break
+                    except TimeoutError:
+                        pass
+            except OSError:
+                given_up = True
+            self.assertTrue(given_up)
+            self.assertLess(time.monotonic() - began, 10)
+            slow.close()
+            # a frame in two parts, and a pause between frames, each shorter than the timeout
+            client = Client(server)
+            for _ in range(3):
+                client.stream.sendall(text[:9])
+                time.sleep(0.7)
+                client.stream.sendall(text[9:])
+                self.assertEqual(texts_of(is_read(client.stream, 26)), ['{"code":74,"ok":false}'])
+                time.sleep(0.7)
+            client.stream.close()
+            self.assertEqual(server.status(), 3)
+
+    def test_it_ends_with_its_input(self):
+        """What was sent is answered, each connection is closed, and no further one is taken."""
+        with Server(sessions=100, workers=2, more=("--clients", 4, "--until-eof"), stdin=subprocess.PIPE) as server:
+            idle, client = server.connect(), Client(server)
+            client.ask({"op": "grant", "tenant": "t", "amount": 100})
+            client.ask(submit_text([(0, code_of(ADD))], 3, b"", tenant="t"))
+            client.stream.sendall(frame('{"op":"account","tenant":"u"}') * 20)
+            self.assertEqual(len(texts_of(is_read(client.stream, 20 * 26))), 20)
+            server.process.stdin.close()
+            self.assertEqual(client.stream.recv(1), b"")
+            self.assertEqual(idle.recv(1), b"")
+            self.assertEqual(server.status(), 0)
+            with self.assertRaises(OSError):
+                socket.create_connection(("127.0.0.1", server.port), timeout=1)
+            idle.close()
+            client.stream.close()
+
+    def test_it_ends_with_its_last_session_too(self):
+        with Server(sessions=1, more=("--until-eof",), stdin=subprocess.PIPE) as server:
+            client = Client(server)
+            self.assertEqual(client.ask('{"op":"account","tenant":"t"}'), {"code": 74, "ok": False})
+            client.stream.close()
+            self.assertEqual(server.status(), 0)
 
 
 class Clients(unittest.TestCase):

@@ -1,10 +1,12 @@
 """Jobs of several tasks: over schedules by `bpfjobs play`, on threads by a server, and by the model."""
 
+import json
+import os
 import random
 import unittest
 
 from jobs import Job, Program
-from programs import Server, assemble, play, submit_text
+from programs import TOP, Server, assemble, bpfjobs, job_text, play, submit_text
 from rows import memory_of, programs_of, rows, schedule_of, text_of
 
 
@@ -17,6 +19,16 @@ def by_place(job):
     tasks = sorted(job.by_place().items())
     told = "".join(f", {place} {task.r0}" for place, task in tasks)
     return f"spent {job.totals()['spent']} memory {text_of(job.bytes())}{told}"
+
+
+def ends_text(job):
+    """What a row of the reference tells of tasks that have ended."""
+    told = ""
+    for task in job.tasks:
+        place, program = "/" + "/".join(map(str, task.place)), job.numbers[id(task.program)]
+        told += f", {place} program {program} on {task.argument} with {task.given} gives {task.r0}"
+        told += f" spent {task.used} rest {task.rest}"
+    return told
 
 
 def without_numbers(ends):
@@ -70,6 +82,22 @@ class Rows(unittest.TestCase):
                 self.assertEqual(by_place(model_of(programs, credit, buffer).finish()), row.answer)
                 self.assertEqual(play(programs, credit, buffer, schedule_of(turns)), job.played())
 
+    def test_rows_of_the_reference(self):
+        """What the reference says of a job in which no spawn is refused, `bpfjobs play` and the model say too."""
+        folder = os.path.join(TOP, "crates/core_tests/data")
+        for row in [*rows("jobs.txt", folder), *rows("trees.txt", folder)]:
+            kind, credit, memory, *turns = row.question
+            if any(turn.endswith("!") for turn in turns):
+                continue
+            programs, credit, buffer = programs_of(row.program), int(credit), memory_of(memory)
+            with self.subTest(row.place):
+                job = self.play_by_model(programs, credit, buffer, schedule_of(turns))
+                self.assertEqual(play(programs, credit, buffer, schedule_of(turns)), job.played())
+                if kind == "tree":
+                    self.assertEqual(by_place(job), row.answer)
+                elif job.complete:
+                    self.assertEqual(text_of(job.bytes()) + ends_text(job), row.answer)
+
     def test_on_threads(self):
         """A server's threads run each job to what the model comes to depth first."""
         with Server(workers=1) as server:
@@ -88,6 +116,43 @@ class Rows(unittest.TestCase):
         self.assertEqual([task["number"] for task in done["tasks"]], list(range(len(job.tasks))))
         # tasks are numbered in order of birth, which depends on the threads
         self.assertEqual(without_numbers(done["tasks"]), without_numbers(job.task_ends()))
+
+
+class Alike(unittest.TestCase):
+    """Jobs whose answer is the same on 1, 2 and 8 workers, each time. It was worked out by hand."""
+
+    TIMES = 50
+
+    def check(self, programs, credit, buffer, wanted):
+        given = job_text([(need, assemble(text)) for need, text in programs], credit, bytes(buffer))
+        for workers in (1, 2, 8):
+            for _ in range(self.TIMES):
+                status, told = bpfjobs("run", "--workers", str(workers), given=given)
+                self.assertEqual(status, 0)
+                wanted(json.loads(told))
+
+    def test_a_root_and_its_child(self):
+        root = "mov64 r6, r1\nmov64 r1, 1\nmov64 r2, 10\nmov64 r3, 4\nmov64 r4, 9\ncall 1\n"
+        root += "stxb [r6+0], r0\nmov64 r0, 0\nexit\n"
+        tasks = [
+            {"number": 0, "program": 0, "r0": 0, "ran": True, "rest": 0, "spent": 24},
+            {"number": 1, "program": 1, "r0": 0, "ran": True, "rest": 7, "spent": 3},
+        ]
+        told = {"buffer": "0000000009000000", "ok": True, "returned": 7, "spent": 27, "tasks": tasks}
+        programs = [(4, root), (4, "stxb [r1+0], r3\nmov64 r0, 0\nexit\n")]
+        self.check(programs, 34, 8, lambda found: self.assertEqual(found, told))
+
+    def test_a_tree_of_tasks(self):
+        """The deeper the program, the lower its R0."""
+        spawn = "mov64 r1, {}\nmov64 r2, {}\nmov64 r3, 0\nmov64 r4, 0\ncall 1\n"
+        root = spawn.format(1, 24) * 2 + "mov64 r0, 7\nexit\n"
+        child = spawn.format(2, 2) + "mov64 r0, 6\nexit\n"
+
+        def wanted(found):
+            self.assertEqual((found["spent"], found["returned"], len(found["tasks"])), (90, 0, 5))
+            self.assertEqual({task["r0"] + task["program"] for task in found["tasks"]}, {7})
+
+        self.check([(0, root), (0, child), (0, "mov64 r0, 5\nexit\n")], 90, 0, wanted)
 
 
 class Chance(unittest.TestCase):

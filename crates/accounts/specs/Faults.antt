@@ -1,5 +1,5 @@
 -- The numbers of the refusals, and what else they tell.
-use Rattle.std.specs.Prelude.{ℕ, Option, Some, None}
+use Rattle.std.specs.Prelude.{ℕ, Option, None}
 use Rattle.job_core.specs.Admission.{number_of, place_of, slot_of}
 use Rattle.accounts.specs.declared.fault.DeskFault.{DeskFault}
 use Rattle.accounts.specs.declared.fault.DeskFault.TheVariants as desk

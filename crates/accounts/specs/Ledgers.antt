@@ -1,5 +1,5 @@
 -- The desk's plain state.
-use Rattle.std.specs.Prelude.{◌≡◌, ℕ, ◌+◌, ◌-◌, ◌≤◌, ◌<◌, List, ◌++◌, [], ◌∷◌, map, sum_by, slice_get, slice_set, Option, Some, None, Result, Ok, Err, unwrap_or, String, string_bytes}
+use Rattle.std.specs.Prelude.{◌≡◌, ◌⊎◌, ℕ, ◌+◌, ◌-◌, ◌≤◌, ◌<◌, List, ◌++◌, [], ◌∷◌, map, sum_by, slice_get, slice_set, Option, Some, None, Result, Ok, Err, unwrap_or, String, string_bytes}
 use Rattle.std.specs.BTreeMap.{BTreeMap}
 use Rattle.std.specs.Map.{lookup, update}
 use Rattle.std.specs.Str.{bytes_eq}
@@ -17,10 +17,13 @@ use Rattle.accounts.specs.declared.jobs.Standing.TheVariants.{Open}
 use Rattle.credit_book.specs.declared.book.Report.{Report}
 use Rattle.accounts.specs.Accounts.{account_with}
 use Rattle.accounts.specs.Jobs.{job_at, settled, progress_of, report_of, opened_for, spent_for}
+use Rattle.accounts.specs.Forgetting.{ForgetsJobs, IsGone}
 
--- each tenant's name and the sum of its grants, and each job; the first job is number 1
+-- Each tenant's name and the sum of its grants; each tenant's name and what its forgotten jobs
+-- spent; and each job, also in the place of each that is forgotten. The first job is number 1.
 pub record Ledger : Type 0 where
   pub grants : List (List ℕ × ℕ)
+  pub past : List (List ℕ × ℕ)
   pub jobs : List JobEntry
 
 -- all grants of a tenant
@@ -30,7 +33,11 @@ most_granted = 1000000000000
 abbrev pub granted_to : Ledger → List ℕ → Option ℕ
 granted_to ledger name = lookup (bytes_eq name) ledger.grants
 
--- the credit of a tenant's open jobs, and what its jobs spent
+-- what a tenant's forgotten jobs spent
+abbrev pub past_of : Ledger → List ℕ → ℕ
+past_of ledger name = unwrap_or (lookup (bytes_eq name) ledger.past) 0
+
+-- the credit of a tenant's open jobs, and what its jobs spent that aren't forgotten
 abbrev pub opened_by : List JobEntry → List ℕ → ℕ
 opened_by jobs name = sum_by (opened_for name) jobs
 
@@ -38,23 +45,26 @@ abbrev pub spent_by : List JobEntry → List ℕ → ℕ
 spent_by jobs name = sum_by (spent_for name) jobs
 
 -- a tenant's account, if it was granted something
-abbrev pub account_in : List JobEntry → List ℕ → Option ℕ → Result Account DeskFault
-account_in jobs name (Some granted) =
-    Ok (account_with granted (opened_by jobs name) (spent_by jobs name))
-account_in jobs name None = Err fault.NoTenant
+abbrev pub account_in : List JobEntry → ℕ → List ℕ → Option ℕ → Result Account DeskFault
+account_in jobs past name (Some granted) =
+    Ok (account_with granted (opened_by jobs name) (past + spent_by jobs name))
+account_in jobs past name None = Err fault.NoTenant
 
 unfoldable pub account_at : Ledger → List ℕ → Result Account DeskFault
-account_at ledger name = account_in ledger.jobs name (granted_to ledger name)
+account_at ledger name =
+    account_in ledger.jobs (past_of ledger name) name (granted_to ledger name)
 
 -- what was granted changes for one tenant alone
 pub record GrantsMore (old : Ledger) (name : List ℕ) (amount : ℕ) (new : Ledger) : Type 0 where
   pub grants : (q : List ℕ) → granted_to new q ≡ update bytes_eq (granted_to old) name
       (Some (unwrap_or (granted_to old name) 0 + amount)) q
+  pub past : (q : List ℕ) → past_of new q ≡ past_of old q
   pub jobs : new.jobs ≡ old.jobs
 
 -- the jobs change, and what was granted doesn't
 pub record HasJobs (old : Ledger) (entries : List JobEntry) (new : Ledger) : Type 0 where
   pub grants : (q : List ℕ) → granted_to new q ≡ granted_to old q
+  pub past : (q : List ℕ) → past_of new q ≡ past_of old q
   pub jobs : new.jobs ≡ entries
 
 -- why a grant is refused
@@ -100,6 +110,12 @@ pub record Finishes (old : Ledger) (number : ℕ) (outcome : Result Report ℕ) 
       (slice_set old.jobs (number - 1) (record entry { standing = settled entry.credit outcome }))
       new
 
+-- Jobs are forgotten, and each account is as it was.
+pub record Forgets (old : Ledger) (keep : ℕ) (new : Ledger) : Type 0 where
+  pub jobs : ForgetsJobs old.jobs keep new.jobs
+  pub grants : (q : List ℕ) → granted_to new q ≡ granted_to old q
+  pub accounts : (q : List ℕ) → account_at new q ≡ account_at old q
+
 -- no open job has the number
 abbrev pub IsNotOpen : Ledger → ℕ → Type 0
 IsNotOpen ledger number = (entry : JobEntry) → job_at ledger.jobs number ≡ Some entry
@@ -121,22 +137,32 @@ report_at ledger number = report_in (job_at ledger.jobs number)
 
 -- ---- what the desk keeps
 
--- the sums are those of the tenant's jobs, and within the grants
+-- the sums are those of the tenant's jobs, with those that are forgotten, and within the grants
 pub record IsSummed (jobs : List JobEntry) (name : List ℕ) (sums : Sums) : Type 0 where
   pub opened : sums.opened ≡ opened_by jobs name
-  pub spent : sums.spent ≡ spent_by jobs name
+  pub spent : spent_by jobs name ≤ sums.spent
   pub within : sums.opened + sums.spent ≤ sums.granted
   pub limit : sums.granted ≤ most_granted
 
--- each tenant's sums are right, and each job is a tenant's
+-- each tenant's sums are right, and each job is a tenant's that isn't forgotten
 pub record IsBalanced (sums : List ℕ → Option Sums) (jobs : List JobEntry) : Type 0 where
   pub each : (name : List ℕ) (s : Sums) → sums name ≡ Some s → IsSummed jobs name s
   pub owned : (n : ℕ) (entry : JobEntry) → slice_get jobs n ≡ Some entry
-      → (s : Sums) × (sums (string_bytes entry.tenant) ≡ Some s)
+      → IsGone entry ⊎ ((s : Sums) × (sums (string_bytes entry.tenant) ≡ Some s))
 
 -- what the tenants' map says of the grants
 abbrev pub granted_by : {Y : Type 0} → String Y × Sums → List ℕ × ℕ
 granted_by entry = (string_bytes entry.0, entry.1.granted)
 
+-- what the forgotten jobs of a tenant spent: what all spent, but for those that aren't forgotten
+abbrev pub spent_before : {Y : Type 0} → List JobEntry → String Y × Sums → List ℕ × ℕ
+spent_before jobs entry =
+    (string_bytes entry.0, entry.1.spent - spent_by jobs (string_bytes entry.0))
+
 abbrev pub ledger_of : {Y : Type 0} → BTreeMap (String Y) Sums → List JobEntry → Ledger
-ledger_of tenants jobs = record { grants = map granted_by tenants.entries; jobs = jobs }
+ledger_of tenants jobs =
+    record {
+      grants = map granted_by tenants.entries;
+      past = map (spent_before jobs) tenants.entries;
+      jobs = jobs;
+    }

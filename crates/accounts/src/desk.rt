@@ -1,7 +1,7 @@
 //! The desk, where tenants are granted credit and give jobs.
 
 use crate::fault::{DeskFault, SubmitFault};
-use crate::jobs::{JobEntry, Standing, entry_at, note, settle};
+use crate::jobs::{JobEntry, Jobs, Standing, settle};
 use crate::tenants::{Account, Sums, account_of, add, change, sums_of};
 use credit_book::{Progress, Report};
 use job_core::{Job, ProgramBytes, admit};
@@ -14,11 +14,12 @@ const MOST_GRANTED: u64 = 1_000_000_000_000;
 /// Tenants and their jobs.
 ///
 /// A tenant's sums are kept beside its name, so that no call goes over the jobs: tenants are found
-/// by a search in a tree, and jobs, whose numbers run from 1, by their place.
+/// by a search in a tree, and jobs, whose numbers run from 1, by their place. Jobs are forgotten
+/// where a host asks for it alone; the sums keep what they spent.
 #[derive(Drop)]
 pub struct Desk {
     tenants: BTreeMap<String, Sums>,
-    jobs: Vec<JobEntry>,
+    jobs: Jobs,
 }
 
 impl Model for Desk {
@@ -27,24 +28,24 @@ impl Model for Desk {
 
     ghost Value = { Ledger };
 
-    ghost view = { λ d. ledger_of d.tenants d.jobs.items };
+    ghost view = { λ d. ledger_of d.tenants d.jobs };
 
-    ghost invariant = { λ d. IsBalanced (tree.get_by_text d.tenants) d.jobs.items };
+    ghost invariant = { λ d. IsBalanced (tree.get_by_text d.tenants) d.jobs };
 }
 
 impl Desk {
     ghost use Rattle.std.specs.Prelude.{◌≡◌, ◌≤◌, ◌+◌, [], IfOk, IfErr, OnOk, OnErr, Ok, Err, MatchResult, length, unwrap_or};
     ghost use Rattle.job_core.specs.Admission.{IsAdmittedFrom};
     ghost use Rattle.accounts.specs.declared.fault.DeskFault.TheVariants as fault;
-    ghost use Rattle.accounts.specs.Ledgers.{account_at, granted_to, most_granted, GrantsMore, RefusesGrant, Takes, RefusesSubmit, Finishes, IsNotOpen, progress_at, report_at};
+    ghost use Rattle.accounts.specs.Ledgers.{account_at, granted_to, most_granted, GrantsMore, RefusesGrant, Takes, RefusesSubmit, Finishes, Forgets, IsNotOpen, progress_at, report_at};
 
     /// A desk with no tenant.
     pub fn new(alloc: Global) -> Desk
-        ensures { result ≡ record { grants = []; jobs = [] } }
+        ensures { result ≡ record { grants = []; past = []; jobs = [] } }
     {
         Desk {
             tenants: BTreeMap::new(alloc),
-            jobs: Vec::new(alloc),
+            jobs: Jobs::new(alloc),
         }
     }
 
@@ -128,11 +129,10 @@ impl Desk {
             credit,
             standing: Standing::Open,
         };
-        self.jobs.reserve(1)?;
-        self.jobs.push_reserved(entry);
+        self.jobs.add(entry)?;
         let opened = sums.opened + u64::from(credit);
         change(&mut self.tenants, tenant, Sums { opened, ..sums });
-        Ok((self.jobs.len() as u64, job))
+        Ok((self.jobs.count(), job))
     }
 
     /// Ends an open job with its report, or with the number of what it failed by; 76 where no open
@@ -146,7 +146,7 @@ impl Desk {
         ensures refused { IfErr result (λ e. (e ≡ fault.NoJob) × IsNotOpen self.old job) }
         ensures unchanged { OnErr result (self.new ≡ self.old) }
     {
-        let Some(entry) = entry_at(&self.jobs, job) else {
+        let Some(entry) = self.jobs.entry(job) else {
             return Err(DeskFault::NoJob);
         };
         if !entry.standing.is_open() {
@@ -162,8 +162,16 @@ impl Desk {
             ..sums
         };
         change(&mut self.tenants, &entry.tenant, after);
-        note(&mut self.jobs, job, settled);
+        self.jobs.note(job, settled);
         Ok(())
+    }
+
+    /// Forgets the first jobs, as long as there are more than `keep` behind them, up to the first that
+    /// is open. A forgotten job is told as 76, and every account is as it was.
+    pub fn forget(&mut self, keep: u64)
+        ensures { Forgets self.old keep self.new }
+    {
+        self.jobs.forget(keep);
     }
 
     /// What a job has come to: its report's totals, or what was seen of it while it is open.
@@ -173,7 +181,7 @@ impl Desk {
     pub fn status(&self, job: u64, seen: Progress) -> Result<Progress, DeskFault>
         ensures { result ≡ progress_at self.now job seen }
     {
-        let Some(entry) = entry_at(&self.jobs, job) else {
+        let Some(entry) = self.jobs.entry(job) else {
             return Err(DeskFault::NoJob);
         };
         match &entry.standing {
@@ -194,7 +202,7 @@ impl Desk {
         ensures { MatchResult result (λ report. report_at self.now job
             ≡ Ok report.now) (λ e. report_at self.now job ≡ Err e) }
     {
-        let Some(entry) = entry_at(&self.jobs, job) else {
+        let Some(entry) = self.jobs.entry(job) else {
             return Err(DeskFault::NoJob);
         };
         match &entry.standing {

@@ -1,10 +1,14 @@
 //! The jobs of a desk.
 
-ghost use Rattle.std.specs.Prelude.{◌≡◌, ◌≤◌, ◌-◌, false, Some, option_map, slice_set};
+ghost use Rattle.std.specs.Prelude.{◌≡◌, ◌≤◌, ◌-◌, ◌++◌, ◌∷◌, [], ◌^◌, ◌<◌, ◌+◌, false, length, OnOk, OnErr, Some, option_map, slice_set};
 ghost use Rattle.accounts.specs.declared.jobs.JobEntry.{JobEntry};
 ghost use Rattle.accounts.specs.Jobs.{job_at, settled, spent_in, is_open};
+ghost use Rattle.accounts.specs.Forgetting.{ForgetsJobs, begins_over};
 
 use credit_book::Report;
+use std::alloc::{AllocError, Global};
+use std::collections::VecDeque;
+use std::marker::Model;
 
 /// How a job stands.
 #[derive(Drop)]
@@ -47,14 +51,111 @@ pub struct JobEntry {
     pub standing: Standing,
 }
 
-/// The job of this number; the first is number 1.
-pub fn entry_at(jobs: &[JobEntry], job: u64) -> Option<&JobEntry>
-    ensures { option_map (λ e. e.now) result ≡ job_at jobs.now job }
-{
-    if job == 0 {
-        return None;
+/// The jobs of a desk, by their numbers, of which the first is 1.
+///
+/// Of the first ones it keeps no more than how many they are: these are forgotten. Contracts see
+/// all, and in the place of each forgotten one the entry of a job that is gone.
+#[derive(Drop)]
+pub struct Jobs {
+    forgotten: u64,
+    gone: JobEntry,
+    kept: VecDeque<JobEntry>,
+}
+
+impl Model for Jobs {
+    ghost use Rattle.std.specs.Prelude.{List, ◌++◌, ◌+◌, ◌<◌, ◌^◌, length, replicate};
+    ghost use Rattle.accounts.specs.declared.jobs.JobEntry.{JobEntry};
+    ghost use Rattle.accounts.specs.Forgetting.{IsGone};
+
+    ghost Value = { List JobEntry };
+
+    ghost view = { λ j. replicate j.forgotten j.gone ++ j.kept.items };
+
+    ghost invariant = { λ j. IsGone j.gone × (j.forgotten + length j.kept.items < 2 ^ 64) };
+}
+
+impl Jobs {
+    /// No job.
+    pub fn new(alloc: Global) -> Jobs
+        ensures { result ≡ [] }
+    {
+        Jobs {
+            forgotten: 0,
+            gone: JobEntry {
+                tenant: String::new(alloc),
+                credit: 0,
+                standing: Standing::Failed(76),
+            },
+            kept: VecDeque::new(alloc),
+        }
     }
-    jobs.get((job - 1) as usize)
+
+    /// How many there are, with those that are forgotten.
+    pub fn count(&self) -> u64
+        ensures { result ≡ length self.now }
+    {
+        self.forgotten + self.kept.len() as u64
+    }
+
+    /// The job of this number.
+    pub fn entry(&self, job: u64) -> Option<&JobEntry>
+        ensures { option_map (λ e. e.now) result ≡ job_at self.now job }
+    {
+        if job == 0 {
+            return None;
+        }
+        if job <= self.forgotten {
+            return Some(&self.gone);
+        }
+        self.kept.get((job - 1 - self.forgotten) as usize)
+    }
+
+    /// Adds a job behind the others.
+    pub fn add(&mut self, entry: JobEntry) -> Result<(), AllocError>
+        ensures added { OnOk result (self.new ≡ self.old ++ entry ∷ []) }
+        ensures unchanged { OnErr result (self.new ≡ self.old) }
+    {
+        if self.count() == u64::MAX {
+            return Err(AllocError);
+        }
+        self.kept.reserve(1)?;
+        self.kept.push_back_reserved(entry);
+        Ok(())
+    }
+
+    /// Notes how an open job stands.
+    pub fn note(&mut self, job: u64, standing: Standing)
+        requires { (entry : JobEntry) × (job_at self.old job ≡ Some entry)
+            × (entry.standing ≡ Standing.Open) }
+        ensures { (entry : JobEntry) → job_at self.old job ≡ Some entry
+            → self.new ≡ slice_set self.old (job - 1) (record entry { standing = standing }) }
+    {
+        self.kept[(job - 1 - self.forgotten) as usize].standing = standing;
+    }
+
+    /// Forgets the first jobs, as long as there are more than `keep` behind them, up to the first
+    /// that is open.
+    pub fn forget(&mut self, keep: u64)
+        ensures { ForgetsJobs self.old keep self.new }
+    {
+        'jobs: while self.kept.len() as u64 > keep {
+            if !is_first_over(&self.kept) {
+                return;
+            }
+            let _ = self.kept.pop_front();
+            self.forgotten += 1;
+        }
+    }
+}
+
+// Whether the first of these jobs is over.
+fn is_first_over(jobs: &VecDeque<JobEntry>) -> bool
+    ensures { result ≡ begins_over jobs.now.items }
+{
+    match jobs.front() {
+        Some(entry) => !entry.standing.is_open(),
+        None => false,
+    }
 }
 
 /// How a job of this credit stands once it is over.
@@ -73,14 +174,4 @@ pub fn settle(credit: u32, outcome: Result<Report, u8>) -> Standing
         }
         Err(code) => Standing::Failed(code),
     }
-}
-
-/// Notes how a job stands.
-pub fn note(jobs: &mut Vec<JobEntry>, job: u64, standing: Standing)
-    requires { (entry : JobEntry) × (job_at jobs.old.items job ≡ Some entry) }
-    ensures { (entry : JobEntry) → job_at jobs.old.items job ≡ Some entry
-        → jobs.new.items
-        ≡ slice_set jobs.old.items (job - 1) (record entry { standing = standing }) }
-{
-    jobs[(job - 1) as usize].standing = standing;
 }

@@ -1,8 +1,6 @@
 //! The programs that are run, each of a given number of slots.
 
-ghost use Rattle.std.specs.Prelude.{◌≤◌};
-
-use insn_codec::{AluOp, Condition, Insn, LoadKind, Operand, Register, Size, Width, encode};
+use assembler::assemble;
 use job_core::ProgramBytes;
 use std::alloc::Global;
 
@@ -35,105 +33,48 @@ impl Scenario {
     }
 }
 
-fn number(dst: u8, value: i32) -> Insn
-    requires { dst ≤ 10 }
-{
-    Insn::Mov {
-        width: Width::W64,
-        dst: Register::new(dst),
-        src: Operand::Imm(value),
-    }
-}
-
-fn alu(width: Width, op: AluOp, dst: u8, src: Operand) -> Insn
-    requires { dst ≤ 10 }
-{
-    Insn::Alu {
-        width,
-        op,
-        dst: Register::new(dst),
-        src,
-    }
-}
-
 /// The instructions of a kind that computes, by their number.
-fn arithmetic(place: u32) -> Insn {
+fn arithmetic(place: u32) -> &'static str {
     match place % 8 {
-        0 => alu(Width::W64, AluOp::Add, 0, Operand::Imm(7)),
-        1 => alu(Width::W64, AluOp::Xor, 4, Operand::Reg(Register::new(0))),
-        2 => alu(Width::W32, AluOp::Mul, 5, Operand::Imm(3)),
-        3 => alu(Width::W64, AluOp::Sub, 0, Operand::Reg(Register::new(5))),
-        4 => alu(Width::W64, AluOp::Rsh, 4, Operand::Imm(3)),
-        5 => alu(Width::W32, AluOp::Add, 4, Operand::Reg(Register::new(5))),
-        6 => alu(Width::W64, AluOp::Or, 5, Operand::Imm(1)),
-        _ => alu(Width::W64, AluOp::And, 0, Operand::Imm(0xffff)),
-    }
-}
-
-fn load(kind: LoadKind, dst: u8, base: u8, offset: i16) -> Insn
-    requires dst { dst ≤ 10 }
-    requires base { base ≤ 10 }
-{
-    Insn::Load {
-        kind,
-        dst: Register::new(dst),
-        base: Register::new(base),
-        offset,
-    }
-}
-
-fn store(size: Size, base: u8, offset: i16, src: u8) -> Insn
-    requires base { base ≤ 10 }
-    requires src { src ≤ 10 }
-{
-    Insn::StoreRegister {
-        size,
-        base: Register::new(base),
-        offset,
-        src: Register::new(src),
+        0 => "add64 r0, 7",
+        1 => "xor64 r4, r0",
+        2 => "mul32 r5, 3",
+        3 => "sub64 r0, r5",
+        4 => "rsh64 r4, 3",
+        5 => "add32 r4, r5",
+        6 => "or64 r5, 1",
+        _ => "and64 r0, 65535",
     }
 }
 
 /// A load or store at each even place.
-fn memory(place: u32) -> Insn {
+fn memory(place: u32) -> &'static str {
     match place % 8 {
-        0 => store(Size::Double, 10, -8, 0),
-        2 => load(LoadKind::Word, 4, 10, -8),
-        4 => store(Size::Byte, 1, 3, 4),
-        6 => load(LoadKind::Half, 5, 1, 2),
+        0 => "stxdw [r10-8], r0",
+        2 => "ldxw r4, [r10-8]",
+        4 => "stxb [r1+3], r4",
+        6 => "ldxh r5, [r1+2]",
         _ => arithmetic(place),
-    }
-}
-
-fn jump(condition: Condition, dst: u8, value: i32, offset: i16) -> Insn
-    requires { dst ≤ 10 }
-{
-    Insn::JumpIf {
-        width: Width::W64,
-        condition,
-        dst: Register::new(dst),
-        src: Operand::Imm(value),
-        offset,
     }
 }
 
 /// A jump at each third place: past the instruction behind it where R0 is odd, which every other
 /// time it is.
-fn ladder(place: u32) -> Insn {
+fn ladder(place: u32) -> &'static str {
     match place % 3 {
-        0 => jump(Condition::Set, 0, 1, 1),
-        1 => alu(Width::W64, AluOp::Add, 0, Operand::Imm(2)),
-        _ => alu(Width::W64, AluOp::Add, 0, Operand::Imm(1)),
+        0 => "jset r0, 1, +1",
+        1 => "add64 r0, 2",
+        _ => "add64 r0, 1",
     }
 }
 
 /// A jump at each even place: to the last slot but one, where R0 is above what it comes to.
-fn comb(place: u32, body: u32) -> Insn {
-    let left = body.saturating_sub(place).saturating_sub(1);
-    match place % 2 {
-        0 => jump(Condition::Greater, 0, 0x7fff_ffff, left.min(0x7fff) as i16),
-        _ => alu(Width::W64, AluOp::Add, 0, Operand::Imm(1)),
+fn comb(alloc: Global, place: u32, body: u32) -> anyhow::Result<String> {
+    if place % 2 != 0 {
+        return Ok(String::from_str(alloc, "add64 r0, 1")?);
     }
+    let left = body.saturating_sub(place).saturating_sub(1);
+    Ok(format!(in alloc; "jgt r0, 2147483647, +{left}")?)
 }
 
 /// How many pieces on the next one stands. It has no factor in common with how many pieces there
@@ -141,9 +82,9 @@ fn comb(place: u32, body: u32) -> Insn {
 const STRIDE: u32 = 1009;
 
 /// A jump at each odd place: to the piece that comes next, and from the last one behind all pieces.
-fn shuffled(place: u32, body: u32) -> Insn {
+fn shuffled(alloc: Global, place: u32, body: u32) -> anyhow::Result<String> {
     if place % 2 == 0 {
-        return alu(Width::W64, AluOp::Add, 0, Operand::Imm(1));
+        return Ok(String::from_str(alloc, "add64 r0, 1")?);
     }
     let pieces = body / 2;
     let piece = (place / 2).saturating_add(STRIDE).checked_rem(pieces);
@@ -152,35 +93,35 @@ fn shuffled(place: u32, body: u32) -> Insn {
         Some(piece) => piece,
     };
     let offset = 2 * i64::from(next) - i64::from(place) - 1;
-    Insn::Jump {
-        offset: i16::try_from(offset).unwrap_or(0),
+    if offset < 0 {
+        return Ok(format!(in alloc; "ja {offset}")?);
     }
+    Ok(format!(in alloc; "ja +{offset}")?)
 }
 
-fn insn(scenario: Scenario, place: u32, body: u32) -> Insn {
-    match scenario {
+/// The line at a place of the scenario's body.
+fn line(alloc: Global, scenario: Scenario, place: u32, body: u32) -> anyhow::Result<String> {
+    let line = match scenario {
         Scenario::Arithmetic => arithmetic(place),
         Scenario::Memory => memory(place),
         Scenario::Ladder => ladder(place),
-        Scenario::Comb => comb(place, body),
-        Scenario::Shuffled => shuffled(place, body),
-    }
+        Scenario::Comb => return comb(alloc, place, body),
+        Scenario::Shuffled => return shuffled(alloc, place, body),
+    };
+    Ok(String::from_str(alloc, line)?)
 }
 
 /// The program of this scenario with so many slots, from 8 to 4,096. It needs 8 bytes.
 pub fn program(alloc: Global, scenario: Scenario, slots: u32) -> anyhow::Result<ProgramBytes> {
     let body = slots.saturating_sub(5);
-    let mut insns = Vec::new(alloc);
-    insns.push(number(0, 1))?;
-    insns.push(number(4, 2))?;
-    insns.push(number(5, 3))?;
+    let mut text = String::from_str(alloc, "mov64 r0, 1\nmov64 r4, 2\nmov64 r5, 3\n")?;
     for place in 0..body {
-        insns.push(insn(scenario, place, body))?;
+        text.push_str(line(alloc, scenario, place, body)?.as_str())?;
+        text.push('\n')?;
     }
-    insns.push(alu(Width::W64, AluOp::Add, 0, Operand::Imm(0)))?;
-    insns.push(Insn::Exit)?;
+    text.push_str("add64 r0, 0\nexit\n")?;
     Ok(ProgramBytes {
         need: 8,
-        code: encode(alloc, &insns)?,
+        code: assemble(alloc, text.as_str())?,
     })
 }

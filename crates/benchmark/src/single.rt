@@ -4,7 +4,6 @@
 ghost use Rattle.std.specs.Prelude.{◌≤◌, vec_len};
 
 use assembler::assemble;
-use insn_codec::{AluOp, Insn, Operand, Register, Width, encode};
 use std::alloc::Global;
 use virtual_machine::Vm;
 
@@ -30,12 +29,6 @@ exit
 mov64 r0, 0
 exit
 ";
-
-/// The greatest length that one call sums up.
-const PIECE: i32 = 512;
-
-/// How many pieces a part has.
-const PIECES: u8 = 128;
 
 /// A program with what it is run on.
 #[derive(Drop)]
@@ -69,45 +62,21 @@ pub fn filter(alloc: Global) -> anyhow::Result<Single> {
     })
 }
 
-fn copy(dst: u8, src: Operand) -> Insn
-    requires { dst ≤ 10 }
-{
-    Insn::Mov {
-        width: Width::W64,
-        dst: Register::new(dst),
-        src,
-    }
-}
-
-fn add(dst: u8, src: Operand) -> Insn
-    requires { dst ≤ 10 }
-{
-    Insn::Alu {
-        width: Width::W64,
-        op: AluOp::Add,
-        dst: Register::new(dst),
-        src,
-    }
-}
-
-/// The sum of 65,536 bytes, in calls of 512.
+/// The sum of 65,536 bytes, in 128 calls of 512, the most that one call sums up.
 pub fn sum(alloc: Global) -> anyhow::Result<Single> {
-    let mut insns = Vec::new(alloc);
-    insns.push(copy(6, Operand::Reg(Register::new(1))))?;
-    insns.push(copy(7, Operand::Imm(0)))?;
-    for piece in 0..PIECES {
-        insns.push(copy(1, Operand::Reg(Register::new(6))))?;
-        insns.push(add(1, Operand::Imm(i32::from(piece) * PIECE)))?;
-        insns.push(copy(2, Operand::Imm(PIECE)))?;
-        insns.push(Insn::Call { helper: 5 })?;
-        insns.push(add(7, Operand::Reg(Register::new(0))))?;
+    let mut text = String::from_str(alloc, "mov64 r6, r1\nmov64 r7, 0\n")?;
+    for piece in 0..128u32 {
+        let at = piece * 512;
+        let call = format!(in alloc;
+            "mov64 r1, r6\nadd64 r1, {at}\nmov64 r2, 512\ncall 5\nadd64 r7, r0\n"
+        )?;
+        text.push_str(call.as_str())?;
     }
-    insns.push(copy(0, Operand::Reg(Register::new(7))))?;
-    insns.push(Insn::Exit)?;
+    text.push_str("mov64 r0, r7\nexit\n")?;
     Ok(Single {
         name: "sum",
         need: 65_536,
-        code: encode(alloc, &insns)?,
+        code: assemble(alloc, text.as_str())?,
         memory: vec![in alloc; 255; 65_536]?,
         credit: 10_000,
     })

@@ -9,13 +9,15 @@ ghost use Rattle.std.specs.Prelude.{◌≤◌};
 mod serving;
 
 use bpfjobs_cli::{Command, FAILED, UNREAD, command, print_usage, words};
-use serving::{serve, serve_clients};
+use job_server::StopFlag;
+use serving::{serve, serve_clients, stop_at_end};
 use std::alloc::Global;
-use std::io;
 use std::net::{Net, TcpListener, TcpStream};
 use std::process::ExitCode;
-use std::sync::Wait;
+use std::sync::{Arc, Wait};
 use std::thread::Threads;
+use std::time::Clock;
+use std::{io, thread};
 use streams::Tap;
 
 // Reads the input, prints the answer of a command that needs no thread, and gives the status. It
@@ -44,10 +46,31 @@ fn run<R: Input + Print + Threads + Wait + Sync>(rt: &R, alloc: Global, workers:
     }
 }
 
+// The port of a server that stops at the end of the input.
+fn watched_port(command: &Command) -> Option<u16>
+    requires { IsInRange command.now }
+{
+    match command {
+        Command::ServeClients {
+            port,
+            workers: _,
+            sessions: _,
+            bounds,
+        } => {
+            if bounds.until_eof {
+                Some(*port as u16)
+            } else {
+                None
+            }
+        }
+        _ => None,
+    }
+}
+
 // Does what a command says, and gives the status.
-fn act<R>(rt: R, alloc: Global, command: Command) -> u8
+fn act<R>(rt: R, alloc: Global, command: Command, stop: Option<&StopFlag>) -> u8
 where
-    R: Input + Print + Net<Stream = TcpStream, Listener = TcpListener> + Threads + Wait,
+    R: Input + Print + Net<Stream = TcpStream, Listener = TcpListener> + Threads + Wait + Clock,
     R: Copy + Send + Sync + Drop + 'static,
     requires { IsInRange command }
 {
@@ -61,9 +84,8 @@ where
             port,
             workers,
             sessions,
-            clients,
-            timeout,
-        } => serve_clients(&rt, alloc, port, workers, clients, sessions, timeout),
+            bounds,
+        } => serve_clients(&rt, alloc, port, workers, sessions, bounds, stop),
         Command::Run { workers } => run(&rt, alloc, workers),
         Command::Verify { need } => answer(&rt, alloc, Command::Verify { need }),
         Command::Assemble => answer(&rt, alloc, Command::Assemble),
@@ -73,12 +95,27 @@ where
 }
 
 fn main(rt: HostRuntime) -> ExitCode {
+    let alloc = rt.alloc();
     let Ok(words) = words(&rt) else {
         return ExitCode::from(UNREAD);
     };
-    let status = match command(rt.alloc(), words) {
-        Ok(command) => act(rt, rt.alloc(), command),
-        Err(usage) => print_usage(&rt, usage),
+    let command = match command(alloc, words) {
+        Ok(command) => command,
+        Err(usage) => return ExitCode::from(print_usage(&rt, usage)),
     };
-    ExitCode::from(status)
+    let Some(port) = watched_port(&command) else {
+        return ExitCode::from(act(rt, alloc, command, None));
+    };
+    let Ok(stop) = Arc::new(alloc, StopFlag::new()) else {
+        return ExitCode::from(FAILED);
+    };
+    let Ok(theirs) = Arc::try_clone(&stop) else {
+        return ExitCode::from(FAILED);
+    };
+    // The thread is started here, where the runtime is of a type that may go to it.
+    let watch = move || stop_at_end(&rt, port, &theirs);
+    let Ok(_thread) = thread::spawn(&rt, watch) else {
+        return ExitCode::from(FAILED);
+    };
+    ExitCode::from(act(rt, alloc, command, Some(&stop)))
 }

@@ -2,10 +2,14 @@
 
 ghost use Rattle.std.specs.Prelude.{◌≤◌};
 
+use bpfjobs_cli::Bounds;
+use job_server::{StopFlag, address_of};
 use std::alloc::Global;
+use std::io::Read;
 use std::net::{Net, TcpListener, TcpStream};
 use std::sync::Wait;
 use std::thread::Threads;
+use std::time::Clock;
 
 /// Takes so many connections on the port of 127.0.0.1, one after the other, and gives the status: 0
 /// once all have ended, 3 where one of them or the socket failed.
@@ -24,21 +28,38 @@ pub fn serve<R: Net<Stream = TcpStream> + Threads + Wait + Copy + Send + Sync + 
     job_server::status_of(outcome)
 }
 
-/// The same from so many clients at once, of which one is given up that keeps a read or a write
-/// waiting for `timeout` seconds; 0: none is.
-pub fn serve_clients<R: Net<Stream = TcpStream, Listener = TcpListener> + Threads + Wait + Sync>(
+/// Reads the input to its end. Then it raises the flag, and wakes who waits for a connection by one of
+/// its own.
+pub fn stop_at_end<R: Input + Net>(rt: &R, port: u16, stop: &StopFlag) {
+    let mut reader = rt.reader();
+    let mut piece = [0u8; 64];
+    for _ in 0..u64::MAX {
+        match reader.read(&mut piece) {
+            Ok(0) | Err(_) => break,
+            Ok(_) => {}
+        }
+    }
+    stop.raise();
+    let _ = TcpStream::connect(rt, address_of(port));
+}
+
+/// The same within a host's bounds: from many clients at once, and until the flag is raised, if there
+/// is one.
+pub fn serve_clients<R>(
     rt: &R,
     alloc: Global,
     port: u32,
     workers: u32,
-    clients: u32,
     sessions: u32,
-    timeout: u32,
+    bounds: Bounds,
+    stop: Option<&StopFlag>,
 ) -> u8
+where
+    R: Net<Stream = TcpStream, Listener = TcpListener> + Threads + Wait + Clock + Sync,
     requires port { (1 ≤ port) × (port ≤ 65535) }
     requires workers { (1 ≤ workers) × (workers ≤ 16) }
 {
     let port = port as u16;
-    let outcome = job_server::serve_clients(rt, alloc, port, workers, clients, sessions, timeout);
+    let outcome = job_server::serve_clients(rt, alloc, port, workers, sessions, bounds, stop);
     job_server::status_of(outcome)
 }

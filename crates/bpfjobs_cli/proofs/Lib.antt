@@ -1,5 +1,6 @@
 pub mod LineLemmas
 pub mod NumberLemmas
+pub mod FlagLemmas
 pub mod RowLemmas
 pub mod SubcommandLemmas
 pub mod GivenUp

@@ -1,9 +1,12 @@
 -- Each line that clap takes says a command, with its numbers.
-use Rattle.std.proofs.Common.{◌≡◌, ◌≤◌, ◌<◌, ◌&&◌, length, ℕ, codes, true, false, refl, sym, subst, inl, inr, arith, List, [], Some, is_some, true≢false}
+use Rattle.std.proofs.Common.{◌≡◌, ◌↔◌, ◌≤◌, ◌<◌, ◌&&◌, ◌==◌, length, ℕ, Bool, IsTrue, not, codes, true, false, refl, sym, ap, ◌∙◌, subst, inl, inr, arith, List, [], Option, Some, None, is_some, true≢false, unwrap_or}
 use Rattle.std.specs.Prelude.{pos}
-use Rattle.std.proofs.lemmas.Bool.{cases_eq}
+use Rattle.std.proofs.lemmas.Bool.{cases_Bool}
+use Rattle.std.proofs.lemmas.Slice.Eq.{bytes_eq-Decides}
+use Rattle.std.specs.Str.{bytes_eq}
+use borrow.Author.Tests.{eqb-true}
 use Rattle.clap.specs.Facts.{unwrap_or_range}
-use Rattle.clap.specs.Walk.{Row, Rule, Text, action_of, nothing_held, rows_after}
+use Rattle.clap.specs.Walk.{Row, Rule, Text, action_of, first_of, nothing_held, rows_after}
 use Rattle.clap.specs.Simple.{App, Shape, argument_words, built, built_leaf, filled, help_shape, inherited, is_simple, marked_built, new_app, with_leaf_noted, subcommand_of, with_index}
 use Rattle.clap.specs.Kinds.{HasKind}
 use Rattle.clap.specs.declared.error.Error.{Error}
@@ -11,8 +14,9 @@ use Rattle.clap.specs.Faults.{fault_of, is_simple_and_free, level_fault}
 use Rattle.clap.specs.declared.builder.action.ArgAction.TheVariants as action
 use Rattle.clap.specs.declared.builder.value_parser.ValueParser.TheVariants as vp
 use Rattle.clap.proofs.OnLiterals.{clap_on_literals}
-use Rattle.bpfjobs_cli.specs.Commands.{IsNumberIn, SaysCommand}
-use Rattle.bpfjobs_cli.specs.Program.{bpfjobs_app, need_rule, port_rule, run_app, serve_app, sessions_rule, clients_rule, timeout_rule, verify_app, workers_rule}
+use Rattle.bpfjobs_cli.specs.Commands.{AreBoundsOf, IsNumberIn, SaysCommand, no_bounds}
+use Rattle.bpfjobs_cli.specs.declared.commands.Bounds.{Bounds}
+use Rattle.bpfjobs_cli.specs.Program.{bpfjobs_app, need_rule, port_rule, run_app, serve_app, sessions_rule, clients_rule, timeout_rule, open_jobs_rule, keep_rule, until_eof_rule, verify_app, workers_rule}
 use Rattle.bpfjobs_cli.specs.declared.commands.Command.TheVariants.{Assemble, Disassemble, Verify, Play, Run, Serve, ServeClients}
 use Rattle.bpfjobs_cli.proofs.NumberLemmas.{signed_number}
 use Rattle.bpfjobs_cli.proofs.RowLemmas.{Among, Each, IsOnly, On, both, default_value, required_value}
@@ -64,39 +68,88 @@ run words own none =
     ((λ same. refl), (other, tt)) (inl refl) none (omega arith) in
     (Run workers.0, (refl, workers.1))
 
+-- whether an argument that is a flag is given
+is_given : Option Text → Bool
+is_given None = false
+is_given (Some text) = bytes_eq text (codes "true")
+
+flag_given : (found : Option Text) → IsTrue (is_given found) ↔ (found ≡ Some (codes "true"))
+unfolding is_given
+flag_given None = (λ t. absurd cc, λ there. let clash = there in absurd cc)
+flag_given (Some text) = (
+  λ t. ap Some ((bytes_eq-Decides text (codes "true")).0 t),
+  λ there. (bytes_eq-Decides text (codes "true")).1 (ap (λ o. unwrap_or o text) there),
+)
+
+-- whether these bounds are none
+are_none : Bounds → Bool
+are_none b = (b.clients == 1) && (b.timeout == 0) && (b.open_jobs == 0) && (b.keep == 0) && not b.until_eof
+
+five : (c t o k u : Bool) → (c && t && o && k && not u) ≡ true → (c ≡ true) × (t ≡ true) × (o ≡ true) × (k ≡ true) × (u ≡ false)
+five true true true true false e = (refl, refl, refl, refl, refl)
+five true true true true true e = cc
+five true true true false u e = cc
+five true true false k u e = cc
+five true false o k u e = cc
+five false t o k u e = cc
+
+bounds_of : ℕ → ℕ → ℕ → ℕ → Bool → Bounds
+bounds_of c t o k u = record { clients = c; timeout = t; open_jobs = o; keep = k; until_eof = u }
+
+none_at_all : (b : Bounds) → are_none b ≡ true → b ≡ no_bounds
+unfolding are_none bounds_of
+none_at_all b none =
+    let tests = five (b.clients == 1) (b.timeout == 0) (b.open_jobs == 0) (b.keep == 0) b.until_eof none in
+    let c : b.clients ≡ 1 = eqb-true b.clients 1 tests.0 in
+    let t : b.timeout ≡ 0 = eqb-true b.timeout 0 tests.1 in
+    let o : b.open_jobs ≡ 0 = eqb-true b.open_jobs 0 tests.2 in
+    let k : b.keep ≡ 0 = eqb-true b.keep 0 tests.3 in
+    ap (λ n. bounds_of n b.timeout b.open_jobs b.keep b.until_eof) c
+    ∙ ap (λ n. bounds_of 1 n b.open_jobs b.keep b.until_eof) t
+    ∙ ap (λ n. bounds_of 1 0 n b.keep b.until_eof) o
+    ∙ ap (λ n. bounds_of 1 0 0 n b.until_eof) k
+    ∙ ap (λ u. bounds_of 1 0 0 0 u) tests.4
+
+serves : (rows : List Row) (port workers sessions : ℕ) (bounds : Bounds) → IsNumberIn rows (codes "port") 1 65535 port → IsNumberIn rows (codes "workers") 1 16 workers
+    → IsNumberIn rows (codes "sessions") 1 1000000 sessions → AreBoundsOf rows bounds → SaysCommand (codes "serve") rows
+unfolding are_none
+serves rows port workers sessions bounds p w s b =
+    elim (cases_Bool (are_none bounds)) [
+      | inl none ↦ (Serve port workers sessions, (refl, p, w, s, subst (AreBoundsOf rows) (none_at_all bounds none) b))
+      | inr some ↦ (ServeClients port workers sessions bounds, (refl, p, w, s, b, λ is. true≢false (sym (ap are_none is) ∙ some)))
+    ]
+
 serve : Gives SaysCommand (leaf serve_app.top)
 serve words own none =
     let port = wanted (rule port_rule) 1 65535 refl (omega arith) refl (leaf serve_app.top) words
-    ((λ same. refl), (other, (other, (other, (other, (other, tt)))))) (inl refl) none refl refl in
+    ((λ same. refl), (other, (other, (other, (other, (other, (other, (other, (other, tt))))))))) (inl refl) none refl refl in
     let workers = left_out (rule workers_rule) 1 16 refl (omega arith) refl (leaf serve_app.top) words
-    (other, ((λ same. refl), (other, (other, (other, (other, tt)))))) (inr (inl refl)) none (omega arith) in
+    (other, ((λ same. refl), (other, (other, (other, (other, (other, (other, (other, tt))))))))) (inr (inl refl)) none (omega arith) in
     let sessions = left_out (rule sessions_rule) 1 1000000 refl (omega arith) refl (leaf serve_app.top) words
-    (other, (other, ((λ same. refl), (other, (other, (other, tt)))))) (inr (inr (inl refl))) none (omega arith) in
+    (other, (other, ((λ same. refl), (other, (other, (other, (other, (other, (other, tt))))))))) (inr (inr (inl refl))) none (omega arith) in
     let clients = left_out (rule clients_rule) 1 64 refl (omega arith) refl (leaf serve_app.top) words
-    (other, (other, (other, ((λ same. refl), (other, (other, tt)))))) (inr (inr (inr (inl refl)))) none (omega arith) in
+    (other, (other, (other, ((λ same. refl), (other, (other, (other, (other, (other, tt))))))))) (inr (inr (inr (inl refl)))) none (omega arith) in
     let timeout = left_out (rule timeout_rule) 0 3600 refl (omega arith) refl (leaf serve_app.top) words
-    (other, (other, (other, (other, ((λ same. refl), (other, tt)))))) (inr (inr (inr (inr (inl refl))))) none (omega arith) in
+    (other, (other, (other, (other, ((λ same. refl), (other, (other, (other, (other, tt))))))))) (inr (inr (inr (inr (inl refl))))) none (omega arith) in
+    let open_jobs = left_out (rule open_jobs_rule) 0 1000000 refl (omega arith) refl (leaf serve_app.top) words
+    (other, (other, (other, (other, (other, ((λ same. refl), (other, (other, (other, tt))))))))) (inr (inr (inr (inr (inr (inl refl)))))) none (omega arith) in
+    let keep = left_out (rule keep_rule) 0 1000000 refl (omega arith) refl (leaf serve_app.top) words
+    (other, (other, (other, (other, (other, (other, ((λ same. refl), (other, (other, tt))))))))) (inr (inr (inr (inr (inr (inr (inl refl))))))) none (omega arith) in
     let rows = rows_after (leaf serve_app.top).rules [] words in
-    elim (cases_eq clients.0 1) [
-      | inl one ↦
-          elim (cases_eq timeout.0 0) [
-            | inl never ↦ (
-              Serve port.0 workers.0 sessions.0,
-              (
-                refl,
-                port.1,
-                workers.1,
-                sessions.1,
-                subst (λ (n : ℕ). IsNumberIn rows (codes "clients") 1 64 n) one clients.1,
-                subst (λ (n : ℕ). IsNumberIn rows (codes "timeout") 0 3600 n) never timeout.1,
-              ),
-            )
-            | inr once ↦
-                (ServeClients port.0 workers.0 sessions.0 clients.0 timeout.0, (refl, port.1, workers.1, sessions.1, clients.1, timeout.1, (λ a b. once b)))
-          ]
-      | inr many ↦
-          (ServeClients port.0 workers.0 sessions.0 clients.0 timeout.0, (refl, port.1, workers.1, sessions.1, clients.1, timeout.1, (λ a b. many a)))
-    ]
+    let bounds : Bounds = record {
+      clients = clients.0;
+      timeout = timeout.0;
+      open_jobs = open_jobs.0;
+      keep = keep.0;
+      until_eof = is_given (first_of (codes "until-eof") rows);
+    } in
+    serves rows port.0 workers.0 sessions.0 bounds port.1 workers.1 sessions.1 (record {
+      clients = clients.1;
+      timeout = timeout.1;
+      open_jobs = open_jobs.1;
+      keep = keep.1;
+      until_eof = flag_given (first_of (codes "until-eof") rows);
+    })
 
 -- clap's own subcommand, which gives help
 help : Gives SaysCommand (built_leaf help_shape)

@@ -1,9 +1,10 @@
 -- The command that a subcommand and its matches are.
-use Rattle.std.specs.Prelude.{◌≡◌, ◌⊎◌, ℕ, ◌≤◌, List, codes, Some, true}
+use Rattle.std.specs.Prelude.{◌≡◌, ◌≢◌, ◌↔◌, ◌⊎◌, ℕ, ◌≤◌, Bool, IsTrue, List, codes, Some, true, false}
 use Rattle.std.specs.Str.Parse.{IsNumeral, digits_value, without_leading_plus}
 use Rattle.clap.specs.Faults.{fault_of}
-use Rattle.clap.specs.Words.{HasKind, Row, Text, kind_of, one_of, takes}
+use Rattle.clap.specs.Words.{HasKind, Row, Text, first_of, kind_of, one_of, takes}
 use Rattle.clap.specs.declared.error.kind.ErrorKind.TheVariants.{DisplayHelp, DisplayVersion, OutOfMemory}
+use Rattle.bpfjobs_cli.specs.declared.commands.Bounds.{Bounds}
 use Rattle.bpfjobs_cli.specs.declared.commands.Command.{Command}
 use Rattle.bpfjobs_cli.specs.declared.commands.Command.TheVariants.{Assemble, Disassemble, Verify, Play, Run, Serve, ServeClients}
 use Rattle.bpfjobs_cli.specs.declared.commands.Usage.{Usage}
@@ -19,6 +20,22 @@ pub record IsNumberIn (rows : List Row) (id : Text) (low high number : ℕ) : Ty
   pub least : low ≤ number
   pub most : number ≤ high
 
+-- the flag is among the words
+abbrev pub IsFlagOf : List Row → Text → Bool → Type 0
+IsFlagOf rows id given = IsTrue given ↔ (first_of id rows ≡ Some (codes "true"))
+
+-- nothing is bounded, and one client is served at a time
+abbrev pub no_bounds : Bounds
+no_bounds = record { clients = 1; timeout = 0; open_jobs = 0; keep = 0; until_eof = false }
+
+-- what is bounded
+pub record AreBoundsOf (rows : List Row) (bounds : Bounds) : Type 0 where
+  pub clients : IsNumberIn rows (codes "clients") 1 64 bounds.clients
+  pub timeout : IsNumberIn rows (codes "timeout") 0 3600 bounds.timeout
+  pub open_jobs : IsNumberIn rows (codes "open-jobs") 0 1000000 bounds.open_jobs
+  pub keep : IsNumberIn rows (codes "keep") 0 1000000 bounds.keep
+  pub until_eof : IsFlagOf rows (codes "until-eof") bounds.until_eof
+
 abbrev pub IsCommandOf : Text → List Row → Command → Type 0
 IsCommandOf name rows Assemble = name ≡ codes "assemble"
 IsCommandOf name rows Disassemble = name ≡ codes "disassemble"
@@ -31,14 +48,12 @@ IsCommandOf name rows (Serve port workers sessions) =
     (name ≡ codes "serve") × IsNumberIn rows (codes "port") 1 65535 port
     × IsNumberIn rows (codes "workers") 1 16 workers
     × IsNumberIn rows (codes "sessions") 1 1000000 sessions
-    × IsNumberIn rows (codes "clients") 1 64 1 × IsNumberIn rows (codes "timeout") 0 3600 0
-IsCommandOf name rows (ServeClients port workers sessions clients timeout) =
+    × AreBoundsOf rows no_bounds
+IsCommandOf name rows (ServeClients port workers sessions bounds) =
     (name ≡ codes "serve") × IsNumberIn rows (codes "port") 1 65535 port
     × IsNumberIn rows (codes "workers") 1 16 workers
     × IsNumberIn rows (codes "sessions") 1 1000000 sessions
-    × IsNumberIn rows (codes "clients") 1 64 clients
-    × IsNumberIn rows (codes "timeout") 0 3600 timeout
-    × (clients ≡ 1 → timeout ≡ 0 → ⊥)
+    × AreBoundsOf rows bounds × (bounds ≢ no_bounds)
 
 -- they are those of a command
 abbrev pub SaysCommand : Text → List Row → Type 0
@@ -54,9 +69,10 @@ IsInRange (Run workers) = (1 ≤ workers) × (workers ≤ 16)
 IsInRange (Serve port workers sessions) =
     (1 ≤ port) × (port ≤ 65535) × (1 ≤ workers) × (workers ≤ 16) × (1 ≤ sessions)
     × (sessions ≤ 1000000)
-IsInRange (ServeClients port workers sessions clients timeout) =
+IsInRange (ServeClients port workers sessions bounds) =
     (1 ≤ port) × (port ≤ 65535) × (1 ≤ workers) × (workers ≤ 16) × (1 ≤ sessions)
-    × (sessions ≤ 1000000) × (1 ≤ clients) × (clients ≤ 64) × (timeout ≤ 3600)
+    × (sessions ≤ 1000000) × (1 ≤ bounds.clients) × (bounds.clients ≤ 64)
+    × (bounds.timeout ≤ 3600)
 
 -- Words that clap takes are refused for want of memory alone. Any others are refused for that, or
 -- for a fault that clap finds in them.

@@ -15,7 +15,7 @@ NeedsNoThread (Verify need) = Unit {0}
 NeedsNoThread Play = Unit {0}
 NeedsNoThread (Run workers) = ⊥
 NeedsNoThread (Serve port workers sessions) = ⊥
-NeedsNoThread (ServeClients port workers sessions clients timeout) = ⊥
+NeedsNoThread (ServeClients port workers sessions bounds) = ⊥
 
 -- the text and the status that a command answers to its input
 abbrev pub IsAnswer : Command → List ℕ → List ℕ → ℕ → Type 0
@@ -25,7 +25,7 @@ IsAnswer (Verify need) input text status = PrintsVerdict need input text status
 IsAnswer Play input text status = PrintsPlay input text status
 IsAnswer (Run workers) input text status = ⊥
 IsAnswer (Serve port workers sessions) input text status = ⊥
-IsAnswer (ServeClients port workers sessions clients timeout) input text status = ⊥
+IsAnswer (ServeClients port workers sessions bounds) input text status = ⊥
 
 -- What is left where a command is given up by this. Where the reader failed, or there was no
 -- memory, nothing is written; where the writer failed all input was read, and of the answer a part

@@ -1,6 +1,7 @@
 -- The program's command line, in clap's plain words.
 use Rattle.std.specs.Prelude.{[], ◌∷◌, codes, pos, Some, true}
 use Rattle.clap.specs.Words.{App, Rule, new_app, new_rule, with_rule, with_subcommand}
+use Rattle.clap.specs.declared.builder.action.ArgAction.TheVariants.{SetTrue}
 use Rattle.clap.specs.declared.builder.value_parser.ValueParser.TheVariants as vp
 
 abbrev pub need_rule : Rule
@@ -51,6 +52,28 @@ timeout_rule = record (new_rule (codes "timeout")) {
   parser = Some (vp.Signed (pos 0) (pos 3600));
 }
 
+abbrev pub open_jobs_rule : Rule
+open_jobs_rule = record (new_rule (codes "open-jobs")) {
+  long = Some (codes "open-jobs");
+  value_names = 1;
+  defaults = codes "0" ∷ [];
+  parser = Some (vp.Signed (pos 0) (pos 1000000));
+}
+
+abbrev pub keep_rule : Rule
+keep_rule = record (new_rule (codes "keep")) {
+  long = Some (codes "keep");
+  value_names = 1;
+  defaults = codes "0" ∷ [];
+  parser = Some (vp.Signed (pos 0) (pos 1000000));
+}
+
+abbrev pub until_eof_rule : Rule
+until_eof_rule = record (new_rule (codes "until-eof")) {
+  long = Some (codes "until-eof");
+  action = Some SetTrue;
+}
+
 abbrev pub verify_app : App
 verify_app = with_rule (new_app (codes "verify")) need_rule
 
@@ -59,9 +82,9 @@ run_app = with_rule (new_app (codes "run")) workers_rule
 
 abbrev pub serve_app : App
 serve_app =
-    with_rule (with_rule
+    with_rule (with_rule (with_rule (with_rule (with_rule
     (with_rule (with_rule (with_rule (new_app (codes "serve")) port_rule) workers_rule)
-    sessions_rule) clients_rule) timeout_rule
+    sessions_rule) clients_rule) timeout_rule) open_jobs_rule) keep_rule) until_eof_rule
 
 -- a subcommand is required
 abbrev pub requiring : App → App

@@ -27,15 +27,50 @@ pub enum Command {
         workers: u32,
         sessions: u32,
     },
-    /// The same from 1 to 64 clients at once, with 1 to 16 threads for all jobs. A client that keeps a
-    /// read or a write waiting for so many seconds, 1 to 3600, is given up; 0: none is.
+    /// The same within a host's bounds, from many clients at once, with 1 to 16 threads for all
+    /// jobs.
     ServeClients {
         port: u32,
         workers: u32,
         sessions: u32,
-        clients: u32,
-        timeout: u32,
+        bounds: Bounds,
     },
+}
+
+/// What a host bounds of its server.
+#[derive(Clone, Copy, Debug, PartialEq, Eq)]
+pub struct Bounds {
+    /// Connections at once, 1 to 64.
+    pub clients: u32,
+    /// Seconds, 1 to 3600, after which a client is given up that keeps a read or a write waiting, or
+    /// a frame. 0: none is.
+    pub timeout: u32,
+    /// Jobs, 1 to 1,000,000, that may be open at once. 0: any number.
+    pub open_jobs: u32,
+    /// Jobs, 1 to 1,000,000, of which the last ones' reports are kept. 0: all are.
+    pub keep: u32,
+    /// Whether the server takes no more connections once its standard input has ended.
+    pub until_eof: bool,
+}
+
+impl Bounds {
+    ghost use Rattle.std.specs.Prelude.{◌≡◌, ◌≢◌, true, false};
+    ghost use Rattle.bpfjobs_cli.specs.Commands.{no_bounds};
+
+    /// Whether nothing is bounded, and one client is served at a time.
+    pub fn are_none(self) -> bool
+        ensures none { result ≡ true → self ≡ no_bounds }
+        ensures some { result ≡ false → self ≢ no_bounds }
+    {
+        let Bounds {
+            clients,
+            timeout,
+            open_jobs,
+            keep,
+            until_eof,
+        } = self;
+        clients == 1 && timeout == 0 && open_jobs == 0 && keep == 0 && !until_eof
+    }
 }
 
 /// Why the words are no command.

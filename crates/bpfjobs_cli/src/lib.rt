@@ -8,7 +8,7 @@ mod program;
 mod reading;
 mod texts;
 
-pub use commands::{Command, Usage};
+pub use commands::{Bounds, Command, Usage};
 pub use process::{FAILED, UNREAD, print_usage, words};
 pub use reading::command;
 

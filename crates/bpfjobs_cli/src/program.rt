@@ -3,10 +3,10 @@
 ghost use Rattle.std.specs.Prelude.{◌≡◌, false, IfOk};
 ghost use Rattle.clap.specs.Words.{app_of, new_app, rule_of};
 ghost use Rattle.clap.specs.declared.builder.command.Command.TheViews.{out-Command as fields_of};
-ghost use Rattle.bpfjobs_cli.specs.Program.{need_rule, port_rule, workers_rule, sessions_rule, clients_rule, timeout_rule, verify_app, run_app, serve_app, bpfjobs_app};
+ghost use Rattle.bpfjobs_cli.specs.Program.{need_rule, port_rule, workers_rule, sessions_rule, clients_rule, timeout_rule, open_jobs_rule, keep_rule, until_eof_rule, verify_app, run_app, serve_app, bpfjobs_app};
 
 use crate::texts;
-use clap::{Arg, Command};
+use clap::{Arg, ArgAction, Command};
 use std::alloc::{AllocError, Global};
 
 fn need<'a>(alloc: Global) -> Arg<'a>
@@ -81,6 +81,40 @@ fn timeout<'a>(alloc: Global) -> Arg<'a>
         .default_value("0")
 }
 
+fn open_jobs<'a>(alloc: Global) -> Arg<'a>
+    ensures rule { rule_of result ≡ open_jobs_rule }
+    ensures local { result.global ≡ false }
+{
+    Arg::new(alloc, "open-jobs")
+        .long("open-jobs")
+        .value_name("COUNT")
+        .help(texts::OPEN_JOBS)
+        .value_parser(clap::value_parser!(u32).range(0..=1000000))
+        .default_value("0")
+}
+
+fn keep<'a>(alloc: Global) -> Arg<'a>
+    ensures rule { rule_of result ≡ keep_rule }
+    ensures local { result.global ≡ false }
+{
+    Arg::new(alloc, "keep")
+        .long("keep")
+        .value_name("COUNT")
+        .help(texts::KEEP)
+        .value_parser(clap::value_parser!(u32).range(0..=1000000))
+        .default_value("0")
+}
+
+fn until_eof<'a>(alloc: Global) -> Arg<'a>
+    ensures rule { rule_of result ≡ until_eof_rule }
+    ensures local { result.global ≡ false }
+{
+    Arg::new(alloc, "until-eof")
+        .long("until-eof")
+        .action(ArgAction::SetTrue)
+        .help(texts::UNTIL_EOF)
+}
+
 // A command that has no argument yet.
 fn named<'a>(alloc: Global, name: &'a str, about: &'a str, more: &'a str) -> Command<'a>
     ensures app { app_of result ≡ new_app name.now }
@@ -112,7 +146,10 @@ fn serve<'a>(alloc: Global) -> Result<Command<'a>, AllocError>
         .arg(workers(alloc))?
         .arg(sessions(alloc))?
         .arg(clients(alloc))?
-        .arg(timeout(alloc))
+        .arg(timeout(alloc))?
+        .arg(open_jobs(alloc))?
+        .arg(keep(alloc))?
+        .arg(until_eof(alloc))
 }
 
 /// The program with its commands, as clap reads them.

@@ -2,10 +2,11 @@
 
 ghost use Rattle.std.specs.Prelude.{◌≡◌, ℕ, map, IfOk, IfErr, Some, string_bytes, List};
 ghost use Rattle.clap.specs.Words.{Row, Text, found_of, rows_of, subcommand_of};
+ghost use Rattle.bpfjobs_cli.specs.declared.commands.Bounds.{Bounds};
 ghost use Rattle.bpfjobs_cli.specs.Program.{bpfjobs_app};
-ghost use Rattle.bpfjobs_cli.specs.Commands.{IsNumberIn, IsCommandOf, IsInRange, IsUsage, SaysCommand};
+ghost use Rattle.bpfjobs_cli.specs.Commands.{AreBoundsOf, IsFlagOf, IsNumberIn, IsCommandOf, IsInRange, IsUsage, SaysCommand};
 
-use crate::commands::{Command, Usage};
+use crate::commands::{Bounds, Command, Usage};
 use crate::program::bpfjobs;
 use clap::ArgMatches;
 use std::alloc::Global;
@@ -18,6 +19,30 @@ fn number(matches: &ArgMatches<'_>, id: &str, low: u32, high: u32) -> u32
     match matches.get_one::<u32>(id) {
         Some(number) => number,
         None => unreachable!(),
+    }
+}
+
+// Whether a flag stands among the words.
+fn flag(matches: &ArgMatches<'_>, id: &str) -> bool
+    ensures { IsFlagOf (rows_of (found_of matches.now)) id.now result }
+{
+    match matches.get_str(id) {
+        Some(text) => text == "true",
+        None => false,
+    }
+}
+
+// What is bounded.
+fn bounds(matches: &ArgMatches<'_>) -> Bounds
+    requires { (b : Bounds) × AreBoundsOf (rows_of (found_of matches.now)) b }
+    ensures { AreBoundsOf (rows_of (found_of matches.now)) result }
+{
+    Bounds {
+        clients: number(matches, "clients", 1, 64),
+        timeout: number(matches, "timeout", 0, 3600),
+        open_jobs: number(matches, "open-jobs", 0, 1000000),
+        keep: number(matches, "keep", 0, 1000000),
+        until_eof: flag(matches, "until-eof"),
     }
 }
 
@@ -42,23 +67,19 @@ fn command_of(name: &str, matches: &ArgMatches<'_>) -> Command
             let port = number(matches, "port", 1, 65535);
             let workers = number(matches, "workers", 1, 16);
             let sessions = number(matches, "sessions", 1, 1000000);
-            let clients = number(matches, "clients", 1, 64);
-            let timeout = number(matches, "timeout", 0, 3600);
-            if clients == 1 {
-                if timeout == 0 {
-                    return Command::Serve {
-                        port,
-                        workers,
-                        sessions,
-                    };
-                }
+            let bounds = bounds(matches);
+            if bounds.are_none() {
+                return Command::Serve {
+                    port,
+                    workers,
+                    sessions,
+                };
             }
             Command::ServeClients {
                 port,
                 workers,
                 sessions,
-                clients,
-                timeout,
+                bounds,
             }
         }
         _ => unreachable!(),

@@ -72,8 +72,8 @@ pub(crate) const SERVE: &str = "Answers requests over TCP on 127.0.0.1";
 
 pub(crate) const SERVE_MORE: &str =
     "Takes connections, one after the other, with one desk of accounts and jobs.
-With --clients or --timeout it serves so many at once, and starts its threads once.
-Reads no input and writes no output: clients send requests and get replies as frames.
+With any option from --clients on, it serves so many at once, and starts its threads once.
+Writes no output: clients send requests and get replies as frames.
 Status: 0 once so many connections have ended, 3 where one of them or the socket failed.
 
 Example:
@@ -88,4 +88,13 @@ pub(crate) const SESSIONS: &str = "Connections to take before it ends, 1 to 1000
 pub(crate) const CLIENTS: &str = "Connections to serve at once, 1 to 64";
 
 pub(crate) const TIMEOUT: &str =
-    "Seconds after which a client that sends or takes nothing is given up, 0 for never, to 3600";
+    "Seconds within which a client sends, takes, and ends a frame, 0 for any time, to 3600";
+
+pub(crate) const OPEN_JOBS: &str =
+    "Jobs that may be open at once, 0 for any number, to 1000000: others fail by 81";
+
+pub(crate) const KEEP: &str =
+    "Last jobs whose reports are kept, 0 for all, to 1000000: earlier ones are told as 76";
+
+pub(crate) const UNTIL_EOF: &str =
+    "Takes no more connections once standard input has ended, and ends with those it has";

@@ -16,7 +16,7 @@ use Rattle.conversation.specs.declared.host_desk.Sent.{Sent}
 
 -- no tenant, no job and no connection
 abbrev pub IsNew : HostDesk → Type 0
-IsNew desk = (desk.clerk.ledger ≡ record { grants = []; jobs = [] })
+IsNew desk = (desk.clerk.ledger ≡ record { grants = []; past = []; jobs = [] })
     × (desk.clerk.jobs.waiting.entries ≡ []) × (desk.conversations.entries ≡ [])
 
 -- nothing changes

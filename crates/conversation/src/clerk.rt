@@ -43,7 +43,7 @@ impl Clerk {
 
     /// No tenant, and no job.
     pub fn new(alloc: Global) -> Clerk
-        ensures ledger { result.ledger ≡ record { grants = []; jobs = [] } }
+        ensures ledger { result.ledger ≡ record { grants = []; past = []; jobs = [] } }
         ensures jobs { result.jobs.waiting.entries ≡ [] }
     {
         Clerk {

@@ -10,13 +10,16 @@
 //! | `calls A B C CREDIT MEMORY` | R0, the credit used and the memory then, by a `Vm` and by the reference, with helpers 64, 65 and 127 of the caller's own, which take so many arguments |
 //! | `alone STEPS CREDIT MEMORY ARITY ..` | the same of a program by the reference alone, or its trap |
 //! | `task CREDIT MEMORY` | the same of a job of one task by the reference |
-//! | `after CREDIT MEMORY TURN ..` | the buffer and each task of a job then, by the reference and, once it is complete, by a world; each program stands after the bytes that it needs and a colon |
+//! | `after CREDIT MEMORY TURN ..` | the buffer and each task of a job then, by the reference; each program stands after the bytes that it needs and a colon |
 //! | `tree CREDIT MEMORY TURN ..` | the credit spent, the buffer and the R0s by place, by a world and by the evaluation of the root |
 //! | `range A B` | what the instruction gives of two abstract values |
 //! | `unsigned A B` | its unsigned range |
 //! | `taken A B`, `passed A B` | what is known of them where the jump is taken, and where it isn't |
 //! | `join A B`, `load`, `entry NEED` | what is known where ways meet, of a load, and at a start |
 //! | `kept NEED` | how many states a verified program keeps, and its cost |
+//! | `turns` | what a machine answers to calls, with semicolons between them |
+//! | `arities ID/ARITY ..` | the helper table with these, and behind a semicolon the copy of `copy` |
+//! | `spawn COST/NEED NUMBER ..` | what a spawn of such a program is answered |
 //! | `known REGISTER SLOT ..` | what is known of a register ahead of these slots |
 
 use crate::alone::{alone, as_job};
@@ -24,9 +27,11 @@ use crate::graphs::{Wanted, graphed, is_order};
 use crate::jobs::after;
 use crate::known::{kept, known};
 use crate::machines::{called, verdict};
+use crate::parts::{arities, spawned};
 use crate::ranges::{at_entry, computed, computed_unsigned, met, narrowed, of_load};
 use crate::row::{Row, bytes_of, memory_of, programs_of, turns_of};
 use crate::trees::{Tree, over};
+use crate::turns::answers;
 use std::alloc::Global;
 
 fn none(alloc: Global) -> anyhow::Result<String> {
@@ -93,6 +98,9 @@ pub fn answer(alloc: Global, row: &Row) -> anyhow::Result<String> {
             return of_job(alloc, row, credit, memory, turns, true);
         }
         ["join", first, second] => return met(alloc, first, second),
+        ["turns"] => return answers(alloc, row.program),
+        ["arities", added @ ..] => return arities(alloc, added),
+        ["spawn", child, numbers @ ..] => return spawned(alloc, child, numbers),
         ["entry", need] => return at_entry(alloc, need),
         _ => {}
     }

@@ -1,9 +1,8 @@
-//! Jobs over a schedule, by the reference and by a world: what is there of each task then.
+//! Jobs over a schedule by the reference: what is there of each task then.
 
 use crate::machines::reference_program;
 use crate::row::text_of;
-use crate::trees::{Tree, place_text, widened};
-use job_core::{World, admit};
+use crate::trees::{Tree, place_text};
 use reference::{Content, JobMember, ReferenceJob, ReferenceMove, run};
 use std::alloc::Global;
 
@@ -83,8 +82,8 @@ fn copied(alloc: Global, bytes: &[u8]) -> anyhow::Result<Vec<u8>> {
     Ok(copy)
 }
 
-/// The job after the turns by the reference, or that a task trapped.
-fn by_reference(alloc: Global, tree: &Tree, turns: &[(u32, bool)]) -> anyhow::Result<String> {
+/// What a job has come to after the turns, or that a task trapped.
+pub fn after(alloc: Global, tree: &Tree, turns: &[(u32, bool)]) -> anyhow::Result<String> {
     let mut programs = Vec::new(alloc);
     for program in &tree.programs {
         let none = Vec::new(alloc);
@@ -102,51 +101,5 @@ fn by_reference(alloc: Global, tree: &Tree, turns: &[(u32, bool)]) -> anyhow::Re
         Ok(Some(job)) => job_text(alloc, &job),
         Ok(None) => Ok(String::from_str(alloc, "trap")?),
         Err(why) => Ok(format!(in alloc; "{why:?}")?),
-    }
-}
-
-/// The same by a world that is stepped, where it is complete.
-fn by_world(alloc: Global, tree: &Tree, turns: &[(u32, bool)]) -> anyhow::Result<Option<String>> {
-    let buffer = copied(alloc, &tree.buffer)?;
-    let job = admit(alloc, &tree.programs, tree.credit, buffer)?;
-    let mut world = World::open(alloc, job)?;
-    for (number, _) in turns {
-        let _ = world.step(alloc, *number);
-    }
-    let Some(report) = world.report() else {
-        return Ok(None);
-    };
-    let mut text = text_of(alloc, &report.buffer)?;
-    for end in &report.tasks {
-        let place = match world.place(alloc, end.number)? {
-            Some(place) => place_text(alloc, &widened(alloc, &place)?)?,
-            None => String::from_str(alloc, "nowhere")?,
-        };
-        let told = End {
-            place: place.as_str(),
-            program: u64::from(end.program),
-            arg: end.arg,
-            given: end.given,
-            r0: end.r0,
-            spent: end.spent,
-            rest: end.rest,
-        };
-        text.push_str(end_text(alloc, &told)?.as_str())?;
-    }
-    Ok(Some(text))
-}
-
-/// What a job comes to by the reference, where a world comes to the same once it is complete. A
-/// world refuses no spawn that passes its tests, so it isn't asked where one is refused.
-pub fn after(alloc: Global, tree: &Tree, turns: &[(u32, bool)]) -> anyhow::Result<String> {
-    let expected = by_reference(alloc, tree, turns)?;
-    if turns.iter().any(|(_, refuses)| *refuses) {
-        return Ok(expected);
-    }
-    match by_world(alloc, tree, turns)? {
-        Some(told) if told.as_str() != expected.as_str() => {
-            Ok(format!(in alloc; "world {told}; reference {expected}")?)
-        }
-        _ => Ok(expected),
     }
 }

@@ -14,6 +14,7 @@ mod callers;
 mod graphs;
 mod known;
 mod machines;
+mod turns;
 
 // what is asked of values and of jobs
 mod jobs;
@@ -25,7 +26,6 @@ mod books;
 mod chains;
 mod parts;
 mod refusing;
-mod turns;
 mod wording;
 
 use answers::answer;

@@ -1,86 +1,75 @@
 //! The table, a part's pieces and a spawn's answers. Expected values were worked out by hand.
 
 use crate::scenarios::Findings;
+use anyhow::bail;
 use helpers::{Entry, HelperTable, Part, spawn_answer};
 use std::alloc::Global;
 
-/// The arities of the ids that have one, among 0 to 200.
-fn arities(alloc: Global, table: &HelperTable) -> anyhow::Result<Vec<(u32, u32)>> {
-    let mut arities = Vec::new(alloc);
-    for id in 0..=200 {
+/// The arities of the ids that have one, among 0 to 200 and the last of all.
+fn arities_of(alloc: Global, table: &HelperTable) -> anyhow::Result<String> {
+    let mut text = String::new(alloc);
+    for number in 0..=201u32 {
+        let id = if number == 201 { u32::MAX } else { number };
         if let Some(arity) = table.arity(id) {
-            arities.push((id, arity))?;
+            text = format!(in alloc; "{text}{id}/{arity} ")?;
         }
     }
-    Ok(arities)
+    Ok(text)
 }
 
-fn every_program_has_five_helpers(alloc: Global, findings: &mut Findings) -> anyhow::Result<()> {
-    let table = HelperTable::job();
-    findings.holds(
-        arities(alloc, &table)?.as_slice() == [(1, 4), (2, 0), (3, 0), (4, 3), (5, 2)].as_slice(),
-        "every program has five helpers (1)",
-    );
-    findings.holds(
-        table.arity(4294967295) == None,
-        "every program has five helpers (2)",
-    );
-    Ok(())
-}
-
-fn added_helpers_are_there(alloc: Global, findings: &mut Findings) -> anyhow::Result<()> {
+/// The arities of the job's helpers and of those that are added, and behind a semicolon those of
+/// the copy that was taken last.
+pub fn arities(alloc: Global, words: &[&str]) -> anyhow::Result<String> {
     let mut table = HelperTable::job();
-    table.add(alloc, 127, 5)?;
-    table.add(alloc, 64, 0)?;
-    findings.holds(
-        arities(alloc, &table)?.as_slice()
-            == [(1, 4), (2, 0), (3, 0), (4, 3), (5, 2), (64, 0), (127, 5)].as_slice(),
-        "added helpers are there (1)",
-    );
-    findings.holds(table.arity(128) == None, "added helpers are there (2)");
-    findings.holds(
-        table.arity(4294967295) == None,
-        "added helpers are there (3)",
-    );
-    Ok(())
+    let mut copy = None;
+    for word in words {
+        match word.split_once('/') {
+            Some((id, arity)) => {
+                let id = id.parse::<u32>()?.clamp(64, 127);
+                table.add(alloc, id, arity.parse::<u32>()?.min(5))?;
+            }
+            None => copy = Some(table.copied(alloc)?),
+        }
+    }
+    let text = arities_of(alloc, &table)?;
+    let text = match copy {
+        Some(copy) => {
+            let copied = arities_of(alloc, &copy)?;
+            format!(in alloc; "{text}; {copied}")?
+        }
+        None => text,
+    };
+    Ok(String::from_str(alloc, text.as_str().trim())?)
 }
 
-fn second_arity_replaces_the_first(alloc: Global, findings: &mut Findings) -> anyhow::Result<()> {
-    let mut table = HelperTable::job();
-    table.add(alloc, 70, 2)?;
-    let before = table.copied(alloc)?;
-    table.add(alloc, 70, 3)?;
-    findings.holds(
-        table.arity(70) == Some(3),
-        "second arity replaces the first (1)",
+/// What a spawn of a program is answered, which is told by its cost and need, or of no program.
+pub fn spawned(alloc: Global, child: &str, words: &[&str]) -> anyhow::Result<String> {
+    let mut numbers = Vec::new(alloc);
+    for word in words {
+        numbers.push(word.parse::<u64>()?)?;
+    }
+    let [share, cut, held, used, after, len, need] = numbers.as_slice() else {
+        bail!("a spawn has seven numbers");
+    };
+    let child = match child.split_once('/') {
+        Some((cost, need)) => Some(Entry {
+            cost: cost.parse::<u32>()?,
+            need: need.parse::<u32>()?,
+        }),
+        None => None,
+    };
+    let small = |number: u64| u32::try_from(number).unwrap_or(u32::MAX);
+    let answer = spawn_answer(
+        child,
+        *share,
+        *cut,
+        small(*held),
+        small(*used),
+        small(*after),
+        small(*len),
+        small(*need),
     );
-    findings.holds(
-        before.arity(70) == Some(2),
-        "second arity replaces the first (2)",
-    );
-    findings.holds(
-        arities(alloc, &table)?.as_slice()
-            == [(1, 4), (2, 0), (3, 0), (4, 3), (5, 2), (70, 3)].as_slice(),
-        "second arity replaces the first (3)",
-    );
-    Ok(())
-}
-
-fn copies_are_the_same(alloc: Global, findings: &mut Findings) -> anyhow::Result<()> {
-    let mut table = HelperTable::job();
-    let none_added = table.copied(alloc)?;
-    table.add(alloc, 100, 1)?;
-    let one_added = table.copied(alloc)?;
-    findings.holds(none_added.arity(100) == None, "copies are the same (1)");
-    findings.holds(
-        arities(alloc, &none_added)?.as_slice() == arities(alloc, &HelperTable::job())?.as_slice(),
-        "copies are the same (2)",
-    );
-    findings.holds(
-        arities(alloc, &one_added)?.as_slice() == arities(alloc, &table)?.as_slice(),
-        "copies are the same (3)",
-    );
-    Ok(())
+    Ok(format!(in alloc; "{answer}")?)
 }
 
 fn pieces_come_back(alloc: Global, findings: &mut Findings) -> anyhow::Result<()> {
@@ -155,47 +144,10 @@ fn no_bytes_are_filled_or_summed_up(alloc: Global, findings: &mut Findings) -> a
     Ok(())
 }
 
-fn spawns_are_answered(alloc: Global, findings: &mut Findings) -> anyhow::Result<()> {
-    let child = Some(Entry { cost: 10, need: 8 });
-    // the parent has 100, has used 40, and the rest of its run costs 20; it has 32 bytes and needs
-    // 16
-    for (share, cut, want) in [
-        (10, 8, 0),
-        (40, 16, 0),
-        (9, 8, 2),
-        (9, 7, 2),
-        (41, 8, 3),
-        (41, 7, 3),
-        (18446744073709551615, 8, 3),
-        (10, 7, 4),
-        (10, 17, 5),
-        (10, 18446744073709551615, 5),
-    ] {
-        findings.holds(
-            spawn_answer(child, share, cut, 100, 40, 20, 32, 16) == want,
-            "spawns are answered (1)",
-        );
-    }
-    findings.holds(
-        spawn_answer(None, 10, 8, 100, 40, 20, 32, 16) == 1,
-        "spawns are answered (2)",
-    );
-    findings.holds(
-        spawn_answer(None, 0, 0, 0, 0, 0, 0, 0) == 1,
-        "spawns are answered (3)",
-    );
-    Ok(())
-}
-
 /// Goes through all of it.
 pub fn go_through(alloc: Global, findings: &mut Findings) -> anyhow::Result<()> {
-    every_program_has_five_helpers(alloc, findings)?;
-    added_helpers_are_there(alloc, findings)?;
-    second_arity_replaces_the_first(alloc, findings)?;
-    copies_are_the_same(alloc, findings)?;
     pieces_come_back(alloc, findings)?;
     nested_pieces_come_back_in_turn(alloc, findings)?;
     room_is_given_back(alloc, findings)?;
-    no_bytes_are_filled_or_summed_up(alloc, findings)?;
-    spawns_are_answered(alloc, findings)
+    no_bytes_are_filled_or_summed_up(alloc, findings)
 }

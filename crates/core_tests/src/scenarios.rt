@@ -1,6 +1,6 @@
 //! Calls by hand, one after the other, each answered as it was worked out.
 
-use crate::{books, chains, parts, refusing, turns, wording};
+use crate::{books, chains, parts, refusing, wording};
 use std::alloc::Global;
 use std::io::Write;
 
@@ -22,14 +22,13 @@ impl Findings {
     }
 }
 
-const NAMES: [&str; 6] = ["books", "parts", "refusing", "turns", "chains", "wording"];
+const NAMES: [&str; 5] = ["books", "parts", "refusing", "chains", "wording"];
 
 fn go_through(alloc: Global, name: &str, findings: &mut Findings) -> anyhow::Result<()> {
     match name {
         "books" => books::go_through(alloc, findings),
         "parts" => parts::go_through(alloc, findings),
         "refusing" => refusing::go_through(alloc, findings),
-        "turns" => turns::go_through(alloc, findings),
         "chains" => chains::go_through(alloc, findings),
         _ => wording::go_through(alloc, findings),
     }

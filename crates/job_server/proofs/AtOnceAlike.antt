@@ -1,5 +1,5 @@
 -- Many connections at once, over two state types.
-use Rattle.std.proofs.Common.{◌≡◌, ◌<◌, ◌-◌, ◌^◌, ℕ, List, length, min, Result, Ok, Err, sym, ap, ◌∙◌, subst, arith}
+use Rattle.std.proofs.Common.{◌≡◌, ◌<◌, ◌≤◌, ◌-◌, ◌^◌, ◌⊎◌, ℕ, Bool, false, List, length, min, Option, Result, Ok, Err, inl, inr, sym, ap, ◌∙◌, subst, arith}
 use Rattle.std.specs.Prelude.{OnOk, IfErr}
 use Rattle.std.specs.BTreeMap.{BTreeMap}
 use Rattle.sessions.specs.Grammar.{Asked}
@@ -9,12 +9,20 @@ use Rattle.streams.specs.declared.fault.StreamFault.{StreamFault}
 use Rattle.shared_desk.specs.declared.closed.ClosedConnection.{ClosedConnection}
 use Rattle.shared_desk.specs.Histories.{Entry, Replays, none_yet, one_more}
 use Rattle.shared_desk.specs.Closed.{first_fault}
+use Rattle.credit_book.specs.declared.book.Report.{Report}
+use Rattle.credit_book.specs.declared.board.Progress.{Progress}
+use Rattle.job_core.specs.Admitted.{AdmittedJob}
 use Rattle.job_server.specs.declared.fault.ServeFault.{ServeFault}
+use Rattle.job_server.specs.declared.fault.ServeFault.TheVariants.{Socket, Connection}
+use Rattle.job_server.specs.declared.keeping_handler.KeepingHandler.{KeepingHandler}
+use Rattle.job_server.specs.declared.limited_runner.LimitedRunner.{LimitedRunner}
+use Rattle.job_server.specs.Bounded.{answers_keeping, looks_within, starts_within, takes_within}
 use Rattle.job_server.specs.declared.job_seats.StartedJob.{StartedJob}
 use Rattle.job_server.specs.Holds.{StartsBy, TellsBy, TakesBy}
 use Rattle.job_server.specs.Started.{pooled_at, pooled_count}
-use Rattle.job_server.specs.Visits.{answers_by}
-use Rattle.job_server.specs.AtOnce.{EndsBy, IsServingFrom, pool_answers}
+use Rattle.job_server.specs.AtOnce.{EndsBy, Hosted, IsServingFrom, Pool, hosted_answers, new_host}
+use Rattle.job_server.specs.Serving.{new_desk}
+use Rattle.bpfjobs_cli.specs.declared.commands.Bounds.{Bounds}
 use Rattle.job_server.proofs.Alike.{beside, answers_alike}
 
 module _ {S T : Type 0} (g : S → T) (answers : S → Result Asked ℕ → List ℕ → S → Type 0) (answers1 : T → Result Asked ℕ → List ℕ → T → Type 0)
@@ -24,8 +32,8 @@ module _ {S T : Type 0} (g : S → T) (answers : S → Result Asked ℕ → List
   replays_alike history s (none_yet t start) = none_yet (g t) (first t start)
   replays_alike history s (one_more before t e u earlier answer) = one_more before (g t) e (g u) (replays_alike before t earlier) (alike t e.query e.reply u answer)
 
-  pub serving_alike : (end : S) (sessions : ℕ) (outcome : Result (Unit {0}) ServeFault) → IsServingFrom answers begins end sessions outcome → IsServingFrom answers1 begins1 (g end) sessions outcome
-  serving_alike end sessions outcome s = record {
+  pub serving_alike : (end : S) (sessions : ℕ) (may_stop : Bool) (outcome : Result (Unit {0}) ServeFault) → IsServingFrom answers begins end sessions may_stop outcome → IsServingFrom answers1 begins1 (g end) sessions may_stop outcome
+  serving_alike end sessions may_stop outcome s = record {
     history = s.history;
     opened = s.opened;
     closed = s.closed;
@@ -37,29 +45,100 @@ module _ {S T : Type 0} (g : S → T) (answers : S → Result Asked ℕ → List
     fault = s.fault;
   }
 
+-- ---- a pool within its host's bounds
+
+module _ {R Q : Type 0} (f : R → Q) where
+  abbrev pub limited : LimitedRunner R → LimitedRunner Q
+  limited l = record { runner = f l.runner; limit = l.limit }
+
+  abbrev pub keeping : KeepingHandler (LimitedRunner R) → KeepingHandler (LimitedRunner Q)
+  keeping h = record { runner = limited h.runner; keep = h.keep }
+
+  module _ (held1 : Q → ℕ) (starts1 : Q → ℕ → AdmittedJob → Result (Unit {0}) ℕ → Q → Type 0) (looks1 : Q → ℕ → Progress → Q → Type 0) (takes1 : Q → Option (ℕ × Result Report ℕ) → Q → Type 0) where
+    abbrev starts_of : R → ℕ → AdmittedJob → Result (Unit {0}) ℕ → R → Type 0
+    starts_of r n j x s = starts1 (f r) n j x (f s)
+
+    abbrev looks_of : R → ℕ → Progress → R → Type 0
+    looks_of r n p s = looks1 (f r) n p (f s)
+
+    abbrev takes_of : R → Option (ℕ × Result Report ℕ) → R → Type 0
+    takes_of r x s = takes1 (f r) x (f s)
+
+    within_alike : (l : LimitedRunner R) (n : ℕ) (j : AdmittedJob) (x : Result (Unit {0}) ℕ) (m : LimitedRunner R) → starts_within (λ r. held1 (f r)) starts_of l n j x m → starts_within held1 starts1 (limited l) n j x (limited m)
+    within_alike l n j x m h = (
+      elim h.0 [
+        | inl full ↦ inl (full.0, full.1, ap f full.2)
+        | inr room ↦ inr room
+      ],
+      h.1,
+    )
+
+    keeping_alike : (s : Ledger × KeepingHandler (LimitedRunner R)) (query : Result Asked ℕ) (reply : List ℕ) (t : Ledger × KeepingHandler (LimitedRunner R))
+        → answers_keeping (starts_within (λ r. held1 (f r)) starts_of) (looks_within looks_of) (takes_within takes_of) s query reply t
+        → answers_keeping (starts_within held1 starts1) (looks_within looks1) (takes_within takes1) (beside keeping s) query reply (beside keeping t)
+    keeping_alike s query reply t h =
+        let answer = answers_alike limited _ _ _ (starts_within held1 starts1) (looks_within looks1) (takes_within takes1) within_alike (λ l n p m g. g) (λ l x m g. g) (s.0, s.1.runner) query reply (h.0.0, t.1.runner) h.0.1 in
+        ((h.0.0, answer, h.0.2), h.1)
+
 -- the pool's own state is forgotten, but for the jobs that it was given and the boards that it watches
-pub pool_serving : {R : Type 0} (f : R → List StartedJob × BTreeMap ℕ Sight) (desk : Ledger) (first : R) (end : Ledger × R) (sessions : ℕ) (outcome : Result (Unit {0}) ServeFault)
-    → IsServingFrom (answers_by (λ r number job result q. StartsBy pooled_at pooled_count (f r) number job result (f q)) (λ r number progress q. TellsBy pooled_at pooled_count (f r) number progress (f q)) (λ r result q. TakesBy pooled_at pooled_count (f r) result (f q)))
-    (λ s. s ≡ (desk, first)) end sessions outcome
-    → IsServingFrom pool_answers (λ s. s ≡ (desk, f first)) (beside f end) sessions outcome
-pool_serving f desk first end sessions outcome serving =
-    serving_alike (beside f) _ pool_answers
-    (answers_alike f _ _ _ (StartsBy pooled_at pooled_count) (TellsBy pooled_at pooled_count) (TakesBy pooled_at pooled_count) (λ r n o x s h. h) (λ r n p s h. h) (λ r x s h. h))
-    (λ s. s ≡ (desk, first)) (λ s. s ≡ (desk, f first)) (λ s is. ap (beside f) is) end sessions outcome serving
+pool_serving : {R : Type 0} (f : R → Pool) (desk : Ledger) (first : KeepingHandler (LimitedRunner R)) (end : Ledger × KeepingHandler (LimitedRunner R)) (sessions : ℕ) (may_stop : Bool) (outcome : Result (Unit {0}) ServeFault)
+    → IsServingFrom (answers_keeping (starts_within (λ r. pooled_count (f r)) (λ r number job result q. StartsBy pooled_at pooled_count (f r) number job result (f q)))
+    (looks_within (λ r number progress q. TellsBy pooled_at pooled_count (f r) number progress (f q))) (takes_within (λ r result q. TakesBy pooled_at pooled_count (f r) result (f q))))
+    (λ s. s ≡ (desk, first)) end sessions may_stop outcome
+    → IsServingFrom hosted_answers (λ s. s ≡ (desk, keeping f first)) (beside (keeping f) end) sessions may_stop outcome
+pool_serving f desk first end sessions may_stop outcome serving =
+    serving_alike (beside (keeping f)) _ hosted_answers
+    (keeping_alike f pooled_count (StartsBy pooled_at pooled_count) (TellsBy pooled_at pooled_count) (TakesBy pooled_at pooled_count))
+    (λ s. s ≡ (desk, first)) (λ s. s ≡ (desk, keeping f first)) (λ s is. ap (beside (keeping f)) is) end sessions may_stop outcome serving
+
+-- the handler is the one that was made of the pool and the bounds
+hosted_is : {R : Type 0} (f : R → Pool) (bounds : Bounds) (desk : Ledger) (h : KeepingHandler (LimitedRunner R)) (l : LimitedRunner R) (pool : R) → desk ≡ new_desk → h.runner ≡ l → h.keep ≡ bounds.keep → l.runner ≡ pool → l.limit ≡ bounds.open_jobs
+    → (desk, keeping f h) ≡ new_host bounds (f pool)
+hosted_is {R} f bounds desk h l pool is_new is_limited kept is_pool is_limit =
+    let host : Ledger → Pool → ℕ → ℕ → Hosted = λ d p n k. (d, record { runner = record { runner = p; limit = n }; keep = k }) in
+    ap (λ (d : Ledger). host d (f h.runner.runner) h.runner.limit h.keep) is_new
+    ∙ ap (λ (l1 : LimitedRunner R). host new_desk (f l1.runner) l1.limit h.keep) is_limited
+    ∙ ap (λ (k : ℕ). host new_desk (f l.runner) l.limit k) kept
+    ∙ ap (λ (p : R). host new_desk (f p) l.limit bounds.keep) is_pool
+    ∙ ap (λ (n : ℕ). host new_desk (f pool) n bounds.keep) is_limit
+
+pub hosted_serving : {R : Type 0} (f : R → Pool) (bounds : Bounds) (desk : Ledger) (h : KeepingHandler (LimitedRunner R)) (l : LimitedRunner R) (pool : R) (end : Ledger × KeepingHandler (LimitedRunner R)) (sessions : ℕ) (may_stop : Bool) (outcome : Result (Unit {0}) ServeFault)
+    → desk ≡ new_desk → h.runner ≡ l → h.keep ≡ bounds.keep → l.runner ≡ pool → l.limit ≡ bounds.open_jobs
+    → IsServingFrom (answers_keeping (starts_within (λ r. pooled_count (f r)) (λ r number job result q. StartsBy pooled_at pooled_count (f r) number job result (f q)))
+    (looks_within (λ r number progress q. TellsBy pooled_at pooled_count (f r) number progress (f q))) (takes_within (λ r result q. TakesBy pooled_at pooled_count (f r) result (f q))))
+    (λ s. s ≡ (desk, h)) end sessions may_stop outcome
+    → IsServingFrom hosted_answers (λ s. s ≡ new_host bounds (f pool)) (beside (keeping f) end) sessions may_stop outcome
+hosted_serving f bounds desk h l pool end sessions may_stop outcome is_new is_limited kept is_pool is_limit serving =
+    subst (λ (v : Hosted). IsServingFrom hosted_answers (λ s. s ≡ v) (beside (keeping f) end) sessions may_stop outcome)
+    (hosted_is f bounds desk h l pool is_new is_limited kept is_pool is_limit)
+    (pool_serving f desk h end sessions may_stop outcome serving)
 
 -- ---- what a server tells of those that are over
 
-all_over : (k over sessions : ℕ) → over ≡ min k (2 ^ 64 - 1) → over ≡ sessions → sessions < 2 ^ 32 → k ≡ sessions
-all_over k over sessions counted all small = grind arith
+over_all : (k over opened : ℕ) → over ≡ min k (2 ^ 64 - 1) → over ≡ opened → opened < 2 ^ 32 → k ≡ opened
+over_all k over opened counted all small = grind arith
 
-pub well_of : (closed : List ClosedConnection) (opened sessions over : ℕ) (given_up : Result (Unit {0}) StreamFault) (outcome : Result (Unit {0}) ServeFault)
-    → over ≡ min (length closed) (2 ^ 64 - 1) → sessions < 2 ^ 32 → given_up ≡ first_fault closed
-    → OnOk outcome ((opened ≡ sessions) × (over ≡ sessions) × (given_up ≡ Ok tt))
-    → OnOk outcome ((opened ≡ sessions) × (length closed ≡ sessions) × (first_fault closed ≡ Ok tt))
-well_of closed opened sessions over given_up (Ok done) counted small is well =
-    (well.0, all_over (length closed) over sessions counted well.1 small, sym is ∙ well.2)
-well_of closed opened sessions over given_up (Err fault) counted small is well = tt
+all_over : (k over opened : ℕ) → over ≡ min k (2 ^ 64 - 1) → k ≡ opened → opened < 2 ^ 32 → over ≡ opened
+all_over k over opened counted all small = grind arith
 
-pub fault_of_all : (closed : List ClosedConnection) (given_up : Result (Unit {0}) StreamFault) (outcome : Result (Unit {0}) ServeFault) → given_up ≡ first_fault closed
-    → IfErr outcome (EndsBy given_up) → IfErr outcome (EndsBy (first_fault closed))
-fault_of_all closed given_up outcome is ends = subst (λ (o : Result (Unit {0}) StreamFault). IfErr outcome (EndsBy o)) is ends
+pub well_of : (closed : List ClosedConnection) (opened sessions over : ℕ) (may_stop stopped : Bool) (given_up : Result (Unit {0}) StreamFault) (outcome : Result (Unit {0}) ServeFault)
+    → over ≡ min (length closed) (2 ^ 64 - 1) → opened < 2 ^ 32 → given_up ≡ first_fault closed → (may_stop ≡ false → stopped ≡ false)
+    → OnOk outcome ((over ≡ opened) × (given_up ≡ Ok tt) × (opened ≤ sessions) × (stopped ≡ false → opened ≡ sessions))
+    → OnOk outcome ((length closed ≡ opened) × (first_fault closed ≡ Ok tt) × (opened ≤ sessions) × (may_stop ≡ false → opened ≡ sessions))
+well_of closed opened sessions over may_stop stopped given_up (Ok done) counted small is only well =
+    (over_all (length closed) over opened counted well.0 small, sym is ∙ well.1, well.2, λ never. well.3 (only never))
+well_of closed opened sessions over may_stop stopped given_up (Err fault) counted small is only well = tt
+
+ends_of : (closed : List ClosedConnection) (opened sessions over : ℕ) (given_up : Result (Unit {0}) StreamFault) (fault : ServeFault) → over ≡ min (length closed) (2 ^ 64 - 1) → opened < 2 ^ 32
+    → given_up ≡ first_fault closed → EndsBy opened sessions over given_up fault → EndsBy opened sessions (length closed) (first_fault closed) fault
+ends_of closed opened sessions over given_up Socket counted small is ends = ends
+ends_of closed opened sessions over given_up (Connection fault) counted small is (inl same) = inl (sym is ∙ same)
+ends_of closed opened sessions over given_up (Connection fault) counted small is (inr (none, inl few)) = inr (none, inl few)
+ends_of closed opened sessions over given_up (Connection fault) counted small is (inr (none, inr (inl lost))) =
+    inr (none, inr (inl (λ all. lost (all_over (length closed) over opened counted all small))))
+ends_of closed opened sessions over given_up (Connection fault) counted small is (inr (none, inr (inr nothing))) = inr (none, inr (inr nothing))
+
+pub fault_of_all : (closed : List ClosedConnection) (opened sessions over : ℕ) (given_up : Result (Unit {0}) StreamFault) (outcome : Result (Unit {0}) ServeFault) → over ≡ min (length closed) (2 ^ 64 - 1) → opened < 2 ^ 32
+    → given_up ≡ first_fault closed → IfErr outcome (EndsBy opened sessions over given_up) → IfErr outcome (EndsBy opened sessions (length closed) (first_fault closed))
+fault_of_all closed opened sessions over given_up (Ok done) counted small is ends = tt
+fault_of_all closed opened sessions over given_up (Err fault) counted small is ends = ends_of closed opened sessions over given_up fault counted small is ends

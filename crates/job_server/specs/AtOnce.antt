@@ -1,5 +1,5 @@
 -- Many connections that are served at once.
-use Rattle.std.specs.Prelude.{◌≡◌, ◌≤◌, ◌⊎◌, ℕ, List, [], All, length, Result, Ok, Err, OnOk, IfErr}
+use Rattle.std.specs.Prelude.{◌≡◌, ◌≢◌, ◌≤◌, ◌<◌, ◌⊎◌, ℕ, Bool, false, List, [], All, length, Result, Ok, Err, OnOk, IfErr}
 use Rattle.sessions.specs.Grammar.{Asked}
 use Rattle.streams.specs.declared.fault.StreamFault.{StreamFault}
 use Rattle.streams.specs.declared.fault.StreamFault.TheVariants as stream
@@ -15,21 +15,28 @@ use Rattle.job_server.specs.declared.job_seats.StartedJob.{StartedJob}
 use Rattle.job_server.specs.Holds.{StartsBy, TellsBy, TakesBy}
 use Rattle.job_server.specs.Started.{pooled_at, pooled_count}
 use Rattle.job_server.specs.Serving.{new_desk}
-use Rattle.job_server.specs.Visits.{answers_by}
+use Rattle.bpfjobs_cli.specs.declared.commands.Bounds.{Bounds}
+use Rattle.job_server.specs.Bounded.{answers_keeping, looks_within, starts_within, takes_within}
+use Rattle.job_server.specs.declared.limited_runner.LimitedRunner.{LimitedRunner}
+use Rattle.job_server.specs.declared.keeping_handler.KeepingHandler.{KeepingHandler}
 
--- why a server ends with a fault: a connection could not be taken, one was given up by it, or there
--- was no memory
-abbrev pub EndsBy : Result (Unit {0}) StreamFault → ServeFault → Type 0
-EndsBy given_up Socket = Unit {0}
-EndsBy given_up (Connection fault) = (given_up ≡ Err fault) ⊎ (fault ≡ stream.NoMemory)
+-- Why a server ends with a fault: a connection could not be taken, so that not all were opened; one
+-- was given up by it; or there was no memory, so that not all were opened, or not all of those are
+-- over, or none was opened.
+abbrev pub EndsBy : ℕ → ℕ → ℕ → Result (Unit {0}) StreamFault → ServeFault → Type 0
+EndsBy opened sessions over given_up Socket = opened < sessions
+EndsBy opened sessions over given_up (Connection fault) =
+    (given_up ≡ Err fault)
+    ⊎ ((fault ≡ stream.NoMemory) × ((opened ≢ sessions) ⊎ (over ≢ opened) ⊎ (opened ≡ 0)))
 
--- So many connections were to be served. One legal history has every answer in order, and leads to
--- the end. Those that were opened have numbers from 0 on; no other number has a part of the history.
+-- So many connections were to be served. One legal history has every answer in order, and leads
+-- to the end. Those that were opened have numbers from 0 on; no other has a part of the history.
 -- Of each that is over, what came asks its own part, and what was written are the replies of that
--- part, in order. Where all went well, all are over.
+-- part, in order. Where all went well, all that were opened are over; and all were opened, unless a
+-- host may stop the server.
 pub record IsServingFrom {S : Type 0} (answers : S → Result Asked ℕ → List ℕ → S → Type 0)
-    (begins : S → Type 0) (end : S) (sessions : ℕ) (outcome : Result (Unit {0}) ServeFault) :
-    Type 0 where
+    (begins : S → Type 0) (end : S) (sessions : ℕ) (may_stop : Bool)
+    (outcome : Result (Unit {0}) ServeFault) : Type 0 where
   pub history : List Entry
   pub opened : ℕ
   pub closed : List ClosedConnection
@@ -37,22 +44,35 @@ pub record IsServingFrom {S : Type 0} (answers : S → Result Asked ℕ → List
   pub others : (n : ℕ) → opened ≤ n → part_of n history ≡ []
   pub parts : AreClosed opened history closed
   pub served : All IsServedWhole closed
-  pub well : OnOk outcome ((opened ≡ sessions) × (length closed ≡ sessions)
-      × (first_fault closed ≡ Ok tt))
-  pub fault : IfErr outcome (EndsBy (first_fault closed))
+  pub well : OnOk outcome ((length closed ≡ opened) × (first_fault closed ≡ Ok tt)
+      × (opened ≤ sessions) × (may_stop ≡ false → opened ≡ sessions))
+  pub fault : IfErr outcome (EndsBy opened sessions (length closed) (first_fault closed))
 
--- a desk, with the jobs that a pool was given and the boards that it watches
-abbrev pub Pooled : Type 0
-Pooled = Ledger × (List StartedJob × BTreeMap ℕ Sight)
+-- the jobs that a pool was given, and the boards that it watches
+abbrev pub Pool : Type 0
+Pool = List StartedJob × BTreeMap ℕ Sight
 
-abbrev pub pool_answers : Pooled → Result Asked ℕ → List ℕ → Pooled → Type 0
-pool_answers =
-    answers_by (StartsBy pooled_at pooled_count) (TellsBy pooled_at pooled_count)
-    (TakesBy pooled_at pooled_count)
+-- a desk, and a pool within its host's bounds
+abbrev pub Hosted : Type 0
+Hosted = Ledger × KeepingHandler (LimitedRunner Pool)
 
--- The same, first on a new desk and with no job. Jobs run on a pool that lasts.
-pub record IsServingClients (sessions : ℕ) (outcome : Result (Unit {0}) ServeFault) : Type 0 where
-  pub first : List StartedJob × BTreeMap ℕ Sight
+abbrev pub hosted_answers : Hosted → Result Asked ℕ → List ℕ → Hosted → Type 0
+hosted_answers =
+    answers_keeping (starts_within pooled_count (StartsBy pooled_at pooled_count))
+    (looks_within (TellsBy pooled_at pooled_count)) (takes_within (TakesBy pooled_at pooled_count))
+
+-- a new desk, and a pool with no job, within these bounds
+abbrev pub new_host : Bounds → Pool → Hosted
+new_host bounds pool = (
+  new_desk,
+  record { runner = record { runner = pool; limit = bounds.open_jobs }; keep = bounds.keep },
+)
+
+-- The same, first on a new desk and with no job. Jobs run on a pool that lasts, within the bounds.
+pub record IsServingClients (bounds : Bounds) (sessions : ℕ) (may_stop : Bool)
+    (outcome : Result (Unit {0}) ServeFault) : Type 0 where
+  pub first : Pool
   pub none : (first.0 ≡ []) × (first.1.entries ≡ [])
-  pub end : Pooled
-  pub serving : IsServingFrom pool_answers (λ s. s ≡ (new_desk, first)) end sessions outcome
+  pub end : Hosted
+  pub serving : IsServingFrom hosted_answers (λ s. s ≡ new_host bounds first) end sessions may_stop
+      outcome

@@ -3,6 +3,7 @@ pub mod Holding
 pub mod Holds
 pub mod Started
 pub mod JobRule
+pub mod Bounded
 pub mod AtOnce
 pub mod Starting
 pub mod Addresses

@@ -38,7 +38,7 @@ IsOver (Verify need) = Unit {0}
 IsOver Play = Unit {0}
 IsOver (Run workers) = (1 ≤ workers) × (workers ≤ 16)
 IsOver (Serve port workers sessions) = ⊥
-IsOver (ServeClients port workers sessions clients timeout) = ⊥
+IsOver (ServeClients port workers sessions bounds) = ⊥
 
 -- the text and the status that a command answers to its input
 abbrev pub IsPoolAnswer : Command → List ℕ → List ℕ → ℕ → Type 0
@@ -48,4 +48,4 @@ IsPoolAnswer (Verify need) input text status = PrintsVerdict need input text sta
 IsPoolAnswer Play input text status = PrintsPlay input text status
 IsPoolAnswer (Run workers) input text status = PrintsRun input text status
 IsPoolAnswer (Serve port workers sessions) input text status = ⊥
-IsPoolAnswer (ServeClients port workers sessions clients timeout) input text status = ⊥
+IsPoolAnswer (ServeClients port workers sessions bounds) input text status = ⊥

@@ -9,7 +9,7 @@ use Rattle.job_server.specs.Visits.{Passage, Visits, answers_by}
 
 -- a desk that nobody was granted anything on, and that has no job
 abbrev pub new_desk : Ledger
-new_desk = record { grants = []; jobs = [] }
+new_desk = record { grants = []; past = []; jobs = [] }
 
 -- So many connections of the listener are visited, the first on a new desk and with no job held.
 -- Jobs run on pools.

@@ -9,6 +9,7 @@ ghost use Rattle.job_server.specs.Started.{AreWatched, NoneFrom};
 use crate::job_register::{JobRegister, Keeper};
 use crate::job_seats::RegisterId;
 use crate::keys::{forget, note};
+use crate::limited_runner::CountedRunner;
 use crate::queued_job::{EndedJob, QueuedJob};
 use crate::watched::{Watched, look_at};
 use credit_book::{Progress, Report};
@@ -146,5 +147,11 @@ impl<R: Wait, J: RegisterId> Runner for LastingPool<'_, R, J> {
         }
         forget(&mut self.boards, number);
         Some((number, end))
+    }
+}
+
+impl<R: Wait, J: RegisterId> CountedRunner for LastingPool<'_, R, J> {
+    fn count(&self) -> u64 {
+        self.boards.len() as u64
     }
 }

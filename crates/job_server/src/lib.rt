@@ -51,15 +51,27 @@ pub use fault::{ServeFault, status_of};
 pub use listener::Listener;
 pub use server::{serve, serve_on};
 
+// what a host bounds
+mod frame_place;
+mod keeping_handler;
+mod limited_runner;
+mod stop_flag;
+mod timed_listener;
+mod timed_reader;
+
+pub use keeping_handler::KeepingHandler;
+pub use limited_runner::{CountedRunner, LimitedRunner};
+pub use stop_flag::StopFlag;
+pub use timed_listener::TimedListener;
+pub use timed_reader::Waiting;
+
 // many connections at once
 mod at_once;
 mod entrance;
 mod serving_clients;
-mod timed_listener;
 
 pub use at_once::serve_at_once;
 pub use serving_clients::{serve_clients, serve_clients_on};
-pub use timed_listener::TimedListener;
 
 // the commands of `bpfjobs`, with the one that runs a job on threads
 mod ends;

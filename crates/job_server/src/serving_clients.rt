@@ -1,6 +1,6 @@
 //! A server of many clients at once, whose jobs a pool runs that lasts.
 
-ghost use Rattle.std.specs.Prelude.{◌≡◌, ◌≤◌, ◌⊎◌, [], Err};
+ghost use Rattle.std.specs.Prelude.{◌≡◌, ◌≤◌, ◌⊎◌, [], Err, is_some};
 ghost use Rattle.job_server.specs.AtOnce.{IsServingClients};
 ghost use Rattle.job_server.specs.declared.fault.ServeFault.TheVariants as fault;
 ghost use Rattle.streams.specs.declared.fault.StreamFault.TheVariants as stream;
@@ -10,12 +10,17 @@ use crate::at_once::{NO_MEMORY, serve_at_once};
 use crate::fault::ServeFault;
 use crate::job_register::{JobRegister, Keeper, NewRegister};
 use crate::job_seats::RegisterId;
+use crate::keeping_handler::KeepingHandler;
 use crate::lasting_pool::LastingPool;
+use crate::limited_runner::LimitedRunner;
 use crate::listener::Listener;
 use crate::pool_threads::start_workers;
 use crate::queued_job::{EndedJob, QueuedJob};
+use crate::stop_flag::StopFlag;
 use crate::timed_listener::TimedListener;
+use crate::timed_reader::Waiting;
 use accounts::Desk;
+use bpfjobs_cli::Bounds;
 use crossbeam_channel::{Receiver, Sender, unbounded};
 use std::alloc::Global;
 use std::marker::Brand;
@@ -23,6 +28,7 @@ use std::net::{Net, TcpListener, TcpStream};
 use std::sync::Wait;
 use std::thread;
 use std::thread::{Scope, Threads};
+use std::time::Clock;
 
 // The two ends of the queues that a pool holds: jobs go out, and what they came to comes back.
 #[derive(Drop)]
@@ -31,19 +37,20 @@ struct PoolEnds<J: RegisterId> {
     ended: Receiver<EndedJob<J>, Global>,
 }
 
-// How many there are of what.
+// How many workers and connections there are, and what a host bounds.
 #[derive(Clone, Copy)]
-struct Counts {
+struct Plan<'a> {
     workers: u32,
-    clients: u32,
     sessions: u32,
+    bounds: Bounds,
+    stop: Option<&'a StopFlag>,
 }
 
 // Starts the workers, and serves the connections with a pool of them.
 fn serve_in<
     's,
     E: 's,
-    R: Threads + Wait + Sync,
+    R: Threads + Wait + Clock + Sync,
     L: Listener + Send + Drop,
     J: RegisterId + Send + Sync + 's,
 >(
@@ -56,31 +63,41 @@ fn serve_in<
     jobs: &'s Receiver<QueuedJob<J>, Global>,
     endings: &'s Sender<EndedJob<J>, Global>,
     listener: L,
-    counts: Counts,
+    plan: Plan<'s>,
 ) -> Result<(), ServeFault>
     requires keeper { keeper ≡ [] }
-    requires workers { (1 ≤ counts.workers) × (counts.workers ≤ 16) }
-    ensures { IsServingClients counts.sessions result }
+    requires workers { (1 ≤ plan.workers) × (plan.workers ≤ 16) }
+    ensures { IsServingClients plan.entry.bounds plan.entry.sessions (is_some plan.entry.stop) result }
 {
-    let started = start_workers(rt, scope, jobs, endings, counts.workers);
+    let Plan {
+        workers,
+        sessions,
+        bounds,
+        stop,
+    } = plan;
+    let started = start_workers(rt, scope, jobs, endings, workers);
     let PoolEnds { queue, ended } = ends;
     let pool = LastingPool::new(rt, alloc, register, keeper, queue, ended, started > 0);
+    let handler = KeepingHandler::new(LimitedRunner::new(pool, bounds.open_jobs), bounds.keep);
+    let waiting = Waiting {
+        seconds: bounds.timeout,
+        stop,
+    };
     let desk = Desk::new(alloc);
+    let clients = bounds.clients;
     // the pool goes at the end, and with it the workers' queue
     let served = serve_at_once(
-        rt,
-        alloc,
-        listener,
-        desk,
-        pool,
-        counts.clients,
-        counts.sessions,
+        rt, alloc, listener, desk, handler, clients, sessions, waiting,
     );
     served.2
 }
 
 // The same with the threads in a scope of their own.
-fn serve_held<R: Threads + Wait + Sync, L: Listener + Send + Drop, J: RegisterId + Send + Sync>(
+fn serve_held<
+    R: Threads + Wait + Clock + Sync,
+    L: Listener + Send + Drop,
+    J: RegisterId + Send + Sync,
+>(
     rt: &R,
     alloc: Global,
     register: &JobRegister<J>,
@@ -89,31 +106,33 @@ fn serve_held<R: Threads + Wait + Sync, L: Listener + Send + Drop, J: RegisterId
     jobs: &Receiver<QueuedJob<J>, Global>,
     endings: &Sender<EndedJob<J>, Global>,
     listener: L,
-    counts: Counts,
+    plan: Plan<'_>,
 ) -> Result<(), ServeFault>
     requires keeper { keeper ≡ [] }
-    requires workers { (1 ≤ counts.workers) × (counts.workers ≤ 16) }
-    ensures { IsServingClients counts.sessions result }
+    requires workers { (1 ≤ plan.workers) × (plan.workers ≤ 16) }
+    ensures { IsServingClients plan.entry.bounds plan.entry.sessions (is_some plan.entry.stop) result }
 {
-    let Counts {
+    let Plan {
         workers,
-        clients,
         sessions,
-    } = counts;
+        bounds,
+        stop,
+    } = plan;
     thread::scope(
         thread::scope_env(),
         rt,
         |scope| -> Result<(), ServeFault>
             requires { (1 ≤ workers) × (workers ≤ 16) × (keeper ≡ []) }
-            ensures { IsServingClients sessions result }
+            ensures { IsServingClients bounds sessions (is_some stop.entry) result }
         {
-            let counts = Counts {
+            let plan = Plan {
                 workers,
-                clients,
                 sessions,
+                bounds,
+                stop,
             };
             serve_in(
-                rt, scope, alloc, register, keeper, ends, jobs, endings, listener, counts,
+                rt, scope, alloc, register, keeper, ends, jobs, endings, listener, plan,
             )
         },
     )
@@ -121,7 +140,7 @@ fn serve_held<R: Threads + Wait + Sync, L: Listener + Send + Drop, J: RegisterId
 
 // `serve_clients_on` under a name for the register of jobs.
 fn serve_registered<
-    R: Threads + Wait + Sync,
+    R: Threads + Wait + Clock + Sync,
     L: Listener + Send + Drop,
     J: RegisterId + Send + Sync,
 >(
@@ -129,13 +148,11 @@ fn serve_registered<
     alloc: Global,
     new_register: NewRegister,
     listener: L,
-    workers: u32,
-    clients: u32,
-    sessions: u32,
+    plan: Plan<'_>,
 ) -> Result<(), ServeFault>
     requires named { new_register ≡ J.table }
-    requires workers { (1 ≤ workers) × (workers ≤ 16) }
-    ensures { IsServingClients sessions result
+    requires workers { (1 ≤ plan.workers) × (plan.workers ≤ 16) }
+    ensures { IsServingClients plan.entry.bounds plan.entry.sessions (is_some plan.entry.stop) result
         ⊎ (result ≡ Err (fault.Connection stream.NoMemory)) }
 {
     let (register, keeper) = new_register.named::<J>();
@@ -146,68 +163,69 @@ fn serve_registered<
         return Err(NO_MEMORY);
     };
     let ends = PoolEnds { queue, ended };
-    let counts = Counts {
-        workers,
-        clients,
-        sessions,
-    };
     serve_held(
-        rt, alloc, &register, keeper, ends, &jobs, &endings, listener, counts,
+        rt, alloc, &register, keeper, ends, &jobs, &endings, listener, plan,
     )
 }
 
-/// Serves so many connections of the listener, in so many threads at once, on a new desk. Its jobs
-/// run on so many workers, 1 to 16, which start once and last: a small job is run whole by one of
-/// them, a large one on as many threads. It returns once the last connection and the last job have
-/// ended, if they do.
+/// Serves so many connections of the listener, in as many threads at once as the bounds say, on a new
+/// desk. Its jobs run on so many workers, 1 to 16, which start once and last: a small job is run whole
+/// by one of them, a large one on as many threads. It returns once the last connection and the last
+/// job have ended, if they do.
+///
+/// While as many jobs are open as the bounds allow, a start is refused by 81. The reports of all but
+/// the last jobs are forgotten, as many as the bounds keep. A connection whose reads wait longer than
+/// they allow, between frames or within one, is given up by 83. Where the flag is raised, no further
+/// connection is taken, and each that was is over once all that was read of it is answered.
 ///
 /// A connection that could not be taken, or that was given up by 83, 84 or 99, counts as served.
 /// Such a fault is answered at the end, as is 99 where there is no memory to begin with.
-pub fn serve_clients_on<R: Threads + Wait + Sync, L: Listener + Send + Drop>(
+pub fn serve_clients_on<R: Threads + Wait + Clock + Sync, L: Listener + Send + Drop>(
     rt: &R,
     alloc: Global,
     listener: L,
     workers: u32,
-    clients: u32,
     sessions: u32,
+    bounds: Bounds,
+    stop: Option<&StopFlag>,
 ) -> Result<(), ServeFault>
     requires { (1 ≤ workers) × (workers ≤ 16) }
-    ensures { IsServingClients sessions result
+    ensures { IsServingClients bounds sessions (is_some stop.entry) result
         ⊎ (result ≡ Err (fault.Connection stream.NoMemory)) }
 {
     let Ok(new_register) = NewRegister::new(alloc) else {
         return Err(NO_MEMORY);
     };
-    serve_registered::<R, L, Brand>(
-        rt,
-        alloc,
-        new_register,
-        listener,
+    let plan = Plan {
         workers,
-        clients,
         sessions,
-    )
+        bounds,
+        stop,
+    };
+    serve_registered::<R, L, Brand>(rt, alloc, new_register, listener, plan)
 }
 
 /// Listens on this port of 127.0.0.1, and serves so many connections as [`serve_clients_on`] does. A
-/// read or a write of a connection that takes `timeout` seconds gives it up, by 83 or 84; 0: none
-/// does. It answers [`ServeFault::Socket`] where the port can't be listened on.
-pub fn serve_clients<R: Net<Stream = TcpStream, Listener = TcpListener> + Threads + Wait + Sync>(
+/// write that takes as long as the bounds allow a read gives its connection up, by 84. It answers
+/// [`ServeFault::Socket`] where the port can't be listened on.
+pub fn serve_clients<
+    R: Net<Stream = TcpStream, Listener = TcpListener> + Threads + Wait + Clock + Sync,
+>(
     rt: &R,
     alloc: Global,
     port: u16,
     workers: u32,
-    clients: u32,
     sessions: u32,
-    timeout: u32,
+    bounds: Bounds,
+    stop: Option<&StopFlag>,
 ) -> Result<(), ServeFault>
     requires { (1 ≤ workers) × (workers ≤ 16) }
-    ensures { IsServingClients sessions result
+    ensures { IsServingClients bounds sessions (is_some stop.entry) result
         ⊎ (result ≡ Err (fault.Connection stream.NoMemory)) ⊎ (result ≡ Err fault.Socket) }
 {
     let Ok(listener) = TcpListener::bind(rt, address_of(port)) else {
         return Err(ServeFault::Socket);
     };
-    let timed = TimedListener::new(&listener, timeout);
-    serve_clients_on(rt, alloc, timed, workers, clients, sessions)
+    let timed = TimedListener::new(&listener, bounds.timeout);
+    serve_clients_on(rt, alloc, timed, workers, sessions, bounds, stop)
 }

@@ -1,21 +1,22 @@
-//! A book in one thread, as the spawner of tasks that are run by hand.
+//! Tasks that are run one at a time, without threads, by a book that is the spawner of each.
 
 ghost use Rattle.std.specs.Prelude.{◌≤◌, vec_len};
 ghost use Rattle.std.proofs.Props.{props};
 ghost use Rattle.job_core.specs.Admitted.{AreOwn};
 
-use credit_book::{Board, Book, Outcome, Refused, Ticket};
+use crate::stop::Stop;
+use crate::tree::{admitted, assembled, job, numbers};
+use credit_book::{Board, Book, Outcome, Refused, Report, Ticket};
 use helpers::{Entry, Part, SpawnRecord, Spawner};
 use job_core::Job;
 use std::alloc::Global;
-use std::test::Fail;
 use task_arena::Frames;
 use verifier::Verified;
-use workers::{OpenGate, entry_in, work_one};
+use workers::{OpenGate, entry_in, unrun, work_one};
 
 /// The programs of a job.
 #[derive(Drop)]
-pub struct Known {
+struct Known {
     programs: Vec<Verified>,
     ghost few: { vec_len programs ≤ 16 },
     ghost own: { AreOwn programs.items } by { Prim.hlevel props },
@@ -23,7 +24,7 @@ pub struct Known {
 
 impl Known {
     /// A job's programs, its credit, and its buffer as the root's part.
-    pub fn of(job: Job) -> (Known, u32, Part) {
+    fn of(job: Job) -> (Known, u32, Part) {
         let (programs, credit, buffer) = job.into_parts();
         (Known { programs }, credit, Part::whole(buffer))
     }
@@ -31,22 +32,22 @@ impl Known {
 
 /// A book, and the programs of its job. What is spawned is parked.
 #[derive(Drop)]
-pub struct ByHand<'a> {
+struct ByHand<'a> {
     known: &'a Known,
-    pub book: Book,
+    book: Book,
 }
 
 impl<'a> ByHand<'a> {
     /// The book of a job with this number, credit and part of the root, and the root's ticket.
-    pub fn open(
+    fn open(
         alloc: Global,
         known: &'a Known,
         number: u64,
         credit: u32,
         root: Part,
-    ) -> Result<(ByHand<'a>, Ticket), Fail> {
+    ) -> Result<(ByHand<'a>, Ticket), Stop> {
         if credit < 1 || credit > 2_147_483_647 {
-            return Err(Fail::new("no such job"));
+            return Err(Stop::Differs("no such job"));
         }
         let (_board, post, _reader) = Board::open(alloc, number, credit)?;
         let (book, ticket) = Book::open(alloc, post, root)?;
@@ -54,13 +55,13 @@ impl<'a> ByHand<'a> {
     }
 
     /// Runs a task.
-    pub fn run(&mut self, alloc: Global, ticket: Ticket, frames: &mut Frames) -> Outcome {
+    fn run(&mut self, alloc: Global, ticket: Ticket, frames: &mut Frames) -> Outcome {
         let known = self.known;
         work_one(alloc, ticket, &known.programs, self, frames, &OpenGate)
     }
 
     /// Ends a task. Whether the book takes it.
-    pub fn end(&mut self, outcome: Outcome) -> bool {
+    fn end(&mut self, outcome: Outcome) -> bool {
         self.book.end(outcome).is_ok()
     }
 }
@@ -96,4 +97,90 @@ impl Spawner for ByHand<'_> {
     fn call(&mut self, _id: u32, _arguments: [u64; 5]) -> u64 {
         0
     }
+}
+
+/// Runs the root of a job without children on the frames, and adds its R0, what it used, and
+/// whether it ran.
+fn run_root(
+    alloc: Global,
+    frames: &mut Frames,
+    number: u64,
+    text: &str,
+    told: &mut Vec<u64>,
+) -> Result<(), Stop> {
+    let programs = assembled(alloc, &[(0, text)])?;
+    let (known, credit, root) = Known::of(admitted(alloc, &programs, 100, Vec::new(alloc))?);
+    let (mut hand, root) = ByHand::open(alloc, &known, number, credit, root)?;
+    let outcome = hand.run(alloc, root, frames);
+    told.push(outcome.r0)?;
+    told.push(u64::from(outcome.used))?;
+    told.push(u64::from(outcome.ran))?;
+    Ok(())
+}
+
+const WRITES: &str = "stdw [r10-8], 7\nmov64 r0, 0\nexit\n";
+
+const READS: &str = "ldxdw r0, [r10-8]\nexit\n";
+
+/// What tasks find on frames that others have written: a task of another job, of the same job, and
+/// one behind the end of a job.
+pub fn zeroed(alloc: Global) -> Result<Vec<u64>, Stop> {
+    let mut told = Vec::new(alloc);
+    let mut frames = Frames::new(alloc);
+    for (number, text) in [(1, WRITES), (2, READS), (2, WRITES), (2, READS)] {
+        run_root(alloc, &mut frames, number, text, &mut told)?;
+    }
+    frames.end_job();
+    run_root(alloc, &mut frames, 2, READS, &mut told)?;
+    Ok(told)
+}
+
+/// Runs a task, or leaves it, and ends it.
+fn finish(
+    alloc: Global,
+    hand: &mut ByHand,
+    frames: &mut Frames,
+    ticket: Ticket,
+    runs: bool,
+) -> Result<(), Stop> {
+    let outcome = if runs {
+        hand.run(alloc, ticket, frames)
+    } else {
+        unrun(ticket)
+    };
+    if hand.end(outcome) {
+        Ok(())
+    } else {
+        Err(Stop::Differs("an end is refused"))
+    }
+}
+
+/// Runs the root and its child, or leaves them, and gives the report.
+fn family(alloc: Global, runs_root: bool, runs_child: bool) -> Result<Report, Stop> {
+    let (known, credit, root) = Known::of(job(alloc)?);
+    let mut frames = Frames::new(alloc);
+    let (mut hand, root) = ByHand::open(alloc, &known, 1, credit, root)?;
+    finish(alloc, &mut hand, &mut frames, root, runs_root)?;
+    if let Some(child) = hand.book.claim() {
+        finish(alloc, &mut hand, &mut frames, child, runs_child)?;
+    }
+    let ByHand { book, .. } = hand;
+    match book.close() {
+        Ok(report) => Ok(report),
+        Err(_) => Err(Stop::Differs("a task is alive")),
+    }
+}
+
+/// The numbers of the reports where all is run, where the child is left, and where the root is,
+/// and how many tasks were run: a task that isn't run gives all back.
+pub fn left(alloc: Global) -> Result<Vec<u64>, Stop> {
+    let mut told = Vec::new(alloc);
+    for (runs_root, runs_child) in [(true, true), (true, false), (false, true)] {
+        let report = family(alloc, runs_root, runs_child)?;
+        told.extend_from_slice(&numbers(alloc, &report)?)?;
+        for end in &report.tasks {
+            told.push(u64::from(end.ran))?;
+        }
+    }
+    Ok(told)
 }

@@ -1,7 +1,14 @@
-//! A gate at which two tasks meet, if they run at once.
+//! A gate at which two tasks meet, if they run at once: two workers run two tasks at once, and one
+//! worker doesn't.
 
+use crate::opened::Opened;
+use crate::stop::Stop;
+use crate::tree::{admitted, assembled};
+use std::alloc::Global;
 use std::hint;
+use std::sync::Wait;
 use std::sync::atomic::{AtomicBool, Ordering};
+use std::thread::Threads;
 use workers::Gate;
 
 /// Whether tasks 1 and 2 came, and whether each saw that the other had come.
@@ -57,4 +64,47 @@ impl Gate for Meeting {
     }
 
     fn after(&self, _number: u32) {}
+}
+
+/// Spawns program 1 twice, each with 3 of credit, and costs 42.
+const ROOT: &str = "\
+mov64 r1, 1
+mov64 r2, 3
+mov64 r3, 0
+mov64 r4, 0
+call 1
+mov64 r1, 1
+mov64 r2, 3
+mov64 r3, 0
+mov64 r4, 0
+call 1
+mov64 r0, 0
+exit
+";
+
+/// What two tasks come to that so many workers run, and whether each saw the other.
+fn met<R: Threads + Wait + Sync>(rt: &R, alloc: Global, workers: u32) -> Result<[u64; 5], Stop> {
+    let programs = assembled(alloc, &[(0, ROOT), (0, "mov64 r0, 0\nexit\n")])?;
+    let job = admitted(alloc, &programs, 48, Vec::new(alloc))?;
+    let gate = Meeting::new();
+    let report = Opened::new(alloc, 19, job)?.run(rt, alloc, workers, &gate)?;
+    let (first, second) = gate.saw();
+    Ok([
+        u64::from(report.spent),
+        u64::from(report.returned),
+        report.tasks.len() as u64,
+        u64::from(first),
+        u64::from(second),
+    ])
+}
+
+/// The same of two workers and of one.
+pub fn meetings<R: Threads + Wait + Sync>(rt: &R, alloc: Global) -> Result<Vec<u64>, Stop> {
+    let mut numbers = Vec::new(alloc);
+    for workers in [2, 1] {
+        for number in met(rt, alloc, workers)? {
+            numbers.push(number)?;
+        }
+    }
+    Ok(numbers)
 }

@@ -3,31 +3,14 @@
 ghost use Rattle.std.specs.Prelude.{◌≡◌};
 
 use crate::lookers::Looker;
-use assembler::assemble;
+use crate::stop::Stop;
 use credit_book::{Board, Post, Report};
-use job_core::{Job, ProgramBytes, admit};
+use job_core::Job;
 use refusal::NoMemory;
 use std::alloc::Global;
 use std::sync::Wait;
-use std::test::Fail;
 use std::thread::Threads;
 use workers::{Gate, PoolFault, run_job};
-
-/// The job of programs, each by its need and its text, with this credit and so many zeros as its
-/// buffer.
-pub fn admitted(
-    alloc: Global,
-    programs: &[(u32, &str)],
-    credit: u32,
-    bytes: usize,
-) -> Result<Job, Fail> {
-    let mut all = Vec::new(alloc);
-    for (need, text) in programs {
-        let code = assemble(alloc, text)?;
-        all.push(ProgramBytes { need: *need, code })?;
-    }
-    Ok(admit(alloc, &all, credit, vec![in alloc; 0; bytes]?)?)
-}
 
 /// A job beside a post that was opened with its credit.
 #[derive(Drop)]
@@ -39,10 +22,10 @@ pub struct Opened {
 
 impl Opened {
     /// A job beside the post of a board of its own, with this number.
-    pub fn new(alloc: Global, number: u64, job: Job) -> Result<Opened, Fail> {
+    pub fn new(alloc: Global, number: u64, job: Job) -> Result<Opened, Stop> {
         let credit = job.credit();
         if credit < 1 || credit > 2_147_483_647 {
-            return Err(Fail::new("no such job"));
+            return Err(Stop::Differs("no such job"));
         }
         let (_board, post, _reader) = Board::open(alloc, number, credit)?;
         Ok(Opened { job, post })
@@ -65,11 +48,15 @@ impl Opened {
         alloc: Global,
         workers: u32,
         gate: &G,
-    ) -> Result<Report, PoolFault> {
+    ) -> Result<Report, Stop> {
         let Opened { job, post } = self;
         if workers < 1 || workers > 16 {
-            return Err(PoolFault::NoWorker);
+            return Err(Stop::Differs("no such workers"));
         }
-        run_job(rt, alloc, job, post, workers, gate)
+        match run_job(rt, alloc, job, post, workers, gate) {
+            Ok(report) => Ok(report),
+            Err(PoolFault::NoMemory) | Err(PoolFault::NoWorker) => Err(Stop::Refused),
+            Err(PoolFault::BookRefused) => Err(Stop::Differs("the book refused an end")),
+        }
     }
 }

@@ -1,9 +1,9 @@
 //! Tickets of one book, for lanes alone.
 
+use crate::stop::Stop;
 use credit_book::{Board, Book, Ticket};
 use helpers::{Part, SpawnRecord};
 use std::alloc::Global;
-use std::test::Fail;
 
 /// A book whose root spawns tasks with 1 of credit each, up to 2,000,000 of them.
 #[derive(Drop)]
@@ -13,14 +13,14 @@ pub struct Tickets {
 
 impl Tickets {
     /// The book of a new job.
-    pub fn open(alloc: Global) -> Result<Tickets, Fail> {
+    pub fn open(alloc: Global) -> Result<Tickets, Stop> {
         let (_board, post, _reader) = Board::open(alloc, 1, 2_000_001)?;
         let (book, _root) = Book::open(alloc, post, Part::whole(Vec::new(alloc)))?;
         Ok(Tickets { book })
     }
 
     /// The ticket of the next task. They are numbered from 1.
-    pub fn next(&mut self, alloc: Global) -> Result<Ticket, Fail> {
+    pub fn next(&mut self, alloc: Global) -> Result<Ticket, Stop> {
         let child = SpawnRecord {
             program: 0,
             share: 1,
@@ -29,12 +29,15 @@ impl Tickets {
         };
         match self.book.spawn(0, child) {
             Ok(ticket) => Ok(ticket),
-            Err(_) => Err(Fail::new("a spawn is refused")),
+            Err(_) => Err(Stop::Differs("a spawn is refused")),
         }
     }
 }
 
-/// The number of a ticket, if there is one.
-pub fn number_of(ticket: Option<Ticket>) -> Option<u32> {
-    Some(ticket?.number())
+/// The number of a ticket, or 0.
+pub fn number_of(ticket: Option<Ticket>) -> u64 {
+    match ticket {
+        Some(ticket) => u64::from(ticket.number()),
+        None => 0,
+    }
 }

@@ -35,8 +35,8 @@ use Rattle.streams.specs.LedgerReplies.{AreNoted, BeginsReplies, TakesAndPlays, 
 
 finishing : (desk : Ledger) (number : ℕ) (report : Report) (entry : JobEntry) → job_at desk.jobs number ≡ Some entry → (s : Standing) → entry.standing ≡ s → (next : Ledger) × Notes desk number (Ok report) next
 finishing desk number report entry there Open is =
-    let next : Ledger = record { grants = desk.grants; jobs = _ } in
-    (next, inl (record { entry = entry; was = there; opened = is; jobs = record { grants = λ q. refl; jobs = refl } }))
+    let next : Ledger = record { grants = desk.grants; past = desk.past; jobs = _ } in
+    (next, inl (record { entry = entry; was = there; opened = is; jobs = record { grants = λ q. refl; past = λ q. refl; jobs = refl } }))
 finishing desk number report entry there (Reported old) is =
     (desk, inr (λ other found is_open. let same : Some other ≡ Some entry = sym found ∙ there in let clash : Open ≡ Reported old = sym is_open ∙ ap (λ o. (entry_or o entry).standing) same ∙ is in absurd cc, refl))
   where

@@ -9,7 +9,10 @@ returns-clause-app c =
     let second = c.in_ok-arg-2.ensures.shape c.workers.ensures.local ∙ ap₂ with_rule first c.workers.ensures.rule in
     let third = c.in_ok-arg-3.ensures.shape c.sessions.ensures.local ∙ ap₂ with_rule second c.sessions.ensures.rule in
     let fourth = c.in_ok-arg-4.ensures.shape c.clients.ensures.local ∙ ap₂ with_rule third c.clients.ensures.rule in
-    IfOk-weaker c.arg-5.result _ _ (λ r h. h.shape c.timeout.ensures.local ∙ ap₂ with_rule fourth c.timeout.ensures.rule) c.arg-5.ensures
+    let fifth = c.in_ok-arg-5.ensures.shape c.timeout.ensures.local ∙ ap₂ with_rule fourth c.timeout.ensures.rule in
+    let sixth = c.in_ok-arg-6.ensures.shape c.open_jobs.ensures.local ∙ ap₂ with_rule fifth c.open_jobs.ensures.rule in
+    let seventh = c.in_ok-arg-7.ensures.shape c.keep.ensures.local ∙ ap₂ with_rule sixth c.keep.ensures.rule in
+    IfOk-weaker c.arg-8.result _ _ (λ r h. h.shape c.until_eof.ensures.local ∙ ap₂ with_rule seventh c.until_eof.ensures.rule) c.arg-8.ensures
 
 pub returns-clause-local : goal.returns-clause-local
 returns-clause-local c =
@@ -18,4 +21,7 @@ returns-clause-local c =
     let second = c.in_ok-arg-2.ensures.globals ∙ ap₂ either first c.workers.ensures.local in
     let third = c.in_ok-arg-3.ensures.globals ∙ ap₂ either second c.sessions.ensures.local in
     let fourth = c.in_ok-arg-4.ensures.globals ∙ ap₂ either third c.clients.ensures.local in
-    IfOk-weaker c.arg-5.result _ _ (λ r h. h.globals ∙ ap₂ either fourth c.timeout.ensures.local) c.arg-5.ensures
+    let fifth = c.in_ok-arg-5.ensures.globals ∙ ap₂ either fourth c.timeout.ensures.local in
+    let sixth = c.in_ok-arg-6.ensures.globals ∙ ap₂ either fifth c.open_jobs.ensures.local in
+    let seventh = c.in_ok-arg-7.ensures.globals ∙ ap₂ either sixth c.keep.ensures.local in
+    IfOk-weaker c.arg-8.result _ _ (λ r h. h.globals ∙ ap₂ either seventh c.until_eof.ensures.local) c.arg-8.ensures

@@ -7,10 +7,10 @@ returns-in_default g c = record {
   history = [];
   opened = 0;
   closed = [];
-  legal = none_yet (c.args.desk, c.args.runner) refl;
+  legal = none_yet (c.args.desk, c.args.handler) refl;
   others = λ n le. refl;
   parts = tt;
   served = λ k d lt. absurd (omega (arith, lt));
   well = tt;
-  fault = inr refl;
+  fault = inr (refl, inr (inr refl));
 }

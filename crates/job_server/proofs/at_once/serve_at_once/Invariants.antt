@@ -5,6 +5,6 @@ use Rattle.job_server.proofs.at_once.serve_at_once.Given as goal
 abbrev pub ghosts-serve_named-J-HistoryId : goal.ghosts-serve_named-J-HistoryId
 ghosts-serve_named-J-HistoryId g a = record { table = a.new_history }
 
--- it begins with this desk and this runner
+-- it begins with this desk and this handler
 abbrev pub ghosts-serve_named-J-Origin : goal.ghosts-serve_named-J-Origin
-ghosts-serve_named-J-Origin g a = record { begins = λ s. s ≡ (a.desk, a.runner) }
+ghosts-serve_named-J-Origin g a = record { begins = λ s. s ≡ (a.desk, a.handler) }

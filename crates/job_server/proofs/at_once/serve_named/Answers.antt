@@ -1,4 +1,4 @@
-use Rattle.std.proofs.Common.{ap, ◌∙◌, arith}
+use Rattle.std.proofs.Common.{refl, ap, ◌∙◌, arith}
 use Rattle.shared_desk.specs.Histories.{part_of}
 use Rattle.job_server.proofs.AtOnceAlike.{fault_of_all, well_of}
 use Rattle.job_server.proofs.at_once.serve_named.Goals as goal
@@ -9,7 +9,11 @@ returns g c =
     let is = c.count.ensures.same.0 in
     let opened = c.into_parts-opened.result.0 in
     let counted = c.into_parts-opened.ensures in
-    let few = c.ranges.sessions.fits in
+    let over = c.over-over.result in
+    let over_is = c.over-over.ensures in
+    let few = c.outcome_of-outcome.ensures.small in
+    let given_up = c.outcome.result in
+    let outcome = c.outcome_of-outcome.result in
     record {
       history = now.1;
       opened = opened;
@@ -18,6 +22,6 @@ returns g c =
       others = λ n le. ap (λ s. part_of n s.1) is ∙ c.count.ensures.others n (omega (arith, counted, le));
       parts = rw (is, counted) c.count.ensures.over;
       served = c.is_legal.ensures.served;
-      well = well_of now.2 opened c.args.sessions c.over.result c.outcome.result c.outcome_of-outcome.result c.over.ensures (omega (arith, few)) c.outcome.ensures c.outcome_of-outcome.ensures.well;
-      fault = fault_of_all now.2 c.outcome.result c.outcome_of-outcome.result c.outcome.ensures c.outcome_of-outcome.ensures.fault;
+      well = well_of now.2 opened c.args.sessions over _ c.ended_by-stopped.result given_up outcome over_is few c.outcome.ensures c.ended_by-stopped.ensures c.outcome_of-outcome.ensures.well;
+      fault = fault_of_all now.2 opened c.args.sessions over given_up outcome over_is few c.outcome.ensures c.outcome_of-outcome.ensures.fault;
     }

@@ -1,12 +1,17 @@
-use Rattle.job_server.proofs.AtOnceAlike.{pool_serving}
+use Rattle.job_server.proofs.Alike.{beside}
+use Rattle.job_server.proofs.AtOnceAlike.{hosted_serving, keeping}
 use Rattle.job_server.proofs.serving_clients.serve_in.Goals as goal
 
 pub returns : goal.returns
 returns g c =
     let served = c.serve_at_once-served in
+    let pool = c.new-pool.result in
+    let limited = c.new.result in
+    let handler = c.new-handler.result in
     record {
-      first = (c.new-pool.result.keeper, c.new-pool.result.boards);
+      first = (pool.keeper, pool.boards);
       none = c.new-pool.ensures;
-      end = (served.result.0, (served.result.1.keeper, served.result.1.boards));
-      serving = rw (← c.new-desk.ensures) (pool_serving (λ r. (r.keeper, r.boards)) c.new-desk.result c.new-pool.result (served.result.0, served.result.1) c.args.counts.sessions served.result.2 served.ensures);
+      end = (served.result.0, keeping (λ r. (r.keeper, r.boards)) served.result.1);
+      serving = hosted_serving (λ r. (r.keeper, r.boards)) c.args.plan.bounds c.new-desk.result handler limited pool (served.result.0, served.result.1) c.args.plan.sessions _ served.result.2
+          c.new-desk.ensures c.new-handler.ensures.0 c.new-handler.ensures.1 c.new.ensures.0 c.new.ensures.1 served.ensures;
     }

@@ -1,0 +1,56 @@
+//! A desk that keeps the reports of its last jobs alone.
+
+ghost use Rattle.job_server.specs.Bounded.{KeepsLast};
+
+use accounts::Desk;
+use refusal::NoMemory;
+use sessions::Request;
+use std::alloc::Global;
+use streams::{Handler, Runner};
+
+/// Answers a request as the runner does, and then has the desk forget the reports of all but the
+/// last `keep` jobs; 0: it forgets none.
+#[derive(Drop)]
+pub struct KeepingHandler<N> {
+    runner: N,
+    keep: u32,
+}
+
+impl<N: Drop> KeepingHandler<N> {
+    ghost use Rattle.std.specs.Prelude.{◌≡◌};
+
+    /// A runner, and how many jobs' reports are kept.
+    pub fn new(runner: N, keep: u32) -> KeepingHandler<N>
+        ensures { (result.runner ≡ runner) × (result.keep ≡ keep) }
+    {
+        KeepingHandler { runner, keep }
+    }
+}
+
+// Has the desk forget what it isn't to keep.
+fn keep_last(desk: &mut Desk, keep: u32)
+    ensures { KeepsLast keep desk.old desk.new }
+{
+    if keep > 0 {
+        desk.forget(u64::from(keep));
+    }
+}
+
+impl<N: Runner> Handler<Desk> for KeepingHandler<N> {
+    ghost use Rattle.job_server.specs.Bounded.{answers_keeping};
+
+    ghost ready = { λ h. N.ready h.runner };
+
+    ghost answers = { answers_keeping N.starts N.looks N.takes };
+
+    fn answer(
+        &mut self,
+        alloc: Global,
+        desk: &mut Desk,
+        request: Result<Request, u8>,
+    ) -> Result<Vec<u8>, NoMemory> {
+        let reply = self.runner.answer(alloc, desk, request);
+        keep_last(desk, self.keep);
+        reply
+    }
+}

@@ -1,0 +1,49 @@
+//! Whether a server takes further connections.
+
+ghost use Rattle.std.specs.Prelude.{◌≡◌, false, is_some};
+
+use std::sync::atomic::{AtomicBool, Ordering};
+
+/// A flag that a host raises where its server is to take no further connection. Any thread may raise
+/// it at any time, so no contract says when it is up.
+#[derive(Drop)]
+pub struct StopFlag {
+    raised: AtomicBool,
+}
+
+impl StopFlag {
+    /// A flag that is down.
+    pub fn new() -> StopFlag {
+        StopFlag {
+            raised: AtomicBool::new(false),
+        }
+    }
+
+    /// Raises the flag.
+    pub fn raise(&self) {
+        self.raised.store(true, Ordering::SeqCst);
+    }
+
+    /// Whether the flag was raised.
+    pub fn is_raised(&self) -> bool {
+        self.raised.load(Ordering::SeqCst)
+    }
+}
+
+/// Whether there is a flag that was raised.
+pub(crate) fn is_stopped(stop: Option<&StopFlag>) -> bool {
+    match stop {
+        Some(flag) => flag.is_raised(),
+        None => false,
+    }
+}
+
+/// Whether a server ended for its flag, which it may have.
+pub(crate) fn ended_by(stop: Option<&StopFlag>, ended: bool) -> bool
+    ensures { is_some stop.entry ≡ false → result ≡ false }
+{
+    match stop {
+        Some(_) => ended,
+        None => false,
+    }
+}

@@ -1,0 +1,117 @@
+//! A reader of a connection that waits no longer than a host allows.
+
+use crate::frame_place::FramePlace;
+use crate::stop_flag::{StopFlag, is_stopped};
+use std::io;
+use std::io::{ErrorKind, Read};
+use std::net::TcpStream;
+use std::time::{Clock, Duration, Instant};
+
+/// How long the reads of a connection may wait.
+#[derive(Clone, Copy)]
+pub struct Waiting<'a> {
+    /// Seconds for a read between frames, and from a frame's first byte to its last; 0: any time.
+    pub seconds: u32,
+    /// Where this is raised, a read that waits ends the stream.
+    pub stop: Option<&'a StopFlag>,
+}
+
+// How many milliseconds a read waits until it looks at the flag.
+const LOOK: u64 = 200;
+
+/// Reads a connection. A read fails that waits too long, or once a frame is not whole in time. It
+/// gives no byte once a host's flag is raised.
+#[derive(Drop)]
+pub(crate) struct TimedReader<'a, R> {
+    rt: &'a R,
+    stream: &'a TcpStream,
+    waiting: Waiting<'a>,
+    place: FramePlace,
+    due: Option<Instant>,
+}
+
+impl<'a, R> TimedReader<'a, R> {
+    /// A reader of a connection of which nothing was read.
+    pub fn new(rt: &'a R, stream: &'a TcpStream, waiting: Waiting<'a>) -> TimedReader<'a, R> {
+        TimedReader {
+            rt,
+            stream,
+            waiting,
+            place: FramePlace::between(),
+            due: None,
+        }
+    }
+}
+
+impl<R: Clock> TimedReader<'_, R> {
+    // When what is waited for from now on has to be there, if there is a limit, and a clock.
+    fn due_from_now(&self) -> Option<Instant> {
+        if self.waiting.seconds == 0 {
+            return None;
+        }
+        let limit = Duration::from_secs(u64::from(self.waiting.seconds));
+        Instant::now(self.rt).ok()?.checked_add(limit)
+    }
+
+    // Lets the next try wait as long as it may: to the time that is due, or to the next look.
+    fn set_wait(&self, due: Option<Instant>) -> io::Result<()> {
+        let mut wait = None;
+        if let Some(due) = due {
+            match due.checked_duration_since(Instant::now(self.rt)?) {
+                Some(left) if left > Duration::ZERO => wait = Some(left),
+                _ => return Err(io::Error::from(ErrorKind::TimedOut)),
+            }
+        }
+        if self.waiting.stop.is_some() {
+            let look = Duration::from_millis(LOOK);
+            wait = match wait {
+                Some(left) if left < look => Some(left),
+                _ => Some(look),
+            };
+        }
+        self.stream.set_read_timeout(wait)
+    }
+
+    // Notes what was read: a frame that began in it and isn't whole has its time from now on. It can't
+    // fail: what was read is never lost.
+    fn note(&mut self, piece: &[u8]) {
+        let (place, begins) = self.place.behind(piece);
+        self.place = place;
+        if !place.is_within() {
+            self.due = None;
+        } else if begins {
+            self.due = self.due_from_now();
+        }
+    }
+}
+
+impl<R: Clock> Read for TimedReader<'_, R> {
+    fn read(&mut self, piece: &mut [u8]) -> io::Result<usize> {
+        if self.waiting.seconds == 0 && self.waiting.stop.is_none() {
+            return (&*self.stream).read(piece);
+        }
+        let due = if self.place.is_within() {
+            self.due
+        } else {
+            self.due_from_now()
+        };
+        for _ in 0..u64::MAX {
+            if is_stopped(self.waiting.stop) {
+                return Ok(0);
+            }
+            self.set_wait(due)?;
+            match (&*self.stream).read(piece) {
+                Ok(count) => {
+                    self.note(&piece[..count]);
+                    return Ok(count);
+                }
+                Err(error) => {
+                    if error.kind() != ErrorKind::WouldBlock {
+                        return Err(error);
+                    }
+                }
+            }
+        }
+        Err(io::Error::from(ErrorKind::TimedOut))
+    }
+}

@@ -1,0 +1,102 @@
+//! The job on two workers, in this thread and in threads of its own.
+
+use crate::asking::{asked, awaited, start, together};
+use crate::stop::{Stop, holds};
+use crate::tree::{CREDIT, job, told as told_of};
+use credit_book::{Board, Report};
+use job_core::Job;
+use job_server::{JobRequest, JobThread, PoolRunner, start_thread};
+use std::alloc::Global;
+use std::sync::Wait;
+use std::thread::Threads;
+use streams::Runner;
+use workers::{OpenGate, PoolFault, run_job};
+
+const WORKERS: u32 = 2;
+
+/// What a task that wasn't run leaves, beside one that was: nothing is spent of what it was given.
+fn told_by_pool(alloc: Global, report: &Report) -> Result<Vec<u64>, Stop> {
+    let mut spent = 0u32;
+    let mut rest = 0u32;
+    let mut all_ran = true;
+    for end in &report.tasks {
+        spent = spent.saturating_add(end.spent);
+        rest = rest.saturating_add(end.rest);
+        all_ran &= end.ran;
+        holds(end.ran || end.spent == 0, "a task that didn't run spent")?;
+    }
+    let sums = spent == report.spent && rest == report.returned;
+    holds(sums, "the tasks' sums are not the report's")?;
+    holds(
+        report.spent.checked_add(report.returned) == Some(CREDIT),
+        "the report doesn't add up",
+    )?;
+    if all_ran {
+        told_of(alloc, report)
+    } else {
+        Err(Stop::Refused)
+    }
+}
+
+/// The job on two workers, under a board that is looked at when it is over.
+pub fn run_by_two<R: Threads + Wait + Sync>(rt: &R, alloc: Global) -> Result<Vec<u64>, Stop> {
+    let job = job(alloc)?;
+    let credit = job.credit();
+    if credit < 1 || credit > 2_147_483_647 {
+        return Err(Stop::Differs("the job has another credit"));
+    }
+    let (board, post, mut reader) = Board::open(alloc, 1, credit)?;
+    match run_job(rt, alloc, job, post, WORKERS, &OpenGate) {
+        Ok(report) => {
+            let seen = board.look(&mut reader);
+            let same = seen.complete
+                && (seen.spent, seen.returned) == (report.spent, report.returned);
+            holds(same, "the board doesn't say what the report does")?;
+            told_by_pool(alloc, &report)
+        }
+        Err(PoolFault::NoMemory) | Err(PoolFault::NoWorker) => Err(Stop::Refused),
+        Err(PoolFault::BookRefused) => Err(Stop::Differs("the book refused an end")),
+    }
+}
+
+/// The job in a thread of its own, taken when it has ended.
+pub fn run_by_runner<R>(rt: R, alloc: Global) -> Result<Vec<u64>, Stop>
+where
+    R: Threads + Wait + Copy + Send + Sync + Drop + 'static,
+{
+    let starter = move |request: JobRequest| -> Option<JobThread> {
+        start_thread(rt, request, WORKERS)
+    };
+    let mut runner = PoolRunner::new(rt, alloc, starter);
+    if let Err(stop) = start(alloc, &mut runner) {
+        runner.join_all();
+        return Err(stop);
+    }
+    let given = awaited(&mut runner);
+    runner.join_all();
+    match given {
+        Some((1, Ok(report))) => told_by_pool(alloc, &report),
+        Some((1, Err(81))) | Some((1, Err(99))) => Err(Stop::Refused),
+        Some(_) => Err(Stop::Differs("the job fails by another number")),
+        None => Err(Stop::Differs("the job isn't given")),
+    }
+}
+
+/// What a runner answers about a job, and then about three at once.
+pub fn answers<R>(rt: R, alloc: Global) -> Result<Vec<u64>, Stop>
+where
+    R: Threads + Wait + Copy + Send + Sync + Drop + 'static,
+{
+    let starter = move |request: JobRequest| -> Option<JobThread> {
+        start_thread(rt, request, WORKERS)
+    };
+    let mut runner = PoolRunner::new(rt, alloc, starter);
+    let mut told = Vec::new(alloc);
+    let well = match asked(alloc, &mut runner, &mut told) {
+        Ok(()) => together(alloc, &mut runner, &mut told),
+        other => other,
+    };
+    runner.join_all();
+    well?;
+    Ok(told)
+}
