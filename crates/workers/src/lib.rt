@@ -18,6 +18,7 @@ mod noting;
 pub use fault::PoolFault;
 
 // the threads
+mod bell;
 mod held_lock;
 mod pool;
 mod watch;

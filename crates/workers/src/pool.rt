@@ -5,6 +5,7 @@ ghost use Rattle.std.specs.List.{flat_map};
 ghost use Rattle.workers.specs.Final.{IsFinal};
 ghost use Rattle.workers.specs.Noted.{NotedAlone, EndedAlone};
 
+use crate::bell::{Bell, Rest};
 use crate::fault::PoolFault;
 use crate::gate::{Gate, Heard};
 use crate::held_lock::HeldLock;
@@ -52,9 +53,11 @@ fn work<'s, R: Wait, G: Gate>(
         listener: &stay,
     };
     let mut hands = Worker::new(rt, alloc, shared, &stay, lanes);
+    let mut rest = Rest::new(&shared.bell);
     for _ in rt.forever() {
         match hands.find() {
             Found::Ready(ticket) => {
+                rest.end();
                 let outcome = run_noted(
                     alloc,
                     ticket,
@@ -72,11 +75,12 @@ fn work<'s, R: Wait, G: Gate>(
                 if watch.is_complete() {
                     break;
                 }
-                thread::yield_now();
+                rest.pause(rt);
             }
             Found::Refusal => break,
         }
     }
+    shared.bell.ring_for_all();
     notes
 }
 
@@ -204,7 +208,7 @@ fn report_of(
     ensures alone { IfOk result
         (λ report. All (EndedAlone shared.programs.items) report.tasks.items) }
 {
-    let Shared { programs: _, desk } = shared;
+    let Shared { desk, .. } = shared;
     let desk = desk.into_inner().into_inner().into_inner();
     let report = desk.close(number, credit, size)?;
     if !agrees(alloc, &report.tasks, notes)? {
@@ -245,6 +249,7 @@ pub fn run_job<R: Threads + Wait + Sync, G: Gate + Sync>(
     let number = book.job();
     let shared = Shared {
         programs,
+        bell: CachePadded::new(Bell::new()),
         desk: CachePadded::new(Mutex::new(CachePadded::new(LockedBook::open(book, root)))),
     };
     let notes = run_in_threads(rt, alloc, &shared, crew, gate)?;
@@ -278,6 +283,7 @@ pub fn run_here<R: Wait, G: Gate>(
     let number = book.job();
     let shared = Shared {
         programs,
+        bell: CachePadded::new(Bell::new()),
         desk: CachePadded::new(Mutex::new(CachePadded::new(LockedBook::open(book, root)))),
     };
     let notes = work(rt, &shared, gate, worker, alloc);

@@ -4,6 +4,7 @@ ghost use Rattle.std.specs.Prelude.{◌≡◌, ◌≤◌, vec_len};
 ghost use Rattle.std.proofs.Props.{props};
 ghost use Rattle.job_core.specs.Admitted.{AreOwn};
 
+use crate::bell::Bell;
 use crate::held_lock::HeldLock;
 use crate::locked_book::{Found, LockedBook};
 use crate::work::entry_in;
@@ -39,11 +40,12 @@ const DOUBLINGS: u32 = 3;
 /// From which try on a worker leaves the processor to others as well.
 const PATIENCE: u32 = 100;
 
-/// What the workers of a job share, beside their lanes. The lock, what is under it and the programs
-/// lie on lines of their own, so that who tries the lock holds nobody else up.
+/// What the workers of a job share, beside their lanes. The bell, the lock, what is under it and the
+/// programs lie on lines of their own, so that who tries the lock holds nobody else up.
 #[derive(Drop)]
 pub(crate) struct Shared {
     pub programs: Vec<Verified>,
+    pub bell: CachePadded<Bell>,
     pub desk: CachePadded<Mutex<CachePadded<LockedBook>>>,
     ghost few: { vec_len programs ≤ 16 },
     ghost own: { AreOwn programs.items } by { Prim.hlevel props },
@@ -249,7 +251,8 @@ impl<'a, 'b, R: Wait> Worker<'a, 'b, R> {
         self.tell_with(&mut desk, outcome)
     }
 
-    /// Puts a new task's ticket into its own lane, or parks it where there is no room for it.
+    /// Puts a new task's ticket into its own lane, or parks it where there is no room for it, and
+    /// wakes a worker that sleeps.
     fn keep(&mut self, desk: &mut LockedBook, ticket: Ticket)
         ensures same { (self.new.shared ≡ self.old.shared) × (self.new.turn ≡ self.old.turn)
             × (self.new.ended ≡ self.old.ended) }
@@ -258,6 +261,7 @@ impl<'a, 'b, R: Wait> Worker<'a, 'b, R> {
         if let Err(back) = self.lanes.push(ticket) {
             desk.park(back);
         }
+        self.shared.bell.ring();
     }
 
     /// Spawns a child of the task whose turn it is, at the desk, and keeps its ticket.
