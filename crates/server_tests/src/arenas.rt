@@ -6,7 +6,7 @@ ghost use Rattle.interpreter.specs.Representation.{zeroed};
 use crate::stop::{Stop, holds};
 use interpreter::Frame;
 use std::alloc::Global;
-use task_arena::Frames;
+use task_run::Frames;
 
 /// How many frames are asked for in each job: more than an arena holds between two resets.
 const FRAMES: u64 = 20;

@@ -10,7 +10,7 @@ use credit_book::{Board, Book, Outcome, Refused, Report, Ticket};
 use helpers::{Entry, Part, SpawnRecord, Spawner};
 use job_core::Job;
 use std::alloc::Global;
-use task_arena::Frames;
+use task_run::Frames;
 use verifier::Verified;
 use workers::{OpenGate, entry_in, unrun, work_one};
 

@@ -1,8 +1,11 @@
-//! The run of one task by itself: whoever runs it answers its spawns.
+//! The run of one task by itself: whoever runs it answers its spawns. And the frames that tasks run
+//! on, in an arena that is reset between jobs.
 #![tactic(auto)]
 
+mod frames;
 mod listening;
 mod running;
 
+pub use frames::Frames;
 pub use listening::{Listener, Nobody};
 pub use running::run_to_end;

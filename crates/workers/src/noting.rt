@@ -17,8 +17,7 @@ use credit_book::{Outcome, TaskEnd, Ticket};
 use helpers::Spawner;
 use refusal::NoMemory;
 use std::alloc::Global;
-use task_arena::Frames;
-use task_run::Listener;
+use task_run::{Frames, Listener};
 use verifier::Verified;
 
 /// What a worker notes of a task that it ran.

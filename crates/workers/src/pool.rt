@@ -23,7 +23,7 @@ use std::alloc::Global;
 use std::sync::{Mutex, Wait};
 use std::thread;
 use std::thread::{Promise, PromisedHandle, Scope, Threads};
-use task_arena::Frames;
+use task_run::Frames;
 
 /// A worker ahead of its thread: its view of how far the job is, and its lanes.
 #[derive(Drop)]

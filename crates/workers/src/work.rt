@@ -17,8 +17,7 @@ use helpers::{Entry, Spawner};
 use interpreter::{Credit, Frame};
 use machine_model::MAX_CREDIT;
 use std::alloc::Global;
-use task_arena::Frames;
-use task_run::{Listener, Nobody, run_to_end};
+use task_run::{Frames, Listener, Nobody, run_to_end};
 use verifier::Verified;
 
 /// What a spawn has to know of the program of this number, if the list has it. The call asks for at

@@ -1,7 +1,7 @@
 //! The arena of one worker.
 
 ghost use Rattle.std.specs.Prelude.{◌≡◌, MatchResult};
-ghost use Rattle.task_arena.specs.Fresh.{TakesFresh, AnswersFresh};
+ghost use Rattle.task_run.specs.Fresh.{TakesFresh, AnswersFresh};
 
 use bumpalo::Bump;
 use interpreter::Frame;
