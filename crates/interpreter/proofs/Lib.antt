@@ -14,3 +14,4 @@ pub mod Enters
 pub mod Dispatch
 pub mod Stretches
 pub mod Lending
+pub mod Through
