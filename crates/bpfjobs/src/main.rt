@@ -7,13 +7,16 @@ ghost use Rattle.bpfjobs_cli.specs.Performing.{NeedsNoThread};
 ghost use Rattle.std.specs.Prelude.{◌≤◌};
 
 mod serving;
+mod showing;
 
-use bpfjobs_cli::{Command, FAILED, UNREAD, command, print_usage, words};
+use bpfjobs_cli::{Command, FAILED, Request, UNREAD, print_usage, request, words};
 use job_server::StopFlag;
 use serving::{serve, serve_clients, stop_at_end};
+use showing::{play_shown, run_shown};
 use std::alloc::Global;
 use std::net::{Net, TcpListener, TcpStream};
 use std::process::ExitCode;
+use std::rt::Files;
 use std::sync::{Arc, Wait};
 use std::thread::Threads;
 use std::time::Clock;
@@ -94,15 +97,36 @@ where
     }
 }
 
+// Does what a command says where something is to be shown beside its answer, and gives the status.
+fn show<R>(rt: &R, request: &Request<'_>) -> Option<u8>
+where
+    R: Input + Print + Eprint + Files + Threads + Wait + Sync + AllocGlobal,
+    requires { IsInRange request.now.command }
+{
+    let shown = &request.shown;
+    match request.command {
+        Command::Play if shown.traces || shown.trace_json.is_some() => Some(play_shown(rt, shown)),
+        Command::Run { workers } => match shown.tree {
+            Some(path) => Some(run_shown(rt, workers, path)),
+            None => None,
+        },
+        _ => None,
+    }
+}
+
 fn main(rt: HostRuntime) -> ExitCode {
     let alloc = rt.alloc();
     let Ok(words) = words(&rt) else {
         return ExitCode::from(UNREAD);
     };
-    let command = match command(alloc, words) {
-        Ok(command) => command,
+    let request = match request(alloc, &words) {
+        Ok(request) => request,
         Err(usage) => return ExitCode::from(print_usage(&rt, usage)),
     };
+    if let Some(status) = show(&rt, &request) {
+        return ExitCode::from(status);
+    }
+    let command = request.command;
     let Some(port) = watched_port(&command) else {
         return ExitCode::from(act(rt, alloc, command, None));
     };

@@ -1,5 +1,5 @@
 -- The command that a subcommand and its matches are.
-use Rattle.std.specs.Prelude.{◌≡◌, ◌≢◌, ◌↔◌, ◌⊎◌, ℕ, ◌≤◌, Bool, IsTrue, List, codes, Some, true, false}
+use Rattle.std.specs.Prelude.{◌≡◌, ◌≢◌, ◌↔◌, ◌⊎◌, ℕ, ◌≤◌, Bool, IsTrue, List, codes, Some, option_map, true, false}
 use Rattle.std.specs.Str.Parse.{IsNumeral, digits_value, without_leading_plus}
 use Rattle.clap.specs.Faults.{fault_of}
 use Rattle.clap.specs.Words.{HasKind, Row, Text, first_of, kind_of, one_of, takes}
@@ -7,6 +7,7 @@ use Rattle.clap.specs.declared.error.kind.ErrorKind.TheVariants.{DisplayHelp, Di
 use Rattle.bpfjobs_cli.specs.declared.commands.Bounds.{Bounds}
 use Rattle.bpfjobs_cli.specs.declared.commands.Command.{Command}
 use Rattle.bpfjobs_cli.specs.declared.commands.Command.TheVariants.{Assemble, Disassemble, Verify, Play, Run, Serve, ServeClients}
+use Rattle.bpfjobs_cli.specs.declared.commands.Shown.{Shown}
 use Rattle.bpfjobs_cli.specs.declared.commands.Usage.{Usage}
 use Rattle.bpfjobs_cli.specs.declared.commands.Usage.TheVariants as usage
 use Rattle.bpfjobs_cli.specs.Program.{bpfjobs_app}
@@ -54,6 +55,13 @@ IsCommandOf name rows (ServeClients port workers sessions bounds) =
     × IsNumberIn rows (codes "workers") 1 16 workers
     × IsNumberIn rows (codes "sessions") 1 1000000 sessions
     × AreBoundsOf rows bounds × (bounds ≢ no_bounds)
+
+-- what is to be shown beside the answer
+pub record IsShownOf (rows : List Row) (shown : Shown) : Type 0 where
+  pub traces : IsFlagOf rows (codes "trace") shown.traces
+  pub trace_json : first_of (codes "trace-json") rows
+      ≡ option_map (λ path. path.now) shown.trace_json
+  pub tree : first_of (codes "tree") rows ≡ option_map (λ path. path.now) shown.tree
 
 -- they are those of a command
 abbrev pub SaysCommand : Text → List Row → Type 0

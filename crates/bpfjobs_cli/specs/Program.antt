@@ -74,17 +74,42 @@ until_eof_rule = record (new_rule (codes "until-eof")) {
   action = Some SetTrue;
 }
 
+abbrev pub trace_rule : Rule
+trace_rule = record (new_rule (codes "trace")) {
+  long = Some (codes "trace");
+  action = Some SetTrue;
+}
+
+abbrev pub trace_json_rule : Rule
+trace_json_rule = record (new_rule (codes "trace-json")) {
+  long = Some (codes "trace-json");
+  value_names = 1;
+}
+
+abbrev pub tree_rule : Rule
+tree_rule = record (new_rule (codes "tree")) { long = Some (codes "tree"); value_names = 1 }
+
 abbrev pub verify_app : App
 verify_app = with_rule (new_app (codes "verify")) need_rule
 
+abbrev pub play_app : App
+play_app = with_rule (with_rule (new_app (codes "play")) trace_rule) trace_json_rule
+
 abbrev pub run_app : App
-run_app = with_rule (new_app (codes "run")) workers_rule
+run_app = with_rule (with_rule (new_app (codes "run")) workers_rule) tree_rule
 
 abbrev pub serve_app : App
 serve_app =
     with_rule (with_rule (with_rule (with_rule (with_rule
     (with_rule (with_rule (with_rule (new_app (codes "serve")) port_rule) workers_rule)
     sessions_rule) clients_rule) timeout_rule) open_jobs_rule) keep_rule) until_eof_rule
+
+-- the program without its commands, which tells its version
+abbrev pub named_app : App
+named_app = record {
+  top = record (new_app (codes "bpfjobs")).top { has_version = true };
+  subs = [];
+}
 
 -- a subcommand is required
 abbrev pub requiring : App → App
@@ -94,6 +119,6 @@ abbrev pub bpfjobs_app : App
 bpfjobs_app =
     with_subcommand (with_subcommand
     (with_subcommand
-    (with_subcommand (with_subcommand (with_subcommand (requiring (new_app (codes "bpfjobs")))
+    (with_subcommand (with_subcommand (with_subcommand (requiring named_app)
     (new_app (codes "assemble")).top) (new_app (codes "disassemble")).top) verify_app.top)
-    (new_app (codes "play")).top) run_app.top) serve_app.top
+    play_app.top) run_app.top) serve_app.top

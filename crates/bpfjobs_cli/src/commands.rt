@@ -73,6 +73,24 @@ impl Bounds {
     }
 }
 
+/// What is to be shown beside a command's answer.
+#[derive(Clone, Copy, Debug, PartialEq, Eq)]
+pub struct Shown<'a> {
+    /// The steps of a job that is played are to be told.
+    pub traces: bool,
+    /// The path of a file that gets these steps as JSON, if the words name one.
+    pub trace_json: Option<&'a str>,
+    /// The path of a file that gets the tree of a job that is run, if the words name one.
+    pub tree: Option<&'a str>,
+}
+
+/// A command, and what is to be shown beside its answer.
+#[derive(Clone, Copy, Debug, PartialEq, Eq)]
+pub struct Request<'a> {
+    pub command: Command,
+    pub shown: Shown<'a>,
+}
+
 /// Why the words are no command.
 #[derive(Drop)]
 pub enum Usage {

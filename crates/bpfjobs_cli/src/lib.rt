@@ -8,9 +8,9 @@ mod program;
 mod reading;
 mod texts;
 
-pub use commands::{Bounds, Command, Usage};
+pub use commands::{Bounds, Command, Request, Shown, Usage};
 pub use process::{FAILED, UNREAD, print_usage, words};
-pub use reading::command;
+pub use reading::request;
 
 // what is printed
 mod answer;

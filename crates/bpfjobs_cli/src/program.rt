@@ -3,7 +3,7 @@
 ghost use Rattle.std.specs.Prelude.{◌≡◌, false, IfOk};
 ghost use Rattle.clap.specs.Words.{app_of, new_app, rule_of};
 ghost use Rattle.clap.specs.declared.builder.command.Command.TheViews.{out-Command as fields_of};
-ghost use Rattle.bpfjobs_cli.specs.Program.{need_rule, port_rule, workers_rule, sessions_rule, clients_rule, timeout_rule, open_jobs_rule, keep_rule, until_eof_rule, verify_app, run_app, serve_app, bpfjobs_app};
+ghost use Rattle.bpfjobs_cli.specs.Program.{need_rule, port_rule, workers_rule, sessions_rule, clients_rule, timeout_rule, open_jobs_rule, keep_rule, until_eof_rule, trace_rule, trace_json_rule, tree_rule, named_app, verify_app, play_app, run_app, serve_app, bpfjobs_app};
 
 use crate::texts;
 use clap::{Arg, ArgAction, Command};
@@ -115,6 +115,47 @@ fn until_eof<'a>(alloc: Global) -> Arg<'a>
         .help(texts::UNTIL_EOF)
 }
 
+fn trace<'a>(alloc: Global) -> Arg<'a>
+    ensures rule { rule_of result ≡ trace_rule }
+    ensures local { result.global ≡ false }
+{
+    Arg::new(alloc, "trace")
+        .long("trace")
+        .action(ArgAction::SetTrue)
+        .help(texts::TRACE)
+}
+
+fn trace_json<'a>(alloc: Global) -> Arg<'a>
+    ensures rule { rule_of result ≡ trace_json_rule }
+    ensures local { result.global ≡ false }
+{
+    Arg::new(alloc, "trace-json")
+        .long("trace-json")
+        .value_name("FILE")
+        .help(texts::TRACE_JSON)
+}
+
+fn tree<'a>(alloc: Global) -> Arg<'a>
+    ensures rule { rule_of result ≡ tree_rule }
+    ensures local { result.global ≡ false }
+{
+    Arg::new(alloc, "tree")
+        .long("tree")
+        .value_name("FILE")
+        .help(texts::TREE)
+}
+
+// The program without its commands.
+fn top<'a>(alloc: Global) -> Command<'a>
+    ensures app { app_of result ≡ named_app }
+    ensures local { (fields_of result).has_globals ≡ false }
+{
+    Command::new(alloc, "bpfjobs")
+        .version(texts::VERSION)
+        .about(texts::BPFJOBS)
+        .after_help(texts::BPFJOBS_MORE)
+}
+
 // A command that has no argument yet.
 fn named<'a>(alloc: Global, name: &'a str, about: &'a str, more: &'a str) -> Command<'a>
     ensures app { app_of result ≡ new_app name.now }
@@ -130,11 +171,22 @@ fn verify<'a>(alloc: Global) -> Result<Command<'a>, AllocError>
     named(alloc, "verify", texts::VERIFY, texts::VERIFY_MORE).arg(need(alloc))
 }
 
+fn play<'a>(alloc: Global) -> Result<Command<'a>, AllocError>
+    ensures app { IfOk result (λ c. app_of c ≡ play_app) }
+    ensures local { IfOk result (λ c. (fields_of c).has_globals ≡ false) }
+{
+    named(alloc, "play", texts::PLAY, texts::PLAY_MORE)
+        .arg(trace(alloc))?
+        .arg(trace_json(alloc))
+}
+
 fn run<'a>(alloc: Global) -> Result<Command<'a>, AllocError>
     ensures app { IfOk result (λ c. app_of c ≡ run_app) }
     ensures local { IfOk result (λ c. (fields_of c).has_globals ≡ false) }
 {
-    named(alloc, "run", texts::RUN, texts::RUN_MORE).arg(workers(alloc))
+    named(alloc, "run", texts::RUN, texts::RUN_MORE)
+        .arg(workers(alloc))?
+        .arg(tree(alloc))
 }
 
 fn serve<'a>(alloc: Global) -> Result<Command<'a>, AllocError>
@@ -164,10 +216,10 @@ pub(crate) fn bpfjobs<'a>(alloc: Global) -> Result<Command<'a>, AllocError>
         texts::DISASSEMBLE_MORE,
     );
     let verify = verify(alloc)?;
-    let play = named(alloc, "play", texts::PLAY, texts::PLAY_MORE);
+    let play = play(alloc)?;
     let run = run(alloc)?;
     let serve = serve(alloc)?;
-    named(alloc, "bpfjobs", texts::BPFJOBS, texts::BPFJOBS_MORE)
+    top(alloc)
         .subcommand_required(true)
         .subcommand(assemble)?
         .subcommand(disassemble)?

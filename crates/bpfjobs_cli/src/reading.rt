@@ -4,9 +4,9 @@ ghost use Rattle.std.specs.Prelude.{◌≡◌, ℕ, map, IfOk, IfErr, Some, stri
 ghost use Rattle.clap.specs.Words.{Row, Text, found_of, rows_of, subcommand_of};
 ghost use Rattle.bpfjobs_cli.specs.declared.commands.Bounds.{Bounds};
 ghost use Rattle.bpfjobs_cli.specs.Program.{bpfjobs_app};
-ghost use Rattle.bpfjobs_cli.specs.Commands.{AreBoundsOf, IsFlagOf, IsNumberIn, IsCommandOf, IsInRange, IsUsage, SaysCommand};
+ghost use Rattle.bpfjobs_cli.specs.Commands.{AreBoundsOf, IsFlagOf, IsNumberIn, IsCommandOf, IsInRange, IsShownOf, IsUsage, SaysCommand};
 
-use crate::commands::{Bounds, Command, Usage};
+use crate::commands::{Bounds, Command, Request, Shown, Usage};
 use crate::program::bpfjobs;
 use clap::ArgMatches;
 use std::alloc::Global;
@@ -86,12 +86,25 @@ fn command_of(name: &str, matches: &ArgMatches<'_>) -> Command
     }
 }
 
-// The command that the words say.
-fn command_in(alloc: Global, words: &[String]) -> Result<Command, Usage>
-    ensures ok { IfOk result (λ command. (name : Text) × (rows : List Row)
+// What is to be shown.
+fn shown_of<'a>(matches: &ArgMatches<'a>) -> Shown<'a>
+    ensures { IsShownOf (rows_of (found_of matches.now)) result }
+{
+    Shown {
+        traces: flag(matches, "trace"),
+        trace_json: matches.get_str("trace-json"),
+        tree: matches.get_str("tree"),
+    }
+}
+
+/// What the words ask for, of which the first is the program's name: the subcommand, its numbers and
+/// what is shown beside are those that clap's matches of the words give. Words that clap takes are
+/// refused only for want of memory.
+pub fn request<'a>(alloc: Global, words: &'a [String]) -> Result<Request<'a>, Usage>
+    ensures ok { IfOk result (λ request. (name : Text) × (rows : List Row)
         × (subcommand_of bpfjobs_app (map string_bytes words.now) ≡ Some (name, rows))
-        × IsCommandOf name rows command) }
-    ensures range { IfOk result (λ command. IsInRange command) }
+        × IsCommandOf name rows request.command × IsShownOf rows request.shown) }
+    ensures range { IfOk result (λ request. IsInRange request.command) }
     ensures err { IfErr result (λ usage. IsUsage usage (map string_bytes words.now)) }
 {
     let matches = match bpfjobs(alloc)?.try_get_matches_from(words) {
@@ -99,20 +112,10 @@ fn command_in(alloc: Global, words: &[String]) -> Result<Command, Usage>
         Err(error) => return Err(Usage::Refused(error)),
     };
     match matches.subcommand() {
-        Some((name, inner)) => Ok(command_of(name, inner)),
+        Some((name, inner)) => Ok(Request {
+            command: command_of(name, inner),
+            shown: shown_of(inner),
+        }),
         None => unreachable!(),
     }
-}
-
-/// The command that the words say, of which the first is the program's name: the subcommand and its
-/// numbers are those that clap's matches of the words give. Words that clap takes are refused only
-/// for want of memory.
-pub fn command(alloc: Global, words: Vec<String>) -> Result<Command, Usage>
-    ensures ok { IfOk result (λ command. (name : Text) × (rows : List Row)
-        × (subcommand_of bpfjobs_app (map string_bytes words.items) ≡ Some (name, rows))
-        × IsCommandOf name rows command) }
-    ensures range { IfOk result (λ command. IsInRange command) }
-    ensures err { IfErr result (λ usage. IsUsage usage (map string_bytes words.items)) }
-{
-    command_in(alloc, &words)
 }

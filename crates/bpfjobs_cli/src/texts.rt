@@ -56,6 +56,11 @@ Example:
   $ bpfjobs play < examples/answer.json
   {\"buffer\":\"\",\"complete\":true,\"held\":0,\"ok\":true,\"returned\":0,\"spent\":2,\"used\":2}";
 
+pub(crate) const TRACE: &str =
+    "Tells each instruction that runs, its task, and what it changes, on standard error";
+
+pub(crate) const TRACE_JSON: &str = "Writes the same into a file, a JSON object a line";
+
 pub(crate) const RUN: &str = "Runs a job to its end on threads";
 
 pub(crate) const RUN_MORE: &str = "Reads a job as JSON: programs, credit and buffer.
@@ -67,6 +72,8 @@ Example:
   {\"buffer\":\"0000000009000000\",\"ok\":true,\"returned\":7,\"spent\":27,\"tasks\":[..]}";
 
 pub(crate) const WORKERS: &str = "Threads that run the tasks of a job, 1 to 16";
+
+pub(crate) const TREE: &str = "Writes the tree of the job's tasks into a file, in the language DOT";
 
 pub(crate) const SERVE: &str = "Answers requests over TCP on 127.0.0.1";
 
@@ -98,3 +105,5 @@ pub(crate) const KEEP: &str =
 
 pub(crate) const UNTIL_EOF: &str =
     "Takes no more connections once standard input has ended, and ends with those it has";
+
+pub(crate) const VERSION: &str = "0.1.0";

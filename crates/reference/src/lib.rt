@@ -29,4 +29,4 @@ mod runs;
 
 pub use alone::{run_alone, start_alone};
 pub use evaluating::{Evaluation, FinishedTask, evaluate};
-pub use runs::run;
+pub use runs::{run, start, state_in, step};

@@ -47,7 +47,7 @@ fn copy_places(alloc: Global, places: &[u64]) -> Result<Vec<u64>, Unanswered>
 }
 
 /// The state of a task, with the bytes of its range.
-fn state_in(alloc: Global, buffer: &[u8], task: &LiveTask) -> Result<Running, Unanswered>
+pub fn state_in(alloc: Global, buffer: &[u8], task: &LiveTask) -> Result<Running, Unanswered>
     ensures value { IfOk result (λ s. state_of s ≡ state_in buffer.now (task_of task.now)) }
     ensures memory { (error : Unanswered) → result ≡ Err error → error ≡ unanswered.NoMemory }
 {

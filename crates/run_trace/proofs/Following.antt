@@ -1,12 +1,12 @@
 -- A run is followed, one step after the other.
-use Rattle.std.proofs.Common.{◌≡◌, ◌⊎◌, ℕ, zero, suc, ◌+◌, ◌≤◌, ◌<◌, List, [], ◌∷◌, ◌++◌, length, Option, Some, None, inl, inr, refl, sym, subst, ap, ◌∙◌, arith, Bool, true, false, ◌==◌, if◌then◌else◌}
+use Rattle.std.proofs.Common.{◌≡◌, ◌⊎◌, ℕ, zero, suc, ◌+◌, ◌≤◌, ◌<◌, List, [], ◌∷◌, ◌++◌, length, Option, Some, None, inl, inr, refl, sym, subst, ap, arith}
 use Rattle.insn_codec.specs.declared.insn.Insn.{Insn}
 use Rattle.insn_codec.specs.declared.insn.Placed.{Placed}
 use Rattle.flow_graph.specs.Program.{code_of}
 use Rattle.machine_model.specs.Edges.{Code, insn_at, price}
-use Rattle.machine_model.specs.Machine.{State, Program, Birth, Trap, Effect, Continues, Ends, Spawns, Calls, Traps, effect, fetched, paid, spawned}
+use Rattle.machine_model.specs.Machine.{State, Program, Birth, Trap, Effect, Continues, Ends, Spawns, Calls, Traps, effect, fetched}
 use Rattle.machine_model.specs.Alone.{EndsWithin, Follows, no_entries}
-use Rattle.machine_model.proofs.Effects.{if_holds, effect_holds}
+use Rattle.machine_model.proofs.Effects.{effect_holds}
 use Rattle.machine_model.proofs.Pays.{price_some}
 use Rattle.reference.specs.Records.{FarOn, FarWithin, GoesFar}
 use Rattle.run_trace.specs.declared.step.Step.{Step}

@@ -4,3 +4,4 @@ pub mod Following
 pub mod ChangeLemmas
 pub mod SameTrace
 pub mod Running
+pub mod JobLemmas

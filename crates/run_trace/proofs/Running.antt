@@ -5,7 +5,6 @@ use Rattle.insn_codec.specs.Spelling.{IsProgram}
 use Rattle.flow_graph.specs.Program.{code_of}
 use Rattle.helpers.specs.Table.{Table, arity_in, job_table}
 use Rattle.machine_model.specs.Alone.{EndsWithin, no_entries}
-use Rattle.machine_model.specs.Edges.{Code}
 use Rattle.machine_model.specs.Machine.{Program, State, effect}
 use Rattle.reference.specs.Records.{FarWithin}
 use Rattle.task_trees.specs.Solo.{entering}

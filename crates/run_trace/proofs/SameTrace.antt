@@ -9,7 +9,6 @@ use Rattle.machine_model.specs.Machine.{State, Program, Effect, Continues, Ends,
 use Rattle.reference.specs.Records.{FarOn, FarWithin, GoesFar}
 use Rattle.run_trace.specs.declared.step.Step.{Step}
 use Rattle.run_trace.specs.Traces.{AreSteps, LeadBy, unanswered}
-use Rattle.run_trace.proofs.SameEffect.{same_effect}
 
 abbrev six : List (Option ℕ)
 six = None ∷ Some 4 ∷ Some 0 ∷ Some 0 ∷ Some 3 ∷ Some 2 ∷ []

@@ -28,11 +28,15 @@ impl<'a> fmt::Display for Member<'a> {
     }
 }
 
-impl<'a> fmt::Display for Json<'a> {
+/// The members of a step.
+#[derive(Clone, Copy)]
+pub(crate) struct Members<'a>(pub(crate) &'a Step);
+
+impl<'a> fmt::Display for Members<'a> {
     fn fmt<W: fmt::Write>(&self, f: &mut fmt::Formatter<W>) -> fmt::Result {
         let step = self.0;
         let place = &step.place;
-        write!(f, "{{\"slot\":{},\"insn\":\"{}\"", place.slot, place.text)?;
+        write!(f, "\"slot\":{},\"insn\":\"{}\"", place.slot, place.text)?;
         if let Some(line) = place.line {
             write!(f, ",\"line\":{line}")?;
         }
@@ -52,6 +56,12 @@ impl<'a> fmt::Display for Json<'a> {
             )?;
         }
         let (stack, part) = (Member("stack", &step.stack), Member("part", &step.part));
-        write!(f, "}}{stack}{part},\"used\":{}}}", step.used)
+        write!(f, "}}{stack}{part},\"used\":{}", step.used)
+    }
+}
+
+impl<'a> fmt::Display for Json<'a> {
+    fn fmt<W: fmt::Write>(&self, f: &mut fmt::Formatter<W>) -> fmt::Result {
+        write!(f, "{{{}}}", Members(self.0))
     }
 }

@@ -34,9 +34,9 @@ pub struct Trace {
 
 /// A program, with its instructions and the lines that say them.
 #[derive(Clone, Copy)]
-struct Listing<'a> {
-    placed: &'a [Placed],
-    lines: &'a [Line<'a>],
+pub(crate) struct Listing<'a> {
+    pub(crate) placed: &'a [Placed],
+    pub(crate) lines: &'a [Line<'a>],
 }
 
 /// The task at its start, with all the credit, this argument and these bytes as its part.
@@ -84,7 +84,7 @@ fn copied(alloc: Global, state: &Running) -> Result<Running, NoMemory>
 }
 
 /// The step from one state to the next.
-fn step_between(
+pub(crate) fn step_between(
     alloc: Global,
     listing: &Listing<'_>,
     before: &Running,

@@ -1,7 +1,7 @@
-use Rattle.std.proofs.Common.{◌≡◌, ◌<◌, ◌-◌, ◌∙◌, ℕ, suc, length, map, inl, inr, ap, refl, subst, sym, arith}
+use Rattle.std.proofs.Common.{◌≡◌, ◌<◌, ◌-◌, ◌∙◌, suc, length, map, inl, inr, ap, refl, subst, sym, arith}
 use Rattle.std.proofs.lemmas.Result.{err_from_is_err_and}
 use Rattle.machine_model.specs.Alone.{no_entries}
-use Rattle.machine_model.specs.Machine.{State, Continues, Ends, Spawns, Calls, Traps, effect}
+use Rattle.machine_model.specs.Machine.{State, Continues, Ends, effect}
 use Rattle.explain.specs.Lines.{told}
 use Rattle.reference.specs.Records.{GoesFar, birth_from, program_of, state_of, trap_of}
 use Rattle.reference.proofs.AloneLemmas.{alone_effect}

@@ -1,4 +1,4 @@
-use Rattle.std.proofs.Common.{ℕ, ◌-◌, ◌≤◌, map}
+use Rattle.std.proofs.Common.{ℕ, ◌-◌, map}
 use Rattle.explain.specs.Lines.{told}
 use Rattle.reference.specs.Records.{FarWithin, program_of, state_of}
 use Rattle.run_trace.specs.Following.{Ending}

@@ -1,7 +1,3 @@
-use Rattle.std.proofs.Common.{subst, map}
-use Rattle.explain.specs.Lines.{IsPlaceIn, told}
-use Rattle.explain.specs.declared.explanation.Place.{Place}
-use Rattle.std.specs.Prelude.{Option}
 use Rattle.run_trace.proofs.Placing.{never_between}
 use Rattle.run_trace.proofs.tracing.step_between.Goals as goal
 

@@ -1,16 +1,10 @@
-use Rattle.std.proofs.Common.{◌≡◌, ◌∙◌, ℕ, ap, subst, sym, rules}
+use Rattle.std.proofs.Common.{◌≡◌, subst, sym, rules}
 use Rattle.std.proofs.lemmas.Result.{IfOk-weaker}
 use Rattle.insn_codec.specs.declared.fault.CodecFault.TheVariants as codec
-use Rattle.flow_graph.specs.Program.{code_of}
 use Rattle.flow_graph.proofs.Decoded.{decoded_of}
-use Rattle.machine_model.specs.Alone.{no_entries}
-use Rattle.machine_model.specs.Edges.{Code}
-use Rattle.machine_model.specs.Machine.{State, effect}
 use Rattle.task_trees.specs.Solo.{entering}
 use Rattle.reference.specs.Records.{FarWithin, program_of as reference_program, state_of}
-use Rattle.verifier.specs.Checked.{Checked, program_of}
-use Rattle.verifier.specs.Refusals.{HasFlow, IsAccepted}
-use Rattle.verifier.proofs.OneVerdict.{one_program}
+use Rattle.verifier.specs.Checked.{program_of}
 use Rattle.explain.proofs.RefusedLemmas.{not_codec}
 use Rattle.run_trace.specs.Following.{Ending}
 use Rattle.run_trace.specs.Traces.{unanswered}

@@ -3,7 +3,7 @@ use Rattle.clap.specs.Words.{found_of, is_simple, is_simple_and_free, rows_of, s
 use Rattle.clap.proofs.TakesLemmas.{some_rows}
 use Rattle.bpfjobs_cli.proofs.LineLemmas.{entered_says, is_entered, is_plain, of_kind, plain}
 use Rattle.bpfjobs_cli.proofs.NumberLemmas.{pair_of, named}
-use Rattle.bpfjobs_cli.proofs.reading.command_in.Goals as goal
+use Rattle.bpfjobs_cli.proofs.reading.request.Goals as goal
 
 pub command_of-requires : goal.command_of-requires
 command_of-requires c =
@@ -28,6 +28,7 @@ returns-clause-ok c =
       rows_of (found_of c.in-Some.inner.now),
       ap (λ a. subcommand_of a (map string_bytes c.args.words.now)) (sym c.in_ok-bpfjobs.ensures) ∙ sym entered ∙ found,
       c.command_of.ensures.named,
+      c.shown_of.ensures,
     )
 
 pub returns-in-Err-clause-err : goal.returns-in-Err-clause-err

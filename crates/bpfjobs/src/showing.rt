@@ -1,0 +1,121 @@
+//! Jobs, with what is shown of them beside their answers.
+
+ghost use Rattle.std.specs.Prelude.{◌≤◌};
+
+use bpfjobs_cli::{Answer, Command, FAILED, Shown, answer_to, read_all, tell};
+use job_views::{step_lines, step_objects, steps_of, tree_in, tree_text};
+use refusal::NoMemory;
+use run_trace::JobStep;
+use std::rt::Files;
+use std::sync::Wait;
+use std::thread::Threads;
+use std::{fs, io};
+use streams::Tap;
+
+// All of the input; none where it can't be read, or there is no memory for it.
+fn input<R: Input + AllocGlobal>(rt: &R) -> Option<Vec<u8>> {
+    let mut reader = Tap::new(rt.reader());
+    match read_all(rt.alloc(), &mut reader) {
+        Ok(input) => Some(input),
+        Err(_) => None,
+    }
+}
+
+// Writes a file, or prints a line that tells why it can't be written. Tells which.
+fn written<R: Files + Eprint>(rt: &R, path: &str, text: &str) -> bool {
+    match fs::write(rt, path, text) {
+        Ok(()) => true,
+        Err(error) => {
+            let _ = eprintln!(rt; "bpfjobs: {path}: {error}");
+            false
+        }
+    }
+}
+
+// Prints an answer, if there was memory for it, and gives the status.
+fn told<R: Print>(rt: &R, answer: Result<Answer, NoMemory>) -> u8 {
+    let Ok(answer) = answer else {
+        return FAILED;
+    };
+    let mut writer = Tap::new(io::writer(rt));
+    match tell(&mut writer, &answer) {
+        Ok(status) => status,
+        Err(_) => FAILED,
+    }
+}
+
+// Tells the steps on standard error, in a file, or both. Tells whether that went well.
+fn told_steps<R: Files + Eprint + AllocGlobal>(
+    rt: &R,
+    shown: &Shown<'_>,
+    steps: &[JobStep],
+) -> bool {
+    let alloc = rt.alloc();
+    if shown.traces {
+        let Ok(lines) = step_lines(alloc, steps) else {
+            return false;
+        };
+        if eprint!(rt; "{lines}").is_err() {
+            return false;
+        }
+    }
+    match shown.trace_json {
+        Some(path) => match step_objects(alloc, steps) {
+            Ok(objects) => written(rt, path, objects.as_str()),
+            Err(_) => false,
+        },
+        None => true,
+    }
+}
+
+/// Plays a job by its schedule, tells its steps, prints how far it comes, and gives the status.
+pub fn play_shown<R: Input + Print + Eprint + Files + AllocGlobal>(
+    rt: &R,
+    shown: &Shown<'_>,
+) -> u8 {
+    let alloc = rt.alloc();
+    let Some(input) = input(rt) else {
+        return FAILED;
+    };
+    let Ok(found) = steps_of(alloc, &input) else {
+        return FAILED;
+    };
+    if let Some(steps) = found {
+        if !told_steps(rt, shown, &steps) {
+            return FAILED;
+        }
+    }
+    told(rt, answer_to(alloc, Command::Play, &input))
+}
+
+/// Runs a job on so many threads, writes its tree into a file, prints what it comes to, and gives
+/// the status.
+pub fn run_shown<R>(rt: &R, workers: u32, path: &str) -> u8
+where
+    R: Input + Print + Eprint + Files + Threads + Wait + Sync + AllocGlobal,
+    requires { (1 ≤ workers) × (workers ≤ 16) }
+{
+    let alloc = rt.alloc();
+    let Some(input) = input(rt) else {
+        return FAILED;
+    };
+    let Ok(found) = tree_in(alloc, &input) else {
+        return FAILED;
+    };
+    if let Some(tree) = found {
+        let Ok(text) = tree_text(alloc, &tree) else {
+            return FAILED;
+        };
+        if !written(rt, path, text.as_str()) {
+            return FAILED;
+        }
+    }
+    let bytes: &[u8] = &input;
+    let mut reader = Tap::new(bytes);
+    let mut writer = Tap::new(io::writer(rt));
+    let command = Command::Run { workers };
+    match job_server::perform(rt, alloc, command, &mut reader, &mut writer) {
+        Ok(status) => status,
+        Err(_) => FAILED,
+    }
+}

@@ -1,0 +1,12 @@
+use Rattle.std.proofs.lemmas.Result.{IfOk-weaker}
+use Rattle.job_views.specs.Shown.{no_job}
+use Rattle.job_views.proofs.Telling.{told_tree}
+use Rattle.job_views.proofs.views.tree_in.Goals as goal
+
+pub returns-in_default : goal.returns-in_default
+returns-in_default c = no_job (rw c.in_default.is at c.in_ok-order.ensures)
+
+pub returns : goal.returns
+returns c =
+    let order = rw c.in-Some.is at c.in_ok-order.ensures in
+    IfOk-weaker c.tree_of.result _ _ (λ found h. told_tree c.args.input.now c.in-Some.order found order h) c.tree_of.ensures.tree

@@ -1,0 +1,18 @@
+//! What is shown of a job beside its answer: its steps along its schedule, and the tree of its
+//! tasks.
+#![tactic(auto)]
+
+// the job that the input says, as the definitions have it
+mod order;
+
+pub use order::{JobOrder, ordered};
+
+// its steps and its tree
+mod views;
+
+pub use views::{steps_of, tree_in};
+
+// as text
+mod texts;
+
+pub use texts::{step_lines, step_objects, tree_text};

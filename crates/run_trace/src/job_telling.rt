@@ -1,0 +1,66 @@
+//! Steps of a job as text, a line each, and as JSON.
+
+use crate::job_step::{Born, Came, JobStep};
+use crate::json::Members;
+use std::fmt;
+
+impl fmt::Display for Born {
+    fn fmt<W: fmt::Write>(&self, f: &mut fmt::Formatter<W>) -> fmt::Result {
+        write!(
+            f,
+            "task {} of program {}, share {}, argument {}, {} bytes",
+            self.number, self.program, self.share, self.arg, self.size
+        )
+    }
+}
+
+impl fmt::Display for Came {
+    fn fmt<W: fmt::Write>(&self, f: &mut fmt::Formatter<W>) -> fmt::Result {
+        match self {
+            Came::Went => Ok(()),
+            Came::Ended(r0) => write!(f, ", ends with {r0}"),
+            Came::Spawned(born) => write!(f, ", spawns {born}"),
+        }
+    }
+}
+
+impl fmt::Display for JobStep {
+    fn fmt<W: fmt::Write>(&self, f: &mut fmt::Formatter<W>) -> fmt::Result {
+        write!(f, "task {}, {}{}", self.task, self.step, self.came)
+    }
+}
+
+/// What a step led to, as a member.
+#[derive(Clone, Copy)]
+struct Outcome(Came);
+
+impl fmt::Display for Outcome {
+    fn fmt<W: fmt::Write>(&self, f: &mut fmt::Formatter<W>) -> fmt::Result {
+        match self.0 {
+            Came::Went => Ok(()),
+            Came::Ended(r0) => write!(f, ",\"r0\":{r0}"),
+            Came::Spawned(born) => write!(
+                f,
+                ",\"spawned\":{{\"task\":{},\"program\":{},\"share\":{},\"argument\":{},\"bytes\":{}}}",
+                born.number, born.program, born.share, born.arg, born.size
+            ),
+        }
+    }
+}
+
+/// A step of a job as a JSON object.
+#[derive(Clone, Copy)]
+pub struct JobJson<'a>(pub &'a JobStep);
+
+impl<'a> fmt::Display for JobJson<'a> {
+    fn fmt<W: fmt::Write>(&self, f: &mut fmt::Formatter<W>) -> fmt::Result {
+        let told = self.0;
+        let members = Members(&told.step);
+        write!(
+            f,
+            "{{\"task\":{},{members}{}}}",
+            told.task,
+            Outcome(told.came)
+        )
+    }
+}
