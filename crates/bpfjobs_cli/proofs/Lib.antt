@@ -1,4 +1,5 @@
 pub mod LineLemmas
+pub mod LocalLemmas
 pub mod NumberLemmas
 pub mod FlagLemmas
 pub mod RowLemmas

@@ -12,7 +12,7 @@ use clap::ArgMatches;
 use std::alloc::Global;
 
 // The number of an argument that has one, from low to high.
-fn number(matches: &ArgMatches<'_>, id: &str, low: u32, high: u32) -> u32
+pub(crate) fn number(matches: &ArgMatches<'_>, id: &str, low: u32, high: u32) -> u32
     requires { (n : ℕ) × IsNumberIn (rows_of (found_of matches.now)) id.now low high n }
     ensures { IsNumberIn (rows_of (found_of matches.now)) id.now low high result }
 {
@@ -33,7 +33,7 @@ fn flag(matches: &ArgMatches<'_>, id: &str) -> bool
 }
 
 // What is bounded.
-fn bounds(matches: &ArgMatches<'_>) -> Bounds
+pub(crate) fn bounds(matches: &ArgMatches<'_>) -> Bounds
     requires { (b : Bounds) × AreBoundsOf (rows_of (found_of matches.now)) b }
     ensures { AreBoundsOf (rows_of (found_of matches.now)) result }
 {
