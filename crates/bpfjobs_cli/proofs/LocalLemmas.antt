@@ -1,5 +1,5 @@
 -- Each line that clap takes of a server by sockets says all that it has to have.
-use Rattle.std.proofs.Common.{◌≡◌, ◌↔◌, ◌≤◌, ◌<◌, ◌&&◌, length, ℕ, Bool, IsTrue, codes, true, false, refl, sym, ap, ◌∙◌, subst, inl, inr, arith, List, [], Option, Some, None, is_some, true≢false, unwrap_or}
+use Rattle.std.proofs.Common.{◌≡◌, ◌↔◌, ◌≤◌, ◌<◌, length, ℕ, Bool, IsTrue, codes, true, false, refl, sym, ap, subst, inl, inr, arith, List, [], Option, Some, None, is_some, true≢false, unwrap_or}
 use Rattle.std.specs.Prelude.{pos}
 use Rattle.std.proofs.lemmas.Slice.Eq.{bytes_eq-Decides}
 use Rattle.std.specs.Str.{bytes_eq}
@@ -13,7 +13,6 @@ use Rattle.clap.specs.declared.builder.action.ArgAction.TheVariants as action
 use Rattle.clap.specs.declared.builder.value_parser.ValueParser.TheVariants as vp
 use Rattle.clap.proofs.OnLiterals.{clap_on_literals}
 use Rattle.bpfjobs_cli.specs.Commands.{IsNumberIn}
-use Rattle.bpfjobs_cli.specs.declared.commands.Bounds.{Bounds}
 use Rattle.bpfjobs_cli.specs.Program.{sessions_rule, clients_rule, timeout_rule, open_jobs_rule, keep_rule, workers_rule}
 use Rattle.bpfjobs_cli.specs.Local.{SaysLocal, local_app, local_serve_app, socket_rule}
 use Rattle.bpfjobs_cli.proofs.NumberLemmas.{signed_number}

@@ -1,6 +1,6 @@
 //! The server by sockets in the file system that words say.
 
-ghost use Rattle.std.specs.Prelude.{◌≡◌, map, IfOk, IfErr, OnErr, Err, Some, codes, option_map, string_bytes, List};
+ghost use Rattle.std.specs.Prelude.{◌≡◌, ◌≤◌, map, IfOk, IfErr, OnErr, Err, Some, codes, option_map, string_bytes, List};
 ghost use Rattle.clap.specs.Words.{Row, found_of, first_of, rows_of, subcommand_of};
 ghost use Rattle.bpfjobs_cli.specs.declared.commands.Usage.TheVariants as usage;
 ghost use Rattle.bpfjobs_cli.specs.Local.{IsLocalServer, IsLocalUsage, SaysLocal, asks_local, has_socket, is_socket_word, local_app};
@@ -100,6 +100,7 @@ pub fn local_server(alloc: Global, words: Vec<String>) -> Result<LocalServer, Us
     ensures ok { IfOk result (λ server. (rows : List Row)
         × (subcommand_of local_app (map string_bytes words.items) ≡ Some (codes "serve", rows))
         × IsLocalServer rows server) }
+    ensures range { IfOk result (λ server. (1 ≤ server.workers) × (server.workers ≤ 16)) }
     ensures err { IfErr result (λ usage. IsLocalUsage usage (map string_bytes words.items)) }
 {
     local_in(alloc, &words)

@@ -1,7 +1,6 @@
-use Rattle.std.proofs.Common.{ap, sym, map, string_bytes, is_some, Some, true, true≢false, ◌≡◌, ◌∙◌, codes, List, subst, refl}
-use Rattle.std.specs.Prelude.{IfOk}
+use Rattle.std.proofs.Common.{ap, sym, map, string_bytes, is_some, Some, true, true≢false, ◌≡◌, ◌∙◌}
 use Rattle.std.proofs.lemmas.Result.{IfOk-weaker}
-use Rattle.clap.specs.Words.{Row, Text, found_of, is_simple, is_simple_and_free, rows_of, subcommand_of, subcommand_rows_of, takes}
+use Rattle.clap.specs.Words.{Text, found_of, is_simple, is_simple_and_free, rows_of, subcommand_of, subcommand_rows_of, takes}
 use Rattle.clap.proofs.TakesLemmas.{some_rows}
 use Rattle.bpfjobs_cli.proofs.LocalLemmas.{entered_says, is_entered, is_plain, of_kind, plain}
 use Rattle.bpfjobs_cli.proofs.NumberLemmas.{pair_of, named}
