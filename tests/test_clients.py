@@ -192,6 +192,22 @@ class Bounds(unittest.TestCase):
             client.stream.close()
             self.assertEqual(server.status(), 3)
 
+    def test_a_timeout_drops_no_answer(self):
+        """Frames that are whole are answered, whole and in order, also where the one behind them never ends. No contract says this of
+        the time: what a socket gives has no name in any."""
+        text = frame('{"op":"account","tenant":"t"}')
+        for cut in (1, 4, 5, len(text) - 1):
+            with self.subTest(cut), Server(sessions=1, more=("--timeout", 1)) as server:
+                stream = server.connect()
+                stream.sendall(text[:3])
+                time.sleep(0.6)
+                # ends one frame late in its time, and begins another, which stays cut
+                stream.sendall(text[3:] + text + text[:cut])
+                self.assertEqual(texts_of(is_read(stream, 2 * 26)), ['{"code":74,"ok":false}'] * 2)
+                self.assertEqual(stream.recv(1), b"")
+                stream.close()
+                self.assertEqual(server.status(), 3)
+
     def test_it_ends_with_its_input(self):
         """What was sent is answered, each connection is closed, and no further one is taken."""
         with Server(sessions=100, workers=2, more=("--clients", 4, "--until-eof"), stdin=subprocess.PIPE) as server:

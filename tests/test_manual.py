@@ -38,7 +38,7 @@ class Manual(unittest.TestCase):
             told = make.help_of(name, program)
             page = (FOLDER / f"{name}.1").read_text(encoding="utf-8")
             commands = [one.words for one in told.entries("Commands") if one.words != "help"]
-            helps = [told] + [make.help_of(name, program, command) for command in commands]
+            helps = [told] + [form for command in commands for form in make.forms_of(name, program, command).values()]
             for option in {one for part in helps for one in make.options_of(part)}:
                 with self.subTest(name=name, option=option):
                     self.assertIn(make.roff(option), page)
@@ -66,6 +66,7 @@ class Completions(unittest.TestCase):
 
     def test_options(self):
         self.assertEqual(completed("bpfjobs", "serve", "--p"), ["--port"])
+        self.assertEqual(completed("bpfjobs", "serve", "--g"), ["--grants"])
         self.assertEqual(completed("bpfjobs", "verify", "--n"), ["--need"])
         self.assertEqual(completed("bpfrun", "--mem"), ["--memory"])
         self.assertIn("--explain", completed("bpfrun", "a.bpf", "--"))
@@ -75,3 +76,4 @@ class Completions(unittest.TestCase):
         self.assertEqual(completed("bpfrun", "a.bpf", "--memory", "examples/q"), ["examples/query.bin"])
         self.assertEqual(completed("bpfrun", "a.bpf", "--need", ""), [])
         self.assertEqual(completed("bpfjobs", "run", "--workers", ""), [])
+        self.assertEqual(completed("bpfjobs", "serve", "--socket", "examples/byte"), ["examples/byte_at.bpf"])

@@ -30,9 +30,10 @@ _bpfjobs() {
         ;;
     serve)
         case $previous in
-        --port | --workers | --sessions | --clients | --timeout) return ;;
+        --socket | --grants) mapfile -t COMPREPLY < <(compgen -f -- "$word"); return ;;
+        --port | --workers | --sessions | --clients | --timeout | --open-jobs | --keep) return ;;
         esac
-        mapfile -t COMPREPLY < <(compgen -W "--port --workers --sessions --clients --timeout --help" -- "$word")
+        mapfile -t COMPREPLY < <(compgen -W "--port --workers --sessions --clients --timeout --open-jobs --keep --until-eof --help --socket --grants" -- "$word")
         ;;
     help) mapfile -t COMPREPLY < <(compgen -W "assemble disassemble verify play run serve" -- "$word") ;;
     esac

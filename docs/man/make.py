@@ -15,7 +15,9 @@ from pathlib import Path
 HERE = Path(__file__).resolve().parent
 SECTIONS = ("Commands", "Arguments", "Options")
 # values of these names are completed as files
-FILES = ("FILE",)
+FILES = ("FILE", "PATH")
+# a command that has other words behind an option of this name
+FORMS = {("bpfjobs", "serve"): "--socket"}
 
 
 @dataclass
@@ -220,12 +222,30 @@ def completion(name, told, commands):
     return "\n".join(made) + "\n"
 
 
+def forms_of(name, program, command):
+    """What the program tells of a command: of each of its forms, by the words that begin it."""
+    told = {command: help_of(name, program, command)}
+    option = FORMS.get((name, command))
+    if option:
+        told[f"{command} {option}"] = help_of(name, program, command, f"{option}=PATH")
+    return told
+
+
+def merged(forms):
+    """One help with the options of all forms, each once."""
+    told = next(iter(forms.values()))
+    entries = {entry.words: entry for form in forms.values() for entry in form.entries("Options")}
+    return Help(told.about, told.usage, {**told.sections, "Options": list(entries.values())}, told.more)
+
+
 def files_of(name, program):
     """The man page and the completion of a program, by their names."""
     told = help_of(name, program)
     names = [entry.words for entry in told.entries("Commands") if entry.words != "help"]
-    commands = {command: help_of(name, program, command) for command in names}
-    return {f"{name}.1": man_page(name, told, commands), f"{name}.bash": completion(name, told, commands)}
+    forms = {command: forms_of(name, program, command) for command in names}
+    pages = {words: form for command in names for words, form in forms[command].items()}
+    commands = {command: merged(forms[command]) for command in names}
+    return {f"{name}.1": man_page(name, told, pages), f"{name}.bash": completion(name, told, commands)}
 
 
 def main(bpfjobs, bpfrun, folder=HERE):

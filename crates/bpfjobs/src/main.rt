@@ -9,14 +9,17 @@ ghost use Rattle.std.specs.Prelude.{◌≤◌};
 mod serving;
 mod showing;
 
-use bpfjobs_cli::{Command, FAILED, Request, UNREAD, print_usage, request, words};
+use bpfjobs_cli::{
+    Command, FAILED, LocalServer, Request, UNREAD, asks_local, local_server, print_usage, request,
+    words,
+};
 use job_server::StopFlag;
-use serving::{serve, serve_clients, stop_at_end};
+use serving::{Place, serve, serve_clients, serve_local, stop_at_end};
 use showing::{play_shown, run_shown};
-use std::alloc::Global;
+use std::alloc::{AllocError, Global};
+use std::fs::Files;
 use std::net::{Net, TcpListener, TcpStream};
 use std::process::ExitCode;
-use std::rt::Files;
 use std::sync::{Arc, Wait};
 use std::thread::Threads;
 use std::time::Clock;
@@ -49,8 +52,8 @@ fn run<R: Input + Print + Threads + Wait + Sync>(rt: &R, alloc: Global, workers:
     }
 }
 
-// The port of a server that stops at the end of the input.
-fn watched_port(command: &Command) -> Option<u16>
+// Where a server listens that stops at the end of the input.
+fn watched_port(command: &Command) -> Option<Place>
     requires { IsInRange command.now }
 {
     match command {
@@ -61,7 +64,7 @@ fn watched_port(command: &Command) -> Option<u16>
             bounds,
         } => {
             if bounds.until_eof {
-                Some(*port as u16)
+                Some(Place::Port(*port as u16))
             } else {
                 None
             }
@@ -114,11 +117,63 @@ where
     }
 }
 
+// The path of a server by sockets in the file system that stops at the end of the input.
+fn watched_path(alloc: Global, server: &LocalServer) -> Result<Option<Place>, AllocError> {
+    if server.bounds.until_eof {
+        let path = String::from_str(alloc, &server.socket)?;
+        Ok(Some(Place::Path(path)))
+    } else {
+        Ok(None)
+    }
+}
+
+// Starts a thread that raises a flag at the end of the input. `None`: there is no memory for it.
+fn watch<R: Input + Net + Threads + Copy + Send + Sync + Drop + 'static>(
+    rt: R,
+    alloc: Global,
+    place: Place,
+) -> Option<Arc<StopFlag, Global>> {
+    let Ok(stop) = Arc::new(alloc, StopFlag::new()) else {
+        return None;
+    };
+    let Ok(theirs) = Arc::try_clone(&stop) else {
+        return None;
+    };
+    match thread::spawn(&rt, move || stop_at_end(&rt, &place, &theirs)) {
+        Ok(_thread) => Some(stop),
+        Err(_) => None,
+    }
+}
+
+// A server by sockets in the file system, until its input ends where it is to stop then.
+fn host<R>(rt: R, alloc: Global, server: &LocalServer) -> u8
+where
+    R: Input + Net + Files + Threads + Wait + Clock + Copy + Send + Sync + Drop + 'static,
+    requires { (1 ≤ server.now.workers) × (server.now.workers ≤ 16) }
+{
+    let Ok(place) = watched_path(alloc, server) else {
+        return FAILED;
+    };
+    let Some(place) = place else {
+        return serve_local(&rt, alloc, server, None);
+    };
+    match watch(rt, alloc, place) {
+        Some(stop) => serve_local(&rt, alloc, server, Some(&stop)),
+        None => FAILED,
+    }
+}
+
 fn main(rt: HostRuntime) -> ExitCode {
     let alloc = rt.alloc();
     let Ok(words) = words(&rt) else {
         return ExitCode::from(UNREAD);
     };
+    if asks_local(&words) {
+        return match local_server(alloc, words) {
+            Ok(server) => ExitCode::from(host(rt, alloc, &server)),
+            Err(usage) => ExitCode::from(print_usage(&rt, usage)),
+        };
+    }
     let request = match request(alloc, &words) {
         Ok(request) => request,
         Err(usage) => return ExitCode::from(print_usage(&rt, usage)),
@@ -127,19 +182,11 @@ fn main(rt: HostRuntime) -> ExitCode {
         return ExitCode::from(status);
     }
     let command = request.command;
-    let Some(port) = watched_port(&command) else {
+    let Some(place) = watched_port(&command) else {
         return ExitCode::from(act(rt, alloc, command, None));
     };
-    let Ok(stop) = Arc::new(alloc, StopFlag::new()) else {
-        return ExitCode::from(FAILED);
-    };
-    let Ok(theirs) = Arc::try_clone(&stop) else {
-        return ExitCode::from(FAILED);
-    };
-    // The thread is started here, where the runtime is of a type that may go to it.
-    let watch = move || stop_at_end(&rt, port, &theirs);
-    let Ok(_thread) = thread::spawn(&rt, watch) else {
-        return ExitCode::from(FAILED);
-    };
-    ExitCode::from(act(rt, alloc, command, Some(&stop)))
+    match watch(rt, alloc, place) {
+        Some(stop) => ExitCode::from(act(rt, alloc, command, Some(&stop))),
+        None => ExitCode::from(FAILED),
+    }
 }

@@ -2,14 +2,39 @@
 
 ghost use Rattle.std.specs.Prelude.{◌≤◌};
 
-use bpfjobs_cli::Bounds;
+use bpfjobs_cli::{Bounds, LocalServer};
 use job_server::{StopFlag, address_of};
 use std::alloc::Global;
+use std::fs::Files;
 use std::io::Read;
 use std::net::{Net, TcpListener, TcpStream};
+use std::os::unix::net::UnixStream;
 use std::sync::Wait;
 use std::thread::Threads;
 use std::time::Clock;
+
+/// Where a server listens.
+#[derive(Drop)]
+pub enum Place {
+    /// A port of 127.0.0.1.
+    Port(u16),
+    /// A socket in the file system.
+    Path(String),
+}
+
+impl Place {
+    // Wakes who waits for a connection there, by one.
+    fn wake<R: Net>(&self, rt: &R) {
+        match self {
+            Place::Port(port) => {
+                let _ = TcpStream::connect(rt, address_of(*port));
+            }
+            Place::Path(path) => {
+                let _ = UnixStream::connect(rt, path.as_str());
+            }
+        }
+    }
+}
 
 /// Takes so many connections on the port of 127.0.0.1, one after the other, and gives the status: 0
 /// once all have ended, 3 where one of them or the socket failed.
@@ -30,7 +55,7 @@ pub fn serve<R: Net<Stream = TcpStream> + Threads + Wait + Copy + Send + Sync + 
 
 /// Reads the input to its end. Then it raises the flag, and wakes who waits for a connection by one of
 /// its own.
-pub fn stop_at_end<R: Input + Net>(rt: &R, port: u16, stop: &StopFlag) {
+pub fn stop_at_end<R: Input + Net>(rt: &R, place: &Place, stop: &StopFlag) {
     let mut reader = rt.reader();
     let mut piece = [0u8; 64];
     for _ in 0..u64::MAX {
@@ -40,7 +65,7 @@ pub fn stop_at_end<R: Input + Net>(rt: &R, port: u16, stop: &StopFlag) {
         }
     }
     stop.raise();
-    let _ = TcpStream::connect(rt, address_of(port));
+    place.wake(rt);
 }
 
 /// The same within a host's bounds: from many clients at once, and until the flag is raised, if there
@@ -61,5 +86,29 @@ where
 {
     let port = port as u16;
     let outcome = job_server::serve_clients(rt, alloc, port, workers, sessions, bounds, stop);
+    job_server::status_of(outcome)
+}
+
+/// The same by sockets in the file system.
+pub fn serve_local<R>(rt: &R, alloc: Global, server: &LocalServer, stop: Option<&StopFlag>) -> u8
+where
+    R: Net + Files + Threads + Wait + Clock + Sync,
+    requires { (1 ≤ server.now.workers) × (server.now.workers ≤ 16) }
+{
+    let LocalServer {
+        socket,
+        grants,
+        workers,
+        sessions,
+        bounds,
+    } = server;
+    let grants = match grants {
+        Some(path) => Some(path.as_str()),
+        None => None,
+    };
+    let path = socket.as_str();
+    let outcome = job_server::serve_local_clients(
+        rt, alloc, path, grants, *workers, *sessions, *bounds, stop,
+    );
     job_server::status_of(outcome)
 }

@@ -1,8 +1,8 @@
 -- What is left where a command is given up.
-use Rattle.std.proofs.Common.{◌≡◌, ◌<◌, ℕ, List, ◌++◌, length, take, Result, Ok, Err, IfErr, refl, sym, subst}
+use Rattle.std.proofs.Common.{◌≡◌, ◌<◌, ℕ, List, ◌++◌, length, take, refl, sym, subst}
 use Rattle.streams.specs.declared.fault.StreamFault.{StreamFault}
 use Rattle.streams.specs.declared.fault.StreamFault.TheVariants.{ReadFailed, WriteFailed, NoMemory}
-use Rattle.bpfjobs_cli.specs.Performing.{IsAllRead, IsGivenUpBy}
+use Rattle.bpfjobs_cli.specs.Performing.{IsGivenUpBy}
 
 -- ahead of the answer nothing is written
 pub given_up_early : (fault : StreamFault) (answers : List ℕ → ℕ → Type 0) (over : Type 0) (before : List ℕ) → (fault ≡ WriteFailed → ⊥) → IsGivenUpBy fault answers over before before

@@ -1,4 +1,6 @@
 pub mod LineLemmas
+pub mod LocalLemmas
+pub mod SocketLemmas
 pub mod NumberLemmas
 pub mod FlagLemmas
 pub mod RowLemmas

@@ -16,7 +16,7 @@ use Rattle.clap.specs.declared.builder.value_parser.ValueParser.TheVariants as v
 use Rattle.clap.proofs.OnLiterals.{clap_on_literals}
 use Rattle.bpfjobs_cli.specs.Commands.{AreBoundsOf, IsNumberIn, SaysCommand, no_bounds}
 use Rattle.bpfjobs_cli.specs.declared.commands.Bounds.{Bounds}
-use Rattle.bpfjobs_cli.specs.Program.{bpfjobs_app, need_rule, port_rule, run_app, play_app, serve_app, sessions_rule, clients_rule, timeout_rule, open_jobs_rule, keep_rule, until_eof_rule, verify_app, workers_rule}
+use Rattle.bpfjobs_cli.specs.Program.{bpfjobs_app, need_rule, port_rule, run_app, play_app, serve_app, sessions_rule, clients_rule, timeout_rule, open_jobs_rule, keep_rule, verify_app, workers_rule}
 use Rattle.bpfjobs_cli.specs.declared.commands.Command.TheVariants.{Assemble, Disassemble, Verify, Play, Run, Serve, ServeClients}
 use Rattle.bpfjobs_cli.proofs.NumberLemmas.{signed_number}
 use Rattle.bpfjobs_cli.proofs.RowLemmas.{Among, Each, IsOnly, On, both, default_value, required_value}

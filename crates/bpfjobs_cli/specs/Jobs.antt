@@ -1,5 +1,5 @@
 -- What is printed of a job.
-use Rattle.std.specs.Prelude.{◌≡◌, ◌↔◌, ℕ, List, Bool, true, IsTrue, Option, Some, None, Ok, Err}
+use Rattle.std.specs.Prelude.{◌≡◌, ◌↔◌, ℕ, List, Bool, true, IsTrue, None, Ok, Err}
 use Rattle.machine_model.specs.JobState.{JobState, IsComplete, start}
 use Rattle.sessions.specs.Answers.{ObjectAnswer}
 use Rattle.sessions.specs.Faults.{code_of}

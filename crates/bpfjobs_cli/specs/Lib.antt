@@ -5,3 +5,4 @@ pub mod Hexadecimal
 pub mod Programs
 pub mod Jobs
 pub mod Performing
+pub mod Local

@@ -3,14 +3,17 @@
 #![tactic(auto)]
 
 mod commands;
+mod local_program;
+mod local_reading;
 mod process;
 mod program;
 mod reading;
 mod texts;
 
 pub use commands::{Bounds, Command, Request, Shown, Usage};
+pub use local_reading::{LocalServer, asks_local, local_server};
 pub use process::{FAILED, UNREAD, print_usage, words};
-pub use reading::request;
+pub use reading::{command, request};
 
 // what is printed
 mod answer;

@@ -33,7 +33,7 @@ fn port<'a>(alloc: Global) -> Arg<'a>
         .value_parser(clap::value_parser!(u32).range(1..=65535))
 }
 
-fn workers<'a>(alloc: Global) -> Arg<'a>
+pub(crate) fn workers<'a>(alloc: Global) -> Arg<'a>
     ensures rule { rule_of result ≡ workers_rule }
     ensures local { result.global ≡ false }
 {
@@ -45,7 +45,7 @@ fn workers<'a>(alloc: Global) -> Arg<'a>
         .default_value("1")
 }
 
-fn sessions<'a>(alloc: Global) -> Arg<'a>
+pub(crate) fn sessions<'a>(alloc: Global) -> Arg<'a>
     ensures rule { rule_of result ≡ sessions_rule }
     ensures local { result.global ≡ false }
 {
@@ -57,7 +57,7 @@ fn sessions<'a>(alloc: Global) -> Arg<'a>
         .default_value("1")
 }
 
-fn clients<'a>(alloc: Global) -> Arg<'a>
+pub(crate) fn clients<'a>(alloc: Global) -> Arg<'a>
     ensures rule { rule_of result ≡ clients_rule }
     ensures local { result.global ≡ false }
 {
@@ -69,7 +69,7 @@ fn clients<'a>(alloc: Global) -> Arg<'a>
         .default_value("1")
 }
 
-fn timeout<'a>(alloc: Global) -> Arg<'a>
+pub(crate) fn timeout<'a>(alloc: Global) -> Arg<'a>
     ensures rule { rule_of result ≡ timeout_rule }
     ensures local { result.global ≡ false }
 {
@@ -81,7 +81,7 @@ fn timeout<'a>(alloc: Global) -> Arg<'a>
         .default_value("0")
 }
 
-fn open_jobs<'a>(alloc: Global) -> Arg<'a>
+pub(crate) fn open_jobs<'a>(alloc: Global) -> Arg<'a>
     ensures rule { rule_of result ≡ open_jobs_rule }
     ensures local { result.global ≡ false }
 {
@@ -93,7 +93,7 @@ fn open_jobs<'a>(alloc: Global) -> Arg<'a>
         .default_value("0")
 }
 
-fn keep<'a>(alloc: Global) -> Arg<'a>
+pub(crate) fn keep<'a>(alloc: Global) -> Arg<'a>
     ensures rule { rule_of result ≡ keep_rule }
     ensures local { result.global ≡ false }
 {
@@ -105,7 +105,7 @@ fn keep<'a>(alloc: Global) -> Arg<'a>
         .default_value("0")
 }
 
-fn until_eof<'a>(alloc: Global) -> Arg<'a>
+pub(crate) fn until_eof<'a>(alloc: Global) -> Arg<'a>
     ensures rule { rule_of result ≡ until_eof_rule }
     ensures local { result.global ≡ false }
 {
@@ -157,7 +157,7 @@ fn top<'a>(alloc: Global) -> Command<'a>
 }
 
 // A command that has no argument yet.
-fn named<'a>(alloc: Global, name: &'a str, about: &'a str, more: &'a str) -> Command<'a>
+pub(crate) fn named<'a>(alloc: Global, name: &'a str, about: &'a str, more: &'a str) -> Command<'a>
     ensures app { app_of result ≡ new_app name.now }
     ensures local { (fields_of result).has_globals ≡ false }
 {

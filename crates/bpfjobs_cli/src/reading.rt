@@ -12,7 +12,7 @@ use clap::ArgMatches;
 use std::alloc::Global;
 
 // The number of an argument that has one, from low to high.
-fn number(matches: &ArgMatches<'_>, id: &str, low: u32, high: u32) -> u32
+pub(crate) fn number(matches: &ArgMatches<'_>, id: &str, low: u32, high: u32) -> u32
     requires { (n : ℕ) × IsNumberIn (rows_of (found_of matches.now)) id.now low high n }
     ensures { IsNumberIn (rows_of (found_of matches.now)) id.now low high result }
 {
@@ -33,7 +33,7 @@ fn flag(matches: &ArgMatches<'_>, id: &str) -> bool
 }
 
 // What is bounded.
-fn bounds(matches: &ArgMatches<'_>) -> Bounds
+pub(crate) fn bounds(matches: &ArgMatches<'_>) -> Bounds
     requires { (b : Bounds) × AreBoundsOf (rows_of (found_of matches.now)) b }
     ensures { AreBoundsOf (rows_of (found_of matches.now)) result }
 {
@@ -117,5 +117,21 @@ pub fn request<'a>(alloc: Global, words: &'a [String]) -> Result<Request<'a>, Us
             shown: shown_of(inner),
         }),
         None => unreachable!(),
+    }
+}
+
+/// The command that the words say, of which the first is the program's name: the subcommand and its
+/// numbers are those that clap's matches of the words give. Words that clap takes are refused only
+/// for want of memory.
+pub fn command(alloc: Global, words: Vec<String>) -> Result<Command, Usage>
+    ensures ok { IfOk result (λ command. (name : Text) × (rows : List Row)
+        × (subcommand_of bpfjobs_app (map string_bytes words.items) ≡ Some (name, rows))
+        × IsCommandOf name rows command) }
+    ensures range { IfOk result (λ command. IsInRange command) }
+    ensures err { IfErr result (λ usage. IsUsage usage (map string_bytes words.items)) }
+{
+    match request(alloc, &words) {
+        Ok(request) => Ok(request.command),
+        Err(usage) => Err(usage),
     }
 }

@@ -83,10 +83,29 @@ With any option from --clients on, it serves so many at once, and starts its thr
 Writes no output: clients send requests and get replies as frames.
 Status: 0 once so many connections have ended, 3 where one of them or the socket failed.
 
+With --socket PATH in place of --port it listens on a socket in the file system:
+`bpfjobs serve --socket PATH --help` tells more.
+
 Example:
   $ bpfjobs serve --port 7070 --sessions 1 &
   $ python3 examples/client.py 7070 grant t 100
   {\"balance\":100,\"granted\":100,\"ok\":true,\"open\":0,\"spent\":0}";
+
+pub(crate) const SERVE_LOCAL: &str = "Answers requests over a socket in the file system";
+
+pub(crate) const SERVE_LOCAL_MORE: &str =
+    "Takes connections on a Unix socket at PATH, with one desk of accounts and jobs.
+Who may write to PATH may connect: the umask says who that is. A socket at PATH on which
+nobody listens is removed first, and PATH is removed at the end.
+With --grants a grant of any other connection is answered by 73, and changes nothing.
+Status: 0 once so many connections have ended, 3 where one of them or a socket failed.
+
+Example:
+  $ bpfjobs serve --socket jobs --grants grants --sessions 1000 --clients 8 &";
+
+pub(crate) const SOCKET: &str = "The path of the socket to listen on";
+
+pub(crate) const GRANTS: &str = "The path of a second socket, which alone takes grants";
 
 pub(crate) const PORT: &str = "The port to listen on, 1 to 65535";
 

@@ -9,7 +9,9 @@ use crate::listener::Listener;
 use crate::stop_flag::ended_by;
 use crate::timed_reader::{TimedReader, Waiting};
 use accounts::Desk;
-use shared_desk::{NewHistory, Origin, SharedDesk, SharedHistory, serve_opened};
+use shared_desk::{
+    AllRequests, NewHistory, NoGrants, Origin, SharedDesk, SharedHistory, serve_opened,
+};
 use std::alloc::Global;
 use std::marker::Brand;
 use std::sync::{Mutex, Wait};
@@ -31,12 +33,36 @@ fn serve_turns<R: Wait + Clock, L: Listener + Drop, H: Handler<Desk>, J: Origin<
     waiting: Waiting<'_>,
 ) {
     for _ in rt.forever() {
-        let Some((stream, seat)) = entrance.lock(rt).next(history) else {
+        let Some((stream, seat, may_grant)) = entrance.lock(rt).next(history) else {
             return;
         };
         let mut reader = Tap::new(TimedReader::new(rt, &stream, waiting));
         let mut writer = Tap::new(&stream);
-        serve_opened(rt, alloc, history, lock, seat, &mut reader, &mut writer);
+        if may_grant {
+            let gate = &AllRequests;
+            serve_opened(
+                rt,
+                alloc,
+                history,
+                lock,
+                seat,
+                gate,
+                &mut reader,
+                &mut writer,
+            );
+        } else {
+            let gate = &NoGrants;
+            serve_opened(
+                rt,
+                alloc,
+                history,
+                lock,
+                seat,
+                gate,
+                &mut reader,
+                &mut writer,
+            );
+        }
     }
 }
 

@@ -73,6 +73,13 @@ mod serving_clients;
 pub use at_once::serve_at_once;
 pub use serving_clients::{serve_clients, serve_clients_on};
 
+// the same by sockets in the file system
+mod local_listener;
+mod serving_local;
+
+pub use local_listener::{GrantsListener, LocalListener, listen_at};
+pub use serving_local::serve_local_clients;
+
 // the commands of `bpfjobs`, with the one that runs a job on threads
 mod ends;
 mod run;

@@ -1,6 +1,6 @@
 //! What connections come from.
 
-ghost use Rattle.std.specs.Prelude.{OnOk, OnErr};
+ghost use Rattle.std.specs.Prelude.{◌≡◌, OnOk, OnErr};
 ghost use Rattle.job_server.specs.Passages.{passage_of};
 
 use std::net::{OpenListener, TcpStream};
@@ -8,7 +8,11 @@ use streams::{Failed, Tap};
 
 /// Gives connections, one after the other, and is told what went through each.
 pub trait Listener {
+    ghost use Rattle.std.specs.Prelude.{Bool};
     ghost use Rattle.job_server.specs.Visits.{Passage};
+
+    // Whether the connection that was taken last may grant.
+    ghost grants: { Self → Bool };
 
     // What a call may do, from a listener to the next: a connection came; none could be taken; what
     // went through one is noted.
@@ -23,6 +27,10 @@ pub trait Listener {
         ensures opens { OnOk result (opens self.old self.new) }
         ensures fails { OnErr result (fails self.old self.new) };
 
+    /// Whether the connection that was taken last may grant.
+    fn may_grant(&self) -> bool
+        ensures { result ≡ grants self.now };
+
     /// Is told of a connection that is over, by its two ends.
     fn note(&mut self, reader: &Tap<&TcpStream>, writer: &Tap<&TcpStream>)
         ensures { notes self.old (passage_of reader.now writer.now) self.new };
@@ -30,6 +38,10 @@ pub trait Listener {
 
 /// A listener of std, of whose connections nothing is known.
 impl<'a, L: OpenListener<Stream = TcpStream>> Listener for &'a L {
+    ghost use Rattle.std.specs.Prelude.{true};
+
+    ghost grants = { λ _. true };
+
     ghost opens = { λ _ _. Unit {0} };
 
     ghost fails = { λ _ _. Unit {0} };
@@ -45,6 +57,10 @@ impl<'a, L: OpenListener<Stream = TcpStream>> Listener for &'a L {
             }
             Err(_) => Err(Failed),
         }
+    }
+
+    fn may_grant(&self) -> bool {
+        true
     }
 
     fn note(&mut self, _reader: &Tap<&TcpStream>, _writer: &Tap<&TcpStream>) {}

@@ -24,6 +24,8 @@ impl<L: Listener + Drop> TimedListener<L> {
 }
 
 impl<L: Listener> Listener for TimedListener<L> {
+    ghost grants = { λ l. L.grants l.listener };
+
     ghost opens = { λ l m. L.opens l.listener m.listener };
 
     ghost fails = { λ l m. L.fails l.listener m.listener };
@@ -38,6 +40,10 @@ impl<L: Listener> Listener for TimedListener<L> {
             let _ = stream.set_write_timeout(Some(limit));
         }
         Ok(stream)
+    }
+
+    fn may_grant(&self) -> bool {
+        self.listener.may_grant()
     }
 
     fn note(&mut self, reader: &Tap<&TcpStream>, writer: &Tap<&TcpStream>) {

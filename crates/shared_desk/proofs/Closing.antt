@@ -34,15 +34,15 @@ told_more c cs now old count before outcome is told served number later =
     told_of (c ∷ cs) now count outcome is (all_more c cs served told.0, counted (length cs) old count told.1 number, later ∙ ap (λ (o : Result (Unit {0}) StreamFault). earlier_fault o c.outcome) told.2)
 
 -- a connection that was served from its beginning on, of which nothing was asked before
-pub served_from_nothing : {R W : Type 0} (read : R → List ℕ) (over read_failed : R → Bool) (written : W → List ℕ) (write_failed : W → Bool) (v w : (R × W) × ClientView) (outcome : Result ℕ StreamFault)
-    → IsServedClient read over read_failed written write_failed v w outcome → v.1.part ≡ [] → read v.0.0 ≡ [] → written v.0.1 ≡ []
-    → IsServedWhole (closed_of read over read_failed written write_failed w.1 w.0.0 w.0.1 outcome)
-served_from_nothing read over read_failed written write_failed v w outcome served no_part nothing_read nothing_written =
+pub served_from_nothing : {R W : Type 0} (may : Bool) (read : R → List ℕ) (over read_failed : R → Bool) (written : W → List ℕ) (write_failed : W → Bool) (v w : (R × W) × ClientView) (outcome : Result ℕ StreamFault)
+    → IsServedClient may read over read_failed written write_failed v w outcome → v.1.part ≡ [] → read v.0.0 ≡ [] → written v.0.1 ≡ []
+    → IsServedWhole (closed_of may read over read_failed written write_failed w.1 w.0.0 w.0.1 outcome)
+served_from_nothing may read over read_failed written write_failed v w outcome served no_part nothing_read nothing_written =
     let part : served.0 ≡ w.1.part = sym (served.1.more ∙ ap (λ (l : List Entry). l ++ served.0) no_part) in
     let bytes : served.2.bytes ≡ read w.0.0 = sym (served.2.came ∙ ap (λ (l : List ℕ). l ++ served.2.bytes) nothing_read) in
     subst Whole (λ i. (part i, (bytes i, nothing_written i))) served.2.replies
   where
     Whole : List Entry × (List ℕ × List ℕ) → Type 0
     Whole z = MatchResult outcome
-        (λ number. IsWritten z.0 z.1.0 z.1.1 (over w.0.0 ≡ true) number (written w.0.1) × (read_failed w.0.0 ≡ false) × (write_failed w.0.1 ≡ false))
-        (λ fault. IsWrittenUpTo fault z.0 z.1.0 z.1.1 (written w.0.1) × NamesTheEnd fault (read_failed w.0.0) (write_failed w.0.1))
+        (λ number. IsWritten may z.0 z.1.0 z.1.1 (over w.0.0 ≡ true) number (written w.0.1) × (read_failed w.0.0 ≡ false) × (write_failed w.0.1 ≡ false))
+        (λ fault. IsWrittenUpTo may fault z.0 z.1.0 z.1.1 (written w.0.1) × NamesTheEnd fault (read_failed w.0.0) (write_failed w.0.1))

@@ -11,6 +11,7 @@ use Rattle.streams.specs.Serves.{Serves, none_yet, one_more}
 use Rattle.streams.specs.Stops.{EndsWith, IsDue, IsPartWritten, IsServed, IsReadOut, IsCutOff, IsStarved, IsStoppedBy, between, ahead_of_reply}
 use Rattle.shared_desk.specs.Histories.{Entry, queries_of, replies_of, part_of}
 use Rattle.shared_desk.specs.ClientViews.{ClientView, Extends}
+use Rattle.shared_desk.specs.Grants.{admitted}
 use Rattle.shared_desk.specs.Answered.{IsSharedAnswer, entry_of}
 use Rattle.shared_desk.specs.Parts.{Asks, IsWritten, IsWrittenToTheFault, IsWrittenInPart, IsWrittenButOne, IsWrittenUpTo, NamesTheEnd, IsServedPart, IsServedClient}
 use Rattle.shared_desk.proofs.Parts.{prefix_self, prefix_trans}
@@ -40,33 +41,37 @@ extends_on v m w first second a b = record {
 
 -- ---- frames that ask, one after the other
 
-asks_one : (bytes : List ℕ) (queries : List (Result Asked ℕ)) (left payload rest : List ℕ) (query : Result Asked ℕ) → Asks bytes queries left → front left ≡ whole payload rest → Hears payload query → Asks bytes (queries ++ query ∷ []) rest
-asks_one bytes [] left payload rest query asked first heard = (payload, rest, ap front (sym asked) ∙ first, heard, refl)
-asks_one bytes (q ∷ qs) left payload rest query asked first heard = (asked.0, asked.1, asked.2, asked.3, asks_one asked.1 qs left payload rest query asked.4 first heard)
+asks_one : (may : Bool) (bytes : List ℕ) (queries : List (Result Asked ℕ)) (left payload rest : List ℕ) (query : Result Asked ℕ) → Asks may bytes queries left → front left ≡ whole payload rest
+    → Hears payload query → Asks may bytes (queries ++ admitted may query ∷ []) rest
+asks_one may bytes [] left payload rest query asked first heard = (payload, rest, query, ap front (sym asked) ∙ first, heard, refl, refl)
+asks_one may bytes (q ∷ qs) left payload rest query asked first heard =
+    (asked.0, asked.1, asked.2, asked.3, asked.4, asked.5, asks_one may asked.1 qs left payload rest query asked.6 first heard)
 
 -- more bytes change nothing
-asks_more : (bytes more : List ℕ) (queries : List (Result Asked ℕ)) (left : List ℕ) → Asks bytes queries left → Asks (bytes ++ more) queries (left ++ more)
-asks_more bytes more [] left asked = ap (λ (l : List ℕ). l ++ more) asked
-asks_more bytes more (q ∷ qs) left asked = (asked.0, asked.1 ++ more, front_stable bytes more asked.0 asked.1 asked.2, asked.3, asks_more asked.1 more qs left asked.4)
+asks_more : (may : Bool) (bytes more : List ℕ) (queries : List (Result Asked ℕ)) (left : List ℕ) → Asks may bytes queries left → Asks may (bytes ++ more) queries (left ++ more)
+asks_more may bytes more [] left asked = ap (λ (l : List ℕ). l ++ more) asked
+asks_more may bytes more (q ∷ qs) left asked =
+    (asked.0, asked.1 ++ more, asked.2, front_stable bytes more asked.0 asked.1 asked.3, asked.4, asked.5, asks_more may asked.1 more qs left asked.6)
 
-asks_on : (bytes : List ℕ) (first : List (Result Asked ℕ)) (mid : List ℕ) (second : List (Result Asked ℕ)) (left : List ℕ) → Asks bytes first mid → Asks mid second left → Asks bytes (first ++ second) left
-asks_on bytes [] mid second left asked later = subst (λ (b : List ℕ). Asks b second left) asked later
-asks_on bytes (q ∷ qs) mid second left asked later = (asked.0, asked.1, asked.2, asked.3, asks_on asked.1 qs mid second left asked.4 later)
+asks_on : (may : Bool) (bytes : List ℕ) (first : List (Result Asked ℕ)) (mid : List ℕ) (second : List (Result Asked ℕ)) (left : List ℕ) → Asks may bytes first mid → Asks may mid second left
+    → Asks may bytes (first ++ second) left
+asks_on may bytes [] mid second left asked later = subst (λ (b : List ℕ). Asks may b second left) asked later
+asks_on may bytes (q ∷ qs) mid second left asked later = (asked.0, asked.1, asked.2, asked.3, asked.4, asked.5, asks_on may asked.1 qs mid second left asked.6 later)
 
-asks_also : (bytes : List ℕ) (p q : List (Result Asked ℕ)) (left : List ℕ) → p ≡ q → Asks bytes p left → Asks bytes q left
-asks_also bytes p q left is asked = subst (λ (l : List (Result Asked ℕ)). Asks bytes l left) is asked
+asks_also : (may : Bool) (bytes : List ℕ) (p q : List (Result Asked ℕ)) (left : List ℕ) → p ≡ q → Asks may bytes p left → Asks may bytes q left
+asks_also may bytes p q left is asked = subst (λ (l : List (Result Asked ℕ)). Asks may bytes l left) is asked
 
 -- frames that are answered one after the other, by the entries of the answers
-record Entries (v : ClientView) (bytes before : List ℕ) (count : ℕ) (w : ClientView) (left out : List ℕ) : Type 0 where
+record Entries (may : Bool) (v : ClientView) (bytes before : List ℕ) (count : ℕ) (w : ClientView) (left out : List ℕ) : Type 0 where
   pub part : List Entry
   pub extends : Extends v part w
-  pub asked : Asks bytes (queries_of part) left
+  pub asked : Asks may bytes (queries_of part) left
   pub counts : length part ≡ count
   pub written : out ≡ before ++ replies_of part
 
-module _ {S : Type 0} (answers : S → Result Asked ℕ → List ℕ → S → Type 0) (begins : S → Type 0) where
+module _ {S : Type 0} (may : Bool) (answers : S → Result Asked ℕ → List ℕ → S → Type 0) (begins : S → Type 0) where
   abbrev pub shared : Unit {0} × ClientView → Result Asked ℕ → List ℕ → Unit {0} × ClientView → Type 0
-  shared s query reply t = IsSharedAnswer answers begins s.1 query reply t.1
+  shared s query reply t = IsSharedAnswer answers begins s.1 (admitted may query) reply t.1
 
   extends_one : (v : ClientView) (query : Result Asked ℕ) (reply : List ℕ) (w : ClientView) → IsSharedAnswer answers begins v query reply w → Extends v (entry_of v query reply ∷ []) w
   extends_one v query reply w answer = record {
@@ -76,16 +81,16 @@ module _ {S : Type 0} (answers : S → Result Asked ℕ → List ℕ → S → T
   }
 
   entries : (start : Unit {0} × ClientView) (bytes before : List ℕ) (count : ℕ) (end : Unit {0} × ClientView) (left out : List ℕ)
-      → Serves shared start bytes before count end left out → Entries start.1 bytes before count end.1 left out
+      → Serves shared start bytes before count end left out → Entries may start.1 bytes before count end.1 left out
   entries start bytes before count end left out none_yet =
       record { part = []; extends = extends_none start.1; asked = refl; counts = refl; written = sym (append-nil before) }
   entries start bytes before count end left out (one_more count1 s left1 out1 payload rest reply query t served first heard answer) =
       let r = entries start bytes before count1 s left1 out1 served in
-      let e = entry_of s.1 query reply in
+      let e = entry_of s.1 (admitted may query) reply in
       record {
         part = r.part ++ e ∷ [];
-        extends = extends_on start.1 s.1 t.1 r.part (e ∷ []) r.extends (extends_one s.1 query reply t.1 answer);
-        asked = asks_also bytes _ _ rest (sym (queries_append r.part (e ∷ []))) (asks_one bytes (queries_of r.part) left1 payload rest query r.asked first heard);
+        extends = extends_on start.1 s.1 t.1 r.part (e ∷ []) r.extends (extends_one s.1 (admitted may query) reply t.1 answer);
+        asked = asks_also may bytes _ _ rest (sym (queries_append r.part (e ∷ []))) (asks_one may bytes (queries_of r.part) left1 payload rest query r.asked first heard);
         counts = let grown : length (r.part ++ e ∷ []) ≡ length r.part + 1 = length-append r.part (e ∷ []) in let was = r.counts in omega arith;
         written = ap (λ (l : List ℕ). l ++ reply) r.written ∙ (append_assoc before (replies_of r.part) reply ∙ ap (λ (l : List ℕ). before ++ l) (sym (replies_one r.part e)));
       }
@@ -93,7 +98,7 @@ module _ {S : Type 0} (answers : S → Result Asked ℕ → List ℕ → S → T
   -- ---- a stream that ends, in each way
 
   written_of : (start : Unit {0} × ClientView) (bytes before : List ℕ) (over : Type 0) (end : Unit {0} × ClientView) (number : ℕ) (after : List ℕ)
-      → IsServed shared start bytes before over end number after → (part : List Entry) × Extends start.1 part end.1 × IsWritten part bytes before over number after
+      → IsServed shared start bytes before over end number after → (part : List Entry) × Extends start.1 part end.1 × IsWritten may part bytes before over number after
   written_of start bytes before over end number after st =
       let r = entries start bytes before st.count end st.left st.out st.frames in (
         r.part,
@@ -108,18 +113,18 @@ module _ {S : Type 0} (answers : S → Result Asked ℕ → List ℕ → S → T
       )
 
   read_out_of : (start : Unit {0} × ClientView) (bytes before : List ℕ) (end : Unit {0} × ClientView) (after : List ℕ)
-      → IsReadOut shared start bytes before end after → (part : List Entry) × Extends start.1 part end.1 × IsWrittenToTheFault part bytes before after
+      → IsReadOut shared start bytes before end after → (part : List Entry) × Extends start.1 part end.1 × IsWrittenToTheFault may part bytes before after
   read_out_of start bytes before end after st =
       let r = entries start bytes before st.count end st.left after st.frames in
       (r.part, r.extends, record { left = st.left; asked = r.asked; waits = st.waits; written = r.written })
 
   cut_off_of : (start : Unit {0} × ClientView) (bytes before : List ℕ) (end : Unit {0} × ClientView) (after : List ℕ)
-      → IsCutOff shared start bytes before end after → (part : List Entry) × Extends start.1 part end.1 × IsWrittenInPart part bytes before after
+      → IsCutOff shared start bytes before end after → (part : List Entry) × Extends start.1 part end.1 × IsWrittenInPart may part bytes before after
   cut_off_of start bytes before end after st =
       let stop = st.stop in
       let r = entries start st.early before st.count st.state st.left st.out st.frames in
       let q = entries st.state (st.left ++ st.piece) st.out stop.count end stop.left stop.out stop.frames in
-      let asked = asks_on (st.early ++ st.piece) (queries_of r.part) (st.left ++ st.piece) (queries_of q.part) stop.left (asks_more st.early st.piece (queries_of r.part) st.left r.asked) q.asked in
+      let asked = asks_on may (st.early ++ st.piece) (queries_of r.part) (st.left ++ st.piece) (queries_of q.part) stop.left (asks_more may st.early st.piece (queries_of r.part) st.left r.asked) q.asked in
       let due : stop.out ≡ before ++ replies_of (r.part ++ q.part) = q.written ∙ (ap (λ (l : List ℕ). l ++ replies_of q.part) r.written ∙ (append_assoc before (replies_of r.part) (replies_of q.part) ∙ ap (λ (l : List ℕ). before ++ l) (sym (replies_append r.part q.part)))) in (
         r.part ++ q.part,
         extends_on start.1 st.state.1 end.1 r.part q.part r.extends q.extends,
@@ -135,7 +140,7 @@ module _ {S : Type 0} (answers : S → Result Asked ℕ → List ℕ → S → T
           asked_early = r.asked;
           waits = st.waits;
           left = stop.left;
-          asked = subst (λ (b : List ℕ). Asks b (queries_of (r.part ++ q.part)) stop.left) (sym st.came) (asks_also (st.early ++ st.piece) _ _ stop.left (sym (queries_append r.part q.part)) asked);
+          asked = subst (λ (b : List ℕ). Asks may b (queries_of (r.part ++ q.part)) stop.left) (sym st.came) (asks_also may (st.early ++ st.piece) _ _ stop.left (sym (queries_append r.part q.part)) asked);
           due = stop.due;
           is_due = subst (λ (o : List ℕ). IsDue (front stop.left) o stop.due) due stop.is_due;
           cut = subst (λ (o : List ℕ). IsPartWritten o stop.due after) r.written stop.cut;
@@ -143,7 +148,7 @@ module _ {S : Type 0} (answers : S → Result Asked ℕ → List ℕ → S → T
       )
 
   starved_of : (start : Unit {0} × ClientView) (bytes before : List ℕ) (end : Unit {0} × ClientView) (after : List ℕ)
-      → IsStarved shared start bytes before end after → (part : List Entry) × Extends start.1 part end.1 × IsWrittenButOne part bytes before after
+      → IsStarved shared start bytes before end after → (part : List Entry) × Extends start.1 part end.1 × IsWrittenButOne may part bytes before after
   starved_of start bytes before end after (between count s left out served) =
       let r = entries start bytes before count s left out served in (
         r.part,
@@ -160,22 +165,22 @@ module _ {S : Type 0} (answers : S → Result Asked ℕ → List ℕ → S → T
       )
   starved_of start bytes before end after (ahead_of_reply count s left out payload rest reply query t served first heard answer) =
       let r = entries start bytes before count s left out served in
-      let e = entry_of s.1 query reply in (
+      let e = entry_of s.1 (admitted may query) reply in (
         r.part ++ e ∷ [],
-        extends_on start.1 s.1 t.1 r.part (e ∷ []) r.extends (extends_one s.1 query reply t.1 answer),
+        extends_on start.1 s.1 t.1 r.part (e ∷ []) r.extends (extends_one s.1 (admitted may query) reply t.1 answer),
         record {
           first = r.part;
           unwritten = e ∷ [];
           both = refl;
           one_at_most = omega arith;
           left = rest;
-          asked = asks_also bytes _ _ rest (sym (queries_append r.part (e ∷ []))) (asks_one bytes (queries_of r.part) left payload rest query r.asked first heard);
+          asked = asks_also may bytes _ _ rest (sym (queries_append r.part (e ∷ []))) (asks_one may bytes (queries_of r.part) left payload rest query r.asked first heard);
           written = r.written;
         },
       )
 
   given_up_of : (fault : StreamFault) (start : Unit {0} × ClientView) (bytes before : List ℕ) (end : Unit {0} × ClientView) (after : List ℕ)
-      → IsStoppedBy fault shared start bytes before end after → (part : List Entry) × Extends start.1 part end.1 × IsWrittenUpTo fault part bytes before after
+      → IsStoppedBy fault shared start bytes before end after → (part : List Entry) × Extends start.1 part end.1 × IsWrittenUpTo may fault part bytes before after
   given_up_of ReadFailed start bytes before end after st = read_out_of start bytes before end after st
   given_up_of WriteFailed start bytes before end after st = cut_off_of start bytes before end after st
   given_up_of NoMemory start bytes before end after st = starved_of start bytes before end after st
@@ -188,7 +193,7 @@ module _ {S : Type 0} (answers : S → Result Asked ℕ → List ℕ → S → T
       → (outcome ≡ Err ReadFailed → read_failed w.0.0 ≡ true)
       → (outcome ≡ Err WriteFailed → write_failed w.0.1 ≡ true)
       → (outcome ≡ Err NoMemory → (read_failed w.0.0 ≡ false) × (write_failed w.0.1 ≡ false))
-      → IsServedClient read over read_failed written write_failed v w outcome
+      → IsServedClient may read over read_failed written write_failed v w outcome
   served_client read over read_failed written write_failed v w (Ok number) ok err well reader writer memory =
       let r = written_of (tt, v.1) ok.0 (written v.0.1) (over w.0.0 ≡ true) (tt, w.1) number (written w.0.1) ok.2 in
       (r.0, r.1, record { bytes = ok.0; came = ok.1; replies = (r.2, well.0, well.1) })
@@ -202,9 +207,9 @@ module _ {S : Type 0} (answers : S → Result Asked ℕ → List ℕ → S → T
       named NoMemory o is by_reader by_writer by_memory = by_memory is
 
 -- a connection that began with no part, by its part of a whole history
-pub served_whole_part : {R W : Type 0} (read : R → List ℕ) (over read_failed : R → Bool) (written : W → List ℕ) (write_failed : W → Bool) (v w : (R × W) × ClientView) (outcome : Result ℕ StreamFault) (i : ℕ) (history : List Entry)
-    → IsServedClient read over read_failed written write_failed v w outcome → v.1.number ≡ i → v.1.part ≡ [] → part_of w.1.number history ≡ w.1.part → IsServedPart read over read_failed written write_failed v.0 (part_of i history) w.0 outcome
-served_whole_part read over read_failed written write_failed v w outcome i history served number none own =
+pub served_whole_part : {R W : Type 0} (may : Bool) (read : R → List ℕ) (over read_failed : R → Bool) (written : W → List ℕ) (write_failed : W → Bool) (v w : (R × W) × ClientView) (outcome : Result ℕ StreamFault) (i : ℕ) (history : List Entry)
+    → IsServedClient may read over read_failed written write_failed v w outcome → v.1.number ≡ i → v.1.part ≡ [] → part_of w.1.number history ≡ w.1.part → IsServedPart may read over read_failed written write_failed v.0 (part_of i history) w.0 outcome
+served_whole_part may read over read_failed written write_failed v w outcome i history served number none own =
     let more = served.1 in
     let is : part_of i history ≡ served.0 = ap (λ (n : ℕ). part_of n history) (sym (more.number ∙ number)) ∙ (own ∙ (more.more ∙ ap (λ (l : List Entry). l ++ served.0) none)) in
-    subst (λ (p : List Entry). IsServedPart read over read_failed written write_failed v.0 p w.0 outcome) (sym is) served.2
+    subst (λ (p : List Entry). IsServedPart may read over read_failed written write_failed v.0 p w.0 outcome) (sym is) served.2

@@ -18,14 +18,14 @@ AreClosed opened history (c ∷ cs) =
     (c.connection < opened) × (part_of c.connection history ≡ c.part)
     × (is_among c.connection cs ≡ false) × AreClosed opened history cs
 
--- What came asks the connection's part, and what was written are the replies of that part, in
--- order; or it was given up by a fault.
+-- What came asks the connection's part, where a grant is no request of one that may make none. What
+-- was written are the replies of that part, in order; or it was given up by a fault.
 abbrev pub IsServedWhole : ClosedConnection → Type 0
 IsServedWhole c =
     MatchResult c.outcome
-    (λ number. IsWritten c.part c.read [] (c.is_over ≡ true) number c.written
+    (λ number. IsWritten c.may_grant c.part c.read [] (c.is_over ≡ true) number c.written
     × (c.read_failed ≡ false) × (c.write_failed ≡ false))
-    (λ fault. IsWrittenUpTo fault c.part c.read [] c.written
+    (λ fault. IsWrittenUpTo c.may_grant fault c.part c.read [] c.written
     × NamesTheEnd fault c.read_failed c.write_failed)
 
 -- the fault that was there first, if there is one
@@ -41,10 +41,11 @@ first_fault [] = Ok tt
 first_fault (c ∷ cs) = earlier_fault (first_fault cs) c.outcome
 
 -- what is known of a connection, with its two ends, once it is over
-abbrev pub closed_of : {R W : Type 0} → (R → List ℕ) → (R → Bool) → (R → Bool) → (W → List ℕ)
-    → (W → Bool) → ClientView → R → W → Result ℕ StreamFault → ClosedConnection
-closed_of read over read_failed written write_failed v r w outcome = record {
+abbrev pub closed_of : {R W : Type 0} → Bool → (R → List ℕ) → (R → Bool) → (R → Bool)
+    → (W → List ℕ) → (W → Bool) → ClientView → R → W → Result ℕ StreamFault → ClosedConnection
+closed_of may_grant read over read_failed written write_failed v r w outcome = record {
   connection = v.number;
+  may_grant = may_grant;
   part = v.part;
   read = read r;
   is_over = over r;

@@ -1,3 +1,4 @@
+pub mod Grants
 pub mod Histories
 pub mod ClientViews
 pub mod Rule

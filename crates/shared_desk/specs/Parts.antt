@@ -8,36 +8,38 @@ use Rattle.streams.specs.declared.fault.StreamFault.{StreamFault}
 use Rattle.streams.specs.declared.fault.StreamFault.TheVariants.{ReadFailed, WriteFailed, NoMemory}
 use Rattle.shared_desk.specs.Histories.{Entry, queries_of, replies_of}
 use Rattle.shared_desk.specs.ClientViews.{ClientView, Extends}
+use Rattle.shared_desk.specs.Grants.{admitted}
 
--- The first frames of the bytes ask this, one after the other, and these bytes are left.
-abbrev pub Asks : List ℕ → List (Result Asked ℕ) → List ℕ → Type 0
-Asks bytes [] left = left ≡ bytes
-Asks bytes (query ∷ queries) left =
-    (payload rest : List ℕ) × (front bytes ≡ whole payload rest) × Hears payload query
-    × Asks rest queries left
+-- The first frames of the bytes ask this, one after the other, of a connection that may grant or
+-- not; and these bytes are left.
+abbrev pub Asks : Bool → List ℕ → List (Result Asked ℕ) → List ℕ → Type 0
+Asks may_grant bytes [] left = left ≡ bytes
+Asks may_grant bytes (query ∷ queries) left =
+    (payload rest : List ℕ) × (heard : Result Asked ℕ) × (front bytes ≡ whole payload rest)
+    × Hears payload heard × (query ≡ admitted may_grant heard) × Asks may_grant rest queries left
 
 -- Nothing failed: every frame of the bytes is asked in the part, and what was written are the
 -- replies of the part, in order, with one 71 behind them, where a length over the limit came.
-pub record IsWritten (part : List Entry) (bytes before : List ℕ) (over : Type 0) (number : ℕ)
+pub record IsWritten (may_grant : Bool) (part : List Entry) (bytes before : List ℕ) (over : Type 0) (number : ℕ)
     (after : List ℕ) : Type 0 where
   pub left : List ℕ
-  pub asked : Asks bytes (queries_of part) left
+  pub asked : Asks may_grant bytes (queries_of part) left
   pub counts : number ≡ min (length part) (2 ^ 64 - 1)
   pub last : EndsWith (front left) (before ++ replies_of part) after
   pub stops : StopsAt (front left) over bytes
 
 -- The reader failed: every frame that is whole in the bytes is asked in the part, and what was
 -- written are the whole replies of the part.
-pub record IsWrittenToTheFault (part : List Entry) (bytes before after : List ℕ) : Type 0 where
+pub record IsWrittenToTheFault (may_grant : Bool) (part : List Entry) (bytes before after : List ℕ) : Type 0 where
   pub left : List ℕ
-  pub asked : Asks bytes (queries_of part) left
+  pub asked : Asks may_grant bytes (queries_of part) left
   pub waits : front left ≡ partial
   pub written : after ≡ before ++ replies_of part
 
 -- The writer failed. The part begins with what was asked before the last piece came, of at most
 -- 4,096 bytes, and those replies are written. Of what is due to the rest of the part, with the last
 -- 71, a beginning is written, and not all.
-pub record IsWrittenInPart (part : List Entry) (bytes before after : List ℕ) : Type 0 where
+pub record IsWrittenInPart (may_grant : Bool) (part : List Entry) (bytes before after : List ℕ) : Type 0 where
   pub early : List ℕ
   pub piece : List ℕ
   pub came : bytes ≡ early ++ piece
@@ -46,30 +48,33 @@ pub record IsWrittenInPart (part : List Entry) (bytes before after : List ℕ) :
   pub rest : List Entry
   pub both : part ≡ first ++ rest
   pub waiting : List ℕ
-  pub asked_early : Asks early (queries_of first) waiting
+  pub asked_early : Asks may_grant early (queries_of first) waiting
   pub waits : front waiting ≡ partial
   pub left : List ℕ
-  pub asked : Asks bytes (queries_of part) left
+  pub asked : Asks may_grant bytes (queries_of part) left
   pub due : List ℕ
   pub is_due : IsDue (front left) (before ++ replies_of part) due
   pub cut : IsPartWritten (before ++ replies_of first) due after
 
 -- There was no memory. What was written are whole replies, of all of the part or of all but its
 -- last entry: that request was carried out, and nothing of its reply is written.
-pub record IsWrittenButOne (part : List Entry) (bytes before after : List ℕ) : Type 0 where
+pub record IsWrittenButOne (may_grant : Bool) (part : List Entry) (bytes before after : List ℕ) : Type 0 where
   pub first : List Entry
   pub unwritten : List Entry
   pub both : part ≡ first ++ unwritten
   pub one_at_most : length unwritten ≤ 1
   pub left : List ℕ
-  pub asked : Asks bytes (queries_of part) left
+  pub asked : Asks may_grant bytes (queries_of part) left
   pub written : after ≡ before ++ replies_of first
 
 -- what was written of a part, where the stream was given up by this
-abbrev pub IsWrittenUpTo : StreamFault → List Entry → List ℕ → List ℕ → List ℕ → Type 0
-IsWrittenUpTo ReadFailed part bytes before after = IsWrittenToTheFault part bytes before after
-IsWrittenUpTo WriteFailed part bytes before after = IsWrittenInPart part bytes before after
-IsWrittenUpTo NoMemory part bytes before after = IsWrittenButOne part bytes before after
+abbrev pub IsWrittenUpTo : Bool → StreamFault → List Entry → List ℕ → List ℕ → List ℕ → Type 0
+IsWrittenUpTo may_grant ReadFailed part bytes before after =
+    IsWrittenToTheFault may_grant part bytes before after
+IsWrittenUpTo may_grant WriteFailed part bytes before after =
+    IsWrittenInPart may_grant part bytes before after
+IsWrittenUpTo may_grant NoMemory part bytes before after =
+    IsWrittenButOne may_grant part bytes before after
 
 -- the fault names the end that failed, or neither did
 abbrev pub NamesTheEnd : StreamFault → Bool → Bool → Type 0
@@ -78,10 +83,10 @@ NamesTheEnd WriteFailed reader_failed writer_failed = writer_failed ≡ true
 NamesTheEnd NoMemory reader_failed writer_failed =
     (reader_failed ≡ false) × (writer_failed ≡ false)
 
--- what contracts see of the two ends of a connection: what was read, whether that was all and
--- whether a read failed; what was written, and whether a write failed
-module _ {R W : Type 0} (read : R → List ℕ) (over read_failed : R → Bool) (written : W → List ℕ)
-    (write_failed : W → Bool) where
+-- of a connection that may grant or not, what contracts see of its two ends: what was read, whether
+-- that was all and whether a read failed; what was written, and whether a write failed
+module _ {R W : Type 0} (may_grant : Bool) (read : R → List ℕ) (over read_failed : R → Bool)
+    (written : W → List ℕ) (write_failed : W → Bool) where
   -- Between two states of a connection's ends, what came asks this part of the history, and what
   -- was written are its replies.
   pub record IsServedPart (v : R × W) (part : List Entry) (w : R × W)
@@ -89,9 +94,9 @@ module _ {R W : Type 0} (read : R → List ℕ) (over read_failed : R → Bool) 
     pub bytes : List ℕ
     pub came : read w.0 ≡ read v.0 ++ bytes
     pub replies : MatchResult outcome
-        (λ number. IsWritten part bytes (written v.1) (over w.0 ≡ true) number (written w.1)
+        (λ number. IsWritten may_grant part bytes (written v.1) (over w.0 ≡ true) number (written w.1)
         × (read_failed w.0 ≡ false) × (write_failed w.1 ≡ false))
-        (λ fault. IsWrittenUpTo fault part bytes (written v.1) (written w.1)
+        (λ fault. IsWrittenUpTo may_grant fault part bytes (written v.1) (written w.1)
         × NamesTheEnd fault (read_failed w.0) (write_failed w.1))
 
   -- the connection's part is longer by what is served between these states of its ends

@@ -1,5 +1,5 @@
 -- Connections that are served at once at one desk, from its first request on.
-use Rattle.std.specs.Prelude.{◌≡◌, ℕ, ◌+◌, ◌<◌, ◌≤◌, List, [], ◌∷◌, length, slice_index_or, Bool, false, Result, IfOk, Vec}
+use Rattle.std.specs.Prelude.{◌≡◌, ℕ, ◌+◌, ◌<◌, ◌≤◌, List, [], ◌∷◌, length, slice_index_or, Bool, true, false, Result, IfOk, Vec}
 use Rattle.std.specs.declared.alloc.Global.{Global}
 use Rattle.refusal.specs.declared.NoMemory.{NoMemory}
 use Rattle.sessions.specs.Grammar.{Asked}
@@ -29,7 +29,7 @@ module _ {R W : Type 0} (read : R → List ℕ) (over read_failed : R → Bool) 
   abbrev pub AreServedParts : List Entry → List (R × W) → List (ServedEnds R W) → Type 0
   AreServedParts history ends served =
       (length served ≡ length ends) × ((i : ℕ) (d : R × W) (e : ServedEnds R W) → i < length ends
-      → IsServedPart read over read_failed written write_failed (slice_index_or ends i d)
+      → IsServedPart true read over read_failed written write_failed (slice_index_or ends i d)
       (part_of i history) ((slice_index_or served i e).reader, (slice_index_or served i e).writer)
       (slice_index_or served i e).outcome)
 

@@ -5,26 +5,28 @@ ghost use Rattle.shared_desk.specs.Histories.{Replays, part_of};
 ghost use Rattle.shared_desk.specs.Parts.{IsServedClient};
 
 use crate::desk::SharedDesk;
+use crate::gate::Gate;
 use crate::seats::Origin;
 use crate::shared_history::{ClientSeat, SharedHistory};
 use refusal::NoMemory;
 use sessions::Request;
 use std::alloc::Global;
-use std::marker::Model;
+use std::marker::{Model, PhantomData};
 use std::sync::{Mutex, Wait};
 use streams::{Handler, Sink, Source, StreamFault, serve_stream};
 
-/// Answers one connection's requests at the shared desk, each under the lock. Contracts see it as
-/// what the connection knows of the history.
+/// Answers one connection's requests at the shared desk, each under the lock, where they pass the
+/// gate. Contracts see it as what the connection knows of the history.
 #[derive(Drop)]
-pub struct Client<'a, R, D, H: Handler<D>, J: Origin<D, H>> {
+pub struct Client<'a, R, D, H: Handler<D>, J: Origin<D, H>, G: Gate> {
     rt: &'a R,
     history: &'a SharedHistory<J>,
     lock: &'a Mutex<SharedDesk<D, H, J>>,
     seat: ClientSeat<J>,
+    of: PhantomData<G>,
 }
 
-impl<'a, R, D, H: Handler<D>, J: Origin<D, H>> Model for Client<'a, R, D, H, J> {
+impl<'a, R, D, H: Handler<D>, J: Origin<D, H>, G: Gate> Model for Client<'a, R, D, H, J, G> {
     ghost use Rattle.std.specs.Prelude.{◌≡◌};
     ghost use Rattle.shared_desk.specs.ClientViews.{ClientView};
     ghost use Rattle.shared_desk.specs.Histories.{Replays, part_of};
@@ -37,14 +39,14 @@ impl<'a, R, D, H: Handler<D>, J: Origin<D, H>> Model for Client<'a, R, D, H, J> 
         × (part_of c.seat.number c.seat.seen ≡ c.seat.part) };
 }
 
-impl<'a, R, D, H: Handler<D>, J: Origin<D, H>> Client<'a, R, D, H, J> {
+impl<'a, R, D, H: Handler<D>, J: Origin<D, H>, G: Gate> Client<'a, R, D, H, J, G> {
     /// A connection that has seen a legal history.
     pub fn of(
         rt: &'a R,
         history: &'a SharedHistory<J>,
         lock: &'a Mutex<SharedDesk<D, H, J>>,
         seat: ClientSeat<J>,
-    ) -> Client<'a, R, D, H, J>
+    ) -> Client<'a, R, D, H, J, G>
         requires legal { (s : D × H) × Replays H.answers J.begins seat.seen s }
         requires own { part_of seat.number seat.seen ≡ seat.part }
         ensures { result ≡ seat }
@@ -54,6 +56,7 @@ impl<'a, R, D, H: Handler<D>, J: Origin<D, H>> Client<'a, R, D, H, J> {
             history,
             lock,
             seat,
+            of: PhantomData,
         }
     }
 
@@ -68,14 +71,14 @@ impl<'a, R, D, H: Handler<D>, J: Origin<D, H>> Client<'a, R, D, H, J> {
     }
 }
 
-impl<'a, R: Wait, D, H: Handler<D>, J: Origin<D, H>> Client<'a, R, D, H, J> {
+impl<'a, R: Wait, D, H: Handler<D>, J: Origin<D, H>, G: Gate> Client<'a, R, D, H, J, G> {
     /// A connection that was opened. It sees all that was answered so far.
     pub fn new(
         rt: &'a R,
         history: &'a SharedHistory<J>,
         lock: &'a Mutex<SharedDesk<D, H, J>>,
         mut seat: ClientSeat<J>,
-    ) -> Client<'a, R, D, H, J>
+    ) -> Client<'a, R, D, H, J, G>
         ensures { (result.number ≡ seat.number) × (result.part ≡ seat.part) }
     {
         lock.lock(rt).look(history, &mut seat);
@@ -83,13 +86,15 @@ impl<'a, R: Wait, D, H: Handler<D>, J: Origin<D, H>> Client<'a, R, D, H, J> {
     }
 }
 
-impl<R: Wait, D, H: Handler<D>, J: Origin<D, H>> Handler<()> for Client<'_, R, D, H, J> {
+impl<R: Wait, D, H: Handler<D>, J: Origin<D, H>, G: Gate> Handler<()>
+    for Client<'_, R, D, H, J, G> {
     ghost use Rattle.shared_desk.specs.Answered.{IsSharedAnswer};
+    ghost use Rattle.shared_desk.specs.Grants.{admitted};
 
     ghost ready = { λ _. Unit {0} };
 
     ghost answers = { λ s query reply t.
-        IsSharedAnswer H.answers J.begins s.1 query reply t.1 };
+        IsSharedAnswer H.answers J.begins s.1 (admitted G.may_grant query) reply t.1 };
 
     fn answer(
         &mut self,
@@ -97,28 +102,29 @@ impl<R: Wait, D, H: Handler<D>, J: Origin<D, H>> Handler<()> for Client<'_, R, D
         _desk: &mut (),
         request: Result<Request, u8>,
     ) -> Result<Vec<u8>, NoMemory> {
+        let admitted = G::admit(request);
         self.lock
             .lock(self.rt)
-            .answer(self.history, &mut self.seat, alloc, request)
+            .answer(self.history, &mut self.seat, alloc, admitted)
     }
 }
 
-/// Serves a connection's stream, as `serve_stream` does. What came asks the connection's own part
-/// of the history, and what was written are the replies of that part, in order.
+/// Serves a connection's stream, as `serve_stream` does. What came and passes the gate asks the
+/// connection's own part of the history, and what was written are the replies of that part, in order.
 ///
 /// 83 where the reader failed: all replies of the part are written. 84 where the writer failed: a
 /// beginning of them. 99 where there was no memory, and neither failed: all of them, or all but the
 /// last one.
-pub fn serve_client<S: Source, W: Sink, R: Wait, D, H: Handler<D>, J: Origin<D, H>>(
+pub fn serve_client<S: Source, W: Sink, R: Wait, D, H: Handler<D>, J: Origin<D, H>, G: Gate>(
     alloc: Global,
     reader: &mut S,
     writer: &mut W,
-    client: &mut Client<'_, R, D, H, J>,
+    client: &mut Client<'_, R, D, H, J, G>,
 ) -> Result<u64, StreamFault>
     requires source { S.has_failed reader.old ≡ false }
     requires sink { W.has_failed writer.old ≡ false }
-    ensures served { IsServedClient S.transcript S.is_over S.has_failed W.transcript W.has_failed
-        ((reader.old, writer.old), client.old) ((reader.new, writer.new), client.new) result }
+    ensures served { IsServedClient G.may_grant S.transcript S.is_over S.has_failed W.transcript
+        W.has_failed ((reader.old, writer.old), client.old) ((reader.new, writer.new), client.new) result }
     ensures legal { (s : D × H) × Replays H.answers J.begins client.new.seen s }
     ensures own { part_of client.new.number client.new.seen ≡ client.new.part }
 {
@@ -127,14 +133,15 @@ pub fn serve_client<S: Source, W: Sink, R: Wait, D, H: Handler<D>, J: Origin<D, 
     served
 }
 
-/// Serves a connection that was opened, of which nothing came and nothing was written yet, and
-/// closes it: the history then has its part, and what went through its ends.
-pub fn serve_opened<S: Source, W: Sink, R: Wait, D, H: Handler<D>, J: Origin<D, H>>(
+/// Serves a connection that was opened, of which nothing came and nothing was written yet, through
+/// its gate, and closes it: the history then has its part, and what went through its ends.
+pub fn serve_opened<G: Gate, S: Source, W: Sink, R: Wait, D, H: Handler<D>, J: Origin<D, H>>(
     rt: &R,
     alloc: Global,
     history: &SharedHistory<J>,
     lock: &Mutex<SharedDesk<D, H, J>>,
     seat: ClientSeat<J>,
+    gate: &G,
     reader: &mut S,
     writer: &mut W,
 )
@@ -142,8 +149,9 @@ pub fn serve_opened<S: Source, W: Sink, R: Wait, D, H: Handler<D>, J: Origin<D, 
     requires sink { (W.has_failed writer.old ≡ false) × (W.transcript writer.old ≡ []) }
     requires fresh { seat.part ≡ [] }
 {
-    let mut client = Client::new(rt, history, lock, seat);
+    let mut client: Client<'_, R, D, H, J, G> = Client::new(rt, history, lock, seat);
     let outcome = serve_client(alloc, reader, writer, &mut client);
     let seat = client.into_seat();
-    lock.lock(rt).close(history, seat, reader, writer, &outcome);
+    lock.lock(rt)
+        .close(history, seat, gate, reader, writer, &outcome);
 }

@@ -1,11 +1,12 @@
 //! Many connections at once, each in a thread.
 
-ghost use Rattle.std.specs.Prelude.{◌≡◌, ◌<◌, ◌≤◌, ◌+◌, [], false, ℕ, IfOk, length, vec_len, slice_index_or};
+ghost use Rattle.std.specs.Prelude.{◌≡◌, ◌<◌, ◌≤◌, ◌+◌, [], true, false, ℕ, IfOk, length, vec_len, slice_index_or};
 ghost use Rattle.shared_desk.specs.Histories.{Replays, part_of};
 ghost use Rattle.shared_desk.specs.Parts.{IsServedClient, IsServedPart};
 
 use crate::client::{Client, serve_client};
 use crate::desk::SharedDesk;
+use crate::gate::AllRequests;
 use crate::seats::{HistoryId, Origin};
 use crate::shared_history::{ClientSeat, Opener, SharedHistory};
 use refusal::NoMemory;
@@ -84,7 +85,7 @@ pub fn serve_connection<S: Source, W: Sink, R: Wait, D, H: Handler<D>, J: Origin
     lock: &Mutex<SharedDesk<D, H, J>>,
     connection: Connection<S, W, D, H, J>,
 ) -> ServedConnection<S, W, J>
-    ensures { IsServedClient S.transcript S.is_over S.has_failed W.transcript W.has_failed
+    ensures { IsServedClient true S.transcript S.is_over S.has_failed W.transcript W.has_failed
         connection ((result.reader, result.writer), result.seat) result.outcome }
 {
     let Connection {
@@ -93,7 +94,7 @@ pub fn serve_connection<S: Source, W: Sink, R: Wait, D, H: Handler<D>, J: Origin
         seat,
         of: _,
     } = connection;
-    let mut client = Client::of(rt, history, lock, seat);
+    let mut client: Client<'_, R, D, H, J, AllRequests> = Client::of(rt, history, lock, seat);
     let outcome = serve_client(alloc, &mut reader, &mut writer, &mut client);
     let seat = client.into_seat();
     ServedConnection {
@@ -155,7 +156,7 @@ pub fn serve_all<
     ensures others { (n : ℕ) → vec_len connections ≤ n → part_of n result.0.1 ≡ [] }
     ensures count { IfOk result.1 (λ served. vec_len served ≡ vec_len connections) }
     ensures parts { IfOk result.1 (λ served. (i : ℕ) (d : _) (e : _) → i < vec_len connections
-        → IsServedPart S.transcript S.is_over S.has_failed W.transcript W.has_failed
+        → IsServedPart true S.transcript S.is_over S.has_failed W.transcript W.has_failed
         (slice_index_or connections.items i d).0 (part_of i result.0.1)
         ((slice_index_or served.items i e).reader, (slice_index_or served.items i e).writer)
         (slice_index_or served.items i e).outcome) }
@@ -163,7 +164,7 @@ pub fn serve_all<
     let lock = Mutex::new(shared);
     let shared = &lock;
     let serve = |connection: Connection<S, W, D, H, J>| -> ServedConnection<S, W, J>
-        ensures { IsServedClient S.transcript S.is_over S.has_failed W.transcript
+        ensures { IsServedClient true S.transcript S.is_over S.has_failed W.transcript
             W.has_failed connection ((result.reader, result.writer), result.seat) result.outcome }
     { serve_connection(rt, alloc, history, shared, connection) };
     let answered = thread::map_vec(rt, connections, &serve);

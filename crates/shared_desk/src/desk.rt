@@ -7,6 +7,7 @@ ghost use Rattle.shared_desk.specs.Histories.{Replays, part_of};
 ghost use Rattle.shared_desk.specs.Answered.{IsSharedAnswer};
 ghost use Rattle.shared_desk.specs.Closed as closed;
 
+use crate::gate::Gate;
 use crate::seats::Origin;
 use crate::shared_history::{ClientSeat, Opener, Recorder, SharedHistory};
 use refusal::NoMemory;
@@ -124,21 +125,23 @@ impl<D, H: Handler<D>, J: Origin<D, H>> SharedDesk<D, H, J> {
         reply
     }
 
-    /// A connection is over: its seat, its two ends, and how its stream ended.
-    pub fn close<S: Source, W: Sink>(
+    /// A connection is over: its gate, its seat, its two ends, and how its stream ended.
+    pub fn close<G: Gate, S: Source, W: Sink>(
         &mut self,
         history: &SharedHistory<J>,
         seat: ClientSeat<J>,
+        gate: &G,
         reader: &S,
         writer: &W,
         outcome: &Result<u64, StreamFault>,
     )
-        requires served { closed.IsServedWhole (closed.closed_of S.transcript S.is_over S.has_failed
-            W.transcript W.has_failed seat reader.now writer.now outcome.now) }
+        requires served { closed.IsServedWhole (closed.closed_of G.may_grant S.transcript S.is_over
+            S.has_failed W.transcript W.has_failed seat reader.now writer.now outcome.now) }
         ensures same { (self.new.0 ≡ self.old.0) × (self.new.1 ≡ self.old.1) }
-        ensures over { self.new.2 ≡ closed.closed_of S.transcript S.is_over S.has_failed
+        ensures over { self.new.2 ≡ closed.closed_of G.may_grant S.transcript S.is_over S.has_failed
             W.transcript W.has_failed seat reader.now writer.now outcome.now ∷ self.old.2 }
     {
+        let _ = gate;
         history.close::<Brand, S, W>(seat, &mut self.recorder, reader, writer, outcome);
         self.outcome = earlier_fault(self.outcome, outcome);
         self.over = self.over.saturating_add(1);

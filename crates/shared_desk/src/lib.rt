@@ -17,9 +17,11 @@ pub use shared_history::{ClientSeat, NewHistory, Opener, Recorder, SharedHistory
 // what lies under the lock, and one connection's way to it
 mod client;
 mod desk;
+mod gate;
 
 pub use client::{Client, serve_client, serve_opened};
 pub use desk::SharedDesk;
+pub use gate::{AllRequests, Gate, NoGrants};
 
 // many connections at once
 mod connections;

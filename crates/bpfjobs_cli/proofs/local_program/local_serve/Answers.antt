@@ -1,0 +1,29 @@
+use Rattle.std.proofs.Common.{Bool, ◌||◌, ap₂, ◌∙◌}
+use Rattle.std.proofs.lemmas.Result.{IfOk-weaker}
+use Rattle.clap.specs.Words.{with_rule}
+use Rattle.bpfjobs_cli.proofs.local_program.local_serve.Goals as goal
+
+pub returns-clause-app : goal.returns-clause-app
+returns-clause-app c =
+    let first = c.in_ok-arg.ensures.shape c.socket.ensures.local ∙ ap₂ with_rule c.named.ensures.app c.socket.ensures.rule in
+    let second = c.in_ok-arg-2.ensures.shape c.grants.ensures.local ∙ ap₂ with_rule first c.grants.ensures.rule in
+    let third = c.in_ok-arg-3.ensures.shape c.workers.ensures.local ∙ ap₂ with_rule second c.workers.ensures.rule in
+    let fourth = c.in_ok-arg-4.ensures.shape c.sessions.ensures.local ∙ ap₂ with_rule third c.sessions.ensures.rule in
+    let fifth = c.in_ok-arg-5.ensures.shape c.clients.ensures.local ∙ ap₂ with_rule fourth c.clients.ensures.rule in
+    let sixth = c.in_ok-arg-6.ensures.shape c.timeout.ensures.local ∙ ap₂ with_rule fifth c.timeout.ensures.rule in
+    let seventh = c.in_ok-arg-7.ensures.shape c.open_jobs.ensures.local ∙ ap₂ with_rule sixth c.open_jobs.ensures.rule in
+    let eighth = c.in_ok-arg-8.ensures.shape c.keep.ensures.local ∙ ap₂ with_rule seventh c.keep.ensures.rule in
+    IfOk-weaker c.arg-9.result _ _ (λ r h. h.shape c.until_eof.ensures.local ∙ ap₂ with_rule eighth c.until_eof.ensures.rule) c.arg-9.ensures
+
+pub returns-clause-local : goal.returns-clause-local
+returns-clause-local c =
+    let either : Bool → Bool → Bool = λ a b. a || b in
+    let first = c.in_ok-arg.ensures.globals ∙ ap₂ either c.named.ensures.local c.socket.ensures.local in
+    let second = c.in_ok-arg-2.ensures.globals ∙ ap₂ either first c.grants.ensures.local in
+    let third = c.in_ok-arg-3.ensures.globals ∙ ap₂ either second c.workers.ensures.local in
+    let fourth = c.in_ok-arg-4.ensures.globals ∙ ap₂ either third c.sessions.ensures.local in
+    let fifth = c.in_ok-arg-5.ensures.globals ∙ ap₂ either fourth c.clients.ensures.local in
+    let sixth = c.in_ok-arg-6.ensures.globals ∙ ap₂ either fifth c.timeout.ensures.local in
+    let seventh = c.in_ok-arg-7.ensures.globals ∙ ap₂ either sixth c.open_jobs.ensures.local in
+    let eighth = c.in_ok-arg-8.ensures.globals ∙ ap₂ either seventh c.keep.ensures.local in
+    IfOk-weaker c.arg-9.result _ _ (λ r h. h.globals ∙ ap₂ either eighth c.until_eof.ensures.local) c.arg-9.ensures

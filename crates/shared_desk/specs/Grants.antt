@@ -1,0 +1,13 @@
+-- Which requests of a connection come to the desk: grants of some connections alone.
+use Rattle.std.specs.Prelude.{ℕ, Bool, true, false, Result, Ok, Err}
+use Rattle.sessions.specs.Grammar.{Asked, grant, account, submit, status, result}
+
+-- A grant of a connection that may make none is no request: 73. Everything else is as it was asked.
+abbrev pub admitted : Bool → Result Asked ℕ → Result Asked ℕ
+admitted true query = query
+admitted false (Ok (grant name amount)) = Err 73
+admitted false (Ok (account name)) = Ok (account name)
+admitted false (Ok (submit name job)) = Ok (submit name job)
+admitted false (Ok (status number)) = Ok (status number)
+admitted false (Ok (result number)) = Ok (result number)
+admitted false (Err code) = Err code
