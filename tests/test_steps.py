@@ -111,7 +111,7 @@ class Traces(unittest.TestCase):
 
     def test_random_jobs(self):
         chance = random.Random(7)
-        for number in range(200):
+        for number in range(60):
             with self.subTest(number):
                 self.check(*drawn_job(chance))
 
@@ -205,7 +205,7 @@ class Trees(unittest.TestCase):
 
     def test_random_jobs(self):
         chance = random.Random(8)
-        for number in range(100):
+        for number in range(60):
             with self.subTest(number):
                 programs, credit, buffer, _ = drawn_job(chance)
                 self.check(programs, credit, buffer)
