@@ -1,10 +1,12 @@
 """Rows of command lines: words, input or files, the status and what is printed. ` / ` ends a line."""
 
 import os
+import pty
+import subprocess
 import tempfile
 import unittest
 
-from programs import BPFJOBS, BPFRUN, Server, may_listen, told
+from programs import BPFJOBS, BPFRUN, TOP, Server, may_listen, told
 from rows import fields
 
 
@@ -68,6 +70,39 @@ class Commands(unittest.TestCase):
         for name, content in names.items():
             with open(os.path.join(room, name), "wb") as out:
                 out.write(content)
+
+
+class Colours(unittest.TestCase):
+    """Nothing is coloured, on a terminal neither: no escape comes."""
+
+    WORDS = {
+        BPFJOBS: ["--help", "help play", "run --help", "nothing", "verify", "--version"],
+        BPFRUN: ["--help", "--nothing", "--version", "examples/byte_at.bpf --need 15 --explain", "nowhere.bpf"],
+    }
+
+    def on_a_terminal(self, program, words):
+        ours, theirs = pty.openpty()
+        with open(ours, "rb", buffering=0) as told:
+            with subprocess.Popen([program, *words], stdin=subprocess.DEVNULL, stdout=theirs, stderr=theirs, cwd=TOP):
+                os.close(theirs)
+                pieces = []
+                while True:
+                    try:
+                        piece = told.read(4096)
+                    except OSError:
+                        break
+                    if not piece:
+                        break
+                    pieces.append(piece)
+        return b"".join(pieces)
+
+    def test_no_escape(self):
+        for program, lines in self.WORDS.items():
+            for line in lines:
+                with self.subTest(program=program, words=line):
+                    told = self.on_a_terminal(program, line.split())
+                    self.assertTrue(told)
+                    self.assertNotIn(b"\x1b", told)
 
 
 if __name__ == "__main__":

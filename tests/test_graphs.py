@@ -1,4 +1,4 @@
-"""Graphs of programs: their boxes and edges are those of the plain model, and `docs/filter.svg` is what `dot` makes of one."""
+"""Graphs of programs: their boxes and edges are those of the plain model, and `docs/filter.svg` and `docs/spawn.svg` are what `dot` makes of one and of a tree."""
 
 import re
 import shutil
@@ -9,7 +9,7 @@ from collections import Counter
 from pathlib import Path
 
 from instructions import costs, decode, successors
-from programs import BPFRUN, TOP, assemble, told
+from programs import BPFJOBS, BPFRUN, TOP, assemble, told
 from test_random import Writer
 
 DOCS = Path(TOP) / "docs"
@@ -90,13 +90,14 @@ class Drawings(unittest.TestCase):
                 with self.subTest(program=program.name, need=need):
                     self.assertIn("<svg", draw.drawing(draw.graph(BPFRUN, program, need)))
 
-    def test_the_drawing_of_the_pages(self):
-        kept = draw.DRAWN.read_text(encoding="utf-8")
-        made = draw.drawing(draw.graph(BPFRUN))
+    def test_the_drawings_of_the_pages(self):
         version = re.compile(r"graphviz version (\S+)")
-        if version.findall(kept) != version.findall(made):
-            self.skipTest(f"docs/filter.svg is by another dot: {version.findall(kept)}")
-        self.assertEqual(kept, made)
+        for drawn, text in ((draw.DRAWN, draw.graph(BPFRUN)), (draw.DRAWN_TREE, draw.tree(BPFJOBS))):
+            with self.subTest(drawn.name):
+                kept, made = drawn.read_text(encoding="utf-8"), draw.drawing(text)
+                if version.findall(kept) != version.findall(made):
+                    self.skipTest(f"{drawn.name} is by another dot: {version.findall(kept)}")
+                self.assertEqual(kept, made)
 
 
 if __name__ == "__main__":

@@ -48,7 +48,8 @@ class Manual(unittest.TestCase):
     def test_the_version_is_that_of_the_library(self):
         told = (Path(programs.TOP) / "bindings/rust/Cargo.toml").read_text(encoding="utf-8")
         version = re.search(r'^version = "(.*)"$', told, re.MULTILINE).group(1)
-        self.assertEqual(programs.told(programs.BPFRUN, ["--version"]), (0, f"bpfrun {version}\n"))
+        for name, program in PROGRAMS.items():
+            self.assertEqual(programs.told(program, ["--version"]), (0, f"{name} {version}\n"))
 
     @unittest.skipUnless(shutil.which("man"), "there is no man")
     def test_the_pages_are_read_without_a_warning(self):

@@ -3,7 +3,7 @@ _bpfjobs() {
     local word=${COMP_WORDS[COMP_CWORD]} previous=${COMP_WORDS[COMP_CWORD - 1]}
     COMPREPLY=()
     if ((COMP_CWORD == 1)); then
-        mapfile -t COMPREPLY < <(compgen -W "assemble disassemble verify play run serve help --help" -- "$word")
+        mapfile -t COMPREPLY < <(compgen -W "assemble disassemble verify play run serve help --help --version" -- "$word")
         return
     fi
     case ${COMP_WORDS[1]} in
@@ -20,13 +20,17 @@ _bpfjobs() {
         mapfile -t COMPREPLY < <(compgen -W "--need --help" -- "$word")
         ;;
     play)
-        mapfile -t COMPREPLY < <(compgen -W "--help" -- "$word")
+        case $previous in
+        --trace-json) mapfile -t COMPREPLY < <(compgen -f -- "$word"); return ;;
+        esac
+        mapfile -t COMPREPLY < <(compgen -W "--trace --trace-json --help" -- "$word")
         ;;
     run)
         case $previous in
+        --tree) mapfile -t COMPREPLY < <(compgen -f -- "$word"); return ;;
         --workers) return ;;
         esac
-        mapfile -t COMPREPLY < <(compgen -W "--workers --help" -- "$word")
+        mapfile -t COMPREPLY < <(compgen -W "--workers --tree --help" -- "$word")
         ;;
     serve)
         case $previous in
