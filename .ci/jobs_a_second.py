@@ -86,6 +86,10 @@ class Connection:
         (length,) = struct.unpack(">I", self.replies.read(4))
         return json.loads(self.replies.read(length))
 
+    def close(self):
+        self.replies.close()
+        self.stream.close()
+
     def ask(self, request):
         self.stream.sendall(frame(request))
         return self.reply()
@@ -158,14 +162,14 @@ def redis_rate(port, in_flight, total):
 def beside_redis(program, rounds):
     port = free_port()
     with subprocess.Popen(["redis-server", "--port", str(port), "--save", "", "--appendonly", "no"], stdout=subprocess.DEVNULL) as redis:
-        Connection(port).stream.close()
+        Connection(port).close()
         server, connection = started(program, SERVERS["workers that last"])
         connection.ask({"op": "grant", "tenant": "t", "amount": 100})
         for in_flight, total in CASES:
             ours = max(account_rate(connection, in_flight, total) for _ in range(rounds))
             theirs = max(redis_rate(port, in_flight, total) for _ in range(rounds))
             print(f"{in_flight} in flight: {ours:,.0f} accounts a second, {theirs:,.0f} INCR a second by redis-server")
-        connection.stream.close()
+        connection.close()
         server.wait(60)
         redis.terminate()
 
@@ -184,7 +188,7 @@ def main():
         print(f"{name}: {max(rates):,.0f} small jobs a second, {IN_FLIGHT} in flight")
         times = [one_job(connection, large) for _ in range(words.rounds)]
         print(f"{name}: {min(times)[0] * 1000:,.0f} ms for a job of {times[0][1]} tasks")
-        connection.stream.close()
+        connection.close()
         server.wait(60)
     times = [run_alone(words.program, large) for _ in range(words.rounds)]
     print(f"bpfjobs run --workers 4: {min(times)[0] * 1000:,.0f} ms for a job of {times[0][1]} tasks, with its start")
