@@ -127,52 +127,43 @@ fn watched_path(alloc: Global, server: &LocalServer) -> Result<Option<Place>, Al
     }
 }
 
-// Starts a thread that raises a flag at the end of the input. `None`: there is no memory for it.
-fn watch<R: Input + Net + Threads + Copy + Send + Sync + Drop + 'static>(
-    rt: R,
-    alloc: Global,
-    place: Place,
-) -> Option<Arc<StopFlag, Global>> {
+// A flag that stops a server, held twice. `None`: there is no memory for it.
+fn stop_flag(alloc: Global) -> Option<(Arc<StopFlag, Global>, Arc<StopFlag, Global>)> {
     let Ok(stop) = Arc::new(alloc, StopFlag::new()) else {
         return None;
     };
-    let Ok(theirs) = Arc::try_clone(&stop) else {
-        return None;
-    };
-    match thread::spawn(&rt, move || stop_at_end(&rt, &place, &theirs)) {
-        Ok(_thread) => Some(stop),
+    match Arc::try_clone(&stop) {
+        Ok(theirs) => Some((stop, theirs)),
         Err(_) => None,
     }
 }
 
-// A server by sockets in the file system, until its input ends where it is to stop then.
-fn host<R>(rt: R, alloc: Global, server: &LocalServer) -> u8
-where
-    R: Input + Net + Files + Threads + Wait + Clock + Copy + Send + Sync + Drop + 'static,
-    requires { (1 ≤ server.now.workers) × (server.now.workers ≤ 16) }
-{
-    let Ok(place) = watched_path(alloc, server) else {
-        return FAILED;
-    };
-    let Some(place) = place else {
-        return serve_local(&rt, alloc, server, None);
-    };
-    match watch(rt, alloc, place) {
-        Some(stop) => serve_local(&rt, alloc, server, Some(&stop)),
-        None => FAILED,
-    }
-}
-
+// The threads that wait for the end of the input are started here, where the runtime is of a type that
+// may go to them.
 fn main(rt: HostRuntime) -> ExitCode {
     let alloc = rt.alloc();
     let Ok(words) = words(&rt) else {
         return ExitCode::from(UNREAD);
     };
+    let Some((stop, theirs)) = stop_flag(alloc) else {
+        return ExitCode::from(FAILED);
+    };
     if asks_local(&words) {
-        return match local_server(alloc, words) {
-            Ok(server) => ExitCode::from(host(rt, alloc, &server)),
-            Err(usage) => ExitCode::from(print_usage(&rt, usage)),
+        let server = match local_server(alloc, words) {
+            Ok(server) => server,
+            Err(usage) => return ExitCode::from(print_usage(&rt, usage)),
         };
+        let Ok(place) = watched_path(alloc, &server) else {
+            return ExitCode::from(FAILED);
+        };
+        if let Some(place) = place {
+            let Ok(_thread) = thread::spawn(&rt, move || stop_at_end(&rt, &place, &theirs)) else {
+                return ExitCode::from(FAILED);
+            };
+        }
+        let watched = server.bounds.until_eof;
+        let stop = if watched { Some(&*stop) } else { None };
+        return ExitCode::from(serve_local(&rt, alloc, &server, stop));
     }
     let request = match request(alloc, &words) {
         Ok(request) => request,
@@ -185,8 +176,8 @@ fn main(rt: HostRuntime) -> ExitCode {
     let Some(place) = watched_port(&command) else {
         return ExitCode::from(act(rt, alloc, command, None));
     };
-    match watch(rt, alloc, place) {
-        Some(stop) => ExitCode::from(act(rt, alloc, command, Some(&stop))),
-        None => ExitCode::from(FAILED),
-    }
+    let Ok(_thread) = thread::spawn(&rt, move || stop_at_end(&rt, &place, &theirs)) else {
+        return ExitCode::from(FAILED);
+    };
+    ExitCode::from(act(rt, alloc, command, Some(&stop)))
 }
