@@ -18,15 +18,6 @@ fn run(alloc: Global, vm: &mut Vm, credit: &str, memory: &str) -> anyhow::Result
     Ok(format!(in alloc; "{told}, memory {left}")?)
 }
 
-/// Sets a program. Where it is refused, the one that was set stays.
-fn set(alloc: Global, vm: &mut Vm, need: &str, program: &str) -> anyhow::Result<String> {
-    let code = bytes_of(alloc, program)?;
-    match vm.set_program(alloc, need.parse::<u32>()?, &code) {
-        Ok(()) => Ok(String::from_str(alloc, "set")?),
-        Err(refusal) => Ok(format!(in alloc; "{refusal}")?),
-    }
-}
-
 /// What a machine of its own answers that starts with a program: to a run with this credit, or why
 /// there is none.
 fn start(alloc: Global, need: &str, credit: &str, program: &str) -> anyhow::Result<String> {
@@ -41,26 +32,30 @@ fn start(alloc: Global, need: &str, credit: &str, program: &str) -> anyhow::Resu
     }
 }
 
-fn answer(alloc: Global, vm: &mut Vm, call: &str) -> anyhow::Result<String> {
-    let (words, program) = call.split_once(':').unwrap_or((call, ""));
-    match words_of(alloc, words)?.as_slice() {
-        ["has"] => {
-            let has = vm.has_program();
-            Ok(format!(in alloc; "{has}")?)
-        }
-        ["run", credit, memory] => run(alloc, vm, credit, memory),
-        ["set", need] => set(alloc, vm, need, program),
-        ["start", need, credit] => start(alloc, need, credit, program),
-        _ => bail!("no such call"),
-    }
-}
-
-/// What a machine without a program answers to calls, one after the other.
+/// What a machine without a program answers to calls, one after the other. Where a program is refused,
+/// the one that was set stays.
 pub fn answers(alloc: Global, calls: &str) -> anyhow::Result<String> {
     let mut vm = Vm::new(alloc, None)?;
     let mut text = String::new(alloc);
     for call in calls.split(';') {
-        let told = answer(alloc, &mut vm, call.trim())?;
+        let call = call.trim();
+        let (words, program) = call.split_once(':').unwrap_or((call, ""));
+        let told = match words_of(alloc, words)?.as_slice() {
+            ["has"] => {
+                let has = vm.has_program();
+                format!(in alloc; "{has}")?
+            }
+            ["run", credit, memory] => run(alloc, &mut vm, credit, memory)?,
+            ["set", need] => {
+                let code = bytes_of(alloc, program)?;
+                match vm.set_program(alloc, need.parse::<u32>()?, &code) {
+                    Ok(()) => String::from_str(alloc, "set")?,
+                    Err(refusal) => format!(in alloc; "{refusal}")?,
+                }
+            }
+            ["start", need, credit] => start(alloc, need, credit, program)?,
+            _ => bail!("no such call"),
+        };
         text = format!(in alloc; "{text}{told} ; ")?;
     }
     Ok(String::from_str(alloc, text.as_str().trim_end_matches(" ; "))?)
