@@ -185,7 +185,8 @@ class Local(unittest.TestCase):
             with self.subTest(more):
                 process = self.start("--sessions", 100, "--clients", 4, "--until-eof", *more, stdin=subprocess.PIPE)
                 client, idle = self.connect(process), self.connect(process)
-                self.assertEqual(client.ask(ACCOUNT), NO_TENANT)
+                for connection in (client, idle):
+                    self.assertEqual(connection.ask(ACCOUNT), NO_TENANT)
                 process.stdin.close()
                 self.assertEqual(client.stream.recv(1), b"")
                 self.assertEqual(idle.stream.recv(1), b"")
