@@ -3,7 +3,7 @@
 
     .ci/held.py [--few N] [--program FILE]
 
-The memory of a process also grows by what the C library keeps of freed memory, so it tells nothing of a server that holds too much. valgrind's
+The memory of a process may also grow by what the C library keeps of freed memory. valgrind's
 memcheck counts the blocks that aren't freed. A server with `--clients 8 --keep 10 --timeout 5` on a free port of 127.0.0.1 is ended by a signal once
 the clients are gone. Kinds: connections that are cut within a frame, that send rubbish, whose requests are refused, that are reset with replies
 due; and jobs of two tasks. Status: 0 where the blocks are as many after few as after many, else 1. It needs valgrind.
