@@ -1,0 +1,35 @@
+//! Tickets of one book.
+
+use crate::stop::Stop;
+use credit_book::{Board, Book, Ticket};
+use helpers::{Part, SpawnRecord};
+use std::alloc::Global;
+
+/// A book whose root spawns tasks with 1 of credit each, up to 2,000,000 of them.
+#[derive(Drop)]
+pub struct Tickets {
+    book: Book,
+}
+
+impl Tickets {
+    /// The book of a new job.
+    pub fn open(alloc: Global) -> Result<Tickets, Stop> {
+        let (_board, post, _reader) = Board::open(alloc, 1, 2_000_001)?;
+        let (book, _root) = Book::open(alloc, post, Part::whole(Vec::new(alloc)))?;
+        Ok(Tickets { book })
+    }
+
+    /// The ticket of the next task. They are numbered from 1.
+    pub fn next(&mut self, alloc: Global) -> Result<Ticket, Stop> {
+        let child = SpawnRecord {
+            program: 0,
+            share: 1,
+            arg: 0,
+            part: Part::whole(Vec::new(alloc)),
+        };
+        match self.book.spawn(0, child) {
+            Ok(ticket) => Ok(ticket),
+            Err(_) => Err(Stop::Differs("a spawn is refused")),
+        }
+    }
+}
