@@ -6,3 +6,4 @@ pub mod JobLemmas
 pub mod Pieces
 pub mod Turns
 pub mod HostedLemmas
+pub mod TraceLemmas
