@@ -15,6 +15,7 @@ const WORDS = {
 
 let library;
 let program = null; // what is known of the text: its bytes, its listing, its flow and its verdict
+let steps = null; // those of the last run
 let written = ""; // the address that the page wrote last
 
 // ---- what is typed
@@ -64,6 +65,10 @@ function tell(verdict, kind, facts = []) {
     at("facts").replaceChildren(...facts.flatMap(([name, value]) => [made("dt", name), made("dd", String(value))]));
 }
 
+function counted(count, word) {
+    return `${count} ${word}${count === 1 ? "" : "s"}`;
+}
+
 function hide(...ids) {
     for (const id of ids) at(id).hidden = true;
 }
@@ -80,12 +85,7 @@ function number_lines(bad) {
     at("source").style.height = `${count * 20 + 36}px`;
     at("source").style.width = `${widest + 3}ch`;
     const marked = lines[(bad ?? 0) - 1];
-    if (marked) {
-        const [editor, top] = [at("editor"), marked.offsetTop - at("lines").offsetTop];
-        if (top < editor.scrollTop || top + 40 > editor.scrollTop + editor.clientHeight) {
-            editor.scrollTop = Math.max(0, top - editor.clientHeight / 2);
-        }
-    }
+    if (marked) see_within(at("editor"), marked.offsetTop - at("lines").offsetTop, ROW);
 }
 
 // Bytes as lines of hexadecimal, with what changed marked.
@@ -128,7 +128,7 @@ function refused_text(code) {
     const line = code.place === null ? "" : at("source").value.split("\n")[code.place - 1];
     at("explained").textContent = line.length > MOST_QUOTED ? `${line.slice(0, MOST_QUOTED)} ..` : line;
     at("explained").hidden = code.place === null;
-    at("flows").hidden = true;
+    hide("flows", "graphs");
     number_lines(code.place);
 }
 
@@ -138,12 +138,81 @@ function show_flow(verdict, explanation) {
     const way = /^way: (.*)$/m.exec(explanation);
     program.bad = verdict.status && verdict.slot !== null ? verdict.slot : null;
     mark_flow(program.flow, way ? way[1].split(" ").map(Number) : [], program.bad);
-    const counted = (count, word) => `${count} ${word}${count === 1 ? "" : "s"}`;
     const { found, arcs, jumps } = program.flow;
     const drawn = arcs.length < jumps ? `, ${arcs.length} of them drawn` : "";
     at("flow_facts").textContent = `${counted(found.length, "instruction")}, ${counted(jumps, "jump")}${drawn}`;
     at("flows").hidden = false;
 }
+
+// The graph, where the program has one. It is drawn once it can be seen.
+function show_graph() {
+    const { need, code, source } = program;
+    program.drawing = library.graph(need, code, source).text;
+    program.graph = null;
+    at("graphs").hidden = !program.drawing;
+    draw_if_open();
+}
+
+function draw_if_open() {
+    if (!program?.drawing || program.graph || !at("graphs").open) return;
+    program.graph = draw_graph(at("graph"), program.drawing);
+    const { boxes, edges } = program.graph;
+    at("graph_facts").textContent = `${counted(boxes.length, "block")}, ${counted(edges.length, "edge")}`;
+    mark_step();
+}
+
+// ---- steps
+
+// Marks the instruction of the step in the lists, the graph and the text.
+function mark_step() {
+    for (const one of document.querySelectorAll(".now")) one.classList.remove("now");
+    const step = steps?.step;
+    if (!step) return;
+    const row = program.flow.rows[program.flow.row_of.get(step.slot)];
+    const line = at("lines").children[step.line - 1];
+    for (const one of [row, line, program.graph?.row_of.get(step.slot)]) one?.classList.add("now");
+    if (row) see_within(at("flow"), row.offsetTop, ROW);
+    if (line) see_within(at("editor"), line.offsetTop - at("lines").offsetTop, ROW);
+}
+
+// Scrolls a room so far that so many pixels from a place on can be seen.
+function see_within(room, top, height) {
+    if (top < room.scrollTop || top + 2 * height > room.scrollTop + room.clientHeight) {
+        room.scrollTop = Math.max(0, top - room.clientHeight / 2);
+    }
+}
+
+function go_to(place) {
+    if (!steps) return;
+    steps.go(place);
+    tell_steps(steps);
+    mark_step();
+}
+
+const MOVES = {
+    Home: () => 0,
+    ArrowLeft: () => steps.at - 1,
+    ArrowRight: () => steps.at + 1,
+    End: () => steps.steps.length,
+};
+
+function forget_steps() {
+    steps = null;
+    at("stepper").hidden = true;
+    mark_step();
+}
+
+// The steps of a run that ended, from its start on.
+function show_steps({ need, argument, credit, memory }) {
+    const told = library.trace(need, program.code, program.source, credit, argument, memory);
+    if (told.status) return;
+    steps = new Steps(told.text, memory, argument);
+    at("step_at").max = steps.steps.length;
+    at("stepper").hidden = false;
+    go_to(0);
+}
+
+// ---- verdicts, and runs
 
 // Assembles and verifies what is typed, and tells the verdict.
 function judge() {
@@ -151,6 +220,7 @@ function judge() {
     const need = Number(number("need", 2n ** 32n));
     program = null;
     hide("memories");
+    forget_steps();
     const code = library.assemble(source);
     if (code.status) {
         refused_text(code);
@@ -162,6 +232,7 @@ function judge() {
     program = { source, need, code: code.bytes, verdict };
     const explanation = verdict.status ? library.explain(need, code.bytes, source).text : "";
     show_flow(verdict, explanation);
+    show_graph();
     const [first, ...others] = explanation.split("\n");
     at("explained").textContent = others.join("\n").trimEnd();
     at("explained").hidden = !explanation;
@@ -195,6 +266,7 @@ function run() {
     }
     tell("ran to its end", "good", [["R0", number_text(done.r0)], ["spent", `${done.used} of at most ${program.verdict.cost}`]]);
     tell_memory(memory, done.memory);
+    show_steps({ need, argument, credit, memory });
 }
 
 // ---- the address
@@ -224,8 +296,9 @@ function guarded(work) {
         try {
             work();
         } catch (wrong) {
-            hide("memories", "explained", "flows");
+            hide("memories", "explained", "flows", "graphs");
             program = null;
+            forget_steps();
             number_lines(null);
             tell(wrong.message, "bad");
         }
@@ -289,6 +362,17 @@ function listen() {
     at("verify").onclick = do_verify;
     at("run").onclick = do_run;
     at("share").onclick = copy_link;
+    at("graphs").ontoggle = guarded(draw_if_open);
+    for (const [name, move] of [["first", "Home"], ["back", "ArrowLeft"], ["forth", "ArrowRight"], ["last", "End"]]) {
+        at(`step_${name}`).onclick = () => go_to(MOVES[move]());
+    }
+    at("step_at").oninput = () => go_to(Number(at("step_at").value));
+    at("stepper").onkeydown = (event) => {
+        const move = MOVES[event.key];
+        if (!move || !steps || event.ctrlKey || event.metaKey || event.altKey || event.shiftKey) return;
+        event.preventDefault();
+        go_to(move());
+    };
     document.onkeydown = (event) => {
         if (!event.ctrlKey && !event.metaKey) return;
         if (event.key !== "Enter") return;
