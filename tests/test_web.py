@@ -12,7 +12,7 @@ import unittest
 from pathlib import Path
 
 import browser
-from instructions import costs, decode, successors
+from test_graphs import modelled
 
 PAGE = os.environ.get("TELGOVAN_PAGE", "")
 PICTURES = os.environ.get("TELGOVAN_PICTURES", "")
@@ -372,28 +372,6 @@ class Steps(InBrowser):
         self.assertTrue(self.is_hidden("stepper"))
 
 
-def blocks_of(code):
-    """The boxes of a program's graph, as slots and costs, and its edges, by the model."""
-    slots = decode(code)
-    begun = [slot for slot, one in enumerate(slots) if one]
-    table = costs(slots)
-    entered = {}
-    for slot in begun:
-        for to in set(successors(slots, slot)):
-            entered.setdefault(to, []).append(slot)
-    boxes = []
-    for slot in begun:
-        if boxes and successors(slots, boxes[-1][-1]) == [slot] and entered[slot] == boxes[-1][-1:]:
-            boxes[-1].append(slot)
-        else:
-            boxes.append([slot])
-    edges = []
-    for box in boxes:
-        onward = successors(slots, box[-1])
-        edges += [[box[0], to, word] for to, word in zip(onward, ["not taken", "taken"] if len(onward) == 2 else [""])]
-    return [[f"cost {table[box[0]]}", box] for box in boxes], edges
-
-
 class Graphs(InBrowser):
     READ = "[program.graph.boxes.map((one) => [one.cost, one.rows.map((row) => row.slot)]), program.graph.edges.map((one) => [one.from, one.to, one.word])]"
     DRAWN = """[[...document.querySelectorAll("#graph .box")].length, [...document.querySelectorAll("#graph path.taken")].length,
@@ -412,12 +390,9 @@ class Graphs(InBrowser):
             }).length];
     })()"""
 
-    def code(self):
-        return bytes(self.tab.evaluate("[...program.code]"))
-
     def agree(self):
-        boxes, edges = blocks_of(self.code())
-        self.assertEqual(self.tab.evaluate(self.READ), [boxes, edges])
+        boxes, edges = modelled(bytes(self.tab.evaluate("[...program.code]")))
+        self.assertEqual(self.tab.evaluate(self.READ), [[[f"cost {cost}", slots] for _, cost, slots in boxes], [*map(list, edges)]])
         taken = sum(word == "taken" for _, _, word in edges)
         self.assertEqual(self.tab.evaluate(self.DRAWN), [len(boxes), taken, taken, len(edges)])
         self.assertEqual(self.tab.evaluate(self.WRONG), [0, 0, 0])
@@ -634,7 +609,7 @@ def drawn_program(chance):
 class Library:
     """libtelgovan.so, called as the header says. A room is a buffer of ctypes with its size."""
 
-    ROOM = 65536
+    ROOM = 1 << 18
 
     def __init__(self):
         folder = os.environ.get("TELGOVAN_LIB") or TOP / "bindings/out"
@@ -646,7 +621,7 @@ class Library:
         told = ctypes.create_string_buffer(24)
         export(*given, self.room, ctypes.c_size_t(self.ROOM), told)
         length, place, status, has_place = struct.unpack("<QQI?3x", told.raw)
-        return status, place if has_place else None, self.room.raw[:length]
+        return status, place if has_place else None, ctypes.string_at(self.room, min(length, self.ROOM))
 
     @staticmethod
     def lent(given):

@@ -1,6 +1,6 @@
 -- What the run of an accepted program tells of its trace.
-use Rattle.std.specs.Prelude.{◌≡◌, ℕ, zero, suc, ◌+◌, ◌≤◌, List, [], ◌∷◌, ◌++◌, length, Some, None}
-use Rattle.std.proofs.Common.{arith, refl, subst, sym, ap, ◌∙◌}
+use Rattle.std.specs.Prelude.{◌≡◌, ℕ, ◌≤◌, List, length, Some, None}
+use Rattle.std.proofs.Common.{refl, subst, sym, ap, ◌∙◌}
 use Rattle.machine_model.specs.Limits.{max_credit, max_part}
 use Rattle.helpers.specs.Table.{job_table}
 use Rattle.verifier.specs.Checked.{Checked}
@@ -13,13 +13,7 @@ use Rattle.telgovan_c.specs.declared.texts.Written.{Written}
 use Rattle.telgovan_c.specs.Runs.{IsRunOutcome, unanswered}
 use Rattle.telgovan_c.specs.Runs as run
 use Rattle.telgovan_c.specs.Texts.{refused_text}
-use Rattle.telgovan_c.specs.Traces.{AreLines, IsProgramTraced, over_limit, stopped}
-
--- a line more
-pub line_more : (n : ℕ) (front line : List ℕ) → AreLines n front → AreLines (n + 1) (front ++ (line ++ 10 ∷ []))
-line_more n front line are =
-    let next : suc n ≡ n + 1 = omega arith in
-    subst (λ (m : ℕ). AreLines m (front ++ (line ++ 10 ∷ []))) next (front, line, are, refl)
+use Rattle.telgovan_c.specs.Traces.{IsProgramTraced, over_limit, stopped}
 
 -- the program ran on these bytes
 pub record HasRun (p : Checked) (argument credit : ℕ) (memory : List ℕ) : Type 0 where

@@ -19,7 +19,7 @@ use Rattle.telgovan_c.specs.Texts.{IsSourceText, IsWritten, refused_text}
 abbrev pub AreLines : ℕ → List ℕ → Type 0
 AreLines zero text = text ≡ []
 AreLines (suc n) text =
-    (front : List ℕ) × (line : List ℕ) × AreLines n front × (text ≡ front ++ (line ++ 10 ∷ []))
+    (front : List ℕ) × (line : List ℕ) × AreLines n front × (text ≡ (front ++ line) ++ 10 ∷ [])
 
 -- The steps of a run that ends are told, a line each. Or there is no memory, or a pointer's
 -- position on the way has more than 64 bits.

@@ -115,14 +115,7 @@ fn trace_into(
 {
     match verify(alloc, need, code, &HelperTable::job()) {
         Ok(program) => trace_program(
-            alloc,
-            &program,
-            code,
-            source,
-            credit,
-            argument,
-            memory,
-            room,
+            alloc, &program, code, source, credit, argument, memory, room,
         ),
         Err(refusal) => refused_text(u32::from(refusal.code()), place_of(refusal.slot())),
     }

@@ -5,7 +5,7 @@ use Rattle.telgovan_c.proofs.traces.lines_of.Given as goal
 
 -- the steps before this one are told
 abbrev pub invariant-loop-done : goal.invariant-loop-done
-invariant-loop-done l = (l.done ≤ length l.steps.now) × AreLines l.done (string_bytes l.text)
+invariant-loop-done l = (l.done ≤ length l.steps) × AreLines l.done (string_bytes l.text)
 
 abbrev pub decreases-loop-done : goal.decreases-loop-done
-decreases-loop-done l = length l.steps.now - l.done
+decreases-loop-done l = length l.steps - l.done
