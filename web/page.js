@@ -6,6 +6,7 @@ const at = (id) => document.getElementById(id);
 const FIELDS = { need: "0", argument: "0", credit: "2147483647", memory: "" };
 const MOST_QUOTED = 200; // of a line that says nothing known
 const MOST_BYTES = 1 << 20; // the library refuses over 65,536
+const MOST_AT_ONCE = 512; // slots of a program whose graph is drawn unasked
 const WORDS = {
     1: "no instruction", 2: "a length that is no multiple of 8", 3: "more than 4,096 slots",
     11: "an unknown word", 12: "operands that aren't the word's", 13: "a number out of range",
@@ -144,18 +145,32 @@ function show_flow(verdict, explanation) {
     at("flows").hidden = false;
 }
 
-// The graph, where the program has one. It is drawn once it can be seen.
+// The graph, of a program that has one. It is drawn once it can be seen; of a long program, for which
+// the library takes a while, once it is opened.
 function show_graph() {
-    const { need, code, source } = program;
-    program.drawing = library.graph(need, code, source).text;
-    program.graph = null;
-    at("graphs").hidden = !program.drawing;
+    const { verdict, code } = program;
+    const has_graph = verdict.status === 0 || (verdict.status > 30 && verdict.status < 38);
+    at("graphs").hidden = !has_graph;
+    if (!has_graph) return;
+    const is_long = code.length / 8 > MOST_AT_ONCE;
+    if (is_long && at("graphs").open) {
+        at("graphs").open = false;
+        at("graphs").dataset.shut = "yes";
+    } else if (!is_long && at("graphs").dataset.shut) {
+        at("graphs").open = true;
+        delete at("graphs").dataset.shut;
+    }
+    at("graph_facts").textContent = "";
+    at("graph").replaceChildren();
     draw_if_open();
 }
 
 function draw_if_open() {
-    if (!program?.drawing || program.graph || !at("graphs").open) return;
-    program.graph = draw_graph(at("graph"), program.drawing);
+    if (!program || program.graph || at("graphs").hidden || !at("graphs").open) return;
+    const { need, code, source } = program;
+    const drawn = library.graph(need, code, source);
+    if (!drawn.text) throw new Error(`the graph: refused ${drawn.status}: ${WORDS[drawn.status] ?? ""}`);
+    program.graph = draw_graph(at("graph"), drawn.text);
     const { boxes, edges } = program.graph;
     at("graph_facts").textContent = `${counted(boxes.length, "block")}, ${counted(edges.length, "edge")}`;
     mark_step();
@@ -163,17 +178,22 @@ function draw_if_open() {
 
 // ---- steps
 
-// Marks the instruction of the step in the lists, the graph and the text.
+// Marks the instruction of the step in the lists, the graph and the text. Where these have thousands of
+// rows, asking for the place of one would take longer than all else.
 function mark_step() {
-    for (const one of document.querySelectorAll(".now")) one.classList.remove("now");
+    for (const one of mark_step.marked) one.classList.remove("now");
+    mark_step.marked = [];
     const step = steps?.step;
     if (!step) return;
-    const row = program.flow.rows[program.flow.row_of.get(step.slot)];
+    const row = program.flow.row_of.get(step.slot);
     const line = at("lines").children[step.line - 1];
-    for (const one of [row, line, program.graph?.row_of.get(step.slot)]) one?.classList.add("now");
-    if (row) see_within(at("flow"), row.offsetTop, ROW);
-    if (line) see_within(at("editor"), line.offsetTop - at("lines").offsetTop, ROW);
+    const all = [program.flow.rows[row], line, program.graph?.row_of.get(step.slot)];
+    mark_step.marked = all.filter((one) => one);
+    for (const one of mark_step.marked) one.classList.add("now");
+    see_within(at("flow"), row * ROW, ROW);
+    if (line) see_within(at("editor"), (step.line - 1) * ROW, ROW);
 }
+mark_step.marked = [];
 
 // Scrolls a room so far that so many pixels from a place on can be seen.
 function see_within(room, top, height) {
