@@ -431,6 +431,11 @@ class Graphs(InBrowser):
         wide = "".join(f"jeq r3, {n}, +{60 - n}\n" for n in range(30)) + "mov64 r0, 1\n" * 31 + "exit"
         self.tab.evaluate(f"show({json.dumps(wide)}, {{}}); do_verify()")
         self.agree()
+        # (the first box can be seen)
+        seen = """(() => { const room = document.getElementById("graph").getBoundingClientRect();
+            const box = document.querySelector("#graph .box").getBoundingClientRect();
+            return box.left >= room.left && box.right <= room.right && box.top >= room.top; })()"""
+        self.assertTrue(self.tab.evaluate(seen))
         self.picture("graph_of_many")
 
     def test_a_long_block(self):

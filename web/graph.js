@@ -6,7 +6,7 @@ const GLYPH = 7.3; // the width of a letter
 const LINE = 16;
 const MARGIN = 8; // within a box
 const [BESIDE, BELOW] = [26, 44]; // room between boxes
-const SWEEPS = 8;
+const SWEEPS = 9; // down and up in turn, down at last
 const MOST_BOXES = 400;
 const LEAST_SCALE = 0.8; // to which a wide graph shrinks
 const [MOST_FIRST, MOST_LAST, AROUND_BAD] = [12, 6, 2]; // rows of a long box
@@ -91,7 +91,7 @@ function layers_of(nodes, edges) {
         const [from, to] = [nodes.get(edge.from), nodes.get(edge.to)];
         edge.passes = [from];
         for (let layer = from.layer + 1; layer < to.layer; layer++) {
-            const bend = { width: 10, height: 0, layer, ins: [], outs: [] };
+            const bend = { width: 4, height: 0, layer, ins: [], outs: [] };
             into(bend);
             edge.passes.push(bend);
         }
@@ -123,15 +123,20 @@ function order_layers(layers) {
     }
 }
 
-// Moves the nodes of a layer to where they wish to be, as far as they don't meet.
+// The room between two nodes of a layer: edges that pass it take less.
+const room_between = (one, other) => (one.box || other.box ? BESIDE : BESIDE / 3);
+
+// Moves the nodes of a layer to where they wish to be, as far as they don't meet. Boxes come first:
+// a way straight down stays straight.
 function settle(layer) {
-    let edge = -Infinity;
+    let before = null;
     for (const node of layer) {
-        node.x = Math.max(node.wish - node.width / 2, edge);
-        edge = node.x + node.width + BESIDE;
+        const least = before ? before.x + before.width + room_between(before, node) : -Infinity;
+        node.x = Math.max(node.wish - node.width / 2, least);
+        before = node;
     }
-    // what was pushed to the right takes all of the layer back by half of that
-    const shift = mean(layer.map((node) => centre(node) - node.wish));
+    const boxes = layer.filter((node) => node.box);
+    const shift = mean((boxes.length ? boxes : layer).map((node) => centre(node) - node.wish));
     for (const node of layer) node.x -= shift;
 }
 
@@ -159,7 +164,7 @@ function place_layers(layers) {
     const all = layers.flat();
     const left = Math.min(...all.map((node) => node.x));
     for (const node of all) node.x = Math.round(node.x - left) + 1;
-    return { width: Math.max(...all.map((node) => node.x + node.width)) + 1, height: y - BELOW + 2 };
+    return { width: Math.max(...all.map((node) => node.x + node.width)) + 1, height: y - BELOW + 6 };
 }
 
 // ---- the SVG
@@ -263,5 +268,18 @@ function draw_graph(room, drawing) {
         for (const [slots, band] of drawn.rows) for (const slot of slots) row_of.set(slot, band);
     }
     room.replaceChildren(svg);
+    if (graph.boxes.length) see_band(room, row_of.get(graph.boxes[0].slot));
     return { ...graph, row_of };
+}
+
+// Scrolls a room so far that a band of a box in it can be seen.
+function see_band(room, band) {
+    const view = band.ownerSVGElement.viewBox.baseVal;
+    const scale = band.ownerSVGElement.getBoundingClientRect().width / view.width;
+    const [x, y, width] = ["x", "y", "width"].map((name) => Number(band.getAttribute(name)) * scale);
+    const left = x - view.x * scale;
+    if (left < room.scrollLeft || left + width > room.scrollLeft + room.clientWidth) {
+        room.scrollLeft = left + (width - room.clientWidth) / 2;
+    }
+    see_within(room, y, LINE);
 }

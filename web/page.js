@@ -187,11 +187,12 @@ function mark_step() {
     if (!step) return;
     const row = program.flow.row_of.get(step.slot);
     const line = at("lines").children[step.line - 1];
-    const all = [program.flow.rows[row], line, program.graph?.row_of.get(step.slot)];
-    mark_step.marked = all.filter((one) => one);
+    const band = program.graph?.row_of.get(step.slot);
+    mark_step.marked = [program.flow.rows[row], line, band].filter((one) => one);
     for (const one of mark_step.marked) one.classList.add("now");
     see_within(at("flow"), row * ROW, ROW);
     if (line) see_within(at("editor"), (step.line - 1) * ROW, ROW);
+    if (band) see_band(at("graph"), band);
 }
 mark_step.marked = [];
 
