@@ -66,6 +66,16 @@ uint32_t telgovan_explain(uint32_t need, const uint8_t *code, size_t code_length
                           const uint8_t *source, size_t source_length, uint8_t *room,
                           size_t room_length, struct telgovan_written *written);
 
+/* Writes the graph of a program of this need in the language DOT: a box for each basic block, with
+ * its cost, what is known of the registers ahead of it and its instructions. Red are an instruction
+ * that isn't allowed and a way there. It answers the status: 0 where the program is accepted; the
+ * number of the refusal, with its slot as the place, where an instruction isn't allowed; 65 where
+ * the room is too short; or 99. Where a program has no graph, nothing is written, and the status is
+ * the number of its refusal: `length` is 0. The source text is that of telgovan_explain. */
+uint32_t telgovan_graph(uint32_t need, const uint8_t *code, size_t code_length,
+                        const uint8_t *source, size_t source_length, uint8_t *room,
+                        size_t room_length, struct telgovan_written *written);
+
 /* ---- Runs of one program */
 
 /* What a run came to. */
@@ -91,6 +101,21 @@ struct telgovan_run {
 uint32_t telgovan_run(uint32_t need, const uint8_t *code, size_t code_length, uint32_t credit,
                       uint64_t argument, uint8_t *memory, size_t memory_length,
                       struct telgovan_outcome *outcome);
+
+/* Verifies a program and writes the steps of its run on this memory, which stays as it is: a JSON
+ * object for each, with a line feed behind it. `slot` and `insn` say the instruction, and `line`
+ * where a source text has it. `registers` has those that changed: decimal numbers, pointers as `part+4` or
+ * `stack+504`, or `unset`. `stack` and `part`, where bytes of them changed, have the place `at` of
+ * the first and the `bytes` from there to the last, in hexadecimal. `used` is what the run has used
+ * of its credit. A program has no loop, so there is at most one step a slot.
+ *
+ * It answers the status: that of the verdict with the slot as the place, else that of telgovan_run,
+ * else 0; 65 where the room is too short, or 99. 65 of length 0 is over a limit; that is also told
+ * where the position of a pointer has more than 64 bits. */
+uint32_t telgovan_trace(uint32_t need, const uint8_t *code, size_t code_length,
+                        const uint8_t *source, size_t source_length, uint32_t credit,
+                        uint64_t argument, const uint8_t *memory, size_t memory_length,
+                        uint8_t *room, size_t room_length, struct telgovan_written *written);
 
 /* Verifies a program once and runs it in place on each piece of the memory in turn, each time with
  * this credit. It answers the verdict's status; where the program is refused nothing runs. A run

@@ -12,6 +12,7 @@ import unittest
 from pathlib import Path
 
 import browser
+from test_graphs import modelled
 
 PAGE = os.environ.get("TELGOVAN_PAGE", "")
 PICTURES = os.environ.get("TELGOVAN_PICTURES", "")
@@ -188,6 +189,293 @@ class Runs(InBrowser):
         self.assertEqual(self.text("verdict"), "refused 43: the memory is shorter than the need")
 
 
+class Steps(InBrowser):
+    """The steps of a run, forth and back. What they are is told by the library of this machine."""
+
+    RUNS = ("Internet checksum", "byte at an index", "filter of packets", "spawn (answered 1)", "argument into memory")
+    WRITES = ("stxdw [r10-8], r3\nldxdw r4, [r10-8]\nstxh [r1+2], r4\nsth [r10-16], 1\nmov64 r5, r10\n"
+              "add64 r5, -16\nmov64 r0, -1\nexit\n")
+
+    def run_typed(self, source, **values):
+        self.fill(source=source, **values)
+        self.click("run")
+        self.assertEqual(self.text("verdict"), "ran to its end")
+
+    def typed(self):
+        """What the page's fields say: the source, need, argument, credit and memory."""
+        ids = ("source", "need", "argument", "credit")
+        source, *numbers = self.tab.evaluate(f"{json.dumps(ids)}.map((id) => document.getElementById(id).value)")
+        return source, *map(int, numbers), bytes(self.tab.evaluate("[...bytes()]"))
+
+    def shown(self):
+        """What the page shows: where it stands, its registers, those that are marked, and the regions."""
+        script = """[document.getElementById("step").textContent, document.getElementById("step_used").textContent,
+            [...document.getElementById("registers").children].map((one) => one.textContent.slice(4)),
+            [...document.getElementById("registers").children].flatMap((one, number) => one.querySelector("mark") ? [number] : []),
+            [...steps.stack], [...steps.part]]"""
+        return self.tab.evaluate(script)
+
+    def states(self):
+        """The same, by what the library tells of the run that the page was given."""
+        source, need, argument, credit, memory = self.typed()
+        library = Library()
+        code = library.written(library.lib.telgovan_assemble, *library.lent(source.encode()))[2]
+        told = library.traced(need, code, source, credit, argument, memory)[2].decode().splitlines()
+        registers = ["unset"] * 11
+        registers[1:4] = ["part+0", str(len(memory)), str(argument)]
+        registers[10] = "stack+512"
+        regions = {"stack": bytearray(512), "part": bytearray(memory)}
+        plural = "" if len(told) == 1 else "s"
+        states = [[f"at the start, ahead of {len(told)} step{plural}", "used 0 of the credit", [*registers], [], [0] * 512, list(memory)]]
+        for number, step in enumerate(map(json.loads, told), 1):
+            for name, content in step["registers"].items():
+                registers[int(name[1:])] = content
+            for name, region in regions.items():
+                if name in step:
+                    place, new = step[name]["at"], bytes.fromhex(step[name]["bytes"])
+                    region[place:place + len(new)] = new
+            said = f"step {number} of {len(told)}: slot {step['slot']}, line {step['line']}: {step['insn']}"
+            marked = sorted(int(name[1:]) for name in step["registers"])
+            states.append([said, f"used {step['used']} of the credit", [*registers], marked, *map(list, regions.values())])
+        return states
+
+    def agree(self, shown, state):
+        # (a large number is shown in hexadecimal too)
+        registers = [one.partition(" (")[0] for one in shown[2]]
+        self.assertEqual([*shown[:2], registers, *shown[3:]], state)
+
+    def test_forth_and_back(self):
+        for name in self.RUNS:
+            with self.subTest(name):
+                self.choose(name)
+                self.click("run")
+                states = self.states()
+                for state in states[:-1]:
+                    self.agree(self.shown(), state)
+                    self.click("step_forth")
+                for state in states[:0:-1]:
+                    self.agree(self.shown(), state)
+                    self.click("step_back")
+                self.agree(self.shown(), states[0])
+                self.click("step_last")
+                self.agree(self.shown(), states[-1])
+                self.click("step_first")
+                self.agree(self.shown(), states[0])
+
+    def test_what_a_run_leaves_is_the_last_state(self):
+        for name in self.RUNS:
+            self.choose(name)
+            self.click("run")
+            self.click("step_last")
+            said = ("[document.getElementById('memory_now').textContent, document.getElementById('step_part').textContent, "
+                    "[...document.querySelectorAll('#facts dd')][0].textContent]")
+            left, part, r0 = self.tab.evaluate(said)
+            self.assertEqual((left, r0), (part, self.shown()[2][0]))
+
+    def test_marks(self):
+        self.choose("argument into memory")
+        self.run_typed(self.WRITES, need="4", argument="513", memory="01 02 03 04 05")
+        marked = []
+        for _ in range(8):
+            self.click("step_forth")
+            marked.append([self.marks(room) for room in ("registers", "step_stack", "step_part")])
+        self.assertEqual(marked, [
+            [[], ["01", "02"], []],
+            [["513 (0x201)"], [], []],
+            [[], [], ["01", "02"]],
+            [[], ["01"], []],
+            [["stack+512"], [], []],
+            [["stack+496"], [], []],
+            [["18446744073709551615 (0xffffffffffffffff, -1)"], [], []],
+            [[], [], []],
+        ])
+        self.assertEqual(self.text("step_stack").splitlines(), ["..", "r10-16   01" + " 00" * 7 + " 01 02" + " 00" * 6])
+        self.click("step_first")
+        for _ in range(4):
+            self.tab.evaluate("go_to(steps.at + 1)")
+        self.picture("step")
+        self.tab.colours("dark")
+        self.picture("step_dark")
+
+    def test_the_instruction_is_marked(self):
+        self.choose("byte at an index")
+        self.click("run")
+        marked = """["#flow .now", "#lines .now", "#graph .now"].map((one) => document.querySelectorAll(one).length)"""
+        self.assertEqual(self.tab.evaluate(marked), [0, 0, 0])
+        for state in self.states()[1:]:
+            self.click("step_forth")
+            self.assertEqual(self.tab.evaluate(marked), [1, 1, 1])
+            slot, line = self.tab.evaluate("[steps.step.slot, steps.step.line]")
+            self.assertEqual(self.tab.evaluate("document.querySelector('#flow .now').textContent").split()[0], str(slot))
+            self.assertEqual(self.tab.evaluate("Number(document.querySelector('#lines .now').textContent)"), line)
+            self.assertIn(f"slot {slot}, line {line}: ", state[0])
+
+    def test_keys(self):
+        self.choose("Internet checksum")
+        self.click("run")
+        place = "[steps.at, steps.steps.length]"
+        self.tab.press("ArrowRight", 0, 39)
+        self.assertEqual(self.tab.evaluate(place), [0, 18])
+        for focus in ("stepper", "step_forth", "step_at", "step_part"):
+            self.tab.evaluate(f"document.getElementById('{focus}').focus()")
+            reached = []
+            for key, code in (("ArrowRight", 39), ("ArrowRight", 39), ("ArrowLeft", 37), ("End", 35), ("ArrowRight", 39), ("Home", 36), ("ArrowLeft", 37)):
+                self.tab.press(key, 0, code)
+                reached.append(self.tab.evaluate(place)[0])
+            self.assertEqual(reached, [1, 2, 1, 18, 18, 0, 0], focus)
+        # elsewhere the keys are the field's own
+        self.tab.evaluate("document.getElementById('source').focus()")
+        self.tab.press("ArrowRight", 0, 39)
+        self.assertEqual(self.tab.evaluate(place)[0], 0)
+
+    def test_the_slider(self):
+        self.choose("Internet checksum")
+        self.click("run")
+        self.fill(step_at="7")
+        self.agree(self.shown(), self.states()[7])
+
+    def test_a_long_run(self):
+        source = "mov64 r0, 0\n" + "add64 r0, 1\n" * 4094 + "exit\n"
+        self.tab.evaluate(f"show({json.dumps(source)}, {{}}); do_run()")
+        spent = """(() => { const began = performance.now();
+            for (let n = 0; n < 100; n++) go_to(steps.at + 1);
+            go_to(4096); go_to(0); go_to(2000);
+            for (let n = 0; n < 100; n++) go_to(steps.at - 1);
+            return performance.now() - began; })()"""
+        self.assertLess(self.tab.evaluate(spent), 5000)
+        self.assertEqual(self.shown()[2][0], "1899 (0x76b)")
+        self.picture("long_run")
+
+    def test_a_large_memory(self):
+        source = "add64 r1, 65535\nldxb r0, [r1+0]\nadd64 r0, r2\nstxb [r1+0], r3\nexit"
+        self.run_typed(source, need="65536", argument="7", memory="00*65536")
+        self.click("step_last")
+        self.click("step_back")
+        self.assertEqual(self.marks("step_part"), ["07"])
+        self.assertEqual(self.text("step_part").splitlines(), ["..", "fff0 " + " 00" * 15 + " 07"])
+
+    def test_steps_go_with_the_run(self):
+        self.choose("Internet checksum")
+        self.assertTrue(self.is_hidden("stepper"))
+        self.click("run")
+        self.assertFalse(self.is_hidden("stepper"))
+        self.fill(credit="17")
+        self.click("run")
+        self.assertTrue(self.is_hidden("stepper"))
+        self.tab.evaluate("go_to(3)")
+        self.fill(credit="18")
+        self.click("run")
+        link = self.tab.evaluate("location.href")
+        self.click("step_forth")
+        self.assertEqual(self.tab.evaluate("location.href"), link)
+        self.click("verify")
+        self.assertTrue(self.is_hidden("stepper"))
+
+
+class Graphs(InBrowser):
+    READ = "[program.graph.boxes.map((one) => [one.cost, one.rows.map((row) => row.slot)]), program.graph.edges.map((one) => [one.from, one.to, one.word])]"
+    DRAWN = """[[...document.querySelectorAll("#graph .box")].length, [...document.querySelectorAll("#graph path.taken")].length,
+        [...document.querySelectorAll("#graph path.not_taken")].length, [...document.querySelectorAll("#graph path")].length]"""
+    # pairs of boxes that lie on one another, boxes that stand out of the picture, and edges that lead upwards
+    WRONG = """(() => {
+        const svg = document.querySelector("#graph svg").getBoundingClientRect();
+        const boxes = [...document.querySelectorAll("#graph .box > rect:first-child")].map((one) => one.getBoundingClientRect());
+        const meet = (a, b) => a.left < b.right && b.left < a.right && a.top < b.bottom && b.top < a.bottom;
+        const all = [...boxes, ...[...document.querySelectorAll("#graph text")].map((one) => one.getBoundingClientRect())];
+        return [boxes.flatMap((a, n) => boxes.slice(n + 1).filter((b) => meet(a, b))).length,
+            all.filter((one) => one.left < svg.left - 1 || one.right > svg.right + 1 || one.top < svg.top - 1 || one.bottom > svg.bottom + 1).length,
+            [...document.querySelectorAll("#graph .box")].filter((one) => {
+                const edge = one.querySelector("rect").getBoundingClientRect();
+                return [...one.querySelectorAll("text")].some((text) => text.getBoundingClientRect().right > edge.right + 1);
+            }).length];
+    })()"""
+
+    def agree(self):
+        boxes, edges = modelled(bytes(self.tab.evaluate("[...program.code]")))
+        self.assertEqual(self.tab.evaluate(self.READ), [[[f"cost {cost}", slots] for _, cost, slots in boxes], [*map(list, edges)]])
+        taken = sum(word == "taken" for _, _, word in edges)
+        self.assertEqual(self.tab.evaluate(self.DRAWN), [len(boxes), taken, taken, len(edges)])
+        self.assertEqual(self.tab.evaluate(self.WRONG), [0, 0, 0])
+
+    def test_examples(self):
+        for name in ("the answer", "Internet checksum", "byte at an index", "filter of packets", "sum of a part", "spawn (answered 1)"):
+            with self.subTest(name):
+                self.choose(name)
+                self.agree()
+                self.assertEqual(self.tab.evaluate("document.querySelectorAll('#graph .bad, #graph .way').length"), 0)
+        self.choose("filter of packets")
+        self.picture("graph")
+
+    def test_a_refused_program(self):
+        self.choose("refused: a byte too far")
+        self.agree()
+        red = "['#graph text.bad', '#graph .box.way', '#graph path.way'].map((one) => [...document.querySelectorAll(one)].length)"
+        self.assertEqual(self.tab.evaluate("document.querySelector('#graph text.bad').textContent.trim()"), "2  ldxb r0, [r1+0]")
+        self.assertEqual(self.tab.evaluate(red), [1, 2, 1])
+        self.picture("graph_refused")
+        self.tab.colours("dark")
+        self.picture("graph_refused_dark")
+
+    def test_no_graph(self):
+        for name in ("refused: a loop", "refused: no such word"):
+            self.choose(name)
+            self.assertTrue(self.is_hidden("graphs"))
+        self.choose("the answer")
+        self.assertFalse(self.is_hidden("graphs"))
+
+    def test_many_blocks(self):
+        ladder = "mov64 r0, 0\n" + "jeq r0, 0, +0\n" * 500 + "exit"
+        self.tab.evaluate(f"show({json.dumps(ladder)}, {{}}); do_verify()")
+        self.assertEqual(self.text("graph_facts"), "501 blocks, 1000 edges")
+        self.assertIn("too many to draw", self.text("graph"))
+        wide = "".join(f"jeq r3, {n}, +{60 - n}\n" for n in range(30)) + "mov64 r0, 1\n" * 31 + "exit"
+        self.tab.evaluate(f"show({json.dumps(wide)}, {{}}); do_verify()")
+        self.agree()
+        # (the first box can be seen)
+        seen = """(() => { const room = document.getElementById("graph").getBoundingClientRect();
+            const box = document.querySelector("#graph .box").getBoundingClientRect();
+            return box.left >= room.left && box.right <= room.right && box.top >= room.top; })()"""
+        self.assertTrue(self.tab.evaluate(seen))
+        self.picture("graph_of_many")
+
+    def test_a_long_block(self):
+        source = "mov64 r0, 0\n" + "add64 r0, 1\n" * 50 + "ldxb r0, [r1+0]\n" + "add64 r0, 1\n" * 50 + "exit"
+        self.tab.evaluate(f"show({json.dumps(source)}, {{}}); do_verify()")
+        rows = self.tab.evaluate("[...document.querySelectorAll('#graph .box text')].map((one) => one.textContent.trim())")
+        self.assertEqual((rows[13], rows[16], rows[19]), (".. 37 more", "51  ldxb r0, [r1+0]", ".. 43 more"))
+        self.assertEqual(self.tab.evaluate(self.WRONG), [0, 0, 0])
+        self.tab.evaluate(f"show({json.dumps(source)}, {{need: '1', memory: '05'}}); do_run(); go_to(30)")
+        self.assertEqual(self.tab.evaluate("document.querySelectorAll('#graph .now').length"), 1)
+
+    def test_random_programs(self):
+        chance = random.Random(3)
+        for _ in range(60):
+            source = drawn_program(chance)
+            self.tab.evaluate(f"show({json.dumps(source)}, {{need: '16'}}); do_verify()")
+            if not self.is_hidden("graphs"):
+                with self.subTest(source):
+                    self.agree()
+
+    def test_a_long_program_is_drawn_once_it_is_opened(self):
+        source = "mov64 r0, 0\n" + "add64 r0, 1\n" * 600 + "exit"
+        self.tab.evaluate(f"show({json.dumps(source)}, {{}}); do_verify()")
+        self.assertEqual(self.tab.evaluate("[document.getElementById('graphs').open, program.graph ?? null]"), [False, None])
+        self.tab.evaluate("document.getElementById('graphs').open = true")
+        self.tab.wait_for("Boolean(program.graph)")
+        self.assertEqual(self.text("graph_facts"), "1 block, 0 edges")
+        self.choose("the answer")
+        self.agree()
+
+    def test_it_is_drawn_once_it_is_open(self):
+        self.choose("the answer")
+        self.tab.evaluate("document.getElementById('graphs').open = false")
+        self.choose("filter of packets")
+        self.assertIsNone(self.tab.evaluate("program.graph ?? null"))
+        self.tab.evaluate("document.getElementById('graphs').open = true")
+        self.tab.wait_for("Boolean(program.graph)")
+        self.agree()
+
+
 class Addresses(InBrowser):
     def test_a_link_carries_the_program(self):
         source = "; ä + & % # =\nmov64 r0, r3\nexit\n"
@@ -231,7 +519,15 @@ class Looks(InBrowser):
             self.assertLessEqual(self.overflow(), 0)
             self.click("run")
             self.assertLessEqual(self.overflow(), 0)
+        for _ in range(4):
+            self.click("step_forth")
+        self.assertLessEqual(self.overflow(), 0)
+        # (letters of a graph stay legible)
+        letters = "document.querySelector('#graph text').getBoundingClientRect().height"
+        self.assertGreater(self.tab.evaluate(letters), 10)
         self.picture("narrow")
+        self.choose("refused: a byte too far")
+        self.picture("narrow_refused")
 
     def test_contrast(self):
         # each colour of text against each paper that it stands on, by WCAG's formula, at least 4.5
@@ -247,7 +543,9 @@ class Looks(InBrowser):
             const pairs = [];
             const papers = ["--paper", "--field"];
             for (const ink of ["--ink", "--soft", "--bad", "--good", "--accent"]) for (const paper of papers) pairs.push([ink, paper]);
-            for (const [ink, paper] of [["--ink", "--new-paper"], ["--ink", "--bad-paper"], ["--soft", "--bad-paper"], ["--bad", "--bad-paper"]]) pairs.push([ink, paper]);
+            const more = [["--ink", "--new-paper"], ["--ink", "--bad-paper"], ["--soft", "--bad-paper"], ["--bad", "--bad-paper"],
+                ["--ink", "--now-paper"], ["--soft", "--now-paper"]];
+            for (const [ink, paper] of more) pairs.push([ink, paper]);
             return pairs.map(([ink, paper]) => {
                 const [a, b] = [light(ink), light(paper)].sort((x, y) => y - x);
                 return [ink, paper, (a + 0.05) / (b + 0.05)];
@@ -326,7 +624,7 @@ def drawn_program(chance):
 class Library:
     """libtelgovan.so, called as the header says. A room is a buffer of ctypes with its size."""
 
-    ROOM = 65536
+    ROOM = 1 << 18
 
     def __init__(self):
         folder = os.environ.get("TELGOVAN_LIB") or TOP / "bindings/out"
@@ -338,7 +636,7 @@ class Library:
         told = ctypes.create_string_buffer(24)
         export(*given, self.room, ctypes.c_size_t(self.ROOM), told)
         length, place, status, has_place = struct.unpack("<QQI?3x", told.raw)
-        return status, place if has_place else None, self.room.raw[:length]
+        return status, place if has_place else None, ctypes.string_at(self.room, min(length, self.ROOM))
 
     @staticmethod
     def lent(given):
@@ -357,6 +655,11 @@ class Library:
         r0, status, used = struct.unpack("<QII", told.raw)
         return [status, str(r0), used, list(part.raw[: len(memory)])]
 
+    def traced(self, need, code, source, credit, argument, memory):
+        """The steps of a run, as written."""
+        run = (ctypes.c_uint32(credit), ctypes.c_uint64(argument), *self.lent(memory))
+        return self.written(self.lib.telgovan_trace, ctypes.c_uint32(need), *self.lent(code), *self.lent(source.encode()), *run)
+
     def said(self, source, need, credit, argument, memory):
         """What the page tells of the same."""
         text = self.lent(source.encode())
@@ -365,7 +668,11 @@ class Library:
             return [status, place]
         status, slot, told = self.written(self.lib.telgovan_explain, ctypes.c_uint32(need), *self.lent(code), *text)
         explained = [status, slot, told.decode()]
-        return [0, None, code.hex(), *self.verdict(need, code), *explained, *self.run(need, code, credit, argument, memory)]
+        status, slot, drawn = self.written(self.lib.telgovan_graph, ctypes.c_uint32(need), *self.lent(code), *text)
+        shown = [status, slot, drawn.decode()]
+        status, slot, steps = self.traced(need, code, source, credit, argument, memory)
+        shown += [status, slot, steps.decode()]
+        return [0, None, code.hex(), *self.verdict(need, code), *explained, *self.run(need, code, credit, argument, memory), *shown]
 
 
 SAID = """(([source, need, credit, argument, memory]) => {
@@ -375,8 +682,10 @@ SAID = """(([source, need, credit, argument, memory]) => {
     const verdict = library.verify(need, code.bytes);
     const told = library.explain(need, code.bytes, source);
     const done = library.run(need, code.bytes, credit, BigInt(argument), Uint8Array.from(memory));
+    const drawn = library.graph(need, code.bytes, source);
+    const steps = library.trace(need, code.bytes, source, credit, BigInt(argument), Uint8Array.from(memory));
     const said = [0, null, hex, verdict.status, verdict.cost, verdict.slot, told.status, told.slot, told.text,
-        done.status, String(done.r0), done.used, [...done.memory]];
+        done.status, String(done.r0), done.used, [...done.memory], ...[drawn, steps].flatMap((one) => [one.status, one.slot, one.text])];
     if (library.disassemble(code.bytes).text !== source + "\\n") said.push("it is read back otherwise");
     return said;
 })"""

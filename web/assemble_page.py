@@ -32,6 +32,8 @@ def page(module: bytes) -> str:
         "/*STYLE*/": text("page.css"),
         "/*LIBRARY*/": text("telgovan.js"),
         "/*FLOW*/": text("flow.js"),
+        "/*GRAPH*/": text("graph.js"),
+        "/*STEPS*/": text("steps.js"),
         "/*PAGE*/": text("page.js"),
         "/*EXAMPLES*/[]": json.dumps(examples).replace("</", "<\\/"),
         "/*MODULE*/": base64.b64encode(gzip.compress(module, 9, mtime=0)).decode(),

@@ -6,6 +6,7 @@ const at = (id) => document.getElementById(id);
 const FIELDS = { need: "0", argument: "0", credit: "2147483647", memory: "" };
 const MOST_QUOTED = 200; // of a line that says nothing known
 const MOST_BYTES = 1 << 20; // the library refuses over 65,536
+const MOST_AT_ONCE = 512; // slots of a program whose graph is drawn unasked
 const WORDS = {
     1: "no instruction", 2: "a length that is no multiple of 8", 3: "more than 4,096 slots",
     11: "an unknown word", 12: "operands that aren't the word's", 13: "a number out of range",
@@ -15,6 +16,7 @@ const WORDS = {
 
 let library;
 let program = null; // what is known of the text: its bytes, its listing, its flow and its verdict
+let steps = null; // those of the last run
 let written = ""; // the address that the page wrote last
 
 // ---- what is typed
@@ -64,6 +66,10 @@ function tell(verdict, kind, facts = []) {
     at("facts").replaceChildren(...facts.flatMap(([name, value]) => [made("dt", name), made("dd", String(value))]));
 }
 
+function counted(count, word) {
+    return `${count} ${word}${count === 1 ? "" : "s"}`;
+}
+
 function hide(...ids) {
     for (const id of ids) at(id).hidden = true;
 }
@@ -80,12 +86,7 @@ function number_lines(bad) {
     at("source").style.height = `${count * 20 + 36}px`;
     at("source").style.width = `${widest + 3}ch`;
     const marked = lines[(bad ?? 0) - 1];
-    if (marked) {
-        const [editor, top] = [at("editor"), marked.offsetTop - at("lines").offsetTop];
-        if (top < editor.scrollTop || top + 40 > editor.scrollTop + editor.clientHeight) {
-            editor.scrollTop = Math.max(0, top - editor.clientHeight / 2);
-        }
-    }
+    if (marked) see_within(at("editor"), marked.offsetTop - at("lines").offsetTop, ROW);
 }
 
 // Bytes as lines of hexadecimal, with what changed marked.
@@ -128,7 +129,7 @@ function refused_text(code) {
     const line = code.place === null ? "" : at("source").value.split("\n")[code.place - 1];
     at("explained").textContent = line.length > MOST_QUOTED ? `${line.slice(0, MOST_QUOTED)} ..` : line;
     at("explained").hidden = code.place === null;
-    at("flows").hidden = true;
+    hide("flows", "graphs");
     number_lines(code.place);
 }
 
@@ -138,12 +139,101 @@ function show_flow(verdict, explanation) {
     const way = /^way: (.*)$/m.exec(explanation);
     program.bad = verdict.status && verdict.slot !== null ? verdict.slot : null;
     mark_flow(program.flow, way ? way[1].split(" ").map(Number) : [], program.bad);
-    const counted = (count, word) => `${count} ${word}${count === 1 ? "" : "s"}`;
     const { found, arcs, jumps } = program.flow;
     const drawn = arcs.length < jumps ? `, ${arcs.length} of them drawn` : "";
     at("flow_facts").textContent = `${counted(found.length, "instruction")}, ${counted(jumps, "jump")}${drawn}`;
     at("flows").hidden = false;
 }
+
+// The graph, of a program that has one. It is drawn once it can be seen; of a long program, for which
+// the library takes a while, once it is opened.
+function show_graph() {
+    const { verdict, code } = program;
+    const has_graph = verdict.status === 0 || (verdict.status > 30 && verdict.status < 38);
+    at("graphs").hidden = !has_graph;
+    if (!has_graph) return;
+    const is_long = code.length / 8 > MOST_AT_ONCE;
+    if (is_long && at("graphs").open) {
+        at("graphs").open = false;
+        at("graphs").dataset.shut = "yes";
+    } else if (!is_long && at("graphs").dataset.shut) {
+        at("graphs").open = true;
+        delete at("graphs").dataset.shut;
+    }
+    at("graph_facts").textContent = "";
+    at("graph").replaceChildren();
+    draw_if_open();
+}
+
+function draw_if_open() {
+    if (!program || program.graph || at("graphs").hidden || !at("graphs").open) return;
+    const { need, code, source } = program;
+    const drawn = library.graph(need, code, source);
+    if (!drawn.text) throw new Error(`the graph: refused ${drawn.status}: ${WORDS[drawn.status] ?? ""}`);
+    program.graph = draw_graph(at("graph"), drawn.text);
+    const { boxes, edges } = program.graph;
+    at("graph_facts").textContent = `${counted(boxes.length, "block")}, ${counted(edges.length, "edge")}`;
+    mark_step();
+}
+
+// ---- steps
+
+// Marks the instruction of the step in the lists, the graph and the text. Where these have thousands of
+// rows, asking for the place of one would take longer than all else.
+function mark_step() {
+    for (const one of mark_step.marked) one.classList.remove("now");
+    mark_step.marked = [];
+    const step = steps?.step;
+    if (!step) return;
+    const row = program.flow.row_of.get(step.slot);
+    const line = at("lines").children[step.line - 1];
+    const band = program.graph?.row_of.get(step.slot);
+    mark_step.marked = [program.flow.rows[row], line, band].filter((one) => one);
+    for (const one of mark_step.marked) one.classList.add("now");
+    see_within(at("flow"), row * ROW, ROW);
+    if (line) see_within(at("editor"), (step.line - 1) * ROW, ROW);
+    if (band) see_band(at("graph"), band);
+}
+mark_step.marked = [];
+
+// Scrolls a room so far that so many pixels from a place on can be seen.
+function see_within(room, top, height) {
+    if (top < room.scrollTop || top + 2 * height > room.scrollTop + room.clientHeight) {
+        room.scrollTop = Math.max(0, top - room.clientHeight / 2);
+    }
+}
+
+function go_to(place) {
+    if (!steps) return;
+    steps.go(place);
+    tell_steps(steps);
+    mark_step();
+}
+
+const MOVES = {
+    Home: () => 0,
+    ArrowLeft: () => steps.at - 1,
+    ArrowRight: () => steps.at + 1,
+    End: () => steps.steps.length,
+};
+
+function forget_steps() {
+    steps = null;
+    at("stepper").hidden = true;
+    mark_step();
+}
+
+// The steps of a run that ended, from its start on.
+function show_steps({ need, argument, credit, memory }) {
+    const told = library.trace(need, program.code, program.source, credit, argument, memory);
+    if (told.status) return;
+    steps = new Steps(told.text, memory, argument);
+    at("step_at").max = steps.steps.length;
+    at("stepper").hidden = false;
+    go_to(0);
+}
+
+// ---- verdicts, and runs
 
 // Assembles and verifies what is typed, and tells the verdict.
 function judge() {
@@ -151,6 +241,7 @@ function judge() {
     const need = Number(number("need", 2n ** 32n));
     program = null;
     hide("memories");
+    forget_steps();
     const code = library.assemble(source);
     if (code.status) {
         refused_text(code);
@@ -162,6 +253,7 @@ function judge() {
     program = { source, need, code: code.bytes, verdict };
     const explanation = verdict.status ? library.explain(need, code.bytes, source).text : "";
     show_flow(verdict, explanation);
+    show_graph();
     const [first, ...others] = explanation.split("\n");
     at("explained").textContent = others.join("\n").trimEnd();
     at("explained").hidden = !explanation;
@@ -195,6 +287,7 @@ function run() {
     }
     tell("ran to its end", "good", [["R0", number_text(done.r0)], ["spent", `${done.used} of at most ${program.verdict.cost}`]]);
     tell_memory(memory, done.memory);
+    show_steps({ need, argument, credit, memory });
 }
 
 // ---- the address
@@ -224,8 +317,9 @@ function guarded(work) {
         try {
             work();
         } catch (wrong) {
-            hide("memories", "explained", "flows");
+            hide("memories", "explained", "flows", "graphs");
             program = null;
+            forget_steps();
             number_lines(null);
             tell(wrong.message, "bad");
         }
@@ -289,6 +383,17 @@ function listen() {
     at("verify").onclick = do_verify;
     at("run").onclick = do_run;
     at("share").onclick = copy_link;
+    at("graphs").ontoggle = guarded(draw_if_open);
+    for (const [name, move] of [["first", "Home"], ["back", "ArrowLeft"], ["forth", "ArrowRight"], ["last", "End"]]) {
+        at(`step_${name}`).onclick = () => go_to(MOVES[move]());
+    }
+    at("step_at").oninput = () => go_to(Number(at("step_at").value));
+    at("stepper").onkeydown = (event) => {
+        const move = MOVES[event.key];
+        if (!move || !steps || event.ctrlKey || event.metaKey || event.altKey || event.shiftKey) return;
+        event.preventDefault();
+        go_to(move());
+    };
     document.onkeydown = (event) => {
         if (!event.ctrlKey && !event.metaKey) return;
         if (event.key !== "Enter") return;

@@ -96,16 +96,30 @@ class Telgovan {
         });
     }
 
+    // The text that a call tells of a program and its source, which gives the lines.
+    text_of(call, need, code, source, size) {
+        const text = new TextEncoder().encode(source);
+        const lent = [need, this.lend(code), BigInt(code.length), this.lend(text), BigInt(text.length)];
+        const told = this.written((...room) => call(...lent, ...room), size);
+        return { status: told.status, slot: told.place, text: new TextDecoder().decode(told.bytes) };
+    }
+
     // Why a program is refused: a text, empty where it is accepted.
     explain(need, code, source) {
+        return this.during(() => this.text_of(this.lib.telgovan_explain, need, code, source, 4096));
+    }
+
+    // A program's graph in the language DOT: a text, empty where it has none.
+    graph(need, code, source) {
+        return this.during(() => this.text_of(this.lib.telgovan_graph, need, code, source, 1 << 16));
+    }
+
+    // The steps of a run: a text with a JSON object a line, empty where the program doesn't run.
+    trace(need, code, source, credit, argument, memory) {
         return this.during(() => {
-            const text = new TextEncoder().encode(source);
-            const at = this.lend(code);
-            const from = this.lend(text);
-            const sizes = [BigInt(code.length), BigInt(text.length)];
-            const call = (...room) => this.lib.telgovan_explain(need, at, sizes[0], from, sizes[1], ...room);
-            const told = this.written(call, 4096);
-            return { status: told.status, slot: told.place, text: new TextDecoder().decode(told.bytes) };
+            const run = [credit, BigInt.asIntN(64, argument), this.lend(memory), BigInt(memory.length)];
+            const call = (...given) => this.lib.telgovan_trace(...given.slice(0, 5), ...run, ...given.slice(5));
+            return this.text_of(call, need, code, source, 1 << 16);
         });
     }
 

@@ -166,6 +166,32 @@ static int try_start(long request, int all, const struct code *seven, const stru
     return was_refused;
 }
 
+/* Steps and graphs are told whole or not at all. */
+static int try_views(long request, int all, const struct code *seven, const struct code *none) {
+    static uint8_t room[ROOM], same[ROOM];
+    struct telgovan_written written;
+    uint8_t nothing;
+    (void)none;
+    int were_refused = 0;
+    for (int view = 0; view < 2; view++) {
+        memset(room, 7, sizeof room);
+        memset(same, 7, sizeof same);
+        long before = blocks;
+        granted = request, then_all = all, refused = 0;
+        uint32_t status =
+            view == 0 ? telgovan_trace(0, seven->bytes, seven->length, &nothing, 0, 10, 0,
+                                       &nothing, 0, room, ROOM, &written)
+                      : telgovan_graph(0, seven->bytes, seven->length, &nothing, 0, room, ROOM,
+                                       &written);
+        granted = -1;
+        HOLDS(blocks == before && status == written.status);
+        HOLDS(status == (refused ? 99 : 0) && (written.length == 0) == (status != 0));
+        HOLDS(memcmp(room + written.length, same, ROOM - written.length) == 0);
+        were_refused |= refused;
+    }
+    return were_refused;
+}
+
 /* A job leaves the buffer and the tasks where it is refused. A spawn that is refused is an answer
  * to the task, and no refusal of the job. */
 static int try_job(long request, int all, const struct code *sum, const struct code *none) {
@@ -272,6 +298,7 @@ int main(int count, char **words) {
     try_each("share", try_share, &seven, &eight);
     try_each("load with helpers", try_load_with, &seven, &eight);
     try_each("start", try_start, &seven, &eight);
+    try_each("steps and graph", try_views, &seven, &seven);
     try_each("job", try_job, &sum, &sum);
     try_each("desk", try_desk, &sum, &sum);
     return 0;

@@ -33,8 +33,10 @@ __all__ = [
     "assemble",
     "disassemble",
     "explain",
+    "graph",
     "play_text",
     "run_once",
+    "trace",
 ]
 
 _HERE = os.path.dirname(os.path.abspath(__file__))
@@ -138,6 +140,11 @@ def _export(name, *shape, answers=ctypes.c_uint32):
 _assemble = _export("telgovan_assemble", *_BYTES, *_ROOM, ctypes.POINTER(_Written))
 _disassemble = _export("telgovan_disassemble", *_BYTES, *_ROOM, ctypes.POINTER(_Written))
 _explain = _export("telgovan_explain", _U32, *_BYTES, *_BYTES, *_ROOM, ctypes.POINTER(_Written))
+_graph = _export("telgovan_graph", _U32, *_BYTES, *_BYTES, *_ROOM, ctypes.POINTER(_Written))
+_RUN_OF = [_U32, _U64, *_BYTES]
+_trace = _export(
+    "telgovan_trace", _U32, *_BYTES, *_BYTES, *_RUN_OF, *_ROOM, ctypes.POINTER(_Written)
+)
 _run = _export("telgovan_run", _U32, *_BYTES, _U32, _U64, *_ROOM, ctypes.POINTER(_Outcome))
 _load = _export("telgovan_program_load", _U32, *_BYTES, _HANDLE, ctypes.POINTER(_Verdict))
 _run_held = _export("telgovan_program_run", _HANDLE, _U32, _U64, *_ROOM, ctypes.POINTER(_Outcome))
@@ -196,29 +203,36 @@ def _lent(memory):
     return (ctypes.c_char * size).from_buffer(view.cast("B")), size
 
 
-def _write(export, given, size):
-    """What a call writes into a room of this size, or of the size that the call asks for."""
+def _roomy(size, export, *given):
+    """The status of a call, what it tells, and what it writes into a room of this size, or of the
+    size that the call asks for."""
     told = _Written()
     while True:
         room = ctypes.create_string_buffer(max(size, 1))
-        status = export(given, len(given), room, size, told)
+        status = export(*given, room, size, told)
         if status != 65 or told.length <= size:
-            break
+            return status, told, room.raw[: told.length]
         size = told.length
+
+
+def _write(size, export, *given):
+    """What a call writes."""
+    status, told, text = _roomy(size, export, *given)
     if status:
         raise Error(status, told.place if told.has_place else None)
-    return room.raw[: told.length]
+    return text
 
 
 def assemble(source):
     """The bytes of the program that a source text says."""
-    return _write(_assemble, source.encode(), 8 * 4096)
+    source = source.encode()
+    return _write(8 * 4096, _assemble, source, len(source))
 
 
 def disassemble(code):
     """The lines of the program that the bytes spell."""
     code = bytes(code)
-    return _write(_disassemble, code, 8 * len(code)).decode("ascii")
+    return _write(8 * len(code), _disassemble, code, len(code)).decode("ascii")
 
 
 def explain(need, code, source=""):
@@ -240,6 +254,38 @@ def explain(need, code, source=""):
         if told.length <= size:
             return room.raw[: told.length].decode()
         size = told.length
+
+
+def graph(need, code, source=""):
+    """The graph of a program as text in the language DOT: a box for each basic block, and red where
+    an instruction isn't allowed. A program that has no graph is refused. A source text gives the
+    lines.
+
+    >>> print(graph(0, assemble("exit")).count("color=\"red\""))
+    1
+    """
+    code, source = bytes(code), source.encode()
+    given = (_number(need, _WORD, "need"), code, len(code), source, len(source))
+    status, told, text = _roomy(1 << 14, _graph, *given)
+    if not told.length:
+        raise Error(status, told.place if told.has_place else None)
+    return text.decode()
+
+
+def trace(need, code, memory, argument=0, credit=2**31 - 1, source=""):
+    """The steps of a program's run on this memory, which isn't changed, as dictionaries: the `slot`
+    and the text `insn` of the instruction, its `line` in a source text, the `registers` that
+    changed, the bytes of `stack` and `part` that did, with the place `at` which they stand, and
+    what the run has `used`.
+
+    >>> [step["registers"] for step in trace(0, assemble("mov64 r0, r3\nexit"), b"", argument=7)]
+    [{'r0': '7'}, {}]
+    """
+    code, source, memory = bytes(code), source.encode(), bytes(memory)
+    given = (_number(need, _WORD, "need"), code, len(code), source, len(source))
+    run = (_number(credit, _WORD, "credit"), _number(argument, 2**64, "argument"))
+    text = _write(1 << 14, _trace, *given, *run, memory, len(memory))
+    return [json.loads(line) for line in text.splitlines()]
 
 
 def _executed(outcome):

@@ -20,8 +20,10 @@ from telgovan import (
     assemble,
     disassemble,
     explain,
+    graph,
     play_text,
     run_once,
+    trace,
 )
 
 EXAMPLES = os.path.join(os.path.dirname(os.path.abspath(__file__)), "../../examples")
@@ -106,9 +108,58 @@ class Calls(Refusing):
         ladder = assemble("mov64 r0, 0\n" + "jeq r0, 0, +0\n" * 2000 + "ldxb r0, [r1+0]\nexit")
         self.assertGreater(len(explain(0, ladder)), 4096)
 
+    def test_draws_a_graph(self):
+        source = source_of("byte_at.bpf")
+        code = assemble(source)
+        drawn = graph(16, code, source)
+        self.assertTrue(drawn.startswith("digraph program {\n") and drawn.endswith("}\n"))
+        self.assertNotIn("red", drawn)
+        self.assertIn("slot 2, line 5: ldxb r0, [r1+0]", drawn)
+        self.assertIn('<font color="red">slot 2: ldxb r0, [r1+0]</font>', graph(15, code))
+        self.refused(23, 0, graph, 0, assemble("ja -1"))
+        self.refused(2, None, graph, 0, bytes(7))
+        self.refused(38, None, graph, 65537, assemble("exit"))
+        # a drawing that is longer than the first room
+        ladder = assemble("mov64 r0, 0\n" + "jeq r0, 0, +0\n" * 500 + "exit")
+        self.assertEqual(graph(0, ladder).count(" -> "), 1000)
+
+    def test_traces_a_run(self):
+        source = "ldxb r0, [r1+0]\n; twice\nstxh [r10-2], r0\nstxb [r1+1], r3\nexit"
+        memory = bytearray([40, 9])
+        steps = trace(2, assemble(source), memory, argument=7, source=source)
+        self.assertEqual(memory, bytearray([40, 9]))
+        told = [(step["slot"], step["insn"], step["line"], step["used"]) for step in steps]
+        self.assertEqual(
+            told,
+            [
+                (0, "ldxb r0, [r1+0]", 1, 1),
+                (1, "stxh [r10-2], r0", 3, 2),
+                (2, "stxb [r1+1], r3", 4, 3),
+                (3, "exit", 5, 4),
+            ],
+        )
+        self.assertEqual([step["registers"] for step in steps], [{"r0": "40"}, {}, {}, {}])
+        self.assertEqual(steps[1]["stack"], {"at": 510, "bytes": "28"})
+        self.assertEqual(steps[2]["part"], {"at": 1, "bytes": "07"})
+        self.assertNotIn("line", trace(2, assemble(source), memory)[0])
+
+    def test_traces_no_run_that_is_refused(self):
+        code = assemble("ldxb r0, [r1+0]\nexit")
+        self.refused(33, 0, trace, 0, code, b"")
+        self.refused(42, None, trace, 1, code, b"1", credit=1)
+        self.refused(43, None, trace, 1, code, b"")
+        self.refused(65, None, trace, 1, code, bytes(65537))
+        self.refused(65, None, trace, 1, code, b"1", credit=2**31)
+        self.assertEqual(len(trace(1, code, b"1", credit=2)), 2)
+        # as many steps as slots, in more room than there is at first
+        longest = assemble("mov64 r0, 0\n" * 4095 + "exit")
+        self.assertEqual(trace(0, longest, b"")[-1]["used"], 4096)
+
     def test_takes_no_number_that_is_cut(self):
         self.assertRaises(ValueError, Machine(self.program).execute, packet(53), credit=2**32)
         self.assertRaises(ValueError, Machine(self.program).execute, packet(53), argument=-1)
+        self.assertRaises(ValueError, trace, 0, b"", b"", argument=2**64)
+        self.assertRaises(ValueError, graph, 2**32, b"")
 
 
 class Held(Refusing):

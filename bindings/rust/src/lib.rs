@@ -28,4 +28,4 @@ pub use error::{Error, JobError};
 pub use hosted::{Event, Helpers, HostedTask, Question};
 pub use job::{Job, Report, Task};
 pub use program::{Executed, Piece, Program};
-pub use text::{assemble, disassemble, explain};
+pub use text::{assemble, disassemble, explain, graph, trace};

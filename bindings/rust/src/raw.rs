@@ -193,6 +193,32 @@ extern "C" {
         written: *mut Written,
     ) -> u32;
 
+    pub fn telgovan_graph(
+        need: u32,
+        code: *const u8,
+        code_length: usize,
+        source: *const u8,
+        source_length: usize,
+        room: *mut u8,
+        room_length: usize,
+        written: *mut Written,
+    ) -> u32;
+
+    pub fn telgovan_trace(
+        need: u32,
+        code: *const u8,
+        code_length: usize,
+        source: *const u8,
+        source_length: usize,
+        credit: u32,
+        argument: u64,
+        memory: *const u8,
+        memory_length: usize,
+        room: *mut u8,
+        room_length: usize,
+        written: *mut Written,
+    ) -> u32;
+
     pub fn telgovan_program_load(
         need: u32,
         code: *const u8,

@@ -1,4 +1,4 @@
-//! Source text to bytes, and back; and why a program is refused, as text.
+//! Source text to bytes, and back; and what is told of a program and of a run, as text.
 
 use crate::error::Error;
 use crate::raw;
@@ -78,11 +78,88 @@ pub fn explain(need: u32, code: &[u8], source: Option<&str>) -> Result<Option<St
     }
 }
 
-/// What a call writes into a room of this size, or into one of the size that the call asks for.
-fn written(
+/// The graph of a program of this need, in the language DOT: a box for each basic block, and red
+/// where an instruction isn't allowed. A program that has no graph is refused. A source text gives
+/// the lines.
+///
+/// ```
+/// let code = telgovan::assemble("ldxb r0, [r1+9]\nexit")?;
+/// let drawn = telgovan::graph(10, &code, None)?;
+/// assert!(drawn.starts_with("digraph program {\n") && !drawn.contains("red"));
+/// assert!(telgovan::graph(9, &code, None)?.contains("red"));
+/// # Ok::<(), telgovan::Error>(())
+/// ```
+pub fn graph(need: u32, code: &[u8], source: Option<&str>) -> Result<String, Error> {
+    let source = source.unwrap_or("");
+    // The library reads the code and the source, and writes the room and what is told alone.
+    let (status, told, drawn) = roomy(1 << 14, |room, told| unsafe {
+        raw::telgovan_graph(
+            need,
+            code.as_ptr(),
+            code.len(),
+            source.as_ptr(),
+            source.len(),
+            room.as_mut_ptr(),
+            room.len(),
+            told,
+        )
+    });
+    if drawn.is_empty() {
+        return Err(Error::at(status, told.has_place, told.place));
+    }
+    Ok(String::from_utf8(drawn).expect("the drawing is UTF-8"))
+}
+
+/// The steps of a program's run on this memory, which isn't changed: a JSON object on a line each,
+/// with the slot and the text of the instruction, the registers and the bytes that changed, and what
+/// the run has used. A source text gives the lines.
+///
+/// The refusals are those of the verdict, and of [`Program::execute`](crate::Program::execute).
+///
+/// ```
+/// let code = telgovan::assemble("mov64 r0, r3\nexit")?;
+/// let steps = telgovan::trace(0, &code, None, &[], 7, 2)?;
+/// let first = steps.lines().next().expect("a step");
+/// let told = r#"{"slot":0,"insn":"mov64 r0, r3","registers":{"r0":"7"},"used":1}"#;
+/// assert_eq!(first, told);
+/// # Ok::<(), telgovan::Error>(())
+/// ```
+pub fn trace(
+    need: u32,
+    code: &[u8],
+    source: Option<&str>,
+    memory: &[u8],
+    argument: u64,
+    credit: u32,
+) -> Result<String, Error> {
+    let source = source.unwrap_or("");
+    // The library reads the code, the source and the memory, and writes the room and what is told
+    // alone.
+    let steps = written(1 << 14, |room, told| unsafe {
+        raw::telgovan_trace(
+            need,
+            code.as_ptr(),
+            code.len(),
+            source.as_ptr(),
+            source.len(),
+            credit,
+            argument,
+            memory.as_ptr(),
+            memory.len(),
+            room.as_mut_ptr(),
+            room.len(),
+            told,
+        )
+    })?;
+    Ok(String::from_utf8(steps).expect("the steps are UTF-8"))
+}
+
+/// The status of a call, what it tells, and what it writes into a room of this size, or into one of
+/// the size that the call asks for.
+fn roomy(
     size: usize,
     call: impl Fn(&mut [u8], &mut raw::Written) -> u32,
-) -> Result<Vec<u8>, Error> {
+) -> (u32, raw::Written, Vec<u8>) {
     let mut room = vec![0; size];
     let mut told = raw::Written::default();
     let mut status = call(&mut room, &mut told);
@@ -90,9 +167,17 @@ fn written(
         room.resize(told.length as usize, 0);
         status = call(&mut room, &mut told);
     }
-    if status != 0 {
-        return Err(Error::at(status, told.has_place, told.place));
-    }
     room.truncate(told.length as usize);
-    Ok(room)
+    (status, told, room)
+}
+
+/// What a call writes.
+fn written(
+    size: usize,
+    call: impl Fn(&mut [u8], &mut raw::Written) -> u32,
+) -> Result<Vec<u8>, Error> {
+    match roomy(size, call) {
+        (0, _, room) => Ok(room),
+        (status, told, _) => Err(Error::at(status, told.has_place, told.place)),
+    }
 }

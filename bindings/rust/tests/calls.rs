@@ -3,7 +3,9 @@
 use std::sync::mpsc;
 use std::thread;
 
-use telgovan::{assemble, disassemble, Error, Executed, Job, JobError, Piece, Program, Task};
+use telgovan::{
+    assemble, disassemble, graph, trace, Error, Executed, Job, JobError, Piece, Program, Task,
+};
 
 fn code(source: &str) -> Vec<u8> {
     assemble(source).expect("a program")
@@ -138,6 +140,44 @@ fn reads_back_what_it_writes() {
             place: None
         })
     );
+}
+
+#[test]
+fn draws_a_graph() {
+    let source = "jeq r3, 0, +1\nldxb r0, [r1+0]\nmov64 r0, 1\nexit";
+    let drawn = graph(1, &code(source), Some(source)).expect("a graph");
+    let count = |text: &str, part| text.matches(part).count();
+    assert_eq!((count(&drawn, " -> "), count(&drawn, "red")), (3, 0));
+    assert!(drawn.contains("slot 1, line 2: ldxb r0, [r1+0]"));
+    let refused = graph(0, &code(source), None).expect("a graph");
+    assert!(refused.contains("<font color=\"red\">slot 1: ldxb r0, [r1+0]</font>"));
+    let number = |need, code: &[u8]| graph(need, code, None).expect_err("no graph").number;
+    assert_eq!(number(0, &code("ja -1")), 23);
+    assert_eq!(number(65_537, &code("exit")), 38);
+    let ladder = format!("mov64 r0, 0\n{}exit", "jeq r0, 0, +0\n".repeat(500));
+    let drawn = graph(0, &code(&ladder), None).expect("a graph");
+    assert_eq!(count(&drawn, " -> "), 1000);
+}
+
+#[test]
+fn traces_a_run() {
+    let adds = code("ldxb r0, [r1+0]\nadd64 r0, r3\nstxb [r1+0], r0\nexit");
+    let steps = trace(1, &adds, None, &[40], 2, 4).expect("ran");
+    let told: Vec<&str> = steps.lines().collect();
+    assert_eq!(told.len(), 4);
+    assert_eq!(
+        told[2],
+        r#"{"slot":2,"insn":"stxb [r1+0], r0","registers":{},"part":{"at":0,"bytes":"2a"},"used":3}"#
+    );
+    let refused = |need, memory: &[u8], credit| {
+        let error = trace(need, &adds, None, memory, 0, credit).expect_err("refused");
+        (error.number, error.place)
+    };
+    assert_eq!(refused(0, &[40], 4), (33, Some(0)));
+    assert_eq!(refused(1, &[40], 3), (42, None));
+    assert_eq!(refused(1, &[], 4), (43, None));
+    assert_eq!(refused(1, &[40], 1 << 31), (65, None));
+    assert_eq!(refused(1, &vec![0; 65_537], 4), (65, None));
 }
 
 #[test]

@@ -6,3 +6,5 @@ pub mod JobLemmas
 pub mod Pieces
 pub mod Turns
 pub mod HostedLemmas
+pub mod LineLemmas
+pub mod TraceLemmas

@@ -2,6 +2,7 @@ pub mod DeskHolding
 pub mod Desks
 pub mod Explains
 pub mod Finishing
+pub mod Graphs
 pub mod HelperFaults
 pub mod Holding
 pub mod Hosted
@@ -10,4 +11,5 @@ pub mod Programs
 pub mod Runs
 pub mod Tasks
 pub mod Texts
+pub mod Traces
 pub mod Verdicts

@@ -16,6 +16,11 @@ refused_text number None = record { length = 0; place = 0; status = number; has_
 refused_text number (Some place) =
     record { length = 0; place = place; status = number; has_place = true }
 
+-- the source text that these bytes are: none where they are no UTF-8
+abbrev pub IsSourceText : List ℕ → Option (List ℕ) → Type 0
+IsSourceText bytes None = IsUtf8 bytes → ⊥
+IsSourceText bytes (Some text) = IsUtf8 bytes × (text ≡ bytes)
+
 -- the bytes stand at the beginning of the room, if they fit, and nothing else of it changes
 pub data IsWritten (bytes old new : List ℕ) (told : Written) : Type 0 where
   fits : length bytes ≤ length old → new ≡ bytes ++ drop (length bytes) old

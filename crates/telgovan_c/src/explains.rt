@@ -35,8 +35,8 @@ fn without_text(status: u32) -> Written
     }
 }
 
-// What is told of a refusal whose text has so many bytes.
-fn with_text(text: &[u8], refusal: &Refusal) -> Written
+/// What is told of a refusal whose text has so many bytes.
+pub(crate) fn with_text(text: &[u8], refusal: &Refusal) -> Written
     ensures { result
         ≡ explained_as (length text.now) (number_of refusal.now) (slot_of refusal.now) }
 {

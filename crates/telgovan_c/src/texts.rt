@@ -1,7 +1,7 @@
 //! Source text to bytes, and back.
 
-ghost use Rattle.std.specs.Prelude.{◌≡◌};
-ghost use Rattle.telgovan_c.specs.Texts.{IsAssembled, IsDisassembled, IsWritten, refused_text};
+ghost use Rattle.std.specs.Prelude.{◌≡◌, option_map};
+ghost use Rattle.telgovan_c.specs.Texts.{IsAssembled, IsDisassembled, IsSourceText, IsWritten, refused_text};
 
 use assembler::assemble;
 use disassembler::disassemble;
@@ -25,8 +25,8 @@ pub struct Written {
     pub has_place: bool,
 }
 
-// Nothing is written, for a refusal of this number.
-fn refused_text(number: u32, place: Option<u64>) -> Written
+/// Nothing is written, for a refusal of this number.
+pub(crate) fn refused_text(number: u32, place: Option<u64>) -> Written
     ensures { result ≡ refused_text number place }
 {
     Written {
@@ -37,8 +37,8 @@ fn refused_text(number: u32, place: Option<u64>) -> Written
     }
 }
 
-// Writes the bytes at the beginning of the room, if they fit.
-fn write_into(bytes: &[u8], room: &mut [u8]) -> Written
+/// Writes the bytes at the beginning of the room, if they fit.
+pub(crate) fn write_into(bytes: &[u8], room: &mut [u8]) -> Written
     ensures { IsWritten bytes.now room.old room.new result }
 {
     let length = bytes.len() as u64;
@@ -56,13 +56,23 @@ fn write_into(bytes: &[u8], room: &mut [u8]) -> Written
     }
 }
 
-// A slot as a place.
-fn place_of(slot: Option<u32>) -> Option<u64>
+/// A slot as a place.
+pub(crate) fn place_of(slot: Option<u32>) -> Option<u64>
     ensures { result ≡ slot }
 {
     match slot {
         Some(slot) => Some(slot as u64),
         None => None,
+    }
+}
+
+/// The source text that these bytes are: none where they are no UTF-8.
+pub(crate) fn source_in(source: &[u8]) -> Option<&str>
+    ensures { IsSourceText source.now (option_map (λ text. text.now) result) }
+{
+    match str::from_utf8(source) {
+        Ok(text) => Some(text),
+        Err(_) => None,
     }
 }
 
