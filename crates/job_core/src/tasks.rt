@@ -110,8 +110,8 @@ impl Tasks {
     }
 
     /// Goes along a schedule as long as it names the task that it begins with, one instruction for
-    /// each entry, or until the task ends. What is left of it. Where the task isn't alive, all
-    /// these entries are passed over.
+    /// each entry. What is left of it. Where the task isn't alive, or ends, the entries that are
+    /// left of these are passed over.
     pub fn run<'a>(&mut self, alloc: Global, schedule: &'a [u32]) -> &'a [u32]
         requires behind { (j : JobState) × RepresentsJob (kept_of self.old) j }
         requires booked { IsBooked self.old }
@@ -122,10 +122,7 @@ impl Tasks {
         ensures shorter { length result.now < length schedule.now }
     {
         let named = named_alike(schedule);
-        let (count, _) = self.run_task(alloc, schedule[0], named);
-        if count == 0 {
-            return &schedule[named..];
-        }
-        &schedule[count..]
+        self.run_task(alloc, schedule[0], named);
+        &schedule[named..]
     }
 }
