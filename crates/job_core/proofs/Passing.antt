@@ -1,9 +1,11 @@
 -- A task that runs along the entries that name it, and the entries that are left once it isn't alive.
-use Rattle.std.proofs.Common.{◌≡◌, ℕ, zero, suc, ◌<◌, ◌≤◌, ◌+◌, ◌-◌, ◌∷◌, ◌++◌, [], arith, List, get_or, length, replicate, slice_get, take, refl, sym, ◌∙◌, ap, subst, Option, Some, None, inl, inr}
+use Rattle.std.proofs.Common.{◌≡◌, ℕ, zero, suc, ◌<◌, ◌≤◌, ◌+◌, ◌-◌, ◌∷◌, ◌++◌, [], arith, List, drop, get_or, length, replicate, slice_get, take, take-append-drop, refl, sym, ◌∙◌, ap, subst, Option, Some, None, inl, inr}
 use Rattle.std.proofs.lemmas.Bool.{cases_lt}
+use Rattle.std.proofs.lemmas.List.{append-nil, append_assoc}
 use Rattle.std.proofs.lemmas.Option.{slice_get_within, slice_get-get_or}
+use Rattle.std.proofs.Math.Seq.{take-length}
 use Rattle.machine_model.specs.JobState as job
-use Rattle.machine_model.specs.JobState.{JobState, IsAlive}
+use Rattle.machine_model.specs.JobState.{JobState, IsAlive, IsComplete}
 use Rattle.job_core.specs.declared.live.Live.{Live}
 use Rattle.job_core.specs.declared.tasks.Stepped.{Stepped}
 use Rattle.job_core.specs.declared.tasks.Stepped.TheVariants.{Skipped, Went, Ended}
@@ -72,3 +74,22 @@ module _ (old new : WorldState) (schedule : List ℕ) (n named count : ℕ) wher
           past_dead runs.last runs.behind
           (λ alive. let clash : Some (job.Live alive.0) ≡ Some (job.Ended runs.answers.1.0) = sym alive.1 ∙ runs.answers.1.1 in cc)
           so_far most fits alike
+
+-- where a job behind what is kept is complete, all that comes is skipped
+skips_all : (kept : WorldState) (last : JobState) → RepresentsJob kept last → IsComplete last →
+    (n : ℕ) (j : JobState) → RepresentsJob kept j → Steps kept j n Skipped kept
+skips_all kept last of_last done n = skips_dead kept last n of_last (λ alive. done n alive.0 alive.1)
+
+leads_all : (old kept : WorldState) → ((n : ℕ) (j : JobState) → RepresentsJob kept j → Steps kept j n Skipped kept) →
+    (ns ms : List ℕ) → LeadsOn old ns kept → LeadsOn old (ns ++ ms) kept
+leads_all old kept all ns [] so_far = subst (λ l. LeadsOn old l kept) (sym (append-nil ns)) so_far
+leads_all old kept all ns (m ∷ ms) so_far =
+    subst (λ l. LeadsOn old l kept) (append_assoc ns (m ∷ []) ms)
+    (leads_all old kept all (ns ++ m ∷ []) ms (leads_more old kept kept ns m Skipped so_far refl (all m)))
+
+-- and so a schedule is at its end
+pub leads_to_end : (old kept : WorldState) (schedule : List ℕ) (named : ℕ) (last : JobState) → RepresentsJob kept last → IsComplete last →
+    LeadsOn old (take named schedule) kept → LeadsOn old (take (length schedule) schedule) kept
+leads_to_end old kept schedule named last of_last done so_far =
+    subst (λ ns. LeadsOn old ns kept) (take-append-drop named schedule ∙ sym (take-length schedule))
+    (leads_all old kept (skips_all kept last of_last done) (take named schedule) (drop named schedule) so_far)

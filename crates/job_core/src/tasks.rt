@@ -3,7 +3,7 @@
 ghost use Rattle.std.specs.Prelude.{◌≡◌, ℕ, ◌<◌, ◌≤◌, ◌^◌, length, replicate, slice_get, List, ◌++◌};
 
 use crate::ledger::Ledger;
-use crate::schedule::named_alike;
+use crate::schedule::named_ahead;
 use interpreter::Next;
 use std::alloc::Global;
 use verifier::Verified;
@@ -110,8 +110,8 @@ impl Tasks {
     }
 
     /// Goes along a schedule as long as it names the task that it begins with, one instruction for
-    /// each entry. What is left of it. Where the task isn't alive, or ends, the entries that are
-    /// left of these are passed over.
+    /// each entry. What is left of it. Where the task isn't alive, or ends, what is left of these
+    /// entries is passed over, and with it the whole schedule if no task is alive.
     pub fn run<'a>(&mut self, alloc: Global, schedule: &'a [u32]) -> &'a [u32]
         requires behind { (j : JobState) × RepresentsJob (kept_of self.old) j }
         requires booked { IsBooked self.old }
@@ -121,8 +121,11 @@ impl Tasks {
         ensures booked { IsBooked self.new }
         ensures shorter { length result.now < length schedule.now }
     {
-        let named = named_alike(schedule);
-        self.run_task(alloc, schedule[0], named);
+        let named = named_ahead(schedule);
+        let (count, _) = self.run_task(alloc, schedule[0], named);
+        if count < named && self.ledger.book.progress().complete {
+            return &schedule[schedule.len()..];
+        }
         &schedule[named..]
     }
 }
