@@ -104,10 +104,10 @@ uint32_t telgovan_run(uint32_t need, const uint8_t *code, size_t code_length, ui
 
 /* Verifies a program and writes the steps of its run on this memory, which stays as it is: a JSON
  * object for each, with a line feed behind it. `slot` and `insn` say the instruction, and `line`
- * where a source text has it. `registers` has those that changed: decimal numbers, pointers as `part+4` or
- * `stack+504`, or `unset`. `stack` and `part`, where bytes of them changed, have the place `at` of
- * the first and the `bytes` from there to the last, in hexadecimal. `used` is what the run has used
- * of its credit. A program has no loop, so there is at most one step a slot.
+ * where a source text has it. `registers` has those that changed: decimal numbers, pointers as
+ * `part+4` or `stack+504`, or `unset`. `stack` and `part`, where bytes of them changed, have the
+ * place `at` of the first and the `bytes` from there to the last, in hexadecimal. `used` is what
+ * the run has used of its credit. A program has no loop, so there is at most one step a slot.
  *
  * It answers the status: that of the verdict with the slot as the place, else that of telgovan_run,
  * else 0; 65 where the room is too short, or 99. 65 of length 0 is over a limit; that is also told

@@ -354,6 +354,18 @@ class Steps(InBrowser):
         self.assertEqual(self.marks("step_part"), ["07"])
         self.assertEqual(self.text("step_part").splitlines(), ["..", "fff0 " + " 00" * 15 + " 07"])
 
+    def test_no_memory_for_steps(self):
+        for fails in ('() => { throw new Error("no memory"); }', "() => ({ status: 99, slot: null, text: '' })"):
+            self.choose("Internet checksum")
+            self.tab.evaluate(f"library.trace = {fails}; 0")
+            self.click("run")
+            self.tab.evaluate("delete library.trace")
+            self.assertEqual((self.text("verdict"), self.facts()["steps"]), ("ran to its end", "not shown: no memory for them"))
+            self.assertTrue(self.is_hidden("stepper"))
+        self.click("run")
+        self.assertNotIn("steps", self.facts())
+        self.assertFalse(self.is_hidden("stepper"))
+
     def test_steps_go_with_the_run(self):
         self.choose("Internet checksum")
         self.assertTrue(self.is_hidden("stepper"))

@@ -48,7 +48,8 @@ function shown_rows(rows) {
     const shown = [];
     rows.forEach((row, place) => {
         const is_near = bad >= 0 && Math.abs(place - bad) <= AROUND_BAD;
-        if (rows.length <= MOST_FIRST + MOST_LAST + 2 || place < MOST_FIRST || place >= rows.length - MOST_LAST || is_near) {
+        const is_at_an_end = place < MOST_FIRST || place >= rows.length - MOST_LAST;
+        if (rows.length <= MOST_FIRST + MOST_LAST + 2 || is_at_an_end || is_near) {
             shown.push({ ...row, slots: [row.slot], label: `${String(row.slot).padStart(4)}  ${row.text}` });
         } else if (shown.at(-1).left) {
             shown.at(-1).slots.push(row.slot);
@@ -65,8 +66,9 @@ function nodes_of(boxes, edges) {
     const nodes = new Map(boxes.map((box) => {
         const shown = shown_rows(box.rows);
         const widest = Math.max(box.cost.length, ...shown.map((one) => one.label.length));
-        const size = { width: Math.ceil(widest * GLYPH) + 2 * MARGIN, height: (shown.length + 1) * LINE + 2 * MARGIN - 4 };
-        return [box.slot, { box, shown, ...size, layer: 0, ins: [], outs: [], waits: 0 }];
+        const width = Math.ceil(widest * GLYPH) + 2 * MARGIN;
+        const height = (shown.length + 1) * LINE + 2 * MARGIN - 4;
+        return [box.slot, { box, shown, width, height, layer: 0, ins: [], outs: [], waits: 0 }];
     }));
     for (const edge of edges) nodes.get(edge.to).waits++;
     const ready = [...nodes.values()].filter((node) => node.waits === 0);
@@ -184,7 +186,8 @@ function drawn_box({ box, shown, x, y, width, height }) {
     };
     write(box.cost, 0, "cost");
     const rows = shown.map((one, place) => {
-        const band = svg_element("rect", { x: x + 2, y: y + MARGIN + LINE * (place + 1) - 2, width: width - 4, height: LINE, class: one.bad ? "band bad" : "band" });
+        const behind = { x: x + 2, y: y + MARGIN + LINE * (place + 1) - 2, width: width - 4, height: LINE };
+        const band = svg_element("rect", { ...behind, class: one.bad ? "band bad" : "band" });
         group.append(band);
         write(one.label, place + 1, one.bad ? "bad" : "");
         return [one.slots, band];
@@ -225,7 +228,8 @@ function drawn_edge(edge, edges) {
     if (edge.word) {
         const beside = edges.filter((one) => one.from === edge.from).map((one) => leave_at(one, edges));
         const is_left = start[0] === Math.min(...beside);
-        const label = svg_element("text", { x: start[0] + (is_left ? -6 : 6), y: start[1] + 12, class: name, "text-anchor": is_left ? "end" : "start" });
+        const place = { x: start[0] + (is_left ? -6 : 6), y: start[1] + 12, "text-anchor": is_left ? "end" : "start" };
+        const label = svg_element("text", { ...place, class: name });
         label.textContent = edge.word;
         drawn.push(label);
     }
@@ -258,7 +262,8 @@ function draw_graph(room, drawing) {
     const [left, right] = reach_of(labels);
     const wide = Math.ceil(Math.max(width, right) - left);
     const told = `${graph.boxes.length} blocks and ${graph.edges.length} edges`;
-    const svg = svg_element("svg", { viewBox: `${Math.floor(left)} 0 ${wide} ${height}`, role: "img", "aria-label": told });
+    const view = `${Math.floor(left)} 0 ${wide} ${height}`;
+    const svg = svg_element("svg", { viewBox: view, role: "img", "aria-label": told });
     svg.style.width = `min(${wide}px, max(100%, ${Math.ceil(wide * LEAST_SCALE)}px))`;
     const row_of = new Map();
     svg.append(...drawn_edges.map(([path]) => path), ...labels);

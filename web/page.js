@@ -223,14 +223,19 @@ function forget_steps() {
     mark_step();
 }
 
-// The steps of a run that ended, from its start on.
+// The steps of a run that ended, from its start on. Answers whether there was memory for them.
 function show_steps({ need, argument, credit, memory }) {
-    const told = library.trace(need, program.code, program.source, credit, argument, memory);
-    if (told.status) return;
-    steps = new Steps(told.text, memory, argument);
+    try {
+        const told = library.trace(need, program.code, program.source, credit, argument, memory);
+        if (told.status) return false;
+        steps = new Steps(told.text, memory, argument);
+    } catch {
+        return false;
+    }
     at("step_at").max = steps.steps.length;
     at("stepper").hidden = false;
     go_to(0);
+    return true;
 }
 
 // ---- verdicts, and runs
@@ -285,9 +290,10 @@ function run() {
         refused_run(done.status);
         return;
     }
-    tell("ran to its end", "good", [["R0", number_text(done.r0)], ["spent", `${done.used} of at most ${program.verdict.cost}`]]);
+    const facts = [["R0", number_text(done.r0)], ["spent", `${done.used} of at most ${program.verdict.cost}`]];
     tell_memory(memory, done.memory);
-    show_steps({ need, argument, credit, memory });
+    if (!show_steps({ need, argument, credit, memory })) facts.push(["steps", "not shown: no memory for them"]);
+    tell("ran to its end", "good", facts);
 }
 
 // ---- the address
