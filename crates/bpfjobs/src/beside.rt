@@ -3,7 +3,7 @@
 ghost use Rattle.bpfjobs_cli.specs.Commands.{IsInRange};
 
 use bpfjobs_cli::{Command, LocalServer};
-use job_server::{Door, LogLines, ServerLog, StopFlag, address_of, server_log, write_lines};
+use job_server::{Door, LogLines, ServerLog, StopFlag, address_of, open_log, write_lines};
 use refusal::NoMemory;
 use std::alloc::Global;
 use std::io::Read;
@@ -123,7 +123,7 @@ pub fn beside_port(
         None
     };
     let log = if logs {
-        Some(server_log(alloc, Door::Port, Door::Port)?)
+        Some(open_log(alloc, Door::Port, Door::Port)?)
     } else {
         None
     };
@@ -145,7 +145,7 @@ pub fn beside_paths(
         None => Door::Socket,
     };
     let log = if server.logs {
-        Some(server_log(alloc, granting, Door::Socket)?)
+        Some(open_log(alloc, granting, Door::Socket)?)
     } else {
         None
     };

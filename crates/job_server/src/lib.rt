@@ -73,7 +73,7 @@ mod server_log;
 
 pub use log_line::{Door, Ending, Event, Line};
 pub use logged_handler::LoggedHandler;
-pub use server_log::{LogLines, ServerLog, server_log, write_lines};
+pub use server_log::{LogLines, ServerLog, open_log, write_lines};
 
 // many connections at once
 mod at_once;

@@ -63,7 +63,7 @@ pub struct LogLines {
 }
 
 /// A log, and its lines. Connections that may grant come by the one socket, others by the other.
-pub fn server_log(
+pub fn open_log(
     alloc: Global,
     granting: Door,
     others: Door,
