@@ -12,7 +12,7 @@ import unittest
 
 from programs import BPFJOBS, PATIENCE, Server, frame, frames, is_read, submit_text
 from rows import code_of
-from test_clients import Client, result_of
+from test_clients import Client, long_job, result_of
 from test_local import Client as LocalClient
 
 ADD = "mov64 r0, 40 / add64 r0, 2 / exit"
@@ -110,9 +110,7 @@ class Log(unittest.TestCase):
 
     def test_refusals(self):
         """A job that isn't taken, and one whose start is refused."""
-        leaf = " / ".join(["mov64 r0, 0"] * 4000 + ["exit"])
-        spawner = " / ".join(["mov64 r1, 1 / mov64 r2, 4001 / mov64 r3, 0 / mov64 r4, 0 / call 1"] * 50 + ["mov64 r0, 0 / exit"])
-        programs, credit = [(0, code_of(spawner)), (0, code_of(leaf))], 50 * 4001 + 50 * 100
+        programs, credit = long_job()
         with self.serve("--open-jobs", 1, workers=1) as server:
             client = Client(server)
             codes = [client.ask(submit_text([(0, code_of(ADD))], 3, b"", tenant="nobody"))["code"]]
@@ -122,10 +120,8 @@ class Log(unittest.TestCase):
             codes.append(client.ask(submit_text([(0, b"none")], 3, b""))["code"])
             # others are told to their clients alone
             self.assertEqual(client.ask({"op": "result", "job": 7})["code"], 76)
-            client.stream.sendall(frames([submit_text(programs, credit, b""), submit_text([(0, code_of(ADD))], 3, b"")]))
-            for job in (1, 2):
-                length = int.from_bytes(is_read(client.stream, 4), "big")
-                self.assertEqual(json.loads(is_read(client.stream, length)), {"job": job, "ok": True})
+            self.assertEqual(client.ask(submit_text(programs, credit, b"")), {"job": 1, "ok": True})
+            self.assertEqual(client.ask(submit_text([(0, code_of(ADD))], 3, b"")), {"job": 2, "ok": True})
             self.assertTrue(result_of(client, 1)["ok"])
             client.stream.close()
             lines = self.ended(server)
