@@ -1,6 +1,6 @@
 //! Many connections at once, with one desk and one handler.
 
-ghost use Rattle.std.specs.Prelude.{◌≡◌, ◌≤◌, ◌<◌, ◌^◌, Ok, OnOk, IfErr, false, is_some};
+ghost use Rattle.std.specs.Prelude.{◌≡◌, ◌≤◌, ◌<◌, ◌^◌, [], Ok, OnOk, IfErr, false, is_some};
 ghost use Rattle.job_server.specs.AtOnce.{EndsBy, IsServingFrom};
 
 use crate::entrance::Entrance;
