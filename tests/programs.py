@@ -88,10 +88,10 @@ def may_listen(port):
 class Server:
     """`bpfjobs serve`, until so many connections have ended."""
 
-    def __init__(self, sessions=1_000_000, workers=2, words=None, port=None, more=(), stdin=subprocess.DEVNULL):
+    def __init__(self, sessions=1_000_000, workers=2, words=None, port=None, more=(), stdin=subprocess.DEVNULL, stderr=None):
         self.port = port or free_port()
         words = words or ["serve", "--port", self.port, "--workers", workers, "--sessions", sessions, *more]
-        self.process = subprocess.Popen([BPFJOBS, *map(str, words)], stdin=stdin, stdout=subprocess.DEVNULL)
+        self.process = subprocess.Popen([BPFJOBS, *map(str, words)], stdin=stdin, stdout=subprocess.DEVNULL, stderr=stderr)
 
     def __enter__(self):
         return self

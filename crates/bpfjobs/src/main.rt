@@ -6,15 +6,17 @@ ghost use Rattle.bpfjobs_cli.specs.Commands.{IsInRange};
 ghost use Rattle.bpfjobs_cli.specs.Performing.{NeedsNoThread};
 ghost use Rattle.std.specs.Prelude.{◌≤◌};
 
+mod beside;
 mod serving;
 mod showing;
 
+use beside::{Beside, beside_paths, beside_port};
 use bpfjobs_cli::{
-    Command, FAILED, LocalServer, Request, UNREAD, asks_local, local_server, print_usage, request,
-    words,
+    Bounds, Command, FAILED, LocalServer, Request, UNREAD, asks_local, local_server, print_usage,
+    request, words,
 };
-use job_server::StopFlag;
-use serving::{Place, serve, serve_clients, serve_local, stop_at_end};
+use job_server::{ServerLog, StopFlag};
+use serving::{serve, serve_clients, serve_local};
 use showing::{play_shown, run_shown};
 use std::alloc::{AllocError, Global};
 use std::fs::Files;
@@ -52,29 +54,34 @@ fn run<R: Input + Print + Threads + Wait + Sync>(rt: &R, alloc: Global, workers:
     }
 }
 
-// Where a server listens that stops at the end of the input.
-fn watched_port(command: &Command) -> Option<Place>
-    requires { IsInRange command.now }
+// The same command, as one whose log can be told: only a server of many clients has one.
+fn told(command: Command, logs: bool) -> Command
+    requires { IsInRange command }
+    ensures { IsInRange result }
 {
     match command {
-        Command::ServeClients {
+        Command::Serve {
             port,
-            workers: _,
-            sessions: _,
-            bounds,
-        } => {
-            if bounds.until_eof {
-                Some(Place::Port(*port as u16))
-            } else {
-                None
-            }
-        }
-        _ => None,
+            workers,
+            sessions,
+        } if logs => Command::ServeClients {
+            port,
+            workers,
+            sessions,
+            bounds: Bounds::none(),
+        },
+        _ => command,
     }
 }
 
 // Does what a command says, and gives the status.
-fn act<R>(rt: R, alloc: Global, command: Command, stop: Option<&StopFlag>) -> u8
+fn act<R>(
+    rt: R,
+    alloc: Global,
+    command: Command,
+    stop: Option<&StopFlag>,
+    log: Option<&ServerLog>,
+) -> u8
 where
     R: Input + Print + Net<Stream = TcpStream, Listener = TcpListener> + Threads + Wait + Clock,
     R: Copy + Send + Sync + Drop + 'static,
@@ -91,7 +98,7 @@ where
             workers,
             sessions,
             bounds,
-        } => serve_clients(&rt, alloc, port, workers, sessions, bounds, stop),
+        } => serve_clients(&rt, alloc, port, workers, sessions, bounds, stop, log),
         Command::Run { workers } => run(&rt, alloc, workers),
         Command::Verify { need } => answer(&rt, alloc, Command::Verify { need }),
         Command::Assemble => answer(&rt, alloc, Command::Assemble),
@@ -117,53 +124,49 @@ where
     }
 }
 
-// The path of a server by sockets in the file system that stops at the end of the input.
-fn watched_path(alloc: Global, server: &LocalServer) -> Result<Option<Place>, AllocError> {
-    if server.bounds.until_eof {
-        let path = String::from_str(alloc, &server.socket)?;
-        Ok(Some(Place::Path(path)))
-    } else {
-        Ok(None)
-    }
+// Serves by sockets in the file system, and gives the status.
+fn serve_paths<R>(rt: &R, alloc: Global, server: &LocalServer, beside: Beside) -> u8
+where
+    R: Net + Files + Threads + Wait + Clock + Sync,
+    requires { (1 ≤ server.now.workers) × (server.now.workers ≤ 16) }
+{
+    let status = serve_local(rt, alloc, server, beside.stop(), beside.log());
+    beside.close(rt);
+    status
 }
 
-// A flag that stops a server, held twice. `None`: there is no memory for it.
-fn stop_flag(alloc: Global) -> Option<(Arc<StopFlag, Global>, Arc<StopFlag, Global>)> {
-    let Ok(stop) = Arc::new(alloc, StopFlag::new()) else {
-        return None;
-    };
-    match Arc::try_clone(&stop) {
-        Ok(theirs) => Some((stop, theirs)),
-        Err(_) => None,
-    }
+// Does what a command says beside its threads, and gives the status.
+fn act_beside<R>(rt: R, alloc: Global, command: Command, beside: Beside) -> u8
+where
+    R: Input + Print + Net<Stream = TcpStream, Listener = TcpListener> + Threads + Wait + Clock,
+    R: Copy + Send + Sync + Drop + 'static,
+    requires { IsInRange command }
+{
+    let status = act(rt, alloc, command, beside.stop(), beside.log());
+    beside.close(&rt);
+    status
 }
 
-// The threads that wait for the end of the input are started here, where the runtime is of a type that
-// may go to them.
+// The threads beside a server are started here, where the runtime is of a type that may go to them.
 fn main(rt: HostRuntime) -> ExitCode {
     let alloc = rt.alloc();
     let Ok(words) = words(&rt) else {
         return ExitCode::from(UNREAD);
-    };
-    let Some((stop, theirs)) = stop_flag(alloc) else {
-        return ExitCode::from(FAILED);
     };
     if asks_local(&words) {
         let server = match local_server(alloc, words) {
             Ok(server) => server,
             Err(usage) => return ExitCode::from(print_usage(&rt, usage)),
         };
-        let Ok(place) = watched_path(alloc, &server) else {
+        let Ok((beside, helpers)) = beside_paths(alloc, &server) else {
             return ExitCode::from(FAILED);
         };
-        if let Some(place) = place {
-            let Ok(_thread) = thread::spawn(&rt, move || stop_at_end(&rt, &place, &theirs)) else {
+        for helper in helpers {
+            let Ok(_thread) = thread::spawn(&rt, move || helper.help(&rt)) else {
                 return ExitCode::from(FAILED);
             };
         }
-        let watched = server.bounds.until_eof;
-        let stop = if watched { Some(&*stop) } else { None };
-        return ExitCode::from(serve_local(&rt, alloc, &server, stop));
+        return ExitCode::from(serve_paths(&rt, alloc, &server, beside));
     }
     let request = match request(alloc, &words) {
         Ok(request) => request,
@@ -172,12 +175,14 @@ fn main(rt: HostRuntime) -> ExitCode {
     if let Some(status) = show(&rt, &request) {
         return ExitCode::from(status);
     }
-    let command = request.command;
-    let Some(place) = watched_port(&command) else {
-        return ExitCode::from(act(rt, alloc, command, None));
-    };
-    let Ok(_thread) = thread::spawn(&rt, move || stop_at_end(&rt, &place, &theirs)) else {
+    let command = told(request.command, request.shown.logs);
+    let Ok((beside, helpers)) = beside_port(alloc, &command, request.shown.logs) else {
         return ExitCode::from(FAILED);
     };
-    ExitCode::from(act(rt, alloc, command, Some(&stop)))
+    for helper in helpers {
+        let Ok(_thread) = thread::spawn(&rt, move || helper.help(&rt)) else {
+            return ExitCode::from(FAILED);
+        };
+    }
+    ExitCode::from(act_beside(rt, alloc, command, beside))
 }

@@ -3,38 +3,13 @@
 ghost use Rattle.std.specs.Prelude.{◌≤◌};
 
 use bpfjobs_cli::{Bounds, LocalServer};
-use job_server::{StopFlag, address_of};
+use job_server::{ServerLog, StopFlag};
 use std::alloc::Global;
 use std::fs::Files;
-use std::io::Read;
 use std::net::{Net, TcpListener, TcpStream};
-use std::os::unix::net::UnixStream;
 use std::sync::Wait;
 use std::thread::Threads;
 use std::time::Clock;
-
-/// Where a server listens.
-#[derive(Drop)]
-pub enum Place {
-    /// A port of 127.0.0.1.
-    Port(u16),
-    /// A socket in the file system.
-    Path(String),
-}
-
-impl Place {
-    // Wakes who waits for a connection there, by one.
-    fn wake<R: Net>(&self, rt: &R) {
-        match self {
-            Place::Port(port) => {
-                let _ = TcpStream::connect(rt, address_of(*port));
-            }
-            Place::Path(path) => {
-                let _ = UnixStream::connect(rt, path.as_str());
-            }
-        }
-    }
-}
 
 /// Takes so many connections on the port of 127.0.0.1, one after the other, and gives the status: 0
 /// once all have ended, 3 where one of them or the socket failed.
@@ -53,23 +28,8 @@ pub fn serve<R: Net<Stream = TcpStream> + Threads + Wait + Copy + Send + Sync + 
     job_server::status_of(outcome)
 }
 
-/// Reads the input to its end. Then it raises the flag, and wakes who waits for a connection by one of
-/// its own.
-pub fn stop_at_end<R: Input + Net>(rt: &R, place: &Place, stop: &StopFlag) {
-    let mut reader = rt.reader();
-    let mut piece = [0u8; 64];
-    for _ in 0..u64::MAX {
-        match reader.read(&mut piece) {
-            Ok(0) | Err(_) => break,
-            Ok(_) => {}
-        }
-    }
-    stop.raise();
-    place.wake(rt);
-}
-
 /// The same within a host's bounds: from many clients at once, and until the flag is raised, if there
-/// is one.
+/// is one. A log, if there is one, is told of it.
 pub fn serve_clients<R>(
     rt: &R,
     alloc: Global,
@@ -78,6 +38,7 @@ pub fn serve_clients<R>(
     sessions: u32,
     bounds: Bounds,
     stop: Option<&StopFlag>,
+    log: Option<&ServerLog>,
 ) -> u8
 where
     R: Net<Stream = TcpStream, Listener = TcpListener> + Threads + Wait + Clock + Sync,
@@ -85,12 +46,18 @@ where
     requires workers { (1 ≤ workers) × (workers ≤ 16) }
 {
     let port = port as u16;
-    let outcome = job_server::serve_clients(rt, alloc, port, workers, sessions, bounds, stop);
+    let outcome = job_server::serve_clients(rt, alloc, port, workers, sessions, bounds, stop, log);
     job_server::status_of(outcome)
 }
 
 /// The same by sockets in the file system.
-pub fn serve_local<R>(rt: &R, alloc: Global, server: &LocalServer, stop: Option<&StopFlag>) -> u8
+pub fn serve_local<R>(
+    rt: &R,
+    alloc: Global,
+    server: &LocalServer,
+    stop: Option<&StopFlag>,
+    log: Option<&ServerLog>,
+) -> u8
 where
     R: Net + Files + Threads + Wait + Clock + Sync,
     requires { (1 ≤ server.now.workers) × (server.now.workers ≤ 16) }
@@ -101,6 +68,7 @@ where
         workers,
         sessions,
         bounds,
+        logs: _,
     } = server;
     let grants = match grants {
         Some(path) => Some(path.as_str()),
@@ -108,7 +76,7 @@ where
     };
     let path = socket.as_str();
     let outcome = job_server::serve_local_clients(
-        rt, alloc, path, grants, *workers, *sessions, *bounds, stop,
+        rt, alloc, path, grants, *workers, *sessions, *bounds, stop, log,
     );
     job_server::status_of(outcome)
 }

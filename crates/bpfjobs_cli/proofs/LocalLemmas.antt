@@ -65,19 +65,19 @@ unfolding Serves
 serve words own none =
     let shape = leaf local_serve_app.top in
     let socket = required_value (rule socket_rule) refl (omega arith) shape [] words false []
-    ((λ same. refl), (other, (other, (other, (other, (other, (other, (other, (other, (other, tt)))))))))) none refl (inl refl) refl in
+    ((λ same. refl), (other, (other, (other, (other, (other, (other, (other, (other, (other, (other, tt))))))))))) none refl (inl refl) refl in
     let workers = left_out (rule workers_rule) 1 16 refl (omega arith) refl shape words
-    (other, (other, ((λ same. refl), (other, (other, (other, (other, (other, (other, (other, tt)))))))))) (inr (inr (inl refl))) none (omega arith) in
+    (other, (other, ((λ same. refl), (other, (other, (other, (other, (other, (other, (other, (other, tt))))))))))) (inr (inr (inl refl))) none (omega arith) in
     let sessions = left_out (rule sessions_rule) 1 1000000 refl (omega arith) refl shape words
-    (other, (other, (other, ((λ same. refl), (other, (other, (other, (other, (other, (other, tt)))))))))) (inr (inr (inr (inl refl)))) none (omega arith) in
+    (other, (other, (other, ((λ same. refl), (other, (other, (other, (other, (other, (other, (other, tt))))))))))) (inr (inr (inr (inl refl)))) none (omega arith) in
     let clients = left_out (rule clients_rule) 1 64 refl (omega arith) refl shape words
-    (other, (other, (other, (other, ((λ same. refl), (other, (other, (other, (other, (other, tt)))))))))) (inr (inr (inr (inr (inl refl))))) none (omega arith) in
+    (other, (other, (other, (other, ((λ same. refl), (other, (other, (other, (other, (other, (other, tt))))))))))) (inr (inr (inr (inr (inl refl))))) none (omega arith) in
     let timeout = left_out (rule timeout_rule) 0 3600 refl (omega arith) refl shape words
-    (other, (other, (other, (other, (other, ((λ same. refl), (other, (other, (other, (other, tt)))))))))) (inr (inr (inr (inr (inr (inl refl)))))) none (omega arith) in
+    (other, (other, (other, (other, (other, ((λ same. refl), (other, (other, (other, (other, (other, tt))))))))))) (inr (inr (inr (inr (inr (inl refl)))))) none (omega arith) in
     let open_jobs = left_out (rule open_jobs_rule) 0 1000000 refl (omega arith) refl shape words
-    (other, (other, (other, (other, (other, (other, ((λ same. refl), (other, (other, (other, tt)))))))))) (inr (inr (inr (inr (inr (inr (inl refl))))))) none (omega arith) in
+    (other, (other, (other, (other, (other, (other, ((λ same. refl), (other, (other, (other, (other, tt))))))))))) (inr (inr (inr (inr (inr (inr (inl refl))))))) none (omega arith) in
     let keep = left_out (rule keep_rule) 0 1000000 refl (omega arith) refl shape words
-    (other, (other, (other, (other, (other, (other, (other, ((λ same. refl), (other, (other, tt)))))))))) (inr (inr (inr (inr (inr (inr (inr (inl refl)))))))) none (omega arith) in
+    (other, (other, (other, (other, (other, (other, (other, ((λ same. refl), (other, (other, (other, tt))))))))))) (inr (inr (inr (inr (inr (inr (inr (inl refl)))))))) none (omega arith) in
     let rows = rows_after shape.rules [] words in (
       refl,
       record {

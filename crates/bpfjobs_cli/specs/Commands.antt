@@ -62,6 +62,7 @@ pub record IsShownOf (rows : List Row) (shown : Shown) : Type 0 where
   pub trace_json : first_of (codes "trace-json") rows
       ≡ option_map (λ path. path.now) shown.trace_json
   pub tree : first_of (codes "tree") rows ≡ option_map (λ path. path.now) shown.tree
+  pub logs : IsFlagOf rows (codes "log") shown.logs
 
 -- they are those of a command
 abbrev pub SaysCommand : Text → List Row → Type 0

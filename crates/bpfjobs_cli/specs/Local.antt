@@ -9,8 +9,8 @@ use Rattle.bpfjobs_cli.specs.declared.commands.Bounds.{Bounds}
 use Rattle.bpfjobs_cli.specs.declared.commands.Usage.{Usage}
 use Rattle.bpfjobs_cli.specs.declared.commands.Usage.TheVariants as usage
 use Rattle.bpfjobs_cli.specs.declared.local_reading.LocalServer.{LocalServer}
-use Rattle.bpfjobs_cli.specs.Commands.{AreBoundsOf, IsNumberIn}
-use Rattle.bpfjobs_cli.specs.Program.{requiring, workers_rule, sessions_rule, clients_rule, timeout_rule, open_jobs_rule, keep_rule, until_eof_rule}
+use Rattle.bpfjobs_cli.specs.Commands.{AreBoundsOf, IsFlagOf, IsNumberIn}
+use Rattle.bpfjobs_cli.specs.Program.{requiring, workers_rule, sessions_rule, clients_rule, timeout_rule, open_jobs_rule, keep_rule, until_eof_rule, log_rule}
 
 abbrev pub socket_rule : Rule
 socket_rule = record (new_rule (codes "socket")) {
@@ -27,9 +27,10 @@ grants_rule = record (new_rule (codes "grants")) {
 
 abbrev pub local_serve_app : App
 local_serve_app =
-    with_rule (with_rule (with_rule (with_rule (with_rule (with_rule
+    with_rule (with_rule (with_rule (with_rule (with_rule (with_rule (with_rule
     (with_rule (with_rule (with_rule (new_app (codes "serve")) socket_rule) grants_rule)
-    workers_rule) sessions_rule) clients_rule) timeout_rule) open_jobs_rule) keep_rule) until_eof_rule
+    workers_rule) sessions_rule) clients_rule) timeout_rule) open_jobs_rule) keep_rule)
+    until_eof_rule) log_rule
 
 -- the program, with this command alone
 abbrev pub local_app : App
@@ -50,13 +51,14 @@ asks_local [] = false
 asks_local (name ∷ []) = false
 asks_local (name ∷ command ∷ words) = bytes_eq command (codes "serve") && has_socket words
 
--- what the words of a server say: its paths, its numbers, and what is bounded
+-- what the words of a server say: its paths, its numbers, what is bounded, and whether it is told
 pub record IsLocalServer (rows : List Row) (server : LocalServer) : Type 0 where
   pub socket : first_of (codes "socket") rows ≡ Some (string_bytes server.socket)
   pub grants : first_of (codes "grants") rows ≡ option_map string_bytes server.grants
   pub workers : IsNumberIn rows (codes "workers") 1 16 server.workers
   pub sessions : IsNumberIn rows (codes "sessions") 1 1000000 server.sessions
   pub bounds : AreBoundsOf rows server.bounds
+  pub logs : IsFlagOf rows (codes "log") server.logs
 
 -- they say all that a server has to have
 pub record SaysLocal (rows : List Row) : Type 0 where

@@ -74,6 +74,9 @@ until_eof_rule = record (new_rule (codes "until-eof")) {
   action = Some SetTrue;
 }
 
+abbrev pub log_rule : Rule
+log_rule = record (new_rule (codes "log")) { long = Some (codes "log"); action = Some SetTrue }
+
 abbrev pub trace_rule : Rule
 trace_rule = record (new_rule (codes "trace")) {
   long = Some (codes "trace");
@@ -100,9 +103,9 @@ run_app = with_rule (with_rule (new_app (codes "run")) workers_rule) tree_rule
 
 abbrev pub serve_app : App
 serve_app =
-    with_rule (with_rule (with_rule (with_rule (with_rule
+    with_rule (with_rule (with_rule (with_rule (with_rule (with_rule
     (with_rule (with_rule (with_rule (new_app (codes "serve")) port_rule) workers_rule)
-    sessions_rule) clients_rule) timeout_rule) open_jobs_rule) keep_rule) until_eof_rule
+    sessions_rule) clients_rule) timeout_rule) open_jobs_rule) keep_rule) until_eof_rule) log_rule
 
 -- the program without its commands, which tells its version
 abbrev pub named_app : App

@@ -57,6 +57,19 @@ impl Bounds {
     ghost use Rattle.std.specs.Prelude.{◌≡◌, ◌≢◌, true, false};
     ghost use Rattle.bpfjobs_cli.specs.Commands.{no_bounds};
 
+    /// Nothing is bounded, and one client is served at a time.
+    pub fn none() -> Bounds
+        ensures { result ≡ no_bounds }
+    {
+        Bounds {
+            clients: 1,
+            timeout: 0,
+            open_jobs: 0,
+            keep: 0,
+            until_eof: false,
+        }
+    }
+
     /// Whether nothing is bounded, and one client is served at a time.
     pub fn are_none(self) -> bool
         ensures none { result ≡ true → self ≡ no_bounds }
@@ -82,6 +95,8 @@ pub struct Shown<'a> {
     pub trace_json: Option<&'a str>,
     /// The path of a file that gets the tree of a job that is run, if the words name one.
     pub tree: Option<&'a str>,
+    /// A server's connections and jobs are to be told.
+    pub logs: bool,
 }
 
 /// A command, and what is to be shown beside its answer.

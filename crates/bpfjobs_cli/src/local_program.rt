@@ -5,7 +5,7 @@ ghost use Rattle.clap.specs.Words.{app_of, rule_of};
 ghost use Rattle.clap.specs.declared.builder.command.Command.TheViews.{out-Command as fields_of};
 ghost use Rattle.bpfjobs_cli.specs.Local.{grants_rule, local_app, local_serve_app, socket_rule};
 
-use crate::program::{clients, keep, named, open_jobs, sessions, timeout, until_eof, workers};
+use crate::program::{clients, keep, log, named, open_jobs, sessions, timeout, until_eof, workers};
 use crate::texts;
 use clap::{Arg, Command};
 use std::alloc::{AllocError, Global};
@@ -44,7 +44,8 @@ fn local_serve<'a>(alloc: Global) -> Result<Command<'a>, AllocError>
         .arg(timeout(alloc))?
         .arg(open_jobs(alloc))?
         .arg(keep(alloc))?
-        .arg(until_eof(alloc))
+        .arg(until_eof(alloc))?
+        .arg(log(alloc))
 }
 
 /// The program with this command, as clap reads it.

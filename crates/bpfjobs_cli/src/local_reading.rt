@@ -7,7 +7,7 @@ ghost use Rattle.bpfjobs_cli.specs.Local.{IsLocalServer, IsLocalUsage, SaysLocal
 
 use crate::commands::{Bounds, Usage};
 use crate::local_program::local_bpfjobs;
-use crate::reading::{bounds, number};
+use crate::reading::{bounds, flag, number};
 use clap::ArgMatches;
 use std::alloc::{AllocError, Global};
 
@@ -20,6 +20,8 @@ pub struct LocalServer {
     pub workers: u32,
     pub sessions: u32,
     pub bounds: Bounds,
+    /// Whether its connections and jobs are to be told.
+    pub logs: bool,
 }
 
 // Whether a word is the option `--socket`, alone or with its path.
@@ -73,6 +75,7 @@ fn local_of(alloc: Global, matches: &ArgMatches<'_>) -> Result<LocalServer, Usag
         workers: number(matches, "workers", 1, 16),
         sessions: number(matches, "sessions", 1, 1000000),
         bounds: bounds(matches),
+        logs: flag(matches, "log"),
     })
 }
 

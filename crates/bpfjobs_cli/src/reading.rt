@@ -23,7 +23,7 @@ pub(crate) fn number(matches: &ArgMatches<'_>, id: &str, low: u32, high: u32) ->
 }
 
 // Whether a flag stands among the words.
-fn flag(matches: &ArgMatches<'_>, id: &str) -> bool
+pub(crate) fn flag(matches: &ArgMatches<'_>, id: &str) -> bool
     ensures { IsFlagOf (rows_of (found_of matches.now)) id.now result }
 {
     match matches.get_str(id) {
@@ -94,6 +94,7 @@ fn shown_of<'a>(matches: &ArgMatches<'a>) -> Shown<'a>
         traces: flag(matches, "trace"),
         trace_json: matches.get_str("trace-json"),
         tree: matches.get_str("tree"),
+        logs: flag(matches, "log"),
     }
 }
 

@@ -125,4 +125,7 @@ pub(crate) const KEEP: &str =
 pub(crate) const UNTIL_EOF: &str =
     "Takes no more connections once standard input has ended, and ends with those it has";
 
+pub(crate) const LOG: &str =
+    "Tells each connection and each job on standard error, a JSON object a line";
+
 pub(crate) const VERSION: &str = "0.1.0";

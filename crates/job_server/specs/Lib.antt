@@ -11,3 +11,5 @@ pub mod Passages
 pub mod Serving
 pub mod Visits
 pub mod Runs
+pub mod LogLines
+pub mod Told

@@ -1,29 +1,60 @@
 //! Many connections at once, with one desk and one handler.
 
-ghost use Rattle.std.specs.Prelude.{◌≡◌, ◌≤◌, ◌<◌, ◌^◌, Ok, OnOk, IfErr, false, is_some};
+ghost use Rattle.std.specs.Prelude.{◌≡◌, ◌≤◌, ◌<◌, ◌^◌, [], Ok, OnOk, IfErr, false, is_some};
 ghost use Rattle.job_server.specs.AtOnce.{EndsBy, IsServingFrom};
 
 use crate::entrance::Entrance;
 use crate::fault::ServeFault;
 use crate::listener::Listener;
+use crate::log_line::Event;
+use crate::noted_ends::{NotedReader, NotedWriter, ending_of};
+use crate::server_log::{ServerLog, millis_since};
 use crate::stop_flag::ended_by;
 use crate::timed_reader::{TimedReader, Waiting};
 use accounts::Desk;
 use shared_desk::{
-    AllRequests, NewHistory, NoGrants, Origin, SharedDesk, SharedHistory, serve_opened,
+    AllRequests, ClientSeat, NewHistory, NoGrants, Origin, SharedDesk, SharedHistory, serve_opened,
 };
 use std::alloc::Global;
 use std::marker::Brand;
+use std::net::TcpStream;
 use std::sync::{Mutex, Wait};
 use std::thread;
 use std::thread::Threads;
-use std::time::Clock;
+use std::time::{Clock, Instant};
 use streams::{Handler, StreamFault, Tap};
 
 /// The fault where there is no memory.
 pub(crate) const NO_MEMORY: ServeFault = ServeFault::Connection(StreamFault::NoMemory);
 
-// Takes connections and serves them, one after the other, until no more are to be taken.
+// Serves a connection that was taken, and gives its two ends.
+fn serve_taken<'s, R: Wait + Clock, H: Handler<Desk>, J: Origin<Desk, H>>(
+    rt: &'s R,
+    alloc: Global,
+    history: &SharedHistory<J>,
+    lock: &Mutex<SharedDesk<Desk, H, J>>,
+    seat: ClientSeat<J>,
+    may_grant: bool,
+    stream: &'s TcpStream,
+    waiting: Waiting<'s>,
+    notes: bool,
+) -> (NotedReader<'s, R>, NotedWriter<'s>)
+    requires fresh { seat.part ≡ [] }
+{
+    let timed = TimedReader::new(rt, stream, waiting);
+    let mut reader = Tap::new(NotedReader::new(timed, waiting.stop, notes));
+    let mut writer = Tap::new(NotedWriter::new(stream));
+    let (from, to) = (&mut reader, &mut writer);
+    if may_grant {
+        serve_opened(rt, alloc, history, lock, seat, &AllRequests, from, to);
+    } else {
+        serve_opened(rt, alloc, history, lock, seat, &NoGrants, from, to);
+    }
+    (reader.into_inner(), writer.into_inner())
+}
+
+// Takes connections and serves them, one after the other, until no more are to be taken. A log is told
+// of each.
 fn serve_turns<R: Wait + Clock, L: Listener + Drop, H: Handler<Desk>, J: Origin<Desk, H>>(
     rt: &R,
     alloc: Global,
@@ -31,39 +62,40 @@ fn serve_turns<R: Wait + Clock, L: Listener + Drop, H: Handler<Desk>, J: Origin<
     entrance: &Mutex<Entrance<'_, L, J>>,
     lock: &Mutex<SharedDesk<Desk, H, J>>,
     waiting: Waiting<'_>,
+    log: Option<&ServerLog>,
 ) {
     for _ in rt.forever() {
-        let Some((stream, seat, may_grant)) = entrance.lock(rt).next(history) else {
+        let Some((stream, seat, may_grant, connection)) = entrance.lock(rt).next(history) else {
             return;
         };
-        let mut reader = Tap::new(TimedReader::new(rt, &stream, waiting));
-        let mut writer = Tap::new(&stream);
-        if may_grant {
-            let gate = &AllRequests;
-            serve_opened(
-                rt,
-                alloc,
-                history,
-                lock,
-                seat,
-                gate,
-                &mut reader,
-                &mut writer,
-            );
-        } else {
-            let gate = &NoGrants;
-            serve_opened(
-                rt,
-                alloc,
-                history,
-                lock,
-                seat,
-                gate,
-                &mut reader,
-                &mut writer,
-            );
+        let begun = tell_opened(rt, log, connection, may_grant);
+        let notes = log.is_some();
+        let (reader, writer) = serve_taken(
+            rt, alloc, history, lock, seat, may_grant, &stream, waiting, notes,
+        );
+        if let Some(log) = log {
+            let closed = Event::Closed {
+                connection,
+                requests: reader.requests(),
+                end: ending_of(&reader, &writer),
+                ms: millis_since(rt, begun),
+            };
+            log.tell(rt, closed);
         }
     }
+}
+
+// Tells a log, if there is one, of a connection that was taken. When that was, if a clock tells.
+fn tell_opened<R: Wait + Clock>(
+    rt: &R,
+    log: Option<&ServerLog>,
+    connection: u32,
+    may_grant: bool,
+) -> Option<Instant> {
+    let log = log?;
+    let by = log.door(may_grant);
+    log.tell(rt, Event::Opened { connection, by });
+    Instant::now(rt).ok()
 }
 
 // What a server comes to that was to serve so many connections, of which some were opened, some
@@ -113,6 +145,7 @@ fn serve_named<
     clients: u32,
     sessions: u32,
     waiting: Waiting<'_>,
+    log: Option<&ServerLog>,
 ) -> (Desk, H, Result<(), ServeFault>)
     requires named { new_history ≡ J.table }
     requires begins { J.begins (desk, handler) }
@@ -126,7 +159,7 @@ fn serve_named<
     let known = &history;
     let door = &entrance;
     let shared = &lock;
-    let serve = |_: usize| serve_turns(rt, alloc, known, door, shared, waiting);
+    let serve = |_: usize| serve_turns(rt, alloc, known, door, shared, waiting, log);
     let _ = thread::map_indices(rt, alloc, clients as usize, &serve);
     let mut shared = lock.into_inner();
     let (opened, failed, ended, mut opener) = entrance.into_inner().into_parts();
@@ -149,7 +182,7 @@ fn serve_named<
 /// over first. 99 also where there was no memory for the threads.
 ///
 /// Where the flag is raised, no further connection is taken, and each that was is over once all that
-/// was read of it is answered.
+/// was read of it is answered. A log, if there is one, is told of each connection.
 pub fn serve_at_once<
     R: Threads + Wait + Clock + Sync,
     L: Listener + Send + Drop,
@@ -163,6 +196,7 @@ pub fn serve_at_once<
     clients: u32,
     sessions: u32,
     waiting: Waiting<'_>,
+    log: Option<&ServerLog>,
 ) -> (Desk, H, Result<(), ServeFault>)
     requires ready { H.ready handler }
     ensures { IsServingFrom H.answers (λ s. s ≡ (desk, handler)) (result.0, result.1) sessions
@@ -181,5 +215,6 @@ pub fn serve_at_once<
         clients,
         sessions,
         waiting,
+        log,
     )
 }

@@ -43,10 +43,13 @@ impl<'a, L: Listener + Drop, J: HistoryId> Entrance<'a, L, J> {
         }
     }
 
-    /// Takes the next connection, with its seat, and whether it may grant; `None` once all were
-    /// taken, or the flag is raised. One that can't be taken counts, and the next one is taken. One
+    /// Takes the next connection, with its seat, whether it may grant, and its number, from 1 on;
+    /// `None` once all were taken, or the flag is raised. One that can't be taken counts, and the next one is taken. One
     /// that comes while the flag is raised is dropped: it only wakes who waits here.
-    pub fn next(&mut self, history: &SharedHistory<J>) -> Option<(TcpStream, ClientSeat<J>, bool)>
+    pub fn next(
+        &mut self,
+        history: &SharedHistory<J>,
+    ) -> Option<(TcpStream, ClientSeat<J>, bool, u32)>
         ensures { IfSome result (λ taken. taken.1.part ≡ []) }
     {
         'taking: while self.left > 0 {
@@ -63,7 +66,7 @@ impl<'a, L: Listener + Drop, J: HistoryId> Entrance<'a, L, J> {
                     }
                     self.opened += 1;
                     let seat = history.open(&mut self.opener);
-                    return Some((stream, seat, self.listener.may_grant()));
+                    return Some((stream, seat, self.listener.may_grant(), self.opened));
                 }
                 Err(_) => self.failed += 1,
             }

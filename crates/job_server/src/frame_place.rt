@@ -8,8 +8,21 @@ pub(crate) struct FramePlace {
     left: u32,
 }
 
+/// What came of frames in a piece: where the stream stands behind it, whether a frame began in it, how
+/// many were whole, and whether one is longer than any may be, behind which nothing counts.
+#[derive(Clone, Copy)]
+pub(crate) struct PieceFrames {
+    pub place: FramePlace,
+    pub begins: bool,
+    pub whole: u64,
+    pub too_large: bool,
+}
+
 // The bytes of a length.
 const HEAD_LEN: u32 = 4;
+
+// The most bytes of a frame's text.
+const LONGEST: u32 = 1_048_576;
 
 impl FramePlace {
     /// Between frames.
@@ -51,16 +64,29 @@ impl FramePlace {
         }
     }
 
-    /// The place behind a piece, and whether a frame began in it.
-    pub fn behind(self, piece: &[u8]) -> (FramePlace, bool) {
+    /// What came of frames in a piece.
+    pub fn behind(self, piece: &[u8]) -> PieceFrames {
         let mut place = self;
         let mut begins = false;
+        let mut whole: u64 = 0;
+        let mut too_large = false;
         for byte in piece {
             if !place.is_within() {
                 begins = true;
             }
             place = place.after(*byte);
+            if place.left > LONGEST {
+                too_large = true;
+            }
+            if !place.is_within() && !too_large {
+                whole = whole.saturating_add(1);
+            }
         }
-        (place, begins)
+        PieceFrames {
+            place,
+            begins,
+            whole,
+            too_large,
+        }
     }
 }

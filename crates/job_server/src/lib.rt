@@ -65,6 +65,16 @@ pub use stop_flag::StopFlag;
 pub use timed_listener::TimedListener;
 pub use timed_reader::Waiting;
 
+// what a host is told
+mod log_line;
+mod logged_handler;
+mod noted_ends;
+mod server_log;
+
+pub use log_line::{Door, Ending, Event, Line};
+pub use logged_handler::LoggedHandler;
+pub use server_log::{LogLines, ServerLog, open_log, write_lines};
+
 // many connections at once
 mod at_once;
 mod entrance;

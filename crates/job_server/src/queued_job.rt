@@ -1,10 +1,13 @@
 //! A job that waits for a worker, and what it came to.
 
-ghost use Rattle.std.specs.Prelude.{◌≡◌, ◌≤◌};
+ghost use Rattle.std.specs.Prelude.{◌≡◌, ◌≤◌, length};
 ghost use Rattle.job_server.specs.Endings.{IsEndOf};
+ghost use Rattle.job_server.specs.Told.{event_of};
+ghost use Rattle.job_server.specs.declared.log_line.Event.TheVariants.{Started};
 
 use crate::job_register::JobSeat;
 use crate::job_seats::RegisterId;
+use crate::log_line::Event;
 use credit_book::{Post, Report};
 use job_core::Job;
 use std::alloc::Global;
@@ -50,7 +53,29 @@ impl<J: RegisterId> Model for EndedJob<J> {
     ghost invariant = { λ e. (e.seat.number ≡ e.number) × IsEndOf e.number e.seat.job e.end };
 }
 
+// How a job ended that took so many milliseconds, for a log.
+fn event_of(job: u64, end: &Result<Report, u8>, ms: u64) -> Event
+    ensures { result ≡ event_of job end.now ms }
+{
+    match end {
+        Ok(report) => Event::Ended {
+            job,
+            spent: report.spent,
+            returned: report.returned,
+            tasks: report.tasks.len() as u64,
+            buffer: report.buffer.len() as u64,
+            ms,
+        },
+        Err(code) => Event::Failed { job, code: *code },
+    }
+}
+
 impl<J: RegisterId> EndedJob<J> {
+    /// How it ended, for a log.
+    pub(crate) fn event(&self, ms: u64) -> Event {
+        event_of(self.number, &self.end, ms)
+    }
+
     /// Its number, what it came to, and its seat.
     pub(crate) fn into_parts(self) -> (u64, Result<Report, u8>, JobSeat<J>)
         ensures { (result.2.number ≡ result.0) × IsEndOf result.0 result.2.job result.1 }
@@ -84,6 +109,18 @@ fn end_of<R: Threads + Wait + Sync>(
 }
 
 impl<J: RegisterId> QueuedJob<J> {
+    /// That it is run now, for a log.
+    pub(crate) fn event(&self) -> Event
+        ensures { result ≡ Started self.now.number self.now.job.credit
+            (length self.now.job.programs) }
+    {
+        Event::Started {
+            job: self.number,
+            credit: self.job.credit(),
+            programs: self.job.programs().len() as u64,
+        }
+    }
+
     /// Runs the job, a large one on so many workers, 1 to 16. What it came to.
     pub(crate) fn run<R: Threads + Wait + Sync>(self, rt: &R, workers: u32) -> EndedJob<J>
         requires { (1 ≤ workers) × (workers ≤ 16) }

@@ -14,8 +14,10 @@ use crate::keeping_handler::KeepingHandler;
 use crate::lasting_pool::LastingPool;
 use crate::limited_runner::LimitedRunner;
 use crate::listener::Listener;
+use crate::logged_handler::LoggedHandler;
 use crate::pool_threads::start_workers;
 use crate::queued_job::{EndedJob, QueuedJob};
+use crate::server_log::ServerLog;
 use crate::stop_flag::StopFlag;
 use crate::timed_listener::TimedListener;
 use crate::timed_reader::Waiting;
@@ -37,13 +39,14 @@ struct PoolEnds<J: RegisterId> {
     ended: Receiver<EndedJob<J>, Global>,
 }
 
-// How many workers and connections there are, and what a host bounds.
+// How many workers and connections there are, what a host bounds, and what it is told.
 #[derive(Clone, Copy)]
 struct Plan<'a> {
     workers: u32,
     sessions: u32,
     bounds: Bounds,
     stop: Option<&'a StopFlag>,
+    log: Option<&'a ServerLog>,
 }
 
 // Starts the workers, and serves the connections with a pool of them.
@@ -74,11 +77,13 @@ fn serve_in<
         sessions,
         bounds,
         stop,
+        log,
     } = plan;
-    let started = start_workers(rt, scope, jobs, endings, workers);
+    let started = start_workers(rt, scope, jobs, endings, workers, log);
     let PoolEnds { queue, ended } = ends;
     let pool = LastingPool::new(rt, alloc, register, keeper, queue, ended, started > 0);
-    let handler = KeepingHandler::new(LimitedRunner::new(pool, bounds.open_jobs), bounds.keep);
+    let kept = KeepingHandler::new(LimitedRunner::new(pool, bounds.open_jobs), bounds.keep);
+    let handler = LoggedHandler::new(rt, log, kept);
     let waiting = Waiting {
         seconds: bounds.timeout,
         stop,
@@ -87,7 +92,7 @@ fn serve_in<
     let clients = bounds.clients;
     // the pool goes at the end, and with it the workers' queue
     let served = serve_at_once(
-        rt, alloc, listener, desk, handler, clients, sessions, waiting,
+        rt, alloc, listener, desk, handler, clients, sessions, waiting, log,
     );
     served.2
 }
@@ -117,6 +122,7 @@ fn serve_held<
         sessions,
         bounds,
         stop,
+        log,
     } = plan;
     thread::scope(
         thread::scope_env(),
@@ -130,6 +136,7 @@ fn serve_held<
                 sessions,
                 bounds,
                 stop,
+                log,
             };
             serve_in(
                 rt, scope, alloc, register, keeper, ends, jobs, endings, listener, plan,
@@ -176,7 +183,8 @@ fn serve_registered<
 /// While as many jobs are open as the bounds allow, a start is refused by 81. The reports of all but
 /// the last jobs are forgotten, as many as the bounds keep. A connection whose reads wait longer than
 /// they allow, between frames or within one, is given up by 83. Where the flag is raised, no further
-/// connection is taken, and each that was is over once all that was read of it is answered.
+/// connection is taken, and each that was is over once all that was read of it is answered. A log, if
+/// there is one, is told of each connection and each job, and nothing waits for it.
 ///
 /// A connection that could not be taken, or that was given up by 83, 84 or 99, counts as served.
 /// Such a fault is answered at the end, as is 99 where there is no memory to begin with.
@@ -188,6 +196,7 @@ pub fn serve_clients_on<R: Threads + Wait + Clock + Sync, L: Listener + Send + D
     sessions: u32,
     bounds: Bounds,
     stop: Option<&StopFlag>,
+    log: Option<&ServerLog>,
 ) -> Result<(), ServeFault>
     requires { (1 ≤ workers) × (workers ≤ 16) }
     ensures { IsServingClients bounds sessions (is_some stop.entry) result
@@ -201,6 +210,7 @@ pub fn serve_clients_on<R: Threads + Wait + Clock + Sync, L: Listener + Send + D
         sessions,
         bounds,
         stop,
+        log,
     };
     serve_registered::<R, L, Brand>(rt, alloc, new_register, listener, plan)
 }
@@ -218,6 +228,7 @@ pub fn serve_clients<
     sessions: u32,
     bounds: Bounds,
     stop: Option<&StopFlag>,
+    log: Option<&ServerLog>,
 ) -> Result<(), ServeFault>
     requires { (1 ≤ workers) × (workers ≤ 16) }
     ensures { IsServingClients bounds sessions (is_some stop.entry) result
@@ -227,5 +238,5 @@ pub fn serve_clients<
         return Err(ServeFault::Socket);
     };
     let timed = TimedListener::new(&listener, bounds.timeout);
-    serve_clients_on(rt, alloc, timed, workers, sessions, bounds, stop)
+    serve_clients_on(rt, alloc, timed, workers, sessions, bounds, stop, log)
 }

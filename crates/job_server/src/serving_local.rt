@@ -7,6 +7,7 @@ ghost use Rattle.streams.specs.declared.fault.StreamFault.TheVariants as stream;
 
 use crate::fault::ServeFault;
 use crate::local_listener::{GrantsListener, LocalListener, listen_at};
+use crate::server_log::ServerLog;
 use crate::serving_clients::serve_clients_on;
 use crate::stop_flag::StopFlag;
 use crate::timed_listener::TimedListener;
@@ -28,6 +29,7 @@ fn serve_one<R: Net + Files + Threads + Wait + Clock + Sync>(
     sessions: u32,
     bounds: Bounds,
     stop: Option<&StopFlag>,
+    log: Option<&ServerLog>,
 ) -> Result<(), ServeFault>
     requires { (1 ≤ workers) × (workers ≤ 16) }
     ensures { IsServingClients bounds sessions (is_some stop.entry) result
@@ -37,7 +39,7 @@ fn serve_one<R: Net + Files + Threads + Wait + Clock + Sync>(
         return Err(ServeFault::Socket);
     };
     let one = TimedListener::new(LocalListener::new(all), bounds.timeout);
-    let served = serve_clients_on(rt, alloc, one, workers, sessions, bounds, stop);
+    let served = serve_clients_on(rt, alloc, one, workers, sessions, bounds, stop, log);
     let _ = fs::remove_file(rt, socket);
     served
 }
@@ -52,6 +54,7 @@ fn serve_two<R: Net + Files + Threads + Wait + Clock + Sync>(
     sessions: u32,
     bounds: Bounds,
     stop: Option<&StopFlag>,
+    log: Option<&ServerLog>,
 ) -> Result<(), ServeFault>
     requires { (1 ≤ workers) × (workers ≤ 16) }
     ensures { IsServingClients bounds sessions (is_some stop.entry) result
@@ -67,7 +70,7 @@ fn serve_two<R: Net + Files + Threads + Wait + Clock + Sync>(
     let served = match GrantsListener::new(rt, alloc, all, granting) {
         Ok(both) => {
             let two = TimedListener::new(both, bounds.timeout);
-            serve_clients_on(rt, alloc, two, workers, sessions, bounds, stop)
+            serve_clients_on(rt, alloc, two, workers, sessions, bounds, stop, log)
         }
         Err(_) => Err(ServeFault::Socket),
     };
@@ -90,13 +93,18 @@ pub fn serve_local_clients<R: Net + Files + Threads + Wait + Clock + Sync>(
     sessions: u32,
     bounds: Bounds,
     stop: Option<&StopFlag>,
+    log: Option<&ServerLog>,
 ) -> Result<(), ServeFault>
     requires { (1 ≤ workers) × (workers ≤ 16) }
     ensures { IsServingClients bounds sessions (is_some stop.entry) result
         ⊎ (result ≡ Err (fault.Connection stream.NoMemory)) ⊎ (result ≡ Err fault.Socket) }
 {
     match grants {
-        Some(grants) => { serve_two(rt, alloc, socket, grants, workers, sessions, bounds, stop) }
-        None => serve_one(rt, alloc, socket, workers, sessions, bounds, stop),
+        Some(grants) => {
+            serve_two(
+                rt, alloc, socket, grants, workers, sessions, bounds, stop, log,
+            )
+        }
+        None => serve_one(rt, alloc, socket, workers, sessions, bounds, stop, log),
     }
 }

@@ -75,11 +75,11 @@ impl<R: Clock> TimedReader<'_, R> {
     // Notes what was read: a frame that began in it and isn't whole has its time from now on. It can't
     // fail: what was read is never lost.
     fn note(&mut self, piece: &[u8]) {
-        let (place, begins) = self.place.behind(piece);
-        self.place = place;
-        if !place.is_within() {
+        let frames = self.place.behind(piece);
+        self.place = frames.place;
+        if !frames.place.is_within() {
             self.due = None;
-        } else if begins {
+        } else if frames.begins {
             self.due = self.due_from_now();
         }
     }

@@ -13,7 +13,8 @@ returns-clause-app c =
     let sixth = c.in_ok-arg-6.ensures.shape c.timeout.ensures.local ∙ ap₂ with_rule fifth c.timeout.ensures.rule in
     let seventh = c.in_ok-arg-7.ensures.shape c.open_jobs.ensures.local ∙ ap₂ with_rule sixth c.open_jobs.ensures.rule in
     let eighth = c.in_ok-arg-8.ensures.shape c.keep.ensures.local ∙ ap₂ with_rule seventh c.keep.ensures.rule in
-    IfOk-weaker c.arg-9.result _ _ (λ r h. h.shape c.until_eof.ensures.local ∙ ap₂ with_rule eighth c.until_eof.ensures.rule) c.arg-9.ensures
+    let ninth = c.in_ok-arg-9.ensures.shape c.until_eof.ensures.local ∙ ap₂ with_rule eighth c.until_eof.ensures.rule in
+    IfOk-weaker c.arg-10.result _ _ (λ r h. h.shape c.log.ensures.local ∙ ap₂ with_rule ninth c.log.ensures.rule) c.arg-10.ensures
 
 pub returns-clause-local : goal.returns-clause-local
 returns-clause-local c =
@@ -26,4 +27,5 @@ returns-clause-local c =
     let sixth = c.in_ok-arg-6.ensures.globals ∙ ap₂ either fifth c.timeout.ensures.local in
     let seventh = c.in_ok-arg-7.ensures.globals ∙ ap₂ either sixth c.open_jobs.ensures.local in
     let eighth = c.in_ok-arg-8.ensures.globals ∙ ap₂ either seventh c.keep.ensures.local in
-    IfOk-weaker c.arg-9.result _ _ (λ r h. h.globals ∙ ap₂ either eighth c.until_eof.ensures.local) c.arg-9.ensures
+    let ninth = c.in_ok-arg-9.ensures.globals ∙ ap₂ either eighth c.until_eof.ensures.local in
+    IfOk-weaker c.arg-10.result _ _ (λ r h. h.globals ∙ ap₂ either ninth c.log.ensures.local) c.arg-10.ensures

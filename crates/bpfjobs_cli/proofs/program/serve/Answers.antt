@@ -12,7 +12,8 @@ returns-clause-app c =
     let fifth = c.in_ok-arg-5.ensures.shape c.timeout.ensures.local ∙ ap₂ with_rule fourth c.timeout.ensures.rule in
     let sixth = c.in_ok-arg-6.ensures.shape c.open_jobs.ensures.local ∙ ap₂ with_rule fifth c.open_jobs.ensures.rule in
     let seventh = c.in_ok-arg-7.ensures.shape c.keep.ensures.local ∙ ap₂ with_rule sixth c.keep.ensures.rule in
-    IfOk-weaker c.arg-8.result _ _ (λ r h. h.shape c.until_eof.ensures.local ∙ ap₂ with_rule seventh c.until_eof.ensures.rule) c.arg-8.ensures
+    let eighth = c.in_ok-arg-8.ensures.shape c.until_eof.ensures.local ∙ ap₂ with_rule seventh c.until_eof.ensures.rule in
+    IfOk-weaker c.arg-9.result _ _ (λ r h. h.shape c.log.ensures.local ∙ ap₂ with_rule eighth c.log.ensures.rule) c.arg-9.ensures
 
 pub returns-clause-local : goal.returns-clause-local
 returns-clause-local c =
@@ -24,4 +25,5 @@ returns-clause-local c =
     let fifth = c.in_ok-arg-5.ensures.globals ∙ ap₂ either fourth c.timeout.ensures.local in
     let sixth = c.in_ok-arg-6.ensures.globals ∙ ap₂ either fifth c.open_jobs.ensures.local in
     let seventh = c.in_ok-arg-7.ensures.globals ∙ ap₂ either sixth c.keep.ensures.local in
-    IfOk-weaker c.arg-8.result _ _ (λ r h. h.globals ∙ ap₂ either seventh c.until_eof.ensures.local) c.arg-8.ensures
+    let eighth = c.in_ok-arg-8.ensures.globals ∙ ap₂ either seventh c.until_eof.ensures.local in
+    IfOk-weaker c.arg-9.result _ _ (λ r h. h.globals ∙ ap₂ either eighth c.log.ensures.local) c.arg-9.ensures

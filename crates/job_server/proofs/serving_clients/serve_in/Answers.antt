@@ -1,3 +1,4 @@
+use Rattle.std.proofs.Common.{ap, ◌∙◌}
 use Rattle.job_server.proofs.Alike.{beside}
 use Rattle.job_server.proofs.AtOnceAlike.{hosted_serving, keeping}
 use Rattle.job_server.proofs.serving_clients.serve_in.Goals as goal
@@ -8,10 +9,11 @@ returns g c =
     let pool = c.new-pool.result in
     let limited = c.new.result in
     let handler = c.new-handler.result in
+    let same = c.new-handler.ensures in
     record {
       first = (pool.keeper, pool.boards);
       none = c.new-pool.ensures;
       end = (served.result.0, keeping (λ r. (r.keeper, r.boards)) served.result.1);
       serving = hosted_serving (λ r. (r.keeper, r.boards)) c.args.plan.bounds c.new-desk.result handler limited pool (served.result.0, served.result.1) c.args.plan.sessions _ served.result.2
-          c.new-desk.ensures c.new-handler.ensures.0 c.new-handler.ensures.1 c.new.ensures.0 c.new.ensures.1 served.ensures;
+          c.new-desk.ensures (ap (λ k. k.runner) same ∙ c.new-kept.ensures.0) (ap (λ k. k.keep) same ∙ c.new-kept.ensures.1) c.new.ensures.0 c.new.ensures.1 served.ensures;
     }

@@ -1,0 +1,277 @@
+"""`bpfjobs serve --log`: a line on standard error for each connection and each job, of which nothing waits."""
+
+import fcntl
+import json
+import os
+import socket
+import struct
+import subprocess
+import tempfile
+import time
+import unittest
+
+from programs import BPFJOBS, PATIENCE, Server, frame, frames, is_read, submit_text
+from rows import code_of
+from test_clients import Client, long_job, result_of
+from test_local import Client as LocalClient
+
+ADD = "mov64 r0, 40 / add64 r0, 2 / exit"
+SPAWN = "mov64 r1, 1 / mov64 r2, 5 / mov64 r3, 0 / mov64 r4, 0 / call 1 / mov64 r0, 0 / exit"
+# what the lines of each event have
+MEMBERS = {
+    "opened": ("connection", "socket"),
+    "closed": ("connection", "requests", "code", "end", "ms"),
+    "started": ("job", "credit", "programs"),
+    "ended": ("job", "spent", "returned", "tasks", "buffer", "ms"),
+    "failed": ("job", "code"),
+    "refused": ("code",),
+}
+SOCKETS = {"port", "socket", "grants"}
+ENDS = {"input", "stopped", "frame too large", "timeout", "cut", "memory"}
+PIPE_ROOM = 4096
+
+
+def lines_of(text):
+    """The lines of a log, each in the one form that its event has."""
+    lines = []
+    for line in text.splitlines():
+        told = json.loads(line)
+        wanted = ["time", "event", *MEMBERS[told["event"]]] + ["lost"] * ("lost" in told)
+        assert list(told) == wanted, line
+        words = {"event": MEMBERS, "socket": SOCKETS, "end": ENDS}
+        for name, value in told.items():
+            assert value in words[name] if name in words else type(value) is int and value >= 0, line
+        assert json.dumps(told, separators=(",", ":")) == line, line
+        lines.append(told)
+    return lines
+
+
+def told(lines, event):
+    """The lines of an event, without their times."""
+    return [{name: value for name, value in line.items() if name not in ("time", "event", "ms")} for line in lines if line["event"] == event]
+
+
+class Log(unittest.TestCase):
+    def serve(self, *words, sessions=1, workers=2, stdin=subprocess.DEVNULL):
+        """A server with a log, which is read at its end."""
+        more = ("--log", *words)
+        server = Server(sessions=sessions, workers=workers, more=more, stdin=stdin, stderr=subprocess.PIPE)
+        self.addCleanup(server.process.stderr.close)
+        return server
+
+    def ended(self, server):
+        """The lines of a server that ends."""
+        text = server.process.communicate(timeout=PATIENCE)[1]
+        return lines_of(text.decode())
+
+    def test_a_connection_and_its_jobs(self):
+        began = time.time()
+        with self.serve() as server:
+            client = Client(server)
+            client.ask({"op": "grant", "tenant": "t", "amount": 1000})
+            for job, text in ((1, submit_text([(0, code_of(ADD))], 3, b"abc")), (2, submit_text([(0, code_of(SPAWN)), (0, code_of(ADD))], 200, b""))):
+                self.assertEqual(client.ask(text), {"job": job, "ok": True})
+                reply = result_of(client, job)
+                self.assertTrue(reply["ok"])
+            client.stream.close()
+            lines = self.ended(server)
+            self.assertEqual(server.process.returncode, 0)
+        self.assertEqual([line["event"] for line in lines], ["opened", "started", "ended", "started", "ended", "closed"])
+        self.assertEqual(told(lines, "opened"), [{"connection": 1, "socket": "port"}])
+        self.assertEqual(told(lines, "started"), [{"job": 1, "credit": 3, "programs": 1}, {"job": 2, "credit": 200, "programs": 2}])
+        first, second = told(lines, "ended")
+        self.assertEqual(first, {"job": 1, "spent": 3, "returned": 0, "tasks": 1, "buffer": 3})
+        self.assertEqual(second, {"job": 2, "spent": reply["spent"], "returned": reply["returned"], "tasks": len(reply["tasks"]), "buffer": 0})
+        (closed,) = told(lines, "closed")
+        self.assertGreaterEqual(closed.pop("requests"), 5)
+        self.assertEqual(closed, {"connection": 1, "code": 0, "end": "input"})
+        for line in lines:
+            self.assertTrue(began * 1000 - 1 <= line["time"] <= time.time() * 1000 + 1)
+
+    def test_no_byte_of_a_tenant(self):
+        """Names, buffers, programs and texts that are no requests: nothing of them is told, only numbers and words of ours."""
+        name, mark = "zq-tenant_of_nobody-17", b"ZQbufferZQ"
+        with self.serve() as server:
+            client = Client(server)
+            client.ask({"op": "grant", "tenant": name, "amount": 1000})
+            self.assertTrue(client.ask(submit_text([(0, code_of(ADD))], 3, mark, tenant=name))["ok"])
+            result_of(client, 1)
+            client.ask(submit_text([(0, code_of(ADD))], 3, mark, tenant=name + "x"))
+            client.ask(submit_text([(0, b"ZQprogram")], 3, mark, tenant=name))
+            client.ask('{"op":"submit","tenant":"ZQ\\u000a{\\"event\\":1}"}')
+            client.ask("ZQ no request ZQ")
+            client.ask(b"\xffZQ\xff")
+            client.stream.close()
+            text = server.process.communicate(timeout=PATIENCE)[1].decode()
+        lines = lines_of(text)
+        self.assertEqual([line["event"] for line in lines], ["opened", "started", "ended", "refused", "refused", "closed"])
+        for trace in ("ZQ", "zq", name, mark.hex(), code_of(ADD).hex(), b"ZQprogram".hex()):
+            self.assertNotIn(trace, text)
+
+    def test_refusals(self):
+        """A job that isn't taken, and one whose start is refused."""
+        programs, credit = long_job()
+        with self.serve("--open-jobs", 1, workers=1) as server:
+            client = Client(server)
+            codes = [client.ask(submit_text([(0, code_of(ADD))], 3, b"", tenant="nobody"))["code"]]
+            client.ask({"op": "grant", "tenant": "t", "amount": credit + 10})
+            codes.append(client.ask(submit_text([(0, code_of(ADD))], credit + 11, b""))["code"])
+            codes.append(client.ask(submit_text([(0, code_of("mov64 r0, r9 / exit"))], 3, b""))["code"])
+            codes.append(client.ask(submit_text([(0, b"none")], 3, b""))["code"])
+            # others are told to their clients alone
+            self.assertEqual(client.ask({"op": "result", "job": 7})["code"], 76)
+            self.assertEqual(client.ask(submit_text(programs, credit, b"")), {"job": 1, "ok": True})
+            self.assertEqual(client.ask(submit_text([(0, code_of(ADD))], 3, b"")), {"job": 2, "ok": True})
+            self.assertTrue(result_of(client, 1)["ok"])
+            client.stream.close()
+            lines = self.ended(server)
+        self.assertEqual(codes[:2], [74, 75])
+        self.assertEqual([line["code"] for line in told(lines, "refused")], codes)
+        self.assertEqual(told(lines, "failed"), [{"job": 2, "code": 81}])
+        self.assertEqual([line["job"] for line in told(lines, "started")], [1])
+
+    def test_how_connections_end(self):
+        with self.serve("--timeout", 1, sessions=6) as server:
+            account = frame(json.dumps({"op": "account", "tenant": "t"}))
+            client = Client(server)
+            client.ask({"op": "grant", "tenant": "t", "amount": 3})
+            client.ask(submit_text([(0, code_of(ADD))], 3, bytes(20_000)))
+            result_of(client, 1)
+            client.stream.close()
+            with server.connect() as stream:  # the input's end
+                stream.sendall(account * 3)
+                stream.shutdown(socket.SHUT_WR)
+                while stream.recv(4096):
+                    pass
+            with server.connect() as stream:  # too large
+                stream.sendall(account + b"\x00\x10\x00\x01")
+                while stream.recv(4096):
+                    pass
+            with server.connect() as stream:  # silent within a frame
+                stream.sendall(account * 2 + account[:-1])
+                while stream.recv(4096):
+                    pass
+            with server.connect() as stream:  # reset
+                stream.sendall(account)
+                is_read(stream, 8)
+                stream.setsockopt(socket.SOL_SOCKET, socket.SO_LINGER, struct.pack("ii", 1, 0))
+            with server.connect() as stream:  # nothing is taken of what is answered
+                stream.setsockopt(socket.SOL_SOCKET, socket.SO_RCVBUF, 4096)
+                stream.sendall(frames([json.dumps({"op": "result", "job": 1})] * 2000))
+                lines = self.ended(server)
+        closed = told(lines, "closed")
+        self.assertEqual([line["connection"] for line in closed], [1, 2, 3, 4, 5, 6])
+        lines, closed = [line for line in lines if line["event"] == "closed"][1:], closed[1:]
+        self.assertEqual([(line["code"], line["end"]) for line in closed], [(0, "input"), (71, "frame too large"), (83, "timeout"), (83, "cut"), (84, "timeout")])
+        self.assertEqual([line["requests"] for line in closed[:4]], [3, 1, 2, 1])
+        self.assertTrue(1000 <= lines[2]["ms"] < 1000 * PATIENCE)
+
+    def test_a_server_that_its_host_stops(self):
+        with self.serve("--until-eof", sessions=100, stdin=subprocess.PIPE) as server:
+            client = Client(server)
+            self.addCleanup(client.stream.close)
+            client.ask({"op": "account", "tenant": "t"})
+            server.process.stdin.close()
+            server.process.stdin = None
+            lines = self.ended(server)
+            self.assertEqual(server.process.returncode, 0)
+        self.assertEqual(told(lines, "closed"), [{"connection": 1, "requests": 1, "code": 0, "end": "stopped"}])
+
+    def test_many_connections_have_numbers_of_their_own(self):
+        with self.serve("--clients", 8, sessions=200) as server:
+            for _ in range(25):
+                clients = [Client(server) for _ in range(8)]
+                for client in clients:
+                    client.ask({"op": "account", "tenant": "t"})
+                for client in clients:
+                    client.stream.close()
+            lines = self.ended(server)
+        for event in ("opened", "closed"):
+            self.assertEqual(sorted(line["connection"] for line in told(lines, event)), list(range(1, 201)))
+
+    def test_where_nobody_reads(self):
+        """A pipe that is full stops neither requests nor jobs nor the end. Lines without room are counted."""
+        jobs = 10_000
+        reads, writes = os.pipe()
+        self.addCleanup(os.close, reads)
+        fcntl.fcntl(writes, fcntl.F_SETPIPE_SZ, PIPE_ROOM)
+        asked = frame(json.dumps({"op": "grant", "tenant": "t", "amount": 3 * jobs}))
+        asked += frames([submit_text([(0, code_of(ADD))], 3, b"")] * jobs)
+        with Server(sessions=2, workers=2, more=("--clients", 2, "--log"), stderr=writes) as server:
+            os.close(writes)
+            answer = server.exchange(asked)
+            self.assertEqual(answer.count(b'"ok":true'), jobs + 1)
+            client = Client(server)
+            for job in range(1, jobs + 1):
+                self.assertEqual(result_of(client, job)["spent"], 3)
+            # now somebody reads: the next line tells how many were dropped
+            text = b""
+            while b'"lost":' not in text:
+                if not text:
+                    client.ask(submit_text([(0, code_of(ADD))], 3, b"", tenant="nobody"))
+                text += os.read(reads, 1 << 16)
+                time.sleep(0.001)
+                client.ask(submit_text([(0, code_of(ADD))], 3, b"", tenant="nobody"))
+            client.stream.close()
+            while part := os.read(reads, 1 << 16):
+                text += part
+            self.assertEqual(server.process.wait(PATIENCE), 0)
+        lines = lines_of(text.decode())
+        self.assertGreater(sum(line.get("lost", 0) for line in lines), 0)
+        self.assertGreater(sum(line.get("lost", 0) for line in lines) + len(lines), 2 * jobs)
+
+    def test_an_end_where_nobody_reads(self):
+        """The server ends though its last lines are never read."""
+        reads, writes = os.pipe()
+        self.addCleanup(os.close, reads)
+        fcntl.fcntl(writes, fcntl.F_SETPIPE_SZ, PIPE_ROOM)
+        with Server(sessions=1, workers=2, more=("--log",), stderr=writes) as server:
+            os.close(writes)
+            server.exchange(frames([submit_text([(0, code_of(ADD))], 3, b"", tenant="nobody")] * 1000))
+            self.assertEqual(server.process.wait(PATIENCE), 0)
+
+    def test_where_standard_error_is_closed(self):
+        reads, writes = os.pipe()
+        with Server(sessions=2, workers=2, more=("--log",), stderr=writes) as server:
+            os.close(writes)
+            os.close(reads)
+            for _ in range(2):
+                answer = server.exchange(frames([submit_text([(0, code_of(ADD))], 3, b"", tenant="nobody")] * 100))
+                self.assertEqual(answer.count(b'"code":74'), 100)
+            self.assertEqual(server.process.wait(PATIENCE), 0)
+
+    def test_nothing_is_told_unasked(self):
+        for words in ((), ("--clients", 2), ("--timeout", 1, "--until-eof")):
+            with self.subTest(words):
+                with Server(sessions=2, workers=2, more=words, stderr=subprocess.PIPE, stdin=subprocess.PIPE) as server:
+                    client = Client(server)
+                    client.ask({"op": "grant", "tenant": "t", "amount": 10})
+                    client.ask(submit_text([(0, code_of(ADD))], 3, b""))
+                    result_of(client, 1)
+                    client.ask(submit_text([(0, code_of(ADD))], 30, b""))
+                    client.stream.close()
+                    server.exchange(b"\xff" * 8)
+                    self.assertEqual(server.process.communicate(timeout=PATIENCE)[1], b"")
+
+    def test_by_sockets(self):
+        with tempfile.TemporaryDirectory() as room:
+            path, grants = os.path.join(room, "jobs"), os.path.join(room, "grants")
+            with self.subTest("two"), self.local(path, "--grants", grants) as process:
+                with LocalClient(grants, process) as client:
+                    self.assertTrue(client.ask({"op": "grant", "tenant": "t", "amount": 10})["ok"])
+                with LocalClient(path, process) as client:
+                    self.assertFalse(client.ask({"op": "grant", "tenant": "t", "amount": 10})["ok"])
+                lines = lines_of(process.communicate(timeout=PATIENCE)[1].decode())
+                self.assertEqual(told(lines, "opened"), [{"connection": 1, "socket": "grants"}, {"connection": 2, "socket": "socket"}])
+                self.assertEqual([line["requests"] for line in told(lines, "closed")], [1, 1])
+            with self.subTest("one"), self.local(path) as process:
+                for _ in range(2):
+                    with LocalClient(path, process) as client:
+                        client.ask({"op": "account", "tenant": "t"})
+                lines = lines_of(process.communicate(timeout=PATIENCE)[1].decode())
+                self.assertEqual([line["socket"] for line in told(lines, "opened")], ["socket"] * 2)
+
+    def local(self, path, *words):
+        """A server by a socket at a path."""
+        words = [BPFJOBS, "serve", "--socket", path, "--sessions", "2", "--log", *words]
+        return subprocess.Popen(words, stdin=subprocess.DEVNULL, stdout=subprocess.DEVNULL, stderr=subprocess.PIPE)
