@@ -84,7 +84,7 @@ class Rows(unittest.TestCase):
 
     def test_rows_of_the_reference(self):
         """What the reference says of a job in which no spawn is refused, `bpfjobs play` and the model say too."""
-        folder = os.path.join(TOP, "tests/in_rattle/core_tests/data")
+        folder = os.path.join(TOP, "crates/core_tests/data")
         for row in [*rows("jobs.txt", folder), *rows("trees.txt", folder)]:
             kind, credit, memory, *turns = row.question
             if any(turn.endswith("!") for turn in turns):
