@@ -168,7 +168,8 @@ impl Beside {
 
     /// Waits for the last lines of the log.
     pub fn close<R: Wait + Clock>(self, rt: &R) {
-        if let Some(log) = self.log {
+        let Beside { stop: _, log } = self;
+        if let Some(log) = log {
             log.close(rt);
         }
     }
