@@ -2,10 +2,11 @@
 """Keeps `bpfjobs serve` busy with good and bad clients for a while, and looks at what is left of it.
 
     .ci/soak.py [--seconds N] [--clients N] [--seed N] [--workers N] [--at-once K] [--timeout T] [--open-jobs N] [--keep N] [--silent N]
-                [--program FILE]
+                [--pause MS] [--program FILE]
 
 It starts the server on a free port of 127.0.0.1, the only address that it speaks to. The clients grant, give good and bad jobs, ask,
-cut connections at any byte and send rubbish, as the seed says. The server serves K of them at once, and N more connections say nothing, each until
+cut connections at any byte and send rubbish, as the seed says, and wait MS milliseconds ahead of each connection: a server takes a million of
+them at most. The server serves K of them at once, and N more connections say nothing, each until
 it is given up, and begin anew. An auditor asks now and then how many jobs there are. At the end each account
 has to add up, against what was granted and against the reports of its jobs; the server has to have no thread and no socket but those that it
 began with; and its memory is told as bytes a job, by the line that fits best, and as it was after the first minute and at the end. Status: 0, or 1
@@ -109,8 +110,9 @@ class Connection:
 class Client(threading.Thread):
     """One tenant. What it knows of its account is what it was answered, and at most what it sent."""
 
-    def __init__(self, port, number, seed, until, keeps, limited):
+    def __init__(self, port, number, seed, until, keeps, limited, pause=0.0):
         super().__init__(daemon=True)
+        self.pause = pause
         self.port = port
         # what else may be told of a job: that it is forgotten, or that it was one too many
         self.others = (76,) * keeps + (81,) * limited
@@ -125,6 +127,7 @@ class Client(threading.Thread):
 
     def run(self):
         while time.monotonic() < self.until:
+            time.sleep(self.pause)
             try:
                 self.visit()
             except Gone:
@@ -308,6 +311,9 @@ def keep_busy(process, clients, seconds):
         if time.monotonic() > until + 2 * PATIENCE:
             sys.exit("soak: a client isn't answered")
         time.sleep(0.5)
+    if process.poll() is not None:
+        taken = sum(client.counts["connections"] for client in clients)
+        sys.exit(f"soak: the server ended with status {process.returncode} after {taken} of at most {SESSIONS} connections")
     return points
 
 
@@ -328,7 +334,7 @@ def soak(words, process, port):
     sockets = sockets_of(process)
     until = time.monotonic() + words.seconds
     bounds = (words.keep > 0, words.open_jobs > 0)
-    clients = [Client(port, number, words.seed, until, *bounds) for number in range(words.clients)]
+    clients = [Client(port, number, words.seed, until, *bounds, words.pause / 1000) for number in range(words.clients)]
     silent = [threading.Thread(target=say_nothing, args=(port, until)) for _ in range(words.silent)]
     for thread in silent:
         thread.start()
@@ -364,6 +370,7 @@ def main():
     reader.add_argument("--open-jobs", type=int, default=0)
     reader.add_argument("--keep", type=int, default=0)
     reader.add_argument("--silent", type=int, default=0)
+    reader.add_argument("--pause", type=int, default=0)
     reader.add_argument("--program", default=os.path.join(TOP, "crates/bpfjobs/out/bpfjobs"))
     words = reader.parse_args()
     if not (1 <= words.seconds <= 3600 and 1 <= words.clients <= 64):
