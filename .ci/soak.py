@@ -2,11 +2,12 @@
 """Keeps `bpfjobs serve` busy with good and bad clients for a while, and looks at what is left of it.
 
     .ci/soak.py [--seconds N] [--clients N] [--seed N] [--workers N] [--at-once K] [--timeout T] [--open-jobs N] [--keep N] [--silent N]
-                [--pause MS] [--program FILE]
+                [--pause MS] [--give-back] [--program FILE]
 
 It starts the server on a free port of 127.0.0.1, the only address that it speaks to. The clients grant, give good and bad jobs, ask,
 cut connections at any byte and send rubbish, as the seed says, and wait MS milliseconds ahead of each connection: a server takes a million of
-them at most. The server serves K of them at once, and N more connections say nothing, each until
+them at most. With --give-back its C library gives freed memory back at once, and then more of it at the end than at most in the first minute, or
+quarter, is wrong. The server serves K of them at once, and N more connections say nothing, each until
 it is given up, and begin anew. An auditor asks now and then how many jobs there are. At the end each account
 has to add up, against what was granted and against the reports of its jobs; the server has to have no thread and no socket but those that it
 began with; and its memory is told as bytes a job, by the line that fits best, and as it was after the first minute and at the end. Status: 0, or 1
@@ -28,6 +29,15 @@ TOP = os.path.dirname(os.path.dirname(os.path.abspath(__file__)))
 
 # A connection more than these is never taken, so that the server is ended by a signal.
 SESSIONS = 1000000
+
+# What has the C library (glibc) give freed memory back at once, and keep none of it for each thread.
+GIVE_BACK = {
+    "MALLOC_ARENA_MAX": "1",
+    "MALLOC_TRIM_THRESHOLD_": "0",
+    "MALLOC_TOP_PAD_": "0",
+    "MALLOC_MMAP_THRESHOLD_": "16384",
+    "GLIBC_TUNABLES": "glibc.malloc.tcache_count=0",
+}
 
 # Seconds that a client waits for a reply.
 PATIENCE = 60.0
@@ -284,9 +294,10 @@ def free_port():
         return probe.getsockname()[1]
 
 
-def start(program, port, workers, more):
+def start(program, port, workers, more, gives_back):
     words = [program, "serve", "--port", str(port), "--workers", str(workers), "--sessions", str(SESSIONS), *more]
-    process = subprocess.Popen(words, stdin=subprocess.DEVNULL, stdout=subprocess.PIPE, stderr=subprocess.STDOUT)
+    settings = {**os.environ, **(GIVE_BACK if gives_back else {})}
+    process = subprocess.Popen(words, stdin=subprocess.DEVNULL, stdout=subprocess.PIPE, stderr=subprocess.STDOUT, env=settings)
     until = time.monotonic() + 10
     while time.monotonic() < until:
         try:
@@ -356,6 +367,8 @@ def soak(words, process, port):
     sizes = [point[1] for point in points]
     minute = sizes[: 120 if len(sizes) > 240 else len(sizes) // 4]
     print(f"soak: {max(minute)} bytes at most in the first minute, or quarter, and {max(sizes[len(minute) :])} behind it")
+    if words.give_back and after_size > max(minute):
+        wrong.append("the server's memory grows")
     return wrong
 
 
@@ -371,6 +384,7 @@ def main():
     reader.add_argument("--keep", type=int, default=0)
     reader.add_argument("--silent", type=int, default=0)
     reader.add_argument("--pause", type=int, default=0)
+    reader.add_argument("--give-back", action="store_true")
     reader.add_argument("--program", default=os.path.join(TOP, "crates/bpfjobs/out/bpfjobs"))
     words = reader.parse_args()
     if not (1 <= words.seconds <= 3600 and 1 <= words.clients <= 64):
@@ -378,7 +392,7 @@ def main():
     port = free_port()
     bounds = {"--clients": words.at_once, "--timeout": words.timeout, "--open-jobs": words.open_jobs, "--keep": words.keep}
     more = [word for name, value in bounds.items() for word in (name, str(value)) if value != (name == "--clients")]
-    process = start(words.program, port, words.workers, more)
+    process = start(words.program, port, words.workers, more, words.give_back)
     try:
         wrong = soak(words, process, port)
     finally:
