@@ -1,10 +1,11 @@
 //! One program by the reference, whether or not it would be accepted.
 
 use crate::row::{memory_of, text_of};
+use crate::trees::copied;
 use insn_codec::decode;
 use reference::{
-    Content, JobMember, ReferenceMove, ReferenceProgram, Running, StepOutcome, TrapCause,
-    Unanswered, effect, run, run_alone, start_alone,
+    Content, JobMember, ReferenceJob, ReferenceMove, ReferenceProgram, Running, StepOutcome,
+    TrapCause, Unanswered, effect, run, run_alone, start_alone,
 };
 use std::alloc::Global;
 
@@ -26,6 +27,18 @@ fn helped(id: u32, arguments: [u64; 5]) -> u64 {
     }
 }
 
+/// Helpers from id 64 on that take so many arguments.
+fn registered_of(alloc: Global, arities: &[&str]) -> anyhow::Result<Vec<Option<u32>>> {
+    let mut registered = Vec::new(alloc);
+    for _ in 0..64u8 {
+        registered.push(None)?;
+    }
+    for arity in arities {
+        registered.push(Some(arity.parse::<u32>()?))?;
+    }
+    Ok(registered)
+}
+
 /// The program, with helpers from id 64 on that take so many arguments. Its costs aren't known.
 fn program_of(alloc: Global, arities: &[&str], code: &[u8]) -> anyhow::Result<ReferenceProgram> {
     let placed = decode(alloc, code)?;
@@ -36,13 +49,7 @@ fn program_of(alloc: Global, arities: &[&str], code: &[u8]) -> anyhow::Result<Re
             slots.push(None)?;
         }
     }
-    let mut registered = Vec::new(alloc);
-    for _ in 0..64u8 {
-        registered.push(None)?;
-    }
-    for arity in arities {
-        registered.push(Some(arity.parse::<u32>()?))?;
-    }
+    let registered = registered_of(alloc, arities)?;
     Ok(ReferenceProgram {
         need: 0,
         code: slots,
@@ -77,12 +84,6 @@ fn unanswered(alloc: Global, why: Unanswered) -> anyhow::Result<String> {
     Ok(format!(in alloc; "{why:?}")?)
 }
 
-fn part_of(alloc: Global, memory: &[u8]) -> anyhow::Result<Vec<u8>> {
-    let mut part = Vec::new(alloc);
-    part.extend_from_slice(memory)?;
-    Ok(part)
-}
-
 /// What a program comes to alone within so many steps: R0, what it used and its part, the trap, or
 /// that there is no end.
 pub fn alone(
@@ -97,7 +98,7 @@ pub fn alone(
     let memory = memory_of(alloc, memory)?;
     let credit = credit.parse::<u32>()?;
     let helper = |id: u32, arguments: [u64; 5]| helped(id, arguments);
-    let part = part_of(alloc, &memory)?;
+    let part = copied(alloc, &memory)?;
     match run_alone(
         alloc,
         &program,
@@ -111,7 +112,7 @@ pub fn alone(
             Ok(format!(in alloc; "r0 {r0} used {} memory {text}", last.used)?)
         }
         Ok(None) => {
-            let start = start_alone(credit, part_of(alloc, &memory)?);
+            let start = start_alone(credit, copied(alloc, &memory)?);
             trap_of(alloc, &program, &[], start)
         }
         Err(why) => unanswered(alloc, why),
@@ -135,6 +136,33 @@ fn at_start(credit: u32, part: Vec<u8>) -> Running {
     }
 }
 
+/// What a job of one task has come to: R0, what was spent and the buffer.
+fn ended(alloc: Global, job: &ReferenceJob) -> anyhow::Result<String> {
+    match job.tasks.get(0) {
+        Some(JobMember::Ended(end)) => {
+            let text = text_of(alloc, &job.buffer)?;
+            Ok(format!(in alloc; "r0 {} used {} memory {text}", end.r0, end.spent)?)
+        }
+        _ => Ok(String::from_str(alloc, "no end")?),
+    }
+}
+
+/// The trap of the first of these programs.
+fn trap_of_first(
+    alloc: Global,
+    programs: &[ReferenceProgram],
+    credit: u32,
+    memory: &[u8],
+) -> anyhow::Result<String> {
+    match programs.get(0) {
+        Some(program) => {
+            let start = at_start(credit, copied(alloc, memory)?);
+            trap_of(alloc, program, programs, start)
+        }
+        None => Ok(String::new(alloc)),
+    }
+}
+
 /// What a program comes to as a job of one task: R0, what was spent and the buffer, the trap, or
 /// that there is no end.
 pub fn as_job(alloc: Global, credit: &str, memory: &str, code: &[u8]) -> anyhow::Result<String> {
@@ -146,31 +174,10 @@ pub fn as_job(alloc: Global, credit: &str, memory: &str, code: &[u8]) -> anyhow:
         number: 0,
         refuses: false,
     };
-    match run(
-        alloc,
-        &programs,
-        credit,
-        part_of(alloc, &memory)?,
-        &[next; 128],
-    ) {
-        Ok(Some(job)) => match job.tasks.get(0) {
-            Some(JobMember::Ended(end)) => {
-                let text = text_of(alloc, &job.buffer)?;
-                Ok(format!(in alloc; "r0 {} used {} memory {text}", end.r0, end.spent)?)
-            }
-            _ => Ok(String::from_str(alloc, "no end")?),
-        },
-        Ok(None) => match programs.get(0) {
-            Some(program) => {
-                trap_of(
-                    alloc,
-                    program,
-                    &programs,
-                    at_start(credit, part_of(alloc, &memory)?),
-                )
-            }
-            None => Ok(String::new(alloc)),
-        },
+    let part = copied(alloc, &memory)?;
+    match run(alloc, &programs, credit, part, &[next; 128]) {
+        Ok(Some(job)) => ended(alloc, &job),
+        Ok(None) => trap_of_first(alloc, &programs, credit, &memory),
         Err(why) => unanswered(alloc, why),
     }
 }

@@ -88,30 +88,38 @@ fn of_values(alloc: Global, question: &[&str], code: &[u8]) -> anyhow::Result<St
     }
 }
 
+/// What is answered to a row without a program, or with several.
+fn of_text(alloc: Global, row: &Row) -> anyhow::Result<Option<String>> {
+    let answer = match row.question.as_slice() {
+        ["after", credit, memory, turns @ ..] => of_job(alloc, row, credit, memory, turns, false)?,
+        ["tree", credit, memory, turns @ ..] => of_job(alloc, row, credit, memory, turns, true)?,
+        ["join", first, second] => met(alloc, first, second)?,
+        ["turns"] => answers(alloc, row.program)?,
+        ["arities", added @ ..] => arities(alloc, added)?,
+        ["spawn", child, numbers @ ..] => spawned(alloc, child, numbers)?,
+        ["entry", need] => at_entry(alloc, need)?,
+        _ => return Ok(None),
+    };
+    Ok(Some(answer))
+}
+
+/// What is answered of a program's run.
+fn of_run(alloc: Global, question: &[&str], code: &[u8]) -> anyhow::Result<String> {
+    match question {
+        ["verify", need, added @ ..] => verdict(alloc, need, added, code),
+        ["calls", a, b, c, credit, memory] => called(alloc, [a, b, c], credit, memory, code),
+        ["alone", steps, credit, memory, arities @ ..] => {
+            alone(alloc, steps, credit, memory, arities, code)
+        }
+        ["task", credit, memory] => as_job(alloc, credit, memory, code),
+        _ => of_program(alloc, question, code),
+    }
+}
+
 /// What is answered to the row.
 pub fn answer(alloc: Global, row: &Row) -> anyhow::Result<String> {
-    match row.question.as_slice() {
-        ["after", credit, memory, turns @ ..] => {
-            return of_job(alloc, row, credit, memory, turns, false);
-        }
-        ["tree", credit, memory, turns @ ..] => {
-            return of_job(alloc, row, credit, memory, turns, true);
-        }
-        ["join", first, second] => return met(alloc, first, second),
-        ["turns"] => return answers(alloc, row.program),
-        ["arities", added @ ..] => return arities(alloc, added),
-        ["spawn", child, numbers @ ..] => return spawned(alloc, child, numbers),
-        ["entry", need] => return at_entry(alloc, need),
-        _ => {}
-    }
-    let code = bytes_of(alloc, row.program)?;
-    match row.question.as_slice() {
-        ["verify", need, added @ ..] => verdict(alloc, need, added, &code),
-        ["calls", a, b, c, credit, memory] => called(alloc, [a, b, c], credit, memory, &code),
-        ["alone", steps, credit, memory, arities @ ..] => {
-            alone(alloc, steps, credit, memory, arities, &code)
-        }
-        ["task", credit, memory] => as_job(alloc, credit, memory, &code),
-        _ => of_program(alloc, row.question.as_slice(), &code),
+    match of_text(alloc, row)? {
+        Some(answer) => Ok(answer),
+        None => of_run(alloc, &row.question, &bytes_of(alloc, row.program)?),
     }
 }

@@ -198,63 +198,108 @@ fn report_has_both(report: &Report, findings: &mut Findings) -> anyhow::Result<(
     Ok(())
 }
 
-fn two_tasks_are_spent_and_returned(alloc: Global, findings: &mut Findings) -> anyhow::Result<()> {
-    let (board, mut post, mut reader) = Board::open(alloc, 1, 34)?;
-    nothing_is_spent_yet(&board, &mut reader, &mut post, findings)?;
+/// The book of a job whose root has ended, and the child's ticket.
+fn after_the_root(
+    alloc: Global,
+    board: &Board,
+    mut post: Post,
+    reader: &mut Reader,
+    findings: &mut Findings,
+) -> anyhow::Result<(Book, Ticket)>
+    requires { reader.old.board ≡ board.now }
+    ensures { reader.new.board ≡ board.now }
+{
+    nothing_is_spent_yet(board, reader, &mut post, findings)?;
     let (mut book, root, child) = family(alloc, post)?;
     child_has_its_ticket(&child, findings);
     ends_are_refused(alloc, &mut book, findings);
     root_ends(alloc, &mut book, root, findings)?;
-    let told = board.look(&mut reader);
-    findings.holds(
-        told == progress(24, 0, false),
-        "two tasks are spent and returned (1)",
-    );
+    let told = board.look(reader);
+    let is_told = told == progress(24, 0, false);
+    findings.holds(is_told, "two tasks are spent and returned (1)");
+    Ok((book, child))
+}
+
+/// The report of a book whose child is the last task.
+fn closed(book: Book, child: Ticket, findings: &mut Findings) -> anyhow::Result<Report> {
     let Err(mut book) = book.close() else {
         bail!("the book is closed while a task is alive");
     };
     child_ends(&mut book, child, findings)?;
+    match book.close() {
+        Ok(report) => Ok(report),
+        Err(_) => bail!("the book isn't closed"),
+    }
+}
+
+fn two_tasks_are_spent_and_returned(alloc: Global, findings: &mut Findings) -> anyhow::Result<()> {
+    let (board, post, mut reader) = Board::open(alloc, 1, 34)?;
+    let (book, child) = after_the_root(alloc, &board, post, &mut reader, findings)?;
+    let report = closed(book, child, findings)?;
     board_tells_the_end(&board, &mut reader, findings)?;
-    let Ok(report) = book.close() else {
-        bail!("the book isn't closed");
-    };
     report_has_both(&report, findings)
+}
+
+/// Parks a child, which can't end then, and claims it.
+fn claimed(
+    alloc: Global,
+    book: &mut Book,
+    child: Ticket,
+    findings: &mut Findings,
+) -> anyhow::Result<Ticket> {
+    let is_parked = book.park(child).is_ok();
+    findings.holds(is_parked, "a parked task is claimed once (1)");
+    let ended = end(book, 1, 3, none(alloc));
+    findings.holds(ended == Err((51, 0)), "a parked task is claimed once (2)");
+    match book.claim() {
+        Some(child) => Ok(child),
+        None => bail!("nothing is parked"),
+    }
+}
+
+/// Why a ticket isn't parked, and how many bytes come back with it.
+fn not_parked(book: &mut Book, ticket: Ticket) -> Option<(u8, usize)> {
+    match book.park(ticket) {
+        Ok(()) => None,
+        Err(refused) => Some((refused.fault.code(), refused.value.part().len())),
+    }
 }
 
 fn a_parked_task_is_claimed_once(alloc: Global, findings: &mut Findings) -> anyhow::Result<()> {
     let (_board, post, _reader) = Board::open(alloc, 1, 34)?;
     let (mut book, _root, child) = family(alloc, post)?;
-    findings.holds(
-        book.park(child).is_ok(),
-        "a parked task is claimed once (1)",
+    let child = claimed(alloc, &mut book, child, findings)?;
+    let told = (
+        child.number(),
+        child.held(),
+        child.arg(),
+        child.part().len(),
     );
-    findings.holds(
-        end(&mut book, 1, 3, none(alloc)) == Err((51, 0)),
-        "a parked task is claimed once (2)",
-    );
-    let Some(child) = book.claim() else {
-        bail!("nothing is parked");
-    };
-    findings.holds(
-        (
-            child.number(),
-            child.held(),
-            child.arg(),
-            child.part().len(),
-        ) == (1, 10, 9, 4),
-        "a parked task is claimed once (3)",
-    );
-    match book.park(child) {
-        Ok(()) => bail!("a task is parked twice"),
-        Err(refused) => {
-            findings.holds(
-                (refused.fault.code(), refused.value.part().len()) == (51, 4),
-                "a parked task is claimed once (4)",
-            );
-        }
-    }
+    findings.holds(told == (1, 10, 9, 4), "a parked task is claimed once (3)");
+    let again = not_parked(&mut book, child);
+    findings.holds(again == Some((51, 4)), "a parked task is claimed once (4)");
     findings.holds(book.claim().is_none(), "a parked task is claimed once (5)");
     Ok(())
+}
+
+/// The number of a child with this share and a byte, or why there is none, and how many bytes come
+/// back.
+fn spawned(
+    alloc: Global,
+    book: &mut Book,
+    parent: u32,
+    share: u32,
+) -> anyhow::Result<Result<u32, (u8, usize)>> {
+    let record = SpawnRecord {
+        program: 2,
+        share,
+        arg: 0,
+        part: Part::whole(vec![in alloc; 5]?),
+    };
+    match book.spawn(parent, record) {
+        Ok(ticket) => Ok(Ok(ticket.number())),
+        Err(refused) => Ok(Err((refused.fault.code(), refused.value.part.len()))),
+    }
 }
 
 fn shares_are_more_than_nothing_and_less_than_all(
@@ -263,29 +308,22 @@ fn shares_are_more_than_nothing_and_less_than_all(
 ) -> anyhow::Result<()> {
     let (_board, post, _reader) = Board::open(alloc, 1, 34)?;
     let (mut book, _root, _child) = family(alloc, post)?;
-    for (parent, share, want) in [(0, 0, 53), (0, 24, 53), (0, 23, 0), (0, 1, 53), (7, 1, 51)] {
-        let record = SpawnRecord {
-            program: 2,
-            share,
-            arg: 0,
-            part: Part::whole(vec![in alloc; 5]?),
-        };
-        match book.spawn(parent, record) {
-            Ok(ticket) => findings.holds(
-                (want, ticket.number()) == (0, 2),
-                "shares are more than nothing and less than all (1)",
-            ),
-            Err(refused) => {
-                findings.holds(
-                    (refused.fault.code(), refused.value.part.len()) == (want, 1),
-                    "shares are more than nothing and less than all (2)",
-                );
-            }
-        }
+    for (parent, share, want) in [
+        (0, 0, Err((53, 1))),
+        (0, 24, Err((53, 1))),
+        (0, 23, Ok(2)),
+        (0, 1, Err((53, 1))),
+        (7, 1, Err((51, 1))),
+    ] {
+        let told = spawned(alloc, &mut book, parent, share)?;
+        findings.holds(
+            told == want,
+            "shares are more than nothing and less than all (1)",
+        );
     }
     findings.holds(
         BookFault::NoMemory.code() == 99,
-        "shares are more than nothing and less than all (3)",
+        "shares are more than nothing and less than all (2)",
     );
     Ok(())
 }

@@ -4,7 +4,7 @@
 use crate::scenarios::Findings;
 use anyhow::bail;
 use assembler::assemble;
-use job_core::{Job, ProgramBytes, Totals, World, admit};
+use job_core::{Job, ProgramBytes, World, admit};
 use std::alloc::Global;
 
 /// How many tasks a chain has, what each spends, and how many bytes the first one has.
@@ -38,15 +38,17 @@ fn chain(alloc: Global, kept: i32) -> anyhow::Result<Job> {
     )?)
 }
 
-/// The room of all live parts after each task has spawned the next, and after all have ended what
-/// was spent.
-fn rooms(alloc: Global, kept: i32) -> anyhow::Result<(usize, u32)> {
-    let mut world = World::open(alloc, chain(alloc, kept)?)?;
+/// Runs so many instructions of each link, one link after the other.
+fn step_all(alloc: Global, world: &mut World, times: u32) {
     for number in 0..LINKS {
-        for _ in 0..10u32 {
+        for _ in 0..times {
             world.step(alloc, number);
         }
     }
+}
+
+/// The room of all live parts.
+fn room_of(world: &World) -> anyhow::Result<usize> {
     let mut room = 0usize;
     for number in 0..LINKS {
         match world.part_room(number) {
@@ -57,23 +59,29 @@ fn rooms(alloc: Global, kept: i32) -> anyhow::Result<(usize, u32)> {
     if world.live(LINKS) {
         bail!("there are too many links");
     }
-    for number in 0..LINKS {
-        world.step(alloc, number);
-        world.step(alloc, number);
+    Ok(room)
+}
+
+/// Whether all credit is spent, and the buffer is as it was.
+fn is_at_its_end(alloc: Global, world: &World) -> anyhow::Result<bool> {
+    let totals = world.totals();
+    if totals.held != 0 || totals.returned != 0 {
+        return Ok(false);
     }
-    let Totals {
-        held,
-        returned,
-        spent,
-        used: _,
-    } = world.totals();
-    if held != 0
-        || returned != 0
-        || world.buffer(alloc)?.as_slice() != vec![in alloc; 1; SIZE]?.as_slice()
-    {
+    Ok(world.buffer(alloc)?.as_slice() == vec![in alloc; 1; SIZE]?.as_slice())
+}
+
+/// The room of all live parts after each task has spawned the next, and after all have ended what
+/// was spent.
+fn rooms(alloc: Global, kept: i32) -> anyhow::Result<(usize, u32)> {
+    let mut world = World::open(alloc, chain(alloc, kept)?)?;
+    step_all(alloc, &mut world, 10);
+    let room = room_of(&world)?;
+    step_all(alloc, &mut world, 2);
+    if !is_at_its_end(alloc, &world)? {
         bail!("the chain isn't at its end");
     }
-    Ok((room, spent))
+    Ok((room, world.totals().spent))
 }
 
 fn a_chain_that_hands_all_its_bytes_on_takes_them_once(

@@ -1,8 +1,7 @@
 //! Jobs over a schedule by the reference: what is there of each task then.
 
-use crate::machines::reference_program;
 use crate::row::text_of;
-use crate::trees::{Tree, place_text};
+use crate::trees::{Tree, copied, place_text, reference_programs};
 use reference::{Content, JobMember, ReferenceJob, ReferenceMove, run};
 use std::alloc::Global;
 
@@ -76,19 +75,8 @@ fn job_text(alloc: Global, job: &ReferenceJob) -> anyhow::Result<String> {
     Ok(text)
 }
 
-fn copied(alloc: Global, bytes: &[u8]) -> anyhow::Result<Vec<u8>> {
-    let mut copy = Vec::new(alloc);
-    copy.extend_from_slice(bytes)?;
-    Ok(copy)
-}
-
-/// What a job has come to after the turns, or that a task trapped.
-pub fn after(alloc: Global, tree: &Tree, turns: &[(u32, bool)]) -> anyhow::Result<String> {
-    let mut programs = Vec::new(alloc);
-    for program in &tree.programs {
-        let none = Vec::new(alloc);
-        programs.push(reference_program(alloc, program.need, &program.code, none)?)?;
-    }
+/// What each turn moves.
+fn moves_of(alloc: Global, turns: &[(u32, bool)]) -> anyhow::Result<Vec<ReferenceMove>> {
     let mut moves = Vec::new(alloc);
     for (number, refuses) in turns {
         moves.push(ReferenceMove {
@@ -96,6 +84,13 @@ pub fn after(alloc: Global, tree: &Tree, turns: &[(u32, bool)]) -> anyhow::Resul
             refuses: *refuses,
         })?;
     }
+    Ok(moves)
+}
+
+/// What a job has come to after the turns, or that a task trapped.
+pub fn after(alloc: Global, tree: &Tree, turns: &[(u32, bool)]) -> anyhow::Result<String> {
+    let programs = reference_programs(alloc, tree)?;
+    let moves = moves_of(alloc, turns)?;
     let buffer = copied(alloc, &tree.buffer)?;
     match run(alloc, &programs, tree.credit, buffer, &moves) {
         Ok(Some(job)) => job_text(alloc, &job),

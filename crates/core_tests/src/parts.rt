@@ -17,20 +17,29 @@ fn arities_of(alloc: Global, table: &HelperTable) -> anyhow::Result<String> {
     Ok(text)
 }
 
-/// The arities of the job's helpers and of those that are added, and behind a semicolon those of
-/// the copy that was taken last.
-pub fn arities(alloc: Global, words: &[&str]) -> anyhow::Result<String> {
+/// Adds a helper to a table: its id, from 64 to 127, and its arity, of at most 5.
+pub fn add(alloc: Global, table: &mut HelperTable, id: &str, arity: &str) -> anyhow::Result<()> {
+    let id = id.parse::<u32>()?.clamp(64, 127);
+    Ok(table.add(alloc, id, arity.parse::<u32>()?.min(5))?)
+}
+
+/// The job's helpers with those that are added, and the copy that was taken last.
+fn tables_of(alloc: Global, words: &[&str]) -> anyhow::Result<(HelperTable, Option<HelperTable>)> {
     let mut table = HelperTable::job();
     let mut copy = None;
     for word in words {
         match word.split_once('/') {
-            Some((id, arity)) => {
-                let id = id.parse::<u32>()?.clamp(64, 127);
-                table.add(alloc, id, arity.parse::<u32>()?.min(5))?;
-            }
+            Some((id, arity)) => add(alloc, &mut table, id, arity)?,
             None => copy = Some(table.copied(alloc)?),
         }
     }
+    Ok((table, copy))
+}
+
+/// The arities of the job's helpers and of those that are added, and behind a semicolon those of
+/// the copy that was taken last.
+pub fn arities(alloc: Global, words: &[&str]) -> anyhow::Result<String> {
+    let (table, copy) = tables_of(alloc, words)?;
     let text = arities_of(alloc, &table)?;
     let text = match copy {
         Some(copy) => {

@@ -26,22 +26,26 @@ pub fn words_of<'a>(alloc: Global, text: &'a str) -> anyhow::Result<Vec<&'a str>
     Ok(words)
 }
 
-/// All rows of a text. Of a line without two bars the program or the answer is empty.
+/// The row of a line. Without two bars the program or the answer is empty.
+fn row_of<'a>(alloc: Global, line: usize, text: &'a str) -> anyhow::Result<Row<'a>> {
+    let (question, rest) = text.split_once('|').unwrap_or((text, ""));
+    let (program, answer) = rest.split_once('|').unwrap_or((rest, ""));
+    Ok(Row {
+        line,
+        question: words_of(alloc, question)?,
+        program: program.trim(),
+        answer: answer.trim(),
+    })
+}
+
+/// All rows of a text.
 pub fn rows_of<'a>(alloc: Global, text: &'a str) -> anyhow::Result<Vec<Row<'a>>> {
     let mut rows = Vec::new(alloc);
     for (index, line) in text.lines().enumerate() {
         let line = line.trim();
-        if line.is_empty() || line.starts_with('#') {
-            continue;
+        if !line.is_empty() && !line.starts_with('#') {
+            rows.push(row_of(alloc, index.saturating_add(1), line)?)?;
         }
-        let (question, rest) = line.split_once('|').unwrap_or((line, ""));
-        let (program, answer) = rest.split_once('|').unwrap_or((rest, ""));
-        rows.push(Row {
-            line: index.saturating_add(1),
-            question: words_of(alloc, question)?,
-            program: program.trim(),
-            answer: answer.trim(),
-        })?;
     }
     Ok(rows)
 }

@@ -4,8 +4,8 @@
 use crate::machines::reference_program;
 use crate::row::text_of;
 use anyhow::bail;
-use job_core::{ProgramBytes, admit, play};
-use reference::{Evaluation, FinishedTask, evaluate};
+use job_core::{ProgramBytes, Report, World, admit, play};
+use reference::{Evaluation, FinishedTask, ReferenceProgram, evaluate};
 use std::alloc::Global;
 use std::collections::BTreeMap;
 
@@ -69,10 +69,32 @@ pub fn widened(alloc: Global, place: &[u32]) -> anyhow::Result<Vec<u64>> {
     Ok(numbers)
 }
 
-fn copied(alloc: Global, bytes: &[u8]) -> anyhow::Result<Vec<u8>> {
+/// A copy of the bytes.
+pub fn copied(alloc: Global, bytes: &[u8]) -> anyhow::Result<Vec<u8>> {
     let mut copy = Vec::new(alloc);
     copy.extend_from_slice(bytes)?;
     Ok(copy)
+}
+
+/// The place of a task of the world, as text.
+fn place_of(alloc: Global, world: &World, number: u32) -> anyhow::Result<String> {
+    match world.place(alloc, number)? {
+        Some(place) => place_text(alloc, &widened(alloc, &place)?),
+        None => bail!("a task without a place"),
+    }
+}
+
+/// What a complete job has come to.
+fn reported(alloc: Global, world: &World, report: &Report) -> anyhow::Result<Answer> {
+    let mut answer = Answer::new(alloc);
+    answer.spent = report.spent;
+    answer.buffer.extend_from_slice(&report.buffer)?;
+    for end in &report.tasks {
+        answer
+            .r0s
+            .insert(place_of(alloc, world, end.number)?, end.r0)?;
+    }
+    Ok(answer)
 }
 
 /// What the job comes to over a schedule.
@@ -80,20 +102,10 @@ fn by_play(alloc: Global, tree: &Tree, schedule: &[u32]) -> anyhow::Result<Strin
     let buffer = copied(alloc, &tree.buffer)?;
     let job = admit(alloc, &tree.programs, tree.credit, buffer)?;
     let world = play(alloc, job, schedule)?;
-    let Some(report) = world.report() else {
-        bail!("a task is alive");
-    };
-    let mut answer = Answer::new(alloc);
-    answer.spent = report.spent;
-    answer.buffer.extend_from_slice(&report.buffer)?;
-    for end in &report.tasks {
-        let Some(place) = world.place(alloc, end.number)? else {
-            bail!("a task without a place");
-        };
-        let place = place_text(alloc, &widened(alloc, &place)?)?;
-        answer.r0s.insert(place, end.r0)?;
+    match world.report() {
+        Some(report) => reported(alloc, &world, &report)?.text(alloc),
+        None => bail!("a task is alive"),
     }
-    answer.text(alloc)
 }
 
 /// Adds a task that ended to what the job comes to.
@@ -109,24 +121,34 @@ fn add(alloc: Global, answer: &mut Answer, task: &FinishedTask) -> anyhow::Resul
     Ok(())
 }
 
-/// What the root comes to with all that it spawns, by the reference, where each spawn is taken.
-fn by_evaluation(alloc: Global, tree: &Tree) -> anyhow::Result<String> {
+/// The programs of a job, for the reference.
+pub fn reference_programs(alloc: Global, tree: &Tree) -> anyhow::Result<Vec<ReferenceProgram>> {
     let mut programs = Vec::new(alloc);
     for program in &tree.programs {
         let none = Vec::new(alloc);
         programs.push(reference_program(alloc, program.need, &program.code, none)?)?;
     }
-    let buffer = copied(alloc, &tree.buffer)?;
-    let tasks = match evaluate(alloc, &programs, tree.credit, buffer, MOST_STEPS) {
-        Ok(Evaluation::Comes(tasks)) => tasks,
-        _ => bail!("the root comes to nothing"),
-    };
+    Ok(programs)
+}
+
+/// What these tasks of a job of so many bytes have come to.
+fn evaluated(alloc: Global, size: usize, tasks: &[FinishedTask]) -> anyhow::Result<String> {
     let mut answer = Answer::new(alloc);
-    answer.buffer = vec![in alloc; 0; tree.buffer.len()]?;
-    for task in &tasks {
+    answer.buffer = vec![in alloc; 0; size]?;
+    for task in tasks {
         add(alloc, &mut answer, task)?;
     }
     answer.text(alloc)
+}
+
+/// What the root comes to with all that it spawns, by the reference, where each spawn is taken.
+fn by_evaluation(alloc: Global, tree: &Tree) -> anyhow::Result<String> {
+    let programs = reference_programs(alloc, tree)?;
+    let buffer = copied(alloc, &tree.buffer)?;
+    match evaluate(alloc, &programs, tree.credit, buffer, MOST_STEPS) {
+        Ok(Evaluation::Comes(tasks)) => evaluated(alloc, tree.buffer.len(), &tasks),
+        _ => bail!("the root comes to nothing"),
+    }
 }
 
 /// What the job comes to over a schedule, where the root comes to the same by the reference.

@@ -32,6 +32,19 @@ fn start(alloc: Global, need: &str, credit: &str, program: &str) -> anyhow::Resu
     }
 }
 
+/// What the machine answers to a call that sets no program.
+fn told(alloc: Global, vm: &mut Vm, words: &[&str], program: &str) -> anyhow::Result<String> {
+    match words {
+        ["has"] => {
+            let has = vm.has_program();
+            Ok(format!(in alloc; "{has}")?)
+        }
+        ["run", credit, memory] => run(alloc, vm, credit, memory),
+        ["start", need, credit] => start(alloc, need, credit, program),
+        _ => bail!("no such call"),
+    }
+}
+
 /// What a machine without a program answers to calls, one after the other. Where a program is refused,
 /// the one that was set stays.
 pub fn answers(alloc: Global, calls: &str) -> anyhow::Result<String> {
@@ -40,21 +53,15 @@ pub fn answers(alloc: Global, calls: &str) -> anyhow::Result<String> {
     for call in calls.split(';') {
         let call = call.trim();
         let (words, program) = call.split_once(':').unwrap_or((call, ""));
-        let told = match words_of(alloc, words)?.as_slice() {
-            ["has"] => {
-                let has = vm.has_program();
-                format!(in alloc; "{has}")?
-            }
-            ["run", credit, memory] => run(alloc, &mut vm, credit, memory)?,
-            ["set", need] => {
+        let told = match words.trim().split_once(' ') {
+            Some(("set", need)) => {
                 let code = bytes_of(alloc, program)?;
                 match vm.set_program(alloc, need.parse::<u32>()?, &code) {
                     Ok(()) => String::from_str(alloc, "set")?,
                     Err(refusal) => format!(in alloc; "{refusal}")?,
                 }
             }
-            ["start", need, credit] => start(alloc, need, credit, program)?,
-            _ => bail!("no such call"),
+            _ => told(alloc, &mut vm, &words_of(alloc, words)?, program)?,
         };
         text = format!(in alloc; "{text}{told} ; ")?;
     }

@@ -9,34 +9,32 @@ use std::alloc::Global;
 use verifier::Refusal;
 use virtual_machine::VmFault;
 
-fn refusals_without_memory(alloc: Global, findings: &mut Findings) -> anyhow::Result<()> {
-    let text = "99: out of memory";
+const WITHOUT_MEMORY: &str = "99: out of memory";
+
+fn verdicts_and_runs_without_memory(alloc: Global, findings: &mut Findings) -> anyhow::Result<()> {
     let told = format!(in alloc; "{}", Refusal::NoMemory)?;
     let codes = (Refusal::NoMemory.code(), Refusal::NoMemory.slot());
-    findings.holds(told.as_str() == text && codes == (99, None), "a verdict");
+    let is_told = told.as_str() == WITHOUT_MEMORY && codes == (99, None);
+    findings.holds(is_told, "a verdict");
     let told = format!(in alloc; "{}", VmFault::NoMemory)?;
-    findings.holds(
-        told.as_str() == text && VmFault::NoMemory.code() == 99,
-        "a run",
-    );
-    let told = format!(in alloc; "{}", CodecFault::NoMemory)?;
-    findings.holds(
-        told.as_str() == text && CodecFault::NoMemory.code() == 99,
-        "bytes",
-    );
-    let told = format!(in alloc; "{}", TextFault::NoMemory)?;
-    findings.holds(
-        told.as_str() == text && TextFault::NoMemory.code() == 99,
-        "a text",
-    );
-    let told = format!(in alloc; "{}", FlowFault::NoMemory)?;
-    findings.holds(
-        told.as_str() == text && FlowFault::NoMemory.code() == 99,
-        "a graph",
-    );
+    let is_told = told.as_str() == WITHOUT_MEMORY && VmFault::NoMemory.code() == 99;
+    findings.holds(is_told, "a run");
     let told = format!(in alloc; "{}", VmFault::NoProgram)?;
     let is_told = told.as_str() == "41: no program is set" && VmFault::NoProgram.code() == 41;
     findings.holds(is_told, "no program");
+    Ok(())
+}
+
+fn texts_and_graphs_without_memory(alloc: Global, findings: &mut Findings) -> anyhow::Result<()> {
+    let told = format!(in alloc; "{}", CodecFault::NoMemory)?;
+    let is_told = told.as_str() == WITHOUT_MEMORY && CodecFault::NoMemory.code() == 99;
+    findings.holds(is_told, "bytes");
+    let told = format!(in alloc; "{}", TextFault::NoMemory)?;
+    let is_told = told.as_str() == WITHOUT_MEMORY && TextFault::NoMemory.code() == 99;
+    findings.holds(is_told, "a text");
+    let told = format!(in alloc; "{}", FlowFault::NoMemory)?;
+    let is_told = told.as_str() == WITHOUT_MEMORY && FlowFault::NoMemory.code() == 99;
+    findings.holds(is_told, "a graph");
     Ok(())
 }
 
@@ -90,7 +88,8 @@ pub fn go_through(alloc: Global, findings: &mut Findings) -> anyhow::Result<()> 
     nothing_refused();
     one_refusal();
     read_back();
-    refusals_without_memory(alloc, findings)?;
+    verdicts_and_runs_without_memory(alloc, findings)?;
+    texts_and_graphs_without_memory(alloc, findings)?;
     refusals_of_single_programs(alloc, findings)?;
     limits_of_spelling(alloc, findings)?;
     quotes_of_other_texts(alloc, findings)
