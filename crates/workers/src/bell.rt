@@ -73,8 +73,13 @@ impl<'a> Rest<'a> {
 
     /// Rests after a look in vain: others have the processor first, and after some rounds the worker
     /// sleeps until the bell rings. It looks once more between the round in which it is counted
-    /// among those who sleep and its first sleep, so that it sleeps through no task.
-    pub fn pause<R: Wait>(&mut self, rt: &R) {
+    /// among those who sleep and its first sleep, so that it sleeps through no task. A round in
+    /// which the desk was taken is no look.
+    pub fn pause<R: Wait>(&mut self, rt: &R, has_looked: bool) {
+        if !has_looked {
+            std::thread::yield_now();
+            return;
+        }
         if self.rounds < PATIENT_ROUNDS {
             self.rounds += 1;
             std::thread::yield_now();

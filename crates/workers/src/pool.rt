@@ -75,7 +75,7 @@ fn work<'s, R: Wait, G: Gate>(
                 if watch.is_complete() {
                     break;
                 }
-                rest.pause(rt);
+                rest.pause(rt, hands.has_looked());
             }
             Found::Refusal => break,
         }

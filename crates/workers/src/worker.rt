@@ -30,12 +30,9 @@ const BRIEF: u32 = 4096;
 /// worker stays at the desk, and meanwhile others come first.
 const TRIES: u32 = 2000;
 
-/// How many moments a worker waits after its first try: few, since a worker that has spawned all
-/// children of one task is away from the desk just until the next task spawns.
-const FIRST_WAIT: u32 = 8;
-
-/// How often the wait doubles.
-const DOUBLINGS: u32 = 3;
+/// How many moments a worker waits between two tries, and so leaves the lock's line to the worker at
+/// the desk.
+const MOMENTS: u32 = 8;
 
 /// From which try on a worker leaves the processor to others as well.
 const PATIENCE: u32 = 100;
@@ -64,9 +61,9 @@ impl Shared {
 /// The desk, for one worker alone until it lets go of this.
 pub(crate) type AtDesk<'a> = MutexGuard<'a, CachePadded<LockedBook>>;
 
-/// Waits ahead of another try: longer each time, up to a bound.
+/// Waits ahead of another try.
 fn wait_a_while(turn: u32) {
-    for _ in 0..FIRST_WAIT << turn.min(DOUBLINGS) {
+    for _ in 0..MOMENTS {
         hint::spin_loop();
     }
     if turn >= PATIENCE {
@@ -85,8 +82,8 @@ fn take_desk<'a, R: Wait>(rt: &R, shared: &'a Shared) -> AtDesk<'a> {
     shared.desk.lock(rt)
 }
 
-/// A worker's lanes, the number of the task that it runs, whose children go to its own lane, and
-/// what it ran that the book hasn't been told of.
+/// A worker's lanes, the number of the task that it runs, whether that has a child, whether the
+/// last claim was made at the desk, and what the worker ran that the book hasn't been told of.
 #[derive(Drop)]
 pub(crate) struct Worker<'a, 'b, R> {
     rt: &'a R,
@@ -94,6 +91,8 @@ pub(crate) struct Worker<'a, 'b, R> {
     stay: &'b HeldLock<'a>,
     lanes: Lanes,
     turn: u32,
+    has_child: bool,
+    has_looked: bool,
     ended: Vec<Outcome>,
 }
 
@@ -124,6 +123,8 @@ impl<'a, 'b, R: Wait> Worker<'a, 'b, R> {
             stay,
             lanes,
             turn: 0,
+            has_child: false,
+            has_looked: false,
             ended,
         }
     }
@@ -159,6 +160,7 @@ impl<'a, 'b, R: Wait> Worker<'a, 'b, R> {
         };
         if let Found::Ready(ticket) = &found {
             self.turn = ticket.number();
+            self.has_child = false;
             if ticket.held() > BRIEF && !self.end_held_back() {
                 return Found::Refusal;
             }
@@ -172,6 +174,7 @@ impl<'a, 'b, R: Wait> Worker<'a, 'b, R> {
         ensures shared { (self.new.shared ≡ self.old.shared) × (self.new.lanes ≡ self.old.lanes) }
         ensures told { self.new.ended.items ≡ [] }
     {
+        self.has_looked = true;
         if !self.ended.is_empty() {
             let mut desk = self.desk();
             self.tell(&mut desk);
@@ -179,8 +182,16 @@ impl<'a, 'b, R: Wait> Worker<'a, 'b, R> {
         }
         match self.desk_if_free() {
             Some(mut desk) => desk.claim(),
-            None => Found::Nothing,
+            None => {
+                self.has_looked = false;
+                Found::Nothing
+            }
         }
+    }
+
+    /// Whether the last claim was made at the desk. Otherwise a ticket may be parked.
+    pub fn has_looked(&self) -> bool {
+        self.has_looked
     }
 
     /// Tells the book at the desk of all that has ended here, in the order in which it ended.
@@ -252,14 +263,22 @@ impl<'a, 'b, R: Wait> Worker<'a, 'b, R> {
     }
 
     /// Puts a new task's ticket into its own lane, or parks it where there is no room for it, and
-    /// wakes a worker that sleeps.
+    /// wakes a worker that sleeps. Of the children that aren't brief all but the first are parked:
+    /// they may spawn, and a worker claims one where no lane has a ticket. So few workers spawn at
+    /// once, and few tickets stand in lanes.
     fn keep(&mut self, desk: &mut LockedBook, ticket: Ticket)
         ensures same { (self.new.shared ≡ self.old.shared) × (self.new.turn ≡ self.old.turn)
             × (self.new.ended ≡ self.old.ended) }
         ensures kept { IsKeptBeside self.old.lanes desk.old ticket self.new.lanes desk.new }
     {
-        if let Err(back) = self.lanes.push(ticket) {
-            desk.park(back);
+        let is_first = !self.has_child;
+        self.has_child = true;
+        if is_first || ticket.held() <= BRIEF {
+            if let Err(back) = self.lanes.push(ticket) {
+                desk.park(back);
+            }
+        } else {
+            desk.park(ticket);
         }
         self.shared.bell.ring();
     }
