@@ -100,18 +100,29 @@ impl Tree {
     }
 }
 
+/// The time of one run, by `play`.
+fn played_once<C: Clock>(
+    clock: &C,
+    alloc: Global,
+    tree: Tree,
+    schedule: &[u32],
+) -> anyhow::Result<Duration> {
+    let job = tree.job(alloc)?;
+    let start = Instant::now(clock)?;
+    let world = play(alloc, job, schedule)?;
+    let took = start.elapsed(clock)?;
+    if world.report().is_none() {
+        bail!("a task is alive");
+    }
+    Ok(took)
+}
+
 /// The time of the quickest round, by `play`.
 fn played<C: Clock>(clock: &C, alloc: Global, tree: Tree) -> anyhow::Result<Duration> {
     let schedule = tree.schedule(alloc)?;
     let mut quickest = Duration::MAX;
     for _ in 0..ROUNDS {
-        let job = tree.job(alloc)?;
-        let start = Instant::now(clock)?;
-        let world = play(alloc, job, &schedule)?;
-        quickest = quickest.min(start.elapsed(clock)?);
-        if world.report().is_none() {
-            bail!("a task is alive");
-        }
+        quickest = quickest.min(played_once(clock, alloc, tree, &schedule)?);
     }
     Ok(quickest)
 }

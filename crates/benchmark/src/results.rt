@@ -1,7 +1,7 @@
 //! What the scenarios come to: the same on every machine.
 
 use crate::scenario::{Scenario, program};
-use crate::single::{executed, filter, sum};
+use crate::single::{Single, executed, filter, sum};
 use job_core::{ProgramBytes, Report, admit, play};
 use std::alloc::Global;
 use std::io::Write;
@@ -34,25 +34,42 @@ fn played(alloc: Global, code: ProgramBytes, steps: u32) -> anyhow::Result<Optio
     Ok(play(alloc, job, &numbers)?.close().ok())
 }
 
-/// Prints R0 and the credit spent for each scenario in 64 slots, and R0 of each single program.
-pub fn print_results<W: Write>(alloc: Global, output: &mut W) -> anyhow::Result<()> {
-    for scenario in SCENARIOS {
-        let name = scenario.name();
-        let code = program(alloc, scenario, 64)?;
-        if let Some(report) = played(alloc, code, 64)? {
-            for task in &report.tasks {
-                writeln!(
-                    output,
-                    "{name} 64 slots: r0 {} spent {}",
-                    task.r0, task.spent
-                )?;
-            }
+/// Prints R0 and the credit spent of a scenario in 64 slots.
+fn print_scenario<W: Write>(
+    alloc: Global,
+    output: &mut W,
+    scenario: Scenario,
+) -> anyhow::Result<()> {
+    let name = scenario.name();
+    if let Some(report) = played(alloc, program(alloc, scenario, 64)?, 64)? {
+        for task in &report.tasks {
+            writeln!(
+                output,
+                "{name} 64 slots: r0 {} spent {}",
+                task.r0, task.spent
+            )?;
         }
     }
-    for mut single in [filter(alloc)?, sum(alloc)?] {
-        let mut vm = Vm::new(alloc, Some((single.need, &single.code)))?;
-        let r0 = executed(&mut vm, &mut single)?;
-        writeln!(output, "{} of {} bytes: r0 {r0}", single.name, single.need)?;
-    }
     Ok(())
+}
+
+/// Prints R0 of a single program.
+fn print_single<W: Write>(
+    alloc: Global,
+    output: &mut W,
+    single: &mut Single,
+) -> anyhow::Result<()> {
+    let mut vm = Vm::new(alloc, Some((single.need, &single.code)))?;
+    let r0 = executed(&mut vm, single)?;
+    writeln!(output, "{} of {} bytes: r0 {r0}", single.name, single.need)?;
+    Ok(())
+}
+
+/// Prints what each scenario comes to, and each single program.
+pub fn print_results<W: Write>(alloc: Global, output: &mut W) -> anyhow::Result<()> {
+    for scenario in SCENARIOS {
+        print_scenario(alloc, output, scenario)?;
+    }
+    print_single(alloc, output, &mut filter(alloc)?)?;
+    print_single(alloc, output, &mut sum(alloc)?)
 }

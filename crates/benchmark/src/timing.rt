@@ -7,7 +7,7 @@ use crate::results::{SCENARIOS, schedule};
 use crate::scenario::{Scenario, program};
 use crate::single::{Single, executed, filter, sum};
 use helpers::HelperTable;
-use job_core::{admit, play};
+use job_core::{ProgramBytes, admit, play};
 use std::alloc::Global;
 use std::io::Write;
 use std::rt::Clock;
@@ -24,18 +24,28 @@ const SINGLE_ROUNDS: u32 = 20_000;
 /// The longest of the programs, in slots.
 const LONGEST: u32 = 4096;
 
-/// The time that the quickest of `ROUNDS` runs of the program takes, without its admission.
+/// The time that a run of the program takes, without its admission.
+fn played_once<C: Clock>(
+    clock: &C,
+    alloc: Global,
+    programs: &[ProgramBytes],
+    numbers: &[u32],
+) -> anyhow::Result<Duration> {
+    let job = admit(alloc, programs, LONGEST, vec![in alloc; 0; 8]?)?;
+    let start = Instant::now(clock)?;
+    let world = play(alloc, job, numbers)?;
+    let took = start.elapsed(clock)?;
+    drop(world);
+    Ok(took)
+}
+
+/// The time that the quickest of `ROUNDS` such runs takes.
 fn played<C: Clock>(clock: &C, alloc: Global, scenario: Scenario) -> anyhow::Result<Duration> {
     let numbers = schedule(alloc, LONGEST)?;
     let programs = [program(alloc, scenario, LONGEST)?];
     let mut quickest = Duration::MAX;
     for _ in 0..ROUNDS {
-        let buffer = vec![in alloc; 0; 8]?;
-        let job = admit(alloc, &programs, LONGEST, buffer)?;
-        let start = Instant::now(clock)?;
-        let world = play(alloc, job, &numbers)?;
-        quickest = quickest.min(start.elapsed(clock)?);
-        drop(world);
+        quickest = quickest.min(played_once(clock, alloc, &programs, &numbers)?);
     }
     Ok(quickest)
 }
@@ -58,13 +68,19 @@ fn judged<C: Clock>(
     Ok(quickest)
 }
 
+/// Runs a single program so often.
+fn run_all(vm: &mut Vm, single: &mut Single) -> anyhow::Result<()> {
+    for _ in 0..SINGLE_ROUNDS {
+        executed(vm, single)?;
+    }
+    Ok(())
+}
+
 /// The nanoseconds that a run of a single program takes.
 fn run_alone<C: Clock>(clock: &C, alloc: Global, single: &mut Single) -> anyhow::Result<u128> {
     let mut vm = Vm::new(alloc, Some((single.need, &single.code)))?;
     let start = Instant::now(clock)?;
-    for _ in 0..SINGLE_ROUNDS {
-        executed(&mut vm, single)?;
-    }
+    run_all(&mut vm, single)?;
     Ok(start.elapsed(clock)?.as_nanos() / u128::from(SINGLE_ROUNDS))
 }
 
@@ -87,6 +103,17 @@ fn print_single_times<C: Clock, W: Write>(
     Ok(())
 }
 
+/// The time that a run of the machine's program takes.
+fn executed_once<C: Clock>(
+    clock: &C,
+    vm: &mut Vm,
+    memory: &mut [u8; 8],
+) -> anyhow::Result<Duration> {
+    let start = Instant::now(clock)?;
+    vm.execute_program(memory, LONGEST)?;
+    Ok(start.elapsed(clock)?)
+}
+
 /// The time that the quickest of `ROUNDS` runs of the program by the machine for single programs
 /// takes.
 fn executed_alone<C: Clock>(
@@ -99,9 +126,7 @@ fn executed_alone<C: Clock>(
     let mut memory = [0; 8];
     let mut quickest = Duration::MAX;
     for _ in 0..ROUNDS {
-        let start = Instant::now(clock)?;
-        vm.execute_program(&mut memory, LONGEST)?;
-        quickest = quickest.min(start.elapsed(clock)?);
+        quickest = quickest.min(executed_once(clock, &mut vm, &mut memory)?);
     }
     Ok(quickest)
 }

@@ -114,22 +114,14 @@ fn by_reference(
     }
 }
 
-/// What a machine of its own with helpers 64, 65 and 127 comes to: R0 and the memory, or else what is
-/// answered to the row.
-fn by_machine(
+/// What a machine that has a program comes to: R0 and the memory, or else what is answered to the
+/// row.
+fn outcome(
     alloc: Global,
-    [first, second, last]: [u32; 3],
+    vm: &mut Vm,
     credit: u32,
     memory: &[u8],
-    code: &[u8],
 ) -> anyhow::Result<Result<String, String>> {
-    let mut vm = Vm::new(alloc, None)?;
-    vm.register_helper(alloc, 64, first.min(5), added)?;
-    vm.register_helper(alloc, 65, second.min(5), weighed)?;
-    vm.register_helper(alloc, 127, last.min(5), greatest)?;
-    if let Err(refusal) = vm.set_program(alloc, u32::try_from(memory.len())?, code) {
-        return Ok(Err(refused(alloc, refusal.code(), refusal.slot())?));
-    }
     let mut lent = copied(alloc, memory)?;
     lent.truncate(65536);
     let answer = vm.execute_program(&mut lent, credit.min(2_147_483_647));
@@ -137,6 +129,32 @@ fn by_machine(
     match answer {
         Ok(r0) => Ok(Ok(format!(in alloc; "r0 {r0} memory {text}")?)),
         Err(fault) => Ok(Err(format!(in alloc; "{} memory {text}", fault.code())?)),
+    }
+}
+
+/// The same of a machine of its own with helpers 64, 65 and 127, which take so many arguments.
+fn by_machine(
+    alloc: Global,
+    [first, second, last]: [u32; 3],
+    credit: u32,
+    memory: &[u8],
+    code: &[u8],
+) -> anyhow::Result<Result<String, String>> {
+    let need = u32::try_from(memory.len())?;
+    let mut vm = Vm::new(alloc, None)?;
+    let is_registered = vm.register_helper(alloc, 64, first.min(5), added).is_ok()
+        && vm
+            .register_helper(alloc, 65, second.min(5), weighed)
+            .is_ok()
+        && vm
+            .register_helper(alloc, 127, last.min(5), greatest)
+            .is_ok();
+    if !is_registered {
+        bail!("a helper isn't registered");
+    }
+    match vm.set_program(alloc, need, code) {
+        Ok(()) => outcome(alloc, &mut vm, credit, memory),
+        Err(refusal) => Ok(Err(refused(alloc, refusal.code(), refusal.slot())?)),
     }
 }
 

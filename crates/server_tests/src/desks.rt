@@ -133,27 +133,38 @@ fn finish(
     told(alloc, report)
 }
 
-/// Grants to all tenants, and jobs of two of them, with the accounts that are left.
-pub fn kept(alloc: Global) -> Result<Vec<u64>, Stop> {
+/// Takes jobs of two tenants, and ends all but the last.
+fn take_jobs(alloc: Global, desk: &mut Desk) -> Result<(), Stop> {
     let programs = programs(alloc)?;
-    let mut desk = Desk::new(alloc);
-    for tenant in TENANTS {
-        grant(alloc, &mut desk, tenant)?;
-    }
     for number in 1..=JOBS {
         let tenant = if number % 2 == 0 { "b" } else { TENANTS[12] };
-        let job = submit(alloc, &mut desk, tenant, &programs, number)?;
+        let job = submit(alloc, desk, tenant, &programs, number)?;
         if number < JOBS {
-            finish(alloc, &mut desk, tenant, number, job)?;
+            finish(alloc, desk, tenant, number, job)?;
         }
     }
+    Ok(())
+}
+
+/// Each tenant's balance and open credit.
+fn balances(alloc: Global, desk: &Desk) -> Result<Vec<u64>, Stop> {
     let mut numbers = Vec::new(alloc);
     for tenant in TENANTS {
-        let account = account(&desk, tenant)?;
+        let account = account(desk, tenant)?;
         numbers.push(account.balance)?;
         numbers.push(account.opened)?;
     }
     Ok(numbers)
+}
+
+/// Grants to all tenants, and jobs of two of them, with the accounts that are left.
+pub fn kept(alloc: Global) -> Result<Vec<u64>, Stop> {
+    let mut desk = Desk::new(alloc);
+    for tenant in TENANTS {
+        grant(alloc, &mut desk, tenant)?;
+    }
+    take_jobs(alloc, &mut desk)?;
+    balances(alloc, &desk)
 }
 
 /// The replies to a report of the desk.

@@ -4,7 +4,7 @@ ghost use Rattle.lanes.specs.Passes.{IsOwner, IsGuest};
 
 use crate::stop::Stop;
 use crate::tickets::{Tickets, number_of};
-use lanes::{Lane, Owning, Pass, Stealing, Stolen, Thief, lane, lanes_between};
+use lanes::{Lane, Lanes, Owning, Pass, Stealing, Stolen, Thief, lane, lanes_between};
 use std::alloc::Global;
 
 /// Puts the next ticket into the lane.
@@ -78,9 +78,8 @@ const HALVES: [Turns; 5] = [
     (&[30, 0], &[1, 0, 1, 0, 1]),
 ];
 
-/// Adds the number of what each of these places finds, 0 where that is nothing.
-fn find(alloc: Global, turns: Turns, numbers: &mut Vec<u64>) -> Result<(), Stop> {
-    let (counts, places) = turns;
+/// Lanes between workers, with so many tickets in each worker's own.
+fn filled(alloc: Global, counts: &[u32]) -> Result<Vec<Lanes>, Stop> {
     let mut tickets = Tickets::open(alloc)?;
     let workers = if counts.len() < 16 {
         counts.len() as u32
@@ -96,6 +95,13 @@ fn find(alloc: Global, turns: Turns, numbers: &mut Vec<u64>) -> Result<(), Stop>
             }
         }
     }
+    Ok(all)
+}
+
+/// Adds the number of what each of these places finds, 0 where that is nothing.
+fn find(alloc: Global, turns: Turns, numbers: &mut Vec<u64>) -> Result<(), Stop> {
+    let (counts, places) = turns;
+    let mut all = filled(alloc, counts)?;
     for place in places {
         let taken = match all.get_mut(*place) {
             Some(lanes) => lanes.next(),

@@ -138,11 +138,11 @@ pub fn passed_on(alloc: Global) -> Result<Vec<u64>, Stop> {
         &[grant, submit],
         &[granted, taken],
     )?;
-    let mut numbers = Vec::new(alloc);
-    numbers.push(count)?;
-    numbers.push(account(&desk).opened)?;
+    let opened = account(&desk).opened;
     pass_finished(&mut desk, &mut runner);
-    numbers.push(account(&desk).spent)?;
-    numbers.push(u64::from(runner.take().is_some()))?;
+    let spent = account(&desk).spent;
+    let others = u64::from(runner.take().is_some());
+    let mut numbers = Vec::new(alloc);
+    numbers.extend_from_slice(&[count, opened, spent, others])?;
     Ok(numbers)
 }

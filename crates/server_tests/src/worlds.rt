@@ -2,7 +2,7 @@
 
 use crate::stop::{Stop, holds};
 use crate::tree::{CREDIT, job, told};
-use job_core::{World, play};
+use job_core::{Report, World, play};
 use std::alloc::Global;
 
 /// The root to its end, and then the child.
@@ -17,24 +17,34 @@ pub fn played(alloc: Global) -> Result<Vec<u64>, Stop> {
     }
 }
 
-/// The job step by step, with its sums, its buffer and the place of each task looked at between.
-pub fn stepped(alloc: Global) -> Result<Vec<u64>, Stop> {
-    let mut world = World::open(alloc, job(alloc)?)?;
+/// Takes the steps of the schedule, and looks at the sums, the buffer and the task's place after
+/// each.
+fn looks_at(alloc: Global, world: &mut World) -> Result<Vec<u64>, Stop> {
     let mut looks = Vec::new(alloc);
     for number in SCHEDULE {
         world.step(alloc, number);
-        adds_up(&world)?;
-        looks.push(first_and_fifth(alloc, &world)?)?;
-        looks.push(length_of_place(alloc, &world, number)?)?;
+        adds_up(world)?;
+        looks.push(first_and_fifth(alloc, world)?)?;
+        looks.push(length_of_place(alloc, world, number)?)?;
     }
+    Ok(looks)
+}
+
+/// The numbers of the report, and behind them those of the looks.
+fn told_with(alloc: Global, report: &Report, looks: &[u64]) -> Result<Vec<u64>, Stop> {
+    let mut numbers = told(alloc, report)?;
+    for look in looks {
+        numbers.push(*look)?;
+    }
+    Ok(numbers)
+}
+
+/// The job step by step, with its sums, its buffer and the place of each task looked at between.
+pub fn stepped(alloc: Global) -> Result<Vec<u64>, Stop> {
+    let mut world = World::open(alloc, job(alloc)?)?;
+    let looks = looks_at(alloc, &mut world)?;
     match world.close() {
-        Ok(report) => {
-            let mut numbers = told(alloc, &report)?;
-            for look in &looks {
-                numbers.push(*look)?;
-            }
-            Ok(numbers)
-        }
+        Ok(report) => told_with(alloc, &report, &looks),
         Err(_) => Err(Stop::Differs("a task is alive")),
     }
 }

@@ -17,6 +17,11 @@ use tokio_util::codec::{Decoder, LengthDelimitedCodec};
 
 const LONGEST_PAYLOAD: usize = 1_048_576;
 
+// Room that is made for a piece: so much for a small one, and more for others.
+const SMALL_ROOM: usize = 512;
+
+const ROOM: usize = 8192;
+
 // What stands first in the bytes so far.
 #[derive(Clone, Copy)]
 enum Head {
@@ -76,8 +81,9 @@ fn lasting(fault: SessionFault) -> Option<SessionFault>
 
 /// Takes a stream in pieces of any size, and gives its requests in order.
 ///
-/// Each byte is copied when it comes, and once more at most, where room is made for the rest of its
-/// frame, if [`Session::next_request`] is called after each piece.
+/// Each byte is copied when it comes, and again where room is made for the rest of its frame: then
+/// the buffer doubles at least, or the rest is in sight. So a frame's length takes no memory before
+/// its bytes come.
 #[derive(Drop)]
 pub struct Session {
     buffer: BytesMut,
@@ -113,10 +119,28 @@ impl Session {
         if let Some(fault) = self.ended_by {
             return Err(fault);
         }
+        self.make_room_for(piece.len());
         if self.buffer.extend_from_slice(piece).is_err() {
             return Err(SessionFault::NoMemory);
         }
         Ok(())
+    }
+
+    // Room for a piece of so many bytes, where there is none: of few sizes, so that what one stream
+    // gives back is what the next one asks for. Where there is no memory for it, nothing is made.
+    fn make_room_for(&mut self, count: usize)
+        ensures unread { unread self.new ≡ unread self.old }
+        ensures same { ended_by self.new ≡ ended_by self.old }
+    {
+        if self.buffer.try_reclaim(count) {
+            return;
+        }
+        let room = if count <= SMALL_ROOM {
+            SMALL_ROOM
+        } else {
+            count.max(ROOM)
+        };
+        let _ = self.buffer.reserve(room);
     }
 
     // Takes the whole frame that stands first.
@@ -136,8 +160,9 @@ impl Session {
         }
     }
 
-    // Room for the rest of the frame that stands first, so that the buffer doesn't grow piece by
-    // piece. It grows so where there is no memory for it.
+    // Room for the rest of the frame that stands first, or for as much as has come of it: the rest may
+    // never come. So the buffer doubles, and a length alone takes no memory. Where there is no memory
+    // for it, the buffer grows piece by piece.
     fn make_room(&mut self)
         ensures unread { unread self.new ≡ unread self.old }
         ensures same { ended_by self.new ≡ ended_by self.old }
@@ -149,7 +174,8 @@ impl Session {
         }
         let length = stated_length(bytes);
         if length <= LONGEST_PAYLOAD && have < length + 4 {
-            let _ = self.buffer.reserve(length + 4 - have);
+            let rest = length + 4 - have;
+            let _ = self.buffer.reserve(rest.min(have));
         }
     }
 
