@@ -198,9 +198,30 @@ const REPLIES: [&str; 6] = [
     "{\"balance\":73,\"granted\":100,\"ok\":true,\"open\":0,\"spent\":27}",
 ];
 
-/// A stream of requests, served. Where memory is refused, either its end tells so, behind a
-/// beginning of the replies, or a reply does; the account adds up, and the job's credit is open,
-/// spent or back.
+/// Whether a stream that ended so has these replies. Where memory is refused, either its end tells
+/// so, behind a beginning of the replies, or a reply does.
+fn has_replies(
+    answer: Result<u64, StreamFault>,
+    written: &[u8],
+    replies: &[u8],
+) -> Result<(), Stop> {
+    match answer {
+        Ok(count) => holds(count == 6, "not every frame is answered")?,
+        Err(StreamFault::ReadFailed) => return Err(Stop::Differs("the reader failed")),
+        Err(_) => {
+            let begins = replies.get(..written.len()) == Some(written);
+            holds(begins, "what is written is no beginning of the replies")?;
+            return Err(Stop::Refused);
+        }
+    }
+    if written == replies {
+        Ok(())
+    } else {
+        Err(Stop::Refused)
+    }
+}
+
+/// A stream of requests, served. The account adds up, and the job's credit is open, spent or back.
 pub fn served(alloc: Global) -> Result<Vec<u64>, Stop> {
     let stream = frames(alloc, &REQUESTS)?;
     let replies = frames(alloc, &REPLIES)?;
@@ -211,21 +232,8 @@ pub fn served(alloc: Global) -> Result<Vec<u64>, Stop> {
     let answer = serve_stream(alloc, &mut reader, &mut writer, &mut desk, &mut runner);
     let written = writer.into_inner();
     let account = account(&desk, "t")?;
-    match answer {
-        Ok(count) => holds(count == 6, "not every frame is answered")?,
-        Err(StreamFault::ReadFailed) => return Err(Stop::Differs("the reader failed")),
-        Err(_) => {
-            let begins = replies.get(..written.len()) == Some(written.as_slice());
-            holds(begins, "what is written is no beginning of the replies")?;
-            return Err(Stop::Refused);
-        }
-    }
-    if written.as_slice() != replies.as_slice() {
-        return Err(Stop::Refused);
-    }
+    has_replies(answer, &written, &replies)?;
     let mut numbers = Vec::new(alloc);
-    numbers.push(written.len() as u64)?;
-    numbers.push(account.balance)?;
-    numbers.push(account.spent)?;
+    numbers.extend_from_slice(&[written.len() as u64, account.balance, account.spent])?;
     Ok(numbers)
 }

@@ -49,11 +49,14 @@ pub fn in_order(alloc: Global) -> Result<Vec<u64>, Stop> {
     let Some((mut thief, mut seat)) = thieves.pop() else {
         return Err(Stop::Differs("there is no thief"));
     };
-    numbers.push(number_of(lane.take(&mut pass)))?;
-    numbers.push(stolen(&mut thief, &mut seat))?;
-    numbers.push(number_of(lane.take(&mut pass)))?;
-    numbers.push(number_of(lane.take(&mut pass)))?;
-    numbers.push(stolen(&mut thief, &mut seat))?;
+    let found = [
+        number_of(lane.take(&mut pass)),
+        stolen(&mut thief, &mut seat),
+        number_of(lane.take(&mut pass)),
+        number_of(lane.take(&mut pass)),
+        stolen(&mut thief, &mut seat),
+    ];
+    numbers.extend_from_slice(&found)?;
     Ok(numbers)
 }
 
