@@ -31,6 +31,12 @@ def files_of(server):
     return len(os.listdir(f"/proc/{server.process.pid}/fd"))
 
 
+def resident(server):
+    """How many bytes of memory the server's process has."""
+    with open(f"/proc/{server.process.pid}/statm", encoding="ascii") as file:
+        return int(file.read().split()[1]) * os.sysconf("SC_PAGE_SIZE")
+
+
 class Client:
     """A connection that asks, one request at a time."""
 
@@ -159,6 +165,26 @@ class Bounds(unittest.TestCase):
             self.assertEqual(codes, [76, 76, 76, None])
             client.stream.close()
             self.assertEqual(server.status(), 0)
+
+    def test_a_length_takes_no_memory(self):
+        """Sixteen clients send the length of a frame of a million bytes, and nothing of it. Then one of them sends it whole."""
+        text = b'{"op":"account","tenant":"t"}'
+        with Server(sessions=16, more=("--clients", 16)) as server:
+            clients = [Client(server) for _ in range(16)]
+            for client in clients:
+                self.assertEqual(client.ask(text), {"code": 74, "ok": False})
+            before = resident(server)
+            for client in clients:
+                client.stream.sendall((1_000_000).to_bytes(4, "big"))
+            until, most = time.monotonic() + 1, before
+            while time.monotonic() < until:
+                most = max(most, resident(server))
+                time.sleep(0.01)
+            self.assertLess(most - before, 2_000_000)
+            last = clients[-1].stream
+            last.sendall(text + b" " * (1_000_000 - len(text)))
+            length = int.from_bytes(is_read(last, 4), "big")
+            self.assertEqual(json.loads(is_read(last, length)), {"code": 74, "ok": False})
 
     def test_a_frame_has_to_come_in_time(self):
         """A byte now and then keeps no connection: a whole frame has to come within the timeout."""
