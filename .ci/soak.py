@@ -2,16 +2,18 @@
 """Keeps `bpfjobs serve` busy with good and bad clients for a while, and looks at what is left of it.
 
     .ci/soak.py [--seconds N] [--clients N] [--seed N] [--workers N] [--at-once K] [--timeout T] [--open-jobs N] [--keep N] [--silent N]
-                [--pause MS] [--give-back] [--program FILE]
+                [--pause MS] [--unit FILE] [--program FILE]
 
 It starts the server on a free port of 127.0.0.1, the only address that it speaks to. The clients grant, give good and bad jobs, ask,
 cut connections at any byte and send rubbish, as the seed says, and wait MS milliseconds ahead of each connection: a server takes a million of
-them at most. With --give-back its C library gives freed memory back at once, and then more of it at the end than at most in the first minute, or
-quarter, is wrong. The server serves K of them at once, and N more connections say nothing, each until
-it is given up, and begin anew. An auditor asks now and then how many jobs there are. At the end each account
-has to add up, against what was granted and against the reports of its jobs; the server has to have no thread and no socket but those that it
-began with; and its memory is told as bytes a job, by the line that fits best, and as it was after the first minute and at the end. Status: 0, or 1
-where something doesn't hold.
+them at most. The server serves K of them at once, and N more connections say nothing, each until it is given up, and begin anew. An auditor asks
+now and then how many jobs there are. At the end each account has to add up, against what was granted and against the reports of its jobs; the
+server has to have no thread and no socket but those that it began with; and its memory is told as bytes a job, by the line that fits best, and
+by each minute.
+
+With --unit the server has the environment that this systemd unit sets, and its memory may not grow behind the first minute: no later minute's mean,
+and not what it has at the end, is over the most that it had in the first, and the line's rise a job is none. Status: 0, or 1 where something doesn't
+hold.
 """
 
 import argparse
@@ -30,14 +32,8 @@ TOP = os.path.dirname(os.path.dirname(os.path.abspath(__file__)))
 # A connection more than these is never taken, so that the server is ended by a signal.
 SESSIONS = 1000000
 
-# What has the C library (glibc) give freed memory back at once, and keep none of it for each thread.
-GIVE_BACK = {
-    "MALLOC_ARENA_MAX": "1",
-    "MALLOC_TRIM_THRESHOLD_": "0",
-    "MALLOC_TOP_PAD_": "0",
-    "MALLOC_MMAP_THRESHOLD_": "16384",
-    "GLIBC_TUNABLES": "glibc.malloc.tcache_count=0",
-}
+# How many sizes are looked at in a minute.
+A_MINUTE = 120
 
 # Seconds that a client waits for a reply.
 PATIENCE = 60.0
@@ -294,9 +290,16 @@ def free_port():
         return probe.getsockname()[1]
 
 
-def start(program, port, workers, more, gives_back):
+def settings_of(unit):
+    """What a systemd unit sets in the environment."""
+    with open(unit, encoding="utf-8") as file:
+        rows = [line.strip().partition("=")[2] for line in file if line.startswith("Environment=")]
+    return dict(row.split("=", 1) for row in rows)
+
+
+def start(program, port, workers, more, unit):
     words = [program, "serve", "--port", str(port), "--workers", str(workers), "--sessions", str(SESSIONS), *more]
-    settings = {**os.environ, **(GIVE_BACK if gives_back else {})}
+    settings = {**os.environ, **(settings_of(unit) if unit else {})}
     process = subprocess.Popen(words, stdin=subprocess.DEVNULL, stdout=subprocess.PIPE, stderr=subprocess.STDOUT, env=settings)
     until = time.monotonic() + 10
     while time.monotonic() < until:
@@ -339,6 +342,15 @@ def say_nothing(port, until):
                 pass
 
 
+def growth(sizes, at_the_end):
+    """Tells what the server has in each minute, and gives whether it has more behind the first one."""
+    minutes = [sizes[at : at + A_MINUTE] for at in range(0, len(sizes), A_MINUTE)]
+    means = [sum(minute) / len(minute) for minute in minutes]
+    most = max(minutes[0])
+    print(f"soak: {most} bytes at most in the first minute, {max(sizes)} in all; the means by minutes: " + ", ".join(f"{mean:.0f}" for mean in means))
+    return any(mean > most for mean in means[1:]) or at_the_end > most
+
+
 def soak(words, process, port):
     time.sleep(1)  # all threads that it starts with are there then
     threads, size = status_of(process)
@@ -362,12 +374,10 @@ def soak(words, process, port):
         wrong.append(f"{sockets_of(process)} sockets, of {sockets} at first")
     counts = {name: sum(client.counts[name] for client in clients) for name in clients[0].counts}
     print("soak: " + ", ".join(f"{count} {name}" for name, count in counts.items()))
-    later = points[len(points) // 5 :]
-    print(f"soak: {size} bytes at first, {after_size} at the end, {slope(later):.0f} a job by the line that fits best")
-    sizes = [point[1] for point in points]
-    minute = sizes[: 120 if len(sizes) > 240 else len(sizes) // 4]
-    print(f"soak: {max(minute)} bytes at most in the first minute, or quarter, and {max(sizes[len(minute) :])} behind it")
-    if words.give_back and after_size > max(minute):
+    rise = slope(points[len(points) // 5 :])
+    print(f"soak: {size} bytes at first, {after_size} at the end, {rise:.0f} a job by the line that fits best")
+    grows = growth([point[1] for point in points], after_size)
+    if words.unit and (grows or round(rise) > 0):
         wrong.append("the server's memory grows")
     return wrong
 
@@ -384,7 +394,7 @@ def main():
     reader.add_argument("--keep", type=int, default=0)
     reader.add_argument("--silent", type=int, default=0)
     reader.add_argument("--pause", type=int, default=0)
-    reader.add_argument("--give-back", action="store_true")
+    reader.add_argument("--unit")
     reader.add_argument("--program", default=os.path.join(TOP, "crates/bpfjobs/out/bpfjobs"))
     words = reader.parse_args()
     if not (1 <= words.seconds <= 3600 and 1 <= words.clients <= 64):
@@ -392,7 +402,7 @@ def main():
     port = free_port()
     bounds = {"--clients": words.at_once, "--timeout": words.timeout, "--open-jobs": words.open_jobs, "--keep": words.keep}
     more = [word for name, value in bounds.items() for word in (name, str(value)) if value != (name == "--clients")]
-    process = start(words.program, port, words.workers, more, words.give_back)
+    process = start(words.program, port, words.workers, more, words.unit)
     try:
         wrong = soak(words, process, port)
     finally:

@@ -118,10 +118,14 @@ named_app = record {
 abbrev pub requiring : App → App
 requiring a = record a { top = record a.top { subcommand_required = true } }
 
+-- with the commands between text and bytes
+abbrev pub with_text_commands : App → App
+with_text_commands a =
+    with_subcommand (with_subcommand a (new_app (codes "assemble")).top)
+    (new_app (codes "disassemble")).top
+
 abbrev pub bpfjobs_app : App
 bpfjobs_app =
-    with_subcommand (with_subcommand
-    (with_subcommand
-    (with_subcommand (with_subcommand (with_subcommand (requiring named_app)
-    (new_app (codes "assemble")).top) (new_app (codes "disassemble")).top) verify_app.top)
-    play_app.top) run_app.top) serve_app.top
+    with_subcommand (with_subcommand (with_subcommand
+    (with_subcommand (with_text_commands (requiring named_app)) verify_app.top) play_app.top)
+    run_app.top) serve_app.top

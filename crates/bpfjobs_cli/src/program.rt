@@ -3,7 +3,7 @@
 ghost use Rattle.std.specs.Prelude.{◌≡◌, false, IfOk};
 ghost use Rattle.clap.specs.Words.{app_of, new_app, rule_of};
 ghost use Rattle.clap.specs.declared.builder.command.Command.TheViews.{out-Command as fields_of};
-ghost use Rattle.bpfjobs_cli.specs.Program.{need_rule, port_rule, workers_rule, sessions_rule, clients_rule, timeout_rule, open_jobs_rule, keep_rule, until_eof_rule, log_rule, trace_rule, trace_json_rule, tree_rule, named_app, verify_app, play_app, run_app, serve_app, bpfjobs_app};
+ghost use Rattle.bpfjobs_cli.specs.Program.{need_rule, port_rule, workers_rule, sessions_rule, clients_rule, timeout_rule, open_jobs_rule, keep_rule, until_eof_rule, log_rule, trace_rule, trace_json_rule, tree_rule, named_app, verify_app, play_app, run_app, serve_app, bpfjobs_app, with_text_commands};
 
 use crate::texts;
 use clap::{Arg, ArgAction, Command};
@@ -215,27 +215,27 @@ fn serve<'a>(alloc: Global) -> Result<Command<'a>, AllocError>
         .arg(log(alloc))
 }
 
+// The program with the commands between text and bytes.
+fn with_texts<'a>(alloc: Global, command: Command<'a>) -> Result<Command<'a>, AllocError>
+    ensures { IfOk result (λ c. app_of c ≡ with_text_commands (app_of command.entry)) }
+{
+    command
+        .subcommand(named(alloc, "assemble", texts::ASSEMBLE, texts::ASSEMBLE_MORE))?
+        .subcommand(named(
+            alloc,
+            "disassemble",
+            texts::DISASSEMBLE,
+            texts::DISASSEMBLE_MORE,
+        ))
+}
+
 /// The program with its commands, as clap reads them.
 pub(crate) fn bpfjobs<'a>(alloc: Global) -> Result<Command<'a>, AllocError>
     ensures { IfOk result (λ c. app_of c ≡ bpfjobs_app) }
 {
-    let assemble = named(alloc, "assemble", texts::ASSEMBLE, texts::ASSEMBLE_MORE);
-    let disassemble = named(
-        alloc,
-        "disassemble",
-        texts::DISASSEMBLE,
-        texts::DISASSEMBLE_MORE,
-    );
-    let verify = verify(alloc)?;
-    let play = play(alloc)?;
-    let run = run(alloc)?;
-    let serve = serve(alloc)?;
-    top(alloc)
-        .subcommand_required(true)
-        .subcommand(assemble)?
-        .subcommand(disassemble)?
-        .subcommand(verify)?
-        .subcommand(play)?
-        .subcommand(run)?
-        .subcommand(serve)
+    let command = with_texts(alloc, top(alloc).subcommand_required(true))?;
+    let command = command.subcommand(verify(alloc)?)?;
+    let command = command.subcommand(play(alloc)?)?;
+    let command = command.subcommand(run(alloc)?)?;
+    command.subcommand(serve(alloc)?)
 }

@@ -1,12 +1,45 @@
 //! The replies of a piece, which are written together.
 
-ghost use Rattle.std.specs.Prelude.{◌≡◌, ◌++◌, [], List, ℕ, false, is_err, OnOk, OnErr};
+ghost use Rattle.std.specs.Prelude.{◌≡◌, ◌≤◌, ◌+◌, ◌⊎◌, ◌++◌, [], List, ℕ, false, is_err, length, vec_len, IsTrue, OnOk, OnErr};
 ghost use Rattle.streams.specs.Stops.{IsGrown, IsPartWritten};
 
 use crate::ends::{Failed, Sink, write_all};
 
 // The most bytes that wait.
 const BATCH_LEN: usize = 65_536;
+
+// Room for the replies that wait: so much for few, more for many, and else for all that may wait.
+const SMALL_ROOM: usize = 512;
+
+const ROOM: usize = 8192;
+
+// Room of few sizes, so that what one stream gives back is what the next one asks for.
+fn room_for(len: usize) -> usize
+    requires { len ≤ 65536 }
+    ensures enough { len ≤ result }
+    ensures few { (result ≡ 512) ⊎ (result ≡ 8192) ⊎ (result ≡ 65536) }
+{
+    if len <= SMALL_ROOM {
+        SMALL_ROOM
+    } else if len <= ROOM {
+        ROOM
+    } else {
+        BATCH_LEN
+    }
+}
+
+// Puts bytes behind those that wait. `false`: there is no memory for them.
+fn put_behind(batch: &mut Vec<u8>, bytes: &[u8]) -> bool
+    requires { vec_len batch.old + length bytes.now ≤ 65536 }
+    ensures put { IsTrue result → batch.new.items ≡ batch.old.items ++ bytes.now }
+    ensures refused { result ≡ false → batch.new.items ≡ batch.old.items }
+{
+    let len = batch.len() + bytes.len();
+    if len > batch.capacity() && batch.reserve_exact(room_for(len) - batch.len()).is_err() {
+        return false;
+    }
+    batch.extend_from_slice(bytes).is_ok()
+}
 
 /// Writes what waits.
 pub(crate) fn write_batch<W: Sink>(writer: &mut W, batch: &mut Vec<u8>) -> Result<(), Failed>
@@ -39,7 +72,7 @@ pub(crate) fn put_reply<W: Sink>(
     ensures failed { W.has_failed writer.new ≡ is_err result }
 {
     let room = BATCH_LEN.saturating_sub(batch.len());
-    if reply.len() <= room && batch.extend_from_slice(reply).is_ok() {
+    if reply.len() <= room && put_behind(batch, reply) {
         return Ok(());
     }
     write_batch(writer, batch)?;

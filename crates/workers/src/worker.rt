@@ -190,7 +190,9 @@ impl<'a, 'b, R: Wait> Worker<'a, 'b, R> {
     }
 
     /// Whether the last claim was made at the desk. Otherwise a ticket may be parked.
-    pub fn has_looked(&self) -> bool {
+    pub fn has_looked(&self) -> bool
+        ensures { result ≡ self.now.has_looked }
+    {
         self.has_looked
     }
 

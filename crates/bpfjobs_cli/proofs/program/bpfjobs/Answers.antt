@@ -1,15 +1,14 @@
 use Rattle.std.proofs.Common.{rules, ap, ap₂, ◌≡◌, ◌∙◌}
 use Rattle.std.proofs.lemmas.Result.{IfOk-weaker}
 use Rattle.clap.specs.Words.{App, app_of, with_subcommand}
-use Rattle.bpfjobs_cli.specs.Program.{named_app, requiring}
+use Rattle.bpfjobs_cli.specs.Program.{named_app, requiring, with_text_commands}
 use Rattle.bpfjobs_cli.proofs.program.bpfjobs.Goals as goal
 
 pub returns : goal.returns
 returns c =
     let top : app_of c.subcommand_required.result ≡ requiring named_app = search rules in
-    let first = c.in_ok-subcommand.ensures.shape c.named-assemble.ensures.local ∙ ap₂ with_subcommand top (ap (λ (a : App). a.top) c.named-assemble.ensures.app) in
-    let second = c.in_ok-subcommand-2.ensures.shape c.named-disassemble.ensures.local ∙ ap₂ with_subcommand first (ap (λ (a : App). a.top) c.named-disassemble.ensures.app) in
-    let third = c.in_ok-subcommand-3.ensures.shape c.in_ok-verify.ensures.local ∙ ap₂ with_subcommand second (ap (λ (a : App). a.top) c.in_ok-verify.ensures.app) in
-    let fourth = c.in_ok-subcommand-4.ensures.shape c.in_ok-play.ensures.local ∙ ap₂ with_subcommand third (ap (λ (a : App). a.top) c.in_ok-play.ensures.app) in
-    let fifth = c.in_ok-subcommand-5.ensures.shape c.in_ok-run.ensures.local ∙ ap₂ with_subcommand fourth (ap (λ (a : App). a.top) c.in_ok-run.ensures.app) in
-    IfOk-weaker c.subcommand-6.result _ _ (λ r h. h.shape c.in_ok-serve.ensures.local ∙ ap₂ with_subcommand fifth (ap (λ (a : App). a.top) c.in_ok-serve.ensures.app)) c.subcommand-6.ensures
+    let first = c.in_ok-command.ensures ∙ ap with_text_commands top in
+    let second = c.in_ok-command-2.ensures.shape c.in_ok-verify.ensures.local ∙ ap₂ with_subcommand first (ap (λ (a : App). a.top) c.in_ok-verify.ensures.app) in
+    let third = c.in_ok-command-3.ensures.shape c.in_ok-play.ensures.local ∙ ap₂ with_subcommand second (ap (λ (a : App). a.top) c.in_ok-play.ensures.app) in
+    let fourth = c.in_ok-command-4.ensures.shape c.in_ok-run.ensures.local ∙ ap₂ with_subcommand third (ap (λ (a : App). a.top) c.in_ok-run.ensures.app) in
+    IfOk-weaker c.subcommand-4.result _ _ (λ r h. h.shape c.in_ok-serve.ensures.local ∙ ap₂ with_subcommand fourth (ap (λ (a : App). a.top) c.in_ok-serve.ensures.app)) c.subcommand-4.ensures
