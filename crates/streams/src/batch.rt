@@ -1,6 +1,6 @@
 //! The replies of a piece, which are written together.
 
-ghost use Rattle.std.specs.Prelude.{◌≡◌, ◌≤◌, ◌+◌, ◌⊎◌, ◌++◌, [], List, ℕ, false, is_err, length, vec_len, IsTrue, OnOk, OnErr};
+ghost use Rattle.std.specs.Prelude.{◌≡◌, ◌≤◌, ◌⊎◌, ◌++◌, [], List, ℕ, false, is_err, IsTrue, OnOk, OnErr};
 ghost use Rattle.streams.specs.Stops.{IsGrown, IsPartWritten};
 
 use crate::ends::{Failed, Sink, write_all};
@@ -28,13 +28,15 @@ fn room_for(len: usize) -> usize
     }
 }
 
-// Puts bytes behind those that wait. `false`: there is no memory for them.
+// Puts bytes behind those that wait. `false`: there is no room or no memory for them.
 fn put_behind(batch: &mut Vec<u8>, bytes: &[u8]) -> bool
-    requires { vec_len batch.old + length bytes.now ≤ 65536 }
     ensures put { IsTrue result → batch.new.items ≡ batch.old.items ++ bytes.now }
     ensures refused { result ≡ false → batch.new.items ≡ batch.old.items }
 {
-    let len = batch.len() + bytes.len();
+    let len = batch.len().saturating_add(bytes.len());
+    if len > BATCH_LEN {
+        return false;
+    }
     if len > batch.capacity() && batch.reserve_exact(room_for(len) - batch.len()).is_err() {
         return false;
     }
@@ -71,8 +73,7 @@ pub(crate) fn put_reply<W: Sink>(
         ((W.transcript writer.old ++ batch.old.items) ++ reply.now) (W.transcript writer.new)) }
     ensures failed { W.has_failed writer.new ≡ is_err result }
 {
-    let room = BATCH_LEN.saturating_sub(batch.len());
-    if reply.len() <= room && put_behind(batch, reply) {
+    if put_behind(batch, reply) {
         return Ok(());
     }
     write_batch(writer, batch)?;

@@ -10,7 +10,7 @@ returns-clause-err g c =
     let mid = g.W.Sink.transcript c.write_batch.new.writer in
     let new = g.W.Sink.transcript c.write_all.new.sink in
     let reply = c.args.reply.now in
-    let same : c.else-reply-room.batch.items ≡ c.args.batch.now.items = search rules in
+    let same : c.put_behind.new.batch.items ≡ c.args.batch.now.items = search rules in
     let written : mid ≡ old ++ c.args.batch.now.items = c.in_ok-write_batch.ensures.ok ∙ ap (λ xs. old ++ xs) same in
     let P : List ℕ → Type 0 = λ xs. IsPartWritten old (xs ++ reply) new in
     IfErr-weaker c.write_all.result _ _
