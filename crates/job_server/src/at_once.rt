@@ -38,7 +38,10 @@ fn serve_taken<'s, R: Wait + Clock, H: Handler<Desk>, J: Origin<Desk, H>>(
     stream: &'s TcpStream,
     waiting: Waiting<'s>,
     notes: bool,
-) -> (NotedReader<'s, R>, NotedWriter<'s>)
+) -> (
+    NotedReader<'s, TimedReader<'s, R>>,
+    NotedWriter<&'s TcpStream>,
+)
     requires fresh { seat.part ≡ [] }
 {
     let timed = TimedReader::new(rt, stream, waiting);

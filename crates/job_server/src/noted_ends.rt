@@ -3,17 +3,14 @@
 use crate::frame_place::FramePlace;
 use crate::log_line::Ending;
 use crate::stop_flag::{StopFlag, is_stopped};
-use crate::timed_reader::TimedReader;
 use std::io;
 use std::io::{ErrorKind, Read, Write};
-use std::net::TcpStream;
-use std::time::Clock;
 
-/// Reads a connection. Where it is to note, it counts the frames that came, and keeps how its input
-/// ended.
+/// Reads what a reader gives. Where it is to note, it counts the frames that came, and keeps how the
+/// input ended.
 #[derive(Drop)]
-pub(crate) struct NotedReader<'a, R> {
-    reader: TimedReader<'a, R>,
+pub(crate) struct NotedReader<'a, T> {
+    reader: T,
     stop: Option<&'a StopFlag>,
     notes: bool,
     place: FramePlace,
@@ -21,13 +18,13 @@ pub(crate) struct NotedReader<'a, R> {
     ending: Option<Ending>,
 }
 
-impl<'a, R> NotedReader<'a, R> {
+impl<'a, T> NotedReader<'a, T> {
+    ghost use Rattle.std.specs.Prelude.{◌≡◌};
+
     /// A reader of which nothing was read, and whether it is to note.
-    pub fn new(
-        reader: TimedReader<'a, R>,
-        stop: Option<&'a StopFlag>,
-        notes: bool,
-    ) -> NotedReader<'a, R> {
+    pub fn new(reader: T, stop: Option<&'a StopFlag>, notes: bool) -> NotedReader<'a, T>
+        ensures { result.reader ≡ reader }
+    {
         NotedReader {
             reader,
             stop,
@@ -44,7 +41,9 @@ impl<'a, R> NotedReader<'a, R> {
     }
 
     // Notes what was read, none at the end of input.
-    fn note(&mut self, piece: &[u8]) {
+    fn note(&mut self, piece: &[u8])
+        ensures { self.new.reader ≡ self.old.reader }
+    {
         if piece.is_empty() {
             self.ending = Some(if is_stopped(self.stop) {
                 Ending::Stopped
@@ -65,7 +64,9 @@ impl<'a, R> NotedReader<'a, R> {
     }
 }
 
-impl<R: Clock> Read for NotedReader<'_, R> {
+impl<T: Read> Read for NotedReader<'_, T> {
+    ghost remaining = { λ r. T.remaining r.reader };
+
     fn read(&mut self, piece: &mut [u8]) -> io::Result<usize> {
         let read = self.reader.read(piece);
         if self.notes {
@@ -84,26 +85,32 @@ impl<R: Clock> Read for NotedReader<'_, R> {
     }
 }
 
-/// Writes to a connection, and keeps why a write failed.
+/// Writes to a writer, and keeps why a write failed.
 #[derive(Drop)]
-pub(crate) struct NotedWriter<'a> {
-    stream: &'a TcpStream,
+pub(crate) struct NotedWriter<W> {
+    writer: W,
     ending: Option<Ending>,
 }
 
-impl<'a> NotedWriter<'a> {
+impl<W> NotedWriter<W> {
+    ghost use Rattle.std.specs.Prelude.{◌≡◌};
+
     /// A writer to which nothing was written.
-    pub fn new(stream: &'a TcpStream) -> NotedWriter<'a> {
+    pub fn new(writer: W) -> NotedWriter<W>
+        ensures { result.writer ≡ writer }
+    {
         NotedWriter {
-            stream,
+            writer,
             ending: None,
         }
     }
 }
 
-impl Write for NotedWriter<'_> {
+impl<W: Write> Write for NotedWriter<W> {
+    ghost contents = { λ w. W.contents w.writer };
+
     fn write(&mut self, piece: &[u8]) -> io::Result<usize> {
-        let written = (&*self.stream).write(piece);
+        let written = self.writer.write(piece);
         match &written {
             Ok(0) => self.ending = Some(Ending::WriteCut),
             Ok(_) => {}
@@ -125,7 +132,7 @@ impl Write for NotedWriter<'_> {
 }
 
 /// How a connection ended, by its two ends. Where neither tells, there was no memory.
-pub(crate) fn ending_of<R>(reader: &NotedReader<'_, R>, writer: &NotedWriter<'_>) -> Ending {
+pub(crate) fn ending_of<T, W>(reader: &NotedReader<'_, T>, writer: &NotedWriter<W>) -> Ending {
     match (writer.ending, reader.ending) {
         (Some(ending), _) => ending,
         (None, Some(ending)) => ending,
