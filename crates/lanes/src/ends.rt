@@ -2,21 +2,23 @@
 ghost use Rattle.std.specs.Prelude.{◌≡◌};
 ghost use Rattle.crossbeam_deque.specs.Handles.{worker_port, worker_flavor, stealer_flavor};
 
-use crate::moves::Moves;
-use credit_book::Ticket;
+use crate::moves::{Carried, Moves};
 use crossbeam_deque::protocol::{Outcome, Protocol};
 use crossbeam_deque::{Steal, Stealer, Worker};
 use refusal::NoMemory;
 use std::alloc::Global;
+use std::marker::PhantomData;
 use std::snapshot::Snapshot;
 
 /// Every ticket that is pushed leaves once, in the order of pushing.
-pub struct InOrder;
+pub struct InOrder<T: Carried> {
+    of: PhantomData<T>,
+}
 
-impl Protocol<Ticket, Moves> for InOrder {
+impl<T: Carried> Protocol<T, Moves> for InOrder<T> {
     ghost use Rattle.lanes.specs.Interleaving.{Interleaved, newcomer};
 
-    ghost holds = { Interleaved };
+    ghost holds = { Interleaved T.task };
 
     ghost first = { newcomer };
 
@@ -26,38 +28,38 @@ impl Protocol<Ticket, Moves> for InOrder {
 /// What a push tells its lane's owner.
 struct Put;
 
-impl Outcome<Ticket, Moves> for Put {
+impl<T: Carried> Outcome<T, Moves> for Put {
     ghost use Rattle.lanes.specs.Interleaving.{OwnerPut};
 
-    ghost then = { OwnerPut };
+    ghost then = { OwnerPut T.task };
 }
 
 /// What a pop tells its lane's owner: also that there was none, where there was none.
 struct Took;
 
-impl Outcome<Ticket, Moves> for Took {
+impl<T: Carried> Outcome<T, Moves> for Took {
     ghost use Rattle.lanes.specs.Interleaving.{OwnerTook, FoundNone};
 
-    ghost then = { OwnerTook };
+    ghost then = { OwnerTook T.task };
 
-    ghost empty = { FoundNone 0 };
+    ghost empty = { FoundNone T.task 0 };
 }
 
 /// What a steal tells its thief.
 struct Stole;
 
-impl Outcome<Ticket, Moves> for Stole {
+impl<T: Carried> Outcome<T, Moves> for Stole {
     ghost use Rattle.lanes.specs.Interleaving.{ThiefTook};
 
-    ghost then = { ThiefTook };
+    ghost then = { ThiefTook T.task };
 }
 
-type Ready = Worker<Ticket, Global, Moves, InOrder>;
+type Ready<T> = Worker<T, Global, Moves, InOrder<T>>;
 
-type Reach = Stealer<Ticket, Global, Moves, InOrder>;
+type Reach<T> = Stealer<T, Global, Moves, InOrder<T>>;
 
 /// What a thief knows, without a look at the lane.
-pub(crate) type Seat = crossbeam_deque::Pass<Ticket, Moves>;
+pub(crate) type Seat<T> = crossbeam_deque::Pass<T, Moves>;
 
 /// The slots that a lane begins with.
 const FIRST_ROOM: usize = 16;
@@ -67,20 +69,20 @@ const MOST_AT_ONCE: usize = 8;
 
 /// The owner's end.
 #[derive(Drop)]
-pub struct Lane {
-    ready: Ready,
+pub struct Lane<T: Carried> {
+    ready: Ready<T>,
     ghost owner: { worker_port ready ≡ 0 },
     ghost fifo: { worker_flavor ready ≡ 0 },
 }
 
 /// A thief's end.
 #[derive(Drop)]
-pub struct Thief {
-    reach: Reach,
+pub struct Thief<T: Carried> {
+    reach: Reach<T>,
     ghost fifo: { stealer_flavor reach ≡ 0 },
 }
 
-/// What a caller has moved. The owner's is a `Pass<Owning>`, and a thief's a `Pass<Stealing>`.
+/// What a caller has moved. The owner's is a `Pass<Owning<T>>`, and a thief's a `Pass<Stealing<T>>`.
 #[derive(Drop)]
 pub struct Pass<K> {
     knows: K,
@@ -89,43 +91,43 @@ pub struct Pass<K> {
 /// What an owner's pass knows: its worker. A type that held a worker's snapshot beside a seat would
 /// find no proof that it may cross to a thread.
 #[derive(Drop)]
-pub struct Owning {
-    seen: Snapshot<Ready>,
+pub struct Owning<T: Carried> {
+    seen: Snapshot<Ready<T>>,
 }
 
 /// What a thief's pass knows: its seat.
 #[derive(Drop)]
-pub struct Stealing {
-    seat: Seat,
+pub struct Stealing<T: Carried> {
+    seat: Seat<T>,
 }
 
 /// What a thief was given.
 #[must_use]
 #[derive(Drop)]
-pub enum Stolen {
-    Got(Ticket),
+pub enum Stolen<T> {
+    Got(T),
     Empty,
     /// Another caller came first. Try again.
     Retry,
 }
 
-impl Lane {
+impl<T: Carried> Lane<T> {
     ghost use Rattle.std.specs.Prelude.{MatchResult, MatchOption, [], ◌∷◌, IfOk};
     ghost use Rattle.crossbeam_deque.specs.Handles.{worker_view, worker_deque, view, stealer_deque, IsPassOf};
     ghost use Rattle.lanes.specs.Interleaving.{newcomer, FoundNone, OwnerPut, OwnerTook};
     ghost use Rattle.lanes.specs.Passes.{moves_of, IsOwner, IsThiefOf, IsNewThief};
 
     /// A lane with no ticket.
-    pub(crate) fn empty(alloc: Global) -> Result<Lane, NoMemory>
+    pub(crate) fn empty(alloc: Global) -> Result<Lane<T>, NoMemory>
         ensures { IfOk result (λ lane. worker_view lane.ready ≡ newcomer) }
     {
         Ok(Lane {
-            ready: Ready::fifo_as(alloc, FIRST_ROOM)?,
+            ready: Ready::<T>::fifo_as(alloc, FIRST_ROOM)?,
         })
     }
 
     /// The pass of its owner.
-    pub(crate) fn owner(&self) -> Pass<Owning>
+    pub(crate) fn owner(&self) -> Pass<Owning<T>>
         ensures { IsOwner self.now result × (moves_of result ≡ worker_view self.now.ready) }
     {
         let seen = Snapshot::of(&self.ready);
@@ -135,7 +137,7 @@ impl Lane {
     }
 
     /// A thief of this lane, and a bare seat of its own.
-    pub(crate) fn way(&self) -> Result<(Thief, Seat), NoMemory>
+    pub(crate) fn way(&self) -> Result<(Thief<T>, Seat<T>), NoMemory>
         ensures { IfOk result (λ g. IsThiefOf self.now g.0 × IsPassOf (stealer_deque g.0.reach) g.1
             × (view g.1 ≡ newcomer)) }
     {
@@ -145,7 +147,7 @@ impl Lane {
     }
 
     /// A thief of this lane, and its pass.
-    pub(crate) fn thief(&self) -> Result<(Thief, Pass<Stealing>), NoMemory>
+    pub(crate) fn thief(&self) -> Result<(Thief<T>, Pass<Stealing<T>>), NoMemory>
         ensures { IfOk result (λ g. IsNewThief self.now g.0 g.1) }
     {
         let (thief, seat) = self.way()?;
@@ -156,22 +158,22 @@ impl Lane {
     }
 
     /// Puts a ticket at the back, or gives it back where there is no room for it.
-    pub(crate) fn put(&mut self, ticket: Ticket) -> Result<(), Ticket>
+    pub(crate) fn put(&mut self, ticket: T) -> Result<(), T>
         ensures same { worker_deque self.new.ready ≡ worker_deque self.old.ready }
         ensures moved { MatchResult result
-            (λ _. OwnerPut (worker_view self.old.ready) (ticket ∷ []) (worker_view self.new.ready))
+            (λ _. OwnerPut T.task (worker_view self.old.ready) (ticket ∷ []) (worker_view self.new.ready))
             (λ back. (back ≡ ticket) × (worker_view self.new.ready ≡ worker_view self.old.ready)) }
     {
         self.ready.push_as::<Put>(ticket)
     }
 
     /// The ticket at the front. `None`: there was none at one moment of the call.
-    pub(crate) fn next(&mut self) -> Option<Ticket>
+    pub(crate) fn next(&mut self) -> Option<T>
         ensures same { worker_deque self.new.ready ≡ worker_deque self.old.ready }
         ensures moved { MatchOption result
             ((worker_view self.new.ready ≡ worker_view self.old.ready)
-            × FoundNone 0 (worker_view self.old.ready))
-            (λ ticket. OwnerTook (worker_view self.old.ready) (ticket ∷ [])
+            × FoundNone T.task 0 (worker_view self.old.ready))
+            (λ ticket. OwnerTook T.task (worker_view self.old.ready) (ticket ∷ [])
             (worker_view self.new.ready)) }
     {
         self.ready.pop_as::<Took>()
@@ -181,11 +183,11 @@ impl Lane {
     ///
     /// A ticket that was put in stands in the lane's order of pushing, of which each caller has
     /// taken its own: `each_once_in_order` says what that means.
-    pub fn push(&mut self, pass: &mut Pass<Owning>, ticket: Ticket) -> Result<(), Ticket>
+    pub fn push(&mut self, pass: &mut Pass<Owning<T>>, ticket: T) -> Result<(), T>
         requires { IsOwner self.old pass.old }
         ensures pass { IsOwner self.new pass.new }
         ensures moved { MatchResult result
-            (λ _. OwnerPut (moves_of pass.old) (ticket ∷ []) (moves_of pass.new))
+            (λ _. OwnerPut T.task (moves_of pass.old) (ticket ∷ []) (moves_of pass.new))
             (λ back. (back ≡ ticket) × (moves_of pass.new ≡ moves_of pass.old)) }
     {
         let pushed = self.put(ticket);
@@ -195,12 +197,12 @@ impl Lane {
 
     /// Takes the ticket at the front, which was pushed, and which no other caller takes. `None`:
     /// the lane had no ticket at one moment of the call.
-    pub fn take(&mut self, pass: &mut Pass<Owning>) -> Option<Ticket>
+    pub fn take(&mut self, pass: &mut Pass<Owning<T>>) -> Option<T>
         requires { IsOwner self.old pass.old }
         ensures pass { IsOwner self.new pass.new }
         ensures moved { MatchOption result
-            ((moves_of pass.new ≡ moves_of pass.old) × FoundNone 0 (moves_of pass.old))
-            (λ ticket. OwnerTook (moves_of pass.old) (ticket ∷ []) (moves_of pass.new)) }
+            ((moves_of pass.new ≡ moves_of pass.old) × FoundNone T.task 0 (moves_of pass.old))
+            (λ ticket. OwnerTook T.task (moves_of pass.old) (ticket ∷ []) (moves_of pass.new)) }
     {
         let taken = self.next();
         pass.knows.seen = Snapshot::of(&self.ready);
@@ -208,7 +210,7 @@ impl Lane {
     }
 }
 
-impl Thief {
+impl<T: Carried> Thief<T> {
     ghost use Rattle.std.specs.Prelude.{[], ◌∷◌};
     ghost use Rattle.crossbeam_deque.specs.Handles.{view, worker_view, worker_deque, stealer_deque, IsPassOf};
     ghost use Rattle.lanes.specs.Interleaving.{StealsSome, ThiefTook};
@@ -216,21 +218,21 @@ impl Thief {
 
     /// Takes the ticket at the front of another worker's lane, which its owner has pushed, and
     /// which no other caller takes.
-    pub fn steal(&mut self, pass: &mut Pass<Stealing>) -> Stolen
+    pub fn steal(&mut self, pass: &mut Pass<Stealing<T>>) -> Stolen<T>
         requires { IsGuest self.old pass.old }
         ensures pass { IsGuest self.new pass.new }
         ensures moved { MatchStolen result (moves pass.new ≡ moves pass.old)
-            (λ ticket. ThiefTook (moves pass.old) (ticket ∷ []) (moves pass.new)) }
+            (λ ticket. ThiefTook T.task (moves pass.old) (ticket ∷ []) (moves pass.new)) }
     {
         self.steal_on(&mut pass.knows.seat)
     }
 
     /// The ticket at the front, for a bare seat.
-    pub(crate) fn steal_on(&mut self, seat: &mut Seat) -> Stolen
+    pub(crate) fn steal_on(&mut self, seat: &mut Seat<T>) -> Stolen<T>
         requires { IsPassOf (stealer_deque self.old.reach) seat.old }
         ensures pass { IsPassOf (stealer_deque self.new.reach) seat.new }
         ensures moved { MatchStolen result (view seat.new ≡ view seat.old)
-            (λ ticket. ThiefTook (view seat.old) (ticket ∷ []) (view seat.new)) }
+            (λ ticket. ThiefTook T.task (view seat.old) (ticket ∷ []) (view seat.new)) }
     {
         match self.reach.steal_as::<Stole>(seat) {
             Steal::Success(ticket) => Stolen::Got(ticket),
@@ -241,7 +243,7 @@ impl Thief {
 
     /// The ticket at the front, for a bare seat. Some of those behind it, seven at most, go into
     /// the thief's own lane, in order.
-    pub(crate) fn steal_some(&mut self, seat: &mut Seat, own: &mut Lane) -> Stolen
+    pub(crate) fn steal_some(&mut self, seat: &mut Seat<T>, own: &mut Lane<T>) -> Stolen<T>
         requires { IsPassOf (stealer_deque self.old.reach) seat.old }
         ensures same { (stealer_deque self.new.reach ≡ stealer_deque self.old.reach)
             × (worker_deque own.new.ready ≡ worker_deque own.old.ready) }
@@ -249,12 +251,12 @@ impl Thief {
         ensures moved { MatchStolen result
             ((view seat.new ≡ view seat.old)
             × (worker_view own.new.ready ≡ worker_view own.old.ready))
-            (λ ticket. StealsSome 8 (view seat.old) (worker_view own.old.ready) ticket
+            (λ ticket. StealsSome T.task 8 (view seat.old) (worker_view own.old.ready) ticket
             (view seat.new) (worker_view own.new.ready)) }
     {
         match self
             .reach
-            .steal_batch_and_pop_as::<Global, Moves, InOrder, Stole, Put>(
+            .steal_batch_and_pop_as::<Global, Moves, InOrder<T>, Stole, Put>(
                 seat,
                 &mut own.ready,
                 MOST_AT_ONCE,

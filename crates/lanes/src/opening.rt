@@ -5,14 +5,15 @@ ghost use Rattle.lanes.specs.Interleaving.{newcomer};
 ghost use Rattle.lanes.specs.Passes.{moves_of, IsOwner, IsNewThief};
 
 use crate::ends::{Lane, Owning, Pass, Stealing, Thief};
+use crate::moves::Carried;
 use refusal::NoMemory;
 use std::alloc::Global;
 
 /// A lane with no ticket, the pass of its owner, and so many thieves, 15 at most, each with a pass.
-pub fn lane(
+pub fn lane<T: Carried>(
     alloc: Global,
     thieves: u32,
-) -> Result<(Lane, Pass<Owning>, Vec<(Thief, Pass<Stealing>)>), NoMemory>
+) -> Result<(Lane<T>, Pass<Owning<T>>, Vec<(Thief<T>, Pass<Stealing<T>>)>), NoMemory>
     requires { thieves ≤ 15 }
     ensures owner { IfOk result (λ r. IsOwner r.0 r.1 × (moves_of r.1 ≡ newcomer)) }
     ensures count { IfOk result (λ r. vec_len r.2 ≡ thieves) }

@@ -4,8 +4,8 @@ ghost use Rattle.lanes.specs.Interleaving.{newcomer};
 ghost use Rattle.lanes.specs.Sharing.{AreNew, IsAlone, IsIdle, IsTaken, LeadRound, Puts, lanes_of};
 
 use crate::ends::Lane;
+use crate::moves::Carried;
 use crate::way::{Way, first_stolen};
-use credit_book::Ticket;
 use refusal::NoMemory;
 use std::alloc::Global;
 use std::marker::Model;
@@ -13,12 +13,12 @@ use std::marker::Model;
 /// What one of several workers has of their lanes: the owner's end of its own, and a way into each
 /// other one. Contracts see which lane each is, and what it has moved in it.
 #[derive(Drop)]
-pub struct Lanes {
-    own: Lane,
-    ways: Vec<Way>,
+pub struct Lanes<T: Carried> {
+    own: Lane<T>,
+    ways: Vec<Way<T>>,
 }
 
-impl Model for Lanes {
+impl<T: Carried> Model for Lanes<T> {
     ghost use Rattle.crossbeam_deque.specs.Handles.{worker_deque, worker_view};
     ghost use Rattle.lanes.specs.Sharing.{Moved};
 
@@ -33,9 +33,9 @@ impl Model for Lanes {
     } };
 }
 
-impl Lanes {
+impl<T: Carried> Lanes<T> {
     /// A lane with no ticket and no way into another.
-    fn alone(alloc: Global) -> Result<Lanes, NoMemory>
+    fn alone(alloc: Global) -> Result<Lanes<T>, NoMemory>
         ensures { IfOk result IsAlone }
     {
         Ok(Lanes {
@@ -45,7 +45,7 @@ impl Lanes {
     }
 
     /// A way into its own lane, for another worker.
-    fn way(&self) -> Result<Way, NoMemory>
+    fn way(&self) -> Result<Way<T>, NoMemory>
         ensures { IfOk result (λ way. way ≡ record { lane = self.now.own.lane; moved = newcomer }) }
     {
         let (thief, seat) = self.own.way()?;
@@ -53,7 +53,7 @@ impl Lanes {
     }
 
     /// Gives it these ways.
-    fn meet(&mut self, ways: Vec<Way>)
+    fn meet(&mut self, ways: Vec<Way<T>>)
         ensures { self.new ≡ record { own = self.old.own; others = ways.items } }
     {
         self.ways = ways;
@@ -61,8 +61,8 @@ impl Lanes {
 
     /// Puts a ticket at the back of the worker's own lane. The ticket comes back where there is no
     /// room for it.
-    pub fn push(&mut self, ticket: Ticket) -> Result<(), Ticket>
-        ensures { MatchResult result (λ _. Puts self.old (ticket ∷ []) self.new)
+    pub fn push(&mut self, ticket: T) -> Result<(), T>
+        ensures { MatchResult result (λ _. Puts T.task self.old (ticket ∷ []) self.new)
             (λ back. (back ≡ ticket) × (self.new ≡ self.old)) }
     {
         self.own.put(ticket)
@@ -71,9 +71,9 @@ impl Lanes {
     /// The ticket at the front of its own lane, or, where that has none, at the front of the first
     /// other one that gives one. Then some of those behind it may come over into its own lane, so
     /// that a thief needn't come back for each. Nothing else is moved.
-    pub fn next(&mut self) -> Option<Ticket>
-        ensures { MatchOption result (IsIdle self.old self.new)
-            (λ ticket. IsTaken self.old ticket self.new) }
+    pub fn next(&mut self) -> Option<T>
+        ensures { MatchOption result (IsIdle T.task self.old self.new)
+            (λ ticket. IsTaken T.task self.old ticket self.new) }
     {
         if let Some(ticket) = self.own.next() {
             return Some(ticket);
@@ -83,7 +83,11 @@ impl Lanes {
 }
 
 /// The ways of the worker at this place into the others' lanes, the next worker's first.
-fn ways_of(alloc: Global, all: &[Lanes], place: usize) -> Result<Vec<Way>, NoMemory>
+fn ways_of<T: Carried>(
+    alloc: Global,
+    all: &[Lanes<T>],
+    place: usize,
+) -> Result<Vec<Way<T>>, NoMemory>
     requires { place < length all.now }
     ensures count { IfOk result (λ ways. vec_len ways + 1 ≡ length all.now) }
     ensures new { IfOk result (λ ways. All (λ way. way.moved ≡ newcomer) ways.items) }
@@ -99,7 +103,7 @@ fn ways_of(alloc: Global, all: &[Lanes], place: usize) -> Result<Vec<Way>, NoMem
 
 /// The lanes of so many workers, 16 at most, each of which has a lane of its own and a way into
 /// each other one, the next worker's first.
-pub fn lanes_between(alloc: Global, workers: u32) -> Result<Vec<Lanes>, NoMemory>
+pub fn lanes_between<T: Carried>(alloc: Global, workers: u32) -> Result<Vec<Lanes<T>>, NoMemory>
     requires { workers ≤ 16 }
     ensures count { IfOk result (λ all. vec_len all ≡ workers) }
     ensures new { IfOk result (λ all. AreNew all.items) }

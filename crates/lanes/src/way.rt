@@ -6,7 +6,7 @@ ghost use Rattle.lanes.specs.Passes.{MatchStolen};
 ghost use Rattle.lanes.specs.Sharing.{StealsFirst};
 
 use crate::ends::{Lane, Seat, Stolen, Thief};
-use credit_book::Ticket;
+use crate::moves::Carried;
 use std::hint;
 use std::marker::Model;
 
@@ -17,12 +17,12 @@ const TRIES: u32 = 100;
 /// A thief beside what it knows. Contracts see which lane it leads into, and what it has moved
 /// there.
 #[derive(Drop)]
-pub(crate) struct Way {
-    thief: Thief,
-    seat: Seat,
+pub(crate) struct Way<T: Carried> {
+    thief: Thief<T>,
+    seat: Seat<T>,
 }
 
-impl Model for Way {
+impl<T: Carried> Model for Way<T> {
     ghost use Rattle.crossbeam_deque.specs.Handles.{stealer_deque, IsPassOf};
     ghost use Rattle.lanes.specs.Passes.{known};
     ghost use Rattle.lanes.specs.Sharing.{InLane};
@@ -34,12 +34,12 @@ impl Model for Way {
     ghost invariant = { λ w. IsPassOf (stealer_deque w.thief.reach) w.seat };
 }
 
-impl Way {
+impl<T: Carried> Way<T> {
     ghost use Rattle.crossbeam_deque.specs.Handles.{stealer_deque, IsPassOf};
     ghost use Rattle.lanes.specs.Passes.{known};
 
     /// The way of a thief with a seat of its own.
-    pub fn new(thief: Thief, seat: Seat) -> Way
+    pub fn new(thief: Thief<T>, seat: Seat<T>) -> Way<T>
         requires { IsPassOf (stealer_deque thief.reach) seat }
         ensures { result ≡ record { lane = (stealer_deque thief.reach).0; moved = known seat } }
     {
@@ -48,12 +48,12 @@ impl Way {
 
     /// Takes the ticket at the front of the lane, and moves some of those behind it into the
     /// thief's own lane, where no other caller comes first.
-    fn steal(&mut self, own: &mut Lane) -> Stolen
+    fn steal(&mut self, own: &mut Lane<T>) -> Stolen<T>
         ensures same { (self.new.lane ≡ self.old.lane)
             × (worker_deque own.new.ready ≡ worker_deque own.old.ready) }
         ensures moved { MatchStolen result
             ((self.new ≡ self.old) × (worker_view own.new.ready ≡ worker_view own.old.ready))
-            (λ ticket. StealsSome 8 self.old.moved (worker_view own.old.ready) ticket
+            (λ ticket. StealsSome T.task 8 self.old.moved (worker_view own.old.ready) ticket
             self.new.moved (worker_view own.new.ready)) }
     {
         self.thief.steal_some(&mut self.seat, own)
@@ -61,12 +61,12 @@ impl Way {
 
     /// The same. Where other callers come first it tries again, as long as it doesn't look as if
     /// they always did.
-    pub fn take(&mut self, own: &mut Lane) -> Option<Ticket>
+    pub fn take(&mut self, own: &mut Lane<T>) -> Option<T>
         ensures same { (self.new.lane ≡ self.old.lane)
             × (worker_deque own.new.ready ≡ worker_deque own.old.ready) }
         ensures moved { MatchOption result
             ((self.new ≡ self.old) × (worker_view own.new.ready ≡ worker_view own.old.ready))
-            (λ ticket. StealsSome 8 self.old.moved (worker_view own.old.ready) ticket
+            (λ ticket. StealsSome T.task 8 self.old.moved (worker_view own.old.ready) ticket
             self.new.moved (worker_view own.new.ready)) }
     {
         for _ in 0..TRIES {
@@ -82,12 +82,12 @@ impl Way {
 
 /// The ticket at the front of the first lane that gives one. Some of those behind it may come over
 /// into the thief's own lane.
-pub(crate) fn first_stolen(ways: &mut Vec<Way>, own: &mut Lane) -> Option<Ticket>
+pub(crate) fn first_stolen<T: Carried>(ways: &mut Vec<Way<T>>, own: &mut Lane<T>) -> Option<T>
     ensures same { worker_deque own.new.ready ≡ worker_deque own.old.ready }
     ensures moved { MatchOption result
         ((ways.new.items ≡ ways.old.items)
         × (worker_view own.new.ready ≡ worker_view own.old.ready))
-        (λ ticket. StealsFirst 8 ways.old.items (worker_view own.old.ready) ticket
+        (λ ticket. StealsFirst T.task 8 ways.old.items (worker_view own.old.ready) ticket
         ways.new.items (worker_view own.new.ready)) }
 {
     for place in 0..ways.len() {

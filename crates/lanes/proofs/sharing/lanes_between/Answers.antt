@@ -1,15 +1,13 @@
-use Rattle.std.proofs.Common.{rules, ◌≡◌, ◌<◌, ◌≤◌, ◌+◌, ◌∙◌, List, refl, ap, sym, subst, arith, length, get_or}
-use Rattle.std.proofs.lemmas.Grind.{common_steps}
-use Rattle.std.proofs.lemmas.List.Elements.{All-set, All-get_or}
-use Rattle.std.specs.Prelude.{All, slice_get}
+use Rattle.std.proofs.Common.{rules, ◌≡◌, ◌<◌, ◌≤◌, ◌+◌, ◌∙◌, List, ap, sym, subst, arith, length, get_or}
+use Rattle.std.proofs.lemmas.List.Elements.{All-set, All-get_or, All-push}
 use Rattle.std.proofs.lemmas.Option.{slice_get_within}
 use Rattle.lanes.specs.Interleaving.{newcomer}
-use Rattle.lanes.specs.Sharing.{LaneId, InLane, Moved, LeadRound, IsNew, lanes_of}
+use Rattle.lanes.specs.Sharing.{Moved, LeadRound, IsAlone, IsNew, lanes_of}
 use Rattle.lanes.proofs.Rounds.{more_new, lanes_long}
 use Rattle.lanes.proofs.sharing.lanes_between.Goals as goal
 
 pub loop-place-preserved : goal.loop-place-preserved
-loop-place-preserved c =
+loop-place-preserved g c =
     let inv = c.loop-place.invariant in
     let all : List Moved = c.loop-place.all.items in
     let place = c.loop-place.place in
@@ -38,8 +36,15 @@ loop-place-preserved c =
     }
 
 pub returns-clause-new : goal.returns-clause-new
-returns-clause-new c = λ place m is.
+returns-clause-new g c = λ place m is.
     let all : List Moved = c.loop-place.all.items in
     let within : place < length all = slice_get_within all place m is in
     let end : length all ≤ c.loop-place.place = search rules in
     c.loop-place.invariant.ways place m is (omega (arith, within, end))
+
+pub loop-preserved : goal.loop-preserved
+loop-preserved g c = (
+  search rules,
+  search rules,
+  rw c.push_reserved.ensures.items (All-push IsAlone c.loop.all.items c.in_ok-alone.field-0 c.loop.invariant.2 c.in_ok-alone.ensures),
+)

@@ -1,14 +1,13 @@
-use Rattle.std.proofs.Common.{rules, ◌≡◌, ℕ, ◌+◌, ◌%◌, ◌<◌, List, Some, get_or, length, refl, sym, ap, ◌∙◌, subst, arith}
-use Rattle.std.proofs.lemmas.Grind.{common_steps}
+use Rattle.std.proofs.Common.{rules, ◌≡◌, ℕ, ◌+◌, ◌%◌, ◌<◌, List, Some, get_or, length, sym, ap, ◌∙◌, subst}
 use Rattle.std.proofs.lemmas.List.Elements.{All-push}
-use Rattle.std.specs.Prelude.{All, slice_get}
+use Rattle.std.specs.Prelude.{slice_get}
 use Rattle.lanes.specs.Interleaving.{newcomer}
-use Rattle.lanes.specs.Sharing.{LaneId, InLane, Moved, LeadRound, lanes_of}
+use Rattle.lanes.specs.Sharing.{InLane, Moved, LeadRound, lanes_of}
 use Rattle.lanes.proofs.Rounds.{one_way, lane_at, lanes_long}
 use Rattle.lanes.proofs.sharing.ways_of.Goals as goal
 
 pub loop-step-preserved : goal.loop-step-preserved
-loop-step-preserved c =
+loop-step-preserved g c =
     let all : List Moved = c.args.all.now in
     let inv = c.loop-step.invariant in
     let way : InLane = c.in_ok-way.field-0 in

@@ -2,4 +2,4 @@ use Rattle.lanes.proofs.Moving.{begins}
 use Rattle.lanes.proofs.ends.Lane.empty.Goals as goal
 
 pub fifo_as-requires : goal.fifo_as-requires
-fifo_as-requires c = begins
+fifo_as-requires g c = begins g.T.Carried.task

@@ -3,7 +3,7 @@ use Rattle.lanes.proofs.Moving.{owner_takes, finds_none}
 use Rattle.lanes.proofs.ends.Lane.next.Goals as goal
 
 pub pop_as-requires-clause-fifo : goal.pop_as-requires-clause-fifo
-pop_as-requires-clause-fifo c = λ _. rw c.args.self.now.owner (owner_takes (worker_view c.args.self.now.ready) 1)
+pop_as-requires-clause-fifo g c = λ _. rw c.args.self.now.owner (owner_takes g.T.Carried.task (worker_view c.args.self.now.ready) 1)
 
 pub pop_as-requires-clause-empty : goal.pop_as-requires-clause-empty
-pop_as-requires-clause-empty c = rw c.args.self.now.owner (finds_none (worker_view c.args.self.now.ready))
+pop_as-requires-clause-empty g c = rw c.args.self.now.owner (finds_none g.T.Carried.task (worker_view c.args.self.now.ready))

@@ -1,0 +1,4 @@
+pub mod SpawnTree
+pub mod Gathered
+pub mod Children
+pub mod Agreement

@@ -1,0 +1,8 @@
+//! The one answer of a job, from what its register says of tasks that are all over.
+#![tactic(auto)]
+
+mod laws;
+
+pub use laws::{
+    gathers, registers_agree, seats_know_children, spawn_trees_answer, spawn_trees_come,
+};
