@@ -6,3 +6,4 @@ pub mod Gathering
 pub mod Laying
 pub mod ChildrenLemmas
 pub mod Desking
+pub mod Closing

@@ -7,7 +7,7 @@ use Rattle.std.specs.List.{count_by}
 use Rattle.std.specs.List.Sorted.{IsPermutation}
 use Rattle.machine_model.specs.Machine.{State, Program, Birth}
 use Rattle.machine_model.specs.JobState.{entries_of}
-use Rattle.task_trees.specs.Solo.{SpawnRequest, Solo, entering}
+use Rattle.task_trees.specs.Solo.{SpawnRequest, IsGiven, Solo, entering}
 use Rattle.task_register.specs.declared.seats.TaskStart.{TaskStart}
 use Rattle.task_register.specs.declared.seats.EndedTask.{EndedTask}
 use Rattle.task_register.specs.declared.seats.RegisterState.{RegisterState}
@@ -29,11 +29,12 @@ handed number base a = record {
   bytes = a.birth.bytes;
 }
 
--- The task ran so, by itself, on what it was started with. Its children are what it handed over, and
--- it left its bytes where they were.
+-- The task ran so, by itself, on what it was started with, which suffices for its program. Its
+-- children are what it handed over, and it left its bytes where they were.
 pub record IsRun (programs : List Program) (o : EndedTask) : Type 0 where
   pub program : Program
   pub there : slice_get programs o.own.birth.program ≡ Some program
+  pub suffices : IsGiven program o.own.birth.share o.own.birth.bytes
   pub asked : List SpawnRequest
   pub last : State
   pub alone : Solo program (entries_of programs)
@@ -101,6 +102,11 @@ pub record GatheredTree (programs : List Program) (credit : ℕ) (buffer : List 
       × (piece_of o ≡ left_of (finished_of t))
 
 -- so much memory, with what each of these tasks left written in its turn
+abbrev pub laid : List ℕ → List Finished → List ℕ
+laid memory [] = memory
+laid memory (f ∷ fs) = laid (take (length memory) (written memory f.ending.base f.bytes)) fs
+
+-- the same of tasks of a register
 abbrev pub laid_from : List ℕ → List EndedTask → List ℕ
 laid_from memory [] = memory
 laid_from memory (o ∷ os) = laid_from (take (length memory) (written memory o.base o.bytes)) os

@@ -11,7 +11,10 @@ ghost use Rattle.task_register.specs.Rule.{with_start, with_end};
 ghost use Rattle.job_answer.specs.Agreement.{RegisterAgrees};
 ghost use Rattle.machine_model.specs.Machine.{Program};
 ghost use Rattle.task_register.specs.declared.seats.RegisterState.{RegisterState};
-ghost use Rattle.job_answer.specs.Gathered.{IsGathered, GatheredTree, Answers, numbers_to};
+ghost use Rattle.job_answer.specs.Gathered.{IsGathered, GatheredTree, Answers, numbers_to, root_start};
+ghost use Rattle.job_answer.specs.Closing.{ClosesJob};
+ghost use Rattle.job_answer.specs.OneAnswer.{AllRan, HasOneAnswer, RunsOrNot};
+ghost use Rattle.credit_book.specs.declared.book.Report.{Report as ReportOf};
 ghost use Rattle.task_trees.specs.Solo.{SpawnRequest};
 ghost use Rattle.task_run.specs.Through.{GoesThrough};
 ghost use Rattle.task_register.specs.declared.seats.SeatedTask.{SeatedTask};
@@ -82,4 +85,11 @@ pub fn spawn_trees_answer()
         × RootComes programs credit buffer fs × IsPermutation (map finished_of tasks) fs
         × (joined (length buffer) ended ≡ joined (length buffer) fs)
         × (spent_in ended ≡ spent_in fs) }
+{}
+
+/// What a job closes to is the one answer, where each task ran and no spawn was refused.
+pub fn closes_to_answer()
+    ensures { (programs : List Program) (job credit : ℕ) (buffer : List ℕ) (report : ReportOf) →
+        ClosesJob job credit (length buffer) (root_start credit buffer) (RunsOrNot programs) report
+        → AllRan report → HasOneAnswer programs credit buffer report }
 {}

@@ -15,7 +15,7 @@ use Rattle.task_register.specs.declared.seats.SeatedTask.{SeatedTask}
 use Rattle.task_register.specs.declared.seats.EndedTask.{EndedTask}
 use Rattle.task_register.specs.declared.seats.RegisterState.{RegisterState}
 use Rattle.task_register.specs.declared.seats.View.{View}
-use Rattle.task_register.specs.Rule.{no_task, fresh_task, with_one_more, children_in, IsTask, empty_register, nobody, first_keeper, with_task, without_task, only_task, without_child, only_child, place_of, place_beside, IsHere, FitsRegister, IsRegister, AreOlder, with_start, with_end, BeginsJob, AddsChild, ClosesTask, AllKnown, KnowsAll}
+use Rattle.task_register.specs.Rule.{no_task, fresh_task, with_one_more, children_in, IsTask, empty_register, nobody, first_keeper, with_task, without_task, only_task, without_child, only_child, with_waiting, without_first, first_of, only_first, place_of, place_beside, place_waiting, IsHere, FitsRegister, IsRegister, AreOlder, with_start, with_end, BeginsJob, AddsChild, ClosesTask, AllKnown, KnowsAll}
 
 off : false ≡ true → ⊥
 off e = true≢false (sym e)
@@ -189,15 +189,23 @@ end_each P views w others mine j u e =
     (at_end views w u j e)
 
 nobody_fits : (k : ℕ) (known : RegisterState) (at : ℕ → ℕ) (by : ℕ) → FitsRegister k known at by nobody
-nobody_fits k known at by = record { keeping = λ e. absurd (off e); sitting = λ e. absurd (off e); bearing = λ e. absurd (off e) }
+nobody_fits k known at by = record {
+  keeping = λ e. absurd (off e);
+  sitting = λ e. absurd (off e);
+  bearing = λ e. absurd (off e);
+  waiting = λ n o there. absurd (nothing n o there);
+  apart = λ i n a b there. absurd (nothing i a there);
+}
 
 -- a seat that knows another task than the one that goes elsewhere
 fits_still : (k : ℕ) (known : RegisterState) (at : ℕ → ℕ) (m c j : ℕ) (u : View) → FitsRegister k known at j u → (at m ≡ place_of j → ⊥) → (at m ≡ place_beside j → ⊥) →
-    FitsRegister k known (changed at m c) j u
-fits_still k known at m c j u f a b = record {
+    (at m ≡ place_waiting j → ⊥) → FitsRegister k known (changed at m c) j u
+fits_still k known at m c j u f a b d = record {
   keeping = f.keeping;
   sitting = λ e. here_still known.starts at m c (place_of j) u.task (f.sitting e) a;
   bearing = λ e. here_still known.starts at m c (place_beside j) u.child (f.bearing e) b;
+  waiting = λ n o there. here_still known.starts at m c (place_waiting j) o (f.waiting n o there) d;
+  apart = f.apart;
 }
 
 pub begins : IsRegister (first_keeper ∷ [])
@@ -213,7 +221,13 @@ begins = record {
     one : (by : ℕ) (v : View) → get_elem? (first_keeper ∷ []) by ≡ some v → FitsRegister 0 empty_register (λ n. 0) by v
     one zero v e =
         subst (FitsRegister 0 empty_register (λ n. 0) 0) (some-injective _ _ e)
-        (record { keeping = λ k. (refl, refl); sitting = λ s. absurd (off s); bearing = λ s. absurd (off s) })
+        (record {
+          keeping = λ k. (refl, refl);
+          sitting = λ s. absurd (off s);
+          bearing = λ s. absurd (off s);
+          waiting = λ n o there. absurd (nothing n o there);
+          apart = λ i n a b there. absurd (nothing i a there);
+        })
     one (suc by) v e = absurd (some-ne-none v (sym e))
 
 -- the seat of a new child leaves the keeper's
@@ -231,16 +245,20 @@ leaves_child id v has s kept at =
       each = end_each (λ j u. FitsRegister kept.keeper_at kept.known now j u) (set s.views id (without_child v)) (only_child v)
           (set_each (λ j u. FitsRegister kept.keeper_at kept.known now j u) s.views id (without_child v)
           (λ j u ne e. fits_still kept.keeper_at kept.known kept.at m (place_of new) j u (kept.each j u e)
-          (λ x. omega (arith, here, x)) (λ x. ne (omega (arith, here, x))))
+          (λ x. omega (arith, here, x)) (λ x. ne (omega (arith, here, x))) (λ x. omega (arith, here, x)))
           (record {
             keeping = mine.keeping;
             sitting = λ e. here_still kept.known.starts kept.at m (place_of new) (place_of id) v.task (mine.sitting e) (λ x. omega (arith, here, x));
             bearing = λ e. absurd (off e);
+            waiting = λ n o there. here_still kept.known.starts kept.at m (place_of new) (place_waiting id) o (mine.waiting n o there) (λ x. omega (arith, here, x));
+            apart = mine.apart;
           }))
           (record {
             keeping = λ e. absurd (off e);
             sitting = λ e. record { is_task = (mine.bearing has).is_task; here = changed_there kept.at m (place_of new) };
             bearing = λ e. absurd (off e);
+            waiting = λ n o there. absurd (nothing n o there);
+            apart = λ i n a b there. absurd (nothing i a there);
           });
       ended = λ k o there. here_still kept.known.starts kept.at m (place_of new) 0 o.own (kept.ended k o there) (λ x. omega (arith, here, x));
       older = kept.older;
@@ -261,16 +279,20 @@ leaves_task id v has s kept at =
       each = end_each (λ j u. FitsRegister kept.keeper_at kept.known now j u) (set s.views id (without_task v)) (only_task v)
           (set_each (λ j u. FitsRegister kept.keeper_at kept.known now j u) s.views id (without_task v)
           (λ j u ne e. fits_still kept.keeper_at kept.known kept.at m (place_of new) j u (kept.each j u e)
-          (λ x. ne (omega (arith, here, x))) (λ x. omega (arith, here, x)))
+          (λ x. ne (omega (arith, here, x))) (λ x. omega (arith, here, x)) (λ x. omega (arith, here, x)))
           (record {
             keeping = mine.keeping;
             sitting = λ e. absurd (off e);
             bearing = λ e. here_still kept.known.starts kept.at m (place_of new) (place_beside id) v.child (mine.bearing e) (λ x. omega (arith, here, x));
+            waiting = λ n o there. here_still kept.known.starts kept.at m (place_of new) (place_waiting id) o (mine.waiting n o there) (λ x. omega (arith, here, x));
+            apart = mine.apart;
           }))
           (record {
             keeping = λ e. absurd (off e);
             sitting = λ e. record { is_task = (mine.sitting has).is_task; here = changed_there kept.at m (place_of new) };
             bearing = λ e. absurd (off e);
+            waiting = λ n o there. absurd (nothing n o there);
+            apart = λ i n a b there. absurd (nothing i a there);
           });
       ended = λ k o there. here_still kept.known.starts kept.at m (place_of new) 0 o.own (kept.ended k o there) (λ x. omega (arith, here, x));
       older = kept.older;
@@ -293,11 +315,13 @@ takes id v other w has s kept at apart there =
       each = set_each (λ j u. FitsRegister kept.keeper_at kept.known now j u) (set s.views id (with_task v w)) other nobody
           (λ j u away e. by_two s v w j u id other kept.keeper_at kept.known now e away
           (λ differs found. fits_still kept.keeper_at kept.known kept.at m (place_of id) j u (kept.each j u found)
-          (λ x. away (omega (arith, here, x))) (λ x. omega (arith, here, x)))
+          (λ x. away (omega (arith, here, x))) (λ x. omega (arith, here, x)) (λ x. omega (arith, here, x)))
           (record {
             keeping = mine.keeping;
             sitting = λ e. record { is_task = (theirs.sitting has).is_task; here = changed_there kept.at m (place_of id) };
             bearing = λ e. here_still kept.known.starts kept.at m (place_of id) (place_beside id) v.child (mine.bearing e) (λ x. omega (arith, here, x));
+            waiting = λ n o there. here_still kept.known.starts kept.at m (place_of id) (place_waiting id) o (mine.waiting n o there) (λ x. omega (arith, here, x));
+            apart = mine.apart;
           }))
           (nobody_fits kept.keeper_at kept.known now other);
       ended = λ k o there. here_still kept.known.starts kept.at m (place_of id) 0 o.own (kept.ended k o there) (λ x. omega (arith, here, x));
@@ -312,6 +336,129 @@ takes id v other w has s kept at apart there =
         (λ (x : (j ≡ id) × (with_task v w ≡ u)). subst (λ (y : ℕ × View). FitsRegister k known now y.0 y.1) (λ i. (sym x.0 i, x.1 i)) mine)
         (λ (x : (j ≢ id) × (get_elem? s.views j ≡ some u)). others x.0 x.1)
         (at_set s.views id j (with_task v w) u e)
+
+-- what stands behind another list
+end_split : (l : List SeatedTask) (a c : SeatedTask) (k : ℕ) → slice_get (l ++ a ∷ []) k ≡ Some c → (slice_get l k ≡ Some c) ⊎ ((k ≡ length l) × (a ≡ c))
+end_split [] a c zero e = inr (refl, one_some a c e)
+end_split [] a c (suc k) e = absurd (nothing k c e)
+end_split (z ∷ zs) a c zero e = inl e
+end_split (z ∷ zs) a c (suc k) e =
+    elim (end_split zs a c k e) [
+      | inl was ↦ inl was
+      | inr is ↦ inr (ap suc is.0, is.1)
+    ]
+
+-- a seat of a task waits with the keeper
+pub keeps_task : (id : ℕ) (v : View) (other : ℕ) (w : View) → w.is_task ≡ true → Joins Ruling id v other w (with_waiting v w) nobody
+keeps_task id v other w has s kept at apart there =
+    let was : get_elem? s.views other ≡ some w =
+    ⊎_elim (λ (t : (other ≡ id) × (with_waiting v w ≡ w)). absurd (apart t.0)) (λ (t : (other ≢ id) × (get_elem? s.views other ≡ some w)). t.1) (at_set s.views id other (with_waiting v w) w there) in
+    let theirs = kept.each other w was in
+    let mine = kept.each id v at in
+    let m : ℕ = w.task.number in
+    let here = (theirs.sitting has).here in
+    let now : ℕ → ℕ = changed kept.at m (place_waiting id) in
+    let waits : (k : ℕ) (o : SeatedTask) → (slice_get v.waiting k ≡ Some o) ⊎ ((k ≡ length v.waiting) × (w.task ≡ o)) → IsHere kept.known.starts now (place_waiting id) o =
+    λ k o which. elim which [
+      | inl old ↦ here_still kept.known.starts kept.at m (place_waiting id) (place_waiting id) o (mine.waiting k o old) (λ x. omega (arith, here, x))
+      | inr is ↦ subst (λ (x : SeatedTask). IsHere kept.known.starts now (place_waiting id) x) is.1
+          (record { is_task = (theirs.sitting has).is_task; here = changed_there kept.at m (place_waiting id) })
+    ] in
+    let other_number : (k : ℕ) (o : SeatedTask) → slice_get v.waiting k ≡ Some o → o.number ≡ m → ⊥ =
+    λ k o old same. (let stands = (mine.waiting k o old).here in let at_m : kept.at m ≡ place_waiting id = ap kept.at (sym same) ∙ stands in omega (arith, here, at_m)) in
+    let two : (j k : ℕ) (a b : SeatedTask) → (slice_get v.waiting j ≡ Some a) ⊎ ((j ≡ length v.waiting) × (w.task ≡ a)) →
+        (slice_get v.waiting k ≡ Some b) ⊎ ((k ≡ length v.waiting) × (w.task ≡ b)) → a.number ≡ b.number → j ≡ k =
+    λ j k a b first second same. elim first [
+      | inl x ↦ elim second [
+          | inl y ↦ mine.apart j k a b x y same
+          | inr y ↦ absurd (other_number j a x (same ∙ sym (ap (λ (o : SeatedTask). o.number) y.1)))
+        ]
+      | inr x ↦ elim second [
+          | inl y ↦ absurd (other_number k b y (sym same ∙ sym (ap (λ (o : SeatedTask). o.number) x.1)))
+          | inr y ↦ x.0 ∙ sym y.0
+        ]
+    ] in
+    record {
+      keeper_at = kept.keeper_at;
+      known = kept.known;
+      at = now;
+      each = set_each (λ j u. FitsRegister kept.keeper_at kept.known now j u) (set s.views id (with_waiting v w)) other nobody
+          (λ j u away e. by_keeper s v w j u id other kept.keeper_at kept.known now e away
+          (λ differs found. fits_still kept.keeper_at kept.known kept.at m (place_waiting id) j u (kept.each j u found)
+          (λ x. away (omega (arith, here, x))) (λ x. omega (arith, here, x)) (λ x. omega (arith, here, x)))
+          (record {
+            keeping = mine.keeping;
+            sitting = λ e. here_still kept.known.starts kept.at m (place_waiting id) (place_of id) v.task (mine.sitting e) (λ x. apart (omega (arith, here, x)));
+            bearing = λ e. here_still kept.known.starts kept.at m (place_waiting id) (place_beside id) v.child (mine.bearing e) (λ x. omega (arith, here, x));
+            waiting = λ k o there. waits k o (end_split v.waiting w.task o k there);
+            apart = λ j k a b x y. two j k a b (end_split v.waiting w.task a j x) (end_split v.waiting w.task b k y);
+          }))
+          (nobody_fits kept.keeper_at kept.known now other);
+      ended = λ k o there. here_still kept.known.starts kept.at m (place_waiting id) 0 o.own (kept.ended k o there) (λ x. omega (arith, here, x));
+      older = kept.older;
+    }
+  where
+    by_keeper : (s : State (Unit {0}) View) (v w : View) (j : ℕ) (u : View) (id other : ℕ) (k : ℕ) (known : RegisterState) (now : ℕ → ℕ) →
+        get_elem? (set s.views id (with_waiting v w)) j ≡ some u → j ≢ other →
+        (j ≢ id → get_elem? s.views j ≡ some u → FitsRegister k known now j u) → FitsRegister k known now id (with_waiting v w) → FitsRegister k known now j u
+    by_keeper s v w j u id other k known now e away others mine =
+        ⊎_elim
+        (λ (x : (j ≡ id) × (with_waiting v w ≡ u)). subst (λ (y : ℕ × View). FitsRegister k known now y.0 y.1) (λ i. (sym x.0 i, x.1 i)) mine)
+        (λ (x : (j ≢ id) × (get_elem? s.views j ≡ some u)). others x.0 x.1)
+        (at_set s.views id j (with_waiting v w) u e)
+
+first_there : (l : List SeatedTask) → 0 < length l → slice_get l 0 ≡ Some (first_of l)
+first_there [] lt = absurd (omega (arith, lt))
+first_there (o ∷ os) lt = refl
+
+rest_there : (l : List SeatedTask) (k : ℕ) (o : SeatedTask) → slice_get (drop 1 l) k ≡ Some o → slice_get l (suc k) ≡ Some o
+rest_there [] k o e = absurd (nothing k o e)
+rest_there (z ∷ zs) k o e = e
+
+-- the seat that has waited longest leaves the keeper's
+pub leaves_first : (id : ℕ) (v : View) → 0 < length v.waiting → Splits Ruling id v (without_first v) (only_first v)
+leaves_first id v more s kept at =
+    let mine = kept.each id v at in
+    let new : ℕ = length (set s.views id (without_first v)) in
+    let first : SeatedTask = first_of v.waiting in
+    let waits = mine.waiting 0 first (first_there v.waiting more) in
+    let m : ℕ = first.number in
+    let here = waits.here in
+    let now : ℕ → ℕ = changed kept.at m (place_of new) in
+    let behind : (k : ℕ) (o : SeatedTask) → slice_get (drop 1 v.waiting) k ≡ Some o → IsHere kept.known.starts now (place_waiting id) o =
+    λ k o there.
+        let stands = mine.waiting (suc k) o (rest_there v.waiting k o there) in
+        record {
+          is_task = stands.is_task;
+          here = changed_other kept.at m (place_of new) o.number
+              (λ e. let same = mine.apart (suc k) 0 o first (rest_there v.waiting k o there) (first_there v.waiting more) e in omega (arith, same)) ∙ stands.here;
+        } in
+    record {
+      keeper_at = kept.keeper_at;
+      known = kept.known;
+      at = now;
+      each = end_each (λ j u. FitsRegister kept.keeper_at kept.known now j u) (set s.views id (without_first v)) (only_first v)
+          (set_each (λ j u. FitsRegister kept.keeper_at kept.known now j u) s.views id (without_first v)
+          (λ j u ne e. fits_still kept.keeper_at kept.known kept.at m (place_of new) j u (kept.each j u e)
+          (λ x. omega (arith, here, x)) (λ x. omega (arith, here, x)) (λ x. ne (omega (arith, here, x))))
+          (record {
+            keeping = mine.keeping;
+            sitting = λ e. here_still kept.known.starts kept.at m (place_of new) (place_of id) v.task (mine.sitting e) (λ x. omega (arith, here, x));
+            bearing = λ e. here_still kept.known.starts kept.at m (place_of new) (place_beside id) v.child (mine.bearing e) (λ x. omega (arith, here, x));
+            waiting = behind;
+            apart = λ j k a b x y same.
+                let next = mine.apart (suc j) (suc k) a b (rest_there v.waiting j a x) (rest_there v.waiting k b y) same in omega (arith, next);
+          }))
+          (record {
+            keeping = λ e. absurd (off e);
+            sitting = λ e. record { is_task = waits.is_task; here = changed_there kept.at m (place_of new) };
+            bearing = λ e. absurd (off e);
+            waiting = λ n o there. absurd (nothing n o there);
+            apart = λ i n a b there. absurd (nothing i a there);
+          });
+      ended = λ k o there. here_still kept.known.starts kept.at m (place_of new) 0 o.own (kept.ended k o there) (λ x. omega (arith, here, x));
+      older = kept.older;
+    }
 
 none_at_all : (starts : List TaskStart) (o : SeatedTask) → starts ≡ [] → IsTask starts o → ⊥
 none_at_all starts o none t =
@@ -346,11 +493,15 @@ module _ (slots id : ℕ) (me : Me (Unit {0}) View) (st : Step (Unit {0})) where
                 keeping = λ k. absurd (ne ((f.keeping k).0 ∙ sym known.0));
                 sitting = λ x. absurd (none_at_all kept.known.starts u.task empty (f.sitting x).is_task);
                 bearing = λ x. absurd (none_at_all kept.known.starts u.child empty (f.bearing x).is_task);
+                waiting = λ n o there. absurd (none_at_all kept.known.starts o empty (f.waiting n o there).is_task);
+                apart = f.apart;
               })
               (record {
                 keeping = λ k. (known.0, ap (λ (x : RegisterState). with_start x b) known.1);
                 sitting = λ x. absurd (none_at_all kept.known.starts me.0.task empty (mine.sitting x).is_task);
                 bearing = λ x. record { is_task = begun; here = changed_there kept.at (length me.0.known.starts) (place_beside id) };
+                waiting = λ n o there. absurd (none_at_all kept.known.starts o empty (mine.waiting n o there).is_task);
+                apart = mine.apart;
               });
           ended = λ k o there. absurd (none_at_all kept.known.starts o.own empty (kept.ended k o there).is_task);
           older = older_longer kept.known.starts b kept.older (λ lt. let zero_long = ap (λ (l : List TaskStart). length l) empty in absurd (omega (arith, lt, zero_long)));
@@ -387,6 +538,8 @@ module _ (slots id : ℕ) (me : Me (Unit {0}) View) (st : Step (Unit {0})) where
                 keeping = λ k. absurd (ne ((f.keeping k).0 ∙ sym known.0));
                 sitting = λ x. other_task kept.known.starts kept.at b me.0.task.number n id (place_of j) u.task long parent own_task.here (f.sitting x) (λ y. ne (omega (arith, y)));
                 bearing = λ x. other_task kept.known.starts kept.at b me.0.task.number n id (place_beside j) u.child long parent own_task.here (f.bearing x) (λ y. omega (arith, y));
+                waiting = λ i o there. other_task kept.known.starts kept.at b me.0.task.number n id (place_waiting j) o long parent own_task.here (f.waiting i o there) (λ y. omega (arith, y));
+                apart = f.apart;
               })
               (record {
                 keeping = λ k. (known.0, ap (λ (x : RegisterState). with_start x b) known.1);
@@ -395,6 +548,8 @@ module _ (slots id : ℕ) (me : Me (Unit {0}) View) (st : Step (Unit {0})) where
                   here = changed_other kept.at n (place_beside id) me.0.task.number (λ e. omega (arith, e, long, inside)) ∙ own_task.here;
                 };
                 bearing = λ x. record { is_task = begun; here = changed_there kept.at n (place_beside id) };
+                waiting = λ i o there. other_task kept.known.starts kept.at b me.0.task.number n id (place_waiting id) o long parent own_task.here (mine.waiting i o there) (λ y. omega (arith, y));
+                apart = mine.apart;
               });
           ended = λ k o there. other_task kept.known.starts kept.at b me.0.task.number n id 0 o.own long parent own_task.here (kept.ended k o there) (λ y. omega (arith, y));
           older = older_longer kept.known.starts b kept.older (λ lt. less);
@@ -436,11 +591,15 @@ module _ (slots id : ℕ) (me : Me (Unit {0}) View) (st : Step (Unit {0})) where
                 keeping = λ k. absurd (ne ((f.keeping k).0 ∙ sym known.0));
                 sitting = λ x. here_still kept.known.starts kept.at m 0 (place_of j) u.task (f.sitting x) (λ y. ne (omega (arith, here, y)));
                 bearing = λ x. here_still kept.known.starts kept.at m 0 (place_beside j) u.child (f.bearing x) (λ y. omega (arith, here, y));
+                waiting = λ n q there. here_still kept.known.starts kept.at m 0 (place_waiting j) q (f.waiting n q there) (λ y. omega (arith, here, y));
+                apart = f.apart;
               })
               (record {
                 keeping = λ k. (known.0, ap (λ (x : RegisterState). with_end x o) known.1);
                 sitting = λ x. absurd (off x);
                 bearing = λ x. here_still kept.known.starts kept.at m 0 (place_beside id) me.0.child (mine.bearing x) (λ y. omega (arith, here, y));
+                waiting = λ n q there. here_still kept.known.starts kept.at m 0 (place_waiting id) q (mine.waiting n q there) (λ y. omega (arith, here, y));
+                apart = mine.apart;
               });
           ended = λ k p there. elim (end_there kept.known.over o p k there) [
             | inl was ↦ here_still kept.known.starts kept.at m 0 0 p.own (kept.ended k p was) (λ y. omega (arith, here, y))
@@ -470,3 +629,8 @@ module _ (slots id : ℕ) (me : Me (Unit {0}) View) (st : Step (Unit {0})) where
         },
         (refl, subst (λ (k : RegisterState). AllKnown k) (sym known.1) (record { tasks = λ k o there. (kept.ended k o there).is_task; older = kept.older })),
       )
+
+-- the first, and those behind it
+pub first_and_rest : (l : List SeatedTask) → 0 < length l → l ≡ first_of l ∷ drop 1 l
+first_and_rest [] lt = absurd (omega (arith, lt))
+first_and_rest (o ∷ os) lt = refl

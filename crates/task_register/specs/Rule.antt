@@ -66,13 +66,15 @@ nobody = record {
   task = no_task;
   has_child = false;
   child = no_task;
+  waiting = [];
 }
 
-abbrev pub keeper : RegisterState → View
-keeper known = record nobody { is_keeper = true; known = known }
+-- the keeper's, with the tasks that wait
+abbrev pub keeper : RegisterState → List SeatedTask → View
+keeper known waiting = record nobody { is_keeper = true; known = known; waiting = waiting }
 
 abbrev pub first_keeper : View
-first_keeper = keeper empty_register
+first_keeper = keeper empty_register []
 
 abbrev pub task_seat : SeatedTask → View
 task_seat o = record nobody { is_task = true; task = o }
@@ -93,15 +95,32 @@ without_child v = record v { has_child = false; child = no_task }
 abbrev pub only_child : View → View
 only_child v = record nobody { is_task = v.has_child; task = v.child }
 
+-- a seat that keeps one more task that waits, or one less: the first
+abbrev pub with_waiting : View → View → View
+with_waiting v w = record v { waiting = v.waiting ++ w.task ∷ [] }
+
+abbrev pub without_first : View → View
+without_first v = record v { waiting = drop 1 v.waiting }
+
+abbrev pub first_of : List SeatedTask → SeatedTask
+first_of [] = no_task
+first_of (o ∷ os) = o
+
+abbrev pub only_first : View → View
+only_first v = record nobody { is_task = true; task = first_of v.waiting }
+
 -- ---- the rule
 
--- the place of the task of a seat, and of a child of it that has no seat yet; 0 is that of a task
--- that is over
+-- the place of the task of a seat, of a child of it that has no seat yet, and of tasks that wait
+-- there; 0 is that of a task that is over
 abbrev pub place_of : ℕ → ℕ
-place_of seat = 2 * seat + 1
+place_of seat = 3 * seat + 1
 
 abbrev pub place_beside : ℕ → ℕ
-place_beside seat = 2 * seat + 2
+place_beside seat = 3 * seat + 2
+
+abbrev pub place_waiting : ℕ → ℕ
+place_waiting seat = 3 * seat + 3
 
 -- the task is known here
 pub record IsHere (starts : List TaskStart) (at : ℕ → ℕ) (place : ℕ) (o : SeatedTask) : Type 0 where
@@ -114,13 +133,17 @@ pub record FitsRegister (keeper_at : ℕ) (known : RegisterState) (at : ℕ → 
   pub keeping : v.is_keeper ≡ true → (seat ≡ keeper_at) × (v.known ≡ known)
   pub sitting : v.is_task ≡ true → IsHere known.starts at (place_of seat) v.task
   pub bearing : v.has_child ≡ true → IsHere known.starts at (place_beside seat) v.child
+  pub waiting : (k : ℕ) (o : SeatedTask) → slice_get v.waiting k ≡ Some o
+      → IsHere known.starts at (place_waiting seat) o
+  pub apart : (j k : ℕ) (a b : SeatedTask) → slice_get v.waiting j ≡ Some a
+      → slice_get v.waiting k ≡ Some b → a.number ≡ b.number → j ≡ k
 
 -- each task after the first has an older parent
 abbrev pub AreOlder : List TaskStart → Type 0
 AreOlder starts = (k : ℕ) (b : TaskStart) → slice_get starts (suc k) ≡ Some b → b.parent ≤ k
 
--- One seat knows all tasks, and each other one at most one of them, which no other seat knows; nor
--- does any know one that is over.
+-- One seat knows all tasks, and keeps those that wait, each once; each other one is that of at most
+-- one task, which no other seat is of; nor is any of one that is over.
 pub record IsRegister (views : List View) : Type 0 where
   pub keeper_at : ℕ
   pub known : RegisterState

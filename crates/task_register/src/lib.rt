@@ -1,10 +1,8 @@
 //! Which task was started with what, and by whom, in proofs alone.
 #![tactic(auto)]
 
-mod handed;
 mod register;
 mod seats;
 
-pub use handed::SeatedTicket;
 pub use register::{NewRegister, TaskRegister, TaskSeat};
 pub use seats::{EndedTask, JobId, RegisterState, SeatedTask, TaskStart, View};

@@ -1,14 +1,14 @@
 //! The register of a job's starts, which exists in proofs alone.
 
-ghost use Rattle.std.specs.Prelude.{◌≡◌, ◌∷◌, ◌++◌, [], length, slice_get, Some};
+ghost use Rattle.std.specs.Prelude.{◌≡◌, ◌<◌, ◌∷◌, ◌++◌, [], length, slice_get, Some};
 ghost use Rattle.task_register.specs.Rule.{AllKnown, EachIs, keeper, fresh_task, empty_register, task_seat, with_start, with_end, with_one_more};
 ghost use Rattle.task_register.specs.Handing.{IsSeatOf, start_by, ended_by};
 ghost use Rattle.task_register.specs.declared.seats.TaskStart.{TaskStart as StartOf};
 ghost use Rattle.task_register.specs.declared.seats.EndedTask.{EndedTask as EndedOf};
 
 use crate::seats::{
-    EndRule, EndsTask, EntersChild, EntersRoot, FindsAll, JobId, LeavesChild, LeavesTask,
-    OneSeatATask, StartRule, TakesTask, View,
+    EndRule, EndsTask, EntersChild, EntersRoot, FindsAll, JobId, KeepsTask, LeavesChild,
+    LeavesFirst, LeavesTask, OneSeatATask, StartRule, TakesTask, View,
 };
 use atomic_table::{Seat, Table};
 use credit_book::{Outcome, Ticket};
@@ -47,18 +47,17 @@ pub struct TaskRegister<J: JobId> {
 }
 
 impl<J: JobId> Model for TaskRegister<J> {
-    ghost use Rattle.std.specs.Prelude.{◌≡◌, []};
-    ghost use Rattle.std.specs.Prelude.{slice_get, Some};
+    ghost use Rattle.std.specs.Prelude.{◌≡◌, [], slice_get, Some};
     ghost use Rattle.task_register.specs.Rule.{keeper, EachIs};
-    ghost use Rattle.task_register.specs.declared.seats.RegisterState.{RegisterState};
+    ghost use Rattle.task_register.specs.Register.{Register};
 
-    ghost Value = { RegisterState };
+    ghost Value = { Register };
 
-    ghost view = { λ b. b.seat.me.0.known };
+    ghost view = { λ b. record { known = b.seat.me.0.known; waiting = b.seat.me.0.waiting } };
 
     ghost invariant = { λ b. (b.table.shared.table_id ≡ J.table)
         × (b.table.shared.table_id.words ≡ 1) × (b.seat.table_id ≡ J.table)
-        × (b.seat.me ≡ (keeper b.seat.me.0.known, []))
+        × (b.seat.me ≡ (keeper b.seat.me.0.known b.seat.me.0.waiting, []))
         × (slice_get b.seat.me.0.known.starts 0 ≡ Some J.root)
         × EachIs J.runs b.seat.me.0.known.over };
 }
@@ -104,7 +103,7 @@ impl NewRegister {
         ensures { (b : StartOf) × E.enters b × (result.0.shared.table_id ≡ self)
             × (result.0.shared.table_id.words ≡ 1) × (result.1.table_id ≡ self)
             × (result.2.table_id ≡ self)
-            × (result.1.me ≡ (keeper (with_start empty_register b), []))
+            × (result.1.me ≡ (keeper (with_start empty_register b) [], []))
             × (result.2.me ≡ (task_seat (fresh_task 0 b), [])) }
     {
         let NewRegister { table, seat } = self;
@@ -117,7 +116,8 @@ impl NewRegister {
     /// The register under a name, with the seat of the root.
     pub fn named<J: JobId>(self) -> (TaskRegister<J>, TaskSeat<J>)
         requires { self ≡ J.table }
-        ensures known { result.0 ≡ with_start empty_register J.root }
+        ensures register { result.0
+            ≡ record { known = with_start empty_register J.root; waiting = [] } }
         ensures root { result.1 ≡ fresh_task 0 J.root }
     {
         let (table, keeper, root) = self.begin_as::<RootOf<J>>();
@@ -155,8 +155,8 @@ impl<J: JobId> TaskRegister<J> {
         requires some { (b : StartOf) × E.enters b × (b.parent ≡ parent.number) }
         ensures { (b : StartOf) × E.enters b
             × (result.0 ≡ with_one_more parent b)
-            × (result.1 ≡ fresh_task (length self.old.starts) b)
-            × (self.new ≡ with_start self.old b) }
+            × (result.1 ≡ fresh_task (length self.old.known.starts) b)
+            × (self.new ≡ record self.old { known = with_start self.old.known b }) }
     {
         let _ = child;
         let TaskSeat { seat, of: _ } = parent;
@@ -182,7 +182,7 @@ impl<J: JobId> TaskRegister<J> {
         requires some { (o : EndedOf) × E.ends o × (o.own ≡ seat) }
         requires runs { (o : EndedOf) → E.ends o → J.runs o }
         ensures { (o : EndedOf) × E.ends o × (o.own ≡ seat)
-            × (self.new ≡ with_end self.old o) }
+            × (self.new ≡ record self.old { known = with_end self.old.known o }) }
     {
         let _ = outcome;
         let TaskSeat { seat, of: _ } = seat;
@@ -194,10 +194,12 @@ impl<J: JobId> TaskRegister<J> {
     /// A child of the seat's task is started with what its ticket has, under the next number. The
     /// seat's own seat again, and that of the child.
     pub fn add_child(&mut self, parent: TaskSeat<J>, child: &Ticket) -> (TaskSeat<J>, TaskSeat<J>)
-        requires next { child.now.number ≡ length self.old.starts }
+        requires next { child.now.number ≡ length self.old.known.starts }
         ensures parent { result.0 ≡ with_one_more parent (start_by parent.number child.now) }
         ensures child { IsSeatOf child.now result.1 }
-        ensures known { self.new ≡ with_start self.old (start_by parent.number child.now) }
+        ensures register { self.new ≡ record self.old {
+            known = with_start self.old.known (start_by parent.number child.now)
+        } }
     {
         self.add_child_as::<Brand>(parent, child)
     }
@@ -205,17 +207,42 @@ impl<J: JobId> TaskRegister<J> {
     /// The seat's task is over with this outcome.
     pub fn close(&mut self, seat: TaskSeat<J>, outcome: &Snapshot<Outcome>)
         requires runs { J.runs (ended_by seat outcome.now.value) }
-        ensures { self.new ≡ with_end self.old (ended_by seat outcome.now.value) }
+        ensures { self.new ≡ record self.old {
+            known = with_end self.old.known (ended_by seat outcome.now.value)
+        } }
     {
         self.close_as::<Brand>(seat, outcome);
+    }
+
+    /// Keeps the seat of a task that waits, behind those that wait already.
+    pub fn park(&mut self, seat: TaskSeat<J>)
+        ensures { self.new ≡ record self.old { waiting = self.old.waiting ++ seat ∷ [] } }
+    {
+        let TaskSeat { seat, of: _ } = seat;
+        let table = &self.table;
+        table.shared.join_seat::<KeepsTask>(&mut self.seat, seat);
+    }
+
+    /// The seat of the task that has waited longest.
+    pub fn claim(&mut self) -> TaskSeat<J>
+        requires { 0 < length self.old.waiting }
+        ensures first { self.old.waiting ≡ result ∷ self.new.waiting }
+        ensures known { self.new.known ≡ self.old.known }
+    {
+        let table = &self.table;
+        let seat = table.shared.split_seat::<LeavesFirst>(&mut self.seat);
+        TaskSeat {
+            seat,
+            of: PhantomData,
+        }
     }
 
     /// Each task that is over was started so, and has just these children.
     pub fn look(&mut self)
         ensures same { self.new ≡ self.old }
-        ensures all { AllKnown self.old }
-        ensures root { slice_get self.old.starts 0 ≡ Some J.root }
-        ensures runs { EachIs J.runs self.old.over }
+        ensures all { AllKnown self.old.known }
+        ensures root { slice_get self.old.known.starts 0 ≡ Some J.root }
+        ensures runs { EachIs J.runs self.old.known.over }
     {
         let table = &self.table;
         table.shared.load::<FindsAll>(&mut self.seat, 0);

@@ -43,7 +43,8 @@ pub struct RegisterState {
 /// What a seat knows. No value of it is made.
 ///
 /// The keeper knows all that was started and all that is over, and the seat of a task that task.
-/// For the time of a step the keeper is the seat of a task too, and of a child of it.
+/// For the time of a step the keeper is the seat of a task too, and of a child of it. It keeps the
+/// seats of tasks that wait, in order.
 pub struct View {
     pub is_keeper: bool,
     pub known: RegisterState,
@@ -51,6 +52,7 @@ pub struct View {
     pub task: SeatedTask,
     pub has_child: bool,
     pub child: SeatedTask,
+    pub waiting: LinkedList<SeatedTask>,
 }
 
 /// Names one job: the table of its register, its board, what its root is started with, and what
@@ -113,6 +115,28 @@ impl Split<View> for LeavesTask {
     ghost left = { without_task };
 
     ghost right = { only_task };
+}
+
+/// The keeper takes in the seat of a task that waits, behind those that wait already.
+pub struct KeepsTask;
+
+impl Join<View> for KeepsTask {
+    ghost use Rattle.task_register.specs.Rule.{with_waiting, nobody};
+
+    ghost both = { with_waiting };
+
+    ghost spent = { nobody };
+}
+
+/// The keeper gives the seat of the task away that has waited longest.
+pub struct LeavesFirst;
+
+impl Split<View> for LeavesFirst {
+    ghost use Rattle.task_register.specs.Rule.{without_first, only_first};
+
+    ghost left = { without_first };
+
+    ghost right = { only_first };
 }
 
 /// The keeper gives the seat of a new child away.

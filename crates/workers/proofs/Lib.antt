@@ -1,4 +1,5 @@
 pub mod Endings
 pub mod Runs
-pub mod NotedLemmas
-pub mod Placing
+pub mod RegisterSteps
+pub mod SeatLemmas
+pub mod AloneLemmas

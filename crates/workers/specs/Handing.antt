@@ -5,25 +5,26 @@ use Rattle.credit_book.specs.declared.task.Outcome.{Outcome}
 use Rattle.credit_book.specs.declared.task.Ticket.{Ticket}
 use Rattle.credit_book.specs.Books.{spawn_event, ticket_of}
 use Rattle.credit_book.specs.History.{table_of}
+use Rattle.lanes.specs.Plain.{task_of}
 use Rattle.lanes.specs.Sharing.{IsIdle, IsTaken, Moved, Puts}
 use Rattle.workers.specs.AtDesk.{HasMore, IsParked}
-use Rattle.workers.specs.declared.locked_book.LockedBook.{LockedBook}
+use Rattle.workers.specs.Locked.{LockedState}
 use Rattle.workers.specs.declared.locked_book.Found.{Found}
 use Rattle.workers.specs.declared.locked_book.Found.TheVariants.{Ready, Nothing, Refusal}
 
 -- The ticket is of a lane, or was parked where the worker's own lane had none. It is the task whose
 -- turn it is. Where the book has refused an end a ticket may have been taken, which nobody runs any
 -- more.
-abbrev pub Finds : Moved → Found → Moved → ℕ → Type 0
+abbrev pub Finds : Moved → Found Ticket → Moved → ℕ → Type 0
 Finds old (Ready ticket) new turn =
-    (turn ≡ ticket.number) × (IsTaken old ticket new ⊎ IsIdle old new)
-Finds old Nothing new turn = IsIdle old new
-Finds old Refusal new turn = IsIdle old new ⊎ ((ticket : Ticket) × IsTaken old ticket new)
+    (turn ≡ ticket.number) × (IsTaken task_of old ticket new ⊎ IsIdle task_of old new)
+Finds old Nothing new turn = IsIdle task_of old new
+Finds old Refusal new turn = IsIdle task_of old new ⊎ ((ticket : Ticket) × IsTaken task_of old ticket new)
 
 -- into the worker's own lane, or, where there was no room for it, elsewhere; no lane lost anything
 -- by it
 abbrev pub IsKept : Moved → Ticket → Moved → Type 0
-IsKept old ticket new = Puts old (ticket ∷ []) new ⊎ (new ≡ old)
+IsKept old ticket new = Puts task_of old (ticket ∷ []) new ⊎ (new ≡ old)
 
 -- the ticket of this child, whatever its number in its job
 pub record IsHanded (old : Moved) (child : SpawnRecord) (new : Moved) : Type 0 where
@@ -33,16 +34,16 @@ pub record IsHanded (old : Moved) (child : SpawnRecord) (new : Moved) : Type 0 w
 
 -- into the worker's own lane, and the desk is as it was; or it is parked at the desk, and the lanes
 -- are as they were
-abbrev pub IsKeptBeside : Moved → LockedBook → Ticket → Moved → LockedBook → Type 0
+abbrev pub IsKeptBeside : Moved → LockedState → Ticket → Moved → LockedState → Type 0
 IsKeptBeside lanes desk ticket lanes_after desk_after =
-    (Puts lanes (ticket ∷ []) lanes_after × (desk_after ≡ desk))
+    (Puts task_of lanes (ticket ∷ []) lanes_after × (desk_after ≡ desk))
     ⊎ ((lanes_after ≡ lanes) × IsParked desk ticket desk_after)
 
 -- The book at the desk has this child, whose parent is the task whose turn it is. Its ticket is
 -- kept.
-pub record IsHandedAt (turn : ℕ) (child : SpawnRecord) (lanes : Moved) (desk : LockedBook)
-    (lanes_after : Moved) (desk_after : LockedBook) : Type 0 where
-  pub spawned : LockedBook
+pub record IsHandedAt (turn : ℕ) (child : SpawnRecord) (lanes : Moved) (desk : LockedState)
+    (lanes_after : Moved) (desk_after : LockedState) : Type 0 where
+  pub spawned : LockedState
   pub refused : spawned.has_refused ≡ desk.has_refused
   pub waiting : spawned.book.waiting ≡ desk.book.waiting
   pub event : HasMore desk.book

@@ -1,7 +1,8 @@
 pub mod Outcomes
 pub mod PoolFaultCodes
 pub mod Final
-pub mod Noted
-pub mod Placed
+pub mod EndedAlone
 pub mod Handing
+pub mod Locked
 pub mod AtDesk
+pub mod Seats

@@ -1,5 +1,5 @@
 -- What an outcome says of its ticket.
-use Rattle.std.specs.Prelude.{◌≡◌, List, length, map, slice_get, Bool, true, false, Some}
+use Rattle.std.specs.Prelude.{◌≡◌, List, map, slice_get, Bool, true, false, Some}
 use Rattle.machine_model.specs.Machine.{Entries}
 use Rattle.machine_model.specs.JobState.{entries_of}
 use Rattle.verifier.specs.Checked.{Checked, program_of}

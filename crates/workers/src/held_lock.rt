@@ -2,12 +2,13 @@
 
 use crate::worker::AtDesk;
 use std::cell::RefCell;
+use task_register::JobId;
 use task_run::Listener;
 
 /// A stay, and whether the task has spawned since the last stretch of it ended.
 #[derive(Drop)]
-struct Visit<'a> {
-    desk: AtDesk<'a>,
+struct Visit<'a, J: JobId> {
+    desk: AtDesk<'a, J>,
     has_spawned: bool,
 }
 
@@ -15,20 +16,20 @@ struct Visit<'a> {
 /// worker that let go of the desk in between would wait for it again at each. So it stays, and
 /// leaves once a stretch of the task has gone by without a spawn, at its end at the latest.
 #[derive(Drop)]
-pub(crate) struct HeldLock<'a> {
-    visit: RefCell<Option<Visit<'a>>>,
+pub(crate) struct HeldLock<'a, J: JobId> {
+    visit: RefCell<Option<Visit<'a, J>>>,
 }
 
-impl<'a> HeldLock<'a> {
+impl<'a, J: JobId> HeldLock<'a, J> {
     /// The worker is away from the desk.
-    pub fn away() -> HeldLock<'a> {
+    pub fn away() -> HeldLock<'a, J> {
         HeldLock {
             visit: RefCell::new(None),
         }
     }
 
     /// The desk, if the worker is at it. Whoever drops what this gives leaves it.
-    pub fn take(&self) -> Option<AtDesk<'a>> {
+    pub fn take(&self) -> Option<AtDesk<'a, J>> {
         match self.visit.try_replace(None) {
             Ok(Some(visit)) => Some(visit.desk),
             _ => None,
@@ -36,19 +37,19 @@ impl<'a> HeldLock<'a> {
     }
 
     /// Stays at the desk after a spawn.
-    pub fn go_on(&self, desk: AtDesk<'a>) {
+    pub fn go_on(&self, desk: AtDesk<'a, J>) {
         self.set(Visit {
             desk,
             has_spawned: true,
         });
     }
 
-    fn set(&self, visit: Visit<'a>) {
+    fn set(&self, visit: Visit<'a, J>) {
         let _ = self.visit.try_replace(Some(visit));
     }
 }
 
-impl Listener for HeldLock<'_> {
+impl<J: JobId> Listener for HeldLock<'_, J> {
     /// Leaves the desk, unless the task spawned a child in this stretch.
     fn pause(&self) {
         if let Ok(Some(visit)) = self.visit.try_replace(None)

@@ -13,7 +13,7 @@ pub use work::{entry_in, work_one};
 // what lies under the job's lock
 mod fault;
 mod locked_book;
-mod noting;
+mod seated;
 
 pub use fault::PoolFault;
 
@@ -21,10 +21,11 @@ pub use fault::PoolFault;
 mod bell;
 mod held_lock;
 mod pool;
+mod run;
 mod watch;
 mod worker;
 
-pub use pool::{run_here, run_job};
+pub use run::{run_here, run_job};
 
 // the deque of one worker, for whoever runs tasks in threads of their own
 pub use lanes::{Lane, Owning, Pass, Stealing, Stolen, Thief, lane};

@@ -1,20 +1,23 @@
 //! A worker in its thread: where it finds tasks, and whom the one that it runs asks.
 
-ghost use Rattle.std.specs.Prelude.{◌≡◌, ◌≤◌, vec_len};
-ghost use Rattle.std.proofs.Props.{props};
-ghost use Rattle.job_core.specs.Admitted.{AreOwn};
+ghost use Rattle.std.specs.Prelude.{◌≡◌, ◌≤◌, length};
 
 use crate::bell::Bell;
+use crate::gate::{Gate, Heard};
 use crate::held_lock::HeldLock;
 use crate::locked_book::{Found, LockedBook};
-use crate::work::entry_in;
+use crate::seated::{SeatedOutcome, SeatedTicket, Turn};
+use crate::work::{entry_in, work_heard};
 use credit_book::{Outcome, Ticket};
 use crossbeam_utils::CachePadded;
 use helpers::{Entry, SpawnRecord, Spawner};
 use lanes::Lanes;
 use std::alloc::Global;
+use std::marker::Model;
 use std::sync::{Mutex, MutexGuard, Wait};
 use std::{hint, thread};
+use task_register::JobId;
+use task_run::Frames;
 use verifier::Verified;
 
 /// How many outcomes a worker holds back at least, so that the book is told of many at once.
@@ -38,28 +41,85 @@ const MOMENTS: u32 = 8;
 const PATIENCE: u32 = 100;
 
 /// What the workers of a job share, beside their lanes. The bell, the lock, what is under it and the
-/// programs lie on lines of their own, so that who tries the lock holds nobody else up.
+/// programs lie on lines of their own, so that who tries the lock holds nobody else up. Contracts see
+/// the programs, by which each task of the job runs.
 #[derive(Drop)]
-pub(crate) struct Shared {
-    pub programs: Vec<Verified>,
-    pub bell: CachePadded<Bell>,
-    pub desk: CachePadded<Mutex<CachePadded<LockedBook>>>,
-    ghost few: { vec_len programs ≤ 16 },
-    ghost own: { AreOwn programs.items } by { Prim.hlevel props },
+pub(crate) struct Shared<J: JobId> {
+    programs: Vec<Verified>,
+    bell: CachePadded<Bell>,
+    desk: CachePadded<Mutex<CachePadded<LockedBook<J>>>>,
 }
 
-impl Shared {
+impl<J: JobId> Model for Shared<J> {
+    ghost use Rattle.std.specs.Prelude.{◌≡◌, ◌≤◌, List, length, map};
+    ghost use Rattle.verifier.specs.Checked.{Checked, program_of};
+    ghost use Rattle.job_core.specs.Admitted.{AreOwn};
+    ghost use Rattle.task_register.specs.declared.seats.EndedTask.{EndedTask};
+    ghost use Rattle.job_answer.specs.OneAnswer.{RunsOrNot};
+
+    ghost Value = { List Checked };
+
+    ghost view = { λ s. s.programs.items };
+
+    ghost invariant = { λ s. (length s.programs.items ≤ 16) × AreOwn s.programs.items
+        × ((o : EndedTask) → RunsOrNot (map program_of s.programs.items) o → J.runs o) };
+}
+
+impl<J: JobId> Shared<J> {
+    ghost use Rattle.std.specs.Prelude.{map};
+    ghost use Rattle.verifier.specs.Checked.{program_of};
+    ghost use Rattle.job_core.specs.Admitted.{AreOwn};
+    ghost use Rattle.task_register.specs.declared.seats.EndedTask.{EndedTask};
+    ghost use Rattle.job_answer.specs.OneAnswer.{RunsOrNot};
+
+    /// The programs, and the desk under a lock.
+    pub fn new(programs: Vec<Verified>, desk: LockedBook<J>) -> Shared<J>
+        requires few { length programs.items ≤ 16 }
+        requires own { AreOwn programs.items }
+        requires runs { (o : EndedTask) → RunsOrNot (map program_of programs.items) o → J.runs o }
+        ensures { result ≡ programs.items }
+    {
+        Shared {
+            programs,
+            bell: CachePadded::new(Bell::new()),
+            desk: CachePadded::new(Mutex::new(CachePadded::new(desk))),
+        }
+    }
+
     /// The programs of the job.
     pub fn list(&self) -> &[Verified]
-        ensures programs { result.now ≡ self.now.programs.items }
+        ensures programs { result.now ≡ self.now }
+        ensures few { length result.now ≤ 16 }
         ensures own { AreOwn result.now }
+        ensures runs { (o : EndedTask) → RunsOrNot (map program_of result.now) o → J.runs o }
     {
         &self.programs
+    }
+
+    /// The bell that wakes workers.
+    pub fn bell(&self) -> &Bell {
+        &self.bell
+    }
+
+    /// The desk, for one worker alone, if nobody is at it.
+    fn desk_if_free(&self) -> Option<AtDesk<'_, J>> {
+        self.desk.try_lock()
+    }
+
+    /// The desk, for one worker alone, once nobody else is at it.
+    fn desk<R: Wait>(&self, rt: &R) -> AtDesk<'_, J> {
+        self.desk.lock(rt)
+    }
+
+    /// What lies under the lock, once all workers have left.
+    pub fn into_desk(self) -> LockedBook<J> {
+        let Shared { desk, .. } = self;
+        desk.into_inner().into_inner().into_inner()
     }
 }
 
 /// The desk, for one worker alone until it lets go of this.
-pub(crate) type AtDesk<'a> = MutexGuard<'a, CachePadded<LockedBook>>;
+pub(crate) type AtDesk<'a, J> = MutexGuard<'a, CachePadded<LockedBook<J>>>;
 
 /// Waits ahead of another try.
 fn wait_a_while(turn: u32) {
@@ -72,45 +132,50 @@ fn wait_a_while(turn: u32) {
 }
 
 /// The desk, for this worker alone until it lets go of it.
-fn take_desk<'a, R: Wait>(rt: &R, shared: &'a Shared) -> AtDesk<'a> {
+fn take_desk<'a, R: Wait, J: JobId>(rt: &R, shared: &'a Shared<J>) -> AtDesk<'a, J> {
     for turn in 0..TRIES {
-        if let Some(desk) = shared.desk.try_lock() {
+        if let Some(desk) = shared.desk_if_free() {
             return desk;
         }
         wait_a_while(turn);
     }
-    shared.desk.lock(rt)
+    shared.desk(rt)
 }
 
-/// A worker's lanes, the number of the task that it runs, whether that has a child, whether the
-/// last claim was made at the desk, and what the worker ran that the book hasn't been told of.
+/// A worker's lanes, the task that it runs, whether that has a child, whether the last claim was made
+/// at the desk, and what the worker ran that the book hasn't been told of.
 #[derive(Drop)]
-pub(crate) struct Worker<'a, 'b, R> {
+pub(crate) struct Worker<'a, 'b, R, J: JobId> {
     rt: &'a R,
-    pub shared: &'a Shared,
-    stay: &'b HeldLock<'a>,
-    lanes: Lanes,
-    turn: u32,
+    pub shared: &'a Shared<J>,
+    stay: &'b HeldLock<'a, J>,
+    lanes: Lanes<SeatedTicket<J>>,
+    turn: Option<Turn<J>>,
     has_child: bool,
     has_looked: bool,
-    ended: Vec<Outcome>,
+    ended: Vec<SeatedOutcome<J>>,
 }
 
-impl<'a, 'b, R: Wait> Worker<'a, 'b, R> {
-    ghost use Rattle.std.specs.Prelude.{◌⊎◌, ◌↔◌, [], false, reverse, IfErr, IfOk, IsTrue};
-    ghost use Rattle.workers.specs.declared.locked_book.LockedBook.{LockedBook};
-    ghost use Rattle.workers.specs.declared.locked_book.Found.TheVariants.{Nothing};
+impl<'a, 'b, R: Wait, J: JobId + 'static> Worker<'a, 'b, R, J> {
+    ghost use Rattle.std.specs.Prelude.{◌⊎◌, ◌↔◌, ◌<◌, ◌^◌, [], false, reverse, IfErr, IfOk, IsTrue};
+    ghost use Rattle.workers.specs.Locked.{LockedState};
+    ghost use Rattle.workers.specs.declared.locked_book.Found.TheVariants.{Nothing, Ready};
+    ghost use Rattle.credit_book.specs.declared.task.Ticket.{Ticket};
     ghost use Rattle.workers.specs.AtDesk.{AreEnded, IsEnded};
     ghost use Rattle.workers.specs.Handing.{Finds, IsHandedAt, IsHeldBack, IsKeptBeside};
+    ghost use Rattle.workers.specs.Seats.{HasOneMore, IsOver, task_in};
+    ghost use Rattle.std.specs.Prelude.{Some};
+    ghost use Rattle.task_register.specs.Handing.{IsSeatOf};
+    ghost use Rattle.task_register.specs.declared.seats.SeatedTask.{SeatedTask};
 
     /// A worker that runs no task yet. It holds no outcome back where there is no memory for that.
     pub fn new(
         rt: &'a R,
         alloc: Global,
-        shared: &'a Shared,
-        stay: &'b HeldLock<'a>,
-        lanes: Lanes,
-    ) -> Worker<'a, 'b, R>
+        shared: &'a Shared<J>,
+        stay: &'b HeldLock<'a, J>,
+        lanes: Lanes<SeatedTicket<J>>,
+    ) -> Worker<'a, 'b, R, J>
         ensures { result.shared.now ≡ shared.now }
     {
         let ended = match Vec::with_capacity(alloc, MOST_HELD_BACK) {
@@ -122,7 +187,7 @@ impl<'a, 'b, R: Wait> Worker<'a, 'b, R> {
             shared,
             stay,
             lanes,
-            turn: 0,
+            turn: None,
             has_child: false,
             has_looked: false,
             ended,
@@ -130,7 +195,7 @@ impl<'a, 'b, R: Wait> Worker<'a, 'b, R> {
     }
 
     /// The desk, for this worker alone until it lets go of it.
-    fn desk(&self) -> AtDesk<'a> {
+    fn desk(&self) -> AtDesk<'a, J> {
         match self.stay.take() {
             Some(desk) => desk,
             None => take_desk(self.rt, self.shared),
@@ -138,39 +203,47 @@ impl<'a, 'b, R: Wait> Worker<'a, 'b, R> {
     }
 
     /// The same, where nobody else is at it.
-    fn desk_if_free(&self) -> Option<AtDesk<'a>> {
+    fn desk_if_free(&self) -> Option<AtDesk<'a, J>> {
         match self.stay.take() {
             Some(desk) => Some(desk),
-            None => self.shared.desk.try_lock(),
+            None => self.shared.desk_if_free(),
         }
     }
 
     /// The ticket of a task to run: of its own lane, or else of another's, or else one that is
-    /// parked. The children that the task spawns come back here. Before a task that may take long,
-    /// and where there is none, the book is told of all that has ended here.
-    pub fn find(&mut self) -> Found
+    /// parked. The worker keeps its seat, and the children that the task spawns come back here.
+    /// Before a task that may take long, and where there is none, the book is told of all that has
+    /// ended here.
+    pub fn find(&mut self) -> Found<Ticket>
         ensures shared { self.new.shared ≡ self.old.shared }
-        ensures found { Finds self.old.lanes result self.new.lanes self.new.turn }
+        ensures found { Finds self.old.lanes result self.new.lanes (task_in self.new.turn).number }
+        ensures seat { (ticket : Ticket) → result ≡ Ready ticket → (task : SeatedTask)
+            × (self.new.turn ≡ Some task) × IsSeatOf ticket task × (ticket.number < 2 ^ 32) }
         ensures kept { (self.new.ended.items ≡ self.old.ended.items) ⊎ (self.new.ended.items ≡ []) }
         ensures told { result ≡ Nothing → self.new.ended.items ≡ [] }
     {
         let found = match self.lanes.next() {
-            Some(ticket) => Found::Ready(ticket),
+            Some(seated) => Found::Ready(seated),
             None => self.claim(),
         };
-        if let Found::Ready(ticket) = &found {
-            self.turn = ticket.number();
-            self.has_child = false;
-            if ticket.held() > BRIEF && !self.end_held_back() {
-                return Found::Refusal;
+        match found {
+            Found::Ready(seated) => {
+                let (ticket, seat) = seated.into_parts();
+                self.turn = Some(Turn::new(ticket.number(), seat));
+                self.has_child = false;
+                if ticket.held() > BRIEF && !self.end_held_back() {
+                    return Found::Refusal;
+                }
+                Found::Ready(ticket)
             }
+            Found::Nothing => Found::Nothing,
+            Found::Refusal => Found::Refusal,
         }
-        found
     }
 
     /// The ticket that was parked first, once the book knows of all that has ended here. A worker
     /// that has nothing to tell doesn't wait for the desk: those that have would have to wake it.
-    fn claim(&mut self) -> Found
+    fn claim(&mut self) -> Found<SeatedTicket<J>>
         ensures shared { (self.new.shared ≡ self.old.shared) × (self.new.lanes ≡ self.old.lanes) }
         ensures told { self.new.ended.items ≡ [] }
     {
@@ -198,7 +271,7 @@ impl<'a, 'b, R: Wait> Worker<'a, 'b, R> {
 
     /// Tells the book at the desk of all that has ended here, in the order in which it ended.
     /// Whether it has refused no end so far.
-    fn tell(&mut self, desk: &mut LockedBook) -> bool
+    fn tell(&mut self, desk: &mut LockedBook<J>) -> bool
         ensures same { (self.new.shared ≡ self.old.shared) × (self.new.lanes ≡ self.old.lanes)
             × (self.new.turn ≡ self.old.turn) }
         ensures refused { IsTrue result ↔ (desk.new.has_refused ≡ false) }
@@ -236,11 +309,11 @@ impl<'a, 'b, R: Wait> Worker<'a, 'b, R> {
 
     /// Tells the book at the desk of all that has ended here, and then of this. Whether it has
     /// refused no end so far.
-    fn tell_with(&mut self, desk: &mut LockedBook, outcome: Outcome) -> bool
+    fn tell_with(&mut self, desk: &mut LockedBook<J>, outcome: SeatedOutcome<J>) -> bool
         ensures same { (self.new.shared ≡ self.old.shared) × (self.new.lanes ≡ self.old.lanes)
             × (self.new.turn ≡ self.old.turn) }
         ensures refused { IsTrue result ↔ (desk.new.has_refused ≡ false) }
-        ensures ended { (between : LockedBook)
+        ensures ended { (between : LockedState)
             × AreEnded desk.old (reverse self.old.ended.items) between
             × IsEnded between outcome desk.new }
         ensures all { self.new.ended.items ≡ [] }
@@ -249,13 +322,34 @@ impl<'a, 'b, R: Wait> Worker<'a, 'b, R> {
         desk.end(outcome)
     }
 
-    /// Ends a task, or holds its outcome back where there is room for it. Whether the book has
-    /// refused no end so far, as far as this worker knows.
+    /// Runs the task of the ticket that was found to its end, or not at all. What the seat knows
+    /// behind it is what the task was given.
+    pub fn run<G: Gate>(
+        &mut self,
+        alloc: Global,
+        ticket: Ticket,
+        frames: &mut Frames,
+        heard: &Heard<'_, '_, G, HeldLock<'a, J>>,
+    ) -> Outcome
+        requires seat { (task : SeatedTask) × (self.old.turn ≡ Some task) × IsSeatOf ticket task }
+        requires few { ticket.number < 2 ^ 32 }
+        ensures { IsOver J.runs self.new.turn result }
+    {
+        let programs = self.shared.list();
+        work_heard(alloc, ticket, programs, self, frames, heard)
+    }
+
+    /// Ends the task whose turn it is, or holds its outcome back where there is room for it. Whether
+    /// the book has refused no end so far, as far as this worker knows.
     pub fn end(&mut self, outcome: Outcome) -> bool
-        ensures same { (self.new.shared ≡ self.old.shared) × (self.new.lanes ≡ self.old.lanes)
-            × (self.new.turn ≡ self.old.turn) }
+        requires { IsOver J.runs self.old.turn outcome }
+        ensures same { (self.new.shared ≡ self.old.shared) × (self.new.lanes ≡ self.old.lanes) }
         ensures told { IsHeldBack self.old.ended.items outcome self.new.ended.items }
     {
+        let outcome = match self.turn.take() {
+            Some(turn) => SeatedOutcome::new(outcome, turn.into_parts().1),
+            None => unreachable!(),
+        };
         if self.ended.len() < self.ended.capacity() {
             self.ended.push_reserved(outcome);
             return self.ended.len() < FEW_HELD_BACK || self.end_if_free();
@@ -268,33 +362,40 @@ impl<'a, 'b, R: Wait> Worker<'a, 'b, R> {
     /// wakes a worker that sleeps. Of the children that aren't brief all but the first are parked:
     /// they may spawn, and a worker claims one where no lane has a ticket. So few workers spawn at
     /// once, and few tickets stand in lanes.
-    fn keep(&mut self, desk: &mut LockedBook, ticket: Ticket)
+    fn keep(&mut self, desk: &mut LockedBook<J>, ticket: SeatedTicket<J>)
         ensures same { (self.new.shared ≡ self.old.shared) × (self.new.turn ≡ self.old.turn)
             × (self.new.ended ≡ self.old.ended) }
         ensures kept { IsKeptBeside self.old.lanes desk.old ticket self.new.lanes desk.new }
     {
         let is_first = !self.has_child;
         self.has_child = true;
-        if is_first || ticket.held() <= BRIEF {
+        if is_first || ticket.ticket().held() <= BRIEF {
             if let Err(back) = self.lanes.push(ticket) {
                 desk.park(back);
             }
         } else {
             desk.park(ticket);
         }
-        self.shared.bell.ring();
+        self.shared.bell().ring();
     }
 
-    /// Spawns a child of the task whose turn it is, at the desk, and keeps its ticket.
-    fn hand(&mut self, desk: &mut LockedBook, child: SpawnRecord) -> Result<(), SpawnRecord>
-        ensures same { (self.new.shared ≡ self.old.shared) × (self.new.turn ≡ self.old.turn)
-            × (self.new.ended ≡ self.old.ended) }
-        ensures handed { IfOk result (λ _. IsHandedAt self.old.turn child self.old.lanes desk.old
-            self.new.lanes desk.new) }
+    /// Spawns a child of the task whose turn it is, at the desk, and keeps its ticket. The task's seat
+    /// knows the child. A worker that runs no task refuses.
+    fn hand(&mut self, desk: &mut LockedBook<J>, child: SpawnRecord) -> Result<(), SpawnRecord>
+        ensures same { (self.new.shared ≡ self.old.shared) × (self.new.ended ≡ self.old.ended) }
+        ensures handed { IfOk result (λ _. IsHandedAt (task_in self.old.turn).number child
+            self.old.lanes desk.old self.new.lanes desk.new) }
+        ensures seat { IfOk result (λ _. HasOneMore self.old.turn child self.new.turn) }
         ensures back { IfErr result
             (λ back. (back ≡ child) × (self.new ≡ self.old) × (desk.new ≡ desk.old)) }
     {
-        match desk.spawn(self.turn, child) {
+        let Some(turn) = self.turn.take() else {
+            return Err(child);
+        };
+        let (number, seat) = turn.into_parts();
+        let (seat, spawned) = desk.spawn(seat, number, child);
+        self.turn = Some(Turn::new(number, seat));
+        match spawned {
             Ok(ticket) => {
                 self.keep(desk, ticket);
                 Ok(())
@@ -304,24 +405,26 @@ impl<'a, 'b, R: Wait> Worker<'a, 'b, R> {
     }
 }
 
-impl<R: Wait> Spawner for Worker<'_, '_, R> {
+impl<R: Wait, J: JobId + 'static> Spawner for Worker<'_, '_, R, J> {
     ghost use Rattle.std.specs.Prelude.{◌≡◌, map, MatchResult};
     ghost use Rattle.machine_model.specs.JobState.{entries_of};
     ghost use Rattle.verifier.specs.Checked.{program_of};
     ghost use Rattle.workers.specs.Handing.{IsHanded};
+    ghost use Rattle.workers.specs.Seats.{HasOneMore};
 
-    ghost entries = { λ hands. entries_of (map program_of hands.shared.now.programs.items) };
+    ghost entries = { λ hands. entries_of (map program_of hands.shared.now) };
 
     ghost asks = { λ hands child. Unit {0} };
 
     ghost spawns = { λ old child reply new.
         MatchResult reply (λ _. IsHanded old.lanes child new.lanes × (new.shared ≡ old.shared)
-        × (new.turn ≡ old.turn) × (new.ended ≡ old.ended)) (λ _. new ≡ old) };
+        × (new.ended ≡ old.ended) × HasOneMore old.turn child new.turn)
+        (λ _. new ≡ old) };
 
     ghost calls = { λ old helper arguments answer new. (answer ≡ 0) × (new ≡ old) };
 
     fn entry(&self, program: u64) -> Option<Entry> {
-        entry_in(&self.shared.programs, program)
+        entry_in(self.shared.list(), program)
     }
 
     fn spawn(&mut self, child: SpawnRecord) -> Result<(), SpawnRecord> {

@@ -1,14 +1,40 @@
-use Rattle.std.proofs.Common.{ℕ, ◌∙◌, refl, sym, subst, ap, length}
-use Rattle.credit_book.specs.History.{IsHistoryOf}
+use Rattle.std.proofs.Common.{◌∙◌, refl, sym, subst, ap}
+use Rattle.credit_book.specs.Boards.{Sign}
+use Rattle.credit_book.specs.Books.{IsReport}
+use Rattle.credit_book.specs.History.{IsHistoryOf, IsComplete, table_of}
+use Rattle.workers.specs.Locked.{LockedState}
 use Rattle.workers.proofs.Endings.{final_of}
 use Rattle.workers.proofs.locked_book.LockedBook.close.Goals as goal
 
-pub returns-clause-report : goal.returns-clause-report
-returns-clause-report c =
-    let closed = c.in-Ok.ensures in
-    let book = c.args.self.book in
-    let legal : IsHistoryOf c.args.job c.args.issued book.history =
-    subst (λ (j : ℕ). IsHistoryOf j c.args.issued book.history) (sym c.job.ensures.job ∙ c.if-job.false)
-    (subst (λ (i : ℕ). IsHistoryOf book.board.job i book.history) (sym c.issued.ensures.issued ∙ c.if-issued.false) closed.legal) in
-    final_of c.args.job c.args.issued c.args.size book.size book.history c.in-Ok.report legal (closed.variant.0 refl) closed.report
-    (sym (ap length c.deref-bytes.ensures.value) ∙ c.if-bytes-size.false)
+pub returns-in-Ok : goal.returns-in-Ok
+returns-in-Ok g c =
+    let inv = c.self.invariant in
+    let book = c.self.inside.book in
+    let legal = subst (λ (s : Sign). IsHistoryOf s.job s.issued book.history) inv.2 c.in-Ok.ensures.legal in
+    let complete = c.in-Ok.ensures.variant.0 refl in
+    let report = subst (λ n. IsReport n book.history c.in-Ok.report) inv.3 c.in-Ok.ensures.report in
+    record {
+      report = final_of _ _ _ book.history c.in-Ok.report legal complete report;
+      closes = record {
+        history = book.history;
+        known = c.self.inside.register.known;
+        legal = legal;
+        complete = complete;
+        report_of = report;
+        agrees = inv.0;
+        all = c.look.ensures.all;
+        first = c.look.ensures.root;
+        each = c.look.ensures.runs;
+      };
+      accepted = sym (ap (λ (d : LockedState). d.has_refused) c.self.view_is) ∙ c.if-has_refused.false;
+      own = subst (λ (d : LockedState). IsReport d.book.size d.book.history c.in-Ok.report) c.self.view_is c.in-Ok.ensures.report;
+      refused = tt;
+    }
+
+pub returns-clause-refused : goal.returns-clause-refused
+returns-clause-refused g c = (
+  refl,
+  λ accepted complete.
+      let done : IsComplete (table_of c.self.inside.book.history) = subst (λ (d : LockedState). IsComplete (table_of d.book.history)) (sym c.self.view_is) complete in
+      absurd (let both = c.in-Err.ensures.variant.1 done in cc),
+)

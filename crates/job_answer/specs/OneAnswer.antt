@@ -1,0 +1,58 @@
+-- The one answer of a job on threads.
+use Rattle.std.specs.Prelude.{◌≡◌, ℕ, Bool, true, false, List, [], map, length, replicate, slice_get, Some}
+use Rattle.std.specs.List.Sorted.{IsPermutation}
+use Rattle.machine_model.specs.Machine.{Program}
+use Rattle.task_trees.specs.Eval.{Finished}
+use Rattle.task_trees.specs.Answer.{RootComes, joined, spent_in}
+use Rattle.credit_book.specs.declared.event.TaskEnd.{TaskEnd}
+use Rattle.credit_book.specs.declared.book.Report.{Report}
+use Rattle.task_register.specs.declared.seats.EndedTask.{EndedTask}
+use Rattle.job_answer.specs.SpawnTree.{TaskRun, IsSpawnTree, NoneRefused, finished_of}
+use Rattle.job_answer.specs.Gathered.{IsRun, laid}
+
+-- the task wasn't run: it spent nothing, has no child, and left its bytes as they were
+pub record IsNotRun (o : EndedTask) : Type 0 where
+  pub used : o.used ≡ 0
+  pub r0 : o.r0 ≡ 0
+  pub base : o.base ≡ o.own.birth.base
+  pub bytes : o.bytes ≡ o.own.birth.bytes
+  pub children : o.own.children ≡ []
+
+abbrev pub runs_by : Bool → List Program → EndedTask → Type 0
+runs_by true programs o = IsRun programs o
+runs_by false programs o = IsNotRun o
+
+-- what holds of a task that is over: it ran by itself on what it was started with, or not at all
+abbrev pub RunsOrNot : List Program → EndedTask → Type 0
+RunsOrNot programs o = runs_by o.ran programs o
+
+abbrev pub AllRan : Report → Type 0
+AllRan report = (n : ℕ) (e : TaskEnd) → slice_get report.tasks.items n ≡ Some e → e.ran ≡ true
+
+-- the report says this of the run of this number
+pub record IsToldAs (n : ℕ) (t : TaskRun) (e : TaskEnd) : Type 0 where
+  pub number : e.number ≡ n
+  pub program : e.program ≡ t.birth.program
+  pub arg : e.arg ≡ t.birth.arg
+  pub given : e.given ≡ t.birth.share
+  pub spent : e.spent ≡ t.last.used
+  pub r0 : e.r0 ≡ t.r0
+
+-- The report tells of tasks that agree from parent to child, each of which ran by itself, and its
+-- buffer is what they left, in the order of their ends. Where none of them was refused a spawn they
+-- are what the root comes to, in some order, and the report's buffer and the credit spent are those
+-- of this answer.
+pub record HasOneAnswer (programs : List Program) (credit : ℕ) (buffer : List ℕ) (report : Report) :
+    Type 0 where
+  pub parents : List ℕ
+  pub tasks : List TaskRun
+  pub family : IsSpawnTree programs credit buffer parents tasks
+  pub count : length report.tasks.items ≡ length tasks
+  pub told : (n : ℕ) (t : TaskRun) → slice_get tasks n ≡ Some t → (e : TaskEnd)
+      × (slice_get report.tasks.items n ≡ Some e) × IsToldAs n t e
+  pub ended : List Finished
+  pub order : IsPermutation ended (map finished_of tasks)
+  pub left : report.buffer.items ≡ laid (replicate (length buffer) 0) ended
+  pub answer : NoneRefused tasks → (fs : List Finished) × RootComes programs credit buffer fs
+      × IsPermutation (map finished_of tasks) fs
+      × (report.buffer.items ≡ joined (length buffer) fs) × (report.spent ≡ spent_in fs)

@@ -1,0 +1,108 @@
+-- Each task of a closed job's report ran by itself, or wasn't run.
+use Rattle.std.proofs.Common.{◌≡◌, ℕ, zero, suc, ◌<◌, ◌==◌, List, [], ◌∷◌, map, length, get_or, Bool, true, false, Option, Some, refl, sym, ap, ◌∙◌, subst, arith}
+use Rattle.std.specs.Prelude.{All, slice_get, cond}
+use Rattle.std.specs.List.{count_by}
+use Rattle.std.proofs.lemmas.Bool.Decides.{nat_tests}
+use Rattle.std.proofs.lemmas.List.Sums.{sum_by-cons}
+use Rattle.std.proofs.lemmas.Option.{slice_get-get_or}
+use Rattle.machine_model.specs.Machine.{Program}
+use Rattle.verifier.specs.Checked.{Checked, program_of}
+use Rattle.credit_book.specs.declared.event.TaskEnd.{TaskEnd}
+use Rattle.credit_book.specs.declared.book.Report.{Report}
+use Rattle.credit_book.specs.History.{table_of}
+use Rattle.task_trees.specs.Solo.{IsGiven}
+use Rattle.task_register.specs.declared.seats.TaskStart.{TaskStart}
+use Rattle.task_register.specs.declared.seats.EndedTask.{EndedTask}
+use Rattle.task_register.specs.Rule.{EachIs}
+use Rattle.job_answer.specs.Agreement.{Tells, EndsSo}
+use Rattle.job_answer.specs.Gathered.{IsRun}
+use Rattle.job_answer.specs.Closing.{ClosesJob}
+use Rattle.job_answer.specs.OneAnswer.{RunsOrNot, runs_by}
+use Rattle.job_answer.proofs.Desking.{desk_once}
+use Rattle.job_answer.proofs.Keyed.{times_below}
+use Rattle.workers.specs.EndedAlone.{EndedAlone, GivesAlone, ended_alone}
+
+one_some : {X : Type 0} (o : Option X) (a b : X) → o ≡ Some a → o ≡ Some b → a ≡ b
+one_some o a b x y = cc
+
+-- a program of the list as the machine has it is one of the list
+unmapped : (programs : List Checked) (n : ℕ) (p : Program) → slice_get (map program_of programs) n ≡ Some p →
+    (c : Checked) × (slice_get programs n ≡ Some c) × (program_of c ≡ p)
+unmapped [] n p e = absurd (cc)
+unmapped (x ∷ xs) zero p e = (x, refl, one_some (Some (program_of x)) (program_of x) p refl e)
+unmapped (x ∷ xs) (suc n) p e = unmapped xs n p e
+
+each_at : (P : EndedTask → Type 0) (os : List EndedTask) (k : ℕ) (o : EndedTask) → EachIs P os → slice_get os k ≡ Some o → P o
+each_at P [] k o each e = absurd (cc)
+each_at P (x ∷ xs) zero o each e = subst P (one_some (Some x) x o refl e) each.0
+each_at P (x ∷ xs) (suc k) o each e = each_at P xs k o each.1 e
+
+one_where : Bool → ℕ
+one_where b = cond b 1 0
+
+-- where some is counted, there is one
+some_counted : (os : List EndedTask) (n : ℕ) → count_by (λ (o : EndedTask). o.own.number == n) os ≡ 1 →
+    (k : ℕ) × (o : EndedTask) × (slice_get os k ≡ Some o) × (o.own.number ≡ n)
+unfolding one_where
+some_counted [] n one = absurd (omega (arith, one))
+some_counted (x ∷ xs) n one = by_test (x.own.number == n) refl (λ rest. some_counted xs n rest)
+  where
+    by_test : (b : Bool) → (x.own.number == n) ≡ b →
+        (count_by (λ (o : EndedTask). o.own.number == n) xs ≡ 1 → (k : ℕ) × (o : EndedTask) × (slice_get xs k ≡ Some o) × (o.own.number ≡ n)) →
+        (k : ℕ) × (o : EndedTask) × (slice_get (x ∷ xs) k ≡ Some o) × (o.own.number ≡ n)
+    by_test true t ih = (0, x, refl, grind (arith, nat_tests))
+    by_test false t ih =
+        let split = sum_by-cons (λ (o : EndedTask). one_where (o.own.number == n)) x xs in
+        let none : one_where (x.own.number == n) ≡ zero = ap one_where t in
+        let later = ih (omega (arith, one, split, none)) in
+        (suc later.0, later.1, later.2, later.3)
+
+gives : (programs : List Checked) (o : EndedTask) (e : TaskEnd) (n : ℕ) → Tells n o.own.birth e → e.spent ≡ o.used → e.r0 ≡ o.r0 → IsRun (map program_of programs) o →
+    GivesAlone programs e.program e.arg e.given e.r0 e.spent
+gives programs o e n tells spent r0 run =
+    let p = unmapped programs o.own.birth.program run.program run.there in
+    rw (tells.program, tells.arg, tells.given, spent, r0) (record {
+      program = p.0;
+      named = p.1;
+      bytes = o.own.birth.bytes;
+      suffices = subst (λ (q : Program). IsGiven q o.own.birth.share o.own.birth.bytes) (sym p.2) run.suffices;
+      asked = run.asked;
+      last = run.last;
+      alone = rw p.2 run.alone;
+      used_is = run.used;
+    })
+
+ended_by_ran : (b : Bool) (programs : List Checked) (o : EndedTask) (e : TaskEnd) (n : ℕ) → o.ran ≡ b → Tells n o.own.birth e → e.spent ≡ o.used → e.r0 ≡ o.r0 → e.ran ≡ o.ran →
+    runs_by b (map program_of programs) o → ended_alone b programs e
+ended_by_ran true programs o e n ran tells spent r0 same run = gives programs o e n tells spent r0 run
+ended_by_ran false programs o e n ran tells spent r0 same run =
+    record { ran = same ∙ ran; spent = spent ∙ run.used; r0 = r0 ∙ run.r0 }
+
+module _ (programs : List Checked) (job issued size : ℕ) (root : TaskStart) (report : Report)
+    (closed : ClosesJob job issued size root (RunsOrNot (map program_of programs)) report) where
+  -- the task of a number
+  one_alone : (n : ℕ) (e : TaskEnd) → slice_get report.tasks.items n ≡ Some e → n < length closed.known.starts → EndedAlone programs e
+  one_alone n e here lt =
+      let counted = desk_once closed.known closed.history closed.agrees closed.complete n ∙ times_below n (length closed.known.starts) lt in
+      let found = some_counted closed.known.over n counted in
+      let k = found.0 in
+      let o : EndedTask = found.1 in
+      let ends : EndsSo (table_of closed.history).tasks o = closed.agrees.table.ended k o found.2 in
+      let born = (closed.all.tasks k o found.2).birth in
+      let tells = closed.agrees.table.told o.own.number o.own.birth born in
+      let there : slice_get (table_of closed.history).tasks o.own.number ≡ Some e =
+      ap (slice_get (table_of closed.history).tasks) found.3 ∙ sym (ap (λ (ts : List TaskEnd). slice_get ts n) closed.report_of.tasks) ∙ here in
+      let same : ends.end ≡ e = one_some (slice_get (table_of closed.history).tasks o.own.number) ends.end e ends.there there in
+      let told : tells.0 ≡ e = one_some (slice_get (table_of closed.history).tasks o.own.number) tells.0 e tells.1 there in
+      let tell : Tells o.own.number o.own.birth e = subst (λ (x : TaskEnd). Tells o.own.number o.own.birth x) told tells.2 in
+      let spent : e.spent ≡ o.used = subst (λ (x : TaskEnd). x.spent ≡ o.used) same ends.spent in
+      let r0 : e.r0 ≡ o.r0 = subst (λ (x : TaskEnd). x.r0 ≡ o.r0) same ends.r0 in
+      let ran : e.ran ≡ o.ran = subst (λ (x : TaskEnd). x.ran ≡ o.ran) same ends.ran in
+      subst (λ (b : Bool). ended_alone b programs e) (sym ran)
+      (ended_by_ran o.ran programs o e o.own.number refl tell spent r0 ran (each_at (RunsOrNot (map program_of programs)) closed.known.over k o closed.each found.2))
+
+  pub all_alone : All (EndedAlone programs) report.tasks.items
+  all_alone = λ i d lt.
+      let long = closed.agrees.table.long in
+      let tasks : length report.tasks.items ≡ length (table_of closed.history).tasks = ap length closed.report_of.tasks in
+      one_alone i (get_or report.tasks.items i d) (slice_get-get_or report.tasks.items i d lt) (omega (arith, long, tasks, lt))

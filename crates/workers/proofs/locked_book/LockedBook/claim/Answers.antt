@@ -1,0 +1,23 @@
+use Rattle.std.proofs.Common.{sym, subst, ◌∙◌}
+use Rattle.job_answer.specs.Agreement.{RegisterAgrees}
+use Rattle.workers.proofs.RegisterSteps.{claimed, seats_first, seats_more, seats_rest}
+use Rattle.workers.proofs.locked_book.LockedBook.claim.Goals as goal
+
+pub claim-seat-requires : goal.claim-seat-requires
+claim-seat-requires g c = seats_more c.self.inside.book.waiting c.claim.new.self.waiting c.self.inside.register.waiting _ c.in-Some.ensures.some.2 c.self.invariant.1
+
+pub new-requires : goal.new-requires
+new-requires g c =
+    seats_first c.self.inside.book.waiting c.claim.new.self.waiting c.self.inside.register.waiting c.claim-seat.new.self.waiting _ _ c.in-Some.ensures.some.2
+    c.claim-seat.ensures.first c.self.invariant.1
+
+pub invariant_of-self : goal.invariant_of-self
+invariant_of-self g c =
+    let some = c.in-Some.ensures.some in
+    let inv = c.self.invariant in (
+      subst (λ known. RegisterAgrees known c.claim.new.self.history) (sym c.claim-seat.ensures.known)
+          (claimed _ _ _ _ _ c.self.inside.register.known c.self.inside.book.history c.claim.new.self.history inv.0 c.job.ensures.legal some.3 c.in-Some.ensures.legal),
+      seats_rest c.self.inside.book.waiting c.claim.new.self.waiting c.self.inside.register.waiting c.claim-seat.new.self.waiting _ _ some.2 c.claim-seat.ensures.first inv.1,
+      some.0 ∙ inv.2,
+      some.1 ∙ inv.3,
+    )

@@ -1,0 +1,19 @@
+use Rattle.std.proofs.Common.{List, ap, sym, subst, ◌∙◌}
+use Rattle.credit_book.specs.declared.task.Ticket.{Ticket}
+use Rattle.task_register.specs.Register.{Register}
+use Rattle.workers.specs.Locked.{AreSeats}
+use Rattle.workers.proofs.RegisterSteps.{spawned}
+use Rattle.workers.proofs.locked_book.LockedBook.spawn.Goals as goal
+
+pub invariant_of-self : goal.invariant_of-self
+invariant_of-self g c =
+    let done = c.in-Ok.ensures.done in
+    let inv = c.self.invariant in
+    let register = c.add_child-seat.ensures.register in (
+      spawned _ _ c.self.inside.book.board.job c.args.parent c.self.inside.register.known c.add_child-seat.new.self.known c.self.inside.book.history
+          c.spawn.new.self.history c.args.child c.in-Ok.ticket c.args.seat.number inv.0 done.4 c.in-Ok.ensures.legal done.3 (ap (λ (r : Register). r.known) register),
+      subst (λ (l : List Ticket). AreSeats l c.add_child-seat.new.self.waiting) (sym done.2)
+          (subst (λ ss. AreSeats c.self.inside.book.waiting ss) (sym (ap (λ (r : Register). r.waiting) register)) inv.1),
+      done.0 ∙ inv.2,
+      done.1 ∙ inv.3,
+    )

@@ -1,0 +1,35 @@
+use Rattle.std.proofs.Common.{◌≡◌, ℕ, List, [], ◌∷◌, ap, refl, rules}
+use Rattle.std.specs.Prelude.{MatchResult}
+use Rattle.std.proofs.lemmas.List.{append-nil}
+use mathlib.Core.List.{Mem, not-mem-nil, mem-cons_self}
+use borrow.Author.Rules.{in_lives}
+use Rattle.workers.specs.Handing.{IsHanded}
+use Rattle.workers.specs.Seats.{HasOneMore, task_in}
+use Rattle.workers.proofs.SeatLemmas.{is_over, one_more_is}
+use Rattle.workers.proofs.worker.Worker.run.Goals as goal
+
+-- a list with no member
+empty : (l : List ℕ) → ((a : ℕ) → Mem a l → Mem a []) → l ≡ []
+empty [] none = refl
+empty (x ∷ xs) none = absurd (not-mem-nil (none x mem-cons_self))
+
+pub work_heard-requires-lives-S : goal.work_heard-requires-lives-S
+work_heard-requires-lives-S g c κs within =
+    rw (empty g.row.J.lives c.type_bounds.static-J) (simp (append-nil, in_lives, within.0.0, within.0.1.0, within.1.0) tt)
+
+pub work_heard-requires-lives-G-Listener-3 : goal.work_heard-requires-lives-G-Listener-3
+work_heard-requires-lives-G-Listener-3 g c κs within = rw (empty g.row.J.lives c.type_bounds.static-J) (search rules)
+
+pub returns : goal.returns
+returns g c =
+    let seat = c.requires.seat in
+    is_over c.args.self.now c.work_heard.new.spawner (λ s. s.turn)
+    (λ old child reply new. MatchResult reply
+    (λ _. IsHanded old.lanes child new.lanes × (new.shared ≡ old.shared) × (new.ended ≡ old.ended) × HasOneMore old.turn child new.turn)
+    (λ _. new ≡ old))
+    (record {
+      took = λ old new child h. one_more_is old.turn new.turn child h.3;
+      refused = λ old new child back same. ap (λ s. task_in s.turn) same;
+    })
+    c.list-programs.result.now g.J.JobId.runs c.list-programs.ensures.runs c.args.ticket seat.0 seat.1 seat.2 c.requires.few c.work_heard.result
+    c.work_heard.ensures.outcome
