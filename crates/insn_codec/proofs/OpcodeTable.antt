@@ -1,17 +1,14 @@
 -- Each row of the table of opcodes is for slots of its operation alone.
-use Rattle.std.proofs.Common.{◌≡◌, ℕ, ◌+◌, ◌≤◌, Bool, true, false, List, [], ◌∷◌, get_or, Option, Some, None, refl, zero, suc, sym, ap, ◌∙◌, arith}
-use Rattle.std.specs.Prelude.{IfSome, if◌then◌else◌, ◌==◌, ◌&&◌, ◌||◌, is_some}
+use Rattle.std.proofs.Common.{◌≡◌, ℕ, ◌+◌, ◌≤◌, Bool, true, false, List, [], ◌∷◌, get_or, Option, Some, None, refl, zero, suc, ◌∙◌, arith}
+use Rattle.std.specs.Prelude.{IfSome, ◌==◌, ◌&&◌, ◌||◌}
 use Rattle.std.proofs.lemmas.Bool.Decides.{nat_tests}
 use Rattle.insn_codec.specs.declared.slot.Slot.{Slot}
-use Rattle.insn_codec.specs.declared.insn.AluOp.{AluOp}
-use Rattle.insn_codec.specs.declared.insn.AluOp.TheVariants.{Add, Div, Sdiv, Mod, Smod}
 use Rattle.insn_codec.specs.declared.operation.Uses.{Uses}
 use Rattle.insn_codec.specs.declared.operation.Operation.{Operation}
 use Rattle.insn_codec.specs.declared.operation.Operation.TheVariants.{Alu, Mov, Neg, MovSx, End, LoadWide, Load, Store, StoreRegister, Jump, Jump32, JumpIf, Call, Exit}
 use Rattle.insn_codec.specs.declared.opcodes.Limits.{Limits}
 use Rattle.insn_codec.specs.declared.opcodes.TheConstants.{OPCODES}
-use Rattle.insn_codec.specs.Table.{opcode_of, uses_of, selecting_offset, IsChosen, IsRow, RegistersAreNamed, UnusedAreZero}
-use Rattle.insn_codec.specs.Spelling.{IsClean}
+use Rattle.insn_codec.specs.Table.{opcode_of, uses_of, selecting_offset, IsChosen}
 use Rattle.insn_codec.specs.Opcodes.{IsWithin, ChoosesAlone}
 
 -- ---- the fields that choose
@@ -125,5 +122,5 @@ right_at [] opcode i h = tt
 right_at (row ∷ rows) opcode zero h = let e : opcode + 0 ≡ opcode = omega arith in rw e (right_row opcode row (both _ _ h).0)
 right_at (row ∷ rows) opcode (suc i) h = let e : opcode + suc i ≡ opcode + 1 + i = omega arith in rw e (right_at rows (opcode + 1) i (both _ _ h).1)
 
-pub row_right : (i opcode : ℕ) → i ≡ opcode → IsRightRow opcode (get_or OPCODES i None)
-row_right i opcode same = let e : opcode ≡ 0 + i = omega arith in rw e (right_at OPCODES 0 i refl)
+pub row_right : are_right 0 OPCODES ≡ true → (i opcode : ℕ) → i ≡ opcode → IsRightRow opcode (get_or OPCODES i None)
+row_right all i opcode same = let e : opcode ≡ 0 + i = omega arith in rw e (right_at OPCODES 0 i all)
