@@ -7,3 +7,4 @@ pub mod NeedLemmas
 pub mod RefusedLemmas
 pub mod FaultLemmas
 pub mod BlockLemmas
+pub mod SourceLemmas

@@ -18,6 +18,7 @@ mod knowing;
 mod leading;
 mod needs;
 mod registers;
+mod sources;
 mod whole;
 
 pub use needs::Enough;
