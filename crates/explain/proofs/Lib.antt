@@ -8,3 +8,4 @@ pub mod RefusedLemmas
 pub mod FaultLemmas
 pub mod BlockLemmas
 pub mod SourceLemmas
+pub mod SourceTexts

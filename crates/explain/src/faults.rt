@@ -12,7 +12,7 @@ use crate::explaining::explain_refusal;
 use crate::explanation::Explanation;
 use crate::knowing::known_in;
 use crate::lines::Line;
-use crate::places::{lines_in, place_in};
+use crate::places::{lines_for, place_in};
 use crate::sources::Sources;
 use crate::whole::graphed;
 use helpers::HelperTable;
@@ -126,6 +126,6 @@ pub fn explain_all(
         helpers,
         graph: &whole.graph,
     };
-    let lines = lines_in(alloc, source)?;
+    let lines = lines_for(alloc, code, source)?;
     faults(alloc, &survey, &whole.placed, &lines)
 }
