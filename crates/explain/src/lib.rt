@@ -9,7 +9,7 @@ mod faults;
 mod rules;
 
 pub use explaining::explain;
-pub use explanation::{Explanation, Known, Place};
+pub use explanation::{Explanation, Known, Place, text_of};
 pub use faults::explain_all;
 
 // what leads to a slot, and what is known there
