@@ -60,8 +60,8 @@ uint32_t telgovan_disassemble(const uint8_t *code, size_t code_length, uint8_t *
  * breaks, the instruction with its line in the source text, a way that leads there, and what is
  * known of each register there. It answers the status: 0 where the program is accepted, and nothing
  * is written, else the number of the refusal with its slot as the place, or 99. `length` is how
- * many bytes the text has; where they don't fit, the room stays as it was. A source text of length
- * 0, or one that is no UTF-8, gives no line. */
+ * many bytes the text has; where they don't fit, the room stays as it was. A source text gives the
+ * line where it assembles to these bytes, and none else. */
 uint32_t telgovan_explain(uint32_t need, const uint8_t *code, size_t code_length,
                           const uint8_t *source, size_t source_length, uint8_t *room,
                           size_t room_length, struct telgovan_written *written);

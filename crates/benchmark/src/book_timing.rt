@@ -4,6 +4,7 @@
 ghost use Rattle.std.specs.Prelude.{◌≡◌};
 ghost use Rattle.std.specs.Arc.{arc_value};
 
+use anyhow::bail;
 use assembler::assemble;
 use credit_book::{Board, Book, Progress, Reader, Ticket};
 use helpers::{Part, SpawnRecord};
@@ -59,7 +60,9 @@ fn looked<C: Clock>(clock: &C, alloc: Global) -> anyhow::Result<Duration> {
 /// A book with so many tasks that wait.
 pub(crate) fn spawned(alloc: Global, tickets: &mut Vec<Ticket>) -> anyhow::Result<Book> {
     let (_board, post, _reader) = Board::open(alloc, 1, 2 * TICKETS)?;
-    let (mut book, _root) = Book::open(alloc, post, Part::whole(Vec::new(alloc)))?;
+    let Ok((mut book, _root)) = Book::open(alloc, post, Part::whole(Vec::new(alloc))) else {
+        bail!("no memory for a book");
+    };
     for _ in 0..TICKETS {
         let record = SpawnRecord {
             program: 0,

@@ -68,7 +68,9 @@ fn mark(part: &mut Part, byte: u8) -> anyhow::Result<()> {
 }
 
 fn open(alloc: Global, post: Post) -> anyhow::Result<(Book, Ticket)> {
-    let (book, root) = Book::open(alloc, post, Part::whole(vec![in alloc; 0; 8]?))?;
+    let Ok((book, root)) = Book::open(alloc, post, Part::whole(vec![in alloc; 0; 8]?)) else {
+        bail!("no memory for a book");
+    };
     if (
         root.job(),
         root.number(),

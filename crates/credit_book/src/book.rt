@@ -1,5 +1,5 @@
 //! The book of a job: which tasks are alive, what they hold, and what was spent and returned.
-ghost use Rattle.std.specs.Prelude.{◌≡◌, ◌+◌, ◌-◌, ◌<◌, ◌≤◌, ◌↔◌, [], ◌∷◌, ◌++◌, length, slice_index_or, slice_set, true, vec_capacity, IfOk, OnOk, IfSome, IfNone, IsSome, IsOk, IfErr, IsTrue};
+ghost use Rattle.std.specs.Prelude.{◌≡◌, ◌+◌, ◌-◌, ◌<◌, ◌≤◌, ◌↔◌, [], ◌∷◌, ◌++◌, length, replicate, slice_index_or, slice_set, true, vec_capacity, IfOk, OnOk, IfSome, IfNone, IsSome, IsOk, IfErr, IsTrue};
 ghost use Rattle.credit_book.specs.declared.event.Stage.TheVariants.{Ended, Fresh};
 ghost use Rattle.std.specs.VecDeque.{deque_capacity, deque_len};
 ghost use Rattle.credit_book.specs.declared.event.Event.TheVariants.{Open, Park, Claim};
@@ -8,7 +8,7 @@ ghost use Rattle.credit_book.specs.Tasks.{no_task, ended_task, blank_task};
 
 use crate::board::{Post, Progress, Writer};
 use crate::event::{Stage, Standing, TaskEnd};
-use crate::fault::{BookFault, Refused};
+use crate::fault::{BookFault, Refused, Unopened};
 use crate::past::Past;
 use crate::task::{Outcome, Ticket};
 use helpers::{Part, SpawnRecord};
@@ -154,6 +154,23 @@ impl Book {
     }
 }
 
+// The lists of a book and its queue, with room for the root's task, and its buffer of zeros.
+fn first_rooms(
+    alloc: Global,
+    size: usize,
+) -> Result<(Vec<Standing>, Vec<TaskEnd>, VecDeque<Ticket>, Vec<u8>), NoMemory>
+    ensures lists { IfOk result (λ r. (r.0.items ≡ []) × (0 < vec_capacity r.0)
+        × (r.1.items ≡ []) × (0 < vec_capacity r.1)) }
+    ensures queue { IfOk result (λ r. (r.2.items ≡ []) × (1 ≤ deque_capacity r.2)) }
+    ensures buffer { IfOk result (λ r. r.3.items ≡ replicate size 0) }
+{
+    let standings = Vec::with_capacity(alloc, 1)?;
+    let tasks = Vec::with_capacity(alloc, 1)?;
+    let parked = VecDeque::with_capacity(alloc, 1)?;
+    let buffer = vec![in alloc; 0; size]?;
+    Ok((standings, tasks, parked, buffer))
+}
+
 // Makes room for a task more: in the lists, and in the queue for all tasks.
 fn reserve_task(
     standings: &mut Vec<Standing>,
@@ -198,8 +215,9 @@ impl Book {
     ghost use Rattle.credit_book.specs.Books.{IsReport, root_ticket};
     ghost use Rattle.credit_book.specs.Buffers.{buffer_of};
 
-    /// The book with the root's task alone, which holds all the credit.
-    pub fn open(alloc: Global, post: Post, root: Part) -> Result<(Book, Ticket), NoMemory>
+    /// The book with the root's task alone, which holds all the credit. Where there is no memory
+    /// for it (99), the post and the part come back as they were.
+    pub fn open(alloc: Global, post: Post, root: Part) -> Result<(Book, Ticket), Unopened>
         ensures book { IfOk result (λ r. (r.0.board ≡ post.board) × (r.0.history ≡ post.history)
             × (r.0.size ≡ length root.bytes) × (r.0.waiting ≡ [])) }
         ensures opened { IfOk result (λ r. (r.0.history
@@ -207,20 +225,20 @@ impl Book {
             × IsHistoryOf post.board.job post.board.issued r.0.history) }
         ensures ticket { IfOk result (λ r. r.1
             ≡ root_ticket post.board.job post.board.issued root) }
+        ensures refused { IfErr result (λ r. (r.post ≡ post) × (r.root ≡ root)) }
     {
+        let Ok((mut standings, mut tasks, parked, buffer)) = first_rooms(alloc, root.len()) else {
+            return Err(Unopened { post, root });
+        };
         let writer = post.into_writer();
         let opening = writer.opening();
         let mut past = writer.past();
         past.add::<Brand, u64>(opening.issued, &opening.job);
-        let mut standings = Vec::with_capacity(alloc, 1)?;
-        let mut tasks = Vec::with_capacity(alloc, 1)?;
-        let parked = VecDeque::with_capacity(alloc, 1)?;
         standings.push_reserved(Standing {
             held: opening.issued,
             stage: Stage::Fresh,
         });
         tasks.push_reserved(new_task(0, 0, 0, opening.issued));
-        let buffer = vec![in alloc; 0; root.len()]?;
         let report = Report {
             spent: 0,
             returned: 0,

@@ -8,7 +8,7 @@ mod fault;
 mod task;
 
 pub use event::TaskEnd;
-pub use fault::{BookFault, Refused};
+pub use fault::{BookFault, Refused, Unopened};
 pub use task::{Outcome, Ticket};
 
 // the board and its seats

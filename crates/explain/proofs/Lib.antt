@@ -7,3 +7,5 @@ pub mod NeedLemmas
 pub mod RefusedLemmas
 pub mod FaultLemmas
 pub mod BlockLemmas
+pub mod SourceLemmas
+pub mod SourceTexts

@@ -1,7 +1,8 @@
 -- What arrives at each slot, as a table, and what is known at a slot that is refused.
-use Rattle.std.specs.Prelude.{◌≡◌, ℕ, ◌≤◌, ◌<◌, List, length, slice_index, slice_index_or}
+use Rattle.std.specs.Prelude.{◌≡◌, ℕ, ◌≤◌, ◌<◌, List, Option, Some, None, length, slice_index, slice_index_or}
 use Rattle.machine_model.specs.Edges.{Always, NotTaken, Taken}
-use Rattle.verifier.specs.InStates.{Subject, InState, Unreached, Undefined, Reached, joined_in_state, edge_state, in_state}
+use Rattle.flow_graph.specs.Cycles.{IsJoint}
+use Rattle.verifier.specs.InStates.{Subject, InState, Unreached, Undefined, Reached, joined_in_state, joined_edges, edge_state, in_state}
 use Rattle.explain.specs.declared.arriving.Arrival.{Arrival}
 use Rattle.explain.specs.declared.arriving.Arrival.TheVariants as arrival
 use Rattle.explain.specs.declared.arriving.Survey.{Survey}
@@ -28,6 +29,12 @@ abbrev pub joined_from : Subject → (ℕ → InState) → ℕ → ℕ → InSta
 joined_from p f s k a =
     joined_in_state (joined_in_state (joined_in_state a (edge_state p f s k Always))
     (edge_state p f s k NotTaken)) (edge_state p f s k Taken)
+
+-- Used by private contracts and proofs alone: what has come to a slot from the slots that lead there
+-- below this one, which leads there too, or from all of them.
+abbrev pub IsJoinedTo : Subject → (ℕ → InState) → ℕ → InState → Option ℕ → Type 0
+IsJoinedTo p f s a None = a ≡ joined_edges p f s (length p.code)
+IsJoinedTo p f s a (Some q) = IsJoint p.code q s × (a ≡ joined_edges p f s q)
 
 -- the table has what arrives at each slot
 pub record AreArrivals (p : Subject) (table : List Arrival) : Type 0 where

@@ -16,7 +16,7 @@ use Rattle.verifier.specs.Refusals.{HasFlow}
 use Rattle.verifier.specs.Verdict.{IsFaulty}
 use Rattle.explain.specs.declared.explanation.Explanation.{Explanation}
 use Rattle.explain.specs.declared.explanation.Known.{Known}
-use Rattle.explain.specs.Lines.{IsPlaceIn, lines_in}
+use Rattle.explain.specs.Lines.{AreLinesFor, IsPlaceIn}
 use Rattle.explain.specs.Told.{IsKnownIn, IsTold, ruled_slot}
 
 -- the rule of the lowest number that an instruction breaks where this arrives, if it is a state
@@ -61,6 +61,6 @@ pub data AreTold (need : ℕ) (code : List ℕ) (helpers : Table) (source : Opti
   no_graph : (why : Explanation) → IsTold need code helpers source why
       → ruled_slot why.refusal ≡ None → list ≡ why ∷ [] → AreTold need code helpers source list
   faults : need ≤ max_part → (placed : List Placed) → IsProgram placed code
-      → HasFlow (code_of placed)
+      → HasFlow (code_of placed) → (lines : List (ℕ × List ℕ)) → AreLinesFor code source lines
       → AreFaultsTold (record { need = need; helpers = helpers; code = code_of placed }) placed
-      (lines_in source) list → AreTold need code helpers source list
+      lines list → AreTold need code helpers source list

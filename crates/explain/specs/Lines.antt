@@ -1,10 +1,11 @@
 -- The lines of a source text that say an instruction, and the instruction at a slot.
-use Rattle.std.specs.Prelude.{◌≡◌, ◌≢◌, ℕ, ◌==◌, List, [], ◌∷◌, length, Option, Some, None, option_map, slice_get, string_bytes, if◌then◌else◌}
+use Rattle.std.specs.Prelude.{◌≡◌, ◌≢◌, ◌⊎◌, ℕ, ◌==◌, List, [], ◌∷◌, length, Option, Some, None, option_map, slice_get, string_bytes, if◌then◌else◌}
+use Rattle.insn_codec.specs.declared.insn.Insn.{Insn}
 use Rattle.insn_codec.specs.declared.insn.Placed.{Placed}
 use Rattle.insn_codec.specs.declared.fault.CodecFault.{CodecFault}
 use Rattle.insn_codec.specs.Spelling.{IsProgram, IsRefusal}
 use Rattle.disassembler.specs.Line.{line_text}
-use Rattle.assembler.specs.Source.{source_lines}
+use Rattle.assembler.specs.Source.{IsAssembly, source_lines}
 use Rattle.explain.specs.declared.lines.Line.{Line}
 use Rattle.explain.specs.declared.explanation.Place.{Place}
 
@@ -26,6 +27,17 @@ abbrev pub lines_in : Option (List ℕ) → List (ℕ × List ℕ)
 lines_in None = []
 lines_in (Some source) = source_lines source
 
+-- the source text says the program that these bytes spell
+abbrev pub IsSourceOf : List ℕ → List ℕ → Type 0
+IsSourceOf source code = (insns : List Insn) × IsAssembly code insns (source_lines source)
+
+-- the lines of a source text, where it says the program, and none else
+abbrev pub AreLinesFor : List ℕ → Option (List ℕ) → List (ℕ × List ℕ) → Type 0
+AreLinesFor code None lines = lines ≡ []
+AreLinesFor code (Some source) lines =
+    (IsSourceOf source code × (lines ≡ source_lines source))
+    ⊎ ((IsSourceOf source code → ⊥) × (lines ≡ []))
+
 -- an instruction of a program: its slot, its text, and the number of its line among these
 pub record IsPlacedAs (placed : List Placed) (lines : List (ℕ × List ℕ)) (slot : ℕ)
     (place : Place) : Type 0 where
@@ -42,11 +54,13 @@ abbrev pub IsPlaceIn : List Placed → List (ℕ × List ℕ) → ℕ → Option
 IsPlaceIn placed lines slot None = IsIndex slot placed None
 IsPlaceIn placed lines slot (Some place) = IsPlacedAs placed lines slot place
 
--- The instruction at a slot: none where the bytes are no program.
+-- The instruction at a slot, with its line in the source text that says the program. None where the
+-- bytes are no program.
 pub data IsPlaceAt (code : List ℕ) (source : Option (List ℕ)) (slot : ℕ) (place : Option Place) :
     Type 0 where
-  among : (placed : List Placed) → IsProgram placed code
-      → IsPlaceIn placed (lines_in source) slot place → IsPlaceAt code source slot place
+  among : (placed : List Placed) → IsProgram placed code → (lines : List (ℕ × List ℕ))
+      → AreLinesFor code source lines → IsPlaceIn placed lines slot place
+      → IsPlaceAt code source slot place
   no_program : (why : CodecFault) → IsRefusal why code → place ≡ None
       → IsPlaceAt code source slot place
 

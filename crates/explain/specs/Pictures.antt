@@ -8,7 +8,7 @@ use Rattle.flow_graph.specs.Program.{code_of}
 use Rattle.verifier.specs.Refusals.{HasFlow}
 use Rattle.explain.specs.declared.picture.Picture.{Picture}
 use Rattle.explain.specs.Blocks.{AreBlocks, ArePlaces}
-use Rattle.explain.specs.Lines.{lines_in}
+use Rattle.explain.specs.Lines.{AreLinesFor}
 use Rattle.explain.specs.Told.{IsAllowed, IsTold}
 
 -- The program has a graph. Shown are its instructions, its basic blocks, and why it is refused, if
@@ -19,7 +19,9 @@ pub record IsPicture (need : ℕ) (code : List ℕ) (helpers : Table) (source : 
   pub placed : List Placed
   pub program : IsProgram placed code
   pub flow : HasFlow (code_of placed)
-  pub places : ArePlaces placed (lines_in source) picture.places.items
+  pub lines : List (ℕ × List ℕ)
+  pub from : AreLinesFor code source lines
+  pub places : ArePlaces placed lines picture.places.items
   pub blocks : AreBlocks (record { need = need; helpers = helpers; code = code_of placed }) placed
       picture.blocks.items
   pub why : MatchOption picture.why (IsAllowed need code helpers)

@@ -6,9 +6,11 @@ ghost use Rattle.machine_model.specs.Edges.{NotTaken, Taken, insn_at};
 ghost use Rattle.machine_model.specs.Limits.{max_part};
 ghost use Rattle.instruction_rules.specs.declared.state.State.{State};
 ghost use Rattle.verifier.specs.InStates.{Reached, if_leads_to, in_state, in_state_by, joined_edges, joined_in_state, out_state};
+ghost use Rattle.verifier.specs.Sources.{AreLinked};
 ghost use Rattle.explain.specs.Arriving.{AreArrivals, arriving, arriving_at, joined_from, subject_of};
 ghost use Rattle.explain.specs.declared.arriving.Arrival.TheVariants as arrival;
 
+use crate::sources::Sources;
 use flow_graph::{Graph, Next};
 use helpers::HelperTable;
 use insn_codec::Insn;
@@ -135,22 +137,29 @@ fn join_from(
 }
 
 /// What passes all edges to a slot, joined.
-fn join_all(survey: &Survey<'_>, table: &[Arrival], slot: u32) -> Arrival
+fn join_all(survey: &Survey<'_>, sources: &Sources, table: &[Arrival], slot: u32) -> Arrival
+    requires slot { slot < length survey.now.graph.now.code }
+    requires linked { AreLinked survey.now.graph.now.code sources.now 0 }
     requires slots { length table.now ≡ length survey.now.graph.now.code }
     ensures { arriving result
         ≡ joined_edges (subject_of survey.now) (arriving_at table.now) slot
         (length survey.now.graph.now.code) }
 {
+    let _slots = survey.graph.slots();
     let mut joined = Arrival::Unreached;
-    for from in 0..survey.graph.slots() {
+    let mut source = sources.first(slot);
+    while let Some(from) = source {
         joined = join_from(survey, table, from, slot, joined);
+        source = sources.after(survey.graph.successors(from), from, slot);
     }
     joined
 }
 
 /// What arrives at a slot, where the table has what arrives at those that lead there.
-fn arrive(survey: &Survey<'_>, table: &[Arrival], slot: u32) -> Arrival
+fn arrive(survey: &Survey<'_>, sources: &Sources, table: &[Arrival], slot: u32) -> Arrival
     requires need { survey.now.need ≤ max_part }
+    requires slot { slot < length survey.now.graph.now.code }
+    requires linked { AreLinked survey.now.graph.now.code sources.now 0 }
     requires slots { length table.now ≡ length survey.now.graph.now.code }
     ensures { arriving result
         ≡ in_state_by (subject_of survey.now) (arriving_at table.now) slot
@@ -159,7 +168,7 @@ fn arrive(survey: &Survey<'_>, table: &[Arrival], slot: u32) -> Arrival
     if slot == 0 {
         return Arrival::Reached(State::entry(survey.need));
     }
-    join_all(survey, table, slot)
+    join_all(survey, sources, table, slot)
 }
 
 /// A table in which nothing arrives.
@@ -178,15 +187,20 @@ fn nowhere(alloc: Global, slots: u32) -> Result<Vec<Arrival>, NoMemory>
 }
 
 /// What arrives at each slot.
-pub(crate) fn arrivals(alloc: Global, survey: &Survey<'_>) -> Result<Vec<Arrival>, NoMemory>
+pub(crate) fn arrivals(
+    alloc: Global,
+    survey: &Survey<'_>,
+    sources: &Sources,
+) -> Result<Vec<Arrival>, NoMemory>
     requires need { survey.now.need ≤ max_part }
+    requires linked { AreLinked survey.now.graph.now.code sources.now 0 }
     ensures { IfOk result (λ table. AreArrivals (subject_of survey.now) table.items) }
 {
     let mut table = nowhere(alloc, survey.graph.slots())?;
     let order = survey.graph.order();
     for place in 0..order.len() {
         let slot = order[place];
-        let arrival = arrive(survey, &table, slot);
+        let arrival = arrive(survey, sources, &table, slot);
         table[slot as usize] = arrival;
     }
     Ok(table)
@@ -199,7 +213,8 @@ pub(crate) fn state_at(alloc: Global, survey: &Survey<'_>, slot: u32) -> Result<
     requires arrives { (state : State) × (in_state (subject_of survey.now) slot ≡ Reached state) }
     ensures { IfOk result (λ state. in_state (subject_of survey.now) slot ≡ Reached state) }
 {
-    let table = arrivals(alloc, survey)?;
+    let sources = Sources::of(alloc, survey.graph)?;
+    let table = arrivals(alloc, survey, &sources)?;
     match &table[slot as usize] {
         Arrival::Reached(state) => Ok(*state),
         _ => unreachable!(),

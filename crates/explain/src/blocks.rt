@@ -5,10 +5,12 @@ ghost use Rattle.machine_model.specs.Edges.{Begins};
 ghost use Rattle.machine_model.specs.Limits.{max_part};
 ghost use Rattle.machine_model.specs.Paths.{AreCosts};
 ghost use Rattle.flow_graph.specs.Cycles.{IsJoint};
+ghost use Rattle.verifier.specs.Sources.{AreLinked};
 ghost use Rattle.explain.specs.Arriving.{AreArrivals, arriving, subject_of};
 ghost use Rattle.explain.specs.Blocks.{AreBegun, AreBlocks, IsBlock, IsStraight, IsToldOf, slots_in};
 
 use crate::arriving::{Arrival, Survey, arrivals};
+use crate::sources::Sources;
 use cost_bound::{Costs, costs};
 use flow_graph::{Graph, Next};
 use insn_codec::Placed;
@@ -33,37 +35,33 @@ pub struct Block {
     pub next: Next,
 }
 
-/// Whether an edge leads from the one slot to the other.
-fn leads_to(graph: &Graph, from: u32, to: u32) -> bool
-    ensures { IsTrue result ↔ IsJoint graph.now.code from to }
-{
-    let Some(_) = graph.insn(from) else {
-        return false;
-    };
-    match graph.successors(from) {
-        Next::Zero => false,
-        Next::One(one) => one == to,
-        Next::Two(following, other) => following == to || other == to,
-    }
-}
-
-/// Whether each edge to the one slot comes from the other.
-fn is_sole(graph: &Graph, from: u32, to: u32) -> bool
+/// Whether each edge to the one slot comes from the other, which leads there.
+fn is_sole(graph: &Graph, sources: &Sources, from: u32, to: u32) -> bool
+    requires joint { IsJoint graph.now.code from to }
+    requires linked { AreLinked graph.now.code sources.now 0 }
     ensures { IsTrue result ↔ ((k : ℕ) → IsJoint graph.now.code k to → k ≡ from) }
 {
-    for slot in 0..graph.slots() {
-        if slot != from {
-            if leads_to(graph, slot, to) {
+    let slots = graph.slots();
+    prove!(from < slots);
+    prove!(to < slots);
+    match sources.first(to) {
+        None => false,
+        Some(first) => {
+            if first != from {
                 return false;
+            }
+            match sources.after(graph.successors(from), from, to) {
+                None => true,
+                Some(_) => false,
             }
         }
     }
-    true
 }
 
 /// Whether the one slot leads straight to the other.
-fn is_straight(graph: &Graph, from: u32, to: u32) -> bool
-    requires { Begins graph.now.code from }
+fn is_straight(graph: &Graph, sources: &Sources, from: u32, to: u32) -> bool
+    requires begins { Begins graph.now.code from }
+    requires linked { AreLinked graph.now.code sources.now 0 }
     ensures { IsTrue result ↔ IsStraight graph.now.code from to }
 {
     match graph.successors(from) {
@@ -72,7 +70,7 @@ fn is_straight(graph: &Graph, from: u32, to: u32) -> bool
             if one != to {
                 return false;
             }
-            is_sole(graph, from, to)
+            is_sole(graph, sources, from, to)
         }
         Next::Two(_, _) => false,
     }
@@ -87,7 +85,8 @@ fn slot_at(placed: &[Placed], index: usize) -> u32
 }
 
 /// The number behind that of the last instruction to which the first one leads straight on.
-fn end_of(graph: &Graph, placed: &[Placed], first: usize) -> usize
+fn end_of(graph: &Graph, sources: &Sources, placed: &[Placed], first: usize) -> usize
+    requires linked { AreLinked graph.now.code sources.now 0 }
     requires first { first < length placed.now }
     requires begun { AreBegun graph.now.code (slots_in placed.now) }
     ensures some { first < result }
@@ -101,7 +100,12 @@ fn end_of(graph: &Graph, placed: &[Placed], first: usize) -> usize
 {
     let mut end = first + 1;
     while end < placed.len() {
-        if !is_straight(graph, slot_at(placed, end - 1), slot_at(placed, end)) {
+        if !is_straight(
+            graph,
+            sources,
+            slot_at(placed, end - 1),
+            slot_at(placed, end),
+        ) {
             return end;
         }
         end += 1;
@@ -123,11 +127,13 @@ fn known_of(arrival: &Arrival) -> Option<State>
 /// The block that begins at an instruction.
 fn block_from(
     survey: &Survey<'_>,
+    sources: &Sources,
     table: &[Arrival],
     costs: &Costs,
     placed: &[Placed],
     first: usize,
 ) -> Block
+    requires linked { AreLinked survey.now.graph.now.code sources.now 0 }
     requires first { first < length placed.now }
     requires begun { AreBegun survey.now.graph.now.code (slots_in placed.now) }
     requires table { AreArrivals (subject_of survey.now) table.now }
@@ -135,7 +141,7 @@ fn block_from(
     ensures block { IsBlock (subject_of survey.now) (slots_in placed.now) result }
     ensures first { result.first ≡ first }
 {
-    let end = end_of(survey.graph, placed, first);
+    let end = end_of(survey.graph, sources, placed, first);
     let head = slot_at(placed, first);
     let last = slot_at(placed, end - 1);
     Block {
@@ -160,11 +166,12 @@ pub(crate) fn blocks(
     // the borrow checker's part of the proof has to hear of the type
     let _known: Option<State> = None;
     let costs = costs(alloc, survey.graph)?;
-    let table = arrivals(alloc, survey)?;
+    let sources = Sources::of(alloc, survey.graph)?;
+    let table = arrivals(alloc, survey, &sources)?;
     let mut blocks = Vec::new(alloc);
     let mut first = 0;
     while first < placed.len() {
-        let block = block_from(survey, &table, &costs, placed, first);
+        let block = block_from(survey, &sources, &table, &costs, placed, first);
         first = block.end;
         blocks.push(block)?;
     }

@@ -1,8 +1,13 @@
 //! Why a program is refused, as a value.
 
+ghost use Rattle.std.specs.Prelude.{IfOk, string_bytes};
+ghost use Rattle.explain.specs.Texts.{IsTextOf};
+
 use crate::needs::Enough;
 use crate::registers::Registers;
 use crate::rules::rule;
+use refusal::NoMemory;
+use std::alloc::Global;
 use std::fmt;
 use verifier::{Refusal, State};
 
@@ -104,20 +109,69 @@ impl fmt::Display for Known {
     }
 }
 
+/// The line of a place, where there is one.
+#[derive(Clone, Copy)]
+struct PlaceLine<'a>(&'a Option<Place>);
+
+impl<'a> fmt::Display for PlaceLine<'a> {
+    ghost use Rattle.std.specs.Prelude.{Some};
+    ghost use Rattle.explain.specs.Texts.{place_line};
+
+    ghost output = { λ line. Some (place_line line.0.now) };
+
+    fn fmt<W: fmt::Write>(&self, f: &mut fmt::Formatter<W>) -> fmt::Result {
+        match self.0 {
+            Some(place) => write!(f, "{place}\n"),
+            None => Ok(()),
+        }
+    }
+}
+
+/// The lines of what is known, where it is.
+#[derive(Clone, Copy)]
+struct KnownLines<'a>(&'a Option<Known>);
+
+impl<'a> fmt::Display for KnownLines<'a> {
+    ghost use Rattle.std.specs.Prelude.{Some};
+    ghost use Rattle.explain.specs.Texts.{known_lines};
+
+    ghost output = { λ lines. Some (known_lines lines.0.now) };
+
+    fn fmt<W: fmt::Write>(&self, f: &mut fmt::Formatter<W>) -> fmt::Result {
+        match self.0 {
+            Some(known) => write!(f, "{known}"),
+            None => Ok(()),
+        }
+    }
+}
+
+/// The text of an explanation behind its refusal: the rule, the place and what is known there.
+#[derive(Clone, Copy)]
+struct Reason<'a>(&'a Explanation);
+
+impl<'a> fmt::Display for Reason<'a> {
+    ghost use Rattle.std.specs.Prelude.{Some};
+    ghost use Rattle.explain.specs.Texts.{reason_text};
+
+    ghost output = { λ reason. Some (reason_text reason.0.now) };
+
+    fn fmt<W: fmt::Write>(&self, f: &mut fmt::Formatter<W>) -> fmt::Result {
+        let why = self.0;
+        let (place, known) = (PlaceLine(&why.place), KnownLines(&why.known));
+        write!(f, "rule: {}\n{place}{known}", rule(&why.refusal))
+    }
+}
+
 impl fmt::Display for Explanation {
     fn fmt<W: fmt::Write>(&self, f: &mut fmt::Formatter<W>) -> fmt::Result {
-        write!(
-            f,
-            "refused {}\nrule: {}\n",
-            self.refusal,
-            rule(&self.refusal)
-        )?;
-        if let Some(place) = &self.place {
-            write!(f, "{place}\n")?;
-        }
-        if let Some(known) = &self.known {
-            write!(f, "{known}")?;
-        }
-        Ok(())
+        write!(f, "refused {}\n{}", self.refusal, Reason(self))
     }
+}
+
+/// The text of an explanation. Refused for want of memory alone.
+pub fn text_of(alloc: Global, why: &Explanation) -> Result<String, NoMemory>
+    ensures { IfOk result (λ text. IsTextOf why.now (string_bytes text)) }
+{
+    let words = format!(in alloc; "{}", why.refusal)?;
+    Ok(format!(in alloc; "refused {words}\n{}", Reason(why))?)
 }

@@ -12,7 +12,8 @@ use crate::explaining::explain_refusal;
 use crate::explanation::Explanation;
 use crate::knowing::known_in;
 use crate::lines::Line;
-use crate::places::{lines_in, place_in};
+use crate::places::{lines_for, place_in};
+use crate::sources::Sources;
 use crate::whole::graphed;
 use helpers::HelperTable;
 use insn_codec::Placed;
@@ -85,7 +86,8 @@ fn faults(
     ensures { IfOk result (λ list. AreFaultsTold (subject_of survey.now) placed.now
         (map told lines.now) list.items) }
 {
-    let table = arrivals(alloc, survey)?;
+    let sources = Sources::of(alloc, survey.graph)?;
+    let table = arrivals(alloc, survey, &sources)?;
     let mut list = Vec::new(alloc);
     for slot in 0..survey.graph.slots() {
         match fault_at(alloc, survey, &table, placed, lines, slot)? {
@@ -124,6 +126,6 @@ pub fn explain_all(
         helpers,
         graph: &whole.graph,
     };
-    let lines = lines_in(alloc, source)?;
+    let lines = lines_for(alloc, code, source)?;
     faults(alloc, &survey, &whole.placed, &lines)
 }

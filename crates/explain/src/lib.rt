@@ -9,7 +9,7 @@ mod faults;
 mod rules;
 
 pub use explaining::explain;
-pub use explanation::{Explanation, Known, Place};
+pub use explanation::{Explanation, Known, Place, text_of};
 pub use faults::explain_all;
 
 // what leads to a slot, and what is known there
@@ -18,6 +18,7 @@ mod knowing;
 mod leading;
 mod needs;
 mod registers;
+mod sources;
 mod whole;
 
 pub use needs::Enough;

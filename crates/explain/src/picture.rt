@@ -12,7 +12,7 @@ use crate::blocks::{Block, blocks};
 use crate::explaining::explain;
 use crate::explanation::{Explanation, Place};
 use crate::lines::Line;
-use crate::places::{lines_in, number_at};
+use crate::places::{lines_for, number_at};
 use crate::whole::graphed;
 use disassembler::line;
 use helpers::HelperTable;
@@ -84,7 +84,7 @@ pub fn picture_of(
         graph: &whole.graph,
     };
     let blocks = blocks(alloc, &survey, &whole.placed)?;
-    let lines = lines_in(alloc, source)?;
+    let lines = lines_for(alloc, code, source)?;
     let places = places(alloc, &whole.placed, &lines)?;
     let why = explain(alloc, need, code, helpers, source)?;
     Ok(Picture {

@@ -1,10 +1,11 @@
 //! The instruction at a slot, and its line in a source text.
 
-ghost use Rattle.std.specs.Prelude.{◌≡◌, map, option_map, slice_get, IfOk};
-ghost use Rattle.explain.specs.Lines.{IsIndex, IsPlaceAt, IsPlaceIn, IsPlaceOf, lines_in, told};
+ghost use Rattle.std.specs.Prelude.{◌≡◌, ◌↔◌, IsTrue, map, option_map, slice_get, IfOk};
+ghost use Rattle.explain.specs.Lines.{AreLinesFor, IsIndex, IsPlaceAt, IsPlaceIn, IsPlaceOf, IsSourceOf, lines_in, told};
 
 use crate::explanation::Place;
 use crate::lines::{Line, lines_of};
+use assembler::{TextFault, assemble};
 use disassembler::line;
 use insn_codec::{CodecFault, Placed, decode};
 use refusal::NoMemory;
@@ -76,6 +77,37 @@ pub fn lines_in<'a>(alloc: Global, source: Option<&'a str>) -> Result<Vec<Line<'
     }
 }
 
+/// Whether the source text assembles to the bytes.
+fn is_source_of(alloc: Global, source: &str, code: &[u8]) -> Result<bool, NoMemory>
+    ensures { IfOk result (λ holds. IsTrue holds ↔ IsSourceOf source.now code.now) }
+{
+    match assemble(alloc, source) {
+        Ok(bytes) => Ok(bytes.as_slice() == code),
+        Err(TextFault::NoMemory) => Err(NoMemory),
+        Err(_) => Ok(false),
+    }
+}
+
+/// The lines of a source text, if there is one and it assembles to the bytes.
+pub(crate) fn lines_for<'a>(
+    alloc: Global,
+    code: &[u8],
+    source: Option<&'a str>,
+) -> Result<Vec<Line<'a>>, NoMemory>
+    ensures { IfOk result (λ lines. AreLinesFor code.now
+        (option_map (λ text. text.now) source.entry) (map told lines.items)) }
+{
+    match source {
+        Some(text) => {
+            if is_source_of(alloc, text, code)? {
+                return lines_of(alloc, text.as_bytes());
+            }
+            Ok(Vec::new(alloc))
+        }
+        None => Ok(Vec::new(alloc)),
+    }
+}
+
 /// The instruction at a slot, where the bytes are a program that has one there.
 fn place_at(
     alloc: Global,
@@ -91,7 +123,7 @@ fn place_at(
         Err(CodecFault::NoMemory) => return Err(NoMemory),
         Err(_) => return Ok(None),
     };
-    let lines = lines_in(alloc, source)?;
+    let lines = lines_for(alloc, code, source)?;
     place_in(alloc, &placed, &lines, slot)
 }
 

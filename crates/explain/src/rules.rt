@@ -1,9 +1,14 @@
 //! The rule that a refused program breaks.
 
+ghost use Rattle.std.specs.Prelude.{◌≡◌};
+ghost use Rattle.explain.specs.Texts.{rule_text};
+
 use verifier::Refusal;
 
 /// The rule, in a sentence.
-pub(crate) fn rule(refusal: &Refusal) -> &'static str {
+pub(crate) fn rule(refusal: &Refusal) -> &'static str
+    ensures { result.now ≡ rule_text refusal.now }
+{
     match refusal {
         Refusal::NeedTooLarge => "a program needs at most 65536 bytes",
         Refusal::Codec(_) =>

@@ -1,13 +1,13 @@
 -- A program's slots as an order, where each edge leads to a later one.
-use Rattle.std.proofs.Common.{◌≡◌, ℕ, ◌+◌, ◌≤◌, ◌<◌, ◌⊎◌, List, [], ◌∷◌, ◌++◌, length, Option, Some, None, ap, sym, ◌∙◌, arith, refl, inl, inr, Bool, true, false, slice_set, slice_index, slice_index_or, subst, replicate}
+use Rattle.std.proofs.Common.{◌≡◌, ℕ, ◌+◌, ◌≤◌, ◌<◌, ◌⊎◌, List, [], ◌∷◌, ◌++◌, length, Option, Some, None, ap, sym, ◌∙◌, arith, inl, inr, Bool, true, false, slice_set, slice_index, slice_index_or, subst, replicate}
 use Rattle.std.proofs.lemmas.Bool.{cases_lt}
-use Rattle.std.proofs.lemmas.List.{get_or-set_same, get_or-set_other, get_or_default, length-replicate}
+use Rattle.std.proofs.lemmas.List.{get_or-set_other, get_or_default, length-replicate}
 use Rattle.std.proofs.Math.ListN.{length-set}
 use Rattle.machine_model.specs.Edges.{Code, Fact, Always, NotTaken, Taken, IsEdge, Begins, leads_at}
 use Rattle.machine_model.specs.Paths.{IsReached}
 use Rattle.flow_graph.specs.declared.graph.Next.TheVariants.{Zero, One, Two}
 use Rattle.flow_graph.specs.Cycles.{IsJoint}
-use Rattle.flow_graph.specs.Flow.{IsIn, IsJoined, IsOrder, AreNext}
+use Rattle.flow_graph.specs.Flow.{AreNext}
 use Rattle.flow_graph.specs.Forward.{IsForward, IsForwardTo}
 use Rattle.flow_graph.specs.Reached.{IsMarked}
 use Rattle.flow_graph.proofs.CodeLemmas.{begins_below}

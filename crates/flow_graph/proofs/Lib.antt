@@ -12,3 +12,4 @@ pub mod OrderLemmas
 pub mod ForwardLemmas
 pub mod OneRefusal
 pub mod LandingLemmas
+mod NumberLemmas

@@ -13,7 +13,7 @@ use Rattle.flow_graph.specs.declared.walk.Walked.{Walked}
 use Rattle.flow_graph.specs.declared.walk.Walked.TheVariants.{All, Cycle}
 use Rattle.refusal.specs.declared.NoMemory.{NoMemory}
 use Rattle.flow_graph.specs.Flow.{IsJoined, IsOrder}
-use Rattle.flow_graph.specs.Walks.{mark_at, new_mark, IsWalk, IsWay, IsFurther, AreClear, HasEnded, HasMet}
+use Rattle.flow_graph.specs.Walks.{mark_at, new_mark, IsWalk, IsWay, IsFurther, HasEnded, HasMet}
 use Rattle.flow_graph.proofs.Lists.{one_way, at_old, at_new, one_longer, in_none}
 use Rattle.flow_graph.proofs.MarkLemmas.{mark_same, mark_other, listed_other, listed_more, listed_less, further, which}
 use Rattle.flow_graph.proofs.CodeLemmas.{begins_below}
@@ -156,32 +156,6 @@ cycle_back code marks path done slot next w joint is =
           ([], joint_same code _ _ _ _ (sym i.2 ∙ at_new path slot i.0 last) refl joint)
     ]
 
--- from what is done each path leads to what was done before
-done_before : (code : Code) (marks : List Mark) (walked done : List ℕ) (q : ℕ) → IsWalk code marks walked done → q < length done →
-    (path : List ℕ) (s : ℕ) → IsPath code (slice_index done q) path s → (p : ℕ) × (p < q) × (slice_index done p ≡ s)
-done_before code marks walked done q w lt [] s h = w.behind q s lt h
-done_before code marks walked done q w lt (r ∷ path) s h =
-    let before = done_before code marks walked done q w lt path r h.1 in
-    let less : before.0 < q = before.1 in
-    let under : before.0 < length done = omega arith in
-    let p = w.behind before.0 s under (joint_same code _ _ _ _ before.2 refl h.0) in
-    let fewer : p.0 < before.0 = p.1 in
-    (p.0, omega arith, p.2)
-
-pub clear_of : (code : Code) (marks : List Mark) (path done : List ℕ) → IsWalk code marks path done → (s : ℕ) → mark_at marks s ≡ Done →
-    IsOnCycle code s → ⊥
-clear_of code marks path done w s is cycle =
-    let i = w.finished.each s is in
-    let within : i.0 < length done = i.1 in
-    let p = done_before code marks path done i.0 w within cycle.0 s (subst (λ (r : ℕ). IsPath code r cycle.0 s) (sym i.2) cycle.1) in
-    let less : p.0 < i.0 = p.1 in
-    let under : p.0 < length done = omega arith in
-    let same : p.0 ≡ i.0 = w.finished.once p.0 i.0 under within (p.2 ∙ sym i.2) in
-    omega arith
-
-pub clear_marks : (code : Code) (marks : List Mark) (path done : List ℕ) → IsWalk code marks path done → AreClear code marks
-clear_marks code marks path done w = record { slots = w.slots; clear = clear_of code marks path done w }
-
 -- where all is done, what was done last stands first in an order
 pub order_of : (code : Code) (marks : List Mark) (path done : List ℕ) → IsWalk code marks path done → length path ≡ 0 →
     ((s : ℕ) → Begins code s → mark_at marks s ≢ New) → IsOrder code (reverse done)
@@ -300,9 +274,9 @@ pub further_set : (first marks new : List Mark) (t : ℕ) (x : Mark) → IsFurth
 further_set first marks new t x f lt ne e = λ s met. subst (λ (list : List Mark). mark_at list s ≢ New) (sym e) (further marks t x lt ne s (f s met))
 
 pub caught_back : (code : Code) (marks : List Mark) (before path done : List ℕ) (slot next : ℕ) → IsWalk code marks before done →
-    before ≡ path ++ slot ∷ [] → IsWay code marks slot (Back next) → AreClear code marks × IsOnCycle code next
+    before ≡ path ++ slot ∷ [] → IsWay code marks slot (Back next) → IsOnCycle code next
 caught_back code marks before path done slot next w is way =
-    (clear_marks code marks before done w, cycle_back code marks path done slot next (split code marks before path done slot w is) way.0 way.1)
+    cycle_back code marks path done slot next (split code marks before path done slot w is) way.0 way.1
 
 -- a walk of one slot
 pub walk_started : (code : Code) (marks : List Mark) (path later done : List ℕ) (slot : ℕ) (m : Mark) → IsWalk code marks path done → path ≡ [] →
@@ -318,7 +292,7 @@ pub met_of : (code : Code) (marks : List Mark) (slot : ℕ) (r : Result Walked N
     IfOk r (λ walked. HasEnded code (slice_set marks slot Open) walked) → IfOk r (λ walked. HasMet slot walked)
 met_of code marks slot (Ok (All walk)) lt h =
     h.2 slot (marked_so (mark_at (slice_set marks slot Open) slot) Open New (mark_same marks slot slot Open lt refl) open_new)
-met_of code marks slot (Ok (Cycle found met)) lt h = tt
+met_of code marks slot (Ok (Cycle met)) lt h = tt
 met_of code marks slot (Err e) lt h = tt
 
 pub met_already : (marks : List Mark) (slot : ℕ) (m : Mark) → slot < length marks → m ≡ get_or marks slot m → m ≢ New → mark_at marks slot ≢ New

@@ -5,6 +5,7 @@ pub mod Faults
 pub mod Flow
 pub mod Reached
 pub mod Cycles
+pub mod Numbers
 pub mod Refusals
 pub mod Forward
 pub mod Walks

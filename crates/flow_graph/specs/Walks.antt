@@ -55,25 +55,20 @@ IsWay code marks slot (To next) = IsJoint code slot next × (mark_at marks next 
 IsWay code marks slot (Back next) = IsJoint code slot next × (mark_at marks next ≡ Open)
 IsWay code marks slot Finished = (s : ℕ) → IsJoint code slot s → mark_at marks s ≡ Done
 
--- nothing that is done is on a cycle
-pub record AreClear (code : Code) (marks : List Mark) : Type 0 where
-  pub slots : length marks ≡ length code
-  pub clear : (s : ℕ) → mark_at marks s ≡ Done → IsOnCycle code s → ⊥
-
 -- the walk is at its end, or at a cycle
 abbrev pub HasEnded : Code → List Mark → Walked → Type 0
 HasEnded code marks (All walk) =
     IsWalk code walk.marks.items walk.path.items walk.done.items × (walk.path.items ≡ [])
     × IsFurther marks walk.marks.items
-HasEnded code marks (Cycle found slot) = AreClear code found.items × IsOnCycle code slot
+HasEnded code marks (Cycle slot) = IsOnCycle code slot
 
 -- at its end the walk has met the slot
 abbrev pub HasMet : ℕ → Walked → Type 0
 HasMet slot (All walk) = mark_at walk.marks.items slot ≢ New
-HasMet slot (Cycle found met) = Unit {0}
+HasMet slot (Cycle met) = Unit {0}
 
 -- what the walk was done with last stands first in an order, or there is a cycle
 abbrev pub HasWalked : Code → Walked → Type 0
 HasWalked code (All walk) =
     IsOrder code (reverse walk.done.items) × (length walk.done.items ≤ length code)
-HasWalked code (Cycle found slot) = AreClear code found.items × IsOnCycle code slot
+HasWalked code (Cycle slot) = IsOnCycle code slot

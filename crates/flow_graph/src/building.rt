@@ -44,8 +44,8 @@ pub fn build(alloc: Global, placed: &[Placed]) -> Result<Graph, FlowFault>
         return Ok(Graph::of(code, order));
     }
     match walk_all(alloc, &code)? {
-        Walked::Cycle(marks, known) => {
-            let slot = first_on_cycle(alloc, &code, &marks, known)?;
+        Walked::Cycle(known) => {
+            let slot = first_on_cycle(alloc, &code, known)?;
             Err(FlowFault::Cycle(slot))
         }
         Walked::All(walk) => match first_unreached(alloc, &code)? {

@@ -3,6 +3,7 @@
 
 mod building;
 mod checks;
+mod components;
 mod cycle;
 mod fault;
 mod forward;

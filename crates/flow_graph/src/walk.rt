@@ -50,7 +50,7 @@ pub(crate) enum Walked {
     /// With nothing left of its path.
     All(Walk),
     /// At a slot on a cycle.
-    Cycle(Vec<Mark>, u32),
+    Cycle(u32),
 }
 
 impl Walk {
@@ -121,7 +121,7 @@ fn walk_on(code: &[Option<Insn>], mut walk: Walk) -> Result<Walked, NoMemory>
     while let Some(slot) = walk.path.pop() {
         match way_on(code, &walk.marks, slot) {
             Way::To(next) => walk.enter(slot, next)?,
-            Way::Back(next) => return Ok(Walked::Cycle(walk.marks, next)),
+            Way::Back(next) => return Ok(Walked::Cycle(next)),
             Way::Finished => walk.leave(slot)?,
         }
     }
@@ -161,7 +161,7 @@ pub(crate) fn walk_all(alloc: Global, code: &[Option<Insn>]) -> Result<Walked, N
         if begins_at(code, slot) {
             match walk_from(code, walk, slot)? {
                 Walked::All(further) => walk = further,
-                Walked::Cycle(marks, slot) => return Ok(Walked::Cycle(marks, slot)),
+                Walked::Cycle(slot) => return Ok(Walked::Cycle(slot)),
             }
         }
     }

@@ -9,6 +9,7 @@ ghost use Rattle.insn_codec.specs.Steps.{IsSpelledBy, StepFault, FieldFault, Hal
 use crate::fault::CodecFault;
 use crate::insn::{AluOp, Condition, Insn, LoadKind, Operand, Placed, Size, Width};
 use crate::limits::MAX_SLOTS;
+use crate::opcodes::operation_by_opcode;
 use crate::operation::{
     Operation, Source, fields_used, operation_from, registers_are_named, unused_are_zero,
 };
@@ -158,7 +159,8 @@ fn insn_from(operation: Operation, slot: Slot, high: u32) -> Insn
     }
 }
 
-/// The row of a slot with no fault of fields.
+/// The row of a slot with no fault of fields, or the fault.
+#[inline(never)]
 fn clean_operation(slot: &Slot) -> Result<Operation, SlotFault>
     ensures { MatchResult result (λ op. IsClean op slot.now) (λ e. FieldFault e slot.now) }
 {
@@ -173,6 +175,19 @@ fn clean_operation(slot: &Slot) -> Result<Operation, SlotFault>
         return Err(SlotFault::UnusedField);
     }
     Ok(operation)
+}
+
+/// The row of the first slot, with no fault of fields, or the fault. The table of opcodes has most.
+fn first_operation(rest: &[u8], slot: &Slot) -> Result<Operation, SlotFault>
+    requires long { 8 ≤ length rest.now }
+    requires read { slot.now ≡ slot_at rest.now }
+    ensures { MatchResult result (λ op. IsClean op slot.now) (λ e. FieldFault e slot.now) }
+{
+    match operation_by_opcode(slot) {
+        Some(operation) => Ok(operation),
+        // read anew, so that `slot` needs no place in memory
+        None => clean_operation(&read_slot(rest)),
+    }
 }
 
 /// What follows the first slot of a wide instruction: the other half of its value.
@@ -199,7 +214,7 @@ fn first_insn(rest: &[u8]) -> Result<Insn, SlotFault>
     ensures fault { IfErr result (λ e. StepFault e rest.now) }
 {
     let slot = read_slot(rest);
-    let operation = clean_operation(&slot)?;
+    let operation = first_operation(rest, &slot)?;
     let high = match operation {
         Operation::LoadWide => high_half(rest.split_at(8).1)?,
         _ => 0,
@@ -255,7 +270,7 @@ pub fn decode(alloc: Global, bytes: &[u8]) -> Result<Vec<Placed>, CodecFault>
             Ok(insn) => insn,
             Err(fault) => return Err(fault.at(slot)),
         };
-        placed.push(Placed { slot, insn })?;
+        placed.push_reserved(Placed { slot, insn });
         let slots = insn.slots();
         rest = rest.split_at(8 * slots as usize).1;
         slot += slots;

@@ -7,6 +7,7 @@ mod fault;
 mod insn;
 mod laws;
 mod limits;
+mod opcodes;
 mod operation;
 mod register;
 mod slot;

@@ -2,14 +2,14 @@
 
 ghost use Rattle.std.specs.Prelude.{◌≡◌, ℕ, ◌+◌, ◌-◌, ◌≤◌, length, IsTrue, IsFalse, take, drop};
 ghost use Rattle.helpers.specs.Piece.{Piece};
-ghost use Rattle.interpreter.specs.Telling.{Took, Refused};
+ghost use Rattle.interpreter.specs.Telling.{Took, Declined, Refused};
 
 use helpers::{Part, SpawnRecord, Spawner};
 use std::alloc::Global;
 
 /// Cuts the last `count` bytes off the part and hands them over to a child. Where there is no
-/// memory, or the spawner refuses the child, the part is whole again. Where the child is taken,
-/// nothing comes back, so that the part needs no room for it.
+/// memory, or the spawner refuses the child, the part is whole again. A whole part takes no memory
+/// to cut off. Where the child is taken, nothing comes back, so that the part needs no room for it.
 pub fn hand_over<S: Spawner>(
     alloc: Global,
     program: u16,
@@ -48,6 +48,16 @@ pub fn hand_over<S: Spawner>(
         (part.old.base + (length part.old.bytes - count))
         (λ child reply. S.spawns spawner.old child reply spawner.new)
         (spawner.new ≡ spawner.old) }
+    ensures declined { IsFalse result → count ≡ length part.old.bytes →
+        Declined (record {
+          program = program;
+          share = share;
+          arg = arg;
+          bytes = drop
+              (length part.old.bytes - count) part.old.bytes;
+        })
+        (part.old.base + (length part.old.bytes - count))
+        (λ child reply. S.spawns spawner.old child reply spawner.new) }
     ensures entries { S.entries spawner.new ≡ S.entries spawner.old }
 {
     let Ok(piece) = part.cut(alloc, count) else {

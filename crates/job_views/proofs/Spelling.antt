@@ -1,5 +1,5 @@
 -- The programs of a job are spelled, one after the other.
-use Rattle.std.proofs.Common.{◌≡◌, ◌⊎◌, ℕ, ◌<◌, ◌≤◌, ◌+◌, inl, inr, get_or, List, [], ◌∷◌, ◌++◌, length, map, slice_get, refl, sym, ◌∙◌, arith, ap, subst, Some, None}
+use Rattle.std.proofs.Common.{◌≡◌, ◌⊎◌, ℕ, ◌<◌, ◌≤◌, ◌+◌, inl, inr, get_or, List, [], ◌∷◌, ◌++◌, length, slice_get, sym, ◌∙◌, arith, ap, subst, Some, None}
 use Rattle.std.proofs.lemmas.List.{length-append}
 use Rattle.std.proofs.lemmas.Option.{slice_get_cases, slice_get_within}
 use Rattle.machine_model.proofs.Places.{pushed}

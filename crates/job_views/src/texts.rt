@@ -1,28 +1,56 @@
 //! Steps and trees as text.
 
+ghost use Rattle.std.specs.Prelude.{◌≡◌, string_bytes, IfOk};
+ghost use Rattle.run_trace.specs.TreeTexts.{tree_text};
+ghost use Rattle.job_views.specs.Lines.{object_line, object_lines, step_line, step_lines};
+
 use refusal::NoMemory;
 use run_trace::{JobJson, JobStep, Tree, TreeDrawing};
 use std::alloc::Global;
 
+/// The line of a step.
+#[tactic(auto, unfolding(crate::specs::Lines::step_line))]
+fn step_line(alloc: Global, step: &JobStep) -> Result<String, NoMemory>
+    ensures { IfOk result (λ line. string_bytes line ≡ step_line step.now) }
+{
+    Ok(format!(in alloc; "{step}\n")?)
+}
+
 /// A line for each step.
-pub fn step_lines(alloc: Global, steps: &[JobStep]) -> Result<String, NoMemory> {
+pub fn step_lines(alloc: Global, steps: &[JobStep]) -> Result<String, NoMemory>
+    ensures { IfOk result (λ text. string_bytes text ≡ step_lines steps.now) }
+{
     let mut text = String::new(alloc);
     for step in steps {
-        text.push_str(format!(in alloc; "{step}\n")?.as_str())?;
+        let line = step_line(alloc, step)?;
+        text.push_str(line.as_str())?;
     }
     Ok(text)
 }
 
+/// The JSON object of a step, on a line.
+#[tactic(auto, unfolding(crate::specs::Lines::object_line))]
+fn object_line(alloc: Global, step: &JobStep) -> Result<String, NoMemory>
+    ensures { IfOk result (λ line. string_bytes line ≡ object_line step.now) }
+{
+    Ok(format!(in alloc; "{}\n", JobJson(step))?)
+}
+
 /// A JSON object for each step, on a line each.
-pub fn step_objects(alloc: Global, steps: &[JobStep]) -> Result<String, NoMemory> {
+pub fn step_objects(alloc: Global, steps: &[JobStep]) -> Result<String, NoMemory>
+    ensures { IfOk result (λ text. string_bytes text ≡ object_lines steps.now) }
+{
     let mut text = String::new(alloc);
     for step in steps {
-        text.push_str(format!(in alloc; "{}\n", JobJson(step))?.as_str())?;
+        let line = object_line(alloc, step)?;
+        text.push_str(line.as_str())?;
     }
     Ok(text)
 }
 
 /// The tree as a graph in the language DOT.
-pub fn tree_text(alloc: Global, tree: &Tree) -> Result<String, NoMemory> {
+pub fn tree_text(alloc: Global, tree: &Tree) -> Result<String, NoMemory>
+    ensures { IfOk result (λ text. string_bytes text ≡ tree_text tree.now.tasks.items) }
+{
     Ok(format!(in alloc; "{}", TreeDrawing(tree))?)
 }

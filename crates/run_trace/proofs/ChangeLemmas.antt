@@ -27,10 +27,23 @@ push_old [] x c k e = absurd (nothing c e)
 push_old (y ∷ xs) x c zero e = e
 push_old (y ∷ xs) x c (suc k) e = push_old xs x c k e
 
+-- the one behind the others, or one of these
+push_places : (xs : List Change) (x c : Change) (k : ℕ) → slice_get (xs ++ x ∷ []) k ≡ Some c →
+    ((k < length xs) × (slice_get xs k ≡ Some c)) ⊎ ((k ≡ length xs) × (x ≡ c))
+push_places [] x c zero e = inr (refl, cc)
+push_places [] x c (suc k) e = absurd (nothing c e)
+push_places (y ∷ xs) x c zero e = inl (omega arith, e)
+push_places (y ∷ xs) x c (suc k) e = elim (push_places xs x c k e) [
+  | inl old ↦ inl (let lt = old.0 in omega (arith, lt), old.1)
+  | inr new ↦ inr (ap (λ (n : ℕ). suc n) new.0, new.1)
+]
+
 -- what is told of the registers below n
 pub record AreTold (old new : Registers) (changes : List Change) (n : ℕ) : Type 0 where
   pub told : (k : ℕ) (c : Change) → slice_get changes k ≡ Some c → (new c.register ≡ value_of c.content) × (old c.register ≢ new c.register)
   pub others : (r : ℕ) → r < n → ((k : ℕ) (c : Change) → slice_get changes k ≡ Some c → c.register ≢ r) → new r ≡ old r
+  pub below : (k : ℕ) (c : Change) → slice_get changes k ≡ Some c → c.register < n
+  pub rising : (j k : ℕ) (c d : Change) → j < k → slice_get changes j ≡ Some c → slice_get changes k ≡ Some d → c.register < d.register
 
 pub told_more : (old new : Registers) (changes : List Change) (n : ℕ) (x : Change) → x.register ≡ n → new n ≡ value_of x.content → old n ≢ new n →
     AreTold old new changes n → AreTold old new (changes ++ x ∷ []) (n + 1)
@@ -46,6 +59,23 @@ told_more old new changes n x at holds other t = record {
     | inl low ↦ t.others r low (λ k c e. none k c (push_old changes x c k e))
     | inr high ↦ absurd (none (length changes) x (push_last changes x) (at ∙ (let e : n ≡ r = omega (arith, lt, high) in e)))
   ];
+  below = λ k c e. elim (push_cases changes x c k e) [
+    | inl before ↦ let lt = t.below k c before in omega (arith, lt)
+    | inr same ↦ let is : c.register ≡ n = sym (ap (λ (d : Change). d.register) same) ∙ at in omega (arith, is)
+  ];
+  rising = λ j k c d lt one two. elim (push_places changes x c j one) [
+    | inl first ↦ elim (push_cases changes x d k two) [
+      | inl before ↦ t.rising j k c d lt first.1 before
+      | inr same ↦
+          let is : d.register ≡ n = sym (ap (λ (e : Change). e.register) same) ∙ at in
+          let low = t.below j c first.1 in
+          omega (arith, is, low)
+    ]
+    | inr last ↦ elim (push_places changes x d k two) [
+      | inl before ↦ let a = last.0 in let b = before.0 in absurd (omega (arith, a, b, lt))
+      | inr again ↦ let a = last.0 in let b = again.0 in absurd (omega (arith, a, b, lt))
+    ]
+  ];
 }
 
 pub told_same : (old new : Registers) (changes : List Change) (n : ℕ) → new n ≡ old n → AreTold old new changes n → AreTold old new changes (n + 1)
@@ -55,6 +85,8 @@ told_same old new changes n same t = record {
     | inl low ↦ t.others r low none
     | inr high ↦ subst (λ (k : ℕ). new k ≡ old k) (let e : n ≡ r = omega (arith, lt, high) in e) same
   ];
+  below = λ k c e. let lt = t.below k c e in omega (arith, lt);
+  rising = t.rising;
 }
 
 pub alike : (x y : Content) → value_of x ≡ value_of y → x ≡ y
@@ -87,4 +119,5 @@ told_all old new changes n before after all t = record {
     | inl low ↦ let under : r < n = omega (arith, low, all) in t.others r under none
     | inr high ↦ outside old new r (omega (arith, before, high)) (omega (arith, after, high))
   ];
+  rising = t.rising;
 }

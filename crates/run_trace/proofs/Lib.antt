@@ -5,3 +5,4 @@ pub mod ChangeLemmas
 pub mod SameTrace
 pub mod Running
 pub mod JobLemmas
+mod Growing

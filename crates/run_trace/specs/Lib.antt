@@ -6,3 +6,7 @@ pub mod Spelled
 pub mod JobSteps
 pub mod Trees
 pub mod JobTelling
+pub mod StepTexts
+pub mod StepObjects
+pub mod TreeTexts
+pub mod Ways

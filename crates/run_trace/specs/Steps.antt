@@ -11,11 +11,14 @@ use Rattle.run_trace.specs.declared.step.Step.{Step}
 use Rattle.run_trace.specs.declared.step.Written.{Written}
 
 -- Each register that is told holds this, and held something else. The others hold what they did.
+-- Each is told once, in the order of their numbers.
 pub record AreChanges (old new : Registers) (changes : List Change) : Type 0 where
   pub told : (k : ℕ) (c : Change) → slice_get changes k ≡ Some c
       → (new c.register ≡ value_of c.content) × (old c.register ≢ new c.register)
   pub others : (r : ℕ) → ((k : ℕ) (c : Change) → slice_get changes k ≡ Some c → c.register ≢ r)
       → new r ≡ old r
+  pub rising : (j k : ℕ) (c d : Change) → j < k → slice_get changes j ≡ Some c
+      → slice_get changes k ≡ Some d → c.register < d.register
 
 -- a byte that is another than before
 abbrev pub IsOther : List ℕ → List ℕ → ℕ → Type 0

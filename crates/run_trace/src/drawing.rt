@@ -1,5 +1,8 @@
 //! A picture of a program, in the language DOT.
 
+ghost use Rattle.std.specs.Prelude.{◌↔◌, IsTrue};
+ghost use Rattle.run_trace.specs.Ways.{IsOnWay, IsStepOn};
+
 use explain::{Block, Content, Explanation, Picture, Place};
 use flow_graph::Next;
 use insn_codec::Register;
@@ -32,9 +35,11 @@ fn way_in(why: &Option<Explanation>) -> &[u32] {
 }
 
 /// Whether the way passes the slot.
-fn is_on_way(way: &[u32], slot: u32) -> bool {
-    for one in way {
-        if *one == slot {
+fn is_on_way(way: &[u32], slot: u32) -> bool
+    ensures { IsTrue result ↔ IsOnWay way.now slot }
+{
+    for place in 0..way.len() {
+        if way[place] == slot {
             return true;
         }
     }
@@ -42,13 +47,15 @@ fn is_on_way(way: &[u32], slot: u32) -> bool {
 }
 
 /// Whether the way goes from the one slot to the other at once.
-fn is_step(way: &[u32], from: u32, to: u32) -> bool {
-    let mut before = None;
-    for one in way {
-        if before == Some(from) && *one == to {
+fn is_step(way: &[u32], from: u32, to: u32) -> bool
+    ensures { IsTrue result ↔ IsStepOn way.now from to }
+{
+    for place in 1..way.len() {
+        let begins = way[place - 1] == from;
+        let ends = way[place] == to;
+        if begins && ends {
             return true;
         }
-        before = Some(*one);
     }
     false
 }

@@ -1,6 +1,6 @@
 //! The programs of a job, as the definitions have them.
 
-ghost use Rattle.std.specs.Prelude.{◌≡◌, ◌∷◌, ◌++◌, ℕ, [], List, OnOk};
+ghost use Rattle.std.specs.Prelude.{◌≡◌, ◌∷◌, ◌++◌, ℕ, [], List, OnErr, OnOk};
 ghost use Rattle.insn_codec.specs.declared.insn.Placed.{Placed};
 ghost use Rattle.helpers.specs.Table.{job_table};
 ghost use Rattle.machine_model.specs.Machine.{Program};
@@ -40,13 +40,16 @@ impl JobPrograms {
         }
     }
 
-    /// One program more, which is accepted. Refused for want of memory alone.
+    /// One program more, which is accepted. Refused for want of memory alone, after which the
+    /// programs are as they were.
     pub fn add(&mut self, alloc: Global, need: u32, code: &[u8]) -> Result<(), NoMemory>
         requires { (v : Checked) × IsAccepted need code.now job_table v }
-        ensures { OnOk result ((placed : List Placed) × (p : Program)
+        ensures added { OnOk result ((placed : List Placed) × (p : Program)
             × IsSpelled need code.now placed p
             × (listings_of self.new ≡ listings_of self.old ++ placed ∷ [])
             × (programs_of self.new ≡ programs_of self.old ++ p ∷ [])) }
+        ensures refused { OnErr result ((self.new.listings.items ≡ self.old.listings.items)
+            × (self.new.programs.items ≡ self.old.programs.items)) }
     {
         let placed = match decode(alloc, code) {
             Ok(placed) => placed,
@@ -61,13 +64,15 @@ impl JobPrograms {
         let table = costs(alloc, &graph)?;
         let arities = [None, Some(4), Some(0), Some(0), Some(3), Some(2)];
         let registered = Vec::from_array(alloc, arities)?;
-        self.programs.push(ReferenceProgram {
+        self.listings.reserve(1)?;
+        self.programs.reserve(1)?;
+        self.programs.push_reserved(ReferenceProgram {
             need,
             code: graph.into_code(),
             costs: table.into_table(),
             registered,
-        })?;
-        self.listings.push(Listed { placed })?;
+        });
+        self.listings.push_reserved(Listed { placed });
         Ok(())
     }
 }

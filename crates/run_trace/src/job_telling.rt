@@ -5,6 +5,11 @@ use crate::json::Members;
 use std::fmt;
 
 impl fmt::Display for Born {
+    ghost use Rattle.std.specs.Prelude.{Some};
+    ghost use Rattle.run_trace.specs.StepTexts.{born_text};
+
+    ghost output = { λ born. Some (born_text born) };
+
     fn fmt<W: fmt::Write>(&self, f: &mut fmt::Formatter<W>) -> fmt::Result {
         write!(
             f,
@@ -15,6 +20,11 @@ impl fmt::Display for Born {
 }
 
 impl fmt::Display for Came {
+    ghost use Rattle.std.specs.Prelude.{Some};
+    ghost use Rattle.run_trace.specs.StepTexts.{came_text};
+
+    ghost output = { λ came. Some (came_text came) };
+
     fn fmt<W: fmt::Write>(&self, f: &mut fmt::Formatter<W>) -> fmt::Result {
         match self {
             Came::Went => Ok(()),
@@ -25,6 +35,11 @@ impl fmt::Display for Came {
 }
 
 impl fmt::Display for JobStep {
+    ghost use Rattle.std.specs.Prelude.{Some};
+    ghost use Rattle.run_trace.specs.StepTexts.{job_step_text};
+
+    ghost output = { λ told. Some (job_step_text told) };
+
     fn fmt<W: fmt::Write>(&self, f: &mut fmt::Formatter<W>) -> fmt::Result {
         write!(f, "task {}, {}{}", self.task, self.step, self.came)
     }
@@ -35,6 +50,11 @@ impl fmt::Display for JobStep {
 struct Outcome(Came);
 
 impl fmt::Display for Outcome {
+    ghost use Rattle.std.specs.Prelude.{Some};
+    ghost use Rattle.run_trace.specs.StepObjects.{outcome_member};
+
+    ghost output = { λ outcome. Some (outcome_member outcome.0) };
+
     fn fmt<W: fmt::Write>(&self, f: &mut fmt::Formatter<W>) -> fmt::Result {
         match self.0 {
             Came::Went => Ok(()),
@@ -53,6 +73,11 @@ impl fmt::Display for Outcome {
 pub struct JobJson<'a>(pub &'a JobStep);
 
 impl<'a> fmt::Display for JobJson<'a> {
+    ghost use Rattle.std.specs.Prelude.{Some};
+    ghost use Rattle.run_trace.specs.StepObjects.{job_step_object};
+
+    ghost output = { λ json. Some (job_step_object json.0.now) };
+
     fn fmt<W: fmt::Write>(&self, f: &mut fmt::Formatter<W>) -> fmt::Result {
         let told = self.0;
         let members = Members(&told.step);

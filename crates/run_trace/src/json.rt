@@ -13,6 +13,11 @@ pub struct Json<'a>(pub &'a Step);
 struct Member<'a>(&'a str, &'a Option<Written>);
 
 impl<'a> fmt::Display for Member<'a> {
+    ghost use Rattle.std.specs.Prelude.{Some};
+    ghost use Rattle.run_trace.specs.StepObjects.{region_member};
+
+    ghost output = { λ member. Some (region_member member.0.now member.1.now) };
+
     fn fmt<W: fmt::Write>(&self, f: &mut fmt::Formatter<W>) -> fmt::Result {
         match self.1 {
             Some(written) => {
@@ -28,39 +33,135 @@ impl<'a> fmt::Display for Member<'a> {
     }
 }
 
+/// The line of the source text, as a member.
+#[derive(Clone, Copy)]
+struct LineMember(Option<u64>);
+
+impl fmt::Display for LineMember {
+    ghost use Rattle.std.specs.Prelude.{Some};
+    ghost use Rattle.run_trace.specs.StepObjects.{line_member};
+
+    ghost output = { λ member. Some (line_member member.0) };
+
+    fn fmt<W: fmt::Write>(&self, f: &mut fmt::Formatter<W>) -> fmt::Result {
+        match self.0 {
+            Some(line) => write!(f, ",\"line\":{line}"),
+            None => Ok(()),
+        }
+    }
+}
+
+/// A register that changed, as a member.
+#[derive(Clone, Copy)]
+struct RegisterMember<'a>(&'a Change);
+
+impl<'a> fmt::Display for RegisterMember<'a> {
+    ghost use Rattle.std.specs.Prelude.{Some};
+    ghost use Rattle.run_trace.specs.StepObjects.{register_member};
+
+    ghost output = { λ member. Some (register_member member.0.now) };
+
+    fn fmt<W: fmt::Write>(&self, f: &mut fmt::Formatter<W>) -> fmt::Result {
+        let change = *self.0;
+        write!(
+            f,
+            "\"r{}\":\"{}\"",
+            change.register,
+            Holding(change.content)
+        )
+    }
+}
+
+/// Members behind the first, each behind a comma.
+#[derive(Clone, Copy)]
+struct FurtherMembers<'a>(&'a [Change]);
+
+impl<'a> fmt::Display for FurtherMembers<'a> {
+    ghost use Rattle.std.specs.Prelude.{Some};
+    ghost use Rattle.run_trace.specs.StepObjects.{further_members};
+
+    ghost output = { λ members. Some (further_members members.0.now) };
+
+    fn fmt<W: fmt::Write>(&self, f: &mut fmt::Formatter<W>) -> fmt::Result {
+        for change in self.0 {
+            write!(f, ",{}", RegisterMember(change))?;
+        }
+        Ok(())
+    }
+}
+
+/// The registers that changed, as members.
+#[derive(Clone, Copy)]
+struct RegisterMembers<'a>(&'a [Change]);
+
+impl<'a> fmt::Display for RegisterMembers<'a> {
+    ghost use Rattle.std.specs.Prelude.{Some};
+    ghost use Rattle.run_trace.specs.StepObjects.{register_members};
+
+    ghost output = { λ members. Some (register_members members.0.now) };
+
+    fn fmt<W: fmt::Write>(&self, f: &mut fmt::Formatter<W>) -> fmt::Result {
+        match self.0.split_first() {
+            Some((first, more)) => {
+                write!(f, "{}{}", RegisterMember(first), FurtherMembers(more))
+            }
+            None => Ok(()),
+        }
+    }
+}
+
+/// What a step changed, as members.
+#[derive(Clone, Copy)]
+struct Effects<'a>(&'a Step);
+
+impl<'a> fmt::Display for Effects<'a> {
+    ghost use Rattle.std.specs.Prelude.{Some};
+    ghost use Rattle.run_trace.specs.StepObjects.{effect_members};
+
+    ghost output = { λ effects. Some (effect_members effects.0.now) };
+
+    fn fmt<W: fmt::Write>(&self, f: &mut fmt::Formatter<W>) -> fmt::Result {
+        let step = self.0;
+        let registers = RegisterMembers(&step.registers);
+        let (stack, part) = (Member("stack", &step.stack), Member("part", &step.part));
+        write!(
+            f,
+            ",\"registers\":{{{registers}}}{stack}{part},\"used\":{}",
+            step.used
+        )
+    }
+}
+
 /// The members of a step.
 #[derive(Clone, Copy)]
 pub(crate) struct Members<'a>(pub(crate) &'a Step);
 
 impl<'a> fmt::Display for Members<'a> {
+    ghost use Rattle.std.specs.Prelude.{Some};
+    ghost use Rattle.run_trace.specs.StepObjects.{step_members};
+
+    ghost output = { λ members. Some (step_members members.0.now) };
+
     fn fmt<W: fmt::Write>(&self, f: &mut fmt::Formatter<W>) -> fmt::Result {
         let step = self.0;
         let place = &step.place;
-        write!(f, "\"slot\":{},\"insn\":\"{}\"", place.slot, place.text)?;
-        if let Some(line) = place.line {
-            write!(f, ",\"line\":{line}")?;
-        }
-        write!(f, ",\"registers\":{{")?;
-        let mut is_first = true;
-        let changes: &[Change] = &step.registers;
-        for change in changes {
-            if !is_first {
-                write!(f, ",")?;
-            }
-            is_first = false;
-            write!(
-                f,
-                "\"r{}\":\"{}\"",
-                change.register,
-                Holding(change.content)
-            )?;
-        }
-        let (stack, part) = (Member("stack", &step.stack), Member("part", &step.part));
-        write!(f, "}}{stack}{part},\"used\":{}", step.used)
+        write!(
+            f,
+            "\"slot\":{},\"insn\":\"{}\"{}{}",
+            place.slot,
+            place.text,
+            LineMember(place.line),
+            Effects(step)
+        )
     }
 }
 
 impl<'a> fmt::Display for Json<'a> {
+    ghost use Rattle.std.specs.Prelude.{Some};
+    ghost use Rattle.run_trace.specs.StepObjects.{step_object};
+
+    ghost output = { λ json. Some (step_object json.0.now) };
+
     fn fmt<W: fmt::Write>(&self, f: &mut fmt::Formatter<W>) -> fmt::Result {
         write!(f, "{{{}}}", Members(self.0))
     }

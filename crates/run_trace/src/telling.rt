@@ -55,14 +55,35 @@ impl fmt::Display for Change {
     }
 }
 
+/// A byte in hexadecimal.
+#[derive(Clone, Copy)]
+struct HexByte(u8);
+
+impl fmt::Display for HexByte {
+    ghost use Rattle.std.specs.Prelude.{Some};
+    ghost use Rattle.run_trace.specs.StepTexts.{hex_byte};
+
+    ghost output = { λ byte. Some (hex_byte byte.0) };
+
+    fn fmt<W: fmt::Write>(&self, f: &mut fmt::Formatter<W>) -> fmt::Result {
+        let byte = self.0;
+        write!(f, "{byte:02x}")
+    }
+}
+
 /// Bytes in hexadecimal.
 #[derive(Clone, Copy)]
 pub(crate) struct Digits<'a>(pub(crate) &'a [u8]);
 
 impl<'a> fmt::Display for Digits<'a> {
+    ghost use Rattle.std.specs.Prelude.{Some};
+    ghost use Rattle.run_trace.specs.StepTexts.{hex_text};
+
+    ghost output = { λ digits. Some (hex_text digits.0.now) };
+
     fn fmt<W: fmt::Write>(&self, f: &mut fmt::Formatter<W>) -> fmt::Result {
         for byte in self.0 {
-            write!(f, "{byte:02x}")?;
+            write!(f, "{}", HexByte(*byte))?;
         }
         Ok(())
     }
@@ -70,24 +91,65 @@ impl<'a> fmt::Display for Digits<'a> {
 
 /// What was written: where, and the bytes.
 impl fmt::Display for Written {
+    ghost use Rattle.std.specs.Prelude.{Some};
+    ghost use Rattle.run_trace.specs.StepTexts.{written_text};
+
+    ghost output = { λ written. Some (written_text written) };
+
     fn fmt<W: fmt::Write>(&self, f: &mut fmt::Formatter<W>) -> fmt::Result {
         write!(f, "+{} {}", self.at, Digits(&self.bytes))
     }
 }
 
-impl fmt::Display for Step {
+/// The registers that changed.
+#[derive(Clone, Copy)]
+struct Changes<'a>(&'a [Change]);
+
+impl<'a> fmt::Display for Changes<'a> {
+    ghost use Rattle.std.specs.Prelude.{Some};
+    ghost use Rattle.run_trace.specs.StepTexts.{changes_text};
+
+    ghost output = { λ changes. Some (changes_text changes.0.now) };
+
     fn fmt<W: fmt::Write>(&self, f: &mut fmt::Formatter<W>) -> fmt::Result {
-        write!(f, "{} ; ", self.place)?;
-        let changes: &[Change] = &self.registers;
-        for change in changes {
+        for change in self.0 {
             write!(f, "{change}, ")?;
         }
-        if let Some(written) = &self.stack {
-            write!(f, "stack{written}, ")?;
+        Ok(())
+    }
+}
+
+/// The bytes of a region that changed, behind its name.
+#[derive(Clone, Copy)]
+struct Region<'a>(&'a str, &'a Option<Written>);
+
+impl<'a> fmt::Display for Region<'a> {
+    ghost use Rattle.std.specs.Prelude.{Some};
+    ghost use Rattle.run_trace.specs.StepTexts.{region_text};
+
+    ghost output = { λ region. Some (region_text region.0.now region.1.now) };
+
+    fn fmt<W: fmt::Write>(&self, f: &mut fmt::Formatter<W>) -> fmt::Result {
+        match self.1 {
+            Some(written) => write!(f, "{}{written}, ", self.0),
+            None => Ok(()),
         }
-        if let Some(written) = &self.part {
-            write!(f, "part{written}, ")?;
-        }
-        write!(f, "used {}", self.used)
+    }
+}
+
+impl fmt::Display for Step {
+    ghost use Rattle.std.specs.Prelude.{Some};
+    ghost use Rattle.run_trace.specs.StepTexts.{step_text};
+
+    ghost output = { λ step. Some (step_text step) };
+
+    fn fmt<W: fmt::Write>(&self, f: &mut fmt::Formatter<W>) -> fmt::Result {
+        let changes = Changes(&self.registers);
+        let (stack, part) = (Region("stack", &self.stack), Region("part", &self.part));
+        write!(
+            f,
+            "{} ; {changes}{stack}{part}used {}",
+            self.place, self.used
+        )
     }
 }

@@ -1,22 +1,63 @@
 //! The tree of a job's tasks, in the language DOT.
 
 use crate::tree::{Tree, parent_of};
-use reference::EndedTask;
+use reference::{EndedTask, FinishedTask};
 use std::fmt;
+
+/// Numbers, each behind a slash.
+#[derive(Clone, Copy)]
+struct Numbers<'a>(&'a [u64]);
+
+impl<'a> fmt::Display for Numbers<'a> {
+    ghost use Rattle.std.specs.Prelude.{Some};
+    ghost use Rattle.run_trace.specs.TreeTexts.{numbers_text};
+
+    ghost output = { λ numbers. Some (numbers_text numbers.0.now) };
+
+    fn fmt<W: fmt::Write>(&self, f: &mut fmt::Formatter<W>) -> fmt::Result {
+        for number in self.0 {
+            write!(f, "/{number}")?;
+        }
+        Ok(())
+    }
+}
 
 /// A task's place: a slash, and the numbers on the way there, with a slash between two.
 #[derive(Clone, Copy)]
 struct PlaceName<'a>(&'a [u64]);
 
 impl<'a> fmt::Display for PlaceName<'a> {
+    ghost use Rattle.std.specs.Prelude.{Some};
+    ghost use Rattle.run_trace.specs.TreeTexts.{place_name};
+
+    ghost output = { λ name. Some (place_name name.0.now) };
+
     fn fmt<W: fmt::Write>(&self, f: &mut fmt::Formatter<W>) -> fmt::Result {
         if self.0.is_empty() {
-            return write!(f, "/");
+            write!(f, "/")
+        } else {
+            write!(f, "{}", Numbers(self.0))
         }
-        for number in self.0 {
-            write!(f, "/{number}")?;
-        }
-        Ok(())
+    }
+}
+
+/// What a task was given and came to.
+#[derive(Clone, Copy)]
+struct TaskEnd<'a>(&'a EndedTask);
+
+impl<'a> fmt::Display for TaskEnd<'a> {
+    ghost use Rattle.std.specs.Prelude.{Some};
+    ghost use Rattle.run_trace.specs.TreeTexts.{end_text};
+
+    ghost output = { λ end. Some (end_text end.0.now) };
+
+    fn fmt<W: fmt::Write>(&self, f: &mut fmt::Formatter<W>) -> fmt::Result {
+        let task = self.0;
+        write!(
+            f,
+            "\\lspent {}, returned {}\\lr0 {}\\lbytes {} from {}\\l",
+            task.spent, task.rest, task.r0, task.size, task.base
+        )
     }
 }
 
@@ -25,15 +66,22 @@ impl<'a> fmt::Display for PlaceName<'a> {
 struct TaskBox<'a>(&'a EndedTask);
 
 impl<'a> fmt::Display for TaskBox<'a> {
+    ghost use Rattle.std.specs.Prelude.{Some};
+    ghost use Rattle.run_trace.specs.TreeTexts.{box_text};
+
+    ghost output = { λ task_box. Some (box_text task_box.0.now) };
+
     fn fmt<W: fmt::Write>(&self, f: &mut fmt::Formatter<W>) -> fmt::Result {
         let task = self.0;
         let place = PlaceName(&task.place);
-        write!(f, "  \"{place}\" [label=\"{place}\\l")?;
-        write!(f, "program {}, argument {}\\l", task.program, task.arg)?;
-        write!(f, "given {}\\l", task.given)?;
-        write!(f, "spent {}, returned {}\\l", task.spent, task.rest)?;
-        write!(f, "r0 {}\\l", task.r0)?;
-        write!(f, "bytes {} from {}\\l\"];\n", task.size, task.base)
+        write!(
+            f,
+            "  \"{place}\" [label=\"{place}\\lprogram {}, argument {}\\lgiven {}{}\"];\n",
+            task.program,
+            task.arg,
+            task.given,
+            TaskEnd(task)
+        )
     }
 }
 
@@ -42,6 +90,11 @@ impl<'a> fmt::Display for TaskBox<'a> {
 struct Edge<'a>(&'a [u64]);
 
 impl<'a> fmt::Display for Edge<'a> {
+    ghost use Rattle.std.specs.Prelude.{Some};
+    ghost use Rattle.run_trace.specs.TreeTexts.{edge_text};
+
+    ghost output = { λ edge. Some (edge_text edge.0.now) };
+
     fn fmt<W: fmt::Write>(&self, f: &mut fmt::Formatter<W>) -> fmt::Result {
         match parent_of(self.0) {
             Some(parent) => {
@@ -57,6 +110,41 @@ impl<'a> fmt::Display for Edge<'a> {
     }
 }
 
+/// A task's box, and the edge to it.
+#[derive(Clone, Copy)]
+struct Node<'a>(&'a FinishedTask);
+
+impl<'a> fmt::Display for Node<'a> {
+    ghost use Rattle.std.specs.Prelude.{Some};
+    ghost use Rattle.run_trace.specs.TreeTexts.{node_text};
+
+    ghost output = { λ node. Some (node_text node.0.now) };
+
+    #[tactic(auto, unfolding(crate::specs::TreeTexts::node_text))]
+    fn fmt<W: fmt::Write>(&self, f: &mut fmt::Formatter<W>) -> fmt::Result {
+        let task = &self.0.ending;
+        write!(f, "{}{}", TaskBox(task), Edge(&task.place))
+    }
+}
+
+/// A box for each task, and an edge to it.
+#[derive(Clone, Copy)]
+struct Nodes<'a>(&'a [FinishedTask]);
+
+impl<'a> fmt::Display for Nodes<'a> {
+    ghost use Rattle.std.specs.Prelude.{Some};
+    ghost use Rattle.run_trace.specs.TreeTexts.{nodes_text};
+
+    ghost output = { λ nodes. Some (nodes_text nodes.0.now) };
+
+    fn fmt<W: fmt::Write>(&self, f: &mut fmt::Formatter<W>) -> fmt::Result {
+        for finished in self.0 {
+            write!(f, "{}", Node(finished))?;
+        }
+        Ok(())
+    }
+}
+
 /// The tree as a graph in the language DOT: a box a task, with its program and its argument, the
 /// credit that it was given, what it spent and returned, R0, and the bytes of the buffer that it
 /// left, and an edge to each from its parent.
@@ -64,16 +152,17 @@ impl<'a> fmt::Display for Edge<'a> {
 pub struct TreeDrawing<'a>(pub &'a Tree);
 
 impl<'a> fmt::Display for TreeDrawing<'a> {
+    ghost use Rattle.std.specs.Prelude.{Some};
+    ghost use Rattle.run_trace.specs.TreeTexts.{tree_text};
+
+    ghost output = { λ drawing. Some (tree_text drawing.0.now.tasks.items) };
+
     fn fmt<W: fmt::Write>(&self, f: &mut fmt::Formatter<W>) -> fmt::Result {
+        let tree = self.0;
+        let nodes = Nodes(&tree.tasks);
         write!(
             f,
-            "digraph job {{\n  node [shape=box, fontname=\"monospace\"];\n"
-        )?;
-        for finished in &self.0.tasks {
-            let task = &finished.ending;
-            let place: &[u64] = &task.place;
-            write!(f, "{}{}", TaskBox(task), Edge(place))?;
-        }
-        write!(f, "}}\n")
+            "digraph job {{\n  node [shape=box, fontname=\"monospace\"];\n{nodes}}}\n"
+        )
     }
 }

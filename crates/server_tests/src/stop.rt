@@ -2,6 +2,7 @@
 
 ghost use Rattle.std.specs.Prelude.{◌≡◌, true, false, OnOk, OnErr};
 
+use credit_book::Unopened;
 use refusal::NoMemory;
 use std::alloc::{AllocError, AllocFailed};
 
@@ -29,6 +30,12 @@ impl<T: Drop> From<AllocFailed<T>> for Stop {
 
 impl From<NoMemory> for Stop {
     fn from(_error: NoMemory) -> Stop {
+        Stop::Refused
+    }
+}
+
+impl From<Unopened> for Stop {
+    fn from(_error: Unopened) -> Stop {
         Stop::Refused
     }
 }

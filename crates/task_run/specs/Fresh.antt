@@ -17,3 +17,7 @@ module _ {F T R : Type 0} (g : Once F (MutBor Frame × (T × Unit {0})) (R
     pub is_zeroed : frame.now ≡ zeroed
     pub left : MutBor Frame
     pub answered : g.post f (frame, (task, tt)) (r, (left, tt))
+
+-- a new arena had no room for a frame
+abbrev pub HasNoRoom : {A : Type 0} → (A → Type 0) → (A → Type 0) → Type 0
+HasNoRoom {A = A} is_new refuses = (arena : A) × is_new arena × refuses arena

@@ -2,10 +2,12 @@
 //! on, in an arena that is reset between jobs.
 #![tactic(auto)]
 
+mod arena;
 mod frames;
 mod listening;
 mod running;
 
-pub use frames::Frames;
+pub use arena::Arena;
+pub use frames::{ArenaFrames, Frames};
 pub use listening::{Listener, Nobody};
 pub use running::run_to_end;

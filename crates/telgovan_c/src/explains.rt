@@ -4,10 +4,9 @@ ghost use Rattle.std.specs.Prelude.{◌≡◌, length, None};
 ghost use Rattle.verifier.specs.RefusalCodes.{number_of, slot_of};
 ghost use Rattle.telgovan_c.specs.Explains.{IsExplained, IsPlaced, explained_as};
 
-use crate::texts::Written;
-use explain::{Explanation, explain};
+use crate::texts::{Written, source_in};
+use explain::{explain, text_of};
 use helpers::HelperTable;
-use refusal::NoMemory;
 use std::alloc::Global;
 use verifier::Refusal;
 
@@ -49,20 +48,11 @@ pub(crate) fn with_text(text: &[u8], refusal: &Refusal) -> Written
     }
 }
 
-// The text of an explanation.
-fn text_of(alloc: Global, why: &Explanation) -> Result<String, NoMemory> {
-    Ok(format!(in alloc; "{why}")?)
-}
-
 // Why a program is refused, into the room. A source text that isn't UTF-8 counts as none.
 fn explain_into(alloc: Global, need: u32, code: &[u8], source: &[u8], room: &mut [u8]) -> Written
-    ensures { IsExplained need code.now room.old room.new result }
+    ensures { IsExplained need code.now source.now room.old room.new result }
 {
-    let source = match str::from_utf8(source) {
-        Ok(source) => Some(source),
-        Err(_) => None,
-    };
-    match explain(alloc, need, code, &HelperTable::job(), source) {
+    match explain(alloc, need, code, &HelperTable::job(), source_in(source)) {
         Ok(Some(why)) => match text_of(alloc, &why) {
             Ok(text) => {
                 let text = text.as_bytes();
@@ -88,7 +78,7 @@ pub extern "C" fn telgovan_explain(
     room: &mut [u8],
     told: &mut Written,
 ) -> u32
-    ensures explained { IsExplained need code.now room.old room.new told.new }
+    ensures explained { IsExplained need code.now source.now room.old room.new told.new }
     ensures status { result ≡ told.new.status }
 {
     *told = explain_into(alloc, need, code, source, room);

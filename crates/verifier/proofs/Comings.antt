@@ -14,7 +14,6 @@ use Rattle.instruction_rules.specs.declared.state.State.{State}
 use Rattle.instruction_rules.specs.States.{transferred, fault}
 use Rattle.verifier.specs.InStates.{Subject, InState, Undefined, Reached, joined_in_state, if_leads_to, out_state, joined_edges, AreInStates, in_state}
 use Rattle.verifier.specs.Verdict.{in_state_of}
-use Rattle.verifier.specs.Merges.{is_kept}
 use Rattle.verifier.specs.Sources.{Links, IsLinked, IsNextSource, link_of}
 use Rattle.verifier.specs.Propagation.{IsVisited, IsBlocked, IsPartlyJoined, IsPast, HasPropagatedAll, IsProcessed, IsAmong, HasPropagated}
 use Rattle.verifier.proofs.Options.{one_some, none_some}
@@ -44,19 +43,19 @@ pub sent_there : (p : Subject) (firsts : List (Option ℕ)) (s : ℕ) (o : Optio
 sent_there p firsts s o state e (inl (blocked, none)) = absurd (none_some o state none e)
 sent_there p firsts s o state e (inr (in_states, h, inl there)) =
     subst (λ (t : State). IsVisited p s t) (one_some o in_states state there e) h
-sent_there p firsts s o state e (inr (in_states, h, inr (none, kept, taken))) = absurd (none_some o state none e)
+sent_there p firsts s o state e (inr (in_states, h, inr (none, taken))) = absurd (none_some o state none e)
 
 sent_on : (p : Subject) (firsts later : List (Option ℕ)) (s : ℕ) (x y : Option State) → y ≡ x → (HasPropagatedAll p firsts s → HasPropagatedAll p later s) →
     IsProcessed p firsts s x → IsProcessed p later s y
 sent_on p firsts later s x y same on (inl (blocked, none)) = inl (blocked, same ∙ none)
 sent_on p firsts later s x y same on (inr (in_states, h, inl there)) = inr (in_states, h, inl (same ∙ there))
-sent_on p firsts later s x y same on (inr (in_states, h, inr (none, kept, taken))) = inr (in_states, h, inr (same ∙ none, kept, on taken))
+sent_on p firsts later s x y same on (inr (in_states, h, inr (none, taken))) = inr (in_states, h, inr (same ∙ none, on taken))
 
 -- a state that isn't needed further may go
-sent_away : (p : Subject) (firsts : List (Option ℕ)) (s : ℕ) (x y : Option State) → y ≡ None → is_kept p.code s ≡ false → HasPropagatedAll p firsts s →
+sent_away : (p : Subject) (firsts : List (Option ℕ)) (s : ℕ) (x y : Option State) → y ≡ None → HasPropagatedAll p firsts s →
     IsProcessed p firsts s x → IsProcessed p firsts s y
-sent_away p firsts s x y gone kept taken (inl (blocked, none)) = inl (blocked, gone)
-sent_away p firsts s x y gone kept taken (inr (in_states, h, stored)) = inr (in_states, h, inr (gone, kept, taken))
+sent_away p firsts s x y gone taken (inl (blocked, none)) = inl (blocked, gone)
+sent_away p firsts s x y gone taken (inr (in_states, h, stored)) = inr (in_states, h, inr (gone, taken))
 
 pulled_same : (p : Subject) (s : ℕ) (x y : Option State) (f g : Option ℕ) → y ≡ x → g ≡ f → IsPartlyJoined p s x f → IsPartlyJoined p s y g
 pulled_same p s x y f g a b h = subst (λ (u : Option State). IsPartlyJoined p s u g) (sym a) (subst (λ (v : Option ℕ). IsPartlyJoined p s x v) (sym b) h)
@@ -98,8 +97,8 @@ come_on p order n m old new states later h linked long none others firsts pulled
 pub come_away : (p : Subject) (order : List ℕ) (n s : ℕ) (links : Links) (states later : List (Option State)) →
     HasPropagated p order n links states → IsAmong order n s → length later ≡ length states →
     ((k : ℕ) → k ≢ s → slice_index_or later k None ≡ slice_index_or states k None) → slice_index_or later s None ≡ None →
-    is_kept p.code s ≡ false → HasPropagatedAll p links.first s → HasPropagated p order n links later
-come_away p order n s links states later h among long others gone kept taken = record {
+    HasPropagatedAll p links.first s → HasPropagated p order n links later
+come_away p order n s links states later h among long others gone taken = record {
   linked = h.linked;
   slots = long ∙ h.slots;
   pulled = λ k within not_yet.
@@ -108,7 +107,7 @@ come_away p order n s links states later h among long others gone kept taken = r
       (others k ne) refl (h.pulled k within not_yet);
   out_state = λ k at. elim (cases_eq k s) [
     | inl e ↦ subst (λ (x : ℕ). IsProcessed p links.first x (slice_index_or later x None)) (sym e)
-        (sent_away p links.first s (slice_index_or states s None) (slice_index_or later s None) gone kept taken (h.out_state s among))
+        (sent_away p links.first s (slice_index_or states s None) (slice_index_or later s None) gone taken (h.out_state s among))
     | inr ne ↦ sent_on p links.first links.first k (slice_index_or states k None) (slice_index_or later k None) (others k ne) (λ t. t) (h.out_state k at)
   ];
 }
@@ -146,7 +145,7 @@ pub pulled_from : (p : Subject) (s : ℕ) (state : Option State) (o : Option ℕ
     IsJoint p.code q s × (in_state_of state ≡ joined_edges p (in_state p) s q)
 pulled_from p s state o q e h = subst (λ (r : Option ℕ). IsPartlyJoined p s state r) e h
 
--- What a slot passes on has come to another, and its state has gone, unless it is kept or another slot is still to take it.
+-- What a slot passes on has come to another, and its state has gone, unless another slot is still to take it.
 pub come_delivered : (p : Subject) (order : List ℕ) (n from to : ℕ) (old new : Links) (states later : List (Option State)) (next : Next) (i : Insn)
     (state : State) (keep : Bool) → AreInStates p (in_state p) → 0 < to → to < length p.code → from ≢ to →
     HasPropagated p order n old states → IsAmong order n from → (IsAmong order n to → ⊥) → insn_at p.code from ≡ Some i →
@@ -159,7 +158,7 @@ pub come_delivered : (p : Subject) (order : List ℕ) (n from to : ℕ) (old new
     (if_leads_to (leads_at p.code from NotTaken) to (Reached (transferred i NotTaken state))))
     (if_leads_to (leads_at p.code from Taken) to (Reached (transferred i Taken state))) →
     new.first ≡ slice_set old.first to (link_of old next from to) → new.following ≡ old.following → new.taken ≡ old.taken → new.edges ≡ old.edges →
-    (keep ≡ false → (is_kept p.code from ≡ false) × ((s : ℕ) → IsJoint p.code from s → s ≢ to → IsPast (slice_index_or old.first s None) from)) →
+    (keep ≡ false → (s : ℕ) → IsJoint p.code from s → s ≢ to → IsPast (slice_index_or old.first s None) from) →
     HasPropagated p order n new later
 come_delivered p order n from to old new states later next i state keep solves more within apart h among none insn there joint are first long others gone
     met_is note following taken edges free = by_keep keep gone free
@@ -227,7 +226,7 @@ come_delivered p order n from to old new states later next i state keep solves m
     ]
 
     by_keep : (b : Bool) → slice_index_or later from None ≡ (if b then slice_index_or states from None else None) →
-        (b ≡ false → (is_kept p.code from ≡ false) × ((s : ℕ) → IsJoint p.code from s → s ≢ to → IsPast (slice_index_or old.first s None) from)) →
+        (b ≡ false → (s : ℕ) → IsJoint p.code from s → s ≢ to → IsPast (slice_index_or old.first s None) from) →
         HasPropagated p order n new later
     by_keep true stays f =
         come_on p order n to old new states later h linked long none
@@ -236,9 +235,8 @@ come_delivered p order n from to old new states later next i state keep solves m
           | inr other ↦ others s ne other
         ]) firsts pulled on
     by_keep false away f =
-        let free = f refl in
         come_away p order n from new middle later come_middle among
-        (long ∙ sym (length-set states to (slice_index_or later to None))) later_other away free.0 (all_taken free.1)
+        (long ∙ sym (length-set states to (slice_index_or later to None))) later_other away (all_taken (f refl))
 
 -- ---- one place more
 

@@ -6,7 +6,7 @@ use Rattle.std.proofs.lemmas.List.{get_or-set_same, get_or-set_other}
 use Rattle.machine_model.specs.Edges.{Code, Fact, Always, NotTaken, Taken, leads_at}
 use Rattle.flow_graph.specs.Flow.{AreNext}
 use Rattle.flow_graph.specs.declared.graph.Next.TheVariants.{One, Two}
-use Rattle.verifier.specs.Merges.{one_to, edges_from, edges_below, edges_into, is_kept, kept_below}
+use Rattle.verifier.specs.Merges.{one_to, edges_from, edges_below, edges_into, is_merge, merges_below}
 
 pub one_at_most : (o : Option ℕ) (s : ℕ) → one_to o s ≤ 1
 one_at_most None s = omega arith
@@ -63,9 +63,9 @@ counted_more code old new s n edges more is before =
     let e : old + (edges_below code s n + edges_from code n s) ≡ edges_into code s = before in
     omega (arith, more, is, e)
 
-pub kept_few : (code : Code) (n : ℕ) → kept_below code n ≤ n
-kept_few code zero = omega arith
-kept_few code (suc n) = omega (arith, kept_few code n, one_more (is_kept code n))
+pub merges_few : (code : Code) (n : ℕ) → merges_below code n ≤ n
+merges_few code zero = omega arith
+merges_few code (suc n) = omega (arith, merges_few code n, one_more (is_merge code n))
   where
     one_more : (b : Bool) → (if b then 1 else 0) ≤ 1
     one_more true = omega arith

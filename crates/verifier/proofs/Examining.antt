@@ -16,9 +16,8 @@ use Rattle.instruction_rules.specs.declared.rule.Rule.{Rule}
 use Rattle.instruction_rules.specs.declared.state.State.{State}
 use Rattle.verifier.specs.declared.states.Fault.{Fault}
 use Rattle.instruction_rules.specs.States.{fault, transferred, entry_state}
-use Rattle.verifier.specs.InStates.{Subject, InState, Unreached, Undefined, Reached, out_state, unless, edge_state, AreInStates, in_state}
+use Rattle.verifier.specs.InStates.{Subject, InState, Unreached, Undefined, Reached, out_state, unless, edge_state, AreInStates, in_state, state_of, in_states}
 use Rattle.verifier.specs.Verdict.{IsAllowedAt, IsFaulty, IsFirstFaulty, IsTable, in_state_of}
-use Rattle.verifier.specs.Kept.{state_of, in_states}
 use Rattle.verifier.specs.Sources.{Links, AreLinked, IsNextSource}
 use Rattle.verifier.specs.Propagation.{IsVisited, IsBlocked, IsPartlyJoined, IsPast, IsProcessed, IsAmong, HasPropagated, IsVisitResult, IsFirst, earlier}
 use Rattle.verifier.proofs.Options.{one_some, none_some}
@@ -111,7 +110,7 @@ source_blocked : (p : Subject) (firsts : List (Option ℕ)) (q s : ℕ) (o : Opt
     o ≡ None → IsProcessed p firsts q o → IsBlocked p q
 source_blocked p firsts q s o joint first gone (inl (blocked, none)) = blocked
 source_blocked p firsts q s o joint first gone (inr (state, h, inl there)) = absurd (none_some o state gone there)
-source_blocked p firsts q s o joint first gone (inr (state, h, inr (none, kept, taken))) =
+source_blocked p firsts q s o joint first gone (inr (state, h, inr (none, taken))) =
     absurd (past_itself (slice_index_or firsts s None) q first (taken s joint))
 
 -- the slot that comes next leads there from a place ahead
@@ -276,7 +275,7 @@ second_allowed : (p : Subject) (s : ℕ) → insn_at p.code s ≡ None → IsAll
 second_allowed p s none i state there arrives = absurd (none_some (insn_at p.code s) i none there)
 
 -- nothing leads to the second slot of a wide instruction
-second_arrives : (p : Subject) (s : ℕ) → IsJoined p.code → AreInStates p (in_state p) → s < length p.code → insn_at p.code s ≡ None → in_state p s ≡ Unreached
+pub second_arrives : (p : Subject) (s : ℕ) → IsJoined p.code → AreInStates p (in_state p) → s < length p.code → insn_at p.code s ≡ None → in_state p s ≡ Unreached
 second_arrives p zero j h lt none = absurd (none_some (insn_at p.code 0) j.opens.0 none j.opens.1)
 second_arrives p (suc s) j h lt none =
     h (suc s) lt ∙ joined_over_stops p (in_state p) (suc s) 0 (length p.code) (length p.code) (omega arith)

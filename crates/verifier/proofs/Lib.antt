@@ -7,8 +7,8 @@ pub mod Pulling
 pub mod Comings
 pub mod Soundness
 pub mod Examining
-pub mod Keeping
+pub mod RegionLemmas
 pub mod Predecodings
 pub mod Verdicts
 pub mod OneVerdict
-pub mod SingleEdges
+pub mod Again

@@ -11,6 +11,7 @@ use Rattle.helpers.specs.Table.{Table, IsHelperTable, arity_in}
 use Rattle.instruction_rules.specs.declared.state.State.{State}
 use Rattle.instruction_rules.specs.Covers.{IsWithin}
 use Rattle.instruction_rules.specs.States.{entry_state, transferred, fault}
+use Rattle.verifier.specs.InStates.{Subject, in_states}
 
 -- a program, the helpers that it may call, what is known of the registers ahead of each slot, and
 -- the costs
@@ -54,3 +55,16 @@ pub record IsVerified (p : Checked) : Type 0 where
       → state_at p slot ≡ Some state → IsSoundAt p slot i state
   pub costs : AreCosts p.code p.costs
   pub known : IsHelperTable p.helpers
+
+abbrev pub subject : ℕ → Table → Code → Subject
+subject need helpers code = record { need = need; helpers = helpers; code = code }
+
+-- a program that was verified: the state of each slot is the one that arrives
+abbrev pub checked : ℕ → Table → Code → List ℕ → Checked
+checked need helpers code costs = record {
+  need = need;
+  helpers = helpers;
+  code = code;
+  states = in_states (subject need helpers code);
+  costs = costs;
+}

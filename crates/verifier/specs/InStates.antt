@@ -1,5 +1,6 @@
 -- The state that arrives at each slot.
-use Rattle.std.specs.Prelude.{◌≡◌, ℕ, zero, suc, ◌==◌, ◌<◌, length, Option, Some, None, if◌then◌else◌}
+use Rattle.std.specs.Prelude.{◌≡◌, ℕ, zero, suc, ◌==◌, ◌<◌, List, length, map, Option, Some, None, if◌then◌else◌}
+use Rattle.std.specs.List.{range_with_len}
 use Rattle.insn_codec.specs.declared.insn.Insn.{Insn}
 use Rattle.machine_model.specs.Edges.{Code, Fact, Always, NotTaken, Taken, insn_at, leads_at}
 use Rattle.helpers.specs.Table.{Table}
@@ -72,3 +73,12 @@ in_state_within p (suc n) s = in_state_by p (in_state_within p n) s (length p.co
 -- what arrives at a slot, in a program without a cycle
 unfoldable pub in_state : Subject → ℕ → InState
 in_state p s = in_state_within p (length p.code) s
+
+abbrev pub state_of : InState → Option State
+state_of Unreached = None
+state_of Undefined = None
+state_of (Reached state) = Some state
+
+-- the state that arrives at each slot
+unfoldable pub in_states : Subject → List (Option State)
+in_states p = map (λ s. state_of (in_state p s)) (range_with_len 0 (length p.code))

@@ -5,8 +5,6 @@ pub mod Verdict
 pub mod Survey
 pub mod Propagation
 pub mod Merges
-pub mod Kept
-pub mod Between
 pub mod Sources
 pub mod RefusalCodes
 pub mod Refusals

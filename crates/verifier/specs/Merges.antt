@@ -1,4 +1,4 @@
--- How many edges lead to a slot, and which slots have their states kept.
+-- How many edges lead to a slot, and the merge points: slots where ways meet.
 use Rattle.std.specs.Prelude.{ℕ, zero, suc, ◌+◌, ◌==◌, ◌||◌, nat_lt, Bool, length, Option, Some, None, if◌then◌else◌}
 use Rattle.machine_model.specs.Edges.{Code, Always, NotTaken, Taken, leads_at}
 
@@ -20,14 +20,14 @@ edges_below code s (suc n) = edges_below code s n + edges_from code n s
 abbrev pub edges_into : Code → ℕ → ℕ
 edges_into code s = edges_below code s (length code)
 
--- slot 0 is kept, and each slot with at least two edges into it
-abbrev pub is_kept : Code → ℕ → Bool
-is_kept code s = s == 0 || nat_lt 1 (edges_into code s)
+-- slot 0 is a merge point, and each slot with at least two edges into it
+abbrev pub is_merge : Code → ℕ → Bool
+is_merge code s = s == 0 || nat_lt 1 (edges_into code s)
 
--- how many of the slots below n are kept
-abbrev pub kept_below : Code → ℕ → ℕ
-kept_below code zero = 0
-kept_below code (suc n) = kept_below code n + (if is_kept code n then 1 else 0)
+-- how many of the slots below n are merge points
+abbrev pub merges_below : Code → ℕ → ℕ
+merges_below code zero = 0
+merges_below code (suc n) = merges_below code n + (if is_merge code n then 1 else 0)
 
-abbrev pub kept_count : Code → ℕ
-kept_count code = kept_below code (length code)
+abbrev pub merge_count : Code → ℕ
+merge_count code = merges_below code (length code)

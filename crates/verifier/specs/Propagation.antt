@@ -1,6 +1,6 @@
 -- Used by private contracts and proofs alone: what has come along a program's edges, when the
 -- instructions at the first places of its order have been examined.
-use Rattle.std.specs.Prelude.{◌≡◌, ◌⊎◌, ℕ, ◌<◌, List, length, slice_index, slice_index_or, Option, Some, None, false, nat_lt, if◌then◌else◌}
+use Rattle.std.specs.Prelude.{◌≡◌, ◌⊎◌, ℕ, ◌<◌, List, length, slice_index, slice_index_or, Option, Some, None, nat_lt, if◌then◌else◌}
 use Rattle.insn_codec.specs.declared.insn.Insn.{Insn}
 use Rattle.machine_model.specs.Edges.{Fact, insn_at}
 use Rattle.flow_graph.specs.Cycles.{IsJoint}
@@ -9,7 +9,6 @@ use Rattle.verifier.specs.declared.states.Fault.{Fault}
 use Rattle.instruction_rules.specs.States.{fault}
 use Rattle.verifier.specs.InStates.{Subject, Undefined, Reached, out_state, joined_edges, in_state}
 use Rattle.verifier.specs.Verdict.{IsAllowedAt, IsFaulty, in_state_of}
-use Rattle.verifier.specs.Merges.{is_kept}
 use Rattle.verifier.specs.Sources.{Links, IsLinked}
 
 -- this state arrives at the slot, where its instruction is allowed
@@ -41,11 +40,11 @@ abbrev pub HasPropagatedAll : Subject → List (Option ℕ) → ℕ → Type 0
 HasPropagatedAll p firsts slot =
     (to : ℕ) → IsJoint p.code slot to → IsPast (slice_index_or firsts to None) slot
 
--- the state of an instruction that has been passed is there as long as it is needed
+-- the state of an instruction that has been passed is there as long as another slot needs it
 abbrev pub IsStillStored : Subject → List (Option ℕ) → ℕ → State → Option State → Type 0
 IsStillStored p firsts slot in_states state =
     (state ≡ Some in_states)
-    ⊎ ((state ≡ None) × (is_kept p.code slot ≡ false) × HasPropagatedAll p firsts slot)
+    ⊎ ((state ≡ None) × HasPropagatedAll p firsts slot)
 
 -- what is there of a slot whose instruction has been examined
 abbrev pub IsProcessed : Subject → List (Option ℕ) → ℕ → Option State → Type 0

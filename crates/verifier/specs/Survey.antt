@@ -7,8 +7,8 @@ use Rattle.predecoding.specs.declared.region.Region.TheVariants.{Stack}
 use Rattle.instruction_rules.specs.declared.state.State.{State}
 use Rattle.verifier.specs.declared.states.Found.{Found}
 use Rattle.verifier.specs.declared.states.Survey.{Survey}
-use Rattle.verifier.specs.InStates.{Subject, Reached, in_state}
-use Rattle.verifier.specs.Kept.{AreKeptStates, in_states}
+use Rattle.verifier.specs.InStates.{Subject, Reached, in_state, in_states}
+use Rattle.verifier.specs.Merges.{merge_count}
 use Rattle.verifier.specs.Regions.{accessed}
 use Rattle.verifier.specs.Verdict.{IsTable}
 
@@ -25,10 +25,10 @@ IsRegionThere p slot region = (i : Insn) (state : State) (there : Region)
     → insn_at p.code slot ≡ Some i → in_state p slot ≡ Reached state →
     accessed i state ≡ Some there → region ≡ there
 
--- the program is allowed, and these are the states that are kept, and the regions of its accesses
+-- the program is allowed, and these are its merge points, counted, and the regions of its accesses
 pub record IsSurveyed (p : Subject) (found : Found) : Type 0 where
   pub table : IsTable p (in_states p)
-  pub kept : AreKeptStates p found.kept.items (length p.code)
+  pub merges : found.merges ≡ merge_count p.code
   pub slots : length found.regions.items ≡ length p.code
   pub regions : (s : ℕ) → Begins p.code s
       → IsRegionThere p s (slice_index_or found.regions.items s Stack)

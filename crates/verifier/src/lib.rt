@@ -1,9 +1,8 @@
 //! Programs that were verified: no task that runs one traps.
 #![tactic(auto)]
 
-mod between;
 mod held;
-mod kept;
+mod in_state;
 mod laws;
 mod refusals;
 mod regions;

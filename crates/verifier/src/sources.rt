@@ -5,7 +5,7 @@ ghost use Rattle.machine_model.specs.Edges.{Begins};
 ghost use Rattle.flow_graph.specs.Cycles.{IsJoint};
 ghost use Rattle.flow_graph.specs.Flow.{AreNext};
 ghost use Rattle.verifier.specs.Propagation.{IsPast};
-ghost use Rattle.verifier.specs.Merges.{is_kept};
+ghost use Rattle.verifier.specs.Merges.{is_merge, merge_count};
 ghost use Rattle.verifier.specs.Sources.{AreLinked, IsLinked, link_of};
 
 use flow_graph::{Graph, Next};
@@ -148,15 +148,29 @@ impl Sources {
         Ok(sources)
     }
 
-    /// Whether the slot's state is kept: it is slot 0, or at least two edges lead there.
-    #[inline(always)]
-    pub(crate) fn is_kept(&self, slot: u32, graph: &Graph) -> bool
+    /// Whether the slot is a merge point: it is slot 0, or at least two edges lead there.
+    fn is_merge(&self, slot: u32, graph: &Graph) -> bool
         requires linked { IsLinked graph.now.code self.now }
         requires slot { slot < length graph.now.code }
-        ensures { result ≡ is_kept graph.now.code slot }
+        ensures { result ≡ is_merge graph.now.code slot }
     {
         let _slots = graph.slots();
         slot == 0 || self.edges[slot as usize] > 1
+    }
+
+    /// How many slots are merge points.
+    pub(crate) fn merges(&self, graph: &Graph) -> u32
+        requires { IsLinked graph.now.code self.now }
+        ensures { result ≡ merge_count graph.now.code }
+    {
+        let slots = graph.slots();
+        let mut merges = 0;
+        for slot in 0..slots {
+            if self.is_merge(slot, graph) {
+                merges += 1;
+            }
+        }
+        merges
     }
 
     /// The lowest slot that leads to the slot, of those from which nothing has come.

@@ -13,14 +13,11 @@ ghost use Rattle.verifier.specs.InStates.{in_state, joined_in_state, if_leads_to
 ghost use Rattle.verifier.specs.Verdict.{RefusesStates, in_state_of};
 ghost use Rattle.verifier.specs.Propagation.{HasPropagated, IsAmong, IsVisitResult, IsVisited, earlier};
 ghost use Rattle.helpers.specs.Table.{Table};
-ghost use Rattle.verifier.specs.Kept.{AreKeptStates};
-ghost use Rattle.verifier.specs.Merges.{is_kept};
 ghost use Rattle.verifier.specs.Sources.{IsLinked, IsNextSource};
 ghost use Rattle.verifier.specs.Survey.{subject_of, IsRegionThere, IsSurveyed};
 ghost use Rattle.machine_model.specs.Limits.{max_part};
 
 use crate::held::{Boxes, Held};
-use crate::kept::Kept;
 use crate::refusals::Refusal;
 use crate::regions::region_there;
 use crate::sources::Sources;
@@ -51,11 +48,11 @@ pub(crate) struct Survey<'a> {
 /// An instruction that was visited: its slot, where it leads, and what it leaves in its
 /// destination.
 #[derive(Clone, Copy)]
-pub(crate) struct Visited<'a> {
-    pub(crate) from: u32,
-    pub(crate) next: Next,
-    pub(crate) insn: &'a Insn,
-    pub(crate) left: Abs,
+struct Visited<'a> {
+    from: u32,
+    next: Next,
+    insn: &'a Insn,
+    left: Abs,
 }
 
 /// The state at a place: a copy if the place keeps it, else the state itself.
@@ -79,6 +76,7 @@ fn take_or_copy(
 
 /// Joins the state that leaves a visited instruction along one edge into the in-state of `to`. The
 /// visited slot keeps its own state if `keep`.
+#[inline(always)]
 fn propagate_edge(
     boxes: &mut Boxes,
     states: &mut [Option<Held>],
@@ -202,15 +200,14 @@ fn propagate_to(
     let slots = graph.slots();
     prove!(visited.from < slots);
     prove!(to < slots);
-    let keep = sources.is_kept(visited.from, graph)
-        || !sources.is_taken_beside(graph, visited.next, visited.from, to);
+    let keep = !sources.is_taken_beside(graph, visited.next, visited.from, to);
     propagate_edges(boxes, states, graph, visited, to, keep)?;
     sources.note(visited.next, visited.from, to);
     Ok(())
 }
 
 /// The slot at a place of the order.
-fn slot_at(graph: &Graph, place: usize) -> u32
+pub(crate) fn slot_at(graph: &Graph, place: usize) -> u32
     requires { place < length graph.now.order }
     ensures slot { result ≡ slice_index graph.now.order place }
     ensures begins { Begins graph.now.code result }
@@ -221,7 +218,7 @@ fn slot_at(graph: &Graph, place: usize) -> u32
 }
 
 /// The visit of an instruction with this in-state.
-pub(crate) fn visit_again<'a>(survey: &Survey<'a>, from: u32, state: &State) -> Visited<'a>
+fn visit_again<'a>(survey: &Survey<'a>, from: u32, state: &State) -> Visited<'a>
     requires { IsVisited (subject_of survey.now) from state.now }
     ensures from { result.from ≡ from }
     ensures insn { insn_at survey.now.graph.now.code from ≡ Some result.insn.now }
@@ -245,7 +242,7 @@ pub(crate) fn visit_again<'a>(survey: &Survey<'a>, from: u32, state: &State) -> 
 
 /// Propagates to the slot at a place from those of its sources that were visited, lowest first.
 #[inline(always)]
-fn propagate_waiting(
+pub(crate) fn propagate_waiting(
     boxes: &mut Boxes,
     states: &mut [Option<Held>],
     sources: &mut Sources,
@@ -344,9 +341,7 @@ fn propagate(
     prove!(visited.from < slots);
     match visited.next {
         Next::Zero => {
-            if !sources.is_kept(visited.from, graph) {
-                states[visited.from as usize] = None;
-            }
+            states[visited.from as usize] = None;
             Ok(())
         }
         Next::One(to) => propagate_in_turn(boxes, states, sources, graph, visited, to),
@@ -360,7 +355,7 @@ fn propagate(
 /// Visits the slot at a place: judges its instruction by its in-state, and propagates from there.
 /// Tells the instruction's fault if it has one, and notes the region of its access.
 #[inline(always)]
-fn visit(
+pub(crate) fn visit(
     boxes: &mut Boxes,
     states: &mut [Option<Held>],
     sources: &mut Sources,
@@ -432,7 +427,7 @@ fn earlier(first: Option<Fault>, fault: Fault) -> Fault
 }
 
 /// A place for the state at each slot, with the entry state at the first.
-fn places(alloc: Global, need: u32, slots: u32) -> Result<Vec<Option<Held>>, NoMemory>
+pub(crate) fn places(alloc: Global, need: u32, slots: u32) -> Result<Vec<Option<Held>>, NoMemory>
     requires need { need ≤ max_part }
     requires slots { 0 < slots }
     ensures slots { IfOk result (λ states. length states.items ≡ slots) }
@@ -442,54 +437,23 @@ fn places(alloc: Global, need: u32, slots: u32) -> Result<Vec<Option<Held>>, NoM
         → slice_index_or states.items s None ≡ None) }
 {
     let mut states = Vec::with_capacity(alloc, slots as usize)?;
-    states.push(Some(Held::new(alloc, &State::entry(need))?))?;
+    states.push_reserved(Some(Held::new(alloc, &State::entry(need))?));
     for slot in 1..slots {
         prove!(slot > 0);
-        states.push(None)?;
+        states.push_reserved(None);
     }
     Ok(states)
 }
 
-/// What was found out of a program whose instructions are allowed: the states that are kept, and
-/// the regions of its accesses.
+/// What was found out of a program whose instructions are allowed: how many merge points it has,
+/// and the regions of its accesses.
 #[derive(Drop)]
 pub(crate) struct Found {
-    pub(crate) kept: Vec<Kept>,
+    pub(crate) merges: u32,
     pub(crate) regions: Vec<Region>,
 }
 
-/// The states of the slots that are kept.
-fn kept(
-    alloc: Global,
-    states: &mut [Option<Held>],
-    sources: &Sources,
-    survey: &Survey<'_>,
-) -> Result<Vec<Kept>, NoMemory>
-    requires linked { IsLinked survey.now.graph.now.code sources.now }
-    requires slots { length states.old ≡ length survey.now.graph.now.code }
-    requires there { (s : ℕ) → s < length survey.now.graph.now.code
-        → is_kept survey.now.graph.now.code s ≡ true →
-        (state : State) × (slice_index_or states.old s None ≡ Some state)
-        × (in_state (subject_of survey.now) s ≡ Reached state) }
-    ensures { IfOk result
-        (λ kept. AreKeptStates (subject_of survey.now) kept.items
-        (length survey.now.graph.now.code)) }
-{
-    let slots = survey.graph.slots();
-    let mut kept = Vec::new(alloc);
-    for slot in 0..slots {
-        if sources.is_kept(slot, survey.graph) {
-            match states[slot as usize].take() {
-                None => unreachable!(),
-                Some(state) => kept.push(Kept { slot, state })?,
-            }
-        }
-    }
-    Ok(kept)
-}
-
-/// The states that are kept and the regions of the accesses, or the first instruction that isn't
-/// allowed.
+/// The merge points and the regions of the accesses, or the first instruction that isn't allowed.
 pub(crate) fn states(
     alloc: Global,
     need: u32,
@@ -530,7 +494,7 @@ pub(crate) fn states(
     }
     match first {
         None => Ok(Found {
-            kept: kept(alloc, &mut states, &sources, &survey)?,
+            merges: sources.merges(graph),
             regions,
         }),
         Some(fault) => Err(Refusal::at(fault.slot, fault.rule)),

@@ -41,10 +41,11 @@ pub fn verify(
     }
     let placed = decode(alloc, code)?;
     let graph = build(alloc, &placed)?;
+    drop(placed);
     let found = states(alloc, need, helpers, &graph)?;
     let costs = costs(alloc, &graph)?;
     let predecoded = predecoded(alloc, &graph, &found.regions)?;
     let helpers = helpers.copied(alloc)?;
-    let Found { kept, .. } = found;
-    Ok(Verified::of(need, helpers, graph, predecoded, kept, costs.into_table()))
+    let Found { merges, .. } = found;
+    Ok(Verified::of(need, helpers, graph, predecoded, merges, costs.into_table()))
 }

@@ -3,6 +3,7 @@
 ghost use Rattle.std.specs.Prelude.{◌≡◌};
 ghost use Rattle.workers.specs.PoolFaultCodes.{number_of};
 
+use credit_book::Unopened;
 use refusal::NoMemory;
 use std::alloc::AllocError;
 use thiserror::Error;
@@ -36,6 +37,12 @@ impl PoolFault {
 
 impl From<NoMemory> for PoolFault {
     fn from(_error: NoMemory) -> PoolFault {
+        PoolFault::NoMemory
+    }
+}
+
+impl From<Unopened> for PoolFault {
+    fn from(_error: Unopened) -> PoolFault {
         PoolFault::NoMemory
     }
 }

@@ -1,8 +1,9 @@
 -- Where instructions lead, one behind the other.
-use Rattle.std.proofs.Common.{◌≡◌, ℕ, zero, suc, ◌+◌, refl, sym, subst, arith}
+use Rattle.std.proofs.Common.{◌≡◌, ℕ, zero, suc, ◌+◌, List, refl, sym, subst, arith}
 use Rattle.machine_model.specs.Machine.{State, Program, Effect, Continues, Ends, Spawns, Calls, Traps, effect}
-use Rattle.machine_model.specs.Alone.{MayAnswer, EndsAlone, no_entries}
+use Rattle.machine_model.specs.Alone.{no_entries}
 use Rattle.yielding.specs.Leading.{Passes, LeadsTo}
+use Rattle.yielding.specs.Asking.{Exchange, EndsAsking}
 
 passes_on : (f g : State → Type 0) (e : Effect) → ((s : State) → f s → g s) → Passes f e → Passes g e
 passes_on f g (Continues next) more on = more next on
@@ -29,17 +30,17 @@ leads_then p (suc n) m s t u first later =
     subst (λ (k : ℕ). LeadsTo p u k s) more
     (passes_on (LeadsTo p t n) (LeadsTo p u (n + m)) (effect p no_entries s) (λ r on. leads_then p n m r t u on later) first)
 
-ends_on : (p : Program) (may : MayAnswer) (f : State → Type 0) (s : State) (r0 : ℕ) (last : State) (e : Effect) → effect p no_entries s ≡ e →
-    ((r : State) → f r → EndsAlone p may r r0 last) → Passes f e → EndsAlone p may s r0 last
-ends_on p may f s r0 last (Continues next) is on passes = let more = on next passes in (suc more.0, rw is more.1)
-ends_on p may f s r0 last (Ends word state) is on passes = absurd passes
-ends_on p may f s r0 last (Spawns birth taken refused) is on passes = absurd passes
-ends_on p may f s r0 last (Calls helper arguments caller) is on passes = absurd passes
-ends_on p may f s r0 last (Traps trap) is on passes = absurd passes
+ends_on : (p : Program) (f : State → Type 0) (s : State) (asked : List Exchange) (r0 : ℕ) (last : State) (e : Effect) → effect p no_entries s ≡ e →
+    ((r : State) → f r → EndsAsking p r asked r0 last) → Passes f e → EndsAsking p s asked r0 last
+ends_on p f s asked r0 last (Continues next) is on passes = let more = on next passes in (suc more.0, rw is more.1)
+ends_on p f s asked r0 last (Ends word state) is on passes = absurd passes
+ends_on p f s asked r0 last (Spawns birth taken refused) is on passes = absurd passes
+ends_on p f s asked r0 last (Calls helper arguments caller) is on passes = absurd passes
+ends_on p f s asked r0 last (Traps trap) is on passes = absurd passes
 
 -- a task ends where it ends from a state to which it is led
-pub leads_ends : (p : Program) (may : MayAnswer) (n : ℕ) (s t : State) (r0 : ℕ) (last : State) → LeadsTo p t n s → EndsAlone p may t r0 last →
-    EndsAlone p may s r0 last
-leads_ends p may zero s t r0 last leads ends = subst (λ (r : State). EndsAlone p may r r0 last) (sym leads) ends
-leads_ends p may (suc n) s t r0 last leads ends =
-    ends_on p may (LeadsTo p t n) s r0 last (effect p no_entries s) refl (λ r on. leads_ends p may n r t r0 last on ends) leads
+pub leads_ends : (p : Program) (n : ℕ) (s t : State) (asked : List Exchange) (r0 : ℕ) (last : State) → LeadsTo p t n s →
+    EndsAsking p t asked r0 last → EndsAsking p s asked r0 last
+leads_ends p zero s t asked r0 last leads ends = subst (λ (r : State). EndsAsking p r asked r0 last) (sym leads) ends
+leads_ends p (suc n) s t asked r0 last leads ends =
+    ends_on p (LeadsTo p t n) s asked r0 last (effect p no_entries s) refl (λ r on. leads_ends p n r t asked r0 last on ends) leads

@@ -20,7 +20,6 @@ use Rattle.yielding.specs.declared.event.Event.{Event}
 use Rattle.yielding.specs.declared.event.Event.TheVariants as event
 use Rattle.yielding.specs.declared.event.Question.{Question}
 use Rattle.yielding.specs.declared.stops.Stop.{Stop}
-use Rattle.yielding.specs.declared.stops.Stop.TheVariants.{AtLimit, Asks}
 use Rattle.yielding.specs.Leading.{LeadsTo, StopsAt}
 use Rattle.yielding.specs.Standing.{IsStanding, MayGo, phase_after}
 use Rattle.yielding.specs.Stops.{Halts, IsStopOf}

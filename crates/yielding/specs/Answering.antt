@@ -1,5 +1,5 @@
 -- What a function of the host's may answer.
-use Rattle.std.specs.Prelude.{ℕ, List}
+use Rattle.std.specs.Prelude.{ℕ}
 use Rattle.machine_model.specs.Alone.{MayAnswer}
 use Rattle.yielding.specs.declared.event.Question.{Question}
 

@@ -5,3 +5,4 @@ pub mod Pieces
 pub mod GoFaults
 pub mod Going
 pub mod Answering
+pub mod Asking

@@ -1,5 +1,5 @@
 -- A piece of a task's run, over what is kept of the task.
-use Rattle.std.specs.Prelude.{◌≡◌, ℕ, ◌<◌, ◌≤◌, List, Bool, true, false}
+use Rattle.std.specs.Prelude.{◌≡◌, ℕ, List, Bool, true, false}
 use Rattle.machine_model.specs.Machine.{State, Effect, Continues, Ends}
 use Rattle.helpers.specs.Piece.{Piece}
 use Rattle.verifier.specs.Checked.{Checked, program_of}

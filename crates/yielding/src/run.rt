@@ -5,6 +5,7 @@ ghost use Rattle.std.specs.Arc.{arc_value};
 ghost use Rattle.machine_model.specs.Limits.{max_part, max_credit};
 ghost use Rattle.virtual_machine.specs.Executes.{ExecutesOn, IsUnrunnable};
 ghost use Rattle.yielding.specs.Answering.{may_answer_by};
+ghost use Rattle.yielding.specs.Asking.{RunsAsking};
 
 use crate::event::{Event, Question};
 use crate::task::Task;
@@ -15,18 +16,20 @@ use virtual_machine::{Executed, VmFault};
 
 /// Runs a program alone from its entry to its end, in pieces of `limit` instructions at most, and
 /// answers each call of a helper of the host's by the function. Whatever the limit is, the pieces
-/// come to the run of the definition under what the function may answer.
+/// come to the run of the definition under what the function may answer. The function is called
+/// once for each of that run's calls, in their order, and for nothing else.
 ///
-/// The refusals are those of [`Task::start`], after which the memory is as it was.
+/// The refusals are those of [`Task::start`], after which the memory is as it was, and the function
+/// wasn't called.
 pub fn run_with_answers<F: FnMut(Question) -> u64>(
     program: Arc<Verified, Global>,
     memory: &mut [u8],
     argument: u64,
     credit: u32,
     limit: u32,
-    mut answer: F,
+    answer: &mut F,
 ) -> Result<Executed, VmFault>
-    requires callable { F.IsAlwaysCallable answer }
+    requires callable { F.IsAlwaysCallable answer.old }
     requires some { 0 < limit }
     requires small { length memory.old ≤ max_part }
     requires limit { credit ≤ max_credit }
@@ -35,6 +38,10 @@ pub fn run_with_answers<F: FnMut(Question) -> u64>(
         memory.old done.r0 done.used memory.new)
         (λ fault. IsUnrunnable (Some (arc_value program)) credit (length memory.old) fault
         × (memory.new ≡ memory.old)) }
+    ensures asks { MatchResult result
+        (λ done. RunsAsking (arc_value program) F.step answer.old argument credit memory.old done.r0
+        done.used memory.new answer.new)
+        (λ _. answer.new ≡ answer.old) }
 {
     let mut task = match Task::start(program, credit, argument, memory.len()) {
         Ok(task) => task,

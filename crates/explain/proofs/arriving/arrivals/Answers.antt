@@ -4,6 +4,11 @@ use Rattle.explain.specs.Arriving.{subject_of}
 use Rattle.explain.proofs.ArrivingLemmas.{fill_all, fill_next}
 use Rattle.explain.proofs.arriving.arrivals.Goals as goal
 
+pub arrive-arrival-requires-clause-slot : goal.arrive-arrival-requires-clause-slot
+arrive-arrival-requires-clause-slot c =
+    let lt : c.loop-place.place < length c.args.survey.now.graph.now.order = rw c.order-order.ensures.order at c.loop-place-test.true in
+    rw c.order-order.ensures.order (begins_within c.args.survey.now.graph.now.code _ (c.slots.ensures.flow.order.begins c.loop-place.place lt))
+
 pub index_mut-requires : goal.index_mut-requires
 index_mut-requires c =
     let lt : c.loop-place.place < length c.args.survey.now.graph.now.order = rw c.order-order.ensures.order at c.loop-place-test.true in

@@ -5,8 +5,8 @@ use Rattle.std.proofs.lemmas.Bool.{cases_lt}
 use Rattle.explain.proofs.BlockLemmas.{slots_long}
 use Rattle.explain.proofs.blocks.end_of.Goals as goal
 
-pub is_straight-requires : goal.is_straight-requires
-is_straight-requires c =
+pub is_straight-requires-clause-begins : goal.is_straight-requires-clause-begins
+is_straight-requires-clause-begins c =
     let within : c.loop-end.end - 1 < length (slots_in c.args.placed.now) = omega (arith, slots_long c.args.placed.now, c.loop-end-test.true, c.loop-end.invariant.some) in
     subst (Begins c.args.graph.now.code) (sym c.slot_at.ensures) (c.requires.begun (c.loop-end.end - 1) within)
 

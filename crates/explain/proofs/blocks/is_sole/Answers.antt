@@ -1,34 +1,34 @@
-use Rattle.std.proofs.Common.{◌≡◌, inl, inr, rules, arith, refl, subst, ◌∙◌}
-use Rattle.flow_graph.specs.Cycles.{IsJoint}
-use Rattle.std.proofs.lemmas.Bool.{cases_lt}
-use Rattle.explain.proofs.BlockLemmas.{joint_within}
+use Rattle.std.proofs.Common.{◌≤◌, ◌<◌, ℕ, suc, Option, Some, arith, ap, length, refl, subst, sym, ◌∙◌}
+use Rattle.verifier.specs.Sources.{IsNextSource}
+use Rattle.explain.proofs.SourceLemmas.{later_source, sole_source}
 use Rattle.explain.proofs.blocks.is_sole.Goals as goal
-use Rattle.explain.proofs.blocks.is_sole.Goals.{then-slot-from+else-leads_to, else-slot-from}
 
-pub returns-then-leads_to : goal.returns-then-leads_to
-returns-then-leads_to c =
-    let joint : IsJoint c.args.graph.now.code c.loop-slot.slot c.args.to = search rules in
-    (λ t. absurd cc, λ sole. absurd (c.if-slot-from.true (sole c.loop-slot.slot joint)))
+pub returns-in-None : goal.returns-in-None
+returns-in-None c =
+    let within : c.args.to < length c.args.graph.now.code = omega (arith, c.slots-slots.ensures.slots, c.if-prove-2.false) in
+    let from : 0 ≤ c.args.from = omega arith in
+    let none = subst (λ (o : Option ℕ). IsNextSource c.args.graph.now.code c.args.to 0 o) (sym c.in-None.ensures) (c.requires.linked.first c.args.to within) in
+    (λ t. absurd cc, λ sole. absurd (none c.args.from from c.requires.joint))
 
-pub loop-slot-preserved : goal.loop-slot-preserved
-loop-slot-preserved c = record {
-  sole = λ k lt joint. elim (cases_lt k c.loop-slot.slot) [
-    | inl low ↦ c.loop-slot.invariant.sole k low joint
-    | inr ge ↦
-        let same : k ≡ c.loop-slot.slot = omega (arith, lt, ge) in
-        elim c.if-slot-from.branch [
-          | then-slot-from+else-leads_to w ↦
-              let t = w.leads_to.ensures.1 (subst (λ n. IsJoint c.args.graph.now.code n c.args.to) same joint) in
-              let f = w.if-leads_to.false in absurd (cc)
-          | else-slot-from w ↦ same ∙ w.if-slot-from.false
-        ]
-  ];
-}
+pub returns-then-first-from : goal.returns-then-first-from
+returns-then-first-from c =
+    let within : c.args.to < length c.args.graph.now.code = omega (arith, c.slots-slots.ensures.slots, c.if-prove-2.false) in
+    let first = subst (λ (o : Option ℕ). IsNextSource c.args.graph.now.code c.args.to 0 o) (sym c.in-Some.ensures) (c.requires.linked.first c.args.to within) in
+    (λ t. absurd cc, λ sole. absurd (c.if-first-from.true (sole c.in-Some.first first.1)))
 
-pub returns : goal.returns
-returns c = (
-  λ t k joint.
-      let within = joint_within c.args.graph.now.code k c.args.to joint in
-      c.loop-slot.invariant.sole k (omega (arith, within, c.loop-slot-test.false, c.slots-slot-end.ensures.slots)) joint,
-  λ sole. refl,
-)
+pub returns-in-None-after : goal.returns-in-None-after
+returns-in-None-after c =
+    let within : c.args.to < length c.args.graph.now.code = omega (arith, c.slots-slots.ensures.slots, c.if-prove-2.false) in
+    let from : 0 ≤ c.args.from = omega arith in
+    let first = subst (λ (o : Option ℕ). IsNextSource c.args.graph.now.code c.args.to 0 o) (sym c.in-Some.ensures ∙ ap Some c.if-first-from.false)
+    (c.requires.linked.first c.args.to within) in
+    let none = subst (λ (o : Option ℕ). IsNextSource c.args.graph.now.code c.args.to (suc c.args.from) o) (sym c.after.ensures ∙ c.in-None-after.is)
+    (c.requires.linked.after c.args.from c.args.to c.successors.result from c.successors.ensures c.requires.joint) in
+    (λ t. sole_source c.args.graph.now.code c.args.from c.args.to first none, λ sole. refl)
+
+pub returns-in-Some-after : goal.returns-in-Some-after
+returns-in-Some-after c =
+    let from : 0 ≤ c.args.from = omega arith in
+    let later = subst (λ (o : Option ℕ). IsNextSource c.args.graph.now.code c.args.to (suc c.args.from) o) (sym c.after.ensures ∙ c.in-Some-after.is)
+    (c.requires.linked.after c.args.from c.args.to c.successors.result from c.successors.ensures c.requires.joint) in
+    (λ t. absurd cc, λ sole. absurd (later_source c.args.graph.now.code c.args.from c.args.to c.in-Some-after.field-0 later sole))

@@ -18,4 +18,4 @@ pub returns : goal.returns
 returns c =
     IfOk-weaker c.faults.result _ _ (λ list told.
     faults c.in-Ok.ensures.small c.in-Ok.whole.placed.items c.in-Ok.ensures.program (flow_of _ c.in-Ok.whole.graph c.in-Ok.ensures.built)
-    (rw (c.deref.ensures.value, c.deref-2.ensures.value, c.in_ok-lines.ensures, c.in-Ok.ensures.built.same) at told)) c.faults.ensures
+    _ c.in_ok-lines.ensures (rw (c.deref.ensures.value, c.deref-2.ensures.value, c.in-Ok.ensures.built.same) at told)) c.faults.ensures

@@ -9,7 +9,7 @@ use Rattle.explain.proofs.faults.faults.Goals.{in-None, in-Some+in_ok-push-in-So
 
 pub loop-slot-preserved : goal.loop-slot-preserved
 loop-slot-preserved c =
-    rw add-one (elim c.match-branch-3.branch [
+    rw add-one (elim c.match-branch-4.branch [
       | in-None w ↦
           rw w.list-is (record {
             all = told_none (subject_of c.args.survey.now) c.loop-slot.slot c.loop-slot.list.items c.loop-slot.invariant.all (rw w.in-None.is at c.in_ok-fault_at.ensures);

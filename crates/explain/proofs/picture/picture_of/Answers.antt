@@ -24,7 +24,9 @@ returns c = record {
   placed = c.in_ok-whole.whole.placed.items;
   program = c.in_ok-whole.ensures.program;
   flow = flow_of _ c.in_ok-whole.whole.graph c.in_ok-whole.ensures.built;
-  places = rw (c.deref-2.ensures.value, c.deref-3.ensures.value, c.in_ok-lines.ensures) at c.in_ok-places.ensures;
+  lines = _;
+  from = c.in_ok-lines.ensures;
+  places = rw (c.deref-2.ensures.value, c.deref-3.ensures.value) at c.in_ok-places.ensures;
   blocks = rw (c.deref.ensures.value, c.in_ok-whole.ensures.built.same) at c.in_ok-blocks.ensures;
   why = c.in_ok-why.ensures;
 }

@@ -44,15 +44,15 @@ first_unreached-requires c = rw (c.deref-in-All.ensures.value, c.in_ok-code.ensu
 pub of-requires-in-None : goal.of-requires-in-None
 of-requires-in-None c = rw (c.in_ok-code.ensures, c.order_of.ensures) (record {
   joined = joined_of _ (laid_of _ c.requires) (rw (c.deref.ensures.value, c.in_ok-code.ensures) at c.in_default.ensures);
-  order = (rw (c.in-All.is, c.deref-3.ensures.value, c.in_ok-code.ensures) at c.in_ok-marks.ensures).0;
-  short = omega (arith, length-reverse c.in-All.walk.done.items, (rw (c.in-All.is, c.deref-3.ensures.value, c.in_ok-code.ensures) at c.in_ok-marks.ensures).1);
+  order = (rw (c.in-All.is, c.deref-3.ensures.value, c.in_ok-code.ensures) at c.in_ok-known.ensures).0;
+  short = omega (arith, length-reverse c.in-All.walk.done.items, (rw (c.in-All.is, c.deref-3.ensures.value, c.in_ok-code.ensures) at c.in_ok-known.ensures).1);
   reached = rw (c.in-None.is, c.deref-in-All.ensures.value, c.in_ok-code.ensures) at c.in_ok-slot-in-All.ensures;
 })
 
 pub returns-in-Some-3 : goal.returns-in-Some-3
 returns-in-Some-3 c = (
   rw (c.deref.ensures.value, c.in_ok-code.ensures) at c.in_default.ensures,
-  λ s cycle. no_cycle _ _ s (rw (c.in-All.is, c.deref-3.ensures.value, c.in_ok-code.ensures) at c.in_ok-marks.ensures).0 cycle,
+  λ s cycle. no_cycle _ _ s (rw (c.in-All.is, c.deref-3.ensures.value, c.in_ok-code.ensures) at c.in_ok-known.ensures).0 cycle,
   rw (c.in-Some-3.is, c.deref-in-All.ensures.value, c.in_ok-code.ensures) at c.in_ok-slot-in-All.ensures,
 )
 
@@ -60,6 +60,6 @@ pub returns-in-None : goal.returns-in-None
 returns-in-None c = record {
   same = c.of-in-None.ensures.code ∙ c.in_ok-code.ensures;
   faultless = rw (c.deref.ensures.value, c.in_ok-code.ensures) at c.in_default.ensures;
-  order = rw (c.of-in-None.ensures.order, c.order_of.ensures) (rw (c.in-All.is, c.deref-3.ensures.value, c.in_ok-code.ensures) at c.in_ok-marks.ensures).0;
+  order = rw (c.of-in-None.ensures.order, c.order_of.ensures) (rw (c.in-All.is, c.deref-3.ensures.value, c.in_ok-code.ensures) at c.in_ok-known.ensures).0;
   reached = rw (c.in-None.is, c.deref-in-All.ensures.value, c.in_ok-code.ensures) at c.in_ok-slot-in-All.ensures;
 }

@@ -1,5 +1,4 @@
-use Rattle.std.proofs.Common.{◌≡◌, length, replicate, false, arith, rules, sym, subst}
-use Rattle.flow_graph.specs.Forward.{IsForwardTo}
+use Rattle.std.proofs.Common.{◌≡◌, length, replicate, false, arith, rules}
 use Rattle.flow_graph.proofs.CodeLemmas.{so, not_so}
 use Rattle.flow_graph.proofs.ForwardLemmas.{forward_first, forward_none, forward_more, forward_all}
 use Rattle.flow_graph.proofs.forward.slots_in_turn.Goals as goal

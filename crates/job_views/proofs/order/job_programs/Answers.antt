@@ -1,10 +1,7 @@
-use Rattle.std.proofs.Common.{◌≡◌, ◌∙◌, ◌++◌, ◌∷◌, ◌+◌, [], List, Some, arith, length, refl, slice_get, subst, sym}
+use Rattle.std.proofs.Common.{◌++◌, ◌∷◌, ◌+◌, [], List, arith, length, refl, subst, sym}
 use Rattle.std.proofs.lemmas.Option.{slice_get_read}
-use Rattle.helpers.specs.Table.{job_table}
 use Rattle.insn_codec.specs.declared.insn.Placed.{Placed}
 use Rattle.machine_model.specs.Machine.{Program}
-use Rattle.verifier.specs.Checked.{Checked}
-use Rattle.verifier.specs.Refusals.{IsAccepted}
 use Rattle.run_trace.specs.Spelled.{listings_of, programs_of}
 use Rattle.job_views.proofs.Spelling.{AreSpelledTo, accepted_at, spelled_all, spelled_more, spelled_none}
 use Rattle.job_views.proofs.order.job_programs.Goals as goal
@@ -21,7 +18,7 @@ add-requires c =
 pub loop-program-preserved : goal.loop-program-preserved
 loop-program-preserved c =
     let here = slice_get_read c.args.programs.now (length c.args.programs.now) c.loop-program.program-index c.program-item.result refl c.loop-program-test.true c.program-item.is in
-    let added = rw c.deref.ensures.value at c.in_ok-add.ensures in
+    let added = rw c.deref.ensures.value at c.in_ok-add.ensures.added in
     let more = spelled_more c.args.programs.now c.loop-program.program-index (listings_of c.loop-program.found) (programs_of c.loop-program.found) c.program-item.result
     added.0 added.1 c.loop-program.invariant here added.2 in
     subst (λ (l : List (List Placed)). AreSpelledTo c.args.programs.now (c.loop-program.program-index + 1) l (programs_of c.add.new.self)) (sym added.3)

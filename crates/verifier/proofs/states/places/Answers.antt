@@ -7,7 +7,11 @@ use Rattle.verifier.proofs.states.places.Goals as goal
 pub loop-slot-preserved : goal.loop-slot-preserved
 loop-slot-preserved c =
     let same : c.loop-slot.slot - 1 + 1 ≡ c.loop-slot.slot + 1 - 1 = omega (arith, c.if-prove.false) in
-    c.in_ok-push-2.ensures.items
-    ∙ (ap (λ (xs : List (Option State)). xs ++ None ∷ []) c.loop-slot.invariant
-    ∙ ap (λ (xs : List (Option State)). Some (entry_state c.args.need) ∷ xs)
-    (replicate_more {X = Option State} (c.loop-slot.slot - 1) None ∙ ap (λ (k : ℕ). replicate {A = Option State} k None) same))
+    record {
+      items =
+          c.push_reserved-in-loop-slot.ensures.items
+          ∙ (ap (λ (xs : List (Option State)). xs ++ None ∷ []) c.loop-slot.invariant.items
+          ∙ ap (λ (xs : List (Option State)). Some (entry_state c.args.need) ∷ xs)
+          (replicate_more {X = Option State} (c.loop-slot.slot - 1) None ∙ ap (λ (k : ℕ). replicate {A = Option State} k None) same));
+      room = omega (arith, c.loop-slot.invariant.room, c.push_reserved-in-loop-slot.ensures.capacity);
+    }

@@ -1,4 +1,4 @@
-use Rattle.std.proofs.Common.{◌<◌, arith, sym, None, length}
+use Rattle.std.proofs.Common.{◌<◌, arith, None, length}
 use Rattle.std.proofs.lemmas.Result.{on_ok_weaker}
 use Rattle.std.proofs.lemmas.List.{get_or-set_same, get_or-set_other}
 use Rattle.std.proofs.Math.ListN.{length-set}
@@ -7,15 +7,14 @@ use Rattle.verifier.proofs.Linking.{joint_zero}
 use Rattle.verifier.proofs.Comings.{come_away, among_at, later_at}
 use Rattle.verifier.proofs.states.propagate.Goals as goal
 
-pub returns-then-not-is_kept : goal.returns-then-not-is_kept
-returns-then-not-is_kept c = record {
+pub returns-in-Zero : goal.returns-in-Zero
+returns-in-Zero c = record {
   propagated = λ need helpers n h lt at.
       let room : c.args.visited.now.from < length c.args.states.now = omega (arith, c.if-prove.false, c.slots-slots.ensures.slots, c.requires.slots) in
       come_away (record { need = need; helpers = helpers; code = c.args.graph.now.code }) c.args.graph.now.order _ c.args.visited.now.from c.args.sources.now
       c.args.states.now _ h (among_at c.args.graph.now.order n c.args.visited.now.from lt at) (length-set c.args.states.now c.args.visited.now.from None)
       (λ k ne. get_or-set_other c.args.states.now c.args.visited.now.from k None None ne)
       (get_or-set_same c.args.states.now c.args.visited.now.from None None room)
-      (sym c.if-not-is_kept.ensures)
       (λ to joint. absurd (joint_zero c.args.graph.now.code c.args.visited.now.from to (rw c.in-Zero.is at c.requires.next) joint));
 }
 

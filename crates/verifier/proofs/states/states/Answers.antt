@@ -4,7 +4,7 @@ use Rattle.verifier.specs.declared.states.Fault.{Fault}
 use Rattle.verifier.specs.Propagation.{IsFirst}
 use Rattle.verifier.proofs.Arrivals.{arrive_is}
 use Rattle.verifier.proofs.Examining.{come_start, first_same, first_fault, all_passed, all_among, come_refused}
-use Rattle.verifier.proofs.Keeping.{none_among, kept_there, regions_more}
+use Rattle.verifier.proofs.RegionLemmas.{none_among, regions_more}
 use Rattle.verifier.proofs.states.states.Goals as goal
 use Rattle.verifier.proofs.states.states.Goals.{in-None, in-Some}
 
@@ -51,17 +51,6 @@ loop-place-preserved c =
           c.in_ok-fault.ensures.region;
     })
 
-pub kept-requires-clause-there : goal.kept-requires-clause-there
-kept-requires-clause-there c =
-    let flow = c.slots-slots.ensures.flow in
-    let all : c.loop-place.place ≡ length c.args.graph.now.order =
-    rw c.order-place-end.ensures.order at (let e : c.loop-place.place ≡ length c.order-place-end.result.now = omega (arith, c.loop-place-test.false, c.loop-place.auto.place-end) in e) in
-    rw c.deref_mut-in-None-first.ensures.value
-    (kept_there (record { need = c.args.need; helpers = c.args.helpers.now; code = c.args.graph.now.code }) c.args.graph.now.order c.loop-place.place c.loop-place.sources
-    c.loop-place.states.items flow.joined flow.order all c.loop-place.invariant.propagated
-    (subst (λ (o : Option Fault). IsFirst (record { need = c.args.need; helpers = c.args.helpers.now; code = c.args.graph.now.code }) c.args.graph.now.order c.loop-place.place o)
-    c.in-None-first.is c.loop-place.invariant.told))
-
 pub returns-in-None-first : goal.returns-in-None-first
 returns-in-None-first c =
     let flow = c.slots-slots.ensures.flow in
@@ -72,7 +61,7 @@ returns-in-None-first c =
           (arrive_is (record { need = c.args.need; helpers = c.args.helpers.now; code = c.args.graph.now.code }) c.args.graph.now.order flow.joined flow.order flow.short) all
           (subst (λ (o : Option Fault). IsFirst (record { need = c.args.need; helpers = c.args.helpers.now; code = c.args.graph.now.code }) c.args.graph.now.order c.loop-place.place o)
           c.in-None-first.is c.loop-place.invariant.told);
-      kept = c.in_ok-kept-in-None-first.ensures;
+      merges = c.merges.ensures;
       slots = c.loop-place.invariant.long;
       regions = λ s begins. c.loop-place.invariant.regions s
           (all_among (record { need = c.args.need; helpers = c.args.helpers.now; code = c.args.graph.now.code }) c.args.graph.now.order c.loop-place.place s flow.order all begins);

@@ -1,7 +1,7 @@
 use Rattle.std.proofs.Common.{refl, arith}
 use Rattle.std.proofs.lemmas.Result.{err_from_is_err_and}
 use Rattle.flow_graph.proofs.Decoded.{decoded_of}
-use Rattle.verifier.specs.Kept.{checked, subject}
+use Rattle.verifier.specs.Checked.{checked, subject}
 use Rattle.verifier.proofs.Predecodings.{regions_of}
 use Rattle.verifier.proofs.Verdicts.{codec_refused, flow_refused, states_refused, verified_of, accepted_of}
 use Rattle.verifier.proofs.verification.verify.Goals as goal
@@ -42,9 +42,8 @@ of-requires-clause-regions c =
     c.in_ok-predecoded.ensures.code
     (rw c.deref-2.ensures.value at c.in_ok-predecoded.ensures.regions) c.in_ok-found.ensures.regions)
 
-pub of-requires-clause-kept : goal.of-requires-clause-kept
-of-requires-clause-kept c =
-    rw c.in_ok-helpers.ensures.same c.in_ok-found.ensures.kept
+pub of-requires-clause-merges : goal.of-requires-clause-merges
+of-requires-clause-merges c = c.in_ok-found.ensures.merges
 
 pub returns : goal.returns
 returns c =

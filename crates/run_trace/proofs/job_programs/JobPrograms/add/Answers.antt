@@ -1,5 +1,4 @@
-use Rattle.std.proofs.Common.{◌≡◌, ◌∙◌, ℕ, List, None, ap, map, refl, rules, slice_index_or, subst, sym}
-use Rattle.std.proofs.lemmas.List.{map-append}
+use Rattle.std.proofs.Common.{◌≡◌, ◌∙◌, ℕ, List, None, ap, refl, rules, slice_index_or, subst, sym}
 use Rattle.insn_codec.specs.declared.fault.CodecFault.TheVariants as codec
 use Rattle.flow_graph.specs.declared.fault.FlowFault.TheVariants as flow
 use Rattle.flow_graph.specs.Program.{code_of}
@@ -10,6 +9,7 @@ use Rattle.machine_model.specs.Machine.{Program}
 use Rattle.machine_model.specs.Paths.{AreCosts}
 use Rattle.reference.specs.Records.{program_of}
 use Rattle.run_trace.specs.declared.job_programs.Listed.{Listed}
+use Rattle.run_trace.proofs.Growing.{mapped_more}
 use Rattle.run_trace.proofs.Running.{accepted_flow}
 use Rattle.run_trace.proofs.SameTrace.{arities}
 use Rattle.run_trace.proofs.job_programs.JobPrograms.add.Goals as goal
@@ -30,8 +30,8 @@ unreachable-requires-in-Err-build c =
     not_flow (code_of c.in-Ok.placed.items) c.in-Err-build.field-0 has (rw c.deref.ensures.value at c.in-Err-build.ensures) in
     search (rules, same)
 
-pub returns : goal.returns
-returns c =
+pub returns-clause-added : goal.returns-clause-added
+returns-clause-added c =
     let p : Program = record {
       need = c.args.need;
       code = c.into_code.result.items;
@@ -48,6 +48,6 @@ returns c =
             (subst (λ (d : Code). AreCosts d c.in_ok-table.table) (sym c.into_code.ensures) c.in_ok-table.ensures);
         helpers = arities _ c.in_ok-registered.ensures.items;
       },
-      ap (map (λ (l : Listed). l.placed.items)) c.in_ok-push-2.ensures.items ∙ map-append (λ (l : Listed). l.placed.items) c.args.self.now.listings.items _,
-      ap (map program_of) c.in_ok-push.ensures.items ∙ map-append program_of c.args.self.now.programs.items _,
+      mapped_more (λ (l : Listed). l.placed.items) _ _ _ _ c.reserve.ensures.items c.push_reserved-2.ensures.items,
+      mapped_more program_of _ _ _ _ c.reserve-2.ensures.items c.push_reserved.ensures.items,
     )

@@ -1,0 +1,5 @@
+use Rattle.job_core.proofs.live.Live.run_at.Goals as goal
+
+pub returns-clause-ran : goal.returns-clause-ran
+returns-clause-ran g c =
+    rw (← c.self.view_is, ← c.deref_mut-body.ensures.value) c.run_at.ensures.ran

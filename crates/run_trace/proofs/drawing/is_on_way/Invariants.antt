@@ -1,0 +1,5 @@
+use Rattle.std.proofs.Common.{◌≢◌, ℕ, ◌<◌, slice_index_or}
+use Rattle.run_trace.proofs.drawing.is_on_way.Given as goal
+
+abbrev pub invariant-loop-place : goal.invariant-loop-place
+invariant-loop-place l = (k : ℕ) → k < l.place → slice_index_or l.way k 0 ≢ l.slot
