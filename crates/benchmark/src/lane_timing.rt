@@ -2,6 +2,7 @@
 
 use crate::book_timing::{TICKETS, print_each, spawned};
 use anyhow::bail;
+use credit_book::Ticket;
 use lanes::{Lanes, lanes_between};
 use std::alloc::Global;
 use std::io::Write;
@@ -20,7 +21,7 @@ struct LaneTimes {
 }
 
 /// The time in which the tickets of a new book go into a worker's lane.
-fn pushed<C: Clock>(clock: &C, alloc: Global, lanes: &mut Lanes) -> anyhow::Result<Duration> {
+fn pushed<C: Clock>(clock: &C, alloc: Global, lanes: &mut Lanes<Ticket>) -> anyhow::Result<Duration> {
     let mut tickets = Vec::new(alloc);
     let _book = spawned(alloc, &mut tickets)?;
     let start = Instant::now(clock)?;
@@ -31,7 +32,7 @@ fn pushed<C: Clock>(clock: &C, alloc: Global, lanes: &mut Lanes) -> anyhow::Resu
 }
 
 /// The time in which a worker finds so many tickets, in its own lane or in another's.
-fn found<C: Clock>(clock: &C, lanes: &mut Lanes) -> anyhow::Result<Duration> {
+fn found<C: Clock>(clock: &C, lanes: &mut Lanes<Ticket>) -> anyhow::Result<Duration> {
     let start = Instant::now(clock)?;
     for _ in 0..TICKETS {
         if lanes.next().is_none() {

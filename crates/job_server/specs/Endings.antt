@@ -5,7 +5,7 @@ use Rattle.job_core.specs.Admitted.{AdmittedJob}
 use Rattle.workers.specs.declared.fault.PoolFault.{PoolFault}
 use Rattle.workers.specs.PoolFaultCodes.{number_of}
 use Rattle.workers.specs.Final.{IsFinal}
-use Rattle.workers.specs.Noted.{EndedAlone}
+use Rattle.workers.specs.EndedAlone.{EndedAlone}
 
 -- the report of a whole run of this job under this number, each of whose tasks gives what it gives
 -- by itself

@@ -5,7 +5,7 @@ use Rattle.job_core.specs.Admitted.{AdmittedJob}
 use Rattle.sessions.specs.Replies.{result_data}
 use Rattle.workers.specs.declared.fault.PoolFault.{PoolFault}
 use Rattle.workers.specs.Final.{IsFinal}
-use Rattle.workers.specs.Noted.{EndedAlone}
+use Rattle.workers.specs.EndedAlone.{EndedAlone}
 use Rattle.workers.specs.PoolFaultCodes.{number_of}
 use Rattle.bpfjobs_cli.specs.declared.commands.Command.{Command}
 use Rattle.bpfjobs_cli.specs.declared.commands.Command.TheVariants.{Assemble, Disassemble, Verify, Play, Run, Serve, ServeClients}

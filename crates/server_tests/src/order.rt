@@ -4,8 +4,10 @@ ghost use Rattle.lanes.specs.Passes.{IsOwner, IsGuest};
 
 use crate::stop::Stop;
 use crate::tickets::{Tickets, number_of};
-use lanes::{Lane, Lanes, Owning, Pass, Stealing, Stolen, Thief, lane, lanes_between};
+use credit_book::Ticket;
+use lanes::{Lanes, lanes_between};
 use std::alloc::Global;
+use workers::{Lane, Owning, Pass, Stealing, Stolen, Thief, lane};
 
 /// Puts the next ticket into the lane.
 fn put(
@@ -82,7 +84,7 @@ const HALVES: [Turns; 5] = [
 ];
 
 /// Lanes between workers, with so many tickets in each worker's own.
-fn filled(alloc: Global, counts: &[u32]) -> Result<Vec<Lanes>, Stop> {
+fn filled(alloc: Global, counts: &[u32]) -> Result<Vec<Lanes<Ticket>>, Stop> {
     let mut tickets = Tickets::open(alloc)?;
     let workers = if counts.len() < 16 {
         counts.len() as u32

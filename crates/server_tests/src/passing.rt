@@ -6,13 +6,13 @@ ghost use Rattle.lanes.specs.Passes.{IsOwner, IsGuest};
 use crate::stop::Stop;
 use crate::tally::Tally;
 use crate::tickets::Tickets;
-use lanes::{Lane, Owning, Pass, Stealing, Stolen, Thief, lane};
 use std::alloc::Global;
 use std::marker::Model;
 use std::sync::Wait;
 use std::sync::atomic::{AtomicBool, Ordering};
 use std::thread::{JoinHandle, Scope, Threads};
 use std::{hint, thread};
+use workers::{Lane, Owning, Pass, Stealing, Stolen, Thief, lane};
 
 /// How many tickets are pushed.
 const TICKETS: u32 = 50_000;

@@ -3,6 +3,7 @@
 use crate::stop::Stop;
 use crate::tally::Tally;
 use crate::tickets::Tickets;
+use credit_book::Ticket;
 use lanes::{Lanes, lanes_between};
 use std::alloc::Global;
 use std::sync::Wait;
@@ -14,7 +15,7 @@ const TICKETS: u32 = 100_000;
 
 /// Marks what it finds until all was pushed and it finds nothing. It comes in the order of pushing
 /// where nobody else steals: a thief may also take from another what that one has taken earlier.
-fn steals<R: Wait>(rt: &R, lanes: Lanes, is_alone: bool, tally: &Tally) {
+fn steals<R: Wait>(rt: &R, lanes: Lanes<Ticket>, is_alone: bool, tally: &Tally) {
     let mut lanes = lanes;
     let mut last = 0;
     for _ in rt.forever() {
@@ -34,7 +35,7 @@ fn steals<R: Wait>(rt: &R, lanes: Lanes, is_alone: bool, tally: &Tally) {
 }
 
 /// Pushes all tickets, of which it takes one for every eight, and then what is left.
-fn pushes(alloc: Global, lanes: Lanes, tally: &Tally) -> Result<(), Stop> {
+fn pushes(alloc: Global, lanes: Lanes<Ticket>, tally: &Tally) -> Result<(), Stop> {
     let mut lanes = lanes;
     let mut tickets = Tickets::open(alloc)?;
     for turn in 0..TICKETS {

@@ -28,4 +28,7 @@ mod worker;
 pub use run::{run_here, run_job};
 
 // the deque of one worker, for whoever runs tasks in threads of their own
-pub use lanes::{Lane, Owning, Pass, Stealing, Stolen, Thief, lane};
+mod ticket_lane;
+
+pub use lanes::{Pass, lane};
+pub use ticket_lane::{Lane, Owning, Stealing, Stolen, Thief};

@@ -1,3 +1,4 @@
+use Rattle.credit_book.specs.declared.task.Ticket.{Ticket}
 use Rattle.lanes.specs.declared.ends.Pass.{Pass}
 use Rattle.lanes.specs.declared.ends.Stealing.{Stealing}
 use Rattle.lanes.specs.declared.ends.Thief.{Thief}
@@ -7,6 +8,6 @@ use Rattle.server_tests.proofs.order.in_order.Goals as goal
 
 pub stolen-requires : goal.stolen-requires
 stolen-requires c =
-    let last = of_last (λ (t : Thief × Pass Stealing). IsNewThief c.in_ok-lane.lane t.0 t.1) c.in_ok-lane.thieves.items c.pop.new.self.items
+    let last = of_last (λ (t : Thief Ticket × Pass (Stealing Ticket)). IsNewThief c.in_ok-lane.lane t.0 t.1) c.in_ok-lane.thieves.items c.pop.new.self.items
     (c.in-Some.thief, c.in-Some.seat) c.in_ok-lane.ensures.thieves c.in-Some.ensures.items in
     last.1
