@@ -1,3 +1,4 @@
 pub mod Helpless
 pub mod WordLemmas
 pub mod RequestLemmas
+mod SourceLemmas

@@ -1,5 +1,5 @@
 -- How a program's file is written, and which bytes it says.
-use Rattle.std.specs.Prelude.{◌≡◌, ◌≢◌, ℕ, List, codes, eqb, if◌then◌else◌}
+use Rattle.std.specs.Prelude.{◌≡◌, ◌≢◌, ◌⊎◌, ℕ, List, Option, Some, None, codes, eqb, if◌then◌else◌}
 use Rattle.std.specs.List.{ends_with}
 use Rattle.std.specs.Str.{IsUtf8}
 use Rattle.insn_codec.specs.declared.insn.Insn.{Insn}
@@ -15,6 +15,17 @@ use Rattle.bpfrun_core.specs.declared.form.Form.TheVariants.{Text, Hexadecimal, 
 abbrev pub form_of : List ℕ → Form
 form_of path = if ends_with eqb path (codes ".bpf") then Text
     else (if ends_with eqb path (codes ".hex") then Hexadecimal else Bytes)
+
+-- the source text of a file, if it is one
+abbrev pub source_in : Form → List ℕ → Option (List ℕ)
+source_in Text input = Some input
+source_in Hexadecimal input = None
+source_in Bytes input = None
+
+-- the same, or none where the text is no UTF-8
+abbrev pub IsSourceOf : Form → List ℕ → Option (List ℕ) → Type 0
+IsSourceOf form input None = (source_in form input ≡ None) ⊎ (IsUtf8 input → ⊥)
+IsSourceOf form input (Some text) = source_in form input ≡ Some text
 
 -- the bytes are those that the file says
 abbrev pub IsRead : Form → List ℕ → List ℕ → Type 0

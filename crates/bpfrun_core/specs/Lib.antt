@@ -8,3 +8,4 @@ pub mod Traced
 pub mod Program
 pub mod Requests
 pub mod Drawn
+pub mod Lines

@@ -1,6 +1,7 @@
 -- What is printed of a run, or of a refusal.
-use Rattle.std.specs.Prelude.{◌≡◌, ℕ, List, [], ◌∷◌, ◌++◌, codes, Option, Some, None}
+use Rattle.std.specs.Prelude.{◌≡◌, ◌⊎◌, ◌<◌, ◌==◌, ℕ, List, [], ◌∷◌, ◌++◌, codes, length, Option, Some, None}
 use Rattle.std.specs.Fmt.{decimal}
+use Rattle.std.specs.List.{after_first, position_or_len}
 use Rattle.hex.specs.Hex.{encode_lower}
 use Rattle.bpfrun_core.specs.declared.fault.Fault.{Fault}
 use Rattle.bpfrun_core.specs.Faults.{number_of}
@@ -32,6 +33,13 @@ abbrev pub refused_line : ℕ → List ℕ → Option (List ℕ) → List ℕ
 refused_line number words quote =
     codes "refused "
     ++ (decimal number ++ (codes ": " ++ (words ++ (quote_text quote ++ codes "\n"))))
+
+-- the words stand behind the first blank of the text; they are all of it where there is none
+abbrev pub AreWordsOf : List ℕ → List ℕ → Type 0
+AreWordsOf text words =
+    ((position_or_len (λ b. b == 32) text < length text)
+    × (words ≡ after_first (λ b. b == 32) text))
+    ⊎ ((position_or_len (λ b. b == 32) text ≡ length text) × (words ≡ text))
 
 -- `refused N: ` with words and what is quoted, and the line
 pub record IsRefusalText (fault : Fault) (quote : Option (List ℕ)) (place : Option (ℕ × List ℕ))

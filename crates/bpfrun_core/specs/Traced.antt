@@ -5,16 +5,17 @@ use Rattle.run_trace.specs.Traces.{IsTrace}
 use Rattle.bpfrun_core.specs.declared.answering.Asked.{Asked}
 use Rattle.bpfrun_core.specs.declared.fault.Fault.{Fault}
 use Rattle.bpfrun_core.specs.Answered.{need_of, part_of}
-use Rattle.bpfrun_core.specs.Forms.{IsRead, IsUnread}
+use Rattle.bpfrun_core.specs.Forms.{IsRead, IsUnread, source_in}
 use Rattle.bpfrun_core.specs.Runs.{IsProgramRun, IsStopped}
 
--- The program runs, and the trace has the steps of that run, and what it comes to.
+-- The program runs, and the trace has the steps of that run, with the lines of its source text, and
+-- what it comes to.
 pub record IsTraced (asked : Asked) (input : List ℕ) (memory : Option (List ℕ)) (trace : Trace) :
     Type 0 where
   pub code : List ℕ
   pub read : IsRead asked.form input code
-  pub source : Option (List ℕ)
-  pub steps : IsTrace code source asked.arg asked.credit (part_of asked.need memory) trace
+  pub steps : IsTrace code (source_in asked.form input) asked.arg asked.credit
+      (part_of asked.need memory) trace
   pub r0 : ℕ
   pub used : ℕ
   pub left : List ℕ

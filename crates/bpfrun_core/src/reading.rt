@@ -1,7 +1,7 @@
 //! The bytes of a program, by the form of its file.
 
-ghost use Rattle.std.specs.Prelude.{IfOk, IfErr};
-ghost use Rattle.bpfrun_core.specs.Forms.{IsRead, IsUnread};
+ghost use Rattle.std.specs.Prelude.{option_map, IfOk, IfErr};
+ghost use Rattle.bpfrun_core.specs.Forms.{IsRead, IsSourceOf, IsUnread};
 
 use crate::fault::Fault;
 use crate::form::Form;
@@ -47,9 +47,14 @@ pub fn bytes_of(alloc: Global, form: Form, input: &[u8]) -> Result<Vec<u8>, Faul
 }
 
 /// The source text of a file, if it is one.
-pub(crate) fn source_of(form: Form, input: &[u8]) -> Option<&str> {
+pub(crate) fn source_of(form: Form, input: &[u8]) -> Option<&str>
+    ensures { IsSourceOf form input.now (option_map (λ text. text.now) result) }
+{
     match form {
-        Form::Text => str::from_utf8(input).ok(),
+        Form::Text => match str::from_utf8(input) {
+            Ok(text) => Some(text),
+            Err(_) => None,
+        },
         Form::Hexadecimal | Form::Bytes => None,
     }
 }

@@ -3,7 +3,7 @@
 ghost use Rattle.std.specs.Prelude.{◌≡◌, option_map, string_bytes, IfOk};
 ghost use Rattle.bpfjobs_cli.specs.Printed.{Prints};
 ghost use Rattle.explain.specs.Lines.{told};
-ghost use Rattle.bpfrun_core.specs.Printed.{IsRefusalText, memory_line, place_line, quote_text, ran_text};
+ghost use Rattle.bpfrun_core.specs.Printed.{AreWordsOf, IsRefusalText, memory_line, place_line, quote_text, ran_text};
 
 use crate::fault::Fault;
 use bpfjobs_cli::Answer;
@@ -61,7 +61,9 @@ fn place_line(alloc: Global, place: Option<Line<'_>>) -> Result<Vec<u8>, NoMemor
 }
 
 // The words of a refusal, behind the number that its text begins with.
-fn words_of(text: &str) -> &str {
+fn words_of(text: &str) -> &str
+    ensures { AreWordsOf text.now result.now }
+{
     match text.split_once(' ') {
         Some((_number, words)) => words,
         None => text,

@@ -1,8 +1,9 @@
 //! The steps of a program's run, to be shown beside what it comes to.
 
-ghost use Rattle.std.specs.Prelude.{◌≡◌, ◌≤◌, option_map, IfOk, MatchOption};
+ghost use Rattle.std.specs.Prelude.{◌≡◌, ◌≤◌, option_map, string_bytes, IfOk, MatchOption};
 ghost use Rattle.machine_model.specs.Limits.{max_credit};
 ghost use Rattle.bpfrun_core.specs.Answered.{need_of, part_of};
+ghost use Rattle.bpfrun_core.specs.Lines.{object_line, object_lines, step_line, step_lines};
 ghost use Rattle.bpfrun_core.specs.Traced.{IsTraced, IsUntraced};
 
 use crate::answering::{Asked, need_of};
@@ -12,7 +13,7 @@ use crate::running::run;
 use machine_model::MAX_PART;
 use reference::Unanswered;
 use refusal::NoMemory;
-use run_trace::{Json, Trace, trace_run};
+use run_trace::{Json, Step, Trace, trace_run};
 use std::alloc::Global;
 
 /// The part of a program at its start: its memory, or else as many zeros as it needs.
@@ -68,20 +69,44 @@ pub fn trace(
     }
 }
 
+/// The line of a step.
+#[tactic(auto, unfolding(crate::specs::Lines::step_line))]
+fn step_line(alloc: Global, step: &Step) -> Result<String, NoMemory>
+    ensures { IfOk result (λ line. string_bytes line ≡ step_line step.now) }
+{
+    Ok(format!(in alloc; "{step}\n")?)
+}
+
 /// A line for each step.
-pub fn step_lines(alloc: Global, trace: &Trace) -> Result<String, NoMemory> {
+pub fn step_lines(alloc: Global, trace: &Trace) -> Result<String, NoMemory>
+    ensures { IfOk result (λ text. string_bytes text ≡ step_lines trace.now.steps.items) }
+{
+    let steps: &[Step] = &trace.steps;
     let mut text = String::new(alloc);
-    for step in &trace.steps {
-        text.push_str(format!(in alloc; "{step}\n")?.as_str())?;
+    for step in steps {
+        let line = step_line(alloc, step)?;
+        text.push_str(line.as_str())?;
     }
     Ok(text)
 }
 
+/// The JSON object of a step, on a line.
+#[tactic(auto, unfolding(crate::specs::Lines::object_line))]
+fn object_line(alloc: Global, step: &Step) -> Result<String, NoMemory>
+    ensures { IfOk result (λ line. string_bytes line ≡ object_line step.now) }
+{
+    Ok(format!(in alloc; "{}\n", Json(step))?)
+}
+
 /// A JSON object for each step, on a line each.
-pub fn step_objects(alloc: Global, trace: &Trace) -> Result<String, NoMemory> {
+pub fn step_objects(alloc: Global, trace: &Trace) -> Result<String, NoMemory>
+    ensures { IfOk result (λ text. string_bytes text ≡ object_lines trace.now.steps.items) }
+{
+    let steps: &[Step] = &trace.steps;
     let mut text = String::new(alloc);
-    for step in &trace.steps {
-        text.push_str(format!(in alloc; "{}\n", Json(step))?.as_str())?;
+    for step in steps {
+        let line = object_line(alloc, step)?;
+        text.push_str(line.as_str())?;
     }
     Ok(text)
 }

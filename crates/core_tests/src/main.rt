@@ -22,6 +22,7 @@ mod ranges;
 mod trees;
 
 // calls by hand
+mod asking;
 mod books;
 mod chains;
 mod parts;

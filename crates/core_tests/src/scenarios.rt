@@ -1,6 +1,6 @@
 //! Calls by hand, one after the other, each answered as it was worked out.
 
-use crate::{books, chains, parts, refusing, wording};
+use crate::{asking, books, chains, parts, refusing, wording};
 use std::alloc::Global;
 use std::io::Write;
 
@@ -22,7 +22,7 @@ impl Findings {
     }
 }
 
-const NAMES: [&str; 5] = ["books", "parts", "refusing", "chains", "wording"];
+const NAMES: [&str; 6] = ["books", "parts", "refusing", "chains", "asking", "wording"];
 
 fn go_through(alloc: Global, name: &str, findings: &mut Findings) -> anyhow::Result<()> {
     match name {
@@ -30,6 +30,7 @@ fn go_through(alloc: Global, name: &str, findings: &mut Findings) -> anyhow::Res
         "parts" => parts::go_through(alloc, findings),
         "refusing" => refusing::go_through(alloc, findings),
         "chains" => chains::go_through(alloc, findings),
+        "asking" => asking::go_through(alloc, findings),
         _ => wording::go_through(alloc, findings),
     }
 }
