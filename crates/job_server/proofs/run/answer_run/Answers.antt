@@ -13,7 +13,7 @@ returns-in-Err-board g c =
 pub returns-in-Ok-run_job : goal.returns-in-Ok-run_job
 returns-in-Ok-run_job g c =
     let final = rw (c.in-Ok-board.ensures.post.0, c.in-Ok-board.ensures.board.0) at c.in-Ok-run_job.ensures.report in
-    IfOk-weaker c.answer_report.result _ _ (λ a p. ran c.in-Ok.order.0 c.in-Ok.order.1.items c.in-Ok-run_job.report c.in-Ok.ensures.ok final c.in-Ok-run_job.ensures.alone p) c.answer_report.ensures
+    IfOk-weaker c.answer_report.result _ _ (λ a p. ran c.in-Ok.order.0 c.in-Ok.order.1.items c.in-Ok-run_job.report c.in-Ok.ensures.ok final c.in-Ok-run_job.ensures.alone c.in-Ok-run_job.ensures.answer p) c.answer_report.ensures
 
 pub returns-in-Err-run_job : goal.returns-in-Err-run_job
 returns-in-Err-run_job g c =
