@@ -21,7 +21,11 @@ struct LaneTimes {
 }
 
 /// The time in which the tickets of a new book go into a worker's lane.
-fn pushed<C: Clock>(clock: &C, alloc: Global, lanes: &mut Lanes<Ticket>) -> anyhow::Result<Duration> {
+fn pushed<C: Clock>(
+    clock: &C,
+    alloc: Global,
+    lanes: &mut Lanes<Ticket>,
+) -> anyhow::Result<Duration> {
     let mut tickets = Vec::new(alloc);
     let _book = spawned(alloc, &mut tickets)?;
     let start = Instant::now(clock)?;

@@ -367,16 +367,16 @@ keeps_task id v other w has s kept at apart there =
     let other_number : (k : ℕ) (o : SeatedTask) → slice_get v.waiting k ≡ Some o → o.number ≡ m → ⊥ =
     λ k o old same. (let stands = (mine.waiting k o old).here in let at_m : kept.at m ≡ place_waiting id = ap kept.at (sym same) ∙ stands in omega (arith, here, at_m)) in
     let two : (j k : ℕ) (a b : SeatedTask) → (slice_get v.waiting j ≡ Some a) ⊎ ((j ≡ length v.waiting) × (w.task ≡ a)) →
-        (slice_get v.waiting k ≡ Some b) ⊎ ((k ≡ length v.waiting) × (w.task ≡ b)) → a.number ≡ b.number → j ≡ k =
+    (slice_get v.waiting k ≡ Some b) ⊎ ((k ≡ length v.waiting) × (w.task ≡ b)) → a.number ≡ b.number → j ≡ k =
     λ j k a b first second same. elim first [
       | inl x ↦ elim second [
-          | inl y ↦ mine.apart j k a b x y same
-          | inr y ↦ absurd (other_number j a x (same ∙ sym (ap (λ (o : SeatedTask). o.number) y.1)))
-        ]
+        | inl y ↦ mine.apart j k a b x y same
+        | inr y ↦ absurd (other_number j a x (same ∙ sym (ap (λ (o : SeatedTask). o.number) y.1)))
+      ]
       | inr x ↦ elim second [
-          | inl y ↦ absurd (other_number k b y (sym same ∙ sym (ap (λ (o : SeatedTask). o.number) x.1)))
-          | inr y ↦ x.0 ∙ sym y.0
-        ]
+        | inl y ↦ absurd (other_number k b y (sym same ∙ sym (ap (λ (o : SeatedTask). o.number) x.1)))
+        | inr y ↦ x.0 ∙ sym y.0
+      ]
     ] in
     record {
       keeper_at = kept.keeper_at;
@@ -427,12 +427,12 @@ leaves_first id v more s kept at =
     let now : ℕ → ℕ = changed kept.at m (place_of new) in
     let behind : (k : ℕ) (o : SeatedTask) → slice_get (drop 1 v.waiting) k ≡ Some o → IsHere kept.known.starts now (place_waiting id) o =
     λ k o there.
-        let stands = mine.waiting (suc k) o (rest_there v.waiting k o there) in
-        record {
-          is_task = stands.is_task;
-          here = changed_other kept.at m (place_of new) o.number
-              (λ e. let same = mine.apart (suc k) 0 o first (rest_there v.waiting k o there) (first_there v.waiting more) e in omega (arith, same)) ∙ stands.here;
-        } in
+    let stands = mine.waiting (suc k) o (rest_there v.waiting k o there) in
+    record {
+      is_task = stands.is_task;
+      here = changed_other kept.at m (place_of new) o.number
+          (λ e. let same = mine.apart (suc k) 0 o first (rest_there v.waiting k o there) (first_there v.waiting more) e in omega (arith, same)) ∙ stands.here;
+    } in
     record {
       keeper_at = kept.keeper_at;
       known = kept.known;

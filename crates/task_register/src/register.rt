@@ -198,7 +198,7 @@ impl<J: JobId> TaskRegister<J> {
         ensures parent { result.0 ≡ with_one_more parent (start_by parent.number child.now) }
         ensures child { IsSeatOf child.now result.1 }
         ensures register { self.new ≡ record self.old {
-            known = with_start self.old.known (start_by parent.number child.now)
+          known = with_start self.old.known (start_by parent.number child.now);
         } }
     {
         self.add_child_as::<Brand>(parent, child)
@@ -208,7 +208,7 @@ impl<J: JobId> TaskRegister<J> {
     pub fn close(&mut self, seat: TaskSeat<J>, outcome: &Snapshot<Outcome>)
         requires runs { J.runs (ended_by seat outcome.now.value) }
         ensures { self.new ≡ record self.old {
-            known = with_end self.old.known (ended_by seat outcome.now.value)
+          known = with_end self.old.known (ended_by seat outcome.now.value);
         } }
     {
         self.close_as::<Brand>(seat, outcome);
