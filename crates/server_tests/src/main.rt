@@ -1,7 +1,7 @@
 //! What shows only inside a process: streams, sessions and desks without a socket, lanes, gates and
 //! pools of threads. It goes through scenarios, and prints the numbers that each comes to.
 //!
-//! Where one request for memory of a scenario among the first nine is refused, whichever that is,
+//! Where one request for memory of a scenario among the first ten is refused, whichever that is,
 //! it looks that all stands as it has to, calls again, and prints the same. With nothing on
 //! standard input the program goes through all scenarios. With `NAME AHEAD MOST` it makes and drops
 //! AHEAD requests for memory, goes through the scenario of this name, and then tells whether a
@@ -20,6 +20,7 @@ mod tree;
 mod arenas;
 mod asking;
 mod desks;
+mod giving_back;
 mod hearing;
 mod pools;
 mod worlds;
@@ -53,11 +54,11 @@ use std::sync::Wait;
 use std::thread::Threads;
 use stop::Stop;
 
-const NAMES: [&str; 32] = [
+const NAMES: [&str; 33] = [
     "played", "stepped", "heard", "replied", "desk", "stream", "frames", "workers", "runner",
-    "reads", "writes", "drips", "fills", "empties", "texts", "taps", "verdicts", "jobs", "chosen",
-    "passed", "order", "own", "halves", "passes", "lanes", "zeroed", "left", "answers", "meetings",
-    "looks", "faults", "object",
+    "given", "reads", "writes", "drips", "fills", "empties", "texts", "taps", "verdicts", "jobs",
+    "chosen", "passed", "order", "own", "halves", "passes", "lanes", "zeroed", "left", "answers",
+    "meetings", "looks", "faults", "object",
 ];
 
 /// One turn of a scenario in which memory may be refused.
@@ -75,6 +76,7 @@ where
         "frames" => arenas::placed(alloc),
         "workers" => pools::run_by_two(&rt, alloc),
         "runner" => pools::run_by_runner(rt, alloc),
+        "given" => giving_back::given_back(alloc),
         _ => by_itself(rt, alloc, name),
     }
 }
