@@ -1,23 +1,25 @@
 -- What a desk closes to is the one answer.
-use Rattle.std.proofs.Common.{◌≡◌, ℕ, zero, suc, ◌+◌, ◌<◌, List, [], ◌∷◌, length, map, take, drop, replicate, slice_get, sum_by, refl, sym, ◌∙◌, arith, ap, subst, Bool, true, false, Option, Some}
-use Rattle.std.specs.Prelude.{All, Contains}
-use Rattle.std.proofs.lemmas.Option.{slice_get-get_or}
+use Rattle.std.proofs.Common.{◌≡◌, ℕ, suc, ◌+◌, List, [], ◌∷◌, length, map, take, drop, replicate, slice_get, sum_by, refl, sym, ◌∙◌, arith, ap, subst, Bool, true, false, Option, Some}
+use Rattle.std.specs.Prelude.{All}
+use Rattle.std.proofs.lemmas.Option.{get_or_from_slice_get, slice_get-get_or}
 use Rattle.std.proofs.lemmas.List.{length-map}
 use Rattle.std.proofs.lemmas.List.Elements.{All-nil, All-cons}
 use Rattle.std.proofs.lemmas.List.Sums.{sum_by-cons}
 use Rattle.std.proofs.lemmas.List.Sorted.{sum_by-IsPermutation}
-use Rattle.machine_model.specs.Machine.{Program}
+use Rattle.machine_model.specs.Machine.{Birth, Program}
 use Rattle.machine_model.specs.Memory.{written}
 use Rattle.task_trees.specs.Eval.{Finished}
 use Rattle.credit_book.specs.declared.event.TaskEnd.{TaskEnd}
 use Rattle.credit_book.specs.declared.book.Report.{Report}
-use Rattle.credit_book.specs.History.{table_of}
+use Rattle.credit_book.specs.History.{is_alive, standing_at, table_of, task_at}
 use Rattle.task_register.specs.declared.seats.TaskStart.{TaskStart}
 use Rattle.task_register.specs.declared.seats.EndedTask.{EndedTask}
 use Rattle.task_register.specs.declared.seats.RegisterState.{RegisterState}
 use Rattle.task_register.specs.Rule.{EachIs}
-use Rattle.job_answer.specs.SpawnTree.{TaskRun, NoneRefused, finished_of}
-use Rattle.job_answer.specs.Gathered.{Piece, piece_of, left_of, laid, laid_from, IsRun, IsGathered, GatheredTree, Answers, root_start, parents_of}
+use Rattle.job_answer.specs.Agreement.{shares}
+use Rattle.job_answer.proofs.SoloCredit.{handed_shares, solo_left}
+use Rattle.job_answer.specs.SpawnTree.{TaskRun, finished_of, given_by, taken}
+use Rattle.job_answer.specs.Gathered.{birth_of, handed, Piece, piece_of, left_of, laid, laid_from, IsRun, IsGathered, GatheredTree, root_start, parents_of}
 use Rattle.job_answer.proofs.Gathering.{gathers}
 use Rattle.job_answer.proofs.Laying.{answers}
 use Rattle.job_answer.proofs.Desking.{desk_once}
@@ -38,6 +40,25 @@ all_run programs (o ∷ os) each ran =
 first_long : (starts : List TaskStart) (root : TaskStart) → slice_get starts 0 ≡ Some root → length starts ≡ suc (length (drop 1 starts))
 first_long [] root there = absurd (nothing 0 root there)
 first_long (b ∷ bs) root there = refl
+
+not_alive : (b : Bool) → (b ≡ true → ⊥) → b ≡ false
+not_alive true none = absurd (none refl)
+not_alive false none = refl
+
+-- once all tasks are over, what each spent and returned, with its children's shares, is what it was given
+pub balance_closed : (job issued size : ℕ) (root : TaskStart) (runs : EndedTask → Type 0) (report : Report) (closed : ClosesJob job issued size root runs report) →
+    (k : ℕ) (o : EndedTask) → slice_get closed.known.over k ≡ Some o → (e : TaskEnd) → slice_get (table_of closed.history).tasks o.own.number ≡ Some e →
+    e.spent + e.rest + shares o.own.children ≡ o.own.birth.share
+balance_closed job issued size root runs report closed k o over e here =
+    let task = closed.all.tasks k o over in
+    let n : ℕ = o.own.number in
+    let balanced = closed.agrees.table.balanced n o.own.birth task.birth in
+    let over_now = balanced.over (not_alive (is_alive (standing_at (table_of closed.history) n).stage) (closed.complete n)) in
+    let is : task_at (table_of closed.history) n ≡ e = get_or_from_slice_get (table_of closed.history).tasks n e _ here in
+    let spent = ap (λ (x : TaskEnd). x.spent) is in
+    let rest = ap (λ (x : TaskEnd). x.rest) is in
+    let all = ap shares task.children in
+    omega (arith, over_now, spent, rest, all)
 
 -- two lists of one length, with the same numbers place by place
 same_sums : {X Y : Type 0} (f : X → ℕ) (h : Y → ℕ) (xs : List X) (ys : List Y) → length xs ≡ length ys →
@@ -90,6 +111,18 @@ module _ (programs : List Program) (job credit : ℕ) (buffer : List ℕ) (repor
   abbrev family : GatheredTree programs credit buffer known
   family = gathers programs credit buffer known gathered
 
+  -- what a task spent and returned is what it held at its end
+  rests : (n : ℕ) (t : TaskRun) → slice_get family.tasks n ≡ Some t → (o : EndedTask) (k : ℕ) → slice_get known.over k ≡ Some o → o.own.number ≡ n → birth_of o.own.birth ≡ t.birth →
+      o.own.children ≡ map (handed n o.own.birth.base) (taken t.asked) → (e : TaskEnd) → slice_get (table_of closed.history).tasks o.own.number ≡ Some e → e.spent + e.rest ≡ t.last.held
+  rests n t there o k over number birth children e here =
+      let balance = balance_closed job credit (length buffer) (root_start credit buffer) (RunsOrNot programs) report closed k o over e here in
+      let given : shares o.own.children ≡ given_by (taken t.asked) = ap shares children ∙ handed_shares n o.own.birth.base (taken t.asked) in
+      let ran = family.family.ran n t there in
+      let left = solo_left ran.program _ t.r0 ran.alone.0 t.last t.asked _ ran.alone.1 in
+      let whole = left.whole in
+      let share = ap (λ (b : Birth). b.share) birth in
+      omega (arith, balance, given, whole, share)
+
   told_as : (n : ℕ) (t : TaskRun) → slice_get family.tasks n ≡ Some t → (e : TaskEnd) × (slice_get report.tasks.items n ≡ Some e) × IsToldAs n t e
   told_as n t there =
       let o = family.each n t there in
@@ -111,6 +144,7 @@ module _ (programs : List Program) (job credit : ℕ) (buffer : List ℕ) (repor
           given = ap (λ (x : TaskEnd). x.given) (sym same) ∙ tells.2.given ∙ ap (λ b. b.share) birth;
           spent = e.spent ∙ ap (λ (p : Piece). p.spent) piece;
           r0 = e.r0 ∙ ap (λ (p : Piece). p.r0) piece;
+          rest = rests n t there o.0 c.0 at o.2 o.3 o.5 e.end e.there;
         },
       )
 

@@ -1,9 +1,9 @@
 -- What lies under a job's lock agrees after each event.
-use Rattle.std.proofs.Common.{◌≡◌, ◌≢◌, ◌⊎◌, inl, inr, ℕ, zero, suc, ◌<◌, ◌≤◌, ◌+◌, ◌-◌, List, [], ◌∷◌, ◌++◌, get_or, length, length-append, length-set, set, take, replicate, slice_get, refl, sym, ◌∙◌, arith, ap, subst, Bool, true, false, ◌==◌, Option, Some}
+use Rattle.std.proofs.Common.{◌≡◌, ◌≢◌, ◌⊎◌, inl, inr, ℕ, zero, suc, ◌<◌, ◌≤◌, ◌+◌, ◌-◌, List, [], ◌∷◌, ◌++◌, get_or, length, length-append, length-set, set, drop, take, replicate, slice_get, refl, sym, ◌∙◌, arith, ap, subst, Bool, true, false, ◌==◌, Option, Some}
 use Rattle.std.specs.Prelude.{cond}
 use Rattle.std.specs.List.{count_by}
 use Rattle.std.proofs.lemmas.List.Sums.{sum_by-append, sum_by-cons}
-use Rattle.std.proofs.lemmas.Option.{get_or_from_slice_get}
+use Rattle.std.proofs.lemmas.Option.{get_or_from_slice_get, slice_get_within}
 use Rattle.std.proofs.lemmas.Bool.Decides.{nat_tests}
 use Rattle.machine_model.specs.Memory.{written}
 use Rattle.machine_model.proofs.Places.{by_number}
@@ -21,9 +21,11 @@ use Rattle.credit_book.proofs.BufferLemmas.{buffer_from-push}
 use Rattle.task_register.specs.declared.seats.TaskStart.{TaskStart}
 use Rattle.task_register.specs.declared.seats.EndedTask.{EndedTask}
 use Rattle.task_register.specs.declared.seats.RegisterState.{RegisterState}
-use Rattle.task_register.specs.Rule.{with_start, with_end}
+use Rattle.task_register.specs.Rule.{children_in, with_start, with_end}
+use Rattle.task_register.proofs.Steps.{born_longer}
 use Rattle.job_answer.specs.Gathered.{numbers_to, laid_from}
-use Rattle.job_answer.specs.Agreement.{gone, alive_at, Tells, EndsSo, AgreesWith, RegisterAgrees}
+use Rattle.job_answer.specs.Agreement.{gone, alive_at, Tells, EndsSo, Balances, shares, AgreesWith, RegisterAgrees}
+use Rattle.job_answer.proofs.Balancing.{no_end, balance_moved, balance_ended, balance_older, balance_newest}
 use Rattle.job_answer.proofs.Keyed.{one_if, zero_if, times_below, times_above}
 use mathlib.Core.Logic.{dite}
 use native.Mathlib.Decide.{dec_lt}
@@ -118,8 +120,8 @@ module _ (known : RegisterState) (t : TaskTable) (agrees : AgreesWith known t) w
       ∙ omega (arith, sum_by-cons (λ k. as_one (k == n)) (length known.starts) [])
 
   pub agrees_spawn : (parent child program share arg base len : ℕ) (b : TaskStart) → May t (Spawn parent child program share arg base len) →
-      b.program ≡ program → b.share ≡ share → b.arg ≡ arg → AgreesWith (with_start known b) (after t (Spawn parent child program share arg base len))
-  agrees_spawn parent child program share arg base len b may p s a =
+      b.parent ≡ parent → b.program ≡ program → b.share ≡ share → b.arg ≡ arg → AgreesWith (with_start known b) (after t (Spawn parent child program share arg base len))
+  agrees_spawn parent child program share arg base len b may by p s a =
       let inside : parent < length t.standings = within t.standings parent (alive_from-work (standing_at t parent).stage may.0) in
       let number : child ≡ length known.starts = may.1 ∙ agrees.paired in
       let left : Standing = record { held = (standing_at t parent).held - share; stage = (standing_at t parent).stage } in
@@ -149,6 +151,26 @@ module _ (known : RegisterState) (t : TaskTable) (agrees : AgreesWith known t) w
             let paired = agrees.paired in
             let same : as_one (length (set t.standings parent left) == n) ≡ as_one (length known.starts == n) = ap (λ m. as_one (m == n)) (long_set ∙ paired) in
             omega (arith, old, more, pushed, kept, same);
+        balanced = λ n c there.
+            let paired = agrees.paired in
+            let long = agrees.long in
+            let alive = alive_from-work (standing_at t parent).stage may.0 in
+            let less : b.share < (standing_at t parent).held = (let lt = may.3 in omega (arith, lt, s)) in
+            let task : TaskEnd = new_task child program arg share in
+            let both : length t.tasks ≡ length t.standings = omega (arith, long, paired) in
+            subst (λ k. Balances c.share (shares (children_in n (known.starts ++ b ∷ []))) (get_or (set t.standings parent (record { held = (standing_at t parent).held - k; stage = (standing_at t parent).stage }) ++ record { held = k; stage = Fresh } ∷ []) n gone) (get_or (t.tasks ++ task ∷ []) n no_end)) s
+            (elim (end_cases known.starts b c n there) [
+              | inl was ↦ balance_older t.standings t.tasks both known.starts paired b parent task inside by alive less n c.share
+                  (slice_get_within known.starts n c was) (agrees.balanced n c was)
+              | inr is ↦ subst (λ x. Balances x.share (shares (children_in n (known.starts ++ b ∷ []))) (get_or (set t.standings parent (record { held = (standing_at t parent).held - b.share; stage = (standing_at t parent).stage }) ++ record { held = b.share; stage = Fresh } ∷ []) n gone) (get_or (t.tasks ++ task ∷ []) n no_end)) is.1
+                  (balance_newest t.standings t.tasks both known.starts paired b parent task inside by alive less n is.0 agrees.older (get_or (t.tasks ++ task ∷ []) n no_end))
+            ]);
+        older = λ k c there.
+            let some : 0 < length known.starts = (let paired = agrees.paired in omega (arith, inside, paired)) in
+            elim (end_cases (drop 1 known.starts) b c k (ap (λ l. slice_get l k) (sym (born_longer known.starts b some)) ∙ there)) [
+              | inl was ↦ let lt = agrees.older k c was in omega (arith, lt, births_long)
+              | inr is ↦ let same : b.parent ≡ c.parent = ap (λ (x : TaskStart). x.parent) is.1 in let paired = agrees.paired in omega (arith, same, by, inside, paired, births_long)
+            ];
       }
 
   -- ---- parking and claiming
@@ -164,6 +186,9 @@ module _ (known : RegisterState) (t : TaskTable) (agrees : AgreesWith known t) w
         told = agrees.told;
         ended = agrees.ended;
         counted = λ m. let old = agrees.counted m in let kept = keep_set t.standings n s inside (is ∙ sym was) m in omega (arith, old, kept);
+        balanced = λ m b there. let long = agrees.long in let paired = agrees.paired in
+            balance_moved t.standings t.tasks (omega (arith, long, paired)) n m b.share (shares (children_in m known.starts)) stage inside was is (agrees.balanced m b there);
+        older = agrees.older;
       }
 
   pub agrees_park : (n : ℕ) → May t (Park n) → AgreesWith known (after t (Park n))
@@ -219,6 +244,10 @@ module _ (known : RegisterState) (t : TaskTable) (agrees : AgreesWith known t) w
             let more = counted_more m in
             let less = end_set t.standings n inside alive m in
             omega (arith, old, more, less);
+        balanced = λ m b there.
+            balance_ended t.standings t.tasks (omega (arith, long, paired)) n m b.share (shares (children_in m known.starts)) o.used new inside alive may.1 refl refl
+            (agrees.balanced m b there);
+        older = agrees.older;
       }
     where
       some_count : (os : List EndedTask) (k m : ℕ) (p : EndedTask) → slice_get os k ≡ Some p → p.own.number ≡ m → 1 ≤ count_by (λ (x : EndedTask). x.own.number == m) os
@@ -276,10 +305,10 @@ module _ (known : RegisterState) (history : List Event) (desk : RegisterAgrees k
   }
 
   pub desk_spawn : (parent child program share arg base len : ℕ) (b : TaskStart) → May (table_of history) (Spawn parent child program share arg base len) →
-      b.program ≡ program → b.share ≡ share → b.arg ≡ arg → RegisterAgrees (with_start known b) (history ++ Spawn parent child program share arg base len ∷ [])
-  desk_spawn parent child program share arg base len b may p s a =
+      b.parent ≡ parent → b.program ≡ program → b.share ≡ share → b.arg ≡ arg → RegisterAgrees (with_start known b) (history ++ Spawn parent child program share arg base len ∷ [])
+  desk_spawn parent child program share arg base len b may by p s a =
       quiet (Spawn parent child program share arg base len) (with_start known b) refl (λ buffer. refl)
-      (agrees_spawn known (table_of history) desk.table parent child program share arg base len b may p s a)
+      (agrees_spawn known (table_of history) desk.table parent child program share arg base len b may by p s a)
 
   pub desk_park : (n : ℕ) → May (table_of history) (Park n) → RegisterAgrees known (history ++ Park n ∷ [])
   desk_park n may = quiet (Park n) known refl (λ buffer. refl) (agrees_park known (table_of history) desk.table n may)

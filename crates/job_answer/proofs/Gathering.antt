@@ -375,13 +375,20 @@ module _ (programs : List Program) (credit : ℕ) (buffer : List ℕ) (known : R
 
   pub each_told : (n : ℕ) (t : TaskRun) → slice_get tasks n ≡ Some t → (o : EndedTask)
       × Contains known.over o × (o.own.number ≡ n) × (birth_of o.own.birth ≡ t.birth)
-      × (piece_of o ≡ left_of (finished_of t))
+      × (piece_of o ≡ left_of (finished_of t)) × (o.own.children ≡ map (handed n o.own.birth.base) (taken t.asked))
   unfolding rans
   each_told n t there =
       let is = task_is n t there in
       let one = one_each n is.0 in
-      subst (λ (x : TaskRun). (o : EndedTask) × Contains known.over o × (o.own.number ≡ n) × (birth_of o.own.birth ≡ x.birth) × (piece_of o ≡ left_of (finished_of x))) is.1
-      ((ran_at n).over, among_all known.over all_run all_tasks n one some_ran, keyed n is.0, refl, sym (left_is (ran_at n)))
+      subst (λ (x : TaskRun). (o : EndedTask) × Contains known.over o × (o.own.number ≡ n) × (birth_of o.own.birth ≡ x.birth) × (piece_of o ≡ left_of (finished_of x))
+      × (o.own.children ≡ map (handed n o.own.birth.base) (taken x.asked))) is.1 (
+        (ran_at n).over,
+        among_all known.over all_run all_tasks n one some_ran,
+        keyed n is.0,
+        refl,
+        sym (left_is (ran_at n)),
+        (ran_at n).is_run.children ∙ ap (λ k. map (handed k (ran_at n).over.own.birth.base) (taken (ran_at n).is_run.asked)) (keyed n is.0),
+      )
 
 pub gathers : (programs : List Program) (credit : ℕ) (buffer : List ℕ) (known : RegisterState) → IsGathered programs credit buffer known → GatheredTree programs credit buffer known
 gathers programs credit buffer known g = record {

@@ -5,5 +5,7 @@ pub mod Keyed
 pub mod Gathering
 pub mod Laying
 pub mod ChildrenLemmas
+pub mod Balancing
+pub mod SoloCredit
 pub mod Desking
 pub mod Closing

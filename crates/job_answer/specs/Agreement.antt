@@ -1,15 +1,16 @@
 -- What lies under a job's lock: its register of starts, beside the history and the table of its book.
-use Rattle.std.specs.Prelude.{◌≡◌, ◌==◌, ℕ, ◌+◌, List, cond, length, replicate, slice_get, slice_index_or, Some}
+use Rattle.std.specs.Prelude.{◌≡◌, ◌==◌, ℕ, ◌+◌, ◌<◌, List, cond, drop, length, replicate, slice_get, slice_index_or, sum_by, true, false, Some}
 use Rattle.std.specs.List.{count_by}
 use Rattle.credit_book.specs.declared.event.Event.{Event}
 use Rattle.credit_book.specs.declared.event.Standing.{Standing}
 use Rattle.credit_book.specs.declared.event.TaskEnd.{TaskEnd}
 use Rattle.credit_book.specs.declared.event.Stage.TheVariants.{Ended}
-use Rattle.credit_book.specs.History.{TaskTable, is_alive, table_of}
+use Rattle.credit_book.specs.History.{TaskTable, is_alive, standing_at, table_of, task_at}
 use Rattle.credit_book.specs.Buffers.{buffer_of}
 use Rattle.task_register.specs.declared.seats.TaskStart.{TaskStart}
 use Rattle.task_register.specs.declared.seats.EndedTask.{EndedTask}
 use Rattle.task_register.specs.declared.seats.RegisterState.{RegisterState}
+use Rattle.task_register.specs.Rule.{children_in}
 use Rattle.job_answer.specs.Gathered.{numbers_to, laid_from}
 
 abbrev pub gone : Standing
@@ -34,8 +35,19 @@ pub record EndsSo (tasks : List TaskEnd) (o : EndedTask) : Type 0 where
   pub r0 : end.r0 ≡ o.r0
   pub ran : end.ran ≡ o.ran
 
+-- the credit of these tasks at their starts, together
+abbrev pub shares : List TaskStart → ℕ
+shares starts = sum_by (λ b. b.share) starts
+
+-- A task was given this much. That is what its children were given, with what it holds, or, once it
+-- is over, with what it spent and returned.
+pub record Balances (given children : ℕ) (s : Standing) (e : TaskEnd) : Type 0 where
+  pub alive : is_alive s.stage ≡ true → s.held + children ≡ given
+  pub over : is_alive s.stage ≡ false → e.spent + e.rest + children ≡ given
+
 -- The book has the tasks of the register, those that are over have ended as it says, and each task
--- is either alive or over, once.
+-- is either alive or over, once. No credit of a task is lost, and each task after the first has an
+-- older parent.
 pub record AgreesWith (known : RegisterState) (t : TaskTable) : Type 0 where
   pub long : length t.tasks ≡ length known.starts
   pub paired : length t.standings ≡ length known.starts
@@ -44,6 +56,10 @@ pub record AgreesWith (known : RegisterState) (t : TaskTable) : Type 0 where
   pub ended : (k : ℕ) (o : EndedTask) → slice_get known.over k ≡ Some o → EndsSo t.tasks o
   pub counted : (n : ℕ) → count_by (λ (o : EndedTask). o.own.number == n) known.over
       + alive_at t.standings n ≡ count_by (λ (k : ℕ). k == n) (numbers_to (length known.starts))
+  pub balanced : (n : ℕ) (b : TaskStart) → slice_get known.starts n ≡ Some b
+      → Balances b.share (shares (children_in n known.starts)) (standing_at t n) (task_at t n)
+  pub older : (k : ℕ) (b : TaskStart) → slice_get (drop 1 known.starts) k ≡ Some b
+      → b.parent < length known.starts
 
 -- the same of a history, whose ends left what the tasks that are over left
 pub record RegisterAgrees (known : RegisterState) (history : List Event) : Type 0 where

@@ -100,6 +100,7 @@ pub record GatheredTree (programs : List Program) (credit : ℕ) (buffer : List 
   pub each : (n : ℕ) (t : TaskRun) → slice_get tasks n ≡ Some t → (o : EndedTask)
       × Contains known.over o × (o.own.number ≡ n) × (birth_of o.own.birth ≡ t.birth)
       × (piece_of o ≡ left_of (finished_of t))
+      × (o.own.children ≡ map (handed n o.own.birth.base) (taken t.asked))
 
 -- so much memory, with what each of these tasks left written in its turn
 abbrev pub laid : List ℕ → List Finished → List ℕ

@@ -1,5 +1,5 @@
 -- The one answer of a job on threads.
-use Rattle.std.specs.Prelude.{◌≡◌, ℕ, Bool, true, false, List, [], map, length, replicate, slice_get, Some}
+use Rattle.std.specs.Prelude.{◌≡◌, ℕ, ◌+◌, ◌≤◌, Bool, true, false, List, [], map, length, replicate, slice_get, Some}
 use Rattle.std.specs.List.Sorted.{IsPermutation}
 use Rattle.machine_model.specs.Machine.{Program}
 use Rattle.task_trees.specs.Eval.{Finished}
@@ -8,6 +8,7 @@ use Rattle.credit_book.specs.declared.event.TaskEnd.{TaskEnd}
 use Rattle.credit_book.specs.declared.book.Report.{Report}
 use Rattle.task_register.specs.declared.seats.EndedTask.{EndedTask}
 use Rattle.job_answer.specs.SpawnTree.{TaskRun, IsSpawnTree, NoneRefused, finished_of}
+use Rattle.job_answer.specs.Agreement.{shares}
 use Rattle.job_answer.specs.Gathered.{IsRun, laid}
 
 -- the task wasn't run: it spent nothing, has no child, and left its bytes as they were
@@ -26,10 +27,15 @@ runs_by false programs o = IsNotRun o
 abbrev pub RunsOrNot : List Program → EndedTask → Type 0
 RunsOrNot programs o = runs_by o.ran programs o
 
+-- a task that is over spent no more than it was given, but for what it gave its children
+abbrev pub IsPaidFor : EndedTask → Type 0
+IsPaidFor o = o.used + shares o.own.children ≤ o.own.birth.share
+
 abbrev pub AllRan : Report → Type 0
 AllRan report = (n : ℕ) (e : TaskEnd) → slice_get report.tasks.items n ≡ Some e → e.ran ≡ true
 
--- the report says this of the run of this number
+-- The report says this of the run of this number. What it spent and returned is what the task held
+-- at its end.
 pub record IsToldAs (n : ℕ) (t : TaskRun) (e : TaskEnd) : Type 0 where
   pub number : e.number ≡ n
   pub program : e.program ≡ t.birth.program
@@ -37,6 +43,7 @@ pub record IsToldAs (n : ℕ) (t : TaskRun) (e : TaskEnd) : Type 0 where
   pub given : e.given ≡ t.birth.share
   pub spent : e.spent ≡ t.last.used
   pub r0 : e.r0 ≡ t.r0
+  pub rest : e.spent + e.rest ≡ t.last.held
 
 -- The report tells of tasks that agree from parent to child, each of which ran by itself, and its
 -- buffer is what they left, in the order of their ends. Where none of them was refused a spawn they

@@ -1,5 +1,5 @@
 -- The tasks of a job, each with what it was started with and how it ran by itself.
-use Rattle.std.specs.Prelude.{◌≡◌, ℕ, suc, ◌+◌, ◌≤◌, List, [], ◌∷◌, ◌++◌, length, replicate, take, slice_get, Bool, true, false, Some}
+use Rattle.std.specs.Prelude.{◌≡◌, ℕ, suc, ◌+◌, ◌≤◌, List, [], ◌∷◌, ◌++◌, length, replicate, sum_by, take, slice_get, Bool, true, false, Some}
 use Rattle.machine_model.specs.Machine.{State, Program, Birth}
 use Rattle.machine_model.specs.JobState.{Task, with_state, ending_of, entries_of, entry_registers}
 use Rattle.task_trees.specs.Solo.{SpawnRequest, Solo, entering}
@@ -56,6 +56,16 @@ if_taken false a later = a ∷ later
 abbrev pub taken : List SpawnRequest → List SpawnRequest
 taken [] = []
 taken (a ∷ later) = if_taken a.refused a (taken later)
+
+-- the credit of these spawns, together
+abbrev pub given_by : List SpawnRequest → ℕ
+given_by asked = sum_by (λ a. a.birth.share) asked
+
+-- What a task holds at its end, with the credit of the spawns that were taken, is what it held. It
+-- spent no more than it holds.
+pub record LeavesCredit (held : ℕ) (asked : List SpawnRequest) (last : State) : Type 0 where
+  pub whole : last.held + given_by (taken asked) ≡ held
+  pub paid : last.used ≤ last.held
 
 -- t is the child that q was given after so many others
 pub record IsChildOf (before : ℕ) (q t : TaskRun) : Type 0 where

@@ -9,20 +9,20 @@ ghost use Rattle.task_register.specs.declared.seats.TaskStart.{TaskStart};
 ghost use Rattle.task_register.specs.declared.seats.EndedTask.{EndedTask};
 ghost use Rattle.task_register.specs.Rule.{with_start, with_end};
 ghost use Rattle.job_answer.specs.Agreement.{RegisterAgrees};
-ghost use Rattle.machine_model.specs.Machine.{Program};
+ghost use Rattle.machine_model.specs.Machine.{Entries, Program, State};
 ghost use Rattle.task_register.specs.declared.seats.RegisterState.{RegisterState};
 ghost use Rattle.job_answer.specs.Gathered.{IsGathered, GatheredTree, Answers, numbers_to, root_start};
 ghost use Rattle.job_answer.specs.Closing.{ClosesJob};
-ghost use Rattle.job_answer.specs.OneAnswer.{AllRan, HasOneAnswer, RunsOrNot};
+ghost use Rattle.job_answer.specs.OneAnswer.{AllRan, HasOneAnswer, IsPaidFor, RunsOrNot};
 ghost use Rattle.credit_book.specs.declared.book.Report.{Report as ReportOf};
-ghost use Rattle.task_trees.specs.Solo.{SpawnRequest};
+ghost use Rattle.task_trees.specs.Solo.{Solo, SpawnRequest};
 ghost use Rattle.task_run.specs.Through.{GoesThrough};
 ghost use Rattle.task_register.specs.declared.seats.SeatedTask.{SeatedTask};
 ghost use Rattle.job_answer.specs.Children.{AddsEachChild, HasAdded};
 ghost use Rattle.std.specs.List.Sorted.{IsPermutation};
 ghost use Rattle.task_trees.specs.Eval.{Finished};
 ghost use Rattle.task_trees.specs.Answer.{RootComes, joined, spent_in};
-ghost use Rattle.job_answer.specs.SpawnTree.{IsSpawnTree, NoneRefused, TaskRun, finished_of};
+ghost use Rattle.job_answer.specs.SpawnTree.{IsSpawnTree, LeavesCredit, NoneRefused, TaskRun, finished_of};
 
 use helpers::Spawner;
 
@@ -43,13 +43,21 @@ pub fn seats_know_children<S: Spawner>()
         → HasAdded base (own old) asked (own new) }
 {}
 
+/// What a task that runs by itself holds at its end, with the credit of its children, is what it was
+/// given, and it spent no more than it holds. So each task that is over was paid for.
+pub fn credit_is_kept()
+    ensures alone { (program : Program) (entries : Entries) (s last : State) (asked : List SpawnRequest)
+        (r0 : ℕ) → Solo program entries s asked r0 last → LeavesCredit s.held asked last }
+    ensures paid { (programs : List Program) (o : EndedTask) → RunsOrNot programs o → IsPaidFor o }
+{}
+
 /// A register under a job's lock, beside its book: they agree after each event, and once no task is
 /// alive each is over, once.
 pub fn registers_agree()
     ensures spawn { (known : RegisterState) (history : List Event)
         (parent child program share arg base len : ℕ) (b : TaskStart) → RegisterAgrees known history →
         May (table_of history) (Spawn parent child program share arg base len) →
-        b.program ≡ program → b.share ≡ share → b.arg ≡ arg →
+        b.parent ≡ parent → b.program ≡ program → b.share ≡ share → b.arg ≡ arg →
         RegisterAgrees (with_start known b) (history ++ Spawn parent child program share arg base len ∷ []) }
     ensures park { (known : RegisterState) (history : List Event) (n : ℕ) → RegisterAgrees known history →
         May (table_of history) (Park n) → RegisterAgrees known (history ++ Park n ∷ []) }

@@ -4,6 +4,6 @@
 mod laws;
 
 pub use laws::{
-    closes_to_answer, gathers, registers_agree, seats_know_children, spawn_trees_answer,
-    spawn_trees_come,
+    closes_to_answer, credit_is_kept, gathers, registers_agree, seats_know_children,
+    spawn_trees_answer, spawn_trees_come,
 };

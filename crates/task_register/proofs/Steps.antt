@@ -96,21 +96,21 @@ module _ (starts : List TaskStart) (at : ℕ → ℕ) (m c place : ℕ) (o : Sea
 
 -- a task of which another one isn't the parent, once that other one is started
 module _ (starts : List TaskStart) (b : TaskStart) where
-  born_longer : 0 < length starts → drop 1 (starts ++ b ∷ []) ≡ drop 1 starts ++ b ∷ []
+  pub born_longer : 0 < length starts → drop 1 (starts ++ b ∷ []) ≡ drop 1 starts ++ b ∷ []
   born_longer lt = by_list starts lt
     where
       by_list : (l : List TaskStart) → 0 < length l → drop 1 (l ++ b ∷ []) ≡ drop 1 l ++ b ∷ []
       by_list [] lt = absurd (omega (arith, lt))
       by_list (x ∷ xs) lt = refl
 
-  children_longer : (n : ℕ) → 0 < length starts → children_in n (starts ++ b ∷ []) ≡ children_in n starts ++ filter (λ x. x.parent == n) (b ∷ [])
+  pub children_longer : (n : ℕ) → 0 < length starts → children_in n (starts ++ b ∷ []) ≡ children_in n starts ++ filter (λ x. x.parent == n) (b ∷ [])
   children_longer n lt = ap (filter (λ x. x.parent == n)) (born_longer lt) ∙ filter-append (λ x. x.parent == n) (drop 1 starts) (b ∷ [])
 
-  one_child : (n : ℕ) (t : Bool) → (b.parent == n) ≡ t → b.parent ≡ n → filter (λ x. x.parent == n) (b ∷ []) ≡ b ∷ []
+  pub one_child : (n : ℕ) (t : Bool) → (b.parent == n) ≡ t → b.parent ≡ n → filter (λ x. x.parent == n) (b ∷ []) ≡ b ∷ []
   one_child n true t e = grind (arith, t)
   one_child n false t e = absurd (grind (arith, nat_tests))
 
-  no_child : (n : ℕ) (t : Bool) → (b.parent == n) ≡ t → b.parent ≢ n → filter (λ x. x.parent == n) (b ∷ []) ≡ []
+  pub no_child : (n : ℕ) (t : Bool) → (b.parent == n) ≡ t → b.parent ≢ n → filter (λ x. x.parent == n) (b ∷ []) ≡ []
   no_child n true t ne = let e : b.parent ≡ n = grind (arith, nat_tests) in absurd (ne e)
   no_child n false t ne = grind (arith, t)
 
@@ -132,7 +132,7 @@ module _ (starts : List TaskStart) (b : TaskStart) where
             ∙ ap (λ l. l ++ b ∷ []) t.children;
       }
 
-filter_none : (number : ℕ) (xs : List TaskStart) → ((n : ℕ) (x : TaskStart) → slice_get xs n ≡ Some x → x.parent ≢ number) → filter (λ x. x.parent == number) xs ≡ []
+pub filter_none : (number : ℕ) (xs : List TaskStart) → ((n : ℕ) (x : TaskStart) → slice_get xs n ≡ Some x → x.parent ≢ number) → filter (λ x. x.parent == number) xs ≡ []
 filter_none number [] ne = refl
 filter_none number (x ∷ xs) ne =
     let later = filter_none number xs (λ n y there. ne (suc n) y there) in
@@ -608,7 +608,23 @@ module _ (slots id : ℕ) (me : Me (Unit {0}) View) (st : Step (Unit {0})) where
           ];
           older = kept.older;
         },
-        (o, allowed, is, refl),
+        (
+          o,
+          allowed,
+          is,
+          record {
+            task = subst (λ (k : RegisterState). IsTask k.starts me.0.task) (sym known.1) own_task.is_task;
+            not_over = λ k p there e.
+                let stands = (kept.ended k p (ap (λ (x : RegisterState). slice_get x.over k) (sym known.1) ∙ there)).here in
+                let there_too = ap kept.at (sym e) ∙ stands in
+                omega (arith, here, there_too);
+            not_waiting = λ k q there e.
+                let stands = (mine.waiting k q there).here in
+                let there_too = ap kept.at (sym e) ∙ stands in
+                omega (arith, here, there_too);
+          },
+          refl,
+        ),
       )
 
   -- all is found

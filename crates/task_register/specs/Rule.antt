@@ -1,5 +1,5 @@
 -- The rule of a register of starts, and what its steps tell.
-use Rattle.std.specs.Prelude.{◌≡◌, ◌==◌, ℕ, suc, ◌+◌, ◌*◌, ◌≤◌, true, false, List, [], ◌∷◌, ◌++◌, length, drop, slice_get, Some}
+use Rattle.std.specs.Prelude.{◌≡◌, ◌≢◌, ◌==◌, ℕ, suc, ◌+◌, ◌*◌, ◌≤◌, true, false, List, [], ◌∷◌, ◌++◌, length, drop, slice_get, Some}
 use Rattle.std.specs.List.{filter}
 use mathlib.Core.Option.{some}
 use lib.ListN.{get_elem?}
@@ -189,10 +189,16 @@ AddsChild allows s v found w =
       v.1,
     ))
 
--- the task that the keeper is the seat of is over
+-- The task was started so, and has just these children. It isn't over, and doesn't wait.
+pub record IsOpen (known : RegisterState) (waiting : List SeatedTask) (o : SeatedTask) : Type 0 where
+  pub task : IsTask known.starts o
+  pub not_over : (k : ℕ) (e : EndedTask) → slice_get known.over k ≡ Some e → e.own.number ≢ o.number
+  pub not_waiting : (k : ℕ) (w : SeatedTask) → slice_get waiting k ≡ Some w → w.number ≢ o.number
+
+-- the task that the keeper is the seat of is over, and was open
 abbrev pub ClosesTask : {S : Type 0} → (EndedTask → Type 0) → Step S → Me S View → ℕ → Me S View → Type 0
 ClosesTask allows s v found w =
-    (o : EndedTask) × allows o × (o.own ≡ v.0.task)
+    (o : EndedTask) × allows o × (o.own ≡ v.0.task) × IsOpen v.0.known v.0.waiting v.0.task
     × (w ≡ (record v.0 { known = with_end v.0.known o; is_task = false; task = no_task }, v.1))
 
 -- each task that is over was started so, and has just these children

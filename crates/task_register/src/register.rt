@@ -1,7 +1,7 @@
 //! The register of a job's starts, which exists in proofs alone.
 
 ghost use Rattle.std.specs.Prelude.{◌≡◌, ◌<◌, ◌∷◌, ◌++◌, [], length, slice_get, Some};
-ghost use Rattle.task_register.specs.Rule.{AllKnown, EachIs, keeper, fresh_task, empty_register, task_seat, with_start, with_end, with_one_more};
+ghost use Rattle.task_register.specs.Rule.{AllKnown, EachIs, IsOpen, keeper, fresh_task, empty_register, task_seat, with_start, with_end, with_one_more};
 ghost use Rattle.task_register.specs.Handing.{IsSeatOf, start_by, ended_by};
 ghost use Rattle.task_register.specs.declared.seats.TaskStart.{TaskStart as StartOf};
 ghost use Rattle.task_register.specs.declared.seats.EndedTask.{EndedTask as EndedOf};
@@ -182,6 +182,7 @@ impl<J: JobId> TaskRegister<J> {
         requires some { (o : EndedOf) × E.ends o × (o.own ≡ seat) }
         requires runs { (o : EndedOf) → E.ends o → J.runs o }
         ensures { (o : EndedOf) × E.ends o × (o.own ≡ seat)
+            × IsOpen self.old.known self.old.waiting seat
             × (self.new ≡ record self.old { known = with_end self.old.known o }) }
     {
         let _ = outcome;
@@ -204,10 +205,11 @@ impl<J: JobId> TaskRegister<J> {
         self.add_child_as::<Brand>(parent, child)
     }
 
-    /// The seat's task is over with this outcome.
+    /// The seat's task, which is open, is over with this outcome.
     pub fn close(&mut self, seat: TaskSeat<J>, outcome: &Snapshot<Outcome>)
         requires runs { J.runs (ended_by seat outcome.now.value) }
-        ensures { self.new ≡ record self.old {
+        ensures open { IsOpen self.old.known self.old.waiting seat }
+        ensures over { self.new ≡ record self.old {
           known = with_end self.old.known (ended_by seat outcome.now.value);
         } }
     {

@@ -1,5 +1,5 @@
 -- Each task of a closed job's report ran by itself, or wasn't run.
-use Rattle.std.proofs.Common.{◌≡◌, ℕ, zero, suc, ◌<◌, ◌==◌, List, [], ◌∷◌, map, length, get_or, Bool, true, false, Option, Some, refl, sym, ap, ◌∙◌, subst, arith}
+use Rattle.std.proofs.Common.{◌≡◌, ℕ, zero, suc, ◌+◌, ◌<◌, ◌==◌, List, [], ◌∷◌, map, length, get_or, Bool, true, false, Option, Some, refl, sym, ap, ◌∙◌, subst, arith}
 use Rattle.std.specs.Prelude.{All, slice_get, cond}
 use Rattle.std.specs.List.{count_by}
 use Rattle.std.proofs.lemmas.Bool.Decides.{nat_tests}
@@ -14,11 +14,13 @@ use Rattle.task_trees.specs.Solo.{IsGiven}
 use Rattle.task_register.specs.declared.seats.TaskStart.{TaskStart}
 use Rattle.task_register.specs.declared.seats.EndedTask.{EndedTask}
 use Rattle.task_register.specs.Rule.{EachIs}
-use Rattle.job_answer.specs.Agreement.{Tells, EndsSo}
+use Rattle.job_answer.specs.Agreement.{Tells, EndsSo, shares}
 use Rattle.job_answer.specs.Gathered.{IsRun}
 use Rattle.job_answer.specs.Closing.{ClosesJob}
 use Rattle.job_answer.specs.OneAnswer.{RunsOrNot, runs_by}
+use Rattle.job_answer.proofs.Closing.{balance_closed}
 use Rattle.job_answer.proofs.Desking.{desk_once}
+use Rattle.job_answer.proofs.SoloCredit.{run_left}
 use Rattle.job_answer.proofs.Keyed.{times_below}
 use Rattle.workers.specs.EndedAlone.{EndedAlone, GivesAlone, ended_alone}
 
@@ -57,10 +59,12 @@ some_counted (x ∷ xs) n one = by_test (x.own.number == n) refl (λ rest. some_
         let later = ih (omega (arith, one, split, none)) in
         (suc later.0, later.1, later.2, later.3)
 
-gives : (programs : List Checked) (o : EndedTask) (e : TaskEnd) (n : ℕ) → Tells n o.own.birth e → e.spent ≡ o.used → e.r0 ≡ o.r0 → IsRun (map program_of programs) o →
-    GivesAlone programs e.program e.arg e.given e.r0 e.spent
-gives programs o e n tells spent r0 run =
+gives : (programs : List Checked) (o : EndedTask) (e : TaskEnd) (n : ℕ) → Tells n o.own.birth e → e.spent ≡ o.used → e.r0 ≡ o.r0 →
+    e.spent + e.rest + shares o.own.children ≡ o.own.birth.share → IsRun (map program_of programs) o → GivesAlone programs e.program e.arg e.given e.r0 e.spent e.rest
+gives programs o e n tells spent r0 balance run =
     let p = unmapped programs o.own.birth.program run.program run.there in
+    let left = (run_left (map program_of programs) o run).0 in
+    let held : o.used + e.rest ≡ run.last.held = omega (arith, left, balance, spent) in
     rw (tells.program, tells.arg, tells.given, spent, r0) (record {
       program = p.0;
       named = p.1;
@@ -70,13 +74,17 @@ gives programs o e n tells spent r0 run =
       last = run.last;
       alone = rw p.2 run.alone;
       used_is = run.used;
+      rest_is = held;
     })
 
 ended_by_ran : (b : Bool) (programs : List Checked) (o : EndedTask) (e : TaskEnd) (n : ℕ) → o.ran ≡ b → Tells n o.own.birth e → e.spent ≡ o.used → e.r0 ≡ o.r0 → e.ran ≡ o.ran →
-    runs_by b (map program_of programs) o → ended_alone b programs e
-ended_by_ran true programs o e n ran tells spent r0 same run = gives programs o e n tells spent r0 run
-ended_by_ran false programs o e n ran tells spent r0 same run =
-    record { ran = same ∙ ran; spent = spent ∙ run.used; r0 = r0 ∙ run.r0 }
+    e.spent + e.rest + shares o.own.children ≡ o.own.birth.share → runs_by b (map program_of programs) o → ended_alone b programs e
+ended_by_ran true programs o e n ran tells spent r0 same balance run = gives programs o e n tells spent r0 balance run
+ended_by_ran false programs o e n ran tells spent r0 same balance run =
+    let none : shares o.own.children ≡ 0 = ap shares run.children in
+    let used = run.used in
+    let given = tells.given in
+    record { ran = same ∙ ran; spent = spent ∙ run.used; rest = omega (arith, balance, none, spent, used, given); r0 = r0 ∙ run.r0 }
 
 module _ (programs : List Checked) (job issued size : ℕ) (root : TaskStart) (report : Report)
     (closed : ClosesJob job issued size root (RunsOrNot (map program_of programs)) report) where
@@ -98,8 +106,9 @@ module _ (programs : List Checked) (job issued size : ℕ) (root : TaskStart) (r
       let spent : e.spent ≡ o.used = subst (λ (x : TaskEnd). x.spent ≡ o.used) same ends.spent in
       let r0 : e.r0 ≡ o.r0 = subst (λ (x : TaskEnd). x.r0 ≡ o.r0) same ends.r0 in
       let ran : e.ran ≡ o.ran = subst (λ (x : TaskEnd). x.ran ≡ o.ran) same ends.ran in
+      let balance = balance_closed job issued size root (RunsOrNot (map program_of programs)) report closed k o found.2 e there in
       subst (λ (b : Bool). ended_alone b programs e) (sym ran)
-      (ended_by_ran o.ran programs o e o.own.number refl tell spent r0 ran (each_at (RunsOrNot (map program_of programs)) closed.known.over k o closed.each found.2))
+      (ended_by_ran o.ran programs o e o.own.number refl tell spent r0 ran balance (each_at (RunsOrNot (map program_of programs)) closed.known.over k o closed.each found.2))
 
   pub all_alone : All (EndedAlone programs) report.tasks.items
   all_alone = λ i d lt.

@@ -3,3 +3,4 @@ pub mod Runs
 pub mod RegisterSteps
 pub mod SeatLemmas
 pub mod AloneLemmas
+pub mod NoRefusals

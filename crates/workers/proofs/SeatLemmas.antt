@@ -148,3 +148,12 @@ pub one_more_is : (old new : Option SeatedTask) (child : SpawnRecord) → HasOne
     task_in new ≡ with_one_more (task_in old) (start_of (task_in old).number child)
 one_more_is old new child h =
     ap task_in h.after ∙ ap (λ (o : Option SeatedTask). with_one_more (task_in o) (start_of (task_in o).number child)) (sym h.there)
+
+-- an outcome is of its ticket's job
+pub job_is : (programs : List Checked) (ticket : Ticket) (through : List SpawnRequest → Type 0) (silent : Type 0) (outcome : Outcome) →
+    IsOutcome programs ticket through silent outcome → outcome.job ≡ ticket.job
+job_is programs ticket through silent outcome h = by_either outcome.ran h
+  where
+    by_either : (b : Bool) → by_ran b (IsRunOf programs ticket through outcome) (IsUnrun ticket outcome × silent) → outcome.job ≡ ticket.job
+    by_either true run = run.run.job
+    by_either false unrun = unrun.0.job

@@ -1,25 +1,20 @@
 -- What a worker finds to run, where a new task's ticket goes, and the outcome of one that has run.
-use Rattle.std.specs.Prelude.{◌≡◌, ◌⊎◌, ℕ, List, [], ◌∷◌, ◌++◌, length}
+use Rattle.std.specs.Prelude.{◌≡◌, ◌⊎◌, ℕ, List, [], ◌∷◌, ◌++◌, Option, Some, None, length}
 use Rattle.helpers.specs.declared.spawner.SpawnRecord.{SpawnRecord}
 use Rattle.credit_book.specs.declared.task.Outcome.{Outcome}
 use Rattle.credit_book.specs.declared.task.Ticket.{Ticket}
-use Rattle.credit_book.specs.Books.{spawn_event, ticket_of}
+use Rattle.credit_book.specs.Books.{Account, spawn_event, ticket_of}
 use Rattle.credit_book.specs.History.{table_of}
 use Rattle.lanes.specs.Plain.{task_of}
 use Rattle.lanes.specs.Sharing.{IsIdle, IsTaken, Moved, Puts}
 use Rattle.workers.specs.AtDesk.{HasMore, IsParked}
-use Rattle.workers.specs.Locked.{LockedState}
-use Rattle.workers.specs.declared.locked_book.Found.{Found}
-use Rattle.workers.specs.declared.locked_book.Found.TheVariants.{Ready, Nothing, Refusal}
 
 -- The ticket is of a lane, or was parked where the worker's own lane had none. It is the task whose
--- turn it is. Where the book has refused an end a ticket may have been taken, which nobody runs any
--- more.
-abbrev pub Finds : Moved → Found Ticket → Moved → ℕ → Type 0
-Finds old (Ready ticket) new turn =
+-- turn it is.
+abbrev pub Finds : Moved → Option Ticket → Moved → ℕ → Type 0
+Finds old (Some ticket) new turn =
     (turn ≡ ticket.number) × (IsTaken task_of old ticket new ⊎ IsIdle task_of old new)
-Finds old Nothing new turn = IsIdle task_of old new
-Finds old Refusal new turn = IsIdle task_of old new ⊎ ((ticket : Ticket) × IsTaken task_of old ticket new)
+Finds old None new turn = IsIdle task_of old new
 
 -- into the worker's own lane, or, where there was no room for it, elsewhere; no lane lost anything
 -- by it
@@ -34,22 +29,21 @@ pub record IsHanded (old : Moved) (child : SpawnRecord) (new : Moved) : Type 0 w
 
 -- into the worker's own lane, and the desk is as it was; or it is parked at the desk, and the lanes
 -- are as they were
-abbrev pub IsKeptBeside : Moved → LockedState → Ticket → Moved → LockedState → Type 0
+abbrev pub IsKeptBeside : Moved → Account → Ticket → Moved → Account → Type 0
 IsKeptBeside lanes desk ticket lanes_after desk_after =
     (Puts task_of lanes (ticket ∷ []) lanes_after × (desk_after ≡ desk))
     ⊎ ((lanes_after ≡ lanes) × IsParked desk ticket desk_after)
 
 -- The book at the desk has this child, whose parent is the task whose turn it is. Its ticket is
 -- kept.
-pub record IsHandedAt (turn : ℕ) (child : SpawnRecord) (lanes : Moved) (desk : LockedState)
-    (lanes_after : Moved) (desk_after : LockedState) : Type 0 where
-  pub spawned : LockedState
-  pub refused : spawned.has_refused ≡ desk.has_refused
-  pub waiting : spawned.book.waiting ≡ desk.book.waiting
-  pub event : HasMore desk.book
-      (spawn_event turn (length (table_of desk.book.history).standings) child) spawned.book
+pub record IsHandedAt (turn : ℕ) (child : SpawnRecord) (lanes : Moved) (desk : Account)
+    (lanes_after : Moved) (desk_after : Account) : Type 0 where
+  pub spawned : Account
+  pub waiting : spawned.waiting ≡ desk.waiting
+  pub event : HasMore desk
+      (spawn_event turn (length (table_of desk.history).standings) child) spawned
   pub kept : IsKeptBeside lanes spawned
-      (ticket_of desk.book.board.job (length (table_of desk.book.history).standings) child)
+      (ticket_of desk.board.job (length (table_of desk.history).standings) child)
       lanes_after desk_after
 
 -- behind those that are held back, or to the book, with all of them

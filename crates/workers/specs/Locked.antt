@@ -1,18 +1,22 @@
--- What lies under a job's lock, as contracts see it.
-use Rattle.std.specs.Prelude.{Bool, List, [], ◌∷◌}
+-- What lies under a job's lock.
+use Rattle.std.specs.Prelude.{◌≡◌, ℕ, List, [], ◌∷◌, map, true}
 use Rattle.credit_book.specs.declared.task.Ticket.{Ticket}
 use Rattle.credit_book.specs.Books.{Account}
+use Rattle.credit_book.specs.History.{is_fresh, standing_at, table_of}
 use Rattle.task_register.specs.declared.seats.SeatedTask.{SeatedTask}
 use Rattle.task_register.specs.Handing.{IsSeatOf}
 
--- the job's book, and whether it has refused an end
-pub record LockedState : Type 0 where
-  pub book : Account
-  pub has_refused : Bool
+-- the seats are those of the tickets of this job, in this order
+abbrev pub AreSeats : ℕ → List Ticket → List SeatedTask → Type 0
+AreSeats job [] [] = Unit {0}
+AreSeats job [] (s ∷ ss) = ⊥
+AreSeats job (t ∷ ts) [] = ⊥
+AreSeats job (t ∷ ts) (s ∷ ss) = IsSeatOf t s × (t.job ≡ job) × AreSeats job ts ss
 
--- the seats are those of the tickets, in this order
-abbrev pub AreSeats : List Ticket → List SeatedTask → Type 0
-AreSeats [] [] = Unit {0}
-AreSeats [] (s ∷ ss) = ⊥
-AreSeats (t ∷ ts) [] = ⊥
-AreSeats (t ∷ ts) (s ∷ ss) = IsSeatOf t s × AreSeats ts ss
+-- the tickets that wait are those of the tasks that are parked, in the order of parking
+abbrev pub AreQueued : Account → Type 0
+AreQueued book = (table_of book.history).queue ≡ map (λ t. t.number) book.waiting
+
+-- the task of this number was just spawned: its ticket was not parked yet
+abbrev pub IsJustSpawned : Account → ℕ → Type 0
+IsJustSpawned book number = is_fresh (standing_at (table_of book.history) number).stage ≡ true

@@ -7,6 +7,7 @@ use Rattle.task_register.specs.declared.seats.EndedTask.{EndedTask}
 use Rattle.task_register.specs.Handing.{ended_by}
 use Rattle.task_register.specs.Rule.{no_start, with_one_more}
 use Rattle.job_answer.specs.Children.{start_of}
+use Rattle.job_answer.specs.OneAnswer.{IsPaidFor}
 
 -- no task's number is so large
 abbrev pub nobodys : SeatedTask
@@ -23,6 +24,10 @@ pub record HasOneMore (old : Option SeatedTask) (child : SpawnRecord) (new : Opt
   pub task : SeatedTask
   pub there : old ≡ Some task
   pub after : new ≡ Some (with_one_more task (start_of task.number child))
+
+-- the task ran as is to hold of each, and was paid for
+abbrev pub IsSettled : (EndedTask → Type 0) → EndedTask → Type 0
+IsSettled runs o = runs o × IsPaidFor o
 
 -- the seat is that of the outcome's task, of which this holds
 pub record IsOver (holds : EndedTask → Type 0) (seat : Option SeatedTask) (outcome : Outcome) :

@@ -14,7 +14,7 @@ pub enum PoolFault {
     /// No thread could be started: 81.
     #[error("81: no worker could be started")]
     NoWorker,
-    /// The book refused an end, or what was closed isn't the job's: 82.
+    /// A task was alive when all workers had left: 82. The book refuses no end.
     #[error("82: the book refused an end, or is another job's")]
     BookRefused,
     /// A growth was refused: 99.
@@ -36,18 +36,33 @@ impl PoolFault {
 }
 
 impl From<NoMemory> for PoolFault {
+    ghost use Rattle.std.specs.Prelude.{◌≡◌};
+    ghost use Rattle.workers.specs.declared.fault.PoolFault.TheVariants as fault;
+
+    ghost from_gives = { λ _ refusal. refusal ≡ fault.NoMemory };
+
     fn from(_error: NoMemory) -> PoolFault {
         PoolFault::NoMemory
     }
 }
 
 impl From<Unopened> for PoolFault {
+    ghost use Rattle.std.specs.Prelude.{◌≡◌};
+    ghost use Rattle.workers.specs.declared.fault.PoolFault.TheVariants as fault;
+
+    ghost from_gives = { λ _ refusal. refusal ≡ fault.NoMemory };
+
     fn from(_error: Unopened) -> PoolFault {
         PoolFault::NoMemory
     }
 }
 
 impl From<AllocError> for PoolFault {
+    ghost use Rattle.std.specs.Prelude.{◌≡◌};
+    ghost use Rattle.workers.specs.declared.fault.PoolFault.TheVariants as fault;
+
+    ghost from_gives = { λ _ refusal. refusal ≡ fault.NoMemory };
+
     fn from(_error: AllocError) -> PoolFault {
         PoolFault::NoMemory
     }

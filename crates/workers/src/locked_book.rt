@@ -1,16 +1,17 @@
-//! What lies under the lock of a job: its book, the register of what its tasks were started with,
-//! and whether the book has refused an end.
+//! What lies under the lock of a job: its book, and the register of what its tasks were started with.
 
-ghost use Rattle.std.specs.Prelude.{◌≡◌, ◌∷◌, [], IfOk, IfErr, IfSome, IsTrue, ◌↔◌, length, false, reverse};
+ghost use Rattle.std.specs.Prelude.{◌≡◌, ◌∷◌, [], IfOk, IfErr, length, reverse};
 ghost use Rattle.credit_book.specs.Books.{IsReport, IsSpawnFault, ticket_of, spawn_event};
 ghost use Rattle.credit_book.specs.declared.event.Event.TheVariants.{Open};
 ghost use Rattle.credit_book.specs.declared.fault.BookFault.{BookFault};
 ghost use Rattle.credit_book.specs.History.{IsComplete, table_of};
 ghost use Rattle.job_answer.specs.Closing.{ClosesJob};
+ghost use Rattle.job_answer.specs.OneAnswer.{IsPaidFor};
 ghost use Rattle.task_register.specs.Handing.{ended_by, start_by};
 ghost use Rattle.task_register.specs.Rule.{empty_register, with_one_more, with_start};
-ghost use Rattle.workers.specs.AtDesk.{AreEnded, HasMore, IsEnded, IsFoundAt, IsParked};
+ghost use Rattle.workers.specs.AtDesk.{AreEnded, HasMore, IsClaimed, IsEnded, IsParked};
 ghost use Rattle.workers.specs.Final.{IsFinal};
+ghost use Rattle.workers.specs.Locked.{IsJustSpawned};
 ghost use Rattle.workers.specs.declared.fault.PoolFault.TheVariants.{BookRefused};
 
 use crate::fault::PoolFault;
@@ -21,38 +22,27 @@ use std::marker::Model;
 use std::snapshot::Snapshot;
 use task_register::{JobId, TaskRegister, TaskSeat};
 
-/// The book of a job, the register of its tasks, and whether the book has refused an end. Contracts
-/// see the book and that.
+/// The book of a job and the register of its tasks, which agree. So the book refuses no ticket and
+/// no end that has a seat. Contracts see the book.
 #[derive(Drop)]
 pub(crate) struct LockedBook<J: JobId> {
     book: Book,
     register: TaskRegister<J>,
-    has_refused: bool,
 }
 
 impl<J: JobId> Model for LockedBook<J> {
     ghost use Rattle.std.specs.Prelude.{◌≡◌, length};
+    ghost use Rattle.credit_book.specs.Books.{Account};
     ghost use Rattle.job_answer.specs.Agreement.{RegisterAgrees};
-    ghost use Rattle.workers.specs.Locked.{AreSeats, LockedState};
+    ghost use Rattle.workers.specs.Locked.{AreQueued, AreSeats};
 
-    ghost Value = { LockedState };
+    ghost Value = { Account };
 
-    ghost view = { λ d. record { book = d.book; has_refused = d.has_refused } };
+    ghost view = { λ d. d.book };
 
     ghost invariant = { λ d. RegisterAgrees d.register.known d.book.history
-        × AreSeats d.book.waiting d.register.waiting × (d.book.board ≡ J.board)
-        × (d.book.size ≡ length J.root.bytes) };
-}
-
-/// What a worker finds.
-#[derive(Drop)]
-pub(crate) enum Found<T> {
-    /// A task that is ready.
-    Ready(T),
-    /// None is ready now.
-    Nothing,
-    /// The book has refused an end, and workers leave.
-    Refusal,
+        × AreSeats J.board.job d.book.waiting d.register.waiting × (d.book.board ≡ J.board)
+        × (d.book.size ≡ length J.root.bytes) × AreQueued d.book };
 }
 
 impl<J: JobId> LockedBook<J> {
@@ -66,25 +56,23 @@ impl<J: JobId> LockedBook<J> {
             ≡ record { known = with_start empty_register J.root; waiting = [] } }
         requires root { (J.root.program ≡ 0) × (J.root.arg ≡ 0)
             × (J.root.share ≡ book.board.issued) }
-        ensures { IsParked (record { book = book; has_refused = false }) root result }
+        requires first { root.number ≡ 0 }
+        ensures { IsParked book root result }
     {
-        let mut desk = LockedBook {
-            book,
-            register,
-            has_refused: false,
-        };
+        let mut desk = LockedBook { book, register };
         desk.park(root);
         desk
     }
 
-    /// Parks a ticket with its seat, for any worker to claim. A refusal is remembered.
+    /// Parks the ticket of a task that was just spawned, with its seat, for any worker to claim.
     pub fn park(&mut self, seated: SeatedTicket<J>)
+        requires { IsJustSpawned self.old seated.number }
         ensures { IsParked self.old seated self.new }
     {
         let (ticket, seat) = seated.into_parts();
         match self.book.park(ticket) {
             Ok(()) => self.register.park(seat),
-            Err(_) => self.has_refused = true,
+            Err(_) => unreachable!(),
         }
     }
 
@@ -98,18 +86,17 @@ impl<J: JobId> LockedBook<J> {
     ) -> (TaskSeat<J>, Result<SeatedTicket<J>, SpawnRecord>)
         requires { seat.number ≡ parent }
         ensures ticket { IfOk result.1 (λ ticket. ticket
-            ≡ ticket_of self.old.book.board.job
-            (length (table_of self.old.book.history).standings) child) }
+            ≡ ticket_of self.old.board.job (length (table_of self.old.history).standings) child) }
         ensures seat { IfOk result.1 (λ ticket. result.0
             ≡ with_one_more seat (start_by seat.number ticket)) }
-        ensures added { IfOk result.1 (λ _. (self.new.has_refused ≡ self.old.has_refused)
-            × (self.new.book.waiting ≡ self.old.book.waiting)
-            × HasMore self.old.book (spawn_event parent
-            (length (table_of self.old.book.history).standings) child) self.new.book) }
+        ensures added { IfOk result.1 (λ _. (self.new.waiting ≡ self.old.waiting)
+            × HasMore self.old (spawn_event parent
+            (length (table_of self.old.history).standings) child) self.new) }
+        ensures fresh { IfOk result.1 (λ ticket. IsJustSpawned self.new ticket.number) }
         ensures back { IfErr result.1 (λ back. (back ≡ child) × (result.0 ≡ seat)
             × (self.new ≡ self.old)) }
         ensures refused { IfErr result.1 (λ _. (fault : BookFault)
-            × IsSpawnFault self.old.book parent child fault) }
+            × IsSpawnFault self.old parent child fault) }
     {
         match self.book.spawn(parent, child) {
             Ok(ticket) => {
@@ -120,77 +107,66 @@ impl<J: JobId> LockedBook<J> {
         }
     }
 
-    /// The ticket that was parked first, with its seat, if the book has refused no end.
-    pub fn claim(&mut self) -> Found<SeatedTicket<J>>
-        ensures { IsFoundAt self.old result self.new }
+    /// The ticket that was parked first, with its seat, if one is parked.
+    pub fn claim(&mut self) -> Option<SeatedTicket<J>>
+        ensures { IsClaimed self.old result self.new }
     {
-        if self.has_refused {
-            return Found::Refusal;
-        }
         let _ = self.book.job();
         match self.book.claim() {
             Some(ticket) => {
                 let seat = self.register.claim();
-                Found::Ready(SeatedTicket::new(ticket, seat))
+                Some(SeatedTicket::new(ticket, seat))
             }
-            None => Found::Nothing,
+            None => None,
         }
     }
 
-    // Ends the seat's task, or remembers that the book refused that.
+    // Ends the seat's task.
     fn end_seated(&mut self, outcome: Outcome, seat: TaskSeat<J>)
         requires number { seat.number ≡ outcome.number }
+        requires job { outcome.job ≡ J.board.job }
         requires runs { J.runs (ended_by seat outcome) }
+        requires paid { IsPaidFor (ended_by seat outcome) }
         ensures { IsEnded self.old outcome self.new }
     {
+        let _ = self.book.job();
         let was = Snapshot::of(&outcome);
+        self.register.close(seat, &was);
         match self.book.end(outcome) {
-            Ok(_) => self.register.close(seat, &was),
-            Err(_) => self.has_refused = true,
+            Ok(_) => {}
+            Err(_) => unreachable!(),
         }
     }
 
-    /// Ends a task. Whether the book has refused no end so far.
-    pub fn end(&mut self, seated: SeatedOutcome<J>) -> bool
-        ensures refused { IsTrue result ↔ (self.new.has_refused ≡ false) }
-        ensures ended { IsEnded self.old seated self.new }
+    /// Ends a task.
+    pub fn end(&mut self, seated: SeatedOutcome<J>)
+        ensures { IsEnded self.old seated self.new }
     {
         let (outcome, seat) = seated.into_parts();
         self.end_seated(outcome, seat);
-        !self.has_refused
     }
 
-    /// Ends tasks, the last of the list first. Whether the book has refused no end so far.
-    pub fn end_all(&mut self, outcomes: &mut Vec<SeatedOutcome<J>>) -> bool
-        ensures refused { IsTrue result ↔ (self.new.has_refused ≡ false) }
+    /// Ends tasks, the last of the list first.
+    pub fn end_all(&mut self, outcomes: &mut Vec<SeatedOutcome<J>>)
         ensures all { outcomes.new.items ≡ [] }
         ensures ended { AreEnded self.old (reverse outcomes.old.items) self.new }
     {
         while let Some(outcome) = outcomes.pop() {
             self.end(outcome);
         }
-        !self.has_refused
     }
 
-    /// The report, once no task is alive: 82 where the book has refused an end, or a task is alive.
+    /// The report, once no task is alive: 82 where a task is alive.
     pub fn close(self) -> Result<Report, PoolFault>
         ensures report { IfOk result
             (λ report. IsFinal J.board.job J.board.issued (length J.root.bytes) report) }
         ensures closes { IfOk result (λ report. ClosesJob J.board.job J.board.issued
             (length J.root.bytes) J.root J.runs report) }
-        ensures accepted { IfOk result (λ _. self.has_refused ≡ false) }
-        ensures own { IfOk result (λ report. IsReport self.book.size self.book.history report) }
+        ensures own { IfOk result (λ report. IsReport self.size self.history report) }
         ensures refused { IfErr result (λ fault. (fault ≡ BookRefused)
-            × (self.has_refused ≡ false → IsComplete (table_of self.book.history) → ⊥)) }
+            × (IsComplete (table_of self.history) → ⊥)) }
     {
-        let LockedBook {
-            book,
-            register,
-            has_refused,
-        } = self;
-        if has_refused {
-            return Err(PoolFault::BookRefused);
-        }
+        let LockedBook { book, register } = self;
         let mut register = register;
         register.look();
         match book.close() {

@@ -10,7 +10,7 @@ ghost use Rattle.verifier.specs.Checked.{program_of};
 use crate::bell::Rest;
 use crate::gate::{Gate, Heard};
 use crate::held_lock::HeldLock;
-use crate::locked_book::{Found, LockedBook};
+use crate::locked_book::LockedBook;
 use crate::seated::SeatedTicket;
 use crate::watch::Watch;
 use crate::worker::{Shared, Worker};
@@ -33,8 +33,7 @@ pub(crate) struct Station<J: JobId> {
     lanes: Lanes<SeatedTicket<J>>,
 }
 
-/// What one worker does in its thread, until a look says that the job is complete, or the book has
-/// refused an end.
+/// What one worker does in its thread, until a look says that the job is complete.
 pub(crate) fn work<'s, R: Wait, G: Gate, J: JobId + 'static>(
     rt: &'s R,
     shared: &'s Shared<J>,
@@ -54,20 +53,17 @@ pub(crate) fn work<'s, R: Wait, G: Gate, J: JobId + 'static>(
     let mut rest = Rest::new(shared.bell());
     for _ in rt.forever() {
         match hands.find() {
-            Found::Ready(ticket) => {
+            Some(ticket) => {
                 rest.end();
                 let outcome = hands.run(alloc, ticket, &mut frames, &heard);
-                if !hands.end(outcome) {
-                    break;
-                }
+                hands.end(outcome);
             }
-            Found::Nothing => {
+            None => {
                 if watch.is_complete() {
                     break;
                 }
                 rest.pause(rt, hands.has_looked());
             }
-            Found::Refusal => break,
         }
     }
     shared.bell().ring_for_all();

@@ -1,6 +1,6 @@
 //! The run of a job by a pool of workers, or by the calling thread alone.
 
-ghost use Rattle.std.specs.Prelude.{◌≡◌, ◌≤◌, All, IfOk, length, map};
+ghost use Rattle.std.specs.Prelude.{◌≡◌, ◌≢◌, ◌≤◌, All, IfErr, IfOk, length, map};
 ghost use Rattle.job_answer.specs.Closing.{ClosesJob};
 ghost use Rattle.job_answer.specs.Gathered.{root_start};
 ghost use Rattle.job_answer.specs.OneAnswer.{AllRan, HasOneAnswer, RunsOrNot};
@@ -9,6 +9,7 @@ ghost use Rattle.task_register.specs.declared.seats.EndedTask.{EndedTask};
 ghost use Rattle.verifier.specs.Checked.{program_of};
 ghost use Rattle.workers.specs.Final.{IsFinal};
 ghost use Rattle.workers.specs.EndedAlone.{EndedAlone};
+ghost use Rattle.workers.specs.declared.fault.PoolFault.TheVariants.{NoWorker};
 
 use crate::fault::PoolFault;
 use crate::gate::Gate;
@@ -76,6 +77,7 @@ fn run_alone_as<R: Wait, G: Gate, J: JobId + 'static>(
         (λ report. IsFinal J.board.job J.board.issued (length J.root.bytes) report) }
     ensures closes { IfOk result (λ report. ClosesJob J.board.job J.board.issued
         (length J.root.bytes) J.root J.runs report) }
+    ensures refused { IfErr result (λ fault. fault ≢ NoWorker) }
 {
     let mut post = post;
     let mut crew = open_workers::<J>(alloc, &mut post, 1)?;
@@ -96,9 +98,9 @@ fn run_alone_as<R: Wait, G: Gate, J: JobId + 'static>(
 /// and buffer on, and its buffer is what they left. Where none of these was refused a spawn, they
 /// are the one answer of the job: that of [`job_core::play`], for every schedule.
 ///
-/// 81 where no thread could be started: with some started the job runs on those. 82 where the book
-/// has refused an end or a ticket, upon which all workers leave. 99 where there was no memory ahead
-/// of the first thread. The call returns if its waits do.
+/// 81 where no thread could be started: with some started the job runs on those. 82 where a task was
+/// alive when all workers had left; the book refuses no end and no ticket. 99 where there was no
+/// memory ahead of the first thread. The call returns if its waits do.
 pub fn run_job<R: Threads + Wait + Sync, G: Gate + Sync>(
     rt: &R,
     alloc: Global,
@@ -124,7 +126,7 @@ pub fn run_job<R: Threads + Wait + Sync, G: Gate + Sync>(
 /// Runs the job in the calling thread alone, and gives the report of its book once no task is
 /// alive, as [`run_job`] does. The post is that of the job, opened with its credit.
 ///
-/// 82 and 99 as there. It starts no thread, and returns if its waits do.
+/// 82 and 99 as there, and never 81: it starts no thread. It returns if its waits do.
 pub fn run_here<R: Wait, G: Gate>(
     rt: &R,
     alloc: Global,
@@ -138,6 +140,7 @@ pub fn run_here<R: Wait, G: Gate>(
     ensures alone { IfOk result (λ report. All (EndedAlone job.programs) report.tasks.items) }
     ensures answer { IfOk result (λ report. AllRan report
         → HasOneAnswer (map program_of job.programs) job.credit job.buffer report) }
+    ensures refused { IfErr result (λ fault. fault ≢ NoWorker) }
 {
     let register = NewRegister::new(alloc)?;
     let (programs, credit, buffer) = job.into_parts();

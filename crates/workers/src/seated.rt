@@ -2,6 +2,7 @@
 
 ghost use Rattle.std.specs.Prelude.{◌≡◌};
 ghost use Rattle.task_register.specs.Handing.{IsSeatOf, ended_by};
+ghost use Rattle.workers.specs.Seats.{IsSettled};
 
 use credit_book::{Outcome, Ticket};
 use lanes::Carried;
@@ -16,6 +17,7 @@ pub(crate) struct SeatedTicket<J: JobId> {
 }
 
 impl<J: JobId> Model for SeatedTicket<J> {
+    ghost use Rattle.std.specs.Prelude.{◌≡◌};
     ghost use Rattle.credit_book.specs.declared.task.Ticket.{Ticket};
     ghost use Rattle.task_register.specs.Handing.{IsSeatOf};
 
@@ -23,7 +25,7 @@ impl<J: JobId> Model for SeatedTicket<J> {
 
     ghost view = { λ t. t.ticket };
 
-    ghost invariant = { λ t. IsSeatOf t.ticket t.seat };
+    ghost invariant = { λ t. IsSeatOf t.ticket t.seat × (t.ticket.job ≡ J.board.job) };
 }
 
 impl<J: JobId> Carried for SeatedTicket<J> {
@@ -35,7 +37,8 @@ impl<J: JobId> Carried for SeatedTicket<J> {
 impl<J: JobId> SeatedTicket<J> {
     /// The ticket with its seat.
     pub fn new(ticket: Ticket, seat: TaskSeat<J>) -> SeatedTicket<J>
-        requires { IsSeatOf ticket seat }
+        requires seat { IsSeatOf ticket seat }
+        requires job { ticket.job ≡ J.board.job }
         ensures { result ≡ ticket }
     {
         SeatedTicket { ticket, seat }
@@ -52,6 +55,7 @@ impl<J: JobId> SeatedTicket<J> {
     pub fn into_parts(self) -> (Ticket, TaskSeat<J>)
         ensures ticket { result.0 ≡ self }
         ensures seat { IsSeatOf self result.1 }
+        ensures job { self.job ≡ J.board.job }
     {
         let SeatedTicket { ticket, seat } = self;
         (ticket, seat)
@@ -59,7 +63,7 @@ impl<J: JobId> SeatedTicket<J> {
 }
 
 /// How a task ended, with its seat. Contracts see it as the outcome. What the job promises of each
-/// task that is over holds of it.
+/// task that is over holds of it, and it was paid for.
 #[derive(Drop)]
 pub(crate) struct SeatedOutcome<J: JobId> {
     outcome: Outcome,
@@ -70,20 +74,22 @@ impl<J: JobId> Model for SeatedOutcome<J> {
     ghost use Rattle.std.specs.Prelude.{◌≡◌};
     ghost use Rattle.credit_book.specs.declared.task.Outcome.{Outcome};
     ghost use Rattle.task_register.specs.Handing.{ended_by};
+    ghost use Rattle.workers.specs.Seats.{IsSettled};
 
     ghost Value = { Outcome };
 
     ghost view = { λ e. e.outcome };
 
     ghost invariant = { λ e. (e.seat.number ≡ e.outcome.number)
-        × J.runs (ended_by e.seat e.outcome) };
+        × (e.outcome.job ≡ J.board.job) × IsSettled J.runs (ended_by e.seat e.outcome) };
 }
 
 impl<J: JobId> SeatedOutcome<J> {
     /// The outcome of the seat's task.
     pub fn new(outcome: Outcome, seat: TaskSeat<J>) -> SeatedOutcome<J>
         requires number { seat.number ≡ outcome.number }
-        requires runs { J.runs (ended_by seat outcome) }
+        requires job { outcome.job ≡ J.board.job }
+        requires settled { IsSettled J.runs (ended_by seat outcome) }
         ensures { result ≡ outcome }
     {
         SeatedOutcome { outcome, seat }
@@ -93,7 +99,8 @@ impl<J: JobId> SeatedOutcome<J> {
     pub fn into_parts(self) -> (Outcome, TaskSeat<J>)
         ensures outcome { result.0 ≡ self }
         ensures number { result.1.number ≡ self.number }
-        ensures runs { J.runs (ended_by result.1 self) }
+        ensures job { self.job ≡ J.board.job }
+        ensures settled { IsSettled J.runs (ended_by result.1 self) }
     {
         let SeatedOutcome { outcome, seat } = self;
         (outcome, seat)

@@ -5,7 +5,7 @@ ghost use Rattle.std.specs.Prelude.{◌≡◌, ◌≤◌, length};
 use crate::bell::Bell;
 use crate::gate::{Gate, Heard};
 use crate::held_lock::HeldLock;
-use crate::locked_book::{Found, LockedBook};
+use crate::locked_book::LockedBook;
 use crate::seated::{SeatedOutcome, SeatedTicket, Turn};
 use crate::work::{entry_in, work_heard};
 use credit_book::{Outcome, Ticket};
@@ -157,14 +157,13 @@ pub(crate) struct Worker<'a, 'b, R, J: JobId> {
 }
 
 impl<'a, 'b, R: Wait, J: JobId + 'static> Worker<'a, 'b, R, J> {
-    ghost use Rattle.std.specs.Prelude.{◌⊎◌, ◌↔◌, ◌<◌, ◌^◌, [], false, reverse, IfErr, IfOk, IsTrue};
-    ghost use Rattle.workers.specs.Locked.{LockedState};
-    ghost use Rattle.workers.specs.declared.locked_book.Found.TheVariants.{Nothing, Ready};
+    ghost use Rattle.std.specs.Prelude.{◌⊎◌, ◌<◌, ◌^◌, [], reverse, IfErr, IfOk, None, Some};
+    ghost use Rattle.credit_book.specs.Books.{Account};
+    ghost use Rattle.workers.specs.Locked.{IsJustSpawned};
     ghost use Rattle.credit_book.specs.declared.task.Ticket.{Ticket};
     ghost use Rattle.workers.specs.AtDesk.{AreEnded, IsEnded};
     ghost use Rattle.workers.specs.Handing.{Finds, IsHandedAt, IsHeldBack, IsKeptBeside};
-    ghost use Rattle.workers.specs.Seats.{HasOneMore, IsOver, task_in};
-    ghost use Rattle.std.specs.Prelude.{Some};
+    ghost use Rattle.workers.specs.Seats.{HasOneMore, IsOver, IsSettled, task_in};
     ghost use Rattle.task_register.specs.Handing.{IsSeatOf};
     ghost use Rattle.task_register.specs.declared.seats.SeatedTask.{SeatedTask};
 
@@ -214,36 +213,31 @@ impl<'a, 'b, R: Wait, J: JobId + 'static> Worker<'a, 'b, R, J> {
     /// parked. The worker keeps its seat, and the children that the task spawns come back here.
     /// Before a task that may take long, and where there is none, the book is told of all that has
     /// ended here.
-    pub fn find(&mut self) -> Found<Ticket>
+    pub fn find(&mut self) -> Option<Ticket>
         ensures shared { self.new.shared ≡ self.old.shared }
         ensures found { Finds self.old.lanes result self.new.lanes (task_in self.new.turn).number }
-        ensures seat { (ticket : Ticket) → result ≡ Ready ticket → (task : SeatedTask)
-            × (self.new.turn ≡ Some task) × IsSeatOf ticket task × (ticket.number < 2 ^ 32) }
+        ensures seat { (ticket : Ticket) → result ≡ Some ticket → (task : SeatedTask)
+            × (self.new.turn ≡ Some task) × IsSeatOf ticket task × (ticket.number < 2 ^ 32)
+            × (ticket.job ≡ J.board.job) }
         ensures kept { (self.new.ended.items ≡ self.old.ended.items) ⊎ (self.new.ended.items ≡ []) }
-        ensures told { result ≡ Nothing → self.new.ended.items ≡ [] }
+        ensures told { result ≡ None → self.new.ended.items ≡ [] }
     {
         let found = match self.lanes.next() {
-            Some(seated) => Found::Ready(seated),
+            Some(seated) => Some(seated),
             None => self.claim(),
         };
-        match found {
-            Found::Ready(seated) => {
-                let (ticket, seat) = seated.into_parts();
-                self.turn = Some(Turn::new(ticket.number(), seat));
-                self.has_child = false;
-                if ticket.held() > BRIEF && !self.end_held_back() {
-                    return Found::Refusal;
-                }
-                Found::Ready(ticket)
-            }
-            Found::Nothing => Found::Nothing,
-            Found::Refusal => Found::Refusal,
+        let (ticket, seat) = found?.into_parts();
+        self.turn = Some(Turn::new(ticket.number(), seat));
+        self.has_child = false;
+        if ticket.held() > BRIEF {
+            self.end_held_back();
         }
+        Some(ticket)
     }
 
     /// The ticket that was parked first, once the book knows of all that has ended here. A worker
     /// that has nothing to tell doesn't wait for the desk: those that have would have to wake it.
-    fn claim(&mut self) -> Found<SeatedTicket<J>>
+    fn claim(&mut self) -> Option<SeatedTicket<J>>
         ensures shared { (self.new.shared ≡ self.old.shared) × (self.new.lanes ≡ self.old.lanes) }
         ensures told { self.new.ended.items ≡ [] }
     {
@@ -257,7 +251,7 @@ impl<'a, 'b, R: Wait, J: JobId + 'static> Worker<'a, 'b, R, J> {
             Some(mut desk) => desk.claim(),
             None => {
                 self.has_looked = false;
-                Found::Nothing
+                None
             }
         }
     }
@@ -270,56 +264,49 @@ impl<'a, 'b, R: Wait, J: JobId + 'static> Worker<'a, 'b, R, J> {
     }
 
     /// Tells the book at the desk of all that has ended here, in the order in which it ended.
-    /// Whether it has refused no end so far.
-    fn tell(&mut self, desk: &mut LockedBook<J>) -> bool
+    fn tell(&mut self, desk: &mut LockedBook<J>)
         ensures same { (self.new.shared ≡ self.old.shared) × (self.new.lanes ≡ self.old.lanes)
             × (self.new.turn ≡ self.old.turn) }
-        ensures refused { IsTrue result ↔ (desk.new.has_refused ≡ false) }
         ensures ended { AreEnded desk.old (reverse self.old.ended.items) desk.new }
         ensures all { self.new.ended.items ≡ [] }
     {
-        desk.end_all(&mut self.ended)
+        desk.end_all(&mut self.ended);
     }
 
-    /// Tells the book of all that has ended here. Whether it has refused no end so far, as far as
-    /// this worker knows.
-    fn end_held_back(&mut self) -> bool
+    /// Tells the book of all that has ended here.
+    fn end_held_back(&mut self)
         ensures same { (self.new.shared ≡ self.old.shared) × (self.new.lanes ≡ self.old.lanes)
             × (self.new.turn ≡ self.old.turn) }
         ensures told { self.new.ended.items ≡ [] }
     {
-        if self.ended.is_empty() {
-            return true;
+        if !self.ended.is_empty() {
+            let mut desk = self.desk();
+            self.tell(&mut desk);
         }
-        let mut desk = self.desk();
-        self.tell(&mut desk)
     }
 
     /// The same, where nobody is at the desk. Otherwise all stays held back.
-    fn end_if_free(&mut self) -> bool
+    fn end_if_free(&mut self)
         ensures same { (self.new.shared ≡ self.old.shared) × (self.new.lanes ≡ self.old.lanes)
             × (self.new.turn ≡ self.old.turn) }
         ensures told { (self.new.ended.items ≡ self.old.ended.items) ⊎ (self.new.ended.items ≡ []) }
     {
-        match self.desk_if_free() {
-            Some(mut desk) => self.tell(&mut desk),
-            None => true,
+        if let Some(mut desk) = self.desk_if_free() {
+            self.tell(&mut desk);
         }
     }
 
-    /// Tells the book at the desk of all that has ended here, and then of this. Whether it has
-    /// refused no end so far.
-    fn tell_with(&mut self, desk: &mut LockedBook<J>, outcome: SeatedOutcome<J>) -> bool
+    /// Tells the book at the desk of all that has ended here, and then of this.
+    fn tell_with(&mut self, desk: &mut LockedBook<J>, outcome: SeatedOutcome<J>)
         ensures same { (self.new.shared ≡ self.old.shared) × (self.new.lanes ≡ self.old.lanes)
             × (self.new.turn ≡ self.old.turn) }
-        ensures refused { IsTrue result ↔ (desk.new.has_refused ≡ false) }
-        ensures ended { (between : LockedState)
+        ensures ended { (between : Account)
             × AreEnded desk.old (reverse self.old.ended.items) between
             × IsEnded between outcome desk.new }
         ensures all { self.new.ended.items ≡ [] }
     {
         self.tell(desk);
-        desk.end(outcome)
+        desk.end(outcome);
     }
 
     /// Runs the task of the ticket that was found to its end, or not at all. What the seat knows
@@ -333,16 +320,18 @@ impl<'a, 'b, R: Wait, J: JobId + 'static> Worker<'a, 'b, R, J> {
     ) -> Outcome
         requires seat { (task : SeatedTask) × (self.old.turn ≡ Some task) × IsSeatOf ticket task }
         requires few { ticket.number < 2 ^ 32 }
-        ensures { IsOver J.runs self.new.turn result }
+        requires job { ticket.job ≡ J.board.job }
+        ensures over { IsOver (IsSettled J.runs) self.new.turn result }
+        ensures job { result.job ≡ J.board.job }
     {
         let programs = self.shared.list();
         work_heard(alloc, ticket, programs, self, frames, heard)
     }
 
-    /// Ends the task whose turn it is, or holds its outcome back where there is room for it. Whether
-    /// the book has refused no end so far, as far as this worker knows.
-    pub fn end(&mut self, outcome: Outcome) -> bool
-        requires { IsOver J.runs self.old.turn outcome }
+    /// Ends the task whose turn it is, or holds its outcome back where there is room for it.
+    pub fn end(&mut self, outcome: Outcome)
+        requires over { IsOver (IsSettled J.runs) self.old.turn outcome }
+        requires job { outcome.job ≡ J.board.job }
         ensures same { (self.new.shared ≡ self.old.shared) × (self.new.lanes ≡ self.old.lanes) }
         ensures told { IsHeldBack self.old.ended.items outcome self.new.ended.items }
     {
@@ -352,10 +341,13 @@ impl<'a, 'b, R: Wait, J: JobId + 'static> Worker<'a, 'b, R, J> {
         };
         if self.ended.len() < self.ended.capacity() {
             self.ended.push_reserved(outcome);
-            return self.ended.len() < FEW_HELD_BACK || self.end_if_free();
+            if self.ended.len() >= FEW_HELD_BACK {
+                self.end_if_free();
+            }
+            return;
         }
         let mut desk = self.desk();
-        self.tell_with(&mut desk, outcome)
+        self.tell_with(&mut desk, outcome);
     }
 
     /// Puts a new task's ticket into its own lane, or parks it where there is no room for it, and
@@ -363,6 +355,7 @@ impl<'a, 'b, R: Wait, J: JobId + 'static> Worker<'a, 'b, R, J> {
     /// they may spawn, and a worker claims one where no lane has a ticket. So few workers spawn at
     /// once, and few tickets stand in lanes.
     fn keep(&mut self, desk: &mut LockedBook<J>, ticket: SeatedTicket<J>)
+        requires { IsJustSpawned desk.old ticket.number }
         ensures same { (self.new.shared ≡ self.old.shared) × (self.new.turn ≡ self.old.turn)
             × (self.new.ended ≡ self.old.ended) }
         ensures kept { IsKeptBeside self.old.lanes desk.old ticket self.new.lanes desk.new }

@@ -2,8 +2,8 @@ use Rattle.job_answer.proofs.Desking.{desk_spawn, desk_park, desk_claim, desk_en
 use Rattle.job_answer.proofs.laws.registers_agree.Goals as goal
 
 pub returns-clause-spawn : goal.returns-clause-spawn
-returns-clause-spawn c = λ known history parent child program share arg base len b desk may p s a.
-    desk_spawn known history desk parent child program share arg base len b may p s a
+returns-clause-spawn c = λ known history parent child program share arg base len b desk may by p s a.
+    desk_spawn known history desk parent child program share arg base len b may by p s a
 
 pub returns-clause-park : goal.returns-clause-park
 returns-clause-park c = λ known history n desk may. desk_park known history desk n may

@@ -1,4 +1,4 @@
-use Rattle.std.proofs.Common.{◌<◌, sym, ap, ◌∙◌, arith, length, subst}
+use Rattle.std.proofs.Common.{◌<◌, sym, ◌∙◌, arith, length, subst}
 use Rattle.task_register.specs.Register.{Register}
 use Rattle.task_register.proofs.Steps.{leaves_first}
 use Rattle.task_register.proofs.register.TaskRegister.claim.Goals as goal

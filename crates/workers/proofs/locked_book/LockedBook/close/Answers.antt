@@ -1,8 +1,7 @@
 use Rattle.std.proofs.Common.{◌∙◌, refl, sym, subst, ap}
 use Rattle.credit_book.specs.Boards.{Sign}
-use Rattle.credit_book.specs.Books.{IsReport}
+use Rattle.credit_book.specs.Books.{Account, IsReport}
 use Rattle.credit_book.specs.History.{IsHistoryOf, IsComplete, table_of}
-use Rattle.workers.specs.Locked.{LockedState}
 use Rattle.workers.proofs.Endings.{final_of}
 use Rattle.workers.proofs.locked_book.LockedBook.close.Goals as goal
 
@@ -26,15 +25,14 @@ returns-in-Ok g c =
         first = c.look.ensures.root;
         each = c.look.ensures.runs;
       };
-      accepted = sym (ap (λ (d : LockedState). d.has_refused) c.self.view_is) ∙ c.if-has_refused.false;
-      own = subst (λ (d : LockedState). IsReport d.book.size d.book.history c.in-Ok.report) c.self.view_is c.in-Ok.ensures.report;
+      own = subst (λ (d : Account). IsReport d.size d.history c.in-Ok.report) c.self.view_is c.in-Ok.ensures.report;
       refused = tt;
     }
 
 pub returns-clause-refused : goal.returns-clause-refused
 returns-clause-refused g c = (
   refl,
-  λ accepted complete.
-      let done : IsComplete (table_of c.self.inside.book.history) = subst (λ (d : LockedState). IsComplete (table_of d.book.history)) (sym c.self.view_is) complete in
+  λ complete.
+      let done : IsComplete (table_of c.self.inside.book.history) = subst (λ (d : Account). IsComplete (table_of d.history)) (sym c.self.view_is) complete in
       absurd (let both = c.in-Err.ensures.variant.1 done in cc),
 )

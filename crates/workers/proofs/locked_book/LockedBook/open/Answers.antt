@@ -1,4 +1,4 @@
-use Rattle.std.proofs.Common.{ap}
+use Rattle.std.proofs.Common.{ap, refl}
 use Rattle.task_register.specs.Register.{Register}
 use Rattle.workers.proofs.RegisterSteps.{opened}
 use Rattle.workers.proofs.locked_book.LockedBook.open.Goals as goal
@@ -10,4 +10,5 @@ invariant_of-desk g c = (
   rw (c.requires.none, c.requires.register) tt,
   c.requires.board,
   c.requires.size,
+  rw (c.requires.none, c.requires.opened) refl,
 )

@@ -1,4 +1,6 @@
-use Rattle.std.proofs.Common.{◌∙◌}
+use Rattle.std.proofs.Common.{◌∙◌, ap, sym}
+use Rattle.credit_book.specs.Boards.{Sign}
+use Rattle.workers.proofs.NoRefusals.{queued_park}
 use Rattle.workers.proofs.RegisterSteps.{has_parked, seats_push}
 use Rattle.workers.proofs.locked_book.LockedBook.park.Goals as goal
 
@@ -9,7 +11,8 @@ invariant_of-self g c =
     rw c.park-in-Ok.ensures (
       has_parked _ _ _ c.self.inside.register.known c.self.inside.book.history c.park.new.self.history inv.0 done.4 c.in-Ok.ensures.legal,
       rw (done.2, c.into_parts-ticket.ensures.ticket)
-          (seats_push c.self.inside.book.waiting c.self.inside.register.waiting c.args.seated _ inv.1 c.into_parts-ticket.ensures.seat),
+          (seats_push _ c.self.inside.book.waiting c.self.inside.register.waiting c.args.seated _ inv.1 c.into_parts-ticket.ensures.seat c.into_parts-ticket.ensures.job),
       done.0 ∙ inv.2,
       done.1 ∙ inv.3,
+      queued_park c.self.inside.book.history c.park.new.self.history _ c.self.inside.book.waiting c.park.new.self.waiting done.4 done.2 inv.4,
     )

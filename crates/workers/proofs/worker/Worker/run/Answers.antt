@@ -1,11 +1,13 @@
-use Rattle.std.proofs.Common.{◌≡◌, ℕ, List, [], ◌∷◌, ap, refl, rules}
+use Rattle.std.proofs.Common.{◌≡◌, ℕ, List, [], ◌∷◌, map, ap, ◌∙◌, refl, rules}
 use Rattle.std.specs.Prelude.{MatchResult}
 use Rattle.std.proofs.lemmas.List.{append-nil}
 use mathlib.Core.List.{Mem, not-mem-nil, mem-cons_self}
 use borrow.Author.Rules.{in_lives}
 use Rattle.workers.specs.Handing.{IsHanded}
-use Rattle.workers.specs.Seats.{HasOneMore, task_in}
-use Rattle.workers.proofs.SeatLemmas.{is_over, one_more_is}
+use Rattle.workers.specs.Seats.{HasOneMore, IsSettled, task_in}
+use Rattle.verifier.specs.Checked.{program_of}
+use Rattle.job_answer.proofs.SoloCredit.{paid_for}
+use Rattle.workers.proofs.SeatLemmas.{is_over, job_is, one_more_is}
 use Rattle.workers.proofs.worker.Worker.run.Goals as goal
 
 -- a list with no member
@@ -20,8 +22,8 @@ work_heard-requires-lives-S g c κs within =
 pub work_heard-requires-lives-G-Listener-3 : goal.work_heard-requires-lives-G-Listener-3
 work_heard-requires-lives-G-Listener-3 g c κs within = rw (empty g.row.J.lives c.type_bounds.static-J) (search rules)
 
-pub returns : goal.returns
-returns g c =
+pub returns-clause-over : goal.returns-clause-over
+returns-clause-over g c =
     let seat = c.requires.seat in
     is_over c.args.self.now c.work_heard.new.spawner (λ s. s.turn)
     (λ old child reply new. MatchResult reply
@@ -31,5 +33,9 @@ returns g c =
       took = λ old new child h. one_more_is old.turn new.turn child h.3;
       refused = λ old new child back same. ap (λ s. task_in s.turn) same;
     })
-    c.list-programs.result.now g.J.JobId.runs c.list-programs.ensures.runs c.args.ticket seat.0 seat.1 seat.2 c.requires.few c.work_heard.result
+    c.list-programs.result.now (IsSettled g.J.JobId.runs)
+    (λ o over. (c.list-programs.ensures.runs o over, paid_for (map program_of c.list-programs.result.now) o over)) c.args.ticket seat.0 seat.1 seat.2 c.requires.few c.work_heard.result
     c.work_heard.ensures.outcome
+
+pub returns-clause-job : goal.returns-clause-job
+returns-clause-job g c = job_is c.list-programs.result.now c.args.ticket _ _ c.work_heard.result c.work_heard.ensures.outcome ∙ c.requires.job
