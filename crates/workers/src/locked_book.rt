@@ -12,9 +12,7 @@ ghost use Rattle.task_register.specs.Rule.{empty_register, with_one_more, with_s
 ghost use Rattle.workers.specs.AtDesk.{AreEnded, HasMore, IsClaimed, IsEnded, IsParked};
 ghost use Rattle.workers.specs.Final.{IsFinal};
 ghost use Rattle.workers.specs.Locked.{IsJustSpawned};
-ghost use Rattle.workers.specs.declared.fault.PoolFault.TheVariants.{BookRefused};
 
-use crate::fault::PoolFault;
 use crate::seated::{SeatedOutcome, SeatedTicket};
 use credit_book::{Book, Outcome, Refused, Report};
 use helpers::SpawnRecord;
@@ -156,22 +154,22 @@ impl<J: JobId> LockedBook<J> {
         }
     }
 
-    /// The report, once no task is alive: 82 where a task is alive.
-    pub fn close(self) -> Result<Report, PoolFault>
+    /// The report, once no task is alive. Otherwise all comes back.
+    pub fn close(self) -> Result<Report, LockedBook<J>>
         ensures report { IfOk result
             (λ report. IsFinal J.board.job J.board.issued (length J.root.bytes) report) }
         ensures closes { IfOk result (λ report. ClosesJob J.board.job J.board.issued
             (length J.root.bytes) J.root J.runs report) }
         ensures own { IfOk result (λ report. IsReport self.size self.history report) }
-        ensures refused { IfErr result (λ fault. (fault ≡ BookRefused)
-            × (IsComplete (table_of self.history) → ⊥)) }
+        ensures back { IfErr result (λ back. back ≡ self) }
+        ensures alive { IfErr result (λ _. IsComplete (table_of self.history) → ⊥) }
     {
         let LockedBook { book, register } = self;
         let mut register = register;
         register.look();
         match book.close() {
             Ok(report) => Ok(report),
-            Err(_) => Err(PoolFault::BookRefused),
+            Err(book) => Err(LockedBook { book, register }),
         }
     }
 }

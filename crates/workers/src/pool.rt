@@ -26,21 +26,21 @@ use task_register::{JobId, NewRegister};
 use task_run::Frames;
 use verifier::Verified;
 
-/// A worker ahead of its thread: its view of how far the job is, and its lanes.
+/// A worker while it has no thread: its view of how far the job is, and its lanes.
 #[derive(Drop)]
 pub(crate) struct Station<J: JobId> {
     watch: Watch,
     lanes: Lanes<SeatedTicket<J>>,
 }
 
-/// What one worker does in its thread, until a look says that the job is complete.
+/// What one worker does, until a look says that the job is complete.
 pub(crate) fn work<'s, R: Wait, G: Gate, J: JobId + 'static>(
     rt: &'s R,
     shared: &'s Shared<J>,
     gate: &'s G,
     worker: Station<J>,
     alloc: Global,
-) {
+) -> Station<J> {
     let Station { watch, lanes } = worker;
     let mut watch = watch;
     let mut frames = Frames::new(alloc);
@@ -67,6 +67,10 @@ pub(crate) fn work<'s, R: Wait, G: Gate, J: JobId + 'static>(
         }
     }
     shared.bell().ring_for_all();
+    Station {
+        watch,
+        lanes: hands.into_lanes(),
+    }
 }
 
 /// Starts a thread for a worker. Whether it could be started.
@@ -79,7 +83,9 @@ fn start<'s, E: 's, R: Threads + Wait + Sync, G: Gate + Sync, J: JobId + Send + 
     alloc: Global,
 ) -> bool {
     scope
-        .spawn(move || work(rt, shared, gate, worker, alloc))
+        .spawn(move || {
+            let _ = work(rt, shared, gate, worker, alloc);
+        })
         .is_ok()
 }
 

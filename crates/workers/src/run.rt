@@ -1,6 +1,6 @@
 //! The run of a job by a pool of workers, or by the calling thread alone.
 
-ghost use Rattle.std.specs.Prelude.{◌≡◌, ◌≢◌, ◌≤◌, All, IfErr, IfOk, length, map};
+ghost use Rattle.std.specs.Prelude.{◌≡◌, ◌≤◌, All, IfErr, IfOk, length, map};
 ghost use Rattle.job_answer.specs.Closing.{ClosesJob};
 ghost use Rattle.job_answer.specs.Gathered.{root_start};
 ghost use Rattle.job_answer.specs.OneAnswer.{AllRan, HasOneAnswer, RunsOrNot};
@@ -9,7 +9,7 @@ ghost use Rattle.task_register.specs.declared.seats.EndedTask.{EndedTask};
 ghost use Rattle.verifier.specs.Checked.{program_of};
 ghost use Rattle.workers.specs.Final.{IsFinal};
 ghost use Rattle.workers.specs.EndedAlone.{EndedAlone};
-ghost use Rattle.workers.specs.declared.fault.PoolFault.TheVariants.{NoWorker};
+ghost use Rattle.workers.specs.declared.fault.PoolFault.TheVariants.{NoMemory};
 
 use crate::fault::PoolFault;
 use crate::gate::Gate;
@@ -53,7 +53,10 @@ fn run_as<R: Threads + Wait + Sync, G: Gate + Sync, J: JobId + Send + Sync + 'st
     if !run_in_threads(rt, alloc, &shared, crew, gate) {
         return Err(PoolFault::NoWorker);
     }
-    shared.into_desk().close()
+    match shared.close() {
+        Ok(report) => Ok(report),
+        Err(_) => Err(PoolFault::BookRefused),
+    }
 }
 
 /// Runs the job under a name in the calling thread alone.
@@ -77,17 +80,25 @@ fn run_alone_as<R: Wait, G: Gate, J: JobId + 'static>(
         (λ report. IsFinal J.board.job J.board.issued (length J.root.bytes) report) }
     ensures closes { IfOk result (λ report. ClosesJob J.board.job J.board.issued
         (length J.root.bytes) J.root J.runs report) }
-    ensures refused { IfErr result (λ fault. fault ≢ NoWorker) }
+    ensures refused { IfErr result (λ fault. fault ≡ NoMemory) }
 {
     let mut post = post;
     let mut crew = open_workers::<J>(alloc, &mut post, 1)?;
-    let worker = match crew.pop() {
+    let mut worker = match crew.pop() {
         Some(worker) => worker,
         None => unreachable!(),
     };
-    let shared = open_shared::<J>(alloc, register, programs, buffer, post)?;
-    work(rt, &shared, gate, worker, alloc);
-    shared.into_desk().close()
+    let mut shared = open_shared::<J>(alloc, register, programs, buffer, post)?;
+    // The worker leaves once the job is complete, so that it closes at once: what comes back is
+    // for the proof.
+    for _ in rt.forever() {
+        worker = work(rt, &shared, gate, worker, alloc);
+        match shared.close() {
+            Ok(report) => return Ok(report),
+            Err(back) => shared = back,
+        }
+    }
+    unreachable!()
 }
 
 /// Runs the job in so many threads, 1 to 16, and gives the report of its book once no task is
@@ -126,7 +137,8 @@ pub fn run_job<R: Threads + Wait + Sync, G: Gate + Sync>(
 /// Runs the job in the calling thread alone, and gives the report of its book once no task is
 /// alive, as [`run_job`] does. The post is that of the job, opened with its credit.
 ///
-/// 82 and 99 as there, and never 81: it starts no thread. It returns if its waits do.
+/// 99 as there, and nothing else: it starts no thread, and closes once no task is alive. It returns
+/// if its waits do.
 pub fn run_here<R: Wait, G: Gate>(
     rt: &R,
     alloc: Global,
@@ -140,7 +152,7 @@ pub fn run_here<R: Wait, G: Gate>(
     ensures alone { IfOk result (λ report. All (EndedAlone job.programs) report.tasks.items) }
     ensures answer { IfOk result (λ report. AllRan report
         → HasOneAnswer (map program_of job.programs) job.credit job.buffer report) }
-    ensures refused { IfErr result (λ fault. fault ≢ NoWorker) }
+    ensures refused { IfErr result (λ fault. fault ≡ NoMemory) }
 {
     let register = NewRegister::new(alloc)?;
     let (programs, credit, buffer) = job.into_parts();

@@ -8,7 +8,7 @@ use crate::held_lock::HeldLock;
 use crate::locked_book::LockedBook;
 use crate::seated::{SeatedOutcome, SeatedTicket, Turn};
 use crate::work::{entry_in, work_heard};
-use credit_book::{Outcome, Ticket};
+use credit_book::{Outcome, Report, Ticket};
 use crossbeam_utils::CachePadded;
 use helpers::{Entry, SpawnRecord, Spawner};
 use lanes::Lanes;
@@ -66,7 +66,9 @@ impl<J: JobId> Model for Shared<J> {
 }
 
 impl<J: JobId> Shared<J> {
-    ghost use Rattle.std.specs.Prelude.{map};
+    ghost use Rattle.std.specs.Prelude.{IfErr, IfOk, map};
+    ghost use Rattle.job_answer.specs.Closing.{ClosesJob};
+    ghost use Rattle.workers.specs.Final.{IsFinal};
     ghost use Rattle.verifier.specs.Checked.{program_of};
     ghost use Rattle.job_core.specs.Admitted.{AreOwn};
     ghost use Rattle.task_register.specs.declared.seats.EndedTask.{EndedTask};
@@ -111,10 +113,27 @@ impl<J: JobId> Shared<J> {
         self.desk.lock(rt)
     }
 
-    /// What lies under the lock, once all workers have left.
-    pub fn into_desk(self) -> LockedBook<J> {
-        let Shared { desk, .. } = self;
-        desk.into_inner().into_inner().into_inner()
+    /// The report, once all workers have left and no task is alive. Otherwise all comes back.
+    pub fn close(self) -> Result<Report, Shared<J>>
+        ensures report { IfOk result
+            (λ report. IsFinal J.board.job J.board.issued (length J.root.bytes) report) }
+        ensures closes { IfOk result (λ report. ClosesJob J.board.job J.board.issued
+            (length J.root.bytes) J.root J.runs report) }
+        ensures back { IfErr result (λ back. back ≡ self) }
+    {
+        let Shared {
+            programs,
+            bell,
+            desk,
+        } = self;
+        match desk.into_inner().into_inner().into_inner().close() {
+            Ok(report) => Ok(report),
+            Err(back) => Err(Shared {
+                programs,
+                bell,
+                desk: CachePadded::new(Mutex::new(CachePadded::new(back))),
+            }),
+        }
     }
 }
 
@@ -191,6 +210,14 @@ impl<'a, 'b, R: Wait, J: JobId + 'static> Worker<'a, 'b, R, J> {
             has_looked: false,
             ended,
         }
+    }
+
+    /// The lanes again, once it has nothing more to do.
+    pub fn into_lanes(self) -> Lanes<SeatedTicket<J>>
+        ensures { result ≡ self.entry.lanes }
+    {
+        let Worker { lanes, .. } = self;
+        lanes
     }
 
     /// The desk, for this worker alone until it lets go of it.

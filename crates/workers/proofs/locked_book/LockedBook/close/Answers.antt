@@ -26,13 +26,11 @@ returns-in-Ok g c =
         each = c.look.ensures.runs;
       };
       own = subst (λ (d : Account). IsReport d.size d.history c.in-Ok.report) c.self.view_is c.in-Ok.ensures.report;
-      refused = tt;
+      back = tt;
+      alive = tt;
     }
 
-pub returns-clause-refused : goal.returns-clause-refused
-returns-clause-refused g c = (
-  refl,
-  λ complete.
-      let done : IsComplete (table_of c.self.inside.book.history) = subst (λ (d : Account). IsComplete (table_of d.history)) (sym c.self.view_is) complete in
-      absurd (let both = c.in-Err.ensures.variant.1 done in cc),
-)
+pub returns-in-Err-clause-alive : goal.returns-in-Err-clause-alive
+returns-in-Err-clause-alive g c = λ complete.
+    let done : IsComplete (table_of c.self.inside.book.history) = subst (λ (d : Account). IsComplete (table_of d.history)) (sym c.self.view_is) complete in
+    absurd (let both = c.in-Err.ensures.variant.1 done in cc)
