@@ -1,5 +1,5 @@
 -- The book refuses no ticket of a task that was just spawned, and no end of a task that has a seat.
-use Rattle.std.proofs.Common.{◌≡◌, ◌≢◌, ℕ, zero, suc, ◌<◌, ◌≤◌, ◌+◌, ◌-◌, List, [], ◌∷◌, ◌++◌, length, length-set, map, set, slice_get, refl, sym, ◌∙◌, arith, ap, Bool, true, false, true≢false, ◌==◌, eqb, ne_eqb, Some}
+use Rattle.std.proofs.Common.{◌≡◌, ◌≢◌, ℕ, suc, ◌≤◌, ◌-◌, List, [], ◌∷◌, ◌++◌, length, length-set, map, set, slice_get, refl, sym, ◌∙◌, arith, ap, Bool, true, false, true≢false, ◌==◌, eqb, ne_eqb, Some}
 use Rattle.std.specs.Prelude.{cond}
 use Rattle.std.specs.List.{count_by}
 use Rattle.std.proofs.lemmas.List.{map-append}
@@ -16,7 +16,7 @@ use Rattle.credit_book.specs.declared.fault.BookFault.TheVariants.{Stranger, Ove
 use Rattle.credit_book.specs.declared.task.Outcome.{Outcome}
 use Rattle.credit_book.specs.declared.task.Ticket.{Ticket}
 use Rattle.credit_book.specs.Books.{Account, IsEndFault, IsParkFault, end_event, spawn_event}
-use Rattle.credit_book.specs.History.{IsHistoryOf, after, is_alive, is_fresh, may_work, standing_at, table_of, without_first}
+use Rattle.credit_book.specs.History.{IsHistoryOf, is_alive, is_fresh, may_work, standing_at, table_of, without_first}
 use Rattle.credit_book.proofs.Histories.{table_of-push}
 use Rattle.credit_book.proofs.Sound.{at_end, bit, parked, sound_of, times}
 use Rattle.task_register.specs.declared.seats.EndedTask.{EndedTask}

@@ -1,4 +1,4 @@
-use Rattle.std.proofs.Common.{◌∙◌, refl, sym, subst, ap}
+use Rattle.std.proofs.Common.{refl, sym, subst}
 use Rattle.credit_book.specs.Boards.{Sign}
 use Rattle.credit_book.specs.Books.{Account, IsReport}
 use Rattle.credit_book.specs.History.{IsHistoryOf, IsComplete, table_of}

@@ -1,4 +1,4 @@
-use Rattle.std.proofs.Common.{ℕ, ◌≡◌, ◌≤◌, List, true, ap, sym, subst, ◌∙◌}
+use Rattle.std.proofs.Common.{◌≡◌, ◌≤◌, List, true, ap, sym, subst, ◌∙◌}
 use Rattle.credit_book.specs.Boards.{Sign}
 use Rattle.credit_book.specs.History.{may_work, standing_at, table_of}
 use Rattle.credit_book.specs.declared.task.Ticket.{Ticket}

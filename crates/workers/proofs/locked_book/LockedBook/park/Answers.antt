@@ -1,5 +1,4 @@
-use Rattle.std.proofs.Common.{◌∙◌, ap, sym}
-use Rattle.credit_book.specs.Boards.{Sign}
+use Rattle.std.proofs.Common.{◌∙◌}
 use Rattle.workers.proofs.NoRefusals.{queued_park}
 use Rattle.workers.proofs.RegisterSteps.{has_parked, seats_push}
 use Rattle.workers.proofs.locked_book.LockedBook.park.Goals as goal
