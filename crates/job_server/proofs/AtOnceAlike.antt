@@ -54,42 +54,40 @@ module _ {R Q : Type 0} (f : R → Q) where
   abbrev pub keeping : KeepingHandler (LimitedRunner R) → KeepingHandler (LimitedRunner Q)
   keeping h = record { runner = limited h.runner; keep = h.keep }
 
-  module _ (held1 : Q → ℕ) (starts1 : Q → ℕ → AdmittedJob → Result (Unit {0}) ℕ → Q → Type 0) (looks1 : Q → ℕ → Progress → Q → Type 0) (takes1 : Q → Option (ℕ × Result Report ℕ) → Q → Type 0) where
-    abbrev starts_of : R → ℕ → AdmittedJob → Result (Unit {0}) ℕ → R → Type 0
-    starts_of r n j x s = starts1 (f r) n j x (f s)
-
-    abbrev looks_of : R → ℕ → Progress → R → Type 0
-    looks_of r n p s = looks1 (f r) n p (f s)
-
-    abbrev takes_of : R → Option (ℕ × Result Report ℕ) → R → Type 0
-    takes_of r x s = takes1 (f r) x (f s)
-
-    within_alike : (l : LimitedRunner R) (n : ℕ) (j : AdmittedJob) (x : Result (Unit {0}) ℕ) (m : LimitedRunner R) → starts_within (λ r. held1 (f r)) starts_of l n j x m → starts_within held1 starts1 (limited l) n j x (limited m)
+  module _ (held1 : Q → ℕ) (starts1 : Q → ℕ → AdmittedJob → Result (Unit {0}) ℕ → Q → Type 0) (looks1 : Q → ℕ → Progress → Q → Type 0) (takes1 : Q → Option (ℕ × Result Report ℕ) → Q → Type 0)
+      (starts : R → ℕ → AdmittedJob → Result (Unit {0}) ℕ → R → Type 0) (looks : R → ℕ → Progress → R → Type 0) (takes : R → Option (ℕ × Result Report ℕ) → R → Type 0)
+      (starts_alike : (r : R) (n : ℕ) (j : AdmittedJob) (x : Result (Unit {0}) ℕ) (s : R) → starts r n j x s → starts1 (f r) n j x (f s))
+      (looks_alike : (r : R) (n : ℕ) (p : Progress) (s : R) → looks r n p s → looks1 (f r) n p (f s))
+      (takes_alike : (r : R) (x : Option (ℕ × Result Report ℕ)) (s : R) → takes r x s → takes1 (f r) x (f s)) where
+    within_alike : (l : LimitedRunner R) (n : ℕ) (j : AdmittedJob) (x : Result (Unit {0}) ℕ) (m : LimitedRunner R) → starts_within (λ r. held1 (f r)) starts l n j x m → starts_within held1 starts1 (limited l) n j x (limited m)
     within_alike l n j x m h = (
       elim h.0 [
         | inl full ↦ inl (full.0, full.1, ap f full.2)
-        | inr room ↦ inr room
+        | inr room ↦ inr (room.0, starts_alike l.runner n j x m.runner room.1)
       ],
       h.1,
     )
 
     keeping_alike : (s : Ledger × KeepingHandler (LimitedRunner R)) (query : Result Asked ℕ) (reply : List ℕ) (t : Ledger × KeepingHandler (LimitedRunner R))
-        → answers_keeping (starts_within (λ r. held1 (f r)) starts_of) (looks_within looks_of) (takes_within takes_of) s query reply t
+        → answers_keeping (starts_within (λ r. held1 (f r)) starts) (looks_within looks) (takes_within takes) s query reply t
         → answers_keeping (starts_within held1 starts1) (looks_within looks1) (takes_within takes1) (beside keeping s) query reply (beside keeping t)
     keeping_alike s query reply t h =
-        let answer = answers_alike limited _ _ _ (starts_within held1 starts1) (looks_within looks1) (takes_within takes1) within_alike (λ l n p m g. g) (λ l x m g. g) (s.0, s.1.runner) query reply (h.0.0, t.1.runner) h.0.1 in
+        let answer = answers_alike limited _ _ _ (starts_within held1 starts1) (looks_within looks1) (takes_within takes1) within_alike
+        (λ l n p m g. (looks_alike l.runner n p m.runner g.0, g.1)) (λ l x m g. (takes_alike l.runner x m.runner g.0, g.1)) (s.0, s.1.runner) query reply (h.0.0, t.1.runner) h.0.1 in
         ((h.0.0, answer, h.0.2), h.1)
 
--- the pool's own state is forgotten, but for the jobs that it was given and the boards that it watches
-pool_serving : {R : Type 0} (f : R → Pool) (desk : Ledger) (first : KeepingHandler (LimitedRunner R)) (end : Ledger × KeepingHandler (LimitedRunner R)) (sessions : ℕ) (may_stop : Bool) (outcome : Result (Unit {0}) ServeFault)
-    → IsServingFrom (answers_keeping (starts_within (λ r. pooled_count (f r)) (λ r number job result q. StartsBy pooled_at pooled_count (f r) number job result (f q)))
-    (looks_within (λ r number progress q. TellsBy pooled_at pooled_count (f r) number progress (f q))) (takes_within (λ r result q. TakesBy pooled_at pooled_count (f r) result (f q))))
-    (λ s. s ≡ (desk, first)) end sessions may_stop outcome
-    → IsServingFrom hosted_answers (λ s. s ≡ (desk, keeping f first)) (beside (keeping f) end) sessions may_stop outcome
-pool_serving f desk first end sessions may_stop outcome serving =
-    serving_alike (beside (keeping f)) _ hosted_answers
-    (keeping_alike f pooled_count (StartsBy pooled_at pooled_count) (TellsBy pooled_at pooled_count) (TakesBy pooled_at pooled_count))
-    (λ s. s ≡ (desk, first)) (λ s. s ≡ (desk, keeping f first)) (λ s is. ap (beside (keeping f)) is) end sessions may_stop outcome serving
+module _ {R : Type 0} (f : R → Pool) (starts : R → ℕ → AdmittedJob → Result (Unit {0}) ℕ → R → Type 0) (looks : R → ℕ → Progress → R → Type 0) (takes : R → Option (ℕ × Result Report ℕ) → R → Type 0)
+    (starts_alike : (r : R) (n : ℕ) (j : AdmittedJob) (x : Result (Unit {0}) ℕ) (s : R) → starts r n j x s → StartsBy pooled_at pooled_count (f r) n j x (f s))
+    (looks_alike : (r : R) (n : ℕ) (p : Progress) (s : R) → looks r n p s → TellsBy pooled_at pooled_count (f r) n p (f s))
+    (takes_alike : (r : R) (x : Option (ℕ × Result Report ℕ)) (s : R) → takes r x s → TakesBy pooled_at pooled_count (f r) x (f s)) where
+  -- the pool's own state is forgotten, but for the jobs that it was given and the boards that it watches
+  pool_serving : (desk : Ledger) (first : KeepingHandler (LimitedRunner R)) (end : Ledger × KeepingHandler (LimitedRunner R)) (sessions : ℕ) (may_stop : Bool) (outcome : Result (Unit {0}) ServeFault)
+      → IsServingFrom (answers_keeping (starts_within (λ r. pooled_count (f r)) starts) (looks_within looks) (takes_within takes)) (λ s. s ≡ (desk, first)) end sessions may_stop outcome
+      → IsServingFrom hosted_answers (λ s. s ≡ (desk, keeping f first)) (beside (keeping f) end) sessions may_stop outcome
+  pool_serving desk first end sessions may_stop outcome serving =
+      serving_alike (beside (keeping f)) _ hosted_answers
+      (keeping_alike f pooled_count (StartsBy pooled_at pooled_count) (TellsBy pooled_at pooled_count) (TakesBy pooled_at pooled_count) starts looks takes starts_alike looks_alike takes_alike)
+      (λ s. s ≡ (desk, first)) (λ s. s ≡ (desk, keeping f first)) (λ s is. ap (beside (keeping f)) is) end sessions may_stop outcome serving
 
 -- the handler is the one that was made of the pool and the bounds
 hosted_is : {R : Type 0} (f : R → Pool) (bounds : Bounds) (desk : Ledger) (h : KeepingHandler (LimitedRunner R)) (l : LimitedRunner R) (pool : R) → desk ≡ new_desk → h.runner ≡ l → h.keep ≡ bounds.keep → l.runner ≡ pool → l.limit ≡ bounds.open_jobs
@@ -102,16 +100,18 @@ hosted_is {R} f bounds desk h l pool is_new is_limited kept is_pool is_limit =
     ∙ ap (λ (p : R). host new_desk (f p) l.limit bounds.keep) is_pool
     ∙ ap (λ (n : ℕ). host new_desk (f pool) n bounds.keep) is_limit
 
-pub hosted_serving : {R : Type 0} (f : R → Pool) (bounds : Bounds) (desk : Ledger) (h : KeepingHandler (LimitedRunner R)) (l : LimitedRunner R) (pool : R) (end : Ledger × KeepingHandler (LimitedRunner R)) (sessions : ℕ) (may_stop : Bool) (outcome : Result (Unit {0}) ServeFault)
-    → desk ≡ new_desk → h.runner ≡ l → h.keep ≡ bounds.keep → l.runner ≡ pool → l.limit ≡ bounds.open_jobs
-    → IsServingFrom (answers_keeping (starts_within (λ r. pooled_count (f r)) (λ r number job result q. StartsBy pooled_at pooled_count (f r) number job result (f q)))
-    (looks_within (λ r number progress q. TellsBy pooled_at pooled_count (f r) number progress (f q))) (takes_within (λ r result q. TakesBy pooled_at pooled_count (f r) result (f q))))
-    (λ s. s ≡ (desk, h)) end sessions may_stop outcome
-    → IsServingFrom hosted_answers (λ s. s ≡ new_host bounds (f pool)) (beside (keeping f) end) sessions may_stop outcome
-hosted_serving f bounds desk h l pool end sessions may_stop outcome is_new is_limited kept is_pool is_limit serving =
-    subst (λ (v : Hosted). IsServingFrom hosted_answers (λ s. s ≡ v) (beside (keeping f) end) sessions may_stop outcome)
-    (hosted_is f bounds desk h l pool is_new is_limited kept is_pool is_limit)
-    (pool_serving f desk h end sessions may_stop outcome serving)
+module _ {R : Type 0} (f : R → Pool) (starts : R → ℕ → AdmittedJob → Result (Unit {0}) ℕ → R → Type 0) (looks : R → ℕ → Progress → R → Type 0) (takes : R → Option (ℕ × Result Report ℕ) → R → Type 0)
+    (starts_alike : (r : R) (n : ℕ) (j : AdmittedJob) (x : Result (Unit {0}) ℕ) (s : R) → starts r n j x s → StartsBy pooled_at pooled_count (f r) n j x (f s))
+    (looks_alike : (r : R) (n : ℕ) (p : Progress) (s : R) → looks r n p s → TellsBy pooled_at pooled_count (f r) n p (f s))
+    (takes_alike : (r : R) (x : Option (ℕ × Result Report ℕ)) (s : R) → takes r x s → TakesBy pooled_at pooled_count (f r) x (f s)) where
+  pub hosted_serving : (bounds : Bounds) (desk : Ledger) (h : KeepingHandler (LimitedRunner R)) (l : LimitedRunner R) (pool : R) (end : Ledger × KeepingHandler (LimitedRunner R)) (sessions : ℕ) (may_stop : Bool) (outcome : Result (Unit {0}) ServeFault)
+      → desk ≡ new_desk → h.runner ≡ l → h.keep ≡ bounds.keep → l.runner ≡ pool → l.limit ≡ bounds.open_jobs
+      → IsServingFrom (answers_keeping (starts_within (λ r. pooled_count (f r)) starts) (looks_within looks) (takes_within takes)) (λ s. s ≡ (desk, h)) end sessions may_stop outcome
+      → IsServingFrom hosted_answers (λ s. s ≡ new_host bounds (f pool)) (beside (keeping f) end) sessions may_stop outcome
+  hosted_serving bounds desk h l pool end sessions may_stop outcome is_new is_limited kept is_pool is_limit serving =
+      subst (λ (v : Hosted). IsServingFrom hosted_answers (λ s. s ≡ v) (beside (keeping f) end) sessions may_stop outcome)
+      (hosted_is f bounds desk h l pool is_new is_limited kept is_pool is_limit)
+      (pool_serving f starts looks takes starts_alike looks_alike takes_alike desk h end sessions may_stop outcome serving)
 
 -- ---- what a server tells of those that are over
 

@@ -2,6 +2,7 @@ pub mod Endings
 pub mod Holding
 pub mod Holds
 pub mod Started
+pub mod Queues
 pub mod JobRule
 pub mod Bounded
 pub mod AtOnce

@@ -30,6 +30,10 @@ held_of (Some job) n (Some sight) = Some (record { number = n; job = job; sight 
 abbrev pub pooled_at : List StartedJob × BTreeMap ℕ Sight → ℕ → Option Held
 pooled_at p n = held_of (started_at n p.0) n (tree.get nat_cmp p.1 n)
 
+-- a pool holds a job under this number
+abbrev pub IsPooled : List StartedJob × BTreeMap ℕ Sight → ℕ → Type 0
+IsPooled p n = (held : Held) × (pooled_at p n ≡ Some held)
+
 abbrev pub pooled_count : List StartedJob × BTreeMap ℕ Sight → ℕ
 pooled_count p = btree_map_len p.1
 

@@ -11,9 +11,9 @@ use crate::job_seats::RegisterId;
 use crate::keys::{forget, note};
 use crate::limited_runner::CountedRunner;
 use crate::queued_job::{EndedJob, QueuedJob};
+use crate::queues::{Inlet, Outlet};
 use crate::watched::{Watched, look_at};
 use credit_book::{Progress, Report};
-use crossbeam_channel::{Receiver, Sender};
 use job_core::Job;
 use std::alloc::Global;
 use std::collections::BTreeMap;
@@ -24,7 +24,9 @@ use streams::Runner;
 ///
 /// A started job waits in a queue until a worker is free. That one ever is, or a job ever finished,
 /// is nowhere claimed. Numbers have to rise: a start under a number at or below an earlier one is
-/// refused by 81, as are all where no worker could be started.
+/// refused by 81, as are all where no worker could be started, or where 16,384 jobs wait already.
+/// A start that is answered by Ok has put this very job into the queue. A take that gives none has
+/// taken no end of a job that is held.
 #[derive(Drop)]
 pub struct LastingPool<'a, R, J: RegisterId> {
     rt: &'a R,
@@ -32,8 +34,8 @@ pub struct LastingPool<'a, R, J: RegisterId> {
     keeper: Keeper<J>,
     next: u64,
     boards: BTreeMap<u64, Watched>,
-    queue: Sender<QueuedJob<J>, Global>,
-    ended: Receiver<EndedJob<J>, Global>,
+    queue: Inlet<QueuedJob<J>>,
+    ended: Outlet<EndedJob<J>>,
     has_workers: bool,
     ghost none_from: { NoneFrom next keeper } by { Prim.hlevel props },
     ghost watched: { AreWatched keeper (tree.get nat_cmp boards) } by { Prim.hlevel props },
@@ -49,8 +51,8 @@ impl<'a, R, J: RegisterId> LastingPool<'a, R, J> {
         alloc: Global,
         register: &'a JobRegister<J>,
         keeper: Keeper<J>,
-        queue: Sender<QueuedJob<J>, Global>,
-        ended: Receiver<EndedJob<J>, Global>,
+        queue: Inlet<QueuedJob<J>>,
+        ended: Outlet<EndedJob<J>>,
         has_workers: bool,
     ) -> LastingPool<'a, R, J>
         requires { keeper ≡ [] }
@@ -71,7 +73,8 @@ impl<'a, R, J: RegisterId> LastingPool<'a, R, J> {
 
 impl<R: Wait, J: RegisterId> Runner for LastingPool<'_, R, J> {
     ghost use Rattle.job_server.specs.Holds.{StartsBy, TellsBy, TakesBy};
-    ghost use Rattle.job_server.specs.Started.{pooled_at, pooled_count};
+    ghost use Rattle.job_server.specs.Queues.{PutsStarted, TakesEnded};
+    ghost use Rattle.job_server.specs.Started.{IsPooled, pooled_at, pooled_count};
 
     ghost held = { λ p. pooled_count (p.keeper, p.boards) };
 
@@ -79,14 +82,15 @@ impl<R: Wait, J: RegisterId> Runner for LastingPool<'_, R, J> {
 
     ghost starts = { λ p number job result q.
         StartsBy pooled_at pooled_count (p.keeper, p.boards) number job result
-        (q.keeper, q.boards) };
+        (q.keeper, q.boards) × PutsStarted p.queue number job result q.queue };
 
     ghost looks = { λ p number progress q.
         TellsBy pooled_at pooled_count (p.keeper, p.boards) number progress
         (q.keeper, q.boards) };
 
     ghost takes = { λ p result q.
-        TakesBy pooled_at pooled_count (p.keeper, p.boards) result (q.keeper, q.boards) };
+        TakesBy pooled_at pooled_count (p.keeper, p.boards) result (q.keeper, q.boards)
+        × TakesEnded (IsPooled (p.keeper, p.boards)) p.ended result q.ended };
 
     fn start(&mut self, alloc: Global, number: u64, job: Job) -> Result<(), u8> {
         if !self.has_workers {
@@ -114,11 +118,11 @@ impl<R: Wait, J: RegisterId> Runner for LastingPool<'_, R, J> {
             post,
             seat,
         };
-        match self.queue.send(self.rt, queued) {
+        match self.queue.put_now(self.rt, queued) {
             Ok(()) => Ok(()),
             Err(_) => {
                 forget(&mut self.boards, number);
-                Err(99)
+                Err(81)
             }
         }
     }
@@ -136,9 +140,7 @@ impl<R: Wait, J: RegisterId> Runner for LastingPool<'_, R, J> {
     }
 
     fn take(&mut self) -> Option<(u64, Result<Report, u8>)> {
-        let Ok(ended) = self.ended.try_recv(self.rt) else {
-            return None;
-        };
+        let ended = self.ended.take_now(self.rt)?;
         let (number, end, seat) = ended.into_parts();
         let register = self.register;
         register.find(&mut self.keeper, seat);

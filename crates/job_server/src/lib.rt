@@ -31,12 +31,14 @@ mod job_seats;
 mod lasting_pool;
 mod pool_threads;
 mod queued_job;
+mod queues;
 mod watched;
 
 pub use job_register::{JobRegister, JobSeat, Keeper, NewRegister};
 pub use job_seats::{JobView, RegisterId, StartedJob};
 pub use lasting_pool::LastingPool;
 pub use queued_job::{EndedJob, QueuedJob};
+pub use queues::{Inlet, KnowsItself, OfJob, Outlet, Traffic, queue_to_many, queue_to_one};
 
 // streams over TCP, on this machine alone
 mod address;

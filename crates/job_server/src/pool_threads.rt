@@ -1,37 +1,15 @@
 //! The workers of a lasting pool, each in a thread of its own.
 
-ghost use Rattle.std.specs.Prelude.{◌≤◌};
+ghost use Rattle.std.specs.Prelude.{◌≡◌, ◌≤◌, length};
+ghost use Rattle.job_server.specs.Queues.{AnswersEach};
 
 use crate::job_seats::RegisterId;
 use crate::queued_job::{EndedJob, QueuedJob};
+use crate::queues::{Inlet, Outlet};
 use crate::server_log::{ServerLog, millis_since};
-use crossbeam_channel::{Receiver, SendError, Sender};
-use std::alloc::Global;
 use std::sync::Wait;
-use std::thread;
 use std::thread::{Scope, Threads};
 use std::time::{Clock, Instant};
-
-// Gives back what a job came to. Where there is no memory for it, it is tried again: nothing else
-// knows it. `false`: nobody takes it any more.
-fn give<R: Wait, J: RegisterId>(
-    rt: &R,
-    endings: &Sender<EndedJob<J>, Global>,
-    ended: EndedJob<J>,
-) -> bool {
-    let mut ended = ended;
-    for _ in rt.forever() {
-        match endings.send(rt, ended) {
-            Ok(()) => return true,
-            Err(SendError::Disconnected(_)) => return false,
-            Err(SendError::OutOfMemory(back)) => {
-                ended = back;
-                thread::yield_now();
-            }
-        }
-    }
-    false
-}
 
 // Runs a job, a large one on so many threads, and tells a log of it, if there is one.
 fn run_told<R: Threads + Wait + Clock + Sync, J: RegisterId>(
@@ -41,6 +19,7 @@ fn run_told<R: Threads + Wait + Clock + Sync, J: RegisterId>(
     log: Option<&ServerLog>,
 ) -> EndedJob<J>
     requires { (1 ≤ workers) × (workers ≤ 16) }
+    ensures { result ≡ job.seat }
 {
     let Some(log) = log else {
         return job.run(rt, workers);
@@ -52,29 +31,31 @@ fn run_told<R: Threads + Wait + Clock + Sync, J: RegisterId>(
     ended
 }
 
-// What a worker does: it runs jobs, one after the other, a large one on so many threads, until no
-// more can come.
+// What a worker does: it runs jobs, one after the other, a large one on so many threads, and gives
+// back what each came to, until no more can come, or nobody takes ends any more.
 fn work<R: Threads + Wait + Clock + Sync, J: RegisterId>(
     rt: &R,
-    jobs: &Receiver<QueuedJob<J>, Global>,
-    endings: &Sender<EndedJob<J>, Global>,
+    jobs: &mut Outlet<QueuedJob<J>>,
+    endings: &mut Inlet<EndedJob<J>>,
     workers: u32,
     log: Option<&ServerLog>,
 )
     requires { (1 ≤ workers) × (workers ≤ 16) }
+    ensures { AnswersEach jobs.old jobs.new endings.old endings.new }
 {
     for _ in rt.forever() {
-        let Ok(job) = jobs.recv(rt) else {
+        let Some(job) = jobs.take(rt) else {
             return;
         };
-        if !give(rt, endings, run_told(rt, job, workers, log)) {
+        let Ok(()) = endings.put(rt, run_told(rt, job, workers, log)) else {
             return;
-        }
+        };
     }
 }
 
-/// Starts so many workers, 1 to 16, and tells how many could be started. They end once the other
-/// end of the queue is gone and it is empty. A log, if there is one, is told of each job.
+/// Starts a worker for each of these ends of the queue of jobs, and tells how many could be started.
+/// They end once the other end of the queue is gone and it is empty. A log, if there is one, is told
+/// of each job. A large job is run on so many threads, 1 to 16.
 pub(crate) fn start_workers<
     's,
     E: 's,
@@ -83,19 +64,27 @@ pub(crate) fn start_workers<
 >(
     rt: &'s R,
     scope: &Scope<'s, E>,
-    jobs: &'s Receiver<QueuedJob<J>, Global>,
-    endings: &'s Sender<EndedJob<J>, Global>,
+    jobs: Vec<Outlet<QueuedJob<J>>>,
+    endings: Inlet<EndedJob<J>>,
     workers: u32,
     log: Option<&'s ServerLog>,
-) -> u32
+) -> usize
     requires { (1 ≤ workers) × (workers ≤ 16) }
-    ensures { result ≤ workers }
+    ensures { result ≤ length jobs.items }
 {
+    let mut endings = endings;
     let mut started = 0;
-    'starting: for _ in 0..workers {
+    'starting: for outlet in jobs {
+        let Ok(inlet) = endings.another() else {
+            continue;
+        };
         let worker = move ||
             requires { (1 ≤ workers) × (workers ≤ 16) }
-        { work(rt, jobs, endings, workers, log) };
+        {
+            let mut outlet = outlet;
+            let mut inlet = inlet;
+            work(rt, &mut outlet, &mut inlet, workers, log)
+        };
         if scope.spawn(worker).is_ok() {
             started += 1;
         }

@@ -8,6 +8,7 @@ ghost use Rattle.job_server.specs.declared.log_line.Event.TheVariants.{Started};
 use crate::job_register::JobSeat;
 use crate::job_seats::RegisterId;
 use crate::log_line::Event;
+use crate::queues::OfJob;
 use credit_book::{Post, Report};
 use job_core::Job;
 use std::alloc::Global;
@@ -33,8 +34,12 @@ pub struct QueuedJob<J: RegisterId> {
     ghost entered: { seat.job ≡ job },
 }
 
+impl<J: RegisterId> OfJob for QueuedJob<J> {
+    ghost job = { λ q. q.seat };
+}
+
 /// A job that is over: its number and what it came to, which its seat knows to be the end of the
-/// very job that was started.
+/// very job that was started. Contracts see it as that job.
 #[derive(Drop)]
 pub struct EndedJob<J: RegisterId> {
     pub(crate) number: u64,
@@ -45,12 +50,17 @@ pub struct EndedJob<J: RegisterId> {
 impl<J: RegisterId> Model for EndedJob<J> {
     ghost use Rattle.std.specs.Prelude.{◌≡◌};
     ghost use Rattle.job_server.specs.Endings.{IsEndOf};
+    ghost use Rattle.job_server.specs.declared.job_seats.StartedJob.{StartedJob};
 
-    ghost Value = { Unit {0} };
+    ghost Value = { StartedJob };
 
-    ghost view = { λ _. tt };
+    ghost view = { λ e. e.seat };
 
     ghost invariant = { λ e. (e.seat.number ≡ e.number) × IsEndOf e.number e.seat.job e.end };
+}
+
+impl<J: RegisterId> OfJob for EndedJob<J> {
+    ghost job = { λ e. e };
 }
 
 // How a job ended that took so many milliseconds, for a log.
@@ -78,7 +88,8 @@ impl<J: RegisterId> EndedJob<J> {
 
     /// Its number, what it came to, and its seat.
     pub(crate) fn into_parts(self) -> (u64, Result<Report, u8>, JobSeat<J>)
-        ensures { (result.2.number ≡ result.0) × IsEndOf result.0 result.2.job result.1 }
+        ensures { (result.2 ≡ self) × (result.2.number ≡ result.0)
+            × IsEndOf result.0 result.2.job result.1 }
     {
         let EndedJob { number, end, seat } = self;
         (number, end, seat)
@@ -124,6 +135,7 @@ impl<J: RegisterId> QueuedJob<J> {
     /// Runs the job, a large one on so many workers, 1 to 16. What it came to.
     pub(crate) fn run<R: Threads + Wait + Sync>(self, rt: &R, workers: u32) -> EndedJob<J>
         requires { (1 ≤ workers) × (workers ≤ 16) }
+        ensures { result ≡ self.seat }
     {
         let QueuedJob {
             alloc,

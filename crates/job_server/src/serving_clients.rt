@@ -17,13 +17,13 @@ use crate::listener::Listener;
 use crate::logged_handler::LoggedHandler;
 use crate::pool_threads::start_workers;
 use crate::queued_job::{EndedJob, QueuedJob};
+use crate::queues::{Inlet, Outlet, queue_to_many, queue_to_one};
 use crate::server_log::ServerLog;
 use crate::stop_flag::StopFlag;
 use crate::timed_listener::TimedListener;
 use crate::timed_reader::Waiting;
 use accounts::Desk;
 use bpfjobs_cli::Bounds;
-use crossbeam_channel::{Receiver, Sender, unbounded};
 use std::alloc::Global;
 use std::marker::Brand;
 use std::net::{Net, TcpListener, TcpStream};
@@ -32,11 +32,11 @@ use std::thread;
 use std::thread::{Scope, Threads};
 use std::time::Clock;
 
-// The two ends of the queues that a pool holds: jobs go out, and what they came to comes back.
+// The ends of the queues that a pool holds: jobs go out, and what they came to comes back.
 #[derive(Drop)]
 struct PoolEnds<J: RegisterId> {
-    queue: Sender<QueuedJob<J>, Global>,
-    ended: Receiver<EndedJob<J>, Global>,
+    queue: Inlet<QueuedJob<J>>,
+    ended: Outlet<EndedJob<J>>,
 }
 
 // How many workers and connections there are, what a host bounds, and what it is told.
@@ -63,8 +63,8 @@ fn serve_in<
     register: &'s JobRegister<J>,
     keeper: Keeper<J>,
     ends: PoolEnds<J>,
-    jobs: &'s Receiver<QueuedJob<J>, Global>,
-    endings: &'s Sender<EndedJob<J>, Global>,
+    jobs: Vec<Outlet<QueuedJob<J>>>,
+    endings: Inlet<EndedJob<J>>,
     listener: L,
     plan: Plan<'s>,
 ) -> Result<(), ServeFault>
@@ -108,8 +108,8 @@ fn serve_held<
     register: &JobRegister<J>,
     keeper: Keeper<J>,
     ends: PoolEnds<J>,
-    jobs: &Receiver<QueuedJob<J>, Global>,
-    endings: &Sender<EndedJob<J>, Global>,
+    jobs: Vec<Outlet<QueuedJob<J>>>,
+    endings: Inlet<EndedJob<J>>,
     listener: L,
     plan: Plan<'_>,
 ) -> Result<(), ServeFault>
@@ -163,15 +163,15 @@ fn serve_registered<
         ⊎ (result ≡ Err (fault.Connection stream.NoMemory)) }
 {
     let (register, keeper) = new_register.named::<J>();
-    let Ok((queue, jobs)) = unbounded::<QueuedJob<J>, Global>(alloc) else {
+    let Ok((queue, jobs)) = queue_to_many::<QueuedJob<J>>(alloc, plan.workers) else {
         return Err(NO_MEMORY);
     };
-    let Ok((endings, ended)) = unbounded::<EndedJob<J>, Global>(alloc) else {
+    let Ok((endings, ended)) = queue_to_one::<EndedJob<J>>(alloc) else {
         return Err(NO_MEMORY);
     };
     let ends = PoolEnds { queue, ended };
     serve_held(
-        rt, alloc, &register, keeper, ends, &jobs, &endings, listener, plan,
+        rt, alloc, &register, keeper, ends, jobs, endings, listener, plan,
     )
 }
 
