@@ -34,12 +34,13 @@ returns-then-not-contains_key-clause-takes g c =
     let n : ℕ = parts.result.0 in
     let ended : StartedJob = c.in_ok-ended.ended in
     let numbered : ended.number ≡ n = ap (λ (s : StartedJob). s.number) (sym parts.ensures.0) ∙ parts.ensures.1 in
-    let gone : tree.get nat_cmp was.boards n ≡ None = none_of (tree.get nat_cmp was.boards n) (c.if-not-contains_key.ensures tt) in
+    let gone : tree.get nat_cmp was.boards n ≡ None = none_of (tree.get nat_cmp was.boards n) c.if-not-contains_key.ensures in
+    let moved : (m : ℕ) → m ≡ n → pooled_at (was.keeper, was.boards) m ≡ pooled_at (was.keeper, was.boards) n = λ m e. ap (λ (k : ℕ). pooled_at (was.keeper, was.boards) k) e in
     let free : pooled_at (was.keeper, was.boards) n ≡ None = held_none (started_at n was.keeper) n (tree.get nat_cmp was.boards n) gone in (
       rw c.find.ensures.same (record { each = λ m. refl; count = refl }),
       inr (
         ended,
-        λ held. nothing_is (pooled_at (was.keeper, was.boards) ended.number) held.0 (ap (λ (m : ℕ). pooled_at (was.keeper, was.boards) m) numbered ∙ free) held.1,
+        λ held. nothing_is (pooled_at (was.keeper, was.boards) n) held.0 free (sym (moved ended.number numbered) ∙ held.1),
         c.in_ok-ended.ensures,
       ),
     )
