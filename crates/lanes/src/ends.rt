@@ -1,9 +1,9 @@
 //! A deque of ready tickets: its owner pushes and takes, and thieves steal, first in first out.
-ghost use Rattle.std.specs.Prelude.{◌≡◌};
-ghost use Rattle.crossbeam_deque.specs.Handles.{worker_port, worker_flavor, stealer_flavor};
+ghost use Rattle.std.specs.Prelude.{◌≡◌, ◌≤◌};
+ghost use Rattle.crossbeam_deque.specs.Handles.{worker_port, worker_flavor, worker_capacity, stealer_flavor};
 
 use crate::moves::{Carried, Moves};
-use crossbeam_deque::protocol::{Outcome, Protocol};
+use crossbeam_deque::protocol::{Join, Lesson, Outcome, Protocol, Split};
 use crossbeam_deque::{Steal, Stealer, Worker};
 use refusal::NoMemory;
 use std::alloc::Global;
@@ -16,7 +16,8 @@ pub struct InOrder<T: Carried> {
 }
 
 impl<T: Carried> Protocol<T, Moves> for InOrder<T> {
-    ghost use Rattle.lanes.specs.Interleaving.{Interleaved, newcomer};
+    ghost use Rattle.lanes.specs.Interleaving.{newcomer};
+    ghost use Rattle.lanes.specs.Rule.{Interleaved};
 
     ghost holds = { Interleaved T.task };
 
@@ -25,13 +26,15 @@ impl<T: Carried> Protocol<T, Moves> for InOrder<T> {
     ghost guest = { newcomer };
 }
 
-/// What a push tells its lane's owner.
+/// What a push tells its lane's owner: also that the lane was full, where it was.
 struct Put;
 
 impl<T: Carried> Outcome<T, Moves> for Put {
-    ghost use Rattle.lanes.specs.Interleaving.{OwnerPut};
+    ghost use Rattle.lanes.specs.Interleaving.{OwnerPut, IsFull};
 
     ghost then = { OwnerPut T.task };
+
+    ghost full = { IsFull T.task };
 }
 
 /// What a pop tells its lane's owner: also that there was none, where there was none.
@@ -42,16 +45,49 @@ impl<T: Carried> Outcome<T, Moves> for Took {
 
     ghost then = { OwnerTook T.task };
 
-    ghost empty = { FoundNone T.task 0 };
+    ghost empty = { FoundNone T.task };
 }
 
-/// What a steal tells its thief.
+/// What a steal tells its thief: also that there was none, where there was none.
 struct Stole;
 
 impl<T: Carried> Outcome<T, Moves> for Stole {
-    ghost use Rattle.lanes.specs.Interleaving.{ThiefTook};
+    ghost use Rattle.lanes.specs.Interleaving.{ThiefTook, ThiefFoundNone};
 
     ghost then = { ThiefTook T.task };
+
+    ghost empty = { ThiefFoundNone T.task };
+}
+
+/// The owner makes a pass for a thief.
+struct Hires;
+
+impl Split<Moves> for Hires {
+    ghost use Rattle.lanes.specs.Interleaving.{with_thief, new_thief};
+
+    ghost left = { with_thief };
+
+    ghost right = { λ _. new_thief };
+}
+
+/// The owner takes in the pass of a thief, with which nobody steals any more.
+struct Gathers;
+
+impl Join<Moves> for Gathers {
+    ghost use Rattle.lanes.specs.Interleaving.{newcomer, with_gathered};
+
+    ghost both = { with_gathered };
+
+    ghost spent = { newcomer };
+}
+
+/// What a look at the tickets tells its lane's owner.
+struct Looks;
+
+impl<T: Carried> Lesson<T, Moves> for Looks {
+    ghost use Rattle.lanes.specs.Interleaving.{Stands};
+
+    ghost fact = { λ m items. Stands T.task items m };
 }
 
 type Ready<T> = Worker<T, Global, Moves, InOrder<T>>;
@@ -73,6 +109,7 @@ pub struct Lane<T: Carried> {
     ready: Ready<T>,
     ghost owner: { worker_port ready ≡ 0 },
     ghost fifo: { worker_flavor ready ≡ 0 },
+    ghost room: { 16 ≤ worker_capacity ready },
 }
 
 /// A thief's end.
@@ -106,20 +143,21 @@ pub struct Stealing<T: Carried> {
 #[derive(Drop)]
 pub enum Stolen<T> {
     Got(T),
+    /// The lane had no ticket.
     Empty,
     /// Another caller came first. Try again.
     Retry,
 }
 
 impl<T: Carried> Lane<T> {
-    ghost use Rattle.std.specs.Prelude.{MatchResult, MatchOption, [], ◌∷◌, IfOk};
-    ghost use Rattle.crossbeam_deque.specs.Handles.{worker_view, worker_deque, view, stealer_deque, IsPassOf};
-    ghost use Rattle.lanes.specs.Interleaving.{newcomer, FoundNone, OwnerPut, OwnerTook};
-    ghost use Rattle.lanes.specs.Passes.{moves_of, IsOwner, IsThiefOf, IsNewThief};
+    ghost use Rattle.std.specs.Prelude.{MatchResult, MatchOption, [], ◌∷◌, ◌+◌, List, length, IfOk};
+    ghost use Rattle.crossbeam_deque.specs.Handles.{worker_view, worker_deque, worker_index, view, stealer_deque, IsPassOf};
+    ghost use Rattle.lanes.specs.Interleaving.{newcomer, new_thief, with_thief, with_gathered, AllAreBack, FoundNone, HasNoRoom, OwnerPut, OwnerTook, SharedOut, Stands};
+    ghost use Rattle.lanes.specs.Passes.{moves, moves_of, next_place, IsOwner, IsGuestOf, IsThiefOf, IsNewThief, IsSameLane};
 
     /// A lane with no ticket.
     pub(crate) fn empty(alloc: Global) -> Result<Lane<T>, NoMemory>
-        ensures { IfOk result (λ lane. worker_view lane.ready ≡ newcomer) }
+        ensures { IfOk result (λ lane. (worker_view lane.ready ≡ newcomer) × (worker_index lane.ready ≡ 0)) }
     {
         Ok(Lane {
             ready: Ready::<T>::fifo_as(alloc, FIRST_ROOM)?,
@@ -137,18 +175,24 @@ impl<T: Carried> Lane<T> {
     }
 
     /// A thief of this lane, and a bare seat of its own.
-    pub(crate) fn way(&self) -> Result<(Thief<T>, Seat<T>), NoMemory>
-        ensures { IfOk result (λ g. IsThiefOf self.now g.0 × IsPassOf (stealer_deque g.0.reach) g.1
-            × (view g.1 ≡ newcomer)) }
+    pub(crate) fn way(&mut self) -> Result<(Thief<T>, Seat<T>), NoMemory>
+        ensures same { IfOk result (λ _. IsSameLane self.old self.new
+            × (worker_index self.new.ready ≡ worker_index self.old.ready)) }
+        ensures made { IfOk result (λ g. worker_view self.new.ready ≡ with_thief (worker_view self.old.ready)) }
+        ensures thief { IfOk result (λ g. IsThiefOf self.old g.0
+            × IsPassOf (stealer_deque g.0.reach) g.1 × (view g.1 ≡ new_thief)) }
     {
         let reach = self.ready.stealer()?;
-        let seat = reach.pass();
+        let seat = self.ready.another::<Hires>();
         Ok((Thief { reach }, seat))
     }
 
     /// A thief of this lane, and its pass.
-    pub(crate) fn thief(&self) -> Result<(Thief<T>, Pass<Stealing<T>>), NoMemory>
-        ensures { IfOk result (λ g. IsNewThief self.now g.0 g.1) }
+    pub(crate) fn thief(&mut self) -> Result<(Thief<T>, Pass<Stealing<T>>), NoMemory>
+        ensures same { IfOk result (λ _. IsSameLane self.old self.new
+            × (worker_index self.new.ready ≡ worker_index self.old.ready)) }
+        ensures made { IfOk result (λ g. worker_view self.new.ready ≡ with_thief (worker_view self.old.ready)) }
+        ensures thief { IfOk result (λ g. IsNewThief self.old g.0 g.1) }
     {
         let (thief, seat) = self.way()?;
         let pass = Pass {
@@ -159,22 +203,27 @@ impl<T: Carried> Lane<T> {
 
     /// Puts a ticket at the back, or gives it back where there is no room for it.
     pub(crate) fn put(&mut self, ticket: T) -> Result<(), T>
-        ensures same { worker_deque self.new.ready ≡ worker_deque self.old.ready }
+        ensures same { IsSameLane self.old self.new }
         ensures moved { MatchResult result
             (λ _. OwnerPut T.task (worker_view self.old.ready) (ticket ∷ []) (worker_view self.new.ready))
-            (λ back. (back ≡ ticket) × (worker_view self.new.ready ≡ worker_view self.old.ready)) }
+            (λ back. (back ≡ ticket) × (worker_view self.new.ready ≡ worker_view self.old.ready)
+            × HasNoRoom T.task (worker_index self.old.ready) (worker_view self.old.ready)) }
+        ensures place { MatchResult result
+            (λ _. worker_index self.new.ready ≡ worker_index self.old.ready + 1)
+            (λ _. worker_index self.new.ready ≡ worker_index self.old.ready) }
     {
         self.ready.push_as::<Put>(ticket)
     }
 
     /// The ticket at the front. `None`: there was none at one moment of the call.
     pub(crate) fn next(&mut self) -> Option<T>
-        ensures same { worker_deque self.new.ready ≡ worker_deque self.old.ready }
+        ensures same { IsSameLane self.old self.new }
         ensures moved { MatchOption result
             ((worker_view self.new.ready ≡ worker_view self.old.ready)
-            × FoundNone T.task 0 (worker_view self.old.ready))
+            × FoundNone T.task (worker_view self.old.ready))
             (λ ticket. OwnerTook T.task (worker_view self.old.ready) (ticket ∷ [])
             (worker_view self.new.ready)) }
+        ensures place { worker_index self.new.ready ≤ worker_index self.old.ready }
     {
         self.ready.pop_as::<Took>()
     }
@@ -186,9 +235,13 @@ impl<T: Carried> Lane<T> {
     pub fn push(&mut self, pass: &mut Pass<Owning<T>>, ticket: T) -> Result<(), T>
         requires { IsOwner self.old pass.old }
         ensures pass { IsOwner self.new pass.new }
+        ensures same { IsSameLane self.old self.new }
         ensures moved { MatchResult result
             (λ _. OwnerPut T.task (moves_of pass.old) (ticket ∷ []) (moves_of pass.new))
-            (λ back. (back ≡ ticket) × (moves_of pass.new ≡ moves_of pass.old)) }
+            (λ back. (back ≡ ticket) × (moves_of pass.new ≡ moves_of pass.old)
+            × HasNoRoom T.task (next_place self.old) (moves_of pass.old)) }
+        ensures place { MatchResult result (λ _. next_place self.new ≡ next_place self.old + 1)
+            (λ _. next_place self.new ≡ next_place self.old) }
     {
         let pushed = self.put(ticket);
         pass.knows.seen = Snapshot::of(&self.ready);
@@ -200,28 +253,67 @@ impl<T: Carried> Lane<T> {
     pub fn take(&mut self, pass: &mut Pass<Owning<T>>) -> Option<T>
         requires { IsOwner self.old pass.old }
         ensures pass { IsOwner self.new pass.new }
+        ensures same { IsSameLane self.old self.new }
         ensures moved { MatchOption result
-            ((moves_of pass.new ≡ moves_of pass.old) × FoundNone T.task 0 (moves_of pass.old))
+            ((moves_of pass.new ≡ moves_of pass.old) × FoundNone T.task (moves_of pass.old))
             (λ ticket. OwnerTook T.task (moves_of pass.old) (ticket ∷ []) (moves_of pass.new)) }
+        ensures place { next_place self.new ≤ next_place self.old }
     {
         let taken = self.next();
         pass.knows.seen = Snapshot::of(&self.ready);
         taken
     }
+
+    /// Takes in the pass of a thief, which steals no more: the owner's pass shows what it took.
+    pub fn gather(&mut self, pass: &mut Pass<Owning<T>>, thief: Pass<Stealing<T>>)
+        requires { IsOwner self.old pass.old × IsGuestOf self.old thief }
+        ensures pass { IsOwner self.new pass.new }
+        ensures same { IsSameLane self.old self.new × (next_place self.new ≡ next_place self.old) }
+        ensures gathered { moves_of pass.new ≡ with_gathered (moves_of pass.old) (moves thief) }
+    {
+        let Pass { knows } = thief;
+        let Stealing { seat } = knows;
+        self.ready.absorb::<Gathers>(seat);
+        pass.knows.seen = Snapshot::of(&self.ready);
+    }
+
+    /// How many tickets stand in the lane at one moment of the call.
+    ///
+    /// What the owner pushed is an interleaving of what each caller took, followed by these. Where
+    /// all passes were taken in, the owner's shows what each caller took.
+    pub fn count(&mut self, pass: &mut Pass<Owning<T>>) -> usize
+        requires { IsOwner self.old pass.old }
+        ensures pass { IsOwner self.new pass.new }
+        ensures same { IsSameLane self.old self.new × (next_place self.new ≡ next_place self.old)
+            × (moves_of pass.new ≡ moves_of pass.old) }
+        ensures stands { (items : List T) × (length items ≡ result)
+            × Stands T.task items (moves_of pass.old) }
+        ensures all { AllAreBack (moves_of pass.old) → (items : List T) × (length items ≡ result)
+            × SharedOut T.task (moves_of pass.old).pushed
+            ((moves_of pass.old).taken ∷ (moves_of pass.old).gathered) items }
+    {
+        let count = self.ready.len_as::<Looks>();
+        pass.knows.seen = Snapshot::of(&self.ready);
+        count
+    }
 }
 
 impl<T: Carried> Thief<T> {
-    ghost use Rattle.std.specs.Prelude.{[], ◌∷◌};
-    ghost use Rattle.crossbeam_deque.specs.Handles.{view, worker_view, worker_deque, stealer_deque, IsPassOf};
-    ghost use Rattle.lanes.specs.Interleaving.{StealsSome, ThiefTook};
-    ghost use Rattle.lanes.specs.Passes.{moves, IsGuest, MatchStolen};
+    ghost use Rattle.std.specs.Prelude.{◌⊎◌, ◌<◌, true, [], ◌∷◌};
+    ghost use Rattle.crossbeam_deque.specs.Handles.{view, taken, worker_view, worker_deque, stealer_deque, IsPassOf};
+    ghost use Rattle.lanes.specs.Interleaving.{StealsSome, ThiefTook, ThiefFoundNone};
+    ghost use Rattle.lanes.specs.Passes.{moves, gone, CameTooLate, IsGuest, IsSameLane, IsSameThief, MatchStolen};
 
     /// Takes the ticket at the front of another worker's lane, which its owner has pushed, and
     /// which no other caller takes.
     pub fn steal(&mut self, pass: &mut Pass<Stealing<T>>) -> Stolen<T>
         requires { IsGuest self.old pass.old }
         ensures pass { IsGuest self.new pass.new }
-        ensures moved { MatchStolen result (moves pass.new ≡ moves pass.old)
+        ensures same { IsSameThief self.old self.new }
+        ensures moved { MatchStolen result
+            ((moves pass.new ≡ moves pass.old) × ThiefFoundNone T.task (moves pass.old))
+            ((moves pass.new ≡ moves pass.old)
+            × CameTooLate T.task (moves pass.old) (gone pass.old) (gone pass.new))
             (λ ticket. ThiefTook T.task (moves pass.old) (ticket ∷ []) (moves pass.new)) }
     {
         self.steal_on(&mut pass.knows.seat)
@@ -229,9 +321,13 @@ impl<T: Carried> Thief<T> {
 
     /// The ticket at the front, for a bare seat.
     pub(crate) fn steal_on(&mut self, seat: &mut Seat<T>) -> Stolen<T>
-        requires { IsPassOf (stealer_deque self.old.reach) seat.old }
-        ensures pass { IsPassOf (stealer_deque self.new.reach) seat.new }
-        ensures moved { MatchStolen result (view seat.new ≡ view seat.old)
+        requires { IsPassOf (stealer_deque self.old.reach) seat.old × ((view seat.old).steals ≡ true) }
+        ensures same { IsSameThief self.old self.new }
+        ensures pass { IsPassOf (stealer_deque self.new.reach) seat.new × ((view seat.new).steals ≡ true) }
+        ensures moved { MatchStolen result
+            ((view seat.new ≡ view seat.old) × ThiefFoundNone T.task (view seat.old))
+            ((view seat.new ≡ view seat.old)
+            × CameTooLate T.task (view seat.old) (taken seat.old) (taken seat.new))
             (λ ticket. ThiefTook T.task (view seat.old) (ticket ∷ []) (view seat.new)) }
     {
         match self.reach.steal_as::<Stole>(seat) {
@@ -244,13 +340,14 @@ impl<T: Carried> Thief<T> {
     /// The ticket at the front, for a bare seat. Some of those behind it, seven at most, go into
     /// the thief's own lane, in order.
     pub(crate) fn steal_some(&mut self, seat: &mut Seat<T>, own: &mut Lane<T>) -> Stolen<T>
-        requires { IsPassOf (stealer_deque self.old.reach) seat.old }
-        ensures same { (stealer_deque self.new.reach ≡ stealer_deque self.old.reach)
-            × (worker_deque own.new.ready ≡ worker_deque own.old.ready) }
-        ensures pass { IsPassOf (stealer_deque self.new.reach) seat.new }
+        requires { IsPassOf (stealer_deque self.old.reach) seat.old × ((view seat.old).steals ≡ true) }
+        ensures same { IsSameThief self.old self.new × IsSameLane own.old own.new }
+        ensures pass { IsPassOf (stealer_deque self.new.reach) seat.new × ((view seat.new).steals ≡ true) }
         ensures moved { MatchStolen result
-            ((view seat.new ≡ view seat.old)
-            × (worker_view own.new.ready ≡ worker_view own.old.ready))
+            ((view seat.new ≡ view seat.old) × (worker_view own.new.ready ≡ worker_view own.old.ready)
+            × ThiefFoundNone T.task (view seat.old))
+            ((view seat.new ≡ view seat.old) × (worker_view own.new.ready ≡ worker_view own.old.ready)
+            × CameTooLate T.task (view seat.old) (taken seat.old) (taken seat.new))
             (λ ticket. StealsSome T.task 8 (view seat.old) (worker_view own.old.ready) ticket
             (view seat.new) (worker_view own.new.ready)) }
     {

@@ -1,7 +1,7 @@
 //! The lanes of workers that steal from one another.
 ghost use Rattle.std.specs.Prelude.{◌≡◌, ◌+◌, ◌<◌, ◌≤◌, [], ◌∷◌, All, IfOk, MatchResult, MatchOption, length, vec_len};
-ghost use Rattle.lanes.specs.Interleaving.{newcomer};
-ghost use Rattle.lanes.specs.Sharing.{AreNew, IsAlone, IsIdle, IsTaken, LeadRound, Puts, lanes_of};
+ghost use Rattle.lanes.specs.Interleaving.{new_thief, with_thief, HasNoRoom};
+ghost use Rattle.lanes.specs.Sharing.{AreNew, AreNewTo, IsAlone, IsIdle, IsTaken, IsUnused, LeadRound, Puts, lanes_of};
 
 use crate::ends::Lane;
 use crate::moves::Carried;
@@ -19,7 +19,7 @@ pub struct Lanes<T: Carried> {
 }
 
 impl<T: Carried> Model for Lanes<T> {
-    ghost use Rattle.crossbeam_deque.specs.Handles.{worker_deque, worker_view};
+    ghost use Rattle.crossbeam_deque.specs.Handles.{worker_deque, worker_index, worker_view};
     ghost use Rattle.lanes.specs.Sharing.{Moved};
 
     ghost Value = { Moved };
@@ -28,6 +28,7 @@ impl<T: Carried> Model for Lanes<T> {
       own = record {
         lane = (worker_deque l.own.ready).0;
         moved = worker_view l.own.ready;
+        next = worker_index l.own.ready;
       };
       others = l.ways.items;
     } };
@@ -45,8 +46,16 @@ impl<T: Carried> Lanes<T> {
     }
 
     /// A way into its own lane, for another worker.
-    fn way(&self) -> Result<Way<T>, NoMemory>
-        ensures { IfOk result (λ way. way ≡ record { lane = self.now.own.lane; moved = newcomer }) }
+    fn way(&mut self) -> Result<Way<T>, NoMemory>
+        ensures made { IfOk result (λ _. self.new ≡ record {
+            own = record {
+                lane = self.old.own.lane;
+                moved = with_thief self.old.own.moved;
+                next = self.old.own.next;
+            };
+            others = self.old.others;
+        }) }
+        ensures way { IfOk result (λ way. (way.lane ≡ self.old.own.lane) × (way.moved ≡ new_thief)) }
     {
         let (thief, seat) = self.own.way()?;
         Ok(Way::new(thief, seat))
@@ -63,7 +72,8 @@ impl<T: Carried> Lanes<T> {
     /// room for it.
     pub fn push(&mut self, ticket: T) -> Result<(), T>
         ensures { MatchResult result (λ _. Puts T.task self.old (ticket ∷ []) self.new)
-            (λ back. (back ≡ ticket) × (self.new ≡ self.old)) }
+            (λ back. (back ≡ ticket) × (self.new ≡ self.old)
+            × HasNoRoom T.task self.old.own.next self.old.own.moved) }
     {
         self.own.put(ticket)
     }
@@ -85,18 +95,23 @@ impl<T: Carried> Lanes<T> {
 /// The ways of the worker at this place into the others' lanes, the next worker's first.
 fn ways_of<T: Carried>(
     alloc: Global,
-    all: &[Lanes<T>],
+    all: &mut [Lanes<T>],
     place: usize,
 ) -> Result<Vec<Way<T>>, NoMemory>
-    requires { place < length all.now }
-    ensures count { IfOk result (λ ways. vec_len ways + 1 ≡ length all.now) }
-    ensures new { IfOk result (λ ways. All (λ way. way.moved ≡ newcomer) ways.items) }
-    ensures leads { IfOk result (λ ways. LeadRound (lanes_of all.now) place ways.items) }
+    requires within { place < length all.old }
+    requires unused { All (λ m. IsUnused m.own) all.old }
+    requires made { AreNewTo place all.old }
+    ensures lanes { IfOk result (λ _. lanes_of all.new ≡ lanes_of all.old) }
+    ensures unused { IfOk result (λ _. All (λ m. IsUnused m.own) all.new) }
+    ensures made { IfOk result (λ _. AreNewTo place all.new) }
+    ensures count { IfOk result (λ ways. vec_len ways + 1 ≡ length all.old) }
+    ensures new { IfOk result (λ ways. All (λ way. way.moved ≡ new_thief) ways.items) }
+    ensures leads { IfOk result (λ ways. LeadRound (lanes_of all.old) place ways.items) }
 {
     let mut ways = Vec::with_capacity(alloc, all.len())?;
     for step in 1..all.len() {
-        let other = &all[(place + step) % all.len()];
-        ways.push_reserved(other.way()?);
+        let other = (place + step) % all.len();
+        ways.push_reserved(all[other].way()?);
     }
     Ok(ways)
 }
@@ -113,7 +128,7 @@ pub fn lanes_between<T: Carried>(alloc: Global, workers: u32) -> Result<Vec<Lane
         all.push_reserved(Lanes::alone(alloc)?);
     }
     for place in 0..all.len() {
-        let ways = ways_of(alloc, &all, place)?;
+        let ways = ways_of(alloc, &mut all, place)?;
         all[place].meet(ways);
     }
     Ok(all)
