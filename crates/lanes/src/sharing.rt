@@ -95,18 +95,18 @@ impl<T: Carried> Lanes<T> {
 /// The ways of the worker at this place into the others' lanes, the next worker's first.
 fn ways_of<T: Carried>(
     alloc: Global,
-    all: &mut [Lanes<T>],
+    all: &mut Vec<Lanes<T>>,
     place: usize,
 ) -> Result<Vec<Way<T>>, NoMemory>
-    requires within { place < length all.old }
-    requires unused { All (λ m. IsUnused m.own) all.old }
-    requires made { AreNewTo place all.old }
-    ensures lanes { IfOk result (λ _. lanes_of all.new ≡ lanes_of all.old) }
-    ensures unused { IfOk result (λ _. All (λ m. IsUnused m.own) all.new) }
-    ensures made { IfOk result (λ _. AreNewTo place all.new) }
-    ensures count { IfOk result (λ ways. vec_len ways + 1 ≡ length all.old) }
+    requires within { place < length all.old.items }
+    requires unused { All (λ m. IsUnused m.own) all.old.items }
+    requires made { AreNewTo place all.old.items }
+    ensures lanes { IfOk result (λ _. lanes_of all.new.items ≡ lanes_of all.old.items) }
+    ensures unused { IfOk result (λ _. All (λ m. IsUnused m.own) all.new.items) }
+    ensures made { IfOk result (λ _. AreNewTo place all.new.items) }
+    ensures count { IfOk result (λ ways. vec_len ways + 1 ≡ length all.old.items) }
     ensures new { IfOk result (λ ways. All (λ way. way.moved ≡ new_thief) ways.items) }
-    ensures leads { IfOk result (λ ways. LeadRound (lanes_of all.old) place ways.items) }
+    ensures leads { IfOk result (λ ways. LeadRound (lanes_of all.old.items) place ways.items) }
 {
     let mut ways = Vec::with_capacity(alloc, all.len())?;
     for step in 1..all.len() {

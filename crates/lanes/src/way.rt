@@ -23,7 +23,7 @@ pub(crate) struct Way<T: Carried> {
 }
 
 impl<T: Carried> Model for Way<T> {
-    ghost use Rattle.std.specs.Prelude.{true};
+    ghost use Rattle.std.specs.Prelude.{◌≡◌, true};
     ghost use Rattle.crossbeam_deque.specs.Handles.{stealer_deque, IsPassOf};
     ghost use Rattle.lanes.specs.Passes.{known, known_gone};
     ghost use Rattle.lanes.specs.Sharing.{InOther};
