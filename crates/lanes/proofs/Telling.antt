@@ -1,5 +1,5 @@
 -- What the rule of a lane tells a caller.
-use Rattle.std.proofs.Common.{◌≡◌, ◌≢◌, ◌⊎◌, inl, inr, ℕ, zero, suc, ◌+◌, ◌≤◌, ◌<◌, ◌==◌, if◌then◌else◌, true, false, List, [], ◌∷◌, ◌++◌, All, Some, map, length, set, sym, refl, ap, subst, ◌∙◌, eq-eqb, ne_eqb, length-append, arith}
+use Rattle.std.proofs.Common.{◌≡◌, ◌≢◌, inl, inr, ℕ, suc, ◌+◌, ◌≤◌, ◌<◌, ◌==◌, if◌then◌else◌, true, List, [], ◌∷◌, ◌++◌, All, Some, map, length, set, sym, refl, ap, subst, ◌∙◌, eq-eqb, ne_eqb, arith}
 use Rattle.std.specs.Prelude.{slice_get}
 use Rattle.std.proofs.lemmas.List.{map-append}
 use Rattle.std.proofs.lemmas.List.Elements.{All-cons}
@@ -57,13 +57,16 @@ spot f g k [] same one_of = absurd (let never : ⊥ = omega (arith, one_of) in n
 spot f g k (n ∷ ns) same one_of =
     dite (ℕ_discrete n k)
     (λ e. let is = one_same n k e in let none : times k ns ≡ 0 = omega (arith, one_of, is) in
-        (0, ap (λ (m : ℕ). Some (f m)) e, ap (λ (m : ℕ). g m ∷ map f ns) (sym e) ∙ ap (λ l. g n ∷ l) (map_same f g k ns same none)))
+    (0, ap (λ (m : ℕ). Some (f m)) e, ap (λ (m : ℕ). g m ∷ map f ns) (sym e) ∙ ap (λ l. g n ∷ l) (map_same f g k ns same none)))
     (λ e. let is = one_other n k e in let more : times k ns ≡ 1 = omega (arith, one_of, is) in let h = spot f g k ns same more in
-        (suc h.0, h.1, ap (λ y. y ∷ set (map f ns) h.0 (g k)) (same n e) ∙ ap (λ l. g n ∷ l) h.2))
+    (suc h.0, h.1, ap (λ y. y ∷ set (map f ns) h.0 (g k)) (same n e) ∙ ap (λ l. g n ∷ l) h.2))
 
 all_empty : (names : List ℕ) → All (λ (l : List Task). l ≡ []) (map (λ (c : ℕ). taken_by c []) names)
 all_empty [] = λ k d lt. absurd (let never : ⊥ = omega (arith, lt) in never)
 all_empty (n ∷ ns) = All-cons (λ (l : List Task). l ≡ []) [] (map (λ (c : ℕ). taken_by c []) ns) refl (all_empty ns)
+
+not_both : (t : Task) (ts l : List Task) → l ≡ t ∷ ts → l ≡ [] → ⊥
+not_both t ts l is none = cc
 
 -- what left in one order is an interleaving of what each caller took
 interleaves : (order : List (ℕ × Task)) (names : List ℕ) → ((c : ℕ) → times c names ≤ 1) → ((c : ℕ) → times c names ≡ 0 → taken_by c order ≡ [])
@@ -76,17 +79,16 @@ interleaves (e ∷ es) names apart nobody =
     let first : f e.0 ≡ e.1 ∷ g e.0 = rw (eq-eqb e.0 e.0 refl) refl in
     let most = apart e.0 in
     let here : times e.0 names ≡ 1 = dite (ℕ_discrete (times e.0 names) 0)
-        (λ z. absurd (let no : e.1 ∷ g e.0 ≡ [] = sym first ∙ nobody e.0 z in let never : ⊥ = cc in never))
-        (λ n. omega (arith, most, n)) in
-    let at = spot f g e.0 names same here in
-    (
+    (λ z. absurd (not_both e.1 (g e.0) (f e.0) first (nobody e.0 z)))
+    (λ n. omega (arith, most, n)) in
+    let at = spot f g e.0 names same here in (
       at.0,
       g e.0,
       at.1 ∙ ap Some first,
       subst (λ (l : List (List Task)). IsInterleaving l (map (λ (x : ℕ × Task). x.1) es)) (sym at.2)
           (interleaves es names apart (λ c z. dite (ℕ_discrete c e.0)
-              (λ p. absurd (let zero_here : times e.0 names ≡ 0 = subst (λ (n : ℕ). times n names ≡ 0) p z in let never : ⊥ = omega (arith, zero_here, here) in never))
-              (λ n. sym (same c n) ∙ nobody c z))),
+          (λ p. absurd (let zero_here : times e.0 names ≡ 0 = subst (λ (n : ℕ). times n names ≡ 0) p z in let never : ⊥ = omega (arith, zero_here, here) in never))
+          (λ n. sym (same c n) ∙ nobody c z))),
     )
 
 module _ {X : Type 0} (task : X → Task) where
@@ -99,14 +101,14 @@ module _ {X : Type 0} (task : X → Task) where
       let sums : (c : ℕ) → times c (h.out ++ h.back) ≡ times c h.out + times c h.back = λ c. times-append c h.out h.back in
       let apart : (c : ℕ) → times c (0 ∷ h.out ++ h.back) ≤ 1
       = λ c. let sum = sums c in dite (ℕ_discrete 0 c)
-          (λ z. let is = one_same 0 c z in let none : times c h.out + times c h.back ≡ 0 = subst (λ (n : ℕ). times n h.out + times n h.back ≡ 0) z owns in omega (arith, is, none, sum))
-          (λ n. let is = one_other 0 c n in dite (dec_lt c (length views))
-              (λ lt. let one_of = h.once c (omega (arith, n)) lt in omega (arith, is, one_of, sum))
-              (λ ge. let none = h.none_beyond c (omega (arith, ge)) in omega (arith, is, none, sum))) in
+      (λ z. let is = one_same 0 c z in let none : times c h.out + times c h.back ≡ 0 = subst (λ (n : ℕ). times n h.out + times n h.back ≡ 0) z owns in omega (arith, is, none, sum))
+      (λ n. let is = one_other 0 c n in dite (dec_lt c (length views))
+      (λ lt. let one_of = h.once c (omega (arith, n)) lt in omega (arith, is, one_of, sum))
+      (λ ge. let none = h.none_beyond c (omega (arith, ge)) in omega (arith, is, none, sum))) in
       let nobody : (c : ℕ) → times c (0 ∷ h.out ++ h.back) ≡ 0 → taken_by c h.order ≡ []
       = λ c z. let sum = sums c in dite (ℕ_discrete 0 c)
-          (λ p. let is = one_same 0 c p in absurd (let never : ⊥ = omega (arith, is, z) in never))
-          (λ n. h.nobody_else c (omega (arith, n)) (omega (arith, z, sum))) in
+      (λ p. let is = one_same 0 c p in absurd (let never : ⊥ = omega (arith, is, z) in never))
+      (λ n. h.nobody_else c (omega (arith, n)) (omega (arith, z, sum))) in
       let lists : map f (0 ∷ h.out ++ h.back) ≡ v.taken ∷ map f h.out ++ v.gathered
       = ap (λ l. taken_by 0 h.order ∷ l) (map-append f h.out h.back ∙ ap (λ l. map f h.out ++ l) (sym (ap (λ (m : Moves). m.gathered) mine ∙ h.gathered)))
       ∙ ap (λ l. l ∷ map f h.out ++ v.gathered) (sym (ap (λ (m : Moves). m.taken) mine ∙ h.own)) in

@@ -1,5 +1,5 @@
 -- A worker tries the ways into the others' lanes one after the other.
-use Rattle.std.proofs.Common.{◌≡◌, ℕ, zero, suc, ◌+◌, ◌<◌, List, [], ◌∷◌, length, get_or, set, refl, sym, ap, subst, arith}
+use Rattle.std.proofs.Common.{◌≡◌, ℕ, zero, suc, ◌+◌, ◌<◌, List, [], ◌∷◌, length, get_or, set, subst, arith}
 use Rattle.lanes.specs.declared.moves.Task.{Task}
 use Rattle.lanes.specs.Sharing.{InOther, GaveNone, FirstGaveNone}
 

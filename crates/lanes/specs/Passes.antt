@@ -1,5 +1,5 @@
 -- What a pass of a lane or of a thief shows.
-use Rattle.std.specs.Prelude.{◌≡◌, ◌⊎◌, true, ℕ, ◌+◌, ◌<◌, ◌≤◌}
+use Rattle.std.specs.Prelude.{◌≡◌, ◌⊎◌, true, ℕ, ◌<◌}
 use Rattle.crossbeam_deque.specs.Handles.{view, taken, worker_view, worker_deque, worker_index, IsPassOf, stealer_deque, Pass as Seat}
 use Rattle.lanes.specs.declared.moves.Moves.{Moves}
 use Rattle.lanes.specs.declared.moves.Task.{Task}

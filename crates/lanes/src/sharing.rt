@@ -48,12 +48,12 @@ impl<T: Carried> Lanes<T> {
     /// A way into its own lane, for another worker.
     fn way(&mut self) -> Result<Way<T>, NoMemory>
         ensures made { IfOk result (λ _. self.new ≡ record {
-            own = record {
-                lane = self.old.own.lane;
-                moved = with_thief self.old.own.moved;
-                next = self.old.own.next;
-            };
-            others = self.old.others;
+          own = record {
+            lane = self.old.own.lane;
+            moved = with_thief self.old.own.moved;
+            next = self.old.own.next;
+          };
+          others = self.old.others;
         }) }
         ensures way { IfOk result (λ way. (way.lane ≡ self.old.own.lane) × (way.moved ≡ new_thief)) }
     {

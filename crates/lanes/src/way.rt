@@ -49,9 +49,9 @@ impl<T: Carried> Way<T> {
     pub fn new(thief: Thief<T>, seat: Seat<T>) -> Way<T>
         requires { IsPassOf (stealer_deque thief.reach) seat × ((known seat).steals ≡ true) }
         ensures { result ≡ record {
-            lane = (stealer_deque thief.reach).0;
-            moved = known seat;
-            gone = known_gone seat;
+          lane = (stealer_deque thief.reach).0;
+          moved = known seat;
+          gone = known_gone seat;
         } }
     {
         Way { thief, seat }
