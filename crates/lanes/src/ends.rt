@@ -150,7 +150,7 @@ pub enum Stolen<T> {
 }
 
 impl<T: Carried> Lane<T> {
-    ghost use Rattle.std.specs.Prelude.{MatchResult, MatchOption, [], ◌∷◌, ◌+◌, List, length, IfOk};
+    ghost use Rattle.std.specs.Prelude.{MatchResult, MatchOption, [], ◌∷◌, ◌++◌, ◌+◌, All, List, length, map, vec_len, IfOk};
     ghost use Rattle.crossbeam_deque.specs.Handles.{worker_view, worker_deque, worker_index, view, stealer_deque, IsPassOf};
     ghost use Rattle.lanes.specs.Interleaving.{newcomer, new_thief, with_thief, with_gathered, AllAreBack, FoundNone, HasNoRoom, OwnerPut, OwnerTook, SharedOut, Stands};
     ghost use Rattle.lanes.specs.Passes.{moves, moves_of, next_place, IsOwner, IsGuestOf, IsThiefOf, IsNewThief, IsSameLane};
@@ -295,6 +295,27 @@ impl<T: Carried> Lane<T> {
         let count = self.ready.len_as::<Looks>();
         pass.knows.seen = Snapshot::of(&self.ready);
         count
+    }
+
+    /// Takes in the passes of all thieves, and tells how many tickets still stand in the lane at one
+    /// moment after that: what the owner pushed is an interleaving of what each caller took,
+    /// followed by these.
+    pub fn settle(&mut self, pass: &mut Pass<Owning<T>>, thieves: Vec<Pass<Stealing<T>>>) -> usize
+        requires owner { IsOwner self.old pass.old }
+        requires thieves { All (λ p. IsGuestOf self.old p) thieves.items }
+        requires all { vec_len thieves + length (moves_of pass.old).gathered
+            ≡ (moves_of pass.old).thieves }
+        ensures pass { IsOwner self.new pass.new }
+        ensures same { IsSameLane self.old self.new × (next_place self.new ≡ next_place self.old) }
+        ensures shared { (items : List T) × (length items ≡ result)
+            × SharedOut T.task (moves_of pass.old).pushed ((moves_of pass.old).taken
+            ∷ map (λ p. (moves p).taken) thieves.items ++ (moves_of pass.old).gathered) items }
+    {
+        let mut thieves = thieves;
+        while let Some(thief) = thieves.pop() {
+            self.gather(pass, thief);
+        }
+        self.count(pass)
     }
 }
 
