@@ -26,7 +26,7 @@ times-append : (n : ℕ) (xs ys : List ℕ) → times n (xs ++ ys) ≡ times n x
 times-append n [] ys = omega arith
 times-append n (x ∷ xs) ys = let h = times-append n xs ys in omega (arith, h)
 
-times_few : (n : ℕ) (xs : List ℕ) → times n xs ≤ length xs
+pub times_few : (n : ℕ) (xs : List ℕ) → times n xs ≤ length xs
 times_few n [] = omega arith
 times_few n (x ∷ xs) = let h = times_few n xs in
     dite (ℕ_discrete x n) (λ e. let is = one_same x n e in omega (arith, h, is)) (λ e. let is = one_other x n e in omega (arith, h, is))

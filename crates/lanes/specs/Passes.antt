@@ -54,9 +54,14 @@ module _ {X : Type 0} where
   abbrev pub IsThiefOf : Lane X → Thief X → Type 0
   IsThiefOf lane thief = stealer_deque thief.reach ≡ worker_deque lane.ready
 
+  -- the lane's name, which its passes know
+  abbrev pub name_of : Lane X → ℕ
+  name_of lane = (worker_view lane.ready).lane
+
   -- a thief of the lane and its pass, which has moved nothing
   abbrev pub IsNewThief : Lane X → Thief X → Pass (Stealing X) → Type 0
-  IsNewThief lane thief p = IsThiefOf lane thief × IsGuest thief p × (moves p ≡ new_thief)
+  IsNewThief lane thief p =
+      IsThiefOf lane thief × IsGuest thief p × (moves p ≡ new_thief (name_of lane))
 
   -- the same lane, after a call
   abbrev pub IsSameLane : Lane X → Lane X → Type 0

@@ -1,5 +1,6 @@
 -- The rule of a lane, over the tickets in it, first one first, and over what each caller has moved.
--- A caller is known by the number of its pass, and the owner's number is 0.
+-- A caller is known by the number of its pass, and the owner's number is 0. All callers know the
+-- lane by one name.
 use Rattle.std.specs.Prelude.{◌≡◌, true, ℕ, ◌+◌, ◌<◌, ◌≤◌, ◌==◌, if◌then◌else◌, List, [], ◌∷◌, ◌++◌, map, length}
 use mathlib.Core.Option.{some}
 use lib.ListN.{get_elem?}
@@ -32,7 +33,7 @@ module _ {X : Type 0} (task : X → Task) where
     pub count : length out + length back ≡ owner.thieves
     pub gathered : owner.gathered ≡ map (λ caller. taken_by caller order) back
     pub seats : (caller : ℕ) (v : Moves) → get_elem? views caller ≡ some v → v.steals ≡ true
-        → (0 < times caller out) × (v.taken ≡ taken_by caller order)
+        → (0 < times caller out) × (v.taken ≡ taken_by caller order) × (v.lane ≡ owner.lane)
     pub owns : times 0 out + times 0 back ≡ 0
     pub once : (caller : ℕ) → 0 < caller → caller < length views
         → times caller out + times caller back ≡ 1

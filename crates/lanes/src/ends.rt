@@ -1,5 +1,5 @@
 //! A deque of ready tickets: its owner pushes and takes, and thieves steal, first in first out.
-ghost use Rattle.std.specs.Prelude.{◌≡◌, ◌≤◌};
+ghost use Rattle.std.specs.Prelude.{◌≡◌, ◌≤◌, ℕ};
 ghost use Rattle.crossbeam_deque.specs.Handles.{worker_port, worker_flavor, worker_capacity, stealer_flavor};
 
 use crate::moves::{Carried, Moves};
@@ -7,7 +7,7 @@ use crossbeam_deque::protocol::{Join, Lesson, Outcome, Protocol, Split};
 use crossbeam_deque::{Steal, Stealer, Worker};
 use refusal::NoMemory;
 use std::alloc::Global;
-use std::marker::PhantomData;
+use std::marker::{Brand, PhantomData};
 use std::snapshot::Snapshot;
 
 /// Every ticket that is pushed leaves once, in the order of pushing.
@@ -65,9 +65,31 @@ struct Hires;
 impl Split<Moves> for Hires {
     ghost use Rattle.lanes.specs.Interleaving.{with_thief, new_thief};
 
-    ghost left = { with_thief };
+    ghost left = { λ m. with_thief m.lane m };
 
-    ghost right = { λ _. new_thief };
+    ghost right = { λ m. new_thief m.lane };
+}
+
+/// A name that a call picks for a lane.
+pub(crate) trait Name {
+    ghost lane: { ℕ };
+}
+
+impl Name for Brand {
+    ghost lane = { 0 };
+}
+
+/// The owner gives its lane a name, and makes a pass for a thief that knows it.
+struct Names<N: Name> {
+    of: PhantomData<N>,
+}
+
+impl<N: Name> Split<Moves> for Names<N> {
+    ghost use Rattle.lanes.specs.Interleaving.{with_thief, new_thief};
+
+    ghost left = { with_thief N.lane };
+
+    ghost right = { λ _. new_thief N.lane };
 }
 
 /// The owner takes in the pass of a thief, with which nobody steals any more.
@@ -152,8 +174,8 @@ pub enum Stolen<T> {
 impl<T: Carried> Lane<T> {
     ghost use Rattle.std.specs.Prelude.{MatchResult, MatchOption, [], ◌∷◌, ◌++◌, ◌+◌, All, List, length, map, vec_len, IfOk};
     ghost use Rattle.crossbeam_deque.specs.Handles.{worker_view, worker_deque, worker_index, view, stealer_deque, IsPassOf};
-    ghost use Rattle.lanes.specs.Interleaving.{newcomer, new_thief, with_thief, with_gathered, AllAreBack, FoundNone, HasNoRoom, OwnerPut, OwnerTook, SharedOut, Stands};
-    ghost use Rattle.lanes.specs.Passes.{moves, moves_of, next_place, IsOwner, IsGuestOf, IsThiefOf, IsNewThief, IsSameLane};
+    ghost use Rattle.lanes.specs.Interleaving.{newcomer, new_thief, named, with_thief, with_gathered, AllAreBack, FoundNone, HasNoRoom, OwnerPut, OwnerTook, SharedOut, Stands};
+    ghost use Rattle.lanes.specs.Passes.{moves, moves_of, name_of, next_place, IsOwner, IsGuestOf, IsThiefOf, IsNewThief, IsSameLane};
 
     /// A lane with no ticket.
     pub(crate) fn empty(alloc: Global) -> Result<Lane<T>, NoMemory>
@@ -162,6 +184,18 @@ impl<T: Carried> Lane<T> {
         Ok(Lane {
             ready: Ready::<T>::fifo_as(alloc, FIRST_ROOM)?,
         })
+    }
+
+    /// Gives a new lane this name: with a pass for a thief, which comes back at once.
+    pub(crate) fn give_name<N: Name>(&mut self, _name: u32)
+        requires new { worker_view self.old.ready ≡ newcomer }
+        requires name { _name ≡ N.lane }
+        ensures same { IsSameLane self.old self.new
+            × (worker_index self.new.ready ≡ worker_index self.old.ready) }
+        ensures named { worker_view self.new.ready ≡ named _name }
+    {
+        let seat = self.ready.another::<Names<N>>();
+        self.ready.absorb::<Gathers>(seat);
     }
 
     /// The pass of its owner.
@@ -178,9 +212,9 @@ impl<T: Carried> Lane<T> {
     pub(crate) fn way(&mut self) -> Result<(Thief<T>, Seat<T>), NoMemory>
         ensures same { IfOk result (λ _. IsSameLane self.old self.new
             × (worker_index self.new.ready ≡ worker_index self.old.ready)) }
-        ensures made { IfOk result (λ g. worker_view self.new.ready ≡ with_thief (worker_view self.old.ready)) }
+        ensures made { IfOk result (λ g. worker_view self.new.ready ≡ with_thief (name_of self.old) (worker_view self.old.ready)) }
         ensures thief { IfOk result (λ g. IsThiefOf self.old g.0
-            × IsPassOf (stealer_deque g.0.reach) g.1 × (view g.1 ≡ new_thief)) }
+            × IsPassOf (stealer_deque g.0.reach) g.1 × (view g.1 ≡ new_thief (name_of self.old))) }
     {
         let reach = self.ready.stealer()?;
         let seat = self.ready.another::<Hires>();
@@ -191,7 +225,7 @@ impl<T: Carried> Lane<T> {
     pub(crate) fn thief(&mut self) -> Result<(Thief<T>, Pass<Stealing<T>>), NoMemory>
         ensures same { IfOk result (λ _. IsSameLane self.old self.new
             × (worker_index self.new.ready ≡ worker_index self.old.ready)) }
-        ensures made { IfOk result (λ g. worker_view self.new.ready ≡ with_thief (worker_view self.old.ready)) }
+        ensures made { IfOk result (λ g. worker_view self.new.ready ≡ with_thief (name_of self.old) (worker_view self.old.ready)) }
         ensures thief { IfOk result (λ g. IsNewThief self.old g.0 g.1) }
     {
         let (thief, seat) = self.way()?;

@@ -15,7 +15,7 @@ pub fn lane<T: Carried>(
     thieves: u32,
 ) -> Result<(Lane<T>, Pass<Owning<T>>, Vec<(Thief<T>, Pass<Stealing<T>>)>), NoMemory>
     requires { thieves ≤ 15 }
-    ensures owner { IfOk result (λ r. IsOwner r.0 r.1 × (moves_of r.1 ≡ with_thieves thieves)) }
+    ensures owner { IfOk result (λ r. IsOwner r.0 r.1 × (moves_of r.1 ≡ with_thieves 0 thieves)) }
     ensures place { IfOk result (λ r. next_place r.0 ≡ 0) }
     ensures count { IfOk result (λ r. vec_len r.2 ≡ thieves) }
     ensures thieves { IfOk result (λ r. All (λ g. IsNewThief r.0 g.0 g.1) r.2.items) }

@@ -31,7 +31,7 @@ impl<T: Carried> Model for Way<T> {
     ghost Value = { InOther };
 
     ghost view = { λ w. record {
-      lane = (stealer_deque w.thief.reach).0;
+      lane = record { name = (known w.seat).lane; deque = (stealer_deque w.thief.reach).0 };
       moved = known w.seat;
       gone = known_gone w.seat;
     } };
@@ -49,7 +49,7 @@ impl<T: Carried> Way<T> {
     pub fn new(thief: Thief<T>, seat: Seat<T>) -> Way<T>
         requires { IsPassOf (stealer_deque thief.reach) seat × ((known seat).steals ≡ true) }
         ensures { result ≡ record {
-          lane = (stealer_deque thief.reach).0;
+          lane = record { name = (known seat).lane; deque = (stealer_deque thief.reach).0 };
           moved = known seat;
           gone = known_gone seat;
         } }

@@ -1,8 +1,8 @@
 use Rattle.std.proofs.Common.{rules, ◌≡◌, ◌<◌, ◌≤◌, ◌+◌, ◌∙◌, List, ap, sym, subst, arith, length, get_or}
 use Rattle.std.proofs.lemmas.List.Elements.{All-set, All-get_or, All-push}
 use Rattle.std.proofs.lemmas.Option.{slice_get_within}
-use Rattle.lanes.specs.Sharing.{LaneId, Moved, LeadRound, IsAlone, IsNew, IsUnused, lanes_of}
-use Rattle.lanes.proofs.Rounds.{more_new, lanes_long}
+use Rattle.lanes.specs.Sharing.{AreNamed, LaneId, Moved, LeadRound, IsAlone, IsNew, IsUnused, lanes_of}
+use Rattle.lanes.proofs.Rounds.{more_new, lanes_kept, lanes_long, named_apart, one_named}
 use Rattle.lanes.proofs.sharing.lanes_between.Goals as goal
 
 pub loop-place-preserved : goal.loop-place-preserved
@@ -34,6 +34,7 @@ loop-place-preserved g c =
       count = search rules;
       unused = All-set (λ (m : Moved). IsUnused m.own) all place new own c.in_ok-ways.ensures.unused;
       ways = more_new all place new old within (ap (λ (m : Moved). m.own.lane) given ∙ ap (λ (m : Moved). m.own.lane) there) here c.in_ok-ways.ensures.made;
+      named = subst (λ (ls : List LaneId). AreNamed ls) (sym (lanes_kept all place new old within (ap (λ (m : Moved). m.own.lane) given ∙ ap (λ (m : Moved). m.own.lane) there) ∙ lanes)) inv.named;
     }
 
 pub returns-clause-new : goal.returns-clause-new
@@ -43,9 +44,13 @@ returns-clause-new g c = λ place m is.
     let end : length all ≤ c.loop-place.place = search rules in
     c.loop-place.invariant.ways place m is (omega (arith, within, end))
 
-pub loop-preserved : goal.loop-preserved
-loop-preserved g c = (
-  search rules,
-  search rules,
-  rw c.push_reserved.ensures.items (All-push IsAlone c.loop.all.items c.in_ok-alone.field-0 c.loop.invariant.2 c.in_ok-alone.ensures),
-)
+pub returns-clause-apart : goal.returns-clause-apart
+returns-clause-apart g c = named_apart (lanes_of c.loop-place.all.items) c.loop-place.invariant.named
+
+pub loop-name-preserved : goal.loop-name-preserved
+loop-name-preserved g c = record {
+  count = search rules;
+  room = search rules;
+  alone = rw c.push_reserved.ensures.items (All-push IsAlone c.loop-name.all.items c.in_ok-alone.field-0 c.loop-name.invariant.alone c.in_ok-alone.ensures.0);
+  named = rw c.push_reserved.ensures.items (one_named c.loop-name.all.items c.in_ok-alone.field-0 c.loop-name.invariant.named (search rules));
+}

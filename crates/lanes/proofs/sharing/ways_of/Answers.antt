@@ -33,7 +33,8 @@ loop-step-preserved g c =
       unused = All-set (λ (m : Moved). IsUnused m.own) all i new (subst (λ (m : Moved). IsUnused m.own) (sym made) (hired_unused old unused)) inv.unused;
       made = subst (λ (m : Moved). AreNewTo c.args.place (set all i m)) (sym made) (still_new all i c.args.place old within there inv.made);
       new = rw c.push_reserved.ensures.items
-          (All-push (λ (w : InOther). w.moved ≡ new_thief) c.loop-step.ways.items way inv.new c.in_ok-way.ensures.way.1);
+          (All-push (λ (w : InOther). w.moved ≡ new_thief w.lane.name) c.loop-step.ways.items way inv.new
+          (c.in_ok-way.ensures.way.1 ∙ ap (λ (l : LaneId). new_thief l.name) (sym c.in_ok-way.ensures.way.0)));
       leads = subst (λ (ls : List LaneId). LeadRound ls c.args.place c.push_reserved.new.self.items) (sym kept)
           (subst (λ (l : List InOther). LeadRound (lanes_of all) c.args.place l) (sym c.push_reserved.ensures.items)
           (one_way (lanes_of all) c.args.place c.loop-step.ways.items way c.loop-step.step long inv.leads leads));
