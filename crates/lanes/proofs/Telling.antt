@@ -11,6 +11,7 @@ use Rattle.crossbeam_deque.specs.Tasks.{Finds, FindsFew, Blocks, Learns}
 use Rattle.lanes.specs.declared.moves.Task.{Task}
 use Rattle.lanes.specs.declared.moves.Moves.{Moves}
 use Rattle.lanes.specs.Interleaving.{IsInterleaving, Stands, FoundNone, ThiefFoundNone, IsFull}
+use Rattle.lanes.specs.Laws.{KnowItsName}
 use Rattle.lanes.specs.Rule.{Interleaved, taken_by, times}
 
 abbrev pub one : ℕ → ℕ → ℕ
@@ -160,9 +161,9 @@ module _ {X : Type 0} (task : X → Task) where
   pub thief_finds_none : (caller : ℕ) (v : Moves) → v.steals ≡ true → FindsFew (Interleaved task) 0 caller v (ThiefFoundNone task v)
   thief_finds_none caller v may items views few h at = found_there caller v views may (subst (λ (l : List X). Interleaved task l views) (empty_of items few) h) at
 
-  pub is_full : (capacity : ℕ) (v : Moves) → 16 ≤ capacity → Blocks (Interleaved task) capacity 0 v (IsFull task v)
-  is_full capacity v room items views why h at = elim why [
-    | inl many ↦ inl (record { items = items; many = omega (arith, room, many); stands = stands_of items views v h at })
+  pub is_full : (capacity : ℕ) (v : Moves) → Blocks (Interleaved task) capacity 0 v (IsFull task capacity v)
+  is_full capacity v items views why h at = elim why [
+    | inl many ↦ inl (record { items = items; many = many; stands = stands_of items views v h at })
     | inr other ↦
         let mine : v ≡ h.owner = some-injective v h.owner (sym at ∙ h.owner_is) in
         let thieves : v.thieves ≡ h.owner.thieves = ap (λ (m : Moves). m.thieves) mine in
@@ -173,3 +174,13 @@ module _ {X : Type 0} (task : X → Task) where
         let count = h.count in
         inr (omega (arith, thieves, one_of, outs, backs, count))
   ]
+
+  -- the owner's name of the lane is everybody's
+  pub its_name : (items : List X) (views : List Moves) → Interleaved task items views → (name : ℕ) × KnowItsName name views
+  its_name items views h = (
+    h.owner.lane,
+    λ caller v at who. elim who [
+      | inl is ↦ ap (λ (m : Moves). m.lane) (some-injective v h.owner (sym (subst (λ (n : ℕ). get_elem? views n ≡ some v) is at) ∙ h.owner_is))
+      | inr may ↦ (h.seats caller v at may).2
+    ],
+  )

@@ -26,15 +26,26 @@ impl<T: Carried> Protocol<T, Moves> for InOrder<T> {
     ghost guest = { newcomer };
 }
 
-/// What a push tells its lane's owner: also that the lane was full, where it was.
-struct Put;
+/// How many slots a lane has, as a call picks it.
+trait Slots {
+    ghost slots: { ℕ };
+}
 
-impl<T: Carried> Outcome<T, Moves> for Put {
+impl Slots for Brand {
+    ghost slots = { 0 };
+}
+
+/// What a push tells its lane's owner: also that the lane was full, where it was.
+struct Put<S: Slots> {
+    of: PhantomData<S>,
+}
+
+impl<T: Carried, S: Slots> Outcome<T, Moves> for Put<S> {
     ghost use Rattle.lanes.specs.Interleaving.{OwnerPut, IsFull};
 
     ghost then = { OwnerPut T.task };
 
-    ghost full = { IsFull T.task };
+    ghost full = { IsFull T.task S.slots };
 }
 
 /// What a pop tells its lane's owner: also that there was none, where there was none.
@@ -173,7 +184,7 @@ pub enum Stolen<T> {
 
 impl<T: Carried> Lane<T> {
     ghost use Rattle.std.specs.Prelude.{MatchResult, MatchOption, [], ◌∷◌, ◌++◌, ◌+◌, All, List, length, map, vec_len, IfOk};
-    ghost use Rattle.crossbeam_deque.specs.Handles.{worker_view, worker_deque, worker_index, view, stealer_deque, IsPassOf};
+    ghost use Rattle.crossbeam_deque.specs.Handles.{worker_view, worker_deque, worker_index, worker_capacity, view, stealer_deque, IsPassOf};
     ghost use Rattle.lanes.specs.Interleaving.{newcomer, new_thief, named, with_thief, with_gathered, AllAreBack, FoundNone, HasNoRoom, OwnerPut, OwnerTook, SharedOut, Stands};
     ghost use Rattle.lanes.specs.Passes.{moves, moves_of, name_of, next_place, IsOwner, IsGuestOf, IsThiefOf, IsNewThief, IsSameLane};
 
@@ -246,7 +257,22 @@ impl<T: Carried> Lane<T> {
             (λ _. worker_index self.new.ready ≡ worker_index self.old.ready + 1)
             (λ _. worker_index self.new.ready ≡ worker_index self.old.ready) }
     {
-        self.ready.push_as::<Put>(ticket)
+        self.put_within::<Brand>(ticket)
+    }
+
+    /// The same, where it is picked how many slots the lane has.
+    fn put_within<S: Slots>(&mut self, ticket: T) -> Result<(), T>
+        requires { S.slots ≡ worker_capacity self.old.ready }
+        ensures same { IsSameLane self.old self.new }
+        ensures moved { MatchResult result
+            (λ _. OwnerPut T.task (worker_view self.old.ready) (ticket ∷ []) (worker_view self.new.ready))
+            (λ back. (back ≡ ticket) × (worker_view self.new.ready ≡ worker_view self.old.ready)
+            × HasNoRoom T.task (worker_index self.old.ready) (worker_view self.old.ready)) }
+        ensures place { MatchResult result
+            (λ _. worker_index self.new.ready ≡ worker_index self.old.ready + 1)
+            (λ _. worker_index self.new.ready ≡ worker_index self.old.ready) }
+    {
+        self.ready.push_as::<Put<S>>(ticket)
     }
 
     /// The ticket at the front. `None`: there was none at one moment of the call.
@@ -408,7 +434,7 @@ impl<T: Carried> Thief<T> {
     {
         match self
             .reach
-            .steal_batch_and_pop_as::<Global, Moves, InOrder<T>, Stole, Put>(
+            .steal_batch_and_pop_as::<Global, Moves, InOrder<T>, Stole, Put<Brand>>(
                 seat,
                 &mut own.ready,
                 MOST_AT_ONCE,
