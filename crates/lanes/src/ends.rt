@@ -1,58 +1,14 @@
 //! A deque of ready tickets: its owner pushes and takes, and thieves steal, first in first out.
-ghost use Rattle.std.specs.Prelude.{◌≡◌};
-ghost use Rattle.crossbeam_deque.specs.Handles.{worker_port, worker_flavor, stealer_flavor};
+ghost use Rattle.std.specs.Prelude.{◌≡◌, ◌≤◌};
+ghost use Rattle.crossbeam_deque.specs.Handles.{worker_port, worker_flavor, worker_capacity, stealer_flavor};
 
 use crate::moves::{Carried, Moves};
-use crossbeam_deque::protocol::{Outcome, Protocol};
+use crate::protocol::{Gathers, Hires, InOrder, Looks, Name, Names, Put, Slots, Stole, Took};
 use crossbeam_deque::{Steal, Stealer, Worker};
 use refusal::NoMemory;
 use std::alloc::Global;
-use std::marker::PhantomData;
+use std::marker::Brand;
 use std::snapshot::Snapshot;
-
-/// Every ticket that is pushed leaves once, in the order of pushing.
-pub struct InOrder<T: Carried> {
-    of: PhantomData<T>,
-}
-
-impl<T: Carried> Protocol<T, Moves> for InOrder<T> {
-    ghost use Rattle.lanes.specs.Interleaving.{Interleaved, newcomer};
-
-    ghost holds = { Interleaved T.task };
-
-    ghost first = { newcomer };
-
-    ghost guest = { newcomer };
-}
-
-/// What a push tells its lane's owner.
-struct Put;
-
-impl<T: Carried> Outcome<T, Moves> for Put {
-    ghost use Rattle.lanes.specs.Interleaving.{OwnerPut};
-
-    ghost then = { OwnerPut T.task };
-}
-
-/// What a pop tells its lane's owner: also that there was none, where there was none.
-struct Took;
-
-impl<T: Carried> Outcome<T, Moves> for Took {
-    ghost use Rattle.lanes.specs.Interleaving.{OwnerTook, FoundNone};
-
-    ghost then = { OwnerTook T.task };
-
-    ghost empty = { FoundNone T.task 0 };
-}
-
-/// What a steal tells its thief.
-struct Stole;
-
-impl<T: Carried> Outcome<T, Moves> for Stole {
-    ghost use Rattle.lanes.specs.Interleaving.{ThiefTook};
-
-    ghost then = { ThiefTook T.task };
-}
 
 type Ready<T> = Worker<T, Global, Moves, InOrder<T>>;
 
@@ -73,6 +29,7 @@ pub struct Lane<T: Carried> {
     ready: Ready<T>,
     ghost owner: { worker_port ready ≡ 0 },
     ghost fifo: { worker_flavor ready ≡ 0 },
+    ghost room: { 16 ≤ worker_capacity ready },
 }
 
 /// A thief's end.
@@ -106,24 +63,37 @@ pub struct Stealing<T: Carried> {
 #[derive(Drop)]
 pub enum Stolen<T> {
     Got(T),
+    /// The lane had no ticket.
     Empty,
     /// Another caller came first. Try again.
     Retry,
 }
 
 impl<T: Carried> Lane<T> {
-    ghost use Rattle.std.specs.Prelude.{MatchResult, MatchOption, [], ◌∷◌, IfOk};
-    ghost use Rattle.crossbeam_deque.specs.Handles.{worker_view, worker_deque, view, stealer_deque, IsPassOf};
-    ghost use Rattle.lanes.specs.Interleaving.{newcomer, FoundNone, OwnerPut, OwnerTook};
-    ghost use Rattle.lanes.specs.Passes.{moves_of, IsOwner, IsThiefOf, IsNewThief};
+    ghost use Rattle.std.specs.Prelude.{MatchResult, MatchOption, [], ◌∷◌, ◌++◌, ◌+◌, All, List, length, map, vec_len, IfOk};
+    ghost use Rattle.crossbeam_deque.specs.Handles.{worker_view, worker_deque, worker_index, worker_capacity, view, stealer_deque, IsPassOf};
+    ghost use Rattle.lanes.specs.Interleaving.{newcomer, new_thief, named, with_thief, with_gathered, AllAreBack, FoundNone, HasNoRoom, OwnerPut, OwnerTook, SharedOut, Stands};
+    ghost use Rattle.lanes.specs.Passes.{moves, moves_of, name_of, next_place, IsOwner, IsGuestOf, IsThiefOf, IsNewThief, IsSameLane};
 
     /// A lane with no ticket.
     pub(crate) fn empty(alloc: Global) -> Result<Lane<T>, NoMemory>
-        ensures { IfOk result (λ lane. worker_view lane.ready ≡ newcomer) }
+        ensures { IfOk result (λ lane. (worker_view lane.ready ≡ newcomer) × (worker_index lane.ready ≡ 0)) }
     {
         Ok(Lane {
             ready: Ready::<T>::fifo_as(alloc, FIRST_ROOM)?,
         })
+    }
+
+    /// Gives a new lane this name: with a pass for a thief, which comes back at once.
+    pub(crate) fn give_name<N: Name>(&mut self, _name: u32)
+        requires new { worker_view self.old.ready ≡ newcomer }
+        requires name { _name ≡ N.lane }
+        ensures same { IsSameLane self.old self.new
+            × (worker_index self.new.ready ≡ worker_index self.old.ready) }
+        ensures named { worker_view self.new.ready ≡ named _name }
+    {
+        let seat = self.ready.another::<Names<N>>();
+        self.ready.absorb::<Gathers>(seat);
     }
 
     /// The pass of its owner.
@@ -137,18 +107,24 @@ impl<T: Carried> Lane<T> {
     }
 
     /// A thief of this lane, and a bare seat of its own.
-    pub(crate) fn way(&self) -> Result<(Thief<T>, Seat<T>), NoMemory>
-        ensures { IfOk result (λ g. IsThiefOf self.now g.0 × IsPassOf (stealer_deque g.0.reach) g.1
-            × (view g.1 ≡ newcomer)) }
+    pub(crate) fn way(&mut self) -> Result<(Thief<T>, Seat<T>), NoMemory>
+        ensures same { IfOk result (λ _. IsSameLane self.old self.new
+            × (worker_index self.new.ready ≡ worker_index self.old.ready)) }
+        ensures made { IfOk result (λ g. worker_view self.new.ready ≡ with_thief (name_of self.old) (worker_view self.old.ready)) }
+        ensures thief { IfOk result (λ g. IsThiefOf self.old g.0
+            × IsPassOf (stealer_deque g.0.reach) g.1 × (view g.1 ≡ new_thief (name_of self.old))) }
     {
         let reach = self.ready.stealer()?;
-        let seat = reach.pass();
+        let seat = self.ready.another::<Hires>();
         Ok((Thief { reach }, seat))
     }
 
     /// A thief of this lane, and its pass.
-    pub(crate) fn thief(&self) -> Result<(Thief<T>, Pass<Stealing<T>>), NoMemory>
-        ensures { IfOk result (λ g. IsNewThief self.now g.0 g.1) }
+    pub(crate) fn thief(&mut self) -> Result<(Thief<T>, Pass<Stealing<T>>), NoMemory>
+        ensures same { IfOk result (λ _. IsSameLane self.old self.new
+            × (worker_index self.new.ready ≡ worker_index self.old.ready)) }
+        ensures made { IfOk result (λ g. worker_view self.new.ready ≡ with_thief (name_of self.old) (worker_view self.old.ready)) }
+        ensures thief { IfOk result (λ g. IsNewThief self.old g.0 g.1) }
     {
         let (thief, seat) = self.way()?;
         let pass = Pass {
@@ -159,22 +135,42 @@ impl<T: Carried> Lane<T> {
 
     /// Puts a ticket at the back, or gives it back where there is no room for it.
     pub(crate) fn put(&mut self, ticket: T) -> Result<(), T>
-        ensures same { worker_deque self.new.ready ≡ worker_deque self.old.ready }
+        ensures same { IsSameLane self.old self.new }
         ensures moved { MatchResult result
             (λ _. OwnerPut T.task (worker_view self.old.ready) (ticket ∷ []) (worker_view self.new.ready))
-            (λ back. (back ≡ ticket) × (worker_view self.new.ready ≡ worker_view self.old.ready)) }
+            (λ back. (back ≡ ticket) × (worker_view self.new.ready ≡ worker_view self.old.ready)
+            × HasNoRoom T.task (worker_index self.old.ready) (worker_view self.old.ready)) }
+        ensures place { MatchResult result
+            (λ _. worker_index self.new.ready ≡ worker_index self.old.ready + 1)
+            (λ _. worker_index self.new.ready ≡ worker_index self.old.ready) }
     {
-        self.ready.push_as::<Put>(ticket)
+        self.put_within::<Brand>(ticket)
+    }
+
+    /// The same, where it is picked how many slots the lane has.
+    fn put_within<S: Slots>(&mut self, ticket: T) -> Result<(), T>
+        requires { S.slots ≡ worker_capacity self.old.ready }
+        ensures same { IsSameLane self.old self.new }
+        ensures moved { MatchResult result
+            (λ _. OwnerPut T.task (worker_view self.old.ready) (ticket ∷ []) (worker_view self.new.ready))
+            (λ back. (back ≡ ticket) × (worker_view self.new.ready ≡ worker_view self.old.ready)
+            × HasNoRoom T.task (worker_index self.old.ready) (worker_view self.old.ready)) }
+        ensures place { MatchResult result
+            (λ _. worker_index self.new.ready ≡ worker_index self.old.ready + 1)
+            (λ _. worker_index self.new.ready ≡ worker_index self.old.ready) }
+    {
+        self.ready.push_as::<Put<S>>(ticket)
     }
 
     /// The ticket at the front. `None`: there was none at one moment of the call.
     pub(crate) fn next(&mut self) -> Option<T>
-        ensures same { worker_deque self.new.ready ≡ worker_deque self.old.ready }
+        ensures same { IsSameLane self.old self.new }
         ensures moved { MatchOption result
             ((worker_view self.new.ready ≡ worker_view self.old.ready)
-            × FoundNone T.task 0 (worker_view self.old.ready))
+            × FoundNone T.task (worker_view self.old.ready))
             (λ ticket. OwnerTook T.task (worker_view self.old.ready) (ticket ∷ [])
             (worker_view self.new.ready)) }
+        ensures place { worker_index self.new.ready ≤ worker_index self.old.ready }
     {
         self.ready.pop_as::<Took>()
     }
@@ -186,9 +182,13 @@ impl<T: Carried> Lane<T> {
     pub fn push(&mut self, pass: &mut Pass<Owning<T>>, ticket: T) -> Result<(), T>
         requires { IsOwner self.old pass.old }
         ensures pass { IsOwner self.new pass.new }
+        ensures same { IsSameLane self.old self.new }
         ensures moved { MatchResult result
             (λ _. OwnerPut T.task (moves_of pass.old) (ticket ∷ []) (moves_of pass.new))
-            (λ back. (back ≡ ticket) × (moves_of pass.new ≡ moves_of pass.old)) }
+            (λ back. (back ≡ ticket) × (moves_of pass.new ≡ moves_of pass.old)
+            × HasNoRoom T.task (next_place self.old) (moves_of pass.old)) }
+        ensures place { MatchResult result (λ _. next_place self.new ≡ next_place self.old + 1)
+            (λ _. next_place self.new ≡ next_place self.old) }
     {
         let pushed = self.put(ticket);
         pass.knows.seen = Snapshot::of(&self.ready);
@@ -200,28 +200,88 @@ impl<T: Carried> Lane<T> {
     pub fn take(&mut self, pass: &mut Pass<Owning<T>>) -> Option<T>
         requires { IsOwner self.old pass.old }
         ensures pass { IsOwner self.new pass.new }
+        ensures same { IsSameLane self.old self.new }
         ensures moved { MatchOption result
-            ((moves_of pass.new ≡ moves_of pass.old) × FoundNone T.task 0 (moves_of pass.old))
+            ((moves_of pass.new ≡ moves_of pass.old) × FoundNone T.task (moves_of pass.old))
             (λ ticket. OwnerTook T.task (moves_of pass.old) (ticket ∷ []) (moves_of pass.new)) }
+        ensures place { next_place self.new ≤ next_place self.old }
     {
         let taken = self.next();
         pass.knows.seen = Snapshot::of(&self.ready);
         taken
     }
+
+    /// Takes in the pass of a thief, which steals no more: the owner's pass shows what it took.
+    pub fn gather(&mut self, pass: &mut Pass<Owning<T>>, thief: Pass<Stealing<T>>)
+        requires { IsOwner self.old pass.old × IsGuestOf self.old thief }
+        ensures pass { IsOwner self.new pass.new }
+        ensures same { IsSameLane self.old self.new × (next_place self.new ≡ next_place self.old) }
+        ensures gathered { moves_of pass.new ≡ with_gathered (moves_of pass.old) (moves thief) }
+    {
+        let Pass { knows } = thief;
+        let Stealing { seat } = knows;
+        self.ready.absorb::<Gathers>(seat);
+        pass.knows.seen = Snapshot::of(&self.ready);
+    }
+
+    /// How many tickets stand in the lane at one moment of the call.
+    ///
+    /// What the owner pushed is an interleaving of what each caller took, followed by these. Where
+    /// all passes were taken in, the owner's shows what each caller took.
+    pub fn count(&mut self, pass: &mut Pass<Owning<T>>) -> usize
+        requires { IsOwner self.old pass.old }
+        ensures pass { IsOwner self.new pass.new }
+        ensures same { IsSameLane self.old self.new × (next_place self.new ≡ next_place self.old)
+            × (moves_of pass.new ≡ moves_of pass.old) }
+        ensures stands { (items : List T) × (length items ≡ result)
+            × Stands T.task items (moves_of pass.old) }
+        ensures all { AllAreBack (moves_of pass.old) → (items : List T) × (length items ≡ result)
+            × SharedOut T.task (moves_of pass.old).pushed
+            ((moves_of pass.old).taken ∷ (moves_of pass.old).gathered) items }
+    {
+        let count = self.ready.len_as::<Looks>();
+        pass.knows.seen = Snapshot::of(&self.ready);
+        count
+    }
+
+    /// Takes in the passes of all thieves, and tells how many tickets still stand in the lane at one
+    /// moment after that: what the owner pushed is an interleaving of what each caller took,
+    /// followed by these.
+    pub fn settle(&mut self, pass: &mut Pass<Owning<T>>, thieves: Vec<Pass<Stealing<T>>>) -> usize
+        requires owner { IsOwner self.old pass.old }
+        requires thieves { All (λ p. IsGuestOf self.old p) thieves.items }
+        requires all { vec_len thieves + length (moves_of pass.old).gathered
+            ≡ (moves_of pass.old).thieves }
+        ensures pass { IsOwner self.new pass.new }
+        ensures same { IsSameLane self.old self.new × (next_place self.new ≡ next_place self.old) }
+        ensures shared { (items : List T) × (length items ≡ result)
+            × SharedOut T.task (moves_of pass.old).pushed ((moves_of pass.old).taken
+            ∷ map (λ p. (moves p).taken) thieves.items ++ (moves_of pass.old).gathered) items }
+    {
+        let mut thieves = thieves;
+        while let Some(thief) = thieves.pop() {
+            self.gather(pass, thief);
+        }
+        self.count(pass)
+    }
 }
 
 impl<T: Carried> Thief<T> {
-    ghost use Rattle.std.specs.Prelude.{[], ◌∷◌};
-    ghost use Rattle.crossbeam_deque.specs.Handles.{view, worker_view, worker_deque, stealer_deque, IsPassOf};
-    ghost use Rattle.lanes.specs.Interleaving.{StealsSome, ThiefTook};
-    ghost use Rattle.lanes.specs.Passes.{moves, IsGuest, MatchStolen};
+    ghost use Rattle.std.specs.Prelude.{◌⊎◌, ◌<◌, true, [], ◌∷◌};
+    ghost use Rattle.crossbeam_deque.specs.Handles.{view, taken, worker_view, worker_deque, stealer_deque, IsPassOf};
+    ghost use Rattle.lanes.specs.Interleaving.{StealsSome, ThiefTook, ThiefFoundNone};
+    ghost use Rattle.lanes.specs.Passes.{moves, gone, CameTooLate, IsGuest, IsSameLane, IsSameThief, MatchStolen};
 
     /// Takes the ticket at the front of another worker's lane, which its owner has pushed, and
     /// which no other caller takes.
     pub fn steal(&mut self, pass: &mut Pass<Stealing<T>>) -> Stolen<T>
         requires { IsGuest self.old pass.old }
         ensures pass { IsGuest self.new pass.new }
-        ensures moved { MatchStolen result (moves pass.new ≡ moves pass.old)
+        ensures same { IsSameThief self.old self.new }
+        ensures moved { MatchStolen result
+            ((moves pass.new ≡ moves pass.old) × ThiefFoundNone T.task (moves pass.old))
+            ((moves pass.new ≡ moves pass.old)
+            × CameTooLate T.task (moves pass.old) (gone pass.old) (gone pass.new))
             (λ ticket. ThiefTook T.task (moves pass.old) (ticket ∷ []) (moves pass.new)) }
     {
         self.steal_on(&mut pass.knows.seat)
@@ -229,9 +289,13 @@ impl<T: Carried> Thief<T> {
 
     /// The ticket at the front, for a bare seat.
     pub(crate) fn steal_on(&mut self, seat: &mut Seat<T>) -> Stolen<T>
-        requires { IsPassOf (stealer_deque self.old.reach) seat.old }
-        ensures pass { IsPassOf (stealer_deque self.new.reach) seat.new }
-        ensures moved { MatchStolen result (view seat.new ≡ view seat.old)
+        requires { IsPassOf (stealer_deque self.old.reach) seat.old × ((view seat.old).steals ≡ true) }
+        ensures same { IsSameThief self.old self.new }
+        ensures pass { IsPassOf (stealer_deque self.new.reach) seat.new × ((view seat.new).steals ≡ true) }
+        ensures moved { MatchStolen result
+            ((view seat.new ≡ view seat.old) × ThiefFoundNone T.task (view seat.old))
+            ((view seat.new ≡ view seat.old)
+            × CameTooLate T.task (view seat.old) (taken seat.old) (taken seat.new))
             (λ ticket. ThiefTook T.task (view seat.old) (ticket ∷ []) (view seat.new)) }
     {
         match self.reach.steal_as::<Stole>(seat) {
@@ -244,19 +308,20 @@ impl<T: Carried> Thief<T> {
     /// The ticket at the front, for a bare seat. Some of those behind it, seven at most, go into
     /// the thief's own lane, in order.
     pub(crate) fn steal_some(&mut self, seat: &mut Seat<T>, own: &mut Lane<T>) -> Stolen<T>
-        requires { IsPassOf (stealer_deque self.old.reach) seat.old }
-        ensures same { (stealer_deque self.new.reach ≡ stealer_deque self.old.reach)
-            × (worker_deque own.new.ready ≡ worker_deque own.old.ready) }
-        ensures pass { IsPassOf (stealer_deque self.new.reach) seat.new }
+        requires { IsPassOf (stealer_deque self.old.reach) seat.old × ((view seat.old).steals ≡ true) }
+        ensures same { IsSameThief self.old self.new × IsSameLane own.old own.new }
+        ensures pass { IsPassOf (stealer_deque self.new.reach) seat.new × ((view seat.new).steals ≡ true) }
         ensures moved { MatchStolen result
-            ((view seat.new ≡ view seat.old)
-            × (worker_view own.new.ready ≡ worker_view own.old.ready))
+            ((view seat.new ≡ view seat.old) × (worker_view own.new.ready ≡ worker_view own.old.ready)
+            × ThiefFoundNone T.task (view seat.old))
+            ((view seat.new ≡ view seat.old) × (worker_view own.new.ready ≡ worker_view own.old.ready)
+            × CameTooLate T.task (view seat.old) (taken seat.old) (taken seat.new))
             (λ ticket. StealsSome T.task 8 (view seat.old) (worker_view own.old.ready) ticket
             (view seat.new) (worker_view own.new.ready)) }
     {
         match self
             .reach
-            .steal_batch_and_pop_as::<Global, Moves, InOrder<T>, Stole, Put>(
+            .steal_batch_and_pop_as::<Global, Moves, InOrder<T>, Stole, Put<Brand>>(
                 seat,
                 &mut own.ready,
                 MOST_AT_ONCE,

@@ -1,14 +1,14 @@
 //! The lanes of workers that steal from one another.
 ghost use Rattle.std.specs.Prelude.{◌≡◌, ◌+◌, ◌<◌, ◌≤◌, [], ◌∷◌, All, IfOk, MatchResult, MatchOption, length, vec_len};
-ghost use Rattle.lanes.specs.Interleaving.{newcomer};
-ghost use Rattle.lanes.specs.Sharing.{AreNew, IsAlone, IsIdle, IsTaken, LeadRound, Puts, lanes_of};
+ghost use Rattle.lanes.specs.Interleaving.{new_thief, with_thief, HasNoRoom};
+ghost use Rattle.lanes.specs.Sharing.{AreApart, AreNew, AreNewTo, IsAlone, IsIdle, IsTaken, IsUnused, LeadRound, Puts, lanes_of};
 
 use crate::ends::Lane;
 use crate::moves::Carried;
 use crate::way::{Way, first_stolen};
 use refusal::NoMemory;
 use std::alloc::Global;
-use std::marker::Model;
+use std::marker::{Brand, Model};
 
 /// What one of several workers has of their lanes: the owner's end of its own, and a way into each
 /// other one. Contracts see which lane each is, and what it has moved in it.
@@ -19,34 +19,51 @@ pub struct Lanes<T: Carried> {
 }
 
 impl<T: Carried> Model for Lanes<T> {
-    ghost use Rattle.crossbeam_deque.specs.Handles.{worker_deque, worker_view};
+    ghost use Rattle.crossbeam_deque.specs.Handles.{worker_deque, worker_index, worker_view};
     ghost use Rattle.lanes.specs.Sharing.{Moved};
 
     ghost Value = { Moved };
 
     ghost view = { λ l. record {
       own = record {
-        lane = (worker_deque l.own.ready).0;
+        lane = record {
+          name = (worker_view l.own.ready).lane;
+          deque = (worker_deque l.own.ready).0;
+        };
         moved = worker_view l.own.ready;
+        next = worker_index l.own.ready;
       };
       others = l.ways.items;
     } };
 }
 
 impl<T: Carried> Lanes<T> {
-    /// A lane with no ticket and no way into another.
-    fn alone(alloc: Global) -> Result<Lanes<T>, NoMemory>
-        ensures { IfOk result IsAlone }
+    /// A lane of this name with no ticket, and no way into another.
+    fn alone(alloc: Global, name: u32) -> Result<Lanes<T>, NoMemory>
+        ensures { IfOk result (λ m. IsAlone m × (m.own.lane.name ≡ name)) }
     {
+        let mut own = Lane::empty(alloc)?;
+        if name > 0 {
+            own.give_name::<Brand>(name);
+        }
         Ok(Lanes {
-            own: Lane::empty(alloc)?,
+            own,
             ways: Vec::new(alloc),
         })
     }
 
     /// A way into its own lane, for another worker.
-    fn way(&self) -> Result<Way<T>, NoMemory>
-        ensures { IfOk result (λ way. way ≡ record { lane = self.now.own.lane; moved = newcomer }) }
+    fn way(&mut self) -> Result<Way<T>, NoMemory>
+        ensures made { IfOk result (λ _. self.new ≡ record {
+          own = record {
+            lane = self.old.own.lane;
+            moved = with_thief self.old.own.lane.name self.old.own.moved;
+            next = self.old.own.next;
+          };
+          others = self.old.others;
+        }) }
+        ensures way { IfOk result (λ way. (way.lane ≡ self.old.own.lane)
+            × (way.moved ≡ new_thief self.old.own.lane.name)) }
     {
         let (thief, seat) = self.own.way()?;
         Ok(Way::new(thief, seat))
@@ -63,7 +80,8 @@ impl<T: Carried> Lanes<T> {
     /// room for it.
     pub fn push(&mut self, ticket: T) -> Result<(), T>
         ensures { MatchResult result (λ _. Puts T.task self.old (ticket ∷ []) self.new)
-            (λ back. (back ≡ ticket) × (self.new ≡ self.old)) }
+            (λ back. (back ≡ ticket) × (self.new ≡ self.old)
+            × HasNoRoom T.task self.old.own.next self.old.own.moved) }
     {
         self.own.put(ticket)
     }
@@ -85,18 +103,23 @@ impl<T: Carried> Lanes<T> {
 /// The ways of the worker at this place into the others' lanes, the next worker's first.
 fn ways_of<T: Carried>(
     alloc: Global,
-    all: &[Lanes<T>],
+    all: &mut Vec<Lanes<T>>,
     place: usize,
 ) -> Result<Vec<Way<T>>, NoMemory>
-    requires { place < length all.now }
-    ensures count { IfOk result (λ ways. vec_len ways + 1 ≡ length all.now) }
-    ensures new { IfOk result (λ ways. All (λ way. way.moved ≡ newcomer) ways.items) }
-    ensures leads { IfOk result (λ ways. LeadRound (lanes_of all.now) place ways.items) }
+    requires within { place < length all.old.items }
+    requires unused { All (λ m. IsUnused m.own) all.old.items }
+    requires made { AreNewTo place all.old.items }
+    ensures lanes { IfOk result (λ _. lanes_of all.new.items ≡ lanes_of all.old.items) }
+    ensures unused { IfOk result (λ _. All (λ m. IsUnused m.own) all.new.items) }
+    ensures made { IfOk result (λ _. AreNewTo place all.new.items) }
+    ensures count { IfOk result (λ ways. vec_len ways + 1 ≡ length all.old.items) }
+    ensures new { IfOk result (λ ways. All (λ way. way.moved ≡ new_thief way.lane.name) ways.items) }
+    ensures leads { IfOk result (λ ways. LeadRound (lanes_of all.old.items) place ways.items) }
 {
     let mut ways = Vec::with_capacity(alloc, all.len())?;
     for step in 1..all.len() {
-        let other = &all[(place + step) % all.len()];
-        ways.push_reserved(other.way()?);
+        let other = (place + step) % all.len();
+        ways.push_reserved(all[other].way()?);
     }
     Ok(ways)
 }
@@ -107,13 +130,14 @@ pub fn lanes_between<T: Carried>(alloc: Global, workers: u32) -> Result<Vec<Lane
     requires { workers ≤ 16 }
     ensures count { IfOk result (λ all. vec_len all ≡ workers) }
     ensures new { IfOk result (λ all. AreNew all.items) }
+    ensures apart { IfOk result (λ all. AreApart (lanes_of all.items)) }
 {
     let mut all = Vec::with_capacity(alloc, workers as usize)?;
-    for _ in 0..workers {
-        all.push_reserved(Lanes::alone(alloc)?);
+    for name in 0..workers {
+        all.push_reserved(Lanes::alone(alloc, name)?);
     }
     for place in 0..all.len() {
-        let ways = ways_of(alloc, &all, place)?;
+        let ways = ways_of(alloc, &mut all, place)?;
         all[place].meet(ways);
     }
     Ok(all)

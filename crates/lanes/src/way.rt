@@ -1,9 +1,9 @@
 //! The way of one worker into another's lane.
-ghost use Rattle.std.specs.Prelude.{◌≡◌, MatchOption};
+ghost use Rattle.std.specs.Prelude.{◌≡◌, MatchOption, length};
 ghost use Rattle.crossbeam_deque.specs.Handles.{worker_deque, worker_view};
-ghost use Rattle.lanes.specs.Interleaving.{StealsSome};
-ghost use Rattle.lanes.specs.Passes.{MatchStolen};
-ghost use Rattle.lanes.specs.Sharing.{StealsFirst};
+ghost use Rattle.lanes.specs.Interleaving.{StealsSome, ThiefFoundNone};
+ghost use Rattle.lanes.specs.Passes.{CameTooLate, IsSameLane, MatchStolen};
+ghost use Rattle.lanes.specs.Sharing.{FirstGaveNone, GaveNone, StealsFirst};
 
 use crate::ends::{Lane, Seat, Stolen, Thief};
 use crate::moves::Carried;
@@ -14,8 +14,8 @@ use std::marker::Model;
 /// another has taken a ticket.
 const TRIES: u32 = 100;
 
-/// A thief beside what it knows. Contracts see which lane it leads into, and what it has moved
-/// there.
+/// A thief beside what it knows. Contracts see which lane it leads into, what it has moved there,
+/// and how many tickets it knows to have left it.
 #[derive(Drop)]
 pub(crate) struct Way<T: Carried> {
     thief: Thief<T>,
@@ -23,25 +23,36 @@ pub(crate) struct Way<T: Carried> {
 }
 
 impl<T: Carried> Model for Way<T> {
+    ghost use Rattle.std.specs.Prelude.{◌≡◌, true};
     ghost use Rattle.crossbeam_deque.specs.Handles.{stealer_deque, IsPassOf};
-    ghost use Rattle.lanes.specs.Passes.{known};
-    ghost use Rattle.lanes.specs.Sharing.{InLane};
+    ghost use Rattle.lanes.specs.Passes.{known, known_gone};
+    ghost use Rattle.lanes.specs.Sharing.{InOther};
 
-    ghost Value = { InLane };
+    ghost Value = { InOther };
 
-    ghost view = { λ w. record { lane = (stealer_deque w.thief.reach).0; moved = known w.seat } };
+    ghost view = { λ w. record {
+      lane = record { name = (known w.seat).lane; deque = (stealer_deque w.thief.reach).0 };
+      moved = known w.seat;
+      gone = known_gone w.seat;
+    } };
 
-    ghost invariant = { λ w. IsPassOf (stealer_deque w.thief.reach) w.seat };
+    ghost invariant = { λ w. IsPassOf (stealer_deque w.thief.reach) w.seat
+        × ((known w.seat).steals ≡ true) };
 }
 
 impl<T: Carried> Way<T> {
+    ghost use Rattle.std.specs.Prelude.{true};
     ghost use Rattle.crossbeam_deque.specs.Handles.{stealer_deque, IsPassOf};
-    ghost use Rattle.lanes.specs.Passes.{known};
+    ghost use Rattle.lanes.specs.Passes.{known, known_gone};
 
     /// The way of a thief with a seat of its own.
     pub fn new(thief: Thief<T>, seat: Seat<T>) -> Way<T>
-        requires { IsPassOf (stealer_deque thief.reach) seat }
-        ensures { result ≡ record { lane = (stealer_deque thief.reach).0; moved = known seat } }
+        requires { IsPassOf (stealer_deque thief.reach) seat × ((known seat).steals ≡ true) }
+        ensures { result ≡ record {
+          lane = record { name = (known seat).lane; deque = (stealer_deque thief.reach).0 };
+          moved = known seat;
+          gone = known_gone seat;
+        } }
     {
         Way { thief, seat }
     }
@@ -49,10 +60,12 @@ impl<T: Carried> Way<T> {
     /// Takes the ticket at the front of the lane, and moves some of those behind it into the
     /// thief's own lane, where no other caller comes first.
     fn steal(&mut self, own: &mut Lane<T>) -> Stolen<T>
-        ensures same { (self.new.lane ≡ self.old.lane)
-            × (worker_deque own.new.ready ≡ worker_deque own.old.ready) }
+        ensures same { (self.new.lane ≡ self.old.lane) × IsSameLane own.old own.new }
         ensures moved { MatchStolen result
-            ((self.new ≡ self.old) × (worker_view own.new.ready ≡ worker_view own.old.ready))
+            ((self.new.moved ≡ self.old.moved) × (worker_view own.new.ready ≡ worker_view own.old.ready)
+            × ThiefFoundNone T.task self.old.moved)
+            ((self.new.moved ≡ self.old.moved) × (worker_view own.new.ready ≡ worker_view own.old.ready)
+            × CameTooLate T.task self.old.moved self.old.gone self.new.gone)
             (λ ticket. StealsSome T.task 8 self.old.moved (worker_view own.old.ready) ticket
             self.new.moved (worker_view own.new.ready)) }
     {
@@ -62,10 +75,10 @@ impl<T: Carried> Way<T> {
     /// The same. Where other callers come first it tries again, as long as it doesn't look as if
     /// they always did.
     pub fn take(&mut self, own: &mut Lane<T>) -> Option<T>
-        ensures same { (self.new.lane ≡ self.old.lane)
-            × (worker_deque own.new.ready ≡ worker_deque own.old.ready) }
+        ensures same { (self.new.lane ≡ self.old.lane) × IsSameLane own.old own.new }
         ensures moved { MatchOption result
-            ((self.new ≡ self.old) × (worker_view own.new.ready ≡ worker_view own.old.ready))
+            (GaveNone T.task 100 self.old self.new
+            × (worker_view own.new.ready ≡ worker_view own.old.ready))
             (λ ticket. StealsSome T.task 8 self.old.moved (worker_view own.old.ready) ticket
             self.new.moved (worker_view own.new.ready)) }
     {
@@ -83,11 +96,11 @@ impl<T: Carried> Way<T> {
 /// The ticket at the front of the first lane that gives one. Some of those behind it may come over
 /// into the thief's own lane.
 pub(crate) fn first_stolen<T: Carried>(ways: &mut Vec<Way<T>>, own: &mut Lane<T>) -> Option<T>
-    ensures same { worker_deque own.new.ready ≡ worker_deque own.old.ready }
+    ensures same { IsSameLane own.old own.new }
     ensures moved { MatchOption result
-        ((ways.new.items ≡ ways.old.items)
+        (FirstGaveNone T.task 100 (length ways.old.items) ways.old.items ways.new.items
         × (worker_view own.new.ready ≡ worker_view own.old.ready))
-        (λ ticket. StealsFirst T.task 8 ways.old.items (worker_view own.old.ready) ticket
+        (λ ticket. StealsFirst T.task 8 100 ways.old.items (worker_view own.old.ready) ticket
         ways.new.items (worker_view own.new.ready)) }
 {
     for place in 0..ways.len() {

@@ -1,6 +1,6 @@
 //! Tickets of one book leave lanes once, in the order of pushing.
 
-ghost use Rattle.lanes.specs.Passes.{IsOwner, IsGuest};
+ghost use Rattle.lanes.specs.Passes.{IsOwner, IsGuest, IsSameLane, IsSameThief};
 
 use crate::stop::Stop;
 use crate::tickets::{Tickets, number_of};
@@ -17,7 +17,7 @@ fn put(
     pass: &mut Pass<Owning>,
 ) -> Result<(), Stop>
     requires { IsOwner lane.old pass.old }
-    ensures { IsOwner lane.new pass.new }
+    ensures { IsOwner lane.new pass.new × IsSameLane lane.old lane.new }
 {
     let ticket = tickets.next(alloc)?;
     match lane.push(pass, ticket) {
@@ -30,7 +30,7 @@ fn put(
 /// again.
 fn stolen(thief: &mut Thief, pass: &mut Pass<Stealing>) -> u64
     requires { IsGuest thief.old pass.old }
-    ensures { IsGuest thief.new pass.new }
+    ensures { IsGuest thief.new pass.new × IsSameThief thief.old thief.new }
 {
     match thief.steal(pass) {
         Stolen::Got(ticket) => u64::from(ticket.number()),
@@ -40,7 +40,7 @@ fn stolen(thief: &mut Thief, pass: &mut Pass<Stealing>) -> u64
 }
 
 /// What an owner and a thief find of three tickets: the owner, the thief, the owner twice, and the
-/// thief.
+/// thief. Then how many are left of two more, once the owner has the thief's pass.
 pub fn in_order(alloc: Global) -> Result<Vec<u64>, Stop> {
     let mut numbers = Vec::new(alloc);
     let mut tickets = Tickets::open(alloc)?;
@@ -59,6 +59,10 @@ pub fn in_order(alloc: Global) -> Result<Vec<u64>, Stop> {
         stolen(&mut thief, &mut seat),
     ];
     numbers.extend_from_slice(&found)?;
+    put(alloc, &mut tickets, &mut lane, &mut pass)?;
+    put(alloc, &mut tickets, &mut lane, &mut pass)?;
+    lane.gather(&mut pass, seat);
+    numbers.push(lane.count(&mut pass) as u64)?;
     Ok(numbers)
 }
 

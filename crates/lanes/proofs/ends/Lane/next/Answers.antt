@@ -1,5 +1,6 @@
 use Rattle.crossbeam_deque.specs.Handles.{worker_view}
-use Rattle.lanes.proofs.Moving.{owner_takes, finds_none}
+use Rattle.lanes.proofs.Moving.{owner_takes}
+use Rattle.lanes.proofs.Telling.{finds_none}
 use Rattle.lanes.proofs.ends.Lane.next.Goals as goal
 
 pub pop_as-requires-clause-fifo : goal.pop_as-requires-clause-fifo

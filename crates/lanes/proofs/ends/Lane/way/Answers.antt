@@ -1,5 +1,6 @@
-use Rattle.lanes.proofs.Moving.{admits}
+use Rattle.crossbeam_deque.specs.Handles.{worker_view}
+use Rattle.lanes.proofs.Moving.{hires}
 use Rattle.lanes.proofs.ends.Lane.way.Goals as goal
 
-pub pass-seat-requires : goal.pass-seat-requires
-pass-seat-requires g c = admits g.T.Carried.task
+pub another-seat-requires : goal.another-seat-requires
+another-seat-requires g c = rw c.args.self.now.owner (hires g.T.Carried.task (worker_view c.args.self.now.ready))
