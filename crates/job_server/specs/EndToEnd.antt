@@ -29,6 +29,7 @@ Tells e told = e.reply ≡ frame_or_refusal told
 
 -- ---- submits
 
+-- a request for a job, as its client asks it
 abbrev pub submit_of : List ℕ → List ProgramBytes → ℕ → List ℕ → Asked
 submit_of name programs credit buffer = submit name (record {
   programs = map program_asked programs;
@@ -47,6 +48,7 @@ pub record IsSubmit (e : Entry) (number : ℕ) (job : AdmittedJob) : Type 0 wher
   pub admitted : IsAdmittedFrom programs credit buffer job
   pub tells : Tells e (submit_data number)
 
+-- the request is one for a job
 abbrev pub AsksForJob : Result Asked ℕ → Type 0
 AsksForJob (Ok (submit name order)) = Unit {0}
 AsksForJob other = ⊥
@@ -72,9 +74,11 @@ taken_at jobs number = if nat_eq number 0 then None else slice_get jobs (number 
 
 -- ---- results
 
+-- the request is one for the result of this number
 abbrev pub AsksForResult : ℕ → Result Asked ℕ → Type 0
 AsksForResult number query = query ≡ Ok (result number)
 
+-- a report, as the JSON of a result
 abbrev pub report_data : Report → Data
 report_data r = result_data r.buffer.items r.returned r.spent r.tasks.items
 
