@@ -93,6 +93,10 @@ by_result keep before number e jobs taken f _ (reported job report at run) tells
 pub comes_from_submit : (keep : ℕ) (before : List Entry) (number : ℕ) (e : Entry) → IsToldResult keep before number e → IsResultFrame e.reply → ComesFromSubmit before number e
 comes_from_submit keep before number e t f = by_result keep before number e t.jobs t.taken f t.told t.is_result t.tells
 
+-- the report adds up to the credit that was asked
+pub adds_up : (before : List Entry) (number : ℕ) (e : Entry) (r : ComesFromSubmit before number e) → r.report.spent + r.report.returned ≡ r.is_submit.credit
+adds_up before number e r = r.run.final.whole ∙ r.is_submit.admitted.same_credit
+
 -- ---- a host
 
 fresh_host : (bounds : Bounds) (first : Pool) (x : Hosted) → x ≡ new_host bounds first → (x.0.jobs ≡ []) × (x.1.keep ≡ bounds.keep)

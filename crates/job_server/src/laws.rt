@@ -1,6 +1,6 @@
 //! The meaning of a server's replies, from the submit of a job to its result.
 
-ghost use Rattle.std.specs.Prelude.{◌≡◌, ◌<◌, ◌-◌, ◌^◌, ℕ, Bool, List, ◌∷◌, ◌++◌, length, Result};
+ghost use Rattle.std.specs.Prelude.{◌≡◌, ◌+◌, ◌<◌, ◌-◌, ◌^◌, ℕ, Bool, List, ◌∷◌, ◌++◌, length, Result};
 ghost use Rattle.sessions.specs.Replies.{submit_data};
 ghost use Rattle.shared_desk.specs.Histories.{Entry};
 ghost use Rattle.bpfjobs_cli.specs.declared.commands.Bounds.{Bounds};
@@ -10,8 +10,9 @@ ghost use Rattle.job_server.specs.EndToEnd.{AsksForJob, AsksForResult, ComesFrom
 ghost use Rattle.job_server.specs.Payloads.{ComesFromPayload};
 
 /// A request for a result is told the result of its number. The frame of a result tells the report
-/// of a run of the very job that an earlier submit asked for, and that was told this number. Once a
-/// job is over, what is told of it stays the same until it is forgotten.
+/// of a run of the very job that an earlier submit asked for, and that was told this number. It
+/// adds up to the credit of that submit. Once a job is over, what is told of it stays the same until
+/// it is forgotten.
 pub fn results_come_from_submits()
     ensures told { (bounds : Bounds) (before after : List Entry) (e : Entry) (number : ℕ)
         → IsHostHistory bounds (before ++ e ∷ after) → AsksForResult number e.query
@@ -19,6 +20,9 @@ pub fn results_come_from_submits()
     ensures submitted { (bounds : Bounds) (before after : List Entry) (e : Entry) (number : ℕ)
         → IsHostHistory bounds (before ++ e ∷ after) → AsksForResult number e.query
         → IsResultFrame e.reply → ComesFromSubmit before number e }
+    ensures adds_up { (before : List Entry) (number : ℕ) (e : Entry)
+        (r : ComesFromSubmit before number e)
+        → r.report.spent + r.report.returned ≡ r.is_submit.credit }
     ensures stays { (bounds : Bounds) (before between after : List Entry) (e f : Entry) (number : ℕ)
         → IsHostHistory bounds (before ++ e ∷ (between ++ f ∷ after))
         → AsksForResult number e.query → AsksForResult number f.query → StaysTold e f }
