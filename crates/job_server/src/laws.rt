@@ -11,8 +11,8 @@ ghost use Rattle.job_server.specs.Payloads.{ComesFromPayload};
 
 /// A request for a result is told the result of its number. The frame of a result tells the report
 /// of a run of the very job that an earlier submit asked for, and that was told this number. It
-/// adds up to the credit of that submit. Once a job is over, what is told of it stays the same until
-/// it is forgotten.
+/// adds up to the credit of that submit. Once a job is over, what is told of it stays the same
+/// until it is forgotten.
 pub fn results_come_from_submits()
     ensures told { (bounds : Bounds) (before after : List Entry) (e : Entry) (number : ℕ)
         → IsHostHistory bounds (before ++ e ∷ after) → AsksForResult number e.query
