@@ -15,10 +15,11 @@ use Rattle.shared_desk.specs.declared.closed.ClosedConnection.{ClosedConnection}
 use Rattle.shared_desk.specs.Closed.{AreClosed, IsServedWhole}
 use Rattle.job_server.specs.Payloads.{IsEntryOf, ComesFromPayload}
 use Rattle.job_server.specs.AtOnce.{Pool, Hosted, new_host, IsServingClients}
-use Rattle.job_server.specs.EndToEnd.{AreTaken, submit_of, none_yet, one_more, no_more, taken_at, IsSubmit, IsResultOf, reported, failed, not_over, forgotten, unknown, IsToldResult, IsResultFrame, ComesFromSubmit, IsHostHistory, AsksForJob, StaysTold, Tells}
+use Rattle.job_server.specs.EndToEnd.{AreTaken, submit_of, none_yet, one_more, no_more, taken_at, IsSubmit, IsResultOf, reported, failed, not_over, forgotten, unknown, IsToldResult, IsResultFrame, ComesFromSubmit, IsHostHistory, AsksForJob, StaysTold, IsToldRefusal, Tells}
 use Rattle.streams.specs.Answering.{refused}
 use Rattle.job_server.proofs.ListEnds.{get_pushed, joined_again}
 use Rattle.job_server.proofs.HistoryStands.{taken_is, history_stands, history_tells}
+use Rattle.job_server.proofs.RefusedResults.{told_refusal}
 use Rattle.job_server.proofs.RisingNumbers.{numbers_rise}
 use Rattle.job_server.proofs.StaysOver.{results_stay}
 use Rattle.job_server.proofs.WentOver.{is_entry_of}
@@ -109,6 +110,10 @@ host_tells bounds before after e number h asks =
 
 pub host_comes : (bounds : Bounds) (before after : List Entry) (e : Entry) (number : ℕ) → IsHostHistory bounds (before ++ e ∷ after) → e.query ≡ Ok (result number) → IsResultFrame e.reply → ComesFromSubmit before number e
 host_comes bounds before after e number h asks f = comes_from_submit bounds.keep before number e (host_tells bounds before after e number h asks) f
+
+pub host_refuses : (bounds : Bounds) (before after : List Entry) (e : Entry) (number code : ℕ) → IsHostHistory bounds (before ++ e ∷ after) → e.query ≡ Ok (result number) → Tells e (refused code) → code < 2 ^ 64
+    → IsToldRefusal bounds.keep before number code
+host_refuses bounds before after e number code h asks tells small = told_refusal bounds.keep before number e code (host_tells bounds before after e number h asks) tells small
 
 pub host_stays : (bounds : Bounds) (before between after : List Entry) (e f : Entry) (number : ℕ) → IsHostHistory bounds (before ++ e ∷ (between ++ f ∷ after)) → e.query ≡ Ok (result number) → f.query ≡ Ok (result number) → StaysTold e f
 host_stays bounds before between after e f number h asks_e asks_f =

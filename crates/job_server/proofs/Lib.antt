@@ -12,4 +12,5 @@ pub mod ReplyFrames
 pub mod RisingNumbers
 pub mod StaysOver
 pub mod WentOver
+pub mod RefusedResults
 pub mod FromSubmit

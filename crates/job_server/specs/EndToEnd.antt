@@ -107,6 +107,13 @@ pub record IsToldResult (keep : ℕ) (before : List Entry) (number : ℕ) (e : E
   pub tells : Tells e told
   pub is_result : IsResultOf keep jobs number told
 
+-- A refusal that is told in place of a result is one itself, with its cause. Or it is 65, in place of
+-- a report that no frame holds.
+pub record IsToldRefusal (keep : ℕ) (before : List Entry) (number code : ℕ) : Type 0 where
+  pub jobs : List AdmittedJob
+  pub taken : AreTaken before jobs
+  pub is_result : IsResultOf keep jobs number (refused code) ⊎ (code ≡ 65)
+
 -- Both entries ask for one result, the second later. Once the job is over, what is told of it stays
 -- the same until it is forgotten.
 abbrev pub StaysTold : Entry → Entry → Type 0

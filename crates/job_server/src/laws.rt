@@ -2,11 +2,12 @@
 
 ghost use Rattle.std.specs.Prelude.{◌≡◌, ◌+◌, ◌<◌, ◌-◌, ◌^◌, ℕ, Bool, List, ◌∷◌, ◌++◌, length, Result};
 ghost use Rattle.sessions.specs.Replies.{submit_data};
+ghost use Rattle.streams.specs.Answering.{refused};
 ghost use Rattle.shared_desk.specs.Histories.{Entry};
 ghost use Rattle.bpfjobs_cli.specs.declared.commands.Bounds.{Bounds};
 ghost use Rattle.job_server.specs.declared.fault.ServeFault.{ServeFault};
 ghost use Rattle.job_server.specs.AtOnce.{IsServingClients};
-ghost use Rattle.job_server.specs.EndToEnd.{AsksForJob, AsksForResult, ComesFromSubmit, IsHostHistory, IsResultFrame, IsToldResult, StaysTold, Tells};
+ghost use Rattle.job_server.specs.EndToEnd.{AsksForJob, AsksForResult, ComesFromSubmit, IsHostHistory, IsResultFrame, IsToldRefusal, IsToldResult, StaysTold, Tells};
 ghost use Rattle.job_server.specs.Payloads.{ComesFromPayload};
 
 /// A request for a result is told the result of its number. The frame of a result tells the report
@@ -20,6 +21,9 @@ pub fn results_come_from_submits()
     ensures submitted { (bounds : Bounds) (before after : List Entry) (e : Entry) (number : ℕ)
         → IsHostHistory bounds (before ++ e ∷ after) → AsksForResult number e.query
         → IsResultFrame e.reply → ComesFromSubmit before number e }
+    ensures refused { (bounds : Bounds) (before after : List Entry) (e : Entry) (number code : ℕ)
+        → IsHostHistory bounds (before ++ e ∷ after) → AsksForResult number e.query
+        → Tells e (refused code) → code < 2 ^ 64 → IsToldRefusal bounds.keep before number code }
     ensures adds_up { (before : List Entry) (number : ℕ) (e : Entry)
         (r : ComesFromSubmit before number e)
         → r.report.spent + r.report.returned ≡ r.is_submit.credit }
