@@ -107,8 +107,8 @@ pub record IsToldResult (keep : ℕ) (before : List Entry) (number : ℕ) (e : E
   pub tells : Tells e told
   pub is_result : IsResultOf keep jobs number told
 
--- A refusal that is told in place of a result is one itself, with its cause. Or it is 65, in place of
--- a report that no frame holds.
+-- A refusal that is told in place of a result is one of those, with its cause. Or it is 65, for a
+-- report that no frame holds.
 pub record IsToldRefusal (keep : ℕ) (before : List Entry) (number code : ℕ) : Type 0 where
   pub jobs : List AdmittedJob
   pub taken : AreTaken before jobs
