@@ -13,8 +13,7 @@ use Rattle.accounts.specs.Jobs.{report_of}
 use Rattle.accounts.specs.Ledgers.{Ledger, report_at, report_in}
 use Rattle.job_core.specs.declared.admission.ProgramBytes.{ProgramBytes}
 use Rattle.sessions.specs.Grammar.{Asked, grant, account, submit, status, result, program_asked}
-use Rattle.sessions.specs.Replies.{reply_data, frame_of, frame_or_refusal, submit_data}
-use Rattle.sessions.specs.declared.reply.Reply.{Reply}
+use Rattle.sessions.specs.Replies.{reply_data, frame_or_refusal, submit_data}
 use Rattle.streams.specs.Passing.{Taken, none_yet as none_taken, one_more as one_taken, Passes}
 use Rattle.streams.specs.Answering.{Replies, Grants, GrantsNone, Settles, Submits, report_told, refused}
 use Rattle.job_server.specs.Bounded.{KeepsLast, answers_keeping}
@@ -22,7 +21,9 @@ use Rattle.job_server.specs.declared.keeping_handler.KeepingHandler.{KeepingHand
 use Rattle.shared_desk.specs.Histories.{Entry, Replays, none_yet as nothing_replayed, one_more as one_replayed}
 use Rattle.job_server.specs.Endings.{IsEndOf}
 use Rattle.job_server.specs.EndToEnd.{AreTaken, none_yet, one_more, no_more, IsSubmit, TakesNoJob, AsksForJob, FailsBy, IsResultOf, reported, failed, not_over, forgotten, unknown, taken_at, IsToldResult, Tells}
-use Rattle.job_server.proofs.ListEnds.{length_pushed, get_within, get_past, within_get, last_same, last_of, none_pushed, joined_again}
+use Rattle.job_server.proofs.ListEnds.{length_pushed, get_within, get_past, within_get}
+use Rattle.job_server.proofs.ReplyFrames.{is_framed}
+use Rattle.job_server.proofs.StaysOver.{is_at, reported_there}
 use Rattle.job_server.proofs.StandsFor.{AllStand, StandsFor, all_stand, stand_taken, stand_finished, stand_noted, stand_kept, job_is}
 
 -- ---- the result that is told
@@ -64,24 +65,6 @@ result_told keep jobs desk held zero stand = unknown refl
 result_told keep jobs desk held (suc n) stand =
     subst (λ (o : Option JobEntry). IsResultOf keep jobs (suc n) (report_told (report_in o))) (sym (job_is desk.jobs (suc n) (omega arith)))
     (by_entry keep jobs desk.jobs held (suc n) (omega arith) stand (slice_get desk.jobs (suc n - 1)) refl)
-
--- ---- a place of a history
-
-pub is_framed : (told : Reply) → frame_of told ≡ frame_or_refusal (reply_data told)
-unfolding frame_of
-is_framed told = refl
-
--- up to an entry a legal history is one, and the entry is answered there
-replays_to : {S : Type 0} (answers : S → Result Asked ℕ → List ℕ → S → Type 0) (begins : S → Type 0) (before after : List Entry) (e : Entry) (history : List Entry) (end : S) → Replays answers begins history end
-    → history ≡ before ++ e ∷ after → (s : S) × (t : S) × Replays answers begins before s × answers s e.query e.reply t
-replays_to answers begins before after e history end (nothing_replayed s first) is = absurd (none_pushed before after e is)
-replays_to answers begins before [] e history end (one_replayed h s x t legal answered) is =
-    let same = last_same h before x e is in
-    (s, t, subst (λ l. Replays answers begins l s) same.0 legal, subst (λ (y : Entry). answers s y.query y.reply t) same.1 answered)
-replays_to answers begins before (a ∷ after) e history end (one_replayed h s x t legal answered) is =
-    let parted = last_of a after in
-    let same = last_same h (before ++ e ∷ parted.0) x parted.1 (is ∙ ap (λ l. before ++ e ∷ l) parted.2 ∙ sym (joined_again before e parted.0 (parted.1 ∷ []))) in
-    replays_to answers begins before parted.0 e h s legal same.0
 
 -- ---- a desk and a runner
 
@@ -215,17 +198,13 @@ module _ {R : Type 0} (starts : R → ℕ → AdmittedJob → Result (Unit {0}) 
         (done.0, done.1, stand_kept keep done.0 mid y.0 (held y.1.runner) done.2 (subst (λ (k : ℕ). KeepsLast k mid y.0) keeps answers.0.2)),
       )
 
-  is_report : (d : Ledger) (r : R) (number : ℕ) (told : Data) (m : Ledger) (s : R) (query : Result Asked ℕ) → query ≡ Ok (result number) → Replies starts looks d r query told m s → told ≡ report_told (report_at d number)
-  unfolding Replies
-  is_report d r number told m s query is replies = (subst (λ (q : Result Asked ℕ). Replies starts looks d r q told m s) is replies).0
-
   -- the result that is told after a history
   tells_result : (keep : ℕ) (history : List Entry) (x : Ledger × KeepingHandler R) (e : Entry) (y : Ledger × KeepingHandler R) (number : ℕ) → Stands keep history x.0 x.1.runner
       → answers_keeping starts looks takes x e.query e.reply y → e.query ≡ Ok (result number) → IsToldResult keep history number e
   tells_result keep history x e y number stands answers asks =
       let a = answers.0.1 in
       let passed = after_passes keep stands.0 x.0 x.1.runner a.mid a.rest stands.2 a.passed in
-      let is = is_report a.mid a.rest number (reply_data a.told) answers.0.0 y.1.runner e.query asks a.replies in
+      let is = reported_there starts looks takes a.mid a.rest number (reply_data a.told) answers.0.0 y.1.runner e.query asks a.replies in
       record {
         jobs = stands.0;
         taken = stands.1;
@@ -250,5 +229,5 @@ module _ {R : Type 0} (starts : R → ℕ → AdmittedJob → Result (Unit {0}) 
     pub history_tells : (before after : List Entry) (e : Entry) (number : ℕ) (end : Ledger × KeepingHandler R) → Replays (answers_keeping starts looks takes) begins (before ++ e ∷ after) end
         → e.query ≡ Ok (result number) → IsToldResult keep before number e
     history_tells before after e number end legal asks =
-        let at = replays_to (answers_keeping starts looks takes) begins before after e (before ++ e ∷ after) end legal refl in
-        tells_result keep before at.0 e at.1 number (history_stands before at.0 at.2).1 at.3 asks
+        let at = is_at starts looks takes begins before after e (before ++ e ∷ after) end legal refl in
+        tells_result keep before at.old e at.new number (history_stands before at.old at.legal).1 at.answered asks

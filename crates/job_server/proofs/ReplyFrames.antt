@@ -5,7 +5,8 @@ use Rattle.serde_json.specs.Data.{Data}
 use Rattle.serde_json.specs.Written.{compact_text}
 use Rattle.credit_book.specs.declared.event.TaskEnd.{TaskEnd}
 use Rattle.sessions.specs.Frames.{framed}
-use Rattle.sessions.specs.Replies.{refusal_data, submit_data, result_data, frame_or_refusal, longest_reply}
+use Rattle.sessions.specs.declared.reply.Reply.{Reply}
+use Rattle.sessions.specs.Replies.{reply_data, frame_of, refusal_data, submit_data, result_data, frame_or_refusal, longest_reply}
 
 -- the third byte of a frame's payload
 abbrev pub third : List ℕ → ℕ
@@ -22,6 +23,10 @@ third_of_refusal code program slot = refl
 pub third_of_submit : (job : ℕ) → third (framed (compact_text (submit_data job))) ≡ 106
 unfolding serde_json_on_literals submit_data
 third_of_submit job = refl
+
+pub is_framed : (told : Reply) → frame_of told ≡ frame_or_refusal (reply_data told)
+unfolding frame_of
+is_framed told = refl
 
 -- the frame of a reply is its own, or that of refusal 65
 pub framed_cases : (P : List ℕ → Type 0) (told : Data) → P (framed (compact_text told)) → P (framed (compact_text (refusal_data 65 None None))) → P (frame_or_refusal told)

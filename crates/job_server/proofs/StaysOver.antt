@@ -22,7 +22,7 @@ use Rattle.shared_desk.specs.Histories.{Entry, Replays, none_yet as nothing_repl
 use Rattle.job_server.specs.EndToEnd.{StaysTold, Tells}
 use Rattle.job_server.proofs.ListEnds.{get_before, get_joined, get_behind, length_same, last_same, last_of, none_pushed, joined_again}
 use Rattle.job_server.proofs.StandsFor.{job_is, job_there}
-use Rattle.job_server.proofs.HistoryStands.{is_framed}
+use Rattle.job_server.proofs.ReplyFrames.{is_framed}
 
 -- each job that is over stays as it is, or is forgotten
 abbrev pub StayOver : List JobEntry → List JobEntry → Type 0
@@ -129,6 +129,11 @@ module _ {R : Type 0} (starts : R → ℕ → AdmittedJob → Result (Unit {0}) 
       stay_on x.0.jobs a.mid.jobs y.0.jobs (stay_taken x.0 x.1.runner a.mid a.passed.last a.passed.taken)
       (stay_on a.mid.jobs answers.0.0.jobs y.0.jobs (stay_replied a.mid a.rest query (reply_data a.told) answers.0.0 y.1.runner a.replies) (stay_kept x.1.keep answers.0.0 y.0 answers.0.2))
 
+  -- a request for a result is told what the desk has of it
+  pub reported_there : (d : Ledger) (r : R) (number : ℕ) (told : Data) (m : Ledger) (s : R) (query : Result Asked ℕ) → query ≡ Ok (result number) → Replies starts looks d r query told m s → told ≡ report_told (report_at d number)
+  unfolding Replies
+  reported_there d r number told m s query is replies = (subst (λ (q : Result Asked ℕ). Replies starts looks d r q told m s) is replies).0
+
 -- ---- its result
 
 -- what was told of it stays, unless it wasn't over
@@ -172,14 +177,14 @@ result_stays d e (suc n) stays =
 module _ {R : Type 0} (starts : R → ℕ → AdmittedJob → Result (Unit {0}) ℕ → R → Type 0) (looks : R → ℕ → Progress → R → Type 0) (takes : R → Option (ℕ × Result Report ℕ) → R → Type 0)
     (begins : Ledger × KeepingHandler R → Type 0) where
   -- the states about an entry, and what stays from there to the end
-  record IsAt (before : List Entry) (e : Entry) (end : Ledger × KeepingHandler R) : Type 0 where
-    old : Ledger × KeepingHandler R
-    new : Ledger × KeepingHandler R
-    legal : Replays (answers_keeping starts looks takes) begins before old
-    answered : answers_keeping starts looks takes old e.query e.reply new
-    stays : StayOver new.0.jobs end.0.jobs
+  pub record IsAt (before : List Entry) (e : Entry) (end : Ledger × KeepingHandler R) : Type 0 where
+    pub old : Ledger × KeepingHandler R
+    pub new : Ledger × KeepingHandler R
+    pub legal : Replays (answers_keeping starts looks takes) begins before old
+    pub answered : answers_keeping starts looks takes old e.query e.reply new
+    pub stays : StayOver new.0.jobs end.0.jobs
 
-  is_at : (before after : List Entry) (e : Entry) (history : List Entry) (end : Ledger × KeepingHandler R) → Replays (answers_keeping starts looks takes) begins history end → history ≡ before ++ e ∷ after → IsAt before e end
+  pub is_at : (before after : List Entry) (e : Entry) (history : List Entry) (end : Ledger × KeepingHandler R) → Replays (answers_keeping starts looks takes) begins history end → history ≡ before ++ e ∷ after → IsAt before e end
   is_at before after e history end (nothing_replayed s first) is = absurd (none_pushed before after e is)
   is_at before [] e history end (one_replayed h s x t legal answered) is =
       let same = last_same h before x e is in
@@ -209,14 +214,10 @@ module _ {R : Type 0} (starts : R → ℕ → AdmittedJob → Result (Unit {0}) 
     after : StayOver desk.jobs new.jobs
     tells : Tells e (report_told (report_at desk number))
 
-  reported_there : (d : Ledger) (r : R) (number : ℕ) (told : Data) (m : Ledger) (s : R) (query : Result Asked ℕ) → query ≡ Ok (result number) → Replies starts looks d r query told m s → told ≡ report_told (report_at d number)
-  unfolding Replies
-  reported_there d r number told m s query is replies = (subst (λ (q : Result Asked ℕ). Replies starts looks d r q told m s) is replies).0
-
   told_by : (number : ℕ) (x : Ledger × KeepingHandler R) (e : Entry) (y : Ledger × KeepingHandler R) → answers_keeping starts looks takes x e.query e.reply y → e.query ≡ Ok (result number) → IsToldBy number x.0 e y.0
   told_by number x e y answers asks =
       let a = answers.0.1 in
-      let is = reported_there a.mid a.rest number (reply_data a.told) answers.0.0 y.1.runner e.query asks a.replies in
+      let is = reported_there starts looks takes a.mid a.rest number (reply_data a.told) answers.0.0 y.1.runner e.query asks a.replies in
       record {
         desk = a.mid;
         before = stay_taken starts looks takes x.0 x.1.runner a.mid a.passed.last a.passed.taken;
