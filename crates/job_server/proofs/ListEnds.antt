@@ -72,7 +72,7 @@ pub length_joined : {X : Type 0} (xs ys : List X) → length (xs ++ ys) ≡ leng
 length_joined [] ys = omega arith
 length_joined (x ∷ xs) ys = let later = length_joined xs ys in omega (arith, later)
 
--- what stands in one of two lists of one length stands in the other
+-- each place of a list within its length has an element, and none past it has
 pub get_within : {X : Type 0} (xs : List X) (i : ℕ) → i < length xs → (x : X) × (slice_get xs i ≡ Some x)
 get_within [] i lt = absurd (omega (arith, lt))
 get_within (x ∷ xs) zero lt = (x, refl)

@@ -136,7 +136,7 @@ module _ {R : Type 0} (starts : R → ℕ → AdmittedJob → Result (Unit {0}) 
 
 -- ---- its result
 
--- what was told of it stays, unless it wasn't over
+-- a result stays as it was told, unless the job wasn't over
 abbrev Stays : Option JobEntry → Option JobEntry → Type 0
 Stays old new = (report_told (report_in old) ≡ refused 76) ⊎ (report_told (report_in old) ≡ refused 77)
     ⊎ (report_told (report_in new) ≡ report_told (report_in old)) ⊎ (report_told (report_in new) ≡ refused 76)
