@@ -4,3 +4,13 @@ pub mod Pooled
 pub mod Alike
 pub mod AtOnceAlike
 pub mod Ended
+pub mod ListEnds
+pub mod StandsFor
+pub mod HistoryStands
+pub mod LimitedHolds
+pub mod ReplyFrames
+pub mod RisingNumbers
+pub mod StaysOver
+pub mod WentOver
+pub mod RefusedResults
+pub mod FromSubmit

@@ -14,3 +14,5 @@ pub mod Visits
 pub mod Runs
 pub mod LogLines
 pub mod Told
+pub mod EndToEnd
+pub mod Payloads

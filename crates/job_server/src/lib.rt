@@ -85,6 +85,11 @@ mod serving_clients;
 pub use at_once::serve_at_once;
 pub use serving_clients::{serve_clients, serve_clients_on};
 
+// the meaning of the replies, from a submit to its result
+mod laws;
+
+pub use laws::{numbers_rise, payloads_lead_to_payloads, results_come_from_submits};
+
 // the same by sockets in the file system
 mod local_listener;
 mod serving_local;

@@ -1,0 +1,154 @@
+-- A result comes from a submit before it, at a host whose jobs a pool holds.
+use Rattle.std.proofs.Common.{◌≡◌, ◌+◌, ◌<◌, ◌^◌, ℕ, zero, suc, Bool, All, List, [], ◌∷◌, ◌++◌, length, slice_get, Some, None, Result, Ok, refl, sym, ap, subst, ◌∙◌, ◌⊎◌, inl, inr, ◌-◌, arith}
+use Rattle.std.proofs.lemmas.Option.{slice_get_within, get_or_from_slice_get}
+use Rattle.serde_json.specs.Data.{Data}
+use Rattle.job_core.specs.Admitted.{AdmittedJob}
+use Rattle.sessions.specs.Grammar.{Asked, result}
+use Rattle.sessions.specs.Replies.{submit_data}
+use Rattle.shared_desk.specs.Histories.{Entry}
+use Rattle.job_server.specs.Started.{pooled_at, pooled_count}
+use Rattle.job_server.specs.Holds.{StartsBy, TellsBy, TakesBy}
+use Rattle.job_server.specs.Bounded.{starts_within, looks_within, takes_within}
+use Rattle.bpfjobs_cli.specs.declared.commands.Bounds.{Bounds}
+use Rattle.job_server.specs.declared.fault.ServeFault.{ServeFault}
+use Rattle.shared_desk.specs.declared.closed.ClosedConnection.{ClosedConnection}
+use Rattle.shared_desk.specs.Closed.{AreClosed, IsServedWhole}
+use Rattle.job_server.specs.Payloads.{IsEntryOf, ComesFromPayload}
+use Rattle.job_server.specs.AtOnce.{Pool, Hosted, new_host, IsServingClients}
+use Rattle.job_server.specs.EndToEnd.{AreTaken, submit_of, none_yet, one_more, no_more, taken_at, IsSubmit, IsResultOf, reported, failed, not_over, forgotten, unknown, IsToldResult, IsResultFrame, ComesFromSubmit, IsHostHistory, AsksForJob, StaysTold, IsToldRefusal, Tells}
+use Rattle.streams.specs.Answering.{refused}
+use Rattle.job_server.proofs.ListEnds.{get_pushed, joined_again}
+use Rattle.job_server.proofs.HistoryStands.{taken_is, history_stands, history_tells}
+use Rattle.job_server.proofs.RefusedResults.{told_refusal}
+use Rattle.job_server.proofs.RisingNumbers.{numbers_rise}
+use Rattle.job_server.proofs.StaysOver.{results_stay}
+use Rattle.job_server.proofs.WentOver.{is_entry_of}
+use Rattle.job_server.proofs.LimitedHolds.{job_held, limited_holds}
+use Rattle.job_server.proofs.ReplyFrames.{third, third_of_result, third_of_refused}
+
+-- ---- the submit of a job
+
+record IsThere (history : List Entry) (number : ℕ) (job : AdmittedJob) : Type 0 where
+  earlier : List Entry
+  asked : Entry
+  between : List Entry
+  is_before : history ≡ earlier ++ asked ∷ between
+  is_submit : IsSubmit asked number job
+
+later : (history : List Entry) (number : ℕ) (job : AdmittedJob) (e : Entry) → IsThere history number job → IsThere (history ++ e ∷ []) number job
+later history number job e t = record {
+  earlier = t.earlier;
+  asked = t.asked;
+  between = t.between ++ e ∷ [];
+  is_before = ap (λ l. l ++ e ∷ []) t.is_before ∙ joined_again t.earlier t.asked t.between (e ∷ []);
+  is_submit = t.is_submit;
+}
+
+submitted : (history : List Entry) (jobs : List AdmittedJob) → AreTaken history jobs → (i : ℕ) (job : AdmittedJob) → slice_get jobs i ≡ Some job → IsThere history (i + 1) job
+submitted _ _ none_yet i job at = cc
+submitted _ _ (no_more history jobs e before no_job) i job at = later history (i + 1) job e (submitted history jobs before i job at)
+submitted _ _ (one_more history jobs e last before is_submit) i job at = by_place (λ was. later history (i + 1) job e (submitted history jobs before i job was)) (get_pushed jobs last i job at)
+  where
+    by_place : (slice_get jobs i ≡ Some job → IsThere (history ++ e ∷ []) (i + 1) job) → (slice_get jobs i ≡ Some job) ⊎ ((i ≡ length jobs) × (last ≡ job)) → IsThere (history ++ e ∷ []) (i + 1) job
+    by_place there (inl was) = there was
+    by_place there (inr new) = record {
+      earlier = history;
+      asked = e;
+      between = [];
+      is_before = refl;
+      is_submit = subst (λ (t : ℕ × AdmittedJob). IsSubmit e (t.0 + 1) t.1) (λ k. (sym new.0 k, new.1 k)) is_submit;
+    }
+
+place_of : (history : List Entry) (jobs : List AdmittedJob) (number : ℕ) (job : AdmittedJob) → AreTaken history jobs → taken_at jobs number ≡ Some job → IsThere history number job
+place_of history jobs zero job taken at = let clash : None ≡ Some job = at in cc
+place_of history jobs (suc n) job taken at =
+    let place : suc n - 1 + 1 ≡ suc n = omega arith in
+    subst (λ (m : ℕ). IsThere history m job) place (submitted history jobs taken (suc n - 1) job (sym (taken_is jobs (suc n) (omega arith)) ∙ at))
+
+-- ---- a result comes from its submit
+
+no_result : (e : Entry) (code : ℕ) → IsResultFrame e.reply → Tells e (refused code) → ⊥
+no_result e code f tells =
+    let clash : 98 ≡ 99 = sym (ap third f.frame ∙ third_of_result f.buffer f.returned f.spent f.tasks) ∙ ap third tells ∙ third_of_refused code None None in
+    absurd (omega (arith, clash))
+
+by_result : (keep : ℕ) (before : List Entry) (number : ℕ) (e : Entry) (jobs : List AdmittedJob) → AreTaken before jobs → IsResultFrame e.reply → (told : Data) → IsResultOf keep jobs number told → Tells e told → ComesFromSubmit before number e
+by_result keep before number e jobs taken f _ (failed job code at fails) tells = absurd (no_result e code f tells)
+by_result keep before number e jobs taken f _ (not_over job at) tells = absurd (no_result e 77 f tells)
+by_result keep before number e jobs taken f _ (forgotten job at some later) tells = absurd (no_result e 76 f tells)
+by_result keep before number e jobs taken f _ (unknown at) tells = absurd (no_result e 76 f tells)
+by_result keep before number e jobs taken f _ (reported job report at run) tells =
+    let there = place_of before jobs number job taken at in
+    record {
+      earlier = there.earlier;
+      asked = there.asked;
+      between = there.between;
+      is_before = there.is_before;
+      job = job;
+      is_submit = there.is_submit;
+      report = report;
+      run = run;
+      tells = tells;
+    }
+
+pub comes_from_submit : (keep : ℕ) (before : List Entry) (number : ℕ) (e : Entry) → IsToldResult keep before number e → IsResultFrame e.reply → ComesFromSubmit before number e
+comes_from_submit keep before number e t f = by_result keep before number e t.jobs t.taken f t.told t.is_result t.tells
+
+-- the report adds up to the credit that was asked
+pub adds_up : (before : List Entry) (number : ℕ) (e : Entry) (r : ComesFromSubmit before number e) → r.report.spent + r.report.returned ≡ r.is_submit.credit
+adds_up before number e r = r.run.final.whole ∙ r.is_submit.admitted.same_credit
+
+-- ---- a host
+
+fresh_host : (bounds : Bounds) (first : Pool) (x : Hosted) → x ≡ new_host bounds first → (x.0.jobs ≡ []) × (x.1.keep ≡ bounds.keep)
+fresh_host bounds first x is = (ap (λ (h : Hosted). h.0.jobs) is, ap (λ (h : Hosted). h.1.keep) is)
+
+pub host_tells : (bounds : Bounds) (before after : List Entry) (e : Entry) (number : ℕ) → IsHostHistory bounds (before ++ e ∷ after) → e.query ≡ Ok (result number) → IsToldResult bounds.keep before number e
+host_tells bounds before after e number h asks =
+    history_tells (starts_within pooled_count (StartsBy pooled_at pooled_count)) (looks_within (TellsBy pooled_at pooled_count)) (takes_within (TakesBy pooled_at pooled_count))
+    (job_held pooled_at pooled_count) (limited_holds pooled_at pooled_count) (λ s. s ≡ new_host bounds h.first) bounds.keep (fresh_host bounds h.first) before after e number h.end h.legal asks
+
+pub host_comes : (bounds : Bounds) (before after : List Entry) (e : Entry) (number : ℕ) → IsHostHistory bounds (before ++ e ∷ after) → e.query ≡ Ok (result number) → IsResultFrame e.reply → ComesFromSubmit before number e
+host_comes bounds before after e number h asks f = comes_from_submit bounds.keep before number e (host_tells bounds before after e number h asks) f
+
+pub host_refuses : (bounds : Bounds) (before after : List Entry) (e : Entry) (number code : ℕ) → IsHostHistory bounds (before ++ e ∷ after) → e.query ≡ Ok (result number) → Tells e (refused code) → code < 2 ^ 64
+    → IsToldRefusal bounds.keep before number code
+host_refuses bounds before after e number code h asks tells small = told_refusal bounds.keep before number e code (host_tells bounds before after e number h asks) tells small
+
+pub host_stays : (bounds : Bounds) (before between after : List Entry) (e f : Entry) (number : ℕ) → IsHostHistory bounds (before ++ e ∷ (between ++ f ∷ after)) → e.query ≡ Ok (result number) → f.query ≡ Ok (result number) → StaysTold e f
+host_stays bounds before between after e f number h asks_e asks_f =
+    results_stay (starts_within pooled_count (StartsBy pooled_at pooled_count)) (looks_within (TellsBy pooled_at pooled_count)) (takes_within (TakesBy pooled_at pooled_count))
+    (λ s. s ≡ new_host bounds h.first) before between after e f number h.end h.legal asks_e asks_f
+
+pub host_rises : (bounds : Bounds) (before between after : List Entry) (e f : Entry) (m n : ℕ) → IsHostHistory bounds (before ++ e ∷ (between ++ f ∷ after)) → length (before ++ e ∷ between) < 2 ^ 64 - 1
+    → AsksForJob e.query → Tells e (submit_data m) → m < 2 ^ 64 → AsksForJob f.query → Tells f (submit_data n) → n < 2 ^ 64 → m < n
+host_rises bounds before between after e f m n h short asks_e tells_e small_m asks_f tells_f small_n =
+    let stands = history_stands (starts_within pooled_count (StartsBy pooled_at pooled_count)) (looks_within (TellsBy pooled_at pooled_count)) (takes_within (TakesBy pooled_at pooled_count))
+    (job_held pooled_at pooled_count) (limited_holds pooled_at pooled_count) (λ s. s ≡ new_host bounds h.first) bounds.keep (fresh_host bounds h.first) (before ++ e ∷ (between ++ f ∷ after)) h.end h.legal in
+    numbers_rise before between after e f stands.1.0 m n stands.1.1 short asks_e tells_e small_m asks_f tells_f small_n
+
+-- ---- a server of many connections
+
+pub host_history : (bounds : Bounds) (sessions : ℕ) (may_stop : Bool) (outcome : Result (Unit {0}) ServeFault) (s : IsServingClients bounds sessions may_stop outcome) → IsHostHistory bounds s.serving.history
+host_history bounds sessions may_stop outcome s = record { first = s.first; end = s.end; legal = s.serving.legal }
+
+each_served : (closed : List ClosedConnection) → All IsServedWhole closed → (i : ℕ) (c : ClosedConnection) → slice_get closed i ≡ Some c → IsServedWhole c
+each_served closed served i c at = subst IsServedWhole (get_or_from_slice_get closed i c c at) (served i c (slice_get_within closed i c at))
+
+pub host_entries : (bounds : Bounds) (sessions : ℕ) (may_stop : Bool) (outcome : Result (Unit {0}) ServeFault) (s : IsServingClients bounds sessions may_stop outcome) (before after : List Entry) (e : Entry) (asks : Asked)
+    → s.serving.history ≡ before ++ e ∷ after → e.query ≡ Ok asks → IsEntryOf s.serving.closed e asks
+host_entries bounds sessions may_stop outcome s before after e asks is own =
+    is_entry_of s.serving.opened before after e s.serving.closed asks (subst (λ h. AreClosed s.serving.opened h s.serving.closed) is s.serving.parts) (each_served s.serving.closed s.serving.served) own
+
+pub host_payloads : (bounds : Bounds) (sessions : ℕ) (may_stop : Bool) (outcome : Result (Unit {0}) ServeFault) (s : IsServingClients bounds sessions may_stop outcome) (before after : List Entry) (e : Entry) (number : ℕ)
+    → s.serving.history ≡ before ++ e ∷ after → e.query ≡ Ok (result number) → IsResultFrame e.reply → ComesFromPayload s.serving.closed before number e
+host_payloads bounds sessions may_stop outcome s before after e number is asks f = record {
+  comes = comes;
+  submitted = host_entries bounds sessions may_stop outcome s comes.earlier (comes.between ++ e ∷ after) comes.asked
+      (submit_of comes.is_submit.name comes.is_submit.programs comes.is_submit.credit comes.is_submit.buffer)
+      (is ∙ ap (λ l. l ++ e ∷ after) comes.is_before ∙ joined_again comes.earlier comes.asked comes.between (e ∷ after)) comes.is_submit.asks;
+  told = host_entries bounds sessions may_stop outcome s before after e (result number) is asks;
+}
+  where
+    comes : ComesFromSubmit before number e
+    comes = host_comes bounds before after e number (subst (IsHostHistory bounds) is (host_history bounds sessions may_stop outcome s)) asks f
