@@ -306,10 +306,11 @@ impl<'a, 'b, R: Wait, J: JobId + 'static> Worker<'a, 'b, R, J> {
             × (self.new.turn ≡ self.old.turn) }
         ensures told { self.new.ended.items ≡ [] }
     {
-        if !self.ended.is_empty() {
-            let mut desk = self.desk();
-            self.tell(&mut desk);
+        if self.ended.is_empty() {
+            return;
         }
+        let mut desk = self.desk();
+        self.tell(&mut desk);
     }
 
     /// The same, where nobody is at the desk. Otherwise all stays held back.

@@ -18,15 +18,19 @@ returns-clause-starts g c =
     elim c.match-put_now.branch [
       | in-Ok-put_now w ↦
           rw (w.result-is, w.self-is) (
-          adds_job was.keeper c.enter-seat.new.keeper was.boards c.note.new.values c.enter-seat.result c.args.number c.args.job c.new.result
-          seat.seat.0 seat.seat.1 seat.keeper vacant noted.here noted.others noted.count
-          (ap (λ s. s.seen) c.new.ensures ∙ c.in-Ok.ensures.reader.1) (ap (λ s. s.looks) c.new.ensures ∙ c.in-Ok.ensures.reader.2),
-          w.in-Ok-put_now.ensures ∙ ap (with_put was.queue) (λ i. record { number = seat.seat.0 i; job = seat.seat.1 i }))
+            adds_job was.keeper c.enter-seat.new.keeper was.boards c.note.new.values c.enter-seat.result c.args.number c.args.job c.new.result
+                seat.seat.0 seat.seat.1 seat.keeper vacant noted.here noted.others noted.count
+                (ap (λ s. s.seen) c.new.ensures ∙ c.in-Ok.ensures.reader.1) (ap (λ s. s.looks) c.new.ensures ∙ c.in-Ok.ensures.reader.2),
+            w.in-Ok-put_now.ensures ∙ ap (with_put was.queue) (λ i. record { number = seat.seat.0 i; job = seat.seat.1 i }),
+          )
       | in-Err w ↦
-          rw (w.result-is, w.self-is) ((
-            inl refl,
-            adds_none was.keeper c.enter-seat.new.keeper was.boards w.forget.new.values c.enter-seat.result c.args.number
-                seat.seat.0 seat.keeper vacant w.forget.ensures.gone (λ m differs. w.forget.ensures.others m differs ∙ noted.others m differs)
-                (let less = w.forget.ensures.count in let more = noted.count in omega arith),
-          ), w.in-Err.ensures.1)
+          rw (w.result-is, w.self-is) (
+            (
+              inl refl,
+              adds_none was.keeper c.enter-seat.new.keeper was.boards w.forget.new.values c.enter-seat.result c.args.number
+                  seat.seat.0 seat.keeper vacant w.forget.ensures.gone (λ m differs. w.forget.ensures.others m differs ∙ noted.others m differs)
+                  (let less = w.forget.ensures.count in let more = noted.count in omega arith),
+            ),
+            w.in-Err.ensures.1,
+          )
     ]
