@@ -1,18 +1,27 @@
 #!/usr/bin/env python3
 """Keeps `bpfjobs serve` busy with good and bad clients for a while, and looks at what is left of it.
 
-    .ci/soak.py [--seconds N] [--clients N] [--seed N] [--workers N] [--at-once K] [--timeout T] [--open-jobs N] [--keep N] [--silent N]
-                [--pause MS] [--unit FILE] [--program FILE]
+    .ci/soak.py [--seconds N | --jobs N] [--trees N] [--burst N] [--clients N] [--seed N] [--workers N]
+                [--at-once K] [--timeout T] [--open-jobs N] [--keep N] [--silent N] [--pause MS]
+                [--unit FILE] [--program FILE]
 
-It starts the server on a free port of 127.0.0.1, the only address that it speaks to. The clients grant, give good and bad jobs, ask,
-cut connections at any byte and send rubbish, as the seed says, and wait MS milliseconds ahead of each connection: a server takes a million of
-them at most. The server serves K of them at once, and N more connections say nothing, each until it is given up, and begin anew. An auditor asks
-now and then how many jobs there are. At the end each account has to add up, against what was granted and against the reports of its jobs; the
-server has to have no thread and no socket but those that it began with; and its memory is told as bytes a job, by the line that fits best, and
-by each minute.
+It starts the server on a free port of 127.0.0.1, the only address that it speaks to. The clients
+grant, give good and bad jobs, ask, cut connections at any byte and send rubbish, as the seed says.
+They wait MS milliseconds ahead of each connection, since a server takes a million of them at most.
+The server serves K of them at once, and N more connections say nothing, each until it is given up,
+and begin anew. The clients end after so many seconds, or once so many good jobs are taken.
 
-With --unit the server has the environment that this systemd unit sets, and its memory may not grow behind the first minute: no later minute's mean,
-and not what it has at the end, is over the most that it had in the first, and the line's rise a job is none. Status: 0, or 1 where something doesn't
+A good job is that of `examples/spawn.json`, or with `--trees N` one of N pseudo-random trees
+(`tests/trees.py`). Each client gives up to `--burst N` of them at once.
+
+At the end the result of each job, with each of its tasks, has to be the model's (`tests/jobs.py`).
+Each account has to add up, against what was granted and against these results. The server has to
+have no thread and no socket but those that it began with. Its memory is told as bytes a job, by
+the line that fits best, and by each minute.
+
+With --unit the server has the environment that this systemd unit sets, and its memory may not grow
+behind the first minute: no later minute's mean, and not what it has at the end, is over the most
+that it had in the first, and the line's rise a job is none. Status: 0, or 1 where something doesn't
 hold.
 """
 
@@ -28,6 +37,8 @@ import threading
 import time
 
 TOP = os.path.dirname(os.path.dirname(os.path.abspath(__file__)))
+sys.path.insert(0, os.path.join(TOP, "tests"))
+from trees import Planter, Tree, comparable  # noqa: E402  (the module stands in the folder that was just added)
 
 # A connection more than these is never taken, so that the server is ended by a signal.
 SESSIONS = 1000000
@@ -37,6 +48,12 @@ A_MINUTE = 120
 
 # Seconds that a client waits for a reply.
 PATIENCE = 60.0
+
+# How many results an auditor asks for at once.
+AT_ONCE = 200
+
+# Of so many sums of what unknown jobs spent each is looked at.
+MOST_SUMS = 10000
 
 ROOT = (
     "bf16000000000000b701000001000000b70200000a000000b703000004000000b704000009000000"
@@ -48,9 +65,6 @@ JOB = {
     "buffer": "0000000000000000",
     "programs": [{"need": 4, "code": ROOT}, {"need": 4, "code": CHILD}],
 }
-
-# What such a job comes to.
-SPENT, RETURNED, BUFFER = 27, 7, "0000000009000000"
 
 # Jobs that no desk takes, each with the number of its refusal where the balance suffices.
 BAD_JOBS = [
@@ -71,6 +85,37 @@ def framed(text):
 
 def encoded(request):
     return framed(json.dumps(request).encode())
+
+
+class Good:
+    """A good job: what is asked for, and what it has to come to."""
+
+    def __init__(self, job):
+        self.request = {**job, "op": "submit"}
+        programs = [(one["need"], bytes.fromhex(one["code"])) for one in job["programs"]]
+        self.report = Tree(programs, job["credit"], bytes.fromhex(job["buffer"])).report()
+        self.spent = self.report["spent"]
+
+    def is_right(self, reply):
+        return reply.get("ok") and comparable(reply) == self.report
+
+
+def good_jobs(words):
+    """The jobs that clients give."""
+    if not words.trees:
+        return [Good(JOB)]
+
+    def assemble(text):
+        ran = subprocess.run([words.program, "assemble"], input=text, capture_output=True, text=True, check=True)
+        return bytes.fromhex(ran.stdout)
+
+    planter = Planter(words.seed, assemble)
+    trees = [planter.tree() for _ in range(words.trees)]
+    listed = [[{"need": need, "code": code.hex()} for need, code in tree.programs] for tree in trees]
+    return [
+        Good({"credit": tree.credit, "buffer": tree.buffer.hex(), "programs": programs})
+        for tree, programs in zip(trees, listed)
+    ]
 
 
 class Gone(Exception):
@@ -95,6 +140,11 @@ class Connection:
         self.send(encoded(request))
         return self.reply()
 
+    def ask_all(self, requests):
+        """The replies to requests that are sent at once."""
+        self.send(b"".join(map(encoded, requests)))
+        return [self.reply() for _ in requests]
+
     def close(self, reset=False):
         if reset:
             self.stream.setsockopt(socket.SOL_SOCKET, socket.SO_LINGER, struct.pack("ii", 1, 0))
@@ -116,23 +166,30 @@ class Connection:
 class Client(threading.Thread):
     """One tenant. What it knows of its account is what it was answered, and at most what it sent."""
 
-    def __init__(self, port, number, seed, until, keeps, limited, pause=0.0):
+    def __init__(self, port, number, words, good, until):
         super().__init__(daemon=True)
-        self.pause = pause
-        self.port = port
+        self.pause, self.burst_of = words.pause / 1000, words.burst
+        self.port, self.good, self.until = port, good, until
         # what else may be told of a job: that it is forgotten, or that it was one too many
-        self.others = (76,) * keeps + (81,) * limited
+        self.others = (76,) * (words.keep > 0) + (81,) * (words.open_jobs > 0)
         self.tenant = f"tenant-{number}"
-        self.random = random.Random(seed * 1000003 + number)
-        self.until = until
+        self.random = random.Random(words.seed * 1000003 + number)
+        # its part of the jobs that are wanted of all
+        self.most = words.jobs and -(-words.jobs // words.clients)
         self.granted = 0
         self.unsure = 0
-        self.jobs = []
+        # the number of each job and what it is, and what others are whose reply didn't come
+        self.jobs, self.unknown = [], []
         self.counts = dict.fromkeys(("connections", "requests", "jobs", "bad jobs", "cut", "rubbish"), 0)
         self.wrong = []
 
+    def is_over(self):
+        if self.most:
+            return self.counts["jobs"] >= self.most
+        return time.monotonic() >= self.until
+
     def run(self):
-        while time.monotonic() < self.until:
+        while not self.is_over():
             time.sleep(self.pause)
             try:
                 self.visit()
@@ -161,7 +218,7 @@ class Client(threading.Thread):
             self.wrong.append(f"{self.tenant}: {what}")
 
     def grant(self, connection):
-        amount = self.random.randint(1, 2000)
+        amount = self.random.randint(1, 2000) * self.burst_of * len(self.good)
         self.unsure += amount
         reply = self.asked(connection, {"op": "grant", "amount": amount})
         self.unsure -= amount
@@ -170,11 +227,18 @@ class Client(threading.Thread):
         return True
 
     def good_job(self, connection):
-        reply = self.asked(connection, {**JOB, "op": "submit"})
-        self.expect(reply.get("ok") or reply.get("code") in (74, 75), f"a good job: {reply}")
-        if reply.get("ok"):
-            self.jobs.append(reply["job"])
-            self.counts["jobs"] += 1
+        """One job, or as many at once as a burst has."""
+        given = [self.random.choice(self.good) for _ in range(self.random.randint(1, self.burst_of))]
+        before = self.unknown
+        self.unknown = before + given
+        replies = connection.ask_all([{**good.request, "tenant": self.tenant} for good in given])
+        self.unknown = before
+        self.counts["requests"] += len(given)
+        for good, reply in zip(given, replies):
+            self.expect(reply.get("ok") or reply.get("code") in (74, 75), f"a good job: {reply}")
+            if reply.get("ok"):
+                self.jobs.append((reply["job"], good))
+                self.counts["jobs"] += 1
         return True
 
     def bad_job(self, connection):
@@ -190,14 +254,16 @@ class Client(threading.Thread):
             sums = reply["open"] + reply["spent"] + reply["balance"]
             self.expect(sums == reply["granted"], f"an account: {reply}")
         if self.jobs:
-            reply = self.asked(connection, {"op": "status", "job": self.random.choice(self.jobs)})
+            reply = self.asked(connection, {"op": "status", "job": self.random.choice(self.jobs)[0]})
             self.expect(reply.get("ok") or reply["code"] in self.others, f"a status: {reply}")
         return True
 
     def result(self, connection):
         if self.jobs:
-            reply = self.asked(connection, {"op": "result", "job": self.random.choice(self.jobs)})
-            self.expect(is_right(reply) or reply.get("code") in (77, *self.others), f"a result: {reply}")
+            job, good = self.random.choice(self.jobs)
+            reply = self.asked(connection, {"op": "result", "job": job})
+            is_known = good.is_right(reply) or reply.get("code") in (77, *self.others)
+            self.expect(is_known, f"a result: {reply}")
         return True
 
     def burst(self, connection):
@@ -226,11 +292,6 @@ class Client(threading.Thread):
     ACTS = [grant, good_job, good_job, good_job, good_job, bad_job, look, result, burst, cut, rubbish]
 
 
-def is_right(reply):
-    """Whether it is the result of the good job; its child's spawn may have found no memory."""
-    return reply.get("ok") and (reply["spent"], reply["returned"], reply["buffer"]) == (SPENT, RETURNED, BUFFER)
-
-
 def status_of(process):
     """Threads, and bytes that are resident."""
     with open(f"/proc/{process.pid}/status", encoding="utf-8") as file:
@@ -252,34 +313,57 @@ def slope(points):
     return over / under if under else 0.0
 
 
-def audit(port, clients):
-    """Asks for each account and each job, and tells what doesn't add up."""
-    wrong = []
-    connection = Connection(port)
-    for client in clients:
-        refused = 0
-        for job in client.jobs:
+def results_of(connection, jobs):
+    """The result of each job, once it is over."""
+    for at in range(0, len(jobs), AT_ONCE):
+        asked = [{"op": "result", "job": job} for job, _ in jobs[at : at + AT_ONCE]]
+        for request, reply in zip(asked, connection.ask_all(asked)):
             until = time.monotonic() + PATIENCE
-            reply = connection.ask({"op": "result", "job": job})
             while reply.get("code") == 77 and time.monotonic() < until:
                 time.sleep(0.01)
-                reply = connection.ask({"op": "result", "job": job})
-            if not is_right(reply) and reply.get("code") not in client.others:
-                wrong.append(f"job {job} of {client.tenant}: {reply}")
-            refused += reply.get("code") == 81
-        reply = connection.ask({"op": "account", "tenant": client.tenant})
-        if not reply.get("ok"):
-            if client.granted:
-                wrong.append(f"{client.tenant}: {reply}")
-            continue
-        known = client.granted <= reply["granted"] <= client.granted + client.unsure
-        # a job whose reply didn't come isn't known to its client
-        more, odd = divmod(reply["spent"] - SPENT * (len(client.jobs) - refused), SPENT)
-        adds = reply["balance"] + reply["spent"] == reply["granted"] and reply["open"] == 0
-        if 81 in client.others and 76 in client.others:
-            more = 0  # of a job that is forgotten nobody knows whether it was one too many
-        if not (known and adds and odd == 0 and more >= 0):
-            wrong.append(f"{client.tenant}: {reply}, of {client.granted} granted and {len(client.jobs)} jobs")
+                reply = connection.ask(request)
+            yield reply
+
+
+def may_be_sum(total, parts):
+    """Whether some of the parts add up to the total, as far as that is looked for."""
+    if not 0 <= total <= sum(parts):
+        return False
+    sums = {0}
+    for part in parts:
+        sums |= {one + part for one in sums}
+        if len(sums) > MOST_SUMS:
+            return True
+    return total in sums
+
+
+def audit_account(connection, client):
+    """Asks for each result of a client and for its account, and tells what isn't right."""
+    spent, unknown = 0, [good.spent for good in client.unknown]
+    for (job, good), reply in zip(client.jobs, results_of(connection, client.jobs)):
+        if good.is_right(reply):
+            spent += good.spent
+        elif reply.get("code") not in client.others:
+            yield f"job {job} of {client.tenant}: {reply}"
+        elif reply["code"] == 76:
+            # a job that is forgotten spent what it had to, unless it was one too many
+            spent += 0 if 81 in client.others else good.spent
+            unknown += [good.spent] * (81 in client.others)
+    reply = connection.ask({"op": "account", "tenant": client.tenant})
+    if not reply.get("ok"):
+        if client.granted:
+            yield f"{client.tenant}: {reply}"
+        return
+    known = client.granted <= reply["granted"] <= client.granted + client.unsure
+    adds = reply["balance"] + reply["spent"] == reply["granted"] and reply["open"] == 0
+    if not (known and adds and may_be_sum(reply["spent"] - spent, unknown)):
+        yield f"{client.tenant}: {reply}, of {client.granted} granted and {len(client.jobs)} jobs"
+
+
+def audit(port, clients):
+    """What isn't right of the clients' jobs and accounts."""
+    connection = Connection(port)
+    wrong = [text for client in clients for text in audit_account(connection, client)]
     connection.close()
     return wrong
 
@@ -323,7 +407,7 @@ def keep_busy(process, clients, seconds):
             sys.exit(f"soak: the server ended with status {process.returncode}: {process.stdout.read()[-500:]}")
         points.append((sum(client.counts["jobs"] for client in clients), status_of(process)[1]))
         if time.monotonic() > until + 2 * PATIENCE:
-            sys.exit("soak: a client isn't answered")
+            sys.exit("soak: a client isn't answered, or there are too few jobs")
         time.sleep(0.5)
     if process.poll() is not None:
         taken = sum(client.counts["connections"] for client in clients)
@@ -356,8 +440,8 @@ def soak(words, process, port):
     threads, size = status_of(process)
     sockets = sockets_of(process)
     until = time.monotonic() + words.seconds
-    bounds = (words.keep > 0, words.open_jobs > 0)
-    clients = [Client(port, number, words.seed, until, *bounds, words.pause / 1000) for number in range(words.clients)]
+    good = good_jobs(words)
+    clients = [Client(port, number, words, good, until) for number in range(words.clients)]
     silent = [threading.Thread(target=say_nothing, args=(port, until)) for _ in range(words.silent)]
     for thread in silent:
         thread.start()
@@ -365,7 +449,9 @@ def soak(words, process, port):
     for thread in silent:
         thread.join()
     wrong = [text for client in clients for text in client.wrong]
+    began = time.monotonic()
     wrong += audit(port, clients)
+    print(f"soak: {sum(len(client.jobs) for client in clients)} results compared in {time.monotonic() - began:.0f} seconds")
     time.sleep(1)
     after_threads, after_size = status_of(process)
     if after_threads != threads:
@@ -384,7 +470,10 @@ def soak(words, process, port):
 
 def main():
     reader = argparse.ArgumentParser(description="Keeps a server busy for a while, and looks at what is left of it.")
-    reader.add_argument("--seconds", type=int, default=60)
+    reader.add_argument("--seconds", type=int)
+    reader.add_argument("--jobs", type=int, default=0)
+    reader.add_argument("--trees", type=int, default=0)
+    reader.add_argument("--burst", type=int, default=1)
     reader.add_argument("--clients", type=int, default=8)
     reader.add_argument("--seed", type=int, default=1)
     reader.add_argument("--workers", type=int, default=4)
@@ -397,8 +486,11 @@ def main():
     reader.add_argument("--unit")
     reader.add_argument("--program", default=os.path.join(TOP, "crates/bpfjobs/out/bpfjobs"))
     words = reader.parse_args()
+    words.seconds = words.seconds or (3600 if words.jobs else 60)
     if not (1 <= words.seconds <= 3600 and 1 <= words.clients <= 64):
         reader.error("--seconds is 1 to 3600, --clients 1 to 64")
+    if not (0 <= words.jobs and 0 <= words.trees and 1 <= words.burst):
+        reader.error("--jobs and --trees are 0 or more, --burst 1 or more")
     port = free_port()
     bounds = {"--clients": words.at_once, "--timeout": words.timeout, "--open-jobs": words.open_jobs, "--keep": words.keep}
     more = [word for name, value in bounds.items() for word in (name, str(value)) if value != (name == "--clients")]
@@ -410,7 +502,7 @@ def main():
         process.wait()
     for text in wrong[:20]:
         print(f"soak: {text}")
-    print(f"soak: {len(wrong)} wrong" if wrong else "soak: every account adds up, and nothing is left over")
+    print(f"soak: {len(wrong)} wrong" if wrong else "soak: each result is the model's, every account adds up, and nothing is left over")
     return 1 if wrong else 0
 
 

@@ -2,10 +2,10 @@
  *
  * bindings/build makes libtelgovan.a and libtelgovan.so, bindings/install puts them in place.
  *
- * Each answer has a status: 0, or the number of the refusal, of docs/profile.md and
- * docs/protocol.md. No thread is started and no lock is taken. A call touches nothing but what it
- * is lent, and calls nothing of C but malloc, realloc and free, which are of one allocator. Any
- * threads may call at once, each with memory and handles of its own.
+ * Each answer has a status: 0, or the number of the refusal, of docs/refusals.md. No thread is
+ * started and no lock is taken. A call touches nothing but what it is lent, and calls nothing of C
+ * but malloc, realloc and free, which are of one allocator. Any threads may call at once, each with
+ * memory and handles of its own.
  *
  * Each pointer must lead to as many elements as the length behind it says, also where that is 0,
  * and must not be NULL. What is read may be lent twice. What is written (memory, room, runs, tasks,

@@ -8,7 +8,7 @@ import threading
 import time
 import unittest
 
-from programs import PATIENCE, Server, frame, is_read, submit_text
+from programs import IS_SLOW, PATIENCE, Server, frame, is_read, submit_text
 from rows import code_of
 from test_server import dialog, is_later, texts_of
 
@@ -86,7 +86,8 @@ class Worker(threading.Thread):
 
 
 def long_job():
-    """Programs and a credit that keep one worker busy for a while: 60 tasks of 500 tasks of 4,001 steps."""
+    """Programs and a credit that keep one worker busy for a while: 60 tasks of 500 tasks of 4,001 steps, or a tenth of them."""
+    count = 6 if IS_SLOW else 60
     spawn = ["mov64 r1, {}", "mov64 r2, {}", "mov64 r3, 0", "mov64 r4, 0", "call 1"]
     leaf = " / ".join(["mov64 r0, 0"] * 4000 + ["exit"])
 
@@ -95,8 +96,8 @@ def long_job():
         return " / ".join(lines * count + ["mov64 r0, 0", "exit"])
 
     middle_credit = 500 * 4001 + 500 * 100
-    root_credit = 60 * middle_credit + 60 * 100
-    programs = [spawner(60, 1, middle_credit), spawner(500, 2, 4001), leaf]
+    root_credit = count * middle_credit + count * 100
+    programs = [spawner(count, 1, middle_credit), spawner(500, 2, 4001), leaf]
     return [(0, code_of(text)) for text in programs], root_credit
 
 
