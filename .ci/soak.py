@@ -415,15 +415,19 @@ def keep_busy(process, clients, seconds):
     return points
 
 
-def say_nothing(port, until):
+def say_nothing(port, is_over):
     """Connections that are taken and say nothing, one after the other."""
-    while time.monotonic() < until:
+    while not is_over.is_set():
         with socket.create_connection(("127.0.0.1", port)) as stream:
-            stream.settimeout(max(0.1, until - time.monotonic()))
-            try:
-                stream.recv(1)
-            except OSError:
-                pass
+            stream.settimeout(0.5)
+            while not is_over.is_set():
+                try:
+                    stream.recv(1)
+                    break
+                except TimeoutError:
+                    pass
+                except OSError:
+                    break
 
 
 def growth(sizes, at_the_end):
@@ -442,10 +446,14 @@ def soak(words, process, port):
     until = time.monotonic() + words.seconds
     good = good_jobs(words)
     clients = [Client(port, number, words, good, until) for number in range(words.clients)]
-    silent = [threading.Thread(target=say_nothing, args=(port, until)) for _ in range(words.silent)]
+    is_over = threading.Event()
+    silent = [threading.Thread(target=say_nothing, args=(port, is_over)) for _ in range(words.silent)]
     for thread in silent:
         thread.start()
-    points = keep_busy(process, clients, words.seconds)
+    try:
+        points = keep_busy(process, clients, words.seconds)
+    finally:
+        is_over.set()
     for thread in silent:
         thread.join()
     wrong = [text for client in clients for text in client.wrong]
