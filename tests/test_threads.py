@@ -7,7 +7,7 @@ import unittest
 from programs import assemble, bpfjobs, job_text
 from trees import Planter, comparable
 
-# How many trees there are: a sample, or as many as this variable says. 2,300 take some minutes.
+# How many trees there are: a sample, or as many as this variable says. 2,300 take a minute or two.
 COUNT = int(os.environ.get("TELGOVAN_TREES", "100"))
 
 
