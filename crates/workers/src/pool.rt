@@ -44,7 +44,7 @@ pub(crate) fn work<'s, R: Wait, G: Gate, J: JobId + 'static>(
     let Station { watch, lanes } = worker;
     let mut watch = watch;
     let mut frames = Frames::new(alloc);
-    let stay = HeldLock::away(shared.bell());
+    let stay = HeldLock::away();
     let heard = Heard {
         gate,
         listener: &stay,

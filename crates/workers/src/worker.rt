@@ -379,8 +379,7 @@ impl<'a, 'b, R: Wait, J: JobId + 'static> Worker<'a, 'b, R, J> {
     }
 
     /// Puts a new task's ticket into its own lane, or parks it where there is no room for it, and
-    /// wakes a worker that sleeps, but for the first child, which the worker runs next itself if its
-    /// parent soon ends. Of the children that aren't brief all but the first are parked:
+    /// wakes a worker that sleeps. Of the children that aren't brief all but the first are parked:
     /// they may spawn, and a worker claims one where no lane has a ticket. So few workers spawn at
     /// once, and few tickets stand in lanes.
     fn keep(&mut self, desk: &mut LockedBook<J>, ticket: SeatedTicket<J>)
@@ -398,9 +397,7 @@ impl<'a, 'b, R: Wait, J: JobId + 'static> Worker<'a, 'b, R, J> {
         } else {
             desk.park(ticket);
         }
-        if !is_first {
-            self.shared.bell().ring();
-        }
+        self.shared.bell().ring();
     }
 
     /// Spawns a child of the task whose turn it is, at the desk, and keeps its ticket. The task's seat
