@@ -12,8 +12,8 @@ use Rattle.insn_codec.specs.declared.insn.Operand.TheVariants as operand
 use Rattle.insn_codec.specs.declared.insn.Insn.{Insn}
 use Rattle.insn_codec.specs.declared.insn.Insn.TheVariants.{Alu, Mov, Neg, MovSx, End, LoadWide, Load, Store, StoreRegister, Jump, Jump32, JumpIf, Call, Exit}
 use Rattle.insn_codec.specs.Spelling.{IsInsn, IsOperand, IsWhole, spellings}
-use Rattle.disassembler.specs.Line.{register_text, signed_text, operand_text, memory_text, joined, operands_text, tail_text, line_text}
-use Rattle.disassembler.specs.Words.{word_text, word_of}
+use Rattle.disassembler.specs.Line.{register_text, signed_text, operand_text, memory_text, two_operands, operands_text, tail_text, line_text}
+use Rattle.disassembler.specs.Words.{word_text, word_of_insn}
 use Rattle.disassembler.specs.declared.word.Word.{Word}
 use Rattle.disassembler.proofs.Texts.{widened}
 use Rattle.disassembler.proofs.Words.{word_once, word_free}
@@ -52,7 +52,7 @@ source_form (operand.Reg n) h = inl (register_form n h)
 memory_form : (base : ℕ) (offset : ℤ) → base ≤ 10 → FitsSigned w16 offset → IsMemoryForm (memory_text base offset)
 memory_form base offset b o = (register_text base, signed_text offset, refl, register_form base b, offset_form offset (widened offset o))
 
-has_form : (insn : Insn) → IsInsn insn → IsTailOf (operands_of (word_of insn)) (tail_text insn)
+has_form : (insn : Insn) → IsInsn insn → IsTailOf (operands_of (word_of_insn insn)) (tail_text insn)
 has_form (Alu w op dst src) h = (operands_text (Alu w op dst src), refl, (register_text dst, operand_text src, refl, register_form dst h.0, source_form src h.1))
 has_form (Mov w dst src) h = (operands_text (Mov w dst src), refl, (register_text dst, operand_text src, refl, register_form dst h.0, source_form src h.1))
 has_form (MovSx x dst src) h = (operands_text (MovSx x dst src), refl, (register_text dst, register_text src, refl, register_form dst h.0, register_form src h.1))
@@ -64,19 +64,19 @@ has_form (Store size base offset imm) h = (operands_text (Store size base offset
 has_form (StoreRegister size base offset src) h = (operands_text (StoreRegister size base offset src), refl, (memory_text base offset, register_text src, refl, memory_form base offset h.0 h.1, register_form src h.2))
 has_form (Jump offset) h = (signed_text offset, refl, offset_form offset (widened offset h))
 has_form (Jump32 offset) h = (signed_text offset, refl, offset_form offset h)
-has_form (JumpIf w c dst src offset) h = (operands_text (JumpIf w c dst src offset), refl, (register_text dst, joined (operand_text src) (signed_text offset), refl, register_form dst h.0, (operand_text src, signed_text offset, refl, source_form src h.1, offset_form offset (widened offset h.2))))
+has_form (JumpIf w c dst src offset) h = (operands_text (JumpIf w c dst src offset), refl, (register_text dst, two_operands (operand_text src) (signed_text offset), refl, register_form dst h.0, (operand_text src, signed_text offset, refl, source_form src h.1, offset_form offset (widened offset h.2))))
 has_form (Call helper) h = (decimal helper, refl, inl (helper, decimal_is helper (omega arith)))
 has_form Exit h = refl
 
 pub known : (insn : Insn) → IsUnknownWord (line_text insn) → ⊥
-known insn h = h (word_of insn) (tail_text insn, refl, before (tail_text insn) (tail_begins insn))
+known insn h = h (word_of_insn insn) (tail_text insn, refl, before (tail_text insn) (tail_begins insn))
 
 pub formed : (insn : Insn) → IsInsn insn → IsBadOperand (line_text insn) → ⊥
 formed insn f h =
     let w = h.0 in
     let b = h.1 in
     let r = cut_line (line_text insn) (word_text w) b.0 b.1 (word_free w) (behind b.0 b.2) insn refl in
-    h.2 (subst (λ (x : Word). HasForm x (line_text insn)) (sym (word_once w (word_of insn) r.0)) (tail_text insn, refl, has_form insn f))
+    h.2 (subst (λ (x : Word). HasForm x (line_text insn)) (sym (word_once w (word_of_insn insn) r.0)) (tail_text insn, refl, has_form insn f))
 
 pub in_range : (insn : Insn) → IsInsn insn → IsOutOfRange (line_text insn) → ⊥
 in_range insn f h = h.2 insn f refl

@@ -23,8 +23,8 @@ use Rattle.insn_codec.specs.declared.insn.Insn.{Insn}
 use Rattle.insn_codec.specs.declared.insn.Insn.TheVariants.{Alu, Mov, Neg, MovSx, End, LoadWide, Load, Store, StoreRegister, Jump, Jump32, JumpIf, Call, Exit}
 use Rattle.insn_codec.specs.Spelling.{IsInsn, IsOperand}
 use Rattle.disassembler.specs.Cut.{IsFree}
-use Rattle.disassembler.specs.Line.{register_text, signed_text, operand_text, memory_text, joined, operands_text, tail_text, line_text, lines_text}
-use Rattle.disassembler.specs.Words.{word_text, word_of}
+use Rattle.disassembler.specs.Line.{register_text, signed_text, operand_text, memory_text, two_operands, operands_text, tail_text, line_text, lines_text}
+use Rattle.disassembler.specs.Words.{word_text, word_of_insn}
 use Rattle.disassembler.specs.declared.word.Word.{Word}
 use Rattle.disassembler.specs.declared.word.Word.TheVariants as word
 use Rattle.disassembler.proofs.Texts.{own, free_digits, free_append, apart, over, widened}
@@ -74,7 +74,7 @@ clean_memory base offset b o = clean_high 91 (register_text base ++ (signed_text
     (free_append 10 59 (register_text base) (signed_text offset ++ 93 ∷ []) (clean_register base b)
     (free_append 10 59 (signed_text offset) (93 ∷ []) (clean_offset offset (widened offset o)) (clean_high 93 [] (omega arith) tt)))
 
-clean_joined : (p q : List ℕ) → IsClean p → IsClean q → IsClean (joined p q)
+clean_joined : (p q : List ℕ) → IsClean p → IsClean q → IsClean (two_operands p q)
 clean_joined p q f g = free_append 10 59 p (44 ∷ 32 ∷ q) f (clean_low 44 (32 ∷ q) (omega arith) (omega arith) (clean_low 32 q (omega arith) (omega arith) g))
 
 clean_operands : (insn : Insn) → IsInsn insn → IsClean (operands_text insn)
@@ -89,7 +89,7 @@ clean_operands (Store size base offset imm) h = clean_joined (memory_text base o
 clean_operands (StoreRegister size base offset src) h = clean_joined (memory_text base offset) (register_text src) (clean_memory base offset h.0 h.1) (clean_register src h.2)
 clean_operands (Jump offset) h = clean_offset offset (widened offset h)
 clean_operands (Jump32 offset) h = clean_offset offset h
-clean_operands (JumpIf w c dst src offset) h = clean_joined (register_text dst) (joined (operand_text src) (signed_text offset)) (clean_register dst h.0) (clean_joined (operand_text src) (signed_text offset) (clean_operand src h.1) (clean_offset offset (widened offset h.2)))
+clean_operands (JumpIf w c dst src offset) h = clean_joined (register_text dst) (two_operands (operand_text src) (signed_text offset)) (clean_register dst h.0) (clean_joined (operand_text src) (signed_text offset) (clean_operand src h.1) (clean_offset offset (widened offset h.2)))
 clean_operands (Call helper) h = clean_decimal helper (omega arith)
 clean_operands Exit h = tt
 
@@ -131,7 +131,7 @@ word_is_clean word.Call = refl
 word_is_clean word.Exit = refl
 
 clean_line : (insn : Insn) → IsInsn insn → IsClean (line_text insn)
-clean_line insn h = free_append 10 59 (word_text (word_of insn)) (tail_text insn) (free_by 10 59 (word_text (word_of insn)) (word_is_clean (word_of insn))) (clean_tail insn (clean_operands insn h))
+clean_line insn h = free_append 10 59 (word_text (word_of_insn insn)) (tail_text insn) (free_by 10 59 (word_text (word_of_insn insn)) (word_is_clean (word_of_insn insn))) (clean_tail insn (clean_operands insn h))
 
 -- ---- no blank at either end
 
@@ -203,7 +203,7 @@ ends_memory : (base : ℕ) (offset : ℤ) → Ends (memory_text base offset)
 ends_memory base offset = ends_append (91 ∷ []) (register_text base ++ (signed_text offset ++ 93 ∷ []))
     (ends_append (register_text base) (signed_text offset ++ 93 ∷ []) (ends_append (signed_text offset) (93 ∷ []) refl))
 
-ends_joined : (p q : List ℕ) → Ends q → Ends (joined p q)
+ends_joined : (p q : List ℕ) → Ends q → Ends (two_operands p q)
 ends_joined p q e = ends_append p (44 ∷ 32 ∷ q) (ends_append (44 ∷ 32 ∷ []) q e)
 
 -- the operands behind a space, or nothing
@@ -219,7 +219,7 @@ ends_tail (Store size base offset imm) h xs e = ends_append xs (32 ∷ operands_
 ends_tail (StoreRegister size base offset src) h xs e = ends_append xs (32 ∷ operands_text (StoreRegister size base offset src)) (ends_append (32 ∷ []) (operands_text (StoreRegister size base offset src)) (ends_joined (memory_text base offset) (register_text src) (ends_register src h.2)))
 ends_tail (Jump offset) h xs e = ends_append xs (32 ∷ signed_text offset) (ends_append (32 ∷ []) (signed_text offset) (ends_offset offset (widened offset h)))
 ends_tail (Jump32 offset) h xs e = ends_append xs (32 ∷ signed_text offset) (ends_append (32 ∷ []) (signed_text offset) (ends_offset offset h))
-ends_tail (JumpIf w c dst src offset) h xs e = ends_append xs (32 ∷ operands_text (JumpIf w c dst src offset)) (ends_append (32 ∷ []) (operands_text (JumpIf w c dst src offset)) (ends_joined (register_text dst) (joined (operand_text src) (signed_text offset)) (ends_joined (operand_text src) (signed_text offset) (ends_offset offset (widened offset h.2)))))
+ends_tail (JumpIf w c dst src offset) h xs e = ends_append xs (32 ∷ operands_text (JumpIf w c dst src offset)) (ends_append (32 ∷ []) (operands_text (JumpIf w c dst src offset)) (ends_joined (register_text dst) (two_operands (operand_text src) (signed_text offset)) (ends_joined (operand_text src) (signed_text offset) (ends_offset offset (widened offset h.2)))))
 ends_tail (Call helper) h xs e = ends_append xs (32 ∷ decimal helper) (ends_append (32 ∷ []) (decimal helper) (ends_decimal helper (omega arith)))
 ends_tail Exit h xs e = subst Ends (sym (append-nil xs)) e
 
@@ -299,10 +299,10 @@ strips ts c s e =
     ∙ (ap reverse (starts_kept (reverse ts) e) ∙ reverse-reverse ts))
 
 line_starts : (insn : Insn) → starts (line_text insn) ≡ true
-line_starts insn = starts_append (word_text (word_of insn)) (tail_text insn) (word_starts (word_of insn))
+line_starts insn = starts_append (word_text (word_of_insn insn)) (tail_text insn) (word_starts (word_of_insn insn))
 
 line_strips : (insn : Insn) → IsInsn insn → stripped (line_text insn) ≡ line_text insn
-line_strips insn h = strips (line_text insn) (clean_line insn h) (line_starts insn) (ends_tail insn h (word_text (word_of insn)) (word_ends (word_of insn)))
+line_strips insn h = strips (line_text insn) (clean_line insn h) (line_starts insn) (ends_tail insn h (word_text (word_of_insn insn)) (word_ends (word_of_insn insn)))
 
 texts_back : (n : ℕ) (insns : List Insn) → AllByRecursion IsInsn insns → texts_of (numbered n (slice_split is_line_feed (lines_text insns))) ≡ map line_text insns
 texts_back n [] f = refl

@@ -6,7 +6,7 @@ use Rattle.insn_codec.specs.Spelling.{IsInsn}
 use Rattle.disassembler.specs.declared.word.Word.{Word}
 use Rattle.disassembler.specs.declared.word.Word.TheVariants as word
 use Rattle.disassembler.specs.Words.{word_text}
-use Rattle.disassembler.specs.Line.{joined, line_text}
+use Rattle.disassembler.specs.Line.{two_operands, line_text}
 use Rattle.assembler.specs.declared.form.Form.{Form}
 use Rattle.assembler.specs.declared.form.Form.TheVariants.{Register, Number, Offset, Source, Memory}
 use Rattle.assembler.specs.declared.form.Operands.{Operands}
@@ -45,7 +45,7 @@ IsOfForm Memory ts = IsMemoryForm ts
 
 -- two texts with a comma and a space between them
 abbrev pub IsPair : (List ℕ → Type 0) → (List ℕ → Type 0) → List ℕ → Type 0
-IsPair P Q ts = (front back : List ℕ) × (ts ≡ joined front back) × P front × Q back
+IsPair P Q ts = (front back : List ℕ) × (ts ≡ two_operands front back) × P front × Q back
 
 -- what follows a word with these operands
 abbrev pub IsTailOf : Operands → List ℕ → Type 0

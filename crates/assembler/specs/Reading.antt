@@ -8,10 +8,10 @@ use Rattle.insn_codec.specs.declared.insn.Operand.{Operand}
 use Rattle.insn_codec.specs.declared.insn.Insn.{Insn}
 use Rattle.insn_codec.specs.Spelling.{IsOperand, IsInsn}
 use Rattle.disassembler.specs.declared.word.Word.{Word}
-use Rattle.disassembler.specs.Words.{word_of}
+use Rattle.disassembler.specs.Words.{word_of_insn}
 use Rattle.disassembler.specs.Line.{operands_text}
 use Rattle.disassembler.specs.Line.{register_text, signed_text}
-use Rattle.disassembler.specs.Line.{operand_text, memory_text, joined}
+use Rattle.disassembler.specs.Line.{operand_text, memory_text, two_operands}
 
 abbrev pub Reads : {A : Type 0} → (A → List ℕ) → (A → Type 0) → List ℕ → Option A → Type 0
 Reads written Fits ts None = (a : _) → Fits a → ts ≢ written a
@@ -47,8 +47,8 @@ abbrev pub ReadsPositive : List ℕ → Option ℤ → Type 0
 ReadsPositive ds None = (n : ℕ) → n < 2 ^ 31 → ds ≢ decimal n
 ReadsPositive ds (Some z) = (ds ≡ decimal (nat_abs z)) × (pos 0 ≤ℤ z) × (nat_abs z < 2 ^ 31)
 
-abbrev pub IsRegister : ℕ → Type 0
-IsRegister n = n ≤ 10
+abbrev pub IsRegisterNumber : ℕ → Type 0
+IsRegisterNumber n = n ≤ 10
 
 abbrev pub IsOffset : ℤ → Type 0
 IsOffset z = FitsSigned w16 z
@@ -63,16 +63,16 @@ abbrev pub place_text : ℕ × ℤ → List ℕ
 place_text m = memory_text m.0 m.1
 
 abbrev pub IsPlace : ℕ × ℤ → Type 0
-IsPlace m = IsRegister m.0 × IsOffset m.1
+IsPlace m = IsRegisterNumber m.0 × IsOffset m.1
 
 -- two operands with a comma and a space between them
 abbrev pub ReadsPair : {A B : Type 0} → (A → List ℕ) → (A → Type 0) → (B → List ℕ) → (B → Type 0)
     → List ℕ → Option (A × B) → Type 0
 ReadsPair written Fits written2 Fits2 =
-    Reads (λ x. joined (written x.0) (written2 x.1)) (λ x. Fits x.0 × Fits2 x.1)
+    Reads (λ x. two_operands (written x.0) (written2 x.1)) (λ x. Fits x.0 × Fits2 x.1)
 
 abbrev pub tested_text : Operand × ℤ → List ℕ
-tested_text x = joined (operand_text x.0) (signed_text x.1)
+tested_text x = two_operands (operand_text x.0) (signed_text x.1)
 
 abbrev pub IsTested : Operand × ℤ → Type 0
 IsTested x = IsOperand x.0 × IsOffset x.1
@@ -84,5 +84,5 @@ first_named (e ∷ es) ts = if bytes_eq e.0 ts then Some e.1 else first_named es
 
 -- the instruction of this word with these operands
 abbrev pub ReadsInsn : Word → List ℕ → Option Insn → Type 0
-ReadsInsn w ts None = (insn : Insn) → IsInsn insn → word_of insn ≡ w → ts ≢ operands_text insn
-ReadsInsn w ts (Some insn) = (word_of insn ≡ w) × (ts ≡ operands_text insn) × IsInsn insn
+ReadsInsn w ts None = (insn : Insn) → IsInsn insn → word_of_insn insn ≡ w → ts ≢ operands_text insn
+ReadsInsn w ts (Some insn) = (word_of_insn insn ≡ w) × (ts ≡ operands_text insn) × IsInsn insn

@@ -5,8 +5,8 @@ use Rattle.std.proofs.lemmas.Fmt.{decimal_injective}
 use Rattle.insn_codec.specs.declared.insn.Insn.{Insn}
 use Rattle.insn_codec.specs.declared.insn.Insn.TheVariants.{Alu, Mov, Neg, MovSx, End, LoadWide, Load, Store, StoreRegister, Jump, Jump32, JumpIf, Call, Exit}
 use Rattle.insn_codec.specs.Spelling.{IsInsn}
-use Rattle.disassembler.specs.Line.{line_text, tail_text, register_text, operand_text, memory_text, signed_text, joined}
-use Rattle.disassembler.specs.Words.{word_text, word_of}
+use Rattle.disassembler.specs.Line.{line_text, tail_text, register_text, operand_text, memory_text, signed_text, two_operands}
+use Rattle.disassembler.specs.Words.{word_text, word_of_insn}
 use Rattle.disassembler.specs.Cut.{IsFree, StopsAtOnce}
 use Rattle.disassembler.proofs.Cuts.{cut_once}
 use Rattle.disassembler.proofs.Words.{word_once, word_free}
@@ -17,16 +17,16 @@ tail_begins Exit = tt
 tail_begins insn = inl refl
 
 -- a line that is cut at its first space
-pub cut_line : (line front tail : List ℕ) → line ≡ front ++ tail → IsFree 32 32 front → StopsAtOnce 32 32 tail → (insn : Insn) → line ≡ line_text insn → (front ≡ word_text (word_of insn)) × (tail ≡ tail_text insn)
-cut_line line front tail whole a b insn e = cut_once 32 32 front tail (word_text (word_of insn)) (tail_text insn) a (word_free (word_of insn)) b (tail_begins insn) (sym whole ∙ e)
+pub cut_line : (line front tail : List ℕ) → line ≡ front ++ tail → IsFree 32 32 front → StopsAtOnce 32 32 tail → (insn : Insn) → line ≡ line_text insn → (front ≡ word_text (word_of_insn insn)) × (tail ≡ tail_text insn)
+cut_line line front tail whole a b insn e = cut_once 32 32 front tail (word_text (word_of_insn insn)) (tail_text insn) a (word_free (word_of_insn insn)) b (tail_begins insn) (sym whole ∙ e)
 
 -- two instructions of one line have one word and the same operands
-pub one_word : (a b : Insn) → line_text a ≡ line_text b → (word_of a ≡ word_of b) × (tail_text a ≡ tail_text b)
+pub one_word : (a b : Insn) → line_text a ≡ line_text b → (word_of_insn a ≡ word_of_insn b) × (tail_text a ≡ tail_text b)
 one_word a b e =
-    let r = cut_line (line_text a) (word_text (word_of a)) (tail_text a) refl (word_free (word_of a)) (tail_begins a) b e in
-    (word_once (word_of a) (word_of b) r.0, r.1)
+    let r = cut_line (line_text a) (word_text (word_of_insn a)) (tail_text a) refl (word_free (word_of_insn a)) (tail_begins a) b e in
+    (word_once (word_of_insn a) (word_of_insn b) r.0, r.1)
 
-one_tail : (a b : Insn) → IsInsn a → IsInsn b → word_of a ≡ word_of b → tail_text a ≡ tail_text b → a ≡ b
+one_tail : (a b : Insn) → IsInsn a → IsInsn b → word_of_insn a ≡ word_of_insn b → tail_text a ≡ tail_text b → a ≡ b
 one_tail (Alu w op dst src) (Alu w' op' dst' src') f g e t =
     let r = one_pair (register_text dst) (operand_text src) (register_text dst') (operand_text src') (free_register dst f.0) (free_register dst' g.0) (ap (drop 1) t) in
     let d = one_register dst dst' f.0 g.0 r.0 in
@@ -73,7 +73,7 @@ one_tail (StoreRegister size base offset src) (StoreRegister size' base' offset'
 one_tail (Jump offset) (Jump offset') f g e t = ap Jump (one_short_offset offset offset' f g (ap (drop 1) t))
 one_tail (Jump32 offset) (Jump32 offset') f g e t = ap Jump32 (one_offset offset offset' f g (ap (drop 1) t))
 one_tail (JumpIf w c dst src offset) (JumpIf w' c' dst' src' offset') f g e t =
-    let r = one_pair (register_text dst) (joined (operand_text src) (signed_text offset)) (register_text dst') (joined (operand_text src') (signed_text offset')) (free_register dst f.0) (free_register dst' g.0) (ap (drop 1) t) in
+    let r = one_pair (register_text dst) (two_operands (operand_text src) (signed_text offset)) (register_text dst') (two_operands (operand_text src') (signed_text offset')) (free_register dst f.0) (free_register dst' g.0) (ap (drop 1) t) in
     let q = one_pair (operand_text src) (signed_text offset) (operand_text src') (signed_text offset') (free_operand src f.1) (free_operand src' g.1) r.1 in
     let d = one_register dst dst' f.0 g.0 r.0 in
     let s = one_operand src src' f.1 g.1 q.0 in

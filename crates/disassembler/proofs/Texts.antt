@@ -11,7 +11,7 @@ use Rattle.std.proofs.lemmas.Str.Parse.{IsNumeralModel, numerals_by_value, tells
 use Rattle.insn_codec.specs.declared.insn.Operand.{Operand}
 use Rattle.insn_codec.specs.declared.insn.Operand.TheVariants as operand
 use Rattle.insn_codec.specs.Spelling.{IsOperand}
-use Rattle.disassembler.specs.Line.{register_text, signed_text, operand_text, memory_text, joined}
+use Rattle.disassembler.specs.Line.{register_text, signed_text, operand_text, memory_text, two_operands}
 use Rattle.disassembler.specs.Cut.{IsFree, StopsAtOnce}
 use Rattle.disassembler.proofs.Cuts.{cut_once}
 
@@ -135,7 +135,7 @@ one_memory m n y z fm fn fy fz e =
     first (pos n) = inl refl
     first (negsuc n) = inr refl
 
-pub one_pair : (p q p' q' : List ℕ) → IsFree 44 44 p → IsFree 44 44 p' → joined p q ≡ joined p' q' → (p ≡ p') × (q ≡ q')
+pub one_pair : (p q p' q' : List ℕ) → IsFree 44 44 p → IsFree 44 44 p' → two_operands p q ≡ two_operands p' q' → (p ≡ p') × (q ≡ q')
 one_pair p q p' q' f f' e =
     let r = cut_once 44 44 p (44 ∷ 32 ∷ q) p' (44 ∷ 32 ∷ q') f f' (inl refl) (inl refl) e in
     (r.0, ap (drop 2) r.1)

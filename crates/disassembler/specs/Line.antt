@@ -9,7 +9,7 @@ use Rattle.insn_codec.specs.declared.insn.Operand.TheVariants as operand
 use Rattle.insn_codec.specs.declared.insn.Insn.{Insn}
 use Rattle.insn_codec.specs.declared.insn.Insn.TheVariants.{Alu, Mov, Neg, MovSx, End, LoadWide, Load, Store, StoreRegister, Jump, Jump32, JumpIf, Call, Exit}
 use Rattle.insn_codec.specs.Spelling.{IsInsn, IsWhole, spellings}
-use Rattle.disassembler.specs.Words.{word_text, word_of}
+use Rattle.disassembler.specs.Words.{word_text, word_of_insn}
 
 -- a register, as `r10`
 abbrev pub register_text : ℕ → List ℕ
@@ -30,25 +30,27 @@ abbrev pub memory_text : ℕ → ℤ → List ℕ
 memory_text base offset = codes "[" ++ (register_text base ++ (signed_text offset ++ codes "]"))
 
 -- two operands
-abbrev pub joined : List ℕ → List ℕ → List ℕ
-joined front back = front ++ (codes ", " ++ back)
+abbrev pub two_operands : List ℕ → List ℕ → List ℕ
+two_operands front back = front ++ (codes ", " ++ back)
 
 -- a register, what it is compared with, and an offset
 abbrev pub branch_text : ℕ → Operand → ℤ → List ℕ
 branch_text dst src offset =
-    joined (register_text dst) (joined (operand_text src) (signed_text offset))
+    two_operands (register_text dst) (two_operands (operand_text src) (signed_text offset))
 
 abbrev pub operands_text : Insn → List ℕ
-operands_text (Alu width op dst src) = joined (register_text dst) (operand_text src)
-operands_text (Mov width dst src) = joined (register_text dst) (operand_text src)
-operands_text (MovSx extension dst src) = joined (register_text dst) (register_text src)
+operands_text (Alu width op dst src) = two_operands (register_text dst) (operand_text src)
+operands_text (Mov width dst src) = two_operands (register_text dst) (operand_text src)
+operands_text (MovSx extension dst src) = two_operands (register_text dst) (register_text src)
 operands_text (Neg width dst) = register_text dst
 operands_text (End order size dst) = register_text dst
-operands_text (LoadWide dst value) = joined (register_text dst) (decimal value)
-operands_text (Load kind dst base offset) = joined (register_text dst) (memory_text base offset)
-operands_text (Store size base offset imm) = joined (memory_text base offset) (signed_decimal imm)
+operands_text (LoadWide dst value) = two_operands (register_text dst) (decimal value)
+operands_text (Load kind dst base offset) =
+    two_operands (register_text dst) (memory_text base offset)
+operands_text (Store size base offset imm) =
+    two_operands (memory_text base offset) (signed_decimal imm)
 operands_text (StoreRegister size base offset src) =
-    joined (memory_text base offset) (register_text src)
+    two_operands (memory_text base offset) (register_text src)
 operands_text (Jump offset) = signed_text offset
 operands_text (Jump32 offset) = signed_text offset
 operands_text (JumpIf width condition dst src offset) = branch_text dst src offset
@@ -61,7 +63,7 @@ tail_text Exit = []
 tail_text insn = codes " " ++ operands_text insn
 
 abbrev pub line_text : Insn → List ℕ
-line_text insn = word_text (word_of insn) ++ tail_text insn
+line_text insn = word_text (word_of_insn insn) ++ tail_text insn
 
 -- the lines of a program, each with a line feed after it
 abbrev pub lines_text : List Insn → List ℕ

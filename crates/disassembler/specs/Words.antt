@@ -105,18 +105,18 @@ word_text (word.JumpIf width condition) = condition_word condition ++ jump_suffi
 word_text word.Call = codes "call"
 word_text word.Exit = codes "exit"
 
-abbrev pub word_of : Insn → Word
-word_of (Alu width op dst src) = word.Alu width op
-word_of (Mov width dst src) = word.Mov width
-word_of (MovSx extension dst src) = word.MovSx extension
-word_of (Neg width dst) = word.Neg width
-word_of (End order size dst) = word.End order size
-word_of (LoadWide dst value) = word.LoadWide
-word_of (Load kind dst base offset) = word.Load kind
-word_of (Store size base offset imm) = word.Store size
-word_of (StoreRegister size base offset src) = word.StoreRegister size
-word_of (Jump offset) = word.Jump
-word_of (Jump32 offset) = word.Jump32
-word_of (JumpIf width condition dst src offset) = word.JumpIf width condition
-word_of (Call helper) = word.Call
-word_of Exit = word.Exit
+abbrev pub word_of_insn : Insn → Word
+word_of_insn (Alu width op dst src) = word.Alu width op
+word_of_insn (Mov width dst src) = word.Mov width
+word_of_insn (MovSx extension dst src) = word.MovSx extension
+word_of_insn (Neg width dst) = word.Neg width
+word_of_insn (End order size dst) = word.End order size
+word_of_insn (LoadWide dst value) = word.LoadWide
+word_of_insn (Load kind dst base offset) = word.Load kind
+word_of_insn (Store size base offset imm) = word.Store size
+word_of_insn (StoreRegister size base offset src) = word.StoreRegister size
+word_of_insn (Jump offset) = word.Jump
+word_of_insn (Jump32 offset) = word.Jump32
+word_of_insn (JumpIf width condition dst src offset) = word.JumpIf width condition
+word_of_insn (Call helper) = word.Call
+word_of_insn Exit = word.Exit

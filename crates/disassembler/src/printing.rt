@@ -48,9 +48,9 @@ impl fmt::Display for Offset {
 
 /// A register, or a number.
 #[derive(Clone, Copy)]
-struct Value(Operand);
+struct SourceOperand(Operand);
 
-impl fmt::Display for Value {
+impl fmt::Display for SourceOperand {
     ghost use Rattle.std.specs.Prelude.{Some};
     ghost use Rattle.disassembler.specs.Line.{operand_text};
 
@@ -66,9 +66,9 @@ impl fmt::Display for Value {
 
 /// A place in memory, as `[r10-8]`.
 #[derive(Clone, Copy)]
-struct Place(Register, i16);
+struct MemoryOperand(Register, i16);
 
-impl fmt::Display for Place {
+impl fmt::Display for MemoryOperand {
     ghost use Rattle.std.specs.Prelude.{Some};
     ghost use Rattle.disassembler.specs.Line.{memory_text};
 
@@ -90,7 +90,7 @@ impl fmt::Display for Branch {
     ghost output = { λ branch. Some (branch_text branch.0 branch.1 branch.2) };
 
     fn fmt<W: fmt::Write>(&self, f: &mut fmt::Formatter<W>) -> fmt::Result {
-        let (dst, src) = (Name(self.0), Value(self.1));
+        let (dst, src) = (Name(self.0), SourceOperand(self.1));
         write!(f, "{dst}, {src}, {}", Offset(i32::from(self.2)))
     }
 }
@@ -108,7 +108,7 @@ impl fmt::Display for Tail {
     fn fmt<W: fmt::Write>(&self, f: &mut fmt::Formatter<W>) -> fmt::Result {
         match self.0 {
             Insn::Alu { dst, src, .. } | Insn::Mov { dst, src, .. } => {
-                let (dst, src) = (Name(dst), Value(src));
+                let (dst, src) = (Name(dst), SourceOperand(src));
                 write!(f, " {dst}, {src}")
             }
             Insn::MovSx { dst, src, .. } => write!(f, " {}, {}", Name(dst), Name(src)),
@@ -119,19 +119,19 @@ impl fmt::Display for Tail {
                 base,
                 offset,
                 ..
-            } => write!(f, " {}, {}", Name(dst), Place(base, offset)),
+            } => write!(f, " {}, {}", Name(dst), MemoryOperand(base, offset)),
             Insn::Store {
                 base,
                 offset,
                 imm,
                 ..
-            } => write!(f, " {}, {imm}", Place(base, offset)),
+            } => write!(f, " {}, {imm}", MemoryOperand(base, offset)),
             Insn::StoreRegister {
                 base,
                 offset,
                 src,
                 ..
-            } => write!(f, " {}, {}", Place(base, offset), Name(src)),
+            } => write!(f, " {}, {}", MemoryOperand(base, offset), Name(src)),
             Insn::Jump { offset } => write!(f, " {}", Offset(i32::from(offset))),
             Insn::Jump32 { offset } => write!(f, " {}", Offset(offset)),
             Insn::JumpIf {

@@ -1,7 +1,7 @@
 //! The words that lines begin with.
 
 ghost use Rattle.std.specs.Prelude.{◌≡◌};
-ghost use Rattle.disassembler.specs.Words.{alu_word, condition_word, extension_word, order_word, bits_text, load_word, size_suffix, width_text, jump_suffix, word_of};
+ghost use Rattle.disassembler.specs.Words.{alu_word, condition_word, extension_word, order_word, bits_text, load_word, size_suffix, width_text, jump_suffix, word_of_insn};
 
 use insn_codec::{
     AluOp, ByteOrder, Condition, EndSize, Insn, LoadKind, SignExtension, Size, Width,
@@ -30,7 +30,7 @@ pub enum Word {
 impl Word {
     /// The word of an instruction's line.
     pub fn of(insn: &Insn) -> Self
-        ensures { result ≡ word_of insn.now }
+        ensures { result ≡ word_of_insn insn.now }
     {
         match *insn {
             Insn::Alu { width, op, .. } => Word::Alu(width, op),

@@ -1,11 +1,11 @@
 use Rattle.disassembler.specs.Line.{register_text}
-use Rattle.assembler.specs.Reading.{IsRegister, IsPlace, place_text}
+use Rattle.assembler.specs.Reading.{IsRegisterNumber, IsPlace, place_text}
 use Rattle.assembler.proofs.Pairs.{pair_by, no_pair}
 use Rattle.disassembler.proofs.Texts.{free_register}
 use Rattle.assembler.proofs.pair.register_and_memory.Goals as goal
 
 pub returns : goal.returns
-returns c = pair_by register_text IsRegister place_text IsPlace free_register _ _ _ c.in_ok-front.ensures.found _ _ _ c.zip.ensures c.register_from.ensures c.memory_from.ensures
+returns c = pair_by register_text IsRegisterNumber place_text IsPlace free_register _ _ _ c.in_ok-front.ensures.found _ _ _ c.zip.ensures c.register_from.ensures c.memory_from.ensures
 
 pub returns-in_err-front : goal.returns-in_err-front
-returns-in_err-front c = rw c.from_residual.ensures (no_pair register_text IsRegister place_text IsPlace free_register _ c.in_err-front.ensures.none)
+returns-in_err-front c = rw c.from_residual.ensures (no_pair register_text IsRegisterNumber place_text IsPlace free_register _ c.in_err-front.ensures.none)
