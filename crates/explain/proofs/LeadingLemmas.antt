@@ -8,7 +8,7 @@ use Rattle.flow_graph.specs.Cycles.{IsJoint}
 use Rattle.flow_graph.specs.Flow.{IsFlow}
 use Rattle.flow_graph.specs.Reached.{IsMarked}
 use Rattle.flow_graph.proofs.Marks.{none_marked}
-use Rattle.explain.specs.Ways.{IsWay, IsWayTo}
+use Rattle.explain.specs.Ways.{IsSlotPath, IsWayTo}
 use Rattle.explain.specs.Leading.{AreLeading, LeadFrom, IsAhead, HasComeTo}
 use Rattle.explain.proofs.WayLemmas.{way_start, way_longer, from_path}
 
@@ -85,11 +85,11 @@ lead_marked code order slot place next marks lt l joint marked =
 
 none_leads : (code : Code) (order : List ℕ) (slot place : ℕ) (marks : List Bool) → IsFlow (record { code = code; order = order }) → place < length order →
     LeadFrom code order slot (suc place) marks → ((next : ℕ) → IsJoint code (slice_index order place) next → IsMarked marks next → ⊥) →
-    (way : List ℕ) → IsWay code (slice_index order place) way slot → IsMarked marks (slice_index order place)
+    (way : List ℕ) → IsSlotPath code (slice_index order place) way slot → IsMarked marks (slice_index order place)
 none_leads code order slot place marks flow lt l none [] is = subst (IsMarked marks) (sym is) l.here
 none_leads code order slot place marks flow lt l none (next ∷ way) (joint, rest) =
     let at = later code order place next flow lt joint in
-    let marked = l.each at.0 at.1 at.2 (way, subst (λ (k : ℕ). IsWay code k way slot) (sym at.3) rest) in
+    let marked = l.each at.0 at.1 at.2 (way, subst (λ (k : ℕ). IsSlotPath code k way slot) (sym at.3) rest) in
     absurd (none next joint (subst (IsMarked marks) at.3 marked))
 
 pub lead_unmarked : (code : Code) (order : List ℕ) (slot place : ℕ) (marks : List Bool) → IsFlow (record { code = code; order = order }) → place < length order →
@@ -101,7 +101,7 @@ lead_unmarked code order slot place marks flow lt l none = record {
   onward = l.onward;
   each = λ q le under way. elim (cases_eq q place) [
     | inl e ↦
-        let there = subst (λ (k : ℕ). IsWay code (slice_index order k) way.0 slot) e way.1 in
+        let there = subst (λ (k : ℕ). IsSlotPath code (slice_index order k) way.0 slot) e way.1 in
         subst (λ (k : ℕ). IsMarked marks (slice_index order k)) (sym e) (none_leads code order slot place marks flow lt l none way.0 there)
     | inr ne ↦ let le' : suc place ≤ q = omega (arith, le, ne) in l.each q le' under way
   ];
@@ -116,7 +116,7 @@ lead_all code order slot marks flow begins l = record {
       let path = flow.reached slot begins in
       let way = from_path code path.0 slot path.1 in
       let low : 0 ≤ at.0 = omega arith in
-      subst (IsMarked marks) at.2 (l.each at.0 low at.1 (way.0, subst (λ (k : ℕ). IsWay code k way.0 slot) (sym at.2) way.1));
+      subst (IsMarked marks) at.2 (l.each at.0 low at.1 (way.0, subst (λ (k : ℕ). IsSlotPath code k way.0 slot) (sym at.2) way.1));
   onward = l.onward;
 }
 

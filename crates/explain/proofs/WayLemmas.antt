@@ -3,9 +3,9 @@ use Rattle.std.proofs.Common.{ℕ, List, [], ◌∷◌, ◌++◌, refl, sym, sub
 use Rattle.machine_model.specs.Edges.{Code}
 use Rattle.machine_model.specs.Paths.{IsPathTo}
 use Rattle.flow_graph.specs.Cycles.{IsJoint}
-use Rattle.explain.specs.Ways.{IsWay, IsWayTo}
+use Rattle.explain.specs.Ways.{IsSlotPath, IsWayTo}
 
-way_on : (code : Code) (from at next : ℕ) (way : List ℕ) → IsWay code from way at → IsJoint code at next → IsWay code from (way ++ next ∷ []) next
+way_on : (code : Code) (from at next : ℕ) (way : List ℕ) → IsSlotPath code from way at → IsJoint code at next → IsSlotPath code from (way ++ next ∷ []) next
 way_on code from at next [] is joint = (subst (λ (k : ℕ). IsJoint code k next) (sym is) joint, refl)
 way_on code from at next (first ∷ way) (edge, rest) joint = (edge, way_on code first at next way rest joint)
 
@@ -20,7 +20,7 @@ way_longer code at next way w joint = record {
 }
 
 -- a path, of which the last slot comes first, as a way
-pub from_path : (code : Code) (path : List ℕ) (s : ℕ) → IsPathTo code path s → (way : List ℕ) × IsWay code 0 way s
+pub from_path : (code : Code) (path : List ℕ) (s : ℕ) → IsPathTo code path s → (way : List ℕ) × IsSlotPath code 0 way s
 from_path code [] s is = ([], sym is)
 from_path code (p ∷ path) s (edge, before) =
     let w = from_path code path p before in (w.0 ++ s ∷ [], way_on code 0 p s w.0 w.1 edge)

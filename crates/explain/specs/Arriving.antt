@@ -5,13 +5,13 @@ use Rattle.flow_graph.specs.Cycles.{IsJoint}
 use Rattle.verifier.specs.InStates.{Subject, InState, Unreached, Undefined, Reached, joined_in_state, joined_edges, edge_state, in_state}
 use Rattle.explain.specs.declared.arriving.Arrival.{Arrival}
 use Rattle.explain.specs.declared.arriving.Arrival.TheVariants as arrival
-use Rattle.explain.specs.declared.arriving.Survey.{Survey}
+use Rattle.explain.specs.declared.arriving.AnalyzedProgram.{AnalyzedProgram}
 
-abbrev pub subject_of : Survey → Subject
-subject_of survey = record {
-  need = survey.need;
-  helpers = survey.helpers.now;
-  code = survey.graph.now.code;
+abbrev pub subject_of_program : AnalyzedProgram → Subject
+subject_of_program analyzed = record {
+  need = analyzed.need;
+  helpers = analyzed.helpers.now;
+  code = analyzed.graph.now.code;
 }
 
 -- an arrival as the definition has it

@@ -9,7 +9,7 @@ use Rattle.flow_graph.specs.Flow.{AreNext}
 use Rattle.instruction_rules.specs.declared.state.State.{State}
 use Rattle.verifier.specs.InStates.{InState, Reached, Subject, in_state}
 use Rattle.explain.specs.declared.blocks.Block.{Block}
-use Rattle.explain.specs.declared.explanation.Place.{Place}
+use Rattle.explain.specs.declared.explanation.InstructionPlace.{InstructionPlace}
 
 -- the slots of the instructions, in their order
 abbrev pub slots_in : List Placed → List ℕ
@@ -49,7 +49,8 @@ pub record AreBlocks (p : Subject) (placed : List Placed) (blocks : List Block) 
   pub each : All (IsBlock p (slots_in placed)) blocks
 
 -- the instruction of this number: its slot, its text, and the number of its line
-pub record IsNumbered (placed : List Placed) (lines : List (ℕ × List ℕ)) (k : ℕ) (place : Place) :
+pub record IsNumbered (placed : List Placed) (lines : List (ℕ × List ℕ)) (k : ℕ)
+    (place : InstructionPlace) :
     Type 0 where
   pub one : Placed
   pub there : slice_get placed k ≡ Some one
@@ -58,10 +59,11 @@ pub record IsNumbered (placed : List Placed) (lines : List (ℕ × List ℕ)) (k
   pub line : place.line ≡ option_map (λ line. line.0) (slice_get lines k)
 
 -- the places of all instructions, in their order
-pub record ArePlaces (placed : List Placed) (lines : List (ℕ × List ℕ)) (places : List Place) :
+pub record AreInstructionPlaces (placed : List Placed) (lines : List (ℕ × List ℕ))
+    (places : List InstructionPlace) :
     Type 0 where
   pub long : length places ≡ length placed
-  pub each : (k : ℕ) (place : Place) → slice_get places k ≡ Some place
+  pub each : (k : ℕ) (place : InstructionPlace) → slice_get places k ≡ Some place
       → IsNumbered placed lines k place
 
 -- Used by private contracts and proofs alone: an instruction of the code begins at each slot.

@@ -15,7 +15,7 @@ use Rattle.verifier.specs.RefusalCodes.{refusal_at}
 use Rattle.verifier.specs.Refusals.{HasFlow}
 use Rattle.verifier.specs.Verdict.{IsFaulty}
 use Rattle.explain.specs.declared.explanation.Explanation.{Explanation}
-use Rattle.explain.specs.declared.explanation.Known.{Known}
+use Rattle.explain.specs.declared.explanation.RefusalContext.{RefusalContext}
 use Rattle.explain.specs.Lines.{AreLinesFor, IsPlaceIn}
 use Rattle.explain.specs.Told.{IsKnownIn, IsTold, ruled_slot}
 
@@ -46,7 +46,7 @@ pub record IsFaultTold (p : Subject) (placed : List Placed) (lines : List (ℕ �
   pub faulty : IsFaulty p slot rule
   pub refusal : why.refusal ≡ refusal_at slot rule
   pub place : IsPlaceIn placed lines slot why.place
-  pub known : (known : Known) × (why.known ≡ Some known) × IsKnownIn p slot known
+  pub known : (known : RefusalContext) × (why.known ≡ Some known) × IsKnownIn p slot known
 
 -- told are exactly the slots whose instruction isn't allowed, from the lowest on
 pub record AreFaultsTold (p : Subject) (placed : List Placed) (lines : List (ℕ × List ℕ))

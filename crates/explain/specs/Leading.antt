@@ -3,29 +3,29 @@ use Rattle.std.specs.Prelude.{◌≡◌, ◌⊎◌, ℕ, ◌≤◌, ◌<◌, Lis
 use Rattle.machine_model.specs.Edges.{Code}
 use Rattle.flow_graph.specs.Cycles.{IsJoint}
 use Rattle.flow_graph.specs.Reached.{IsMarked}
-use Rattle.explain.specs.Ways.{IsWay, IsWayTo}
+use Rattle.explain.specs.Ways.{IsSlotPath, IsWayTo}
 
 -- a way leads from the one slot to the other
-abbrev pub LeadsTo : Code → ℕ → ℕ → Type 0
-LeadsTo code from to = (way : List ℕ) × IsWay code from way to
+abbrev pub HasPath : Code → ℕ → ℕ → Type 0
+HasPath code from to = (way : List ℕ) × IsSlotPath code from way to
 
 -- an edge leads from the slot to a marked one
-abbrev pub LeadsOn : Code → List Bool → ℕ → Type 0
-LeadsOn code marks from = (next : ℕ) × IsJoint code from next × IsMarked marks next
+abbrev pub LeadsToMarked : Code → List Bool → ℕ → Type 0
+LeadsToMarked code marks from = (next : ℕ) × IsJoint code from next × IsMarked marks next
 
 -- slot 0 is marked, and from each marked slot but this one an edge leads to a marked one
 pub record AreLeading (code : Code) (slot : ℕ) (marks : List Bool) : Type 0 where
   pub slots : length marks ≡ length code
   pub first : IsMarked marks 0
-  pub onward : (s : ℕ) → IsMarked marks s → (s ≡ slot) ⊎ LeadsOn code marks s
+  pub onward : (s : ℕ) → IsMarked marks s → (s ≡ slot) ⊎ LeadsToMarked code marks s
 
 -- the same in the making: marked are the slots from this place of the order on that lead there
 pub record LeadFrom (code : Code) (order : List ℕ) (slot place : ℕ) (marks : List Bool) :
     Type 0 where
   pub slots : length marks ≡ length code
   pub here : IsMarked marks slot
-  pub onward : (s : ℕ) → IsMarked marks s → (s ≡ slot) ⊎ LeadsOn code marks s
-  pub each : (q : ℕ) → place ≤ q → q < length order → LeadsTo code (slice_index order q) slot
+  pub onward : (s : ℕ) → IsMarked marks s → (s ≡ slot) ⊎ LeadsToMarked code marks s
+  pub each : (q : ℕ) → place ≤ q → q < length order → HasPath code (slice_index order q) slot
       → IsMarked marks (slice_index order q)
 
 -- the slot stands at this place of the order or at a later one

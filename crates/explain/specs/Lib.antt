@@ -6,7 +6,7 @@ pub mod Needs
 pub mod Texts
 pub mod Refused
 pub mod Told
-pub mod Whole
+pub mod Graphed
 pub mod Faults
 pub mod Blocks
 pub mod Pictures

@@ -6,12 +6,12 @@ use Rattle.insn_codec.specs.declared.fault.CodecFault.{CodecFault}
 use Rattle.insn_codec.specs.Spelling.{IsProgram, IsRefusal}
 use Rattle.disassembler.specs.Line.{line_text}
 use Rattle.assembler.specs.Source.{IsAssembly, source_lines}
-use Rattle.explain.specs.declared.lines.Line.{Line}
-use Rattle.explain.specs.declared.explanation.Place.{Place}
+use Rattle.explain.specs.declared.lines.SourceLine.{SourceLine}
+use Rattle.explain.specs.declared.explanation.InstructionPlace.{InstructionPlace}
 
 -- a line as the definitions have it
-abbrev pub told : Line → ℕ × List ℕ
-told line = (line.number, line.text.now)
+abbrev pub numbered_text : SourceLine → ℕ × List ℕ
+numbered_text line = (line.number, line.text.now)
 
 -- a line with nothing left counts, but says nothing
 abbrev pub said : ℕ → List ℕ → List (ℕ × List ℕ)
@@ -40,7 +40,7 @@ AreLinesFor code (Some source) lines =
 
 -- an instruction of a program: its slot, its text, and the number of its line among these
 pub record IsPlacedAs (placed : List Placed) (lines : List (ℕ × List ℕ)) (slot : ℕ)
-    (place : Place) : Type 0 where
+    (place : InstructionPlace) : Type 0 where
   pub index : ℕ
   pub one : Placed
   pub there : slice_get placed index ≡ Some one
@@ -50,13 +50,14 @@ pub record IsPlacedAs (placed : List Placed) (lines : List (ℕ × List ℕ)) (s
   pub line : place.line ≡ option_map (λ line. line.0) (slice_get lines index)
 
 -- the instruction at a slot of a program, if one begins there
-abbrev pub IsPlaceIn : List Placed → List (ℕ × List ℕ) → ℕ → Option Place → Type 0
+abbrev pub IsPlaceIn : List Placed → List (ℕ × List ℕ) → ℕ → Option InstructionPlace → Type 0
 IsPlaceIn placed lines slot None = IsIndex slot placed None
 IsPlaceIn placed lines slot (Some place) = IsPlacedAs placed lines slot place
 
 -- The instruction at a slot, with its line in the source text that says the program. None where the
 -- bytes are no program.
-pub data IsPlaceAt (code : List ℕ) (source : Option (List ℕ)) (slot : ℕ) (place : Option Place) :
+pub data IsPlaceAt (code : List ℕ) (source : Option (List ℕ)) (slot : ℕ)
+    (place : Option InstructionPlace) :
     Type 0 where
   among : (placed : List Placed) → IsProgram placed code → (lines : List (ℕ × List ℕ))
       → AreLinesFor code source lines → IsPlaceIn placed lines slot place
@@ -65,6 +66,6 @@ pub data IsPlaceAt (code : List ℕ) (source : Option (List ℕ)) (slot : ℕ) (
       → IsPlaceAt code source slot place
 
 -- the instruction at a slot, if there is one
-abbrev pub IsPlaceOf : List ℕ → Option (List ℕ) → Option ℕ → Option Place → Type 0
+abbrev pub IsPlaceOf : List ℕ → Option (List ℕ) → Option ℕ → Option InstructionPlace → Type 0
 IsPlaceOf code source None place = place ≡ None
 IsPlaceOf code source (Some slot) place = IsPlaceAt code source slot place

@@ -7,7 +7,7 @@ use Rattle.insn_codec.specs.Spelling.{IsProgram}
 use Rattle.flow_graph.specs.Program.{code_of}
 use Rattle.verifier.specs.Refusals.{HasFlow}
 use Rattle.explain.specs.declared.picture.Picture.{Picture}
-use Rattle.explain.specs.Blocks.{AreBlocks, ArePlaces}
+use Rattle.explain.specs.Blocks.{AreBlocks, AreInstructionPlaces}
 use Rattle.explain.specs.Lines.{AreLinesFor}
 use Rattle.explain.specs.Told.{IsAllowed, IsTold}
 
@@ -21,7 +21,7 @@ pub record IsPicture (need : ℕ) (code : List ℕ) (helpers : Table) (source : 
   pub flow : HasFlow (code_of placed)
   pub lines : List (ℕ × List ℕ)
   pub from : AreLinesFor code source lines
-  pub places : ArePlaces placed lines picture.places.items
+  pub places : AreInstructionPlaces placed lines picture.places.items
   pub blocks : AreBlocks (record { need = need; helpers = helpers; code = code_of placed }) placed
       picture.blocks.items
   pub why : MatchOption picture.why (IsAllowed need code helpers)

@@ -16,8 +16,8 @@ use Rattle.verifier.specs.declared.refusals.Refusal.TheVariants.{NeedTooLarge, C
 use Rattle.explain.specs.declared.explanation.Explanation.{Explanation}
 use Rattle.explain.specs.declared.needs.Enough.{Enough}
 use Rattle.explain.specs.declared.needs.Enough.TheVariants.{From, Never}
-use Rattle.explain.specs.declared.explanation.Known.{Known}
-use Rattle.explain.specs.declared.explanation.Place.{Place}
+use Rattle.explain.specs.declared.explanation.RefusalContext.{RefusalContext}
+use Rattle.explain.specs.declared.explanation.InstructionPlace.{InstructionPlace}
 
 -- some of the signed readings are ruled out
 abbrev pub is_narrow : Span → Bool
@@ -80,7 +80,7 @@ need_text (Some (From least)) = codes "least need here: " ++ (decimal least ++ c
 need_text (Some Never) = codes "least need here: none up to 65536\n"
 
 -- the least need, the way, and what is known at its end
-abbrev pub state_text : Known → List ℕ
+abbrev pub state_text : RefusalContext → List ℕ
 state_text known = need_text known.enough
     ++ (codes "way:"
     ++ (way_text known.way.items ++ (codes "\nknown there:\n" ++ registers_text known.state)))
@@ -90,8 +90,8 @@ line_part None = []
 line_part (Some number) = codes ", line " ++ decimal number
 
 -- the slot, its line and its instruction
-abbrev pub place_text : Place → List ℕ
-place_text place = codes "slot "
+abbrev pub instruction_place_text : InstructionPlace → List ℕ
+instruction_place_text place = codes "slot "
     ++ (decimal place.slot ++ (line_part place.line
     ++ (codes ": " ++ string_bytes place.text)))
 
@@ -116,11 +116,11 @@ rule_text (NoHelper slot) = codes "a helper that is called is in the table"
 rule_text NoMemory = codes "out of memory"
 
 -- a line for the place, where there is one
-abbrev pub place_line : Option Place → List ℕ
+abbrev pub place_line : Option InstructionPlace → List ℕ
 place_line None = []
-place_line (Some place) = place_text place ++ codes "\n"
+place_line (Some place) = instruction_place_text place ++ codes "\n"
 
-abbrev pub known_lines : Option Known → List ℕ
+abbrev pub known_lines : Option RefusalContext → List ℕ
 known_lines None = []
 known_lines (Some known) = state_text known
 

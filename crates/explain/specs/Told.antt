@@ -13,7 +13,7 @@ use Rattle.verifier.specs.InStates.{Subject, Reached, in_state}
 use Rattle.verifier.specs.RefusalCodes.{slot_of}
 use Rattle.verifier.specs.Refusals.{RefusesProgram, IsAccepted}
 use Rattle.explain.specs.declared.explanation.Explanation.{Explanation}
-use Rattle.explain.specs.declared.explanation.Known.{Known}
+use Rattle.explain.specs.declared.explanation.RefusalContext.{RefusalContext}
 use Rattle.explain.specs.Needs.{IsEnoughOf}
 use Rattle.explain.specs.Lines.{IsPlaceOf}
 use Rattle.explain.specs.Ways.{IsWayTo}
@@ -37,14 +37,15 @@ ruled_slot NoMemory = None
 
 -- A way along the program's edges leads to the slot, and the state is the one that arrives there.
 -- Where the instruction leaves the part there, it is told with which needs it doesn't.
-pub record IsKnownIn (p : Subject) (slot : ℕ) (known : Known) : Type 0 where
+pub record IsKnownIn (p : Subject) (slot : ℕ) (known : RefusalContext) : Type 0 where
   pub way : IsWayTo p.code slot known.way.items
   pub arrives : in_state p slot ≡ Reached known.state
   pub enough : (i : Insn) → insn_at p.code slot ≡ Some i
       → IsEnoughOf p.helpers i known.state p.need known.enough
 
 -- the same of the program that the bytes spell
-pub record IsKnownAt (need : ℕ) (code : List ℕ) (helpers : Table) (slot : ℕ) (known : Known) :
+pub record IsKnownAt (need : ℕ) (code : List ℕ) (helpers : Table) (slot : ℕ)
+    (known : RefusalContext) :
     Type 0 where
   pub placed : List Placed
   pub program : IsProgram placed code
@@ -52,10 +53,10 @@ pub record IsKnownAt (need : ℕ) (code : List ℕ) (helpers : Table) (slot : �
       known
 
 -- what is known at the slot, if there is one
-abbrev pub IsKnownOf : ℕ → List ℕ → Table → Option ℕ → Option Known → Type 0
+abbrev pub IsKnownOf : ℕ → List ℕ → Table → Option ℕ → Option RefusalContext → Type 0
 IsKnownOf need code helpers None known = known ≡ None
 IsKnownOf need code helpers (Some slot) known =
-    (one : Known) × (known ≡ Some one) × IsKnownAt need code helpers slot one
+    (one : RefusalContext) × (known ≡ Some one) × IsKnownAt need code helpers slot one
 
 -- The program is refused so, by the instruction at this place, where this is known.
 pub record IsTold (need : ℕ) (code : List ℕ) (helpers : Table) (source : Option (List ℕ))

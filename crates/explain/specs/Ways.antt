@@ -4,12 +4,12 @@ use Rattle.machine_model.specs.Edges.{Code}
 use Rattle.flow_graph.specs.Cycles.{IsJoint}
 
 -- edges lead from a slot through these in turn, and the last of them is the other slot
-abbrev pub IsWay : Code → ℕ → List ℕ → ℕ → Type 0
-IsWay code from [] to = from ≡ to
-IsWay code from (next ∷ way) to = IsJoint code from next × IsWay code next way to
+abbrev pub IsSlotPath : Code → ℕ → List ℕ → ℕ → Type 0
+IsSlotPath code from [] to = from ≡ to
+IsSlotPath code from (next ∷ way) to = IsJoint code from next × IsSlotPath code next way to
 
 -- the slots of a way from slot 0 to this one, with both
 pub record IsWayTo (code : Code) (slot : ℕ) (way : List ℕ) : Type 0 where
   pub rest : List ℕ
   pub starts : way ≡ 0 ∷ rest
-  pub leads : IsWay code 0 rest slot
+  pub leads : IsSlotPath code 0 rest slot

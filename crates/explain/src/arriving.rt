@@ -7,10 +7,10 @@ ghost use Rattle.machine_model.specs.Limits.{max_part};
 ghost use Rattle.instruction_rules.specs.declared.state.State.{State};
 ghost use Rattle.verifier.specs.InStates.{Reached, if_leads_to, in_state, in_state_by, joined_edges, joined_in_state, out_state};
 ghost use Rattle.verifier.specs.Sources.{AreLinked};
-ghost use Rattle.explain.specs.Arriving.{AreArrivals, arriving, arriving_at, joined_from, subject_of};
+ghost use Rattle.explain.specs.Arriving.{AreArrivals, arriving, arriving_at, joined_from, subject_of_program};
 ghost use Rattle.explain.specs.declared.arriving.Arrival.TheVariants as arrival;
 
-use crate::sources::Sources;
+use crate::predecessors::Predecessors;
 use flow_graph::{Graph, Next};
 use helpers::HelperTable;
 use insn_codec::Insn;
@@ -32,7 +32,7 @@ pub(crate) enum Arrival {
 
 /// A program, the bytes that it needs and the helpers that it may call.
 #[derive(Clone, Copy)]
-pub(crate) struct Survey<'a> {
+pub(crate) struct AnalyzedProgram<'a> {
     pub(crate) need: u32,
     pub(crate) helpers: &'a HelperTable,
     pub(crate) graph: &'a Graph,
@@ -59,15 +59,16 @@ impl Arrival {
 }
 
 /// What passes an instruction along an edge, where this arrives at it.
-fn pass(survey: &Survey<'_>, arrival: &Arrival, insn: &Insn, taken: bool) -> Arrival
+fn pass(analyzed: &AnalyzedProgram<'_>, arrival: &Arrival, insn: &Insn, taken: bool) -> Arrival
     ensures { arriving result
-        ≡ out_state (subject_of survey.now) (Some insn.now) (if taken then Taken else NotTaken)
+        ≡ out_state (subject_of_program analyzed.now) (Some insn.now)
+        (if taken then Taken else NotTaken)
         (arriving arrival.now) }
 {
     match arrival {
         Arrival::Unreached => Arrival::Unreached,
         Arrival::Undefined => Arrival::Undefined,
-        Arrival::Reached(state) => match judge(survey.need, survey.helpers, insn, state) {
+        Arrival::Reached(state) => match judge(analyzed.need, analyzed.helpers, insn, state) {
             Err(_) => Arrival::Undefined,
             Ok(left) => {
                 let mut next = *state;
@@ -80,15 +81,15 @@ fn pass(survey: &Survey<'_>, arrival: &Arrival, insn: &Insn, taken: bool) -> Arr
 
 /// An instruction, and what arrives at it.
 #[derive(Clone, Copy)]
-struct Visit<'a> {
+struct VisitedInstruction<'a> {
     insn: &'a Insn,
     arrival: &'a Arrival,
 }
 
 /// Joins what passes an edge to `next`, if that is the slot.
 fn join_edge(
-    survey: &Survey<'_>,
-    visit: &Visit<'_>,
+    analyzed: &AnalyzedProgram<'_>,
+    visit: &VisitedInstruction<'_>,
     taken: bool,
     next: u32,
     slot: u32,
@@ -96,11 +97,11 @@ fn join_edge(
 ) -> Arrival
     ensures { arriving result
         ≡ joined_in_state (arriving joined) (if_leads_to (Some next) slot
-        (out_state (subject_of survey.now) (Some visit.now.insn.now)
+        (out_state (subject_of_program analyzed.now) (Some visit.now.insn.now)
         (if taken then Taken else NotTaken) (arriving visit.now.arrival.now))) }
 {
     if next == slot {
-        joined.join(pass(survey, visit.arrival, visit.insn, taken))
+        joined.join(pass(analyzed, visit.arrival, visit.insn, taken))
     } else {
         joined
     }
@@ -108,67 +109,78 @@ fn join_edge(
 
 /// Joins what passes the edges from one slot to another.
 fn join_from(
-    survey: &Survey<'_>,
+    analyzed: &AnalyzedProgram<'_>,
     table: &[Arrival],
     from: u32,
     slot: u32,
     joined: Arrival,
 ) -> Arrival
-    requires from { from < length survey.now.graph.now.code }
-    requires slots { length table.now ≡ length survey.now.graph.now.code }
+    requires from { from < length analyzed.now.graph.now.code }
+    requires slots { length table.now ≡ length analyzed.now.graph.now.code }
     ensures { arriving result
-        ≡ joined_from (subject_of survey.now) (arriving_at table.now) slot from (arriving joined) }
+        ≡ joined_from (subject_of_program analyzed.now) (arriving_at table.now) slot from
+        (arriving joined) }
 {
-    let Some(insn) = survey.graph.insn(from) else {
+    let Some(insn) = analyzed.graph.insn(from) else {
         return joined;
     };
-    let visit = Visit {
+    let visit = VisitedInstruction {
         insn,
         arrival: &table[from as usize],
     };
-    match survey.graph.successors(from) {
+    match analyzed.graph.successors(from) {
         Next::Zero => joined,
-        Next::One(to) => join_edge(survey, &visit, false, to, slot, joined),
+        Next::One(to) => join_edge(analyzed, &visit, false, to, slot, joined),
         Next::Two(following, to) => {
-            let joined = join_edge(survey, &visit, false, following, slot, joined);
-            join_edge(survey, &visit, true, to, slot, joined)
+            let joined = join_edge(analyzed, &visit, false, following, slot, joined);
+            join_edge(analyzed, &visit, true, to, slot, joined)
         }
     }
 }
 
 /// What passes all edges to a slot, joined.
-fn join_all(survey: &Survey<'_>, sources: &Sources, table: &[Arrival], slot: u32) -> Arrival
-    requires slot { slot < length survey.now.graph.now.code }
-    requires linked { AreLinked survey.now.graph.now.code sources.now 0 }
-    requires slots { length table.now ≡ length survey.now.graph.now.code }
+fn join_all(
+    analyzed: &AnalyzedProgram<'_>,
+    predecessors: &Predecessors,
+    table: &[Arrival],
+    slot: u32,
+) -> Arrival
+    requires slot { slot < length analyzed.now.graph.now.code }
+    requires linked { AreLinked analyzed.now.graph.now.code predecessors.now 0 }
+    requires slots { length table.now ≡ length analyzed.now.graph.now.code }
     ensures { arriving result
-        ≡ joined_edges (subject_of survey.now) (arriving_at table.now) slot
-        (length survey.now.graph.now.code) }
+        ≡ joined_edges (subject_of_program analyzed.now) (arriving_at table.now) slot
+        (length analyzed.now.graph.now.code) }
 {
-    let _slots = survey.graph.slots();
+    let _slots = analyzed.graph.slots();
     let mut joined = Arrival::Unreached;
-    let mut source = sources.first(slot);
+    let mut source = predecessors.first(slot);
     while let Some(from) = source {
-        joined = join_from(survey, table, from, slot, joined);
-        source = sources.after(survey.graph.successors(from), from, slot);
+        joined = join_from(analyzed, table, from, slot, joined);
+        source = predecessors.after(analyzed.graph.successors(from), from, slot);
     }
     joined
 }
 
 /// What arrives at a slot, where the table has what arrives at those that lead there.
-fn arrive(survey: &Survey<'_>, sources: &Sources, table: &[Arrival], slot: u32) -> Arrival
-    requires need { survey.now.need ≤ max_part }
-    requires slot { slot < length survey.now.graph.now.code }
-    requires linked { AreLinked survey.now.graph.now.code sources.now 0 }
-    requires slots { length table.now ≡ length survey.now.graph.now.code }
+fn arrive(
+    analyzed: &AnalyzedProgram<'_>,
+    predecessors: &Predecessors,
+    table: &[Arrival],
+    slot: u32,
+) -> Arrival
+    requires need { analyzed.now.need ≤ max_part }
+    requires slot { slot < length analyzed.now.graph.now.code }
+    requires linked { AreLinked analyzed.now.graph.now.code predecessors.now 0 }
+    requires slots { length table.now ≡ length analyzed.now.graph.now.code }
     ensures { arriving result
-        ≡ in_state_by (subject_of survey.now) (arriving_at table.now) slot
-        (length survey.now.graph.now.code) }
+        ≡ in_state_by (subject_of_program analyzed.now) (arriving_at table.now) slot
+        (length analyzed.now.graph.now.code) }
 {
     if slot == 0 {
-        return Arrival::Reached(State::entry(survey.need));
+        return Arrival::Reached(State::entry(analyzed.need));
     }
-    join_all(survey, sources, table, slot)
+    join_all(analyzed, predecessors, table, slot)
 }
 
 /// A table in which nothing arrives.
@@ -189,32 +201,38 @@ fn nowhere(alloc: Global, slots: u32) -> Result<Vec<Arrival>, NoMemory>
 /// What arrives at each slot.
 pub(crate) fn arrivals(
     alloc: Global,
-    survey: &Survey<'_>,
-    sources: &Sources,
+    analyzed: &AnalyzedProgram<'_>,
+    predecessors: &Predecessors,
 ) -> Result<Vec<Arrival>, NoMemory>
-    requires need { survey.now.need ≤ max_part }
-    requires linked { AreLinked survey.now.graph.now.code sources.now 0 }
-    ensures { IfOk result (λ table. AreArrivals (subject_of survey.now) table.items) }
+    requires need { analyzed.now.need ≤ max_part }
+    requires linked { AreLinked analyzed.now.graph.now.code predecessors.now 0 }
+    ensures { IfOk result (λ table. AreArrivals (subject_of_program analyzed.now) table.items) }
 {
-    let mut table = nowhere(alloc, survey.graph.slots())?;
-    let order = survey.graph.order();
+    let mut table = nowhere(alloc, analyzed.graph.slots())?;
+    let order = analyzed.graph.order();
     for place in 0..order.len() {
         let slot = order[place];
-        let arrival = arrive(survey, sources, &table, slot);
+        let arrival = arrive(analyzed, predecessors, &table, slot);
         table[slot as usize] = arrival;
     }
     Ok(table)
 }
 
 /// The state that arrives at a slot where one does.
-pub(crate) fn state_at(alloc: Global, survey: &Survey<'_>, slot: u32) -> Result<State, NoMemory>
-    requires need { survey.now.need ≤ max_part }
-    requires slot { slot < length survey.now.graph.now.code }
-    requires arrives { (state : State) × (in_state (subject_of survey.now) slot ≡ Reached state) }
-    ensures { IfOk result (λ state. in_state (subject_of survey.now) slot ≡ Reached state) }
+pub(crate) fn state_at(
+    alloc: Global,
+    analyzed: &AnalyzedProgram<'_>,
+    slot: u32,
+) -> Result<State, NoMemory>
+    requires need { analyzed.now.need ≤ max_part }
+    requires slot { slot < length analyzed.now.graph.now.code }
+    requires arrives { (state : State)
+        × (in_state (subject_of_program analyzed.now) slot ≡ Reached state) }
+    ensures { IfOk result
+        (λ state. in_state (subject_of_program analyzed.now) slot ≡ Reached state) }
 {
-    let sources = Sources::of(alloc, survey.graph)?;
-    let table = arrivals(alloc, survey, &sources)?;
+    let predecessors = Predecessors::of(alloc, analyzed.graph)?;
+    let table = arrivals(alloc, analyzed, &predecessors)?;
     match &table[slot as usize] {
         Arrival::Reached(state) => Ok(*state),
         _ => unreachable!(),

@@ -6,11 +6,11 @@ ghost use Rattle.machine_model.specs.Limits.{max_part};
 ghost use Rattle.machine_model.specs.Paths.{AreCosts};
 ghost use Rattle.flow_graph.specs.Cycles.{IsJoint};
 ghost use Rattle.verifier.specs.Sources.{AreLinked};
-ghost use Rattle.explain.specs.Arriving.{AreArrivals, arriving, subject_of};
+ghost use Rattle.explain.specs.Arriving.{AreArrivals, arriving, subject_of_program};
 ghost use Rattle.explain.specs.Blocks.{AreBegun, AreBlocks, IsBlock, IsStraight, IsToldOf, slots_in};
 
-use crate::arriving::{Arrival, Survey, arrivals};
-use crate::sources::Sources;
+use crate::arriving::{AnalyzedProgram, Arrival, arrivals};
+use crate::predecessors::Predecessors;
 use cost_bound::{Costs, costs};
 use flow_graph::{Graph, Next};
 use insn_codec::Placed;
@@ -36,21 +36,21 @@ pub struct Block {
 }
 
 /// Whether each edge to the one slot comes from the other, which leads there.
-fn is_sole(graph: &Graph, sources: &Sources, from: u32, to: u32) -> bool
+fn is_sole(graph: &Graph, predecessors: &Predecessors, from: u32, to: u32) -> bool
     requires joint { IsJoint graph.now.code from to }
-    requires linked { AreLinked graph.now.code sources.now 0 }
+    requires linked { AreLinked graph.now.code predecessors.now 0 }
     ensures { IsTrue result ↔ ((k : ℕ) → IsJoint graph.now.code k to → k ≡ from) }
 {
     let slots = graph.slots();
     prove!(from < slots);
     prove!(to < slots);
-    match sources.first(to) {
+    match predecessors.first(to) {
         None => false,
         Some(first) => {
             if first != from {
                 return false;
             }
-            match sources.after(graph.successors(from), from, to) {
+            match predecessors.after(graph.successors(from), from, to) {
                 None => true,
                 Some(_) => false,
             }
@@ -59,9 +59,9 @@ fn is_sole(graph: &Graph, sources: &Sources, from: u32, to: u32) -> bool
 }
 
 /// Whether the one slot leads straight to the other.
-fn is_straight(graph: &Graph, sources: &Sources, from: u32, to: u32) -> bool
+fn is_straight(graph: &Graph, predecessors: &Predecessors, from: u32, to: u32) -> bool
     requires begins { Begins graph.now.code from }
-    requires linked { AreLinked graph.now.code sources.now 0 }
+    requires linked { AreLinked graph.now.code predecessors.now 0 }
     ensures { IsTrue result ↔ IsStraight graph.now.code from to }
 {
     match graph.successors(from) {
@@ -70,7 +70,7 @@ fn is_straight(graph: &Graph, sources: &Sources, from: u32, to: u32) -> bool
             if one != to {
                 return false;
             }
-            is_sole(graph, sources, from, to)
+            is_sole(graph, predecessors, from, to)
         }
         Next::Two(_, _) => false,
     }
@@ -85,8 +85,8 @@ fn slot_at(placed: &[Placed], index: usize) -> u32
 }
 
 /// The number behind that of the last instruction to which the first one leads straight on.
-fn end_of(graph: &Graph, sources: &Sources, placed: &[Placed], first: usize) -> usize
-    requires linked { AreLinked graph.now.code sources.now 0 }
+fn end_of(graph: &Graph, predecessors: &Predecessors, placed: &[Placed], first: usize) -> usize
+    requires linked { AreLinked graph.now.code predecessors.now 0 }
     requires first { first < length placed.now }
     requires begun { AreBegun graph.now.code (slots_in placed.now) }
     ensures some { first < result }
@@ -102,7 +102,7 @@ fn end_of(graph: &Graph, sources: &Sources, placed: &[Placed], first: usize) -> 
     while end < placed.len() {
         if !is_straight(
             graph,
-            sources,
+            predecessors,
             slot_at(placed, end - 1),
             slot_at(placed, end),
         ) {
@@ -126,22 +126,22 @@ fn known_of(arrival: &Arrival) -> Option<State>
 
 /// The block that begins at an instruction.
 fn block_from(
-    survey: &Survey<'_>,
-    sources: &Sources,
+    analyzed: &AnalyzedProgram<'_>,
+    predecessors: &Predecessors,
     table: &[Arrival],
     costs: &Costs,
     placed: &[Placed],
     first: usize,
 ) -> Block
-    requires linked { AreLinked survey.now.graph.now.code sources.now 0 }
+    requires linked { AreLinked analyzed.now.graph.now.code predecessors.now 0 }
     requires first { first < length placed.now }
-    requires begun { AreBegun survey.now.graph.now.code (slots_in placed.now) }
-    requires table { AreArrivals (subject_of survey.now) table.now }
-    requires costs { AreCosts survey.now.graph.now.code costs.now }
-    ensures block { IsBlock (subject_of survey.now) (slots_in placed.now) result }
+    requires begun { AreBegun analyzed.now.graph.now.code (slots_in placed.now) }
+    requires table { AreArrivals (subject_of_program analyzed.now) table.now }
+    requires costs { AreCosts analyzed.now.graph.now.code costs.now }
+    ensures block { IsBlock (subject_of_program analyzed.now) (slots_in placed.now) result }
     ensures first { result.first ≡ first }
 {
-    let end = end_of(survey.graph, sources, placed, first);
+    let end = end_of(analyzed.graph, predecessors, placed, first);
     let head = slot_at(placed, first);
     let last = slot_at(placed, end - 1);
     Block {
@@ -149,29 +149,30 @@ fn block_from(
         end,
         cost: costs.at(head),
         known: known_of(&table[head as usize]),
-        next: survey.graph.successors(last),
+        next: analyzed.graph.successors(last),
     }
 }
 
 /// The blocks of a program, in the order of its instructions.
 pub(crate) fn blocks(
     alloc: Global,
-    survey: &Survey<'_>,
+    analyzed: &AnalyzedProgram<'_>,
     placed: &[Placed],
 ) -> Result<Vec<Block>, NoMemory>
-    requires need { survey.now.need ≤ max_part }
-    requires begun { AreBegun survey.now.graph.now.code (slots_in placed.now) }
-    ensures { IfOk result (λ blocks. AreBlocks (subject_of survey.now) placed.now blocks.items) }
+    requires need { analyzed.now.need ≤ max_part }
+    requires begun { AreBegun analyzed.now.graph.now.code (slots_in placed.now) }
+    ensures { IfOk result
+        (λ blocks. AreBlocks (subject_of_program analyzed.now) placed.now blocks.items) }
 {
     // the borrow checker's part of the proof has to hear of the type
     let _known: Option<State> = None;
-    let costs = costs(alloc, survey.graph)?;
-    let sources = Sources::of(alloc, survey.graph)?;
-    let table = arrivals(alloc, survey, &sources)?;
+    let costs = costs(alloc, analyzed.graph)?;
+    let predecessors = Predecessors::of(alloc, analyzed.graph)?;
+    let table = arrivals(alloc, analyzed, &predecessors)?;
     let mut blocks = Vec::new(alloc);
     let mut first = 0;
     while first < placed.len() {
-        let block = block_from(survey, &sources, &table, &costs, placed, first);
+        let block = block_from(analyzed, &predecessors, &table, &costs, placed, first);
         first = block.end;
         blocks.push(block)?;
     }

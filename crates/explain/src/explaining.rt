@@ -6,8 +6,8 @@ ghost use Rattle.verifier.specs.declared.refusals.Refusal.TheVariants as refused
 ghost use Rattle.explain.specs.Told.{IsAllowed, IsTold};
 
 use crate::explanation::Explanation;
+use crate::instruction_places::place_of;
 use crate::knowing::known_of;
-use crate::places::place_of;
 use helpers::HelperTable;
 use refusal::NoMemory;
 use std::alloc::Global;

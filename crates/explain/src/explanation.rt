@@ -4,7 +4,7 @@ ghost use Rattle.std.specs.Prelude.{IfOk, string_bytes};
 ghost use Rattle.explain.specs.Texts.{IsTextOf};
 
 use crate::needs::Enough;
-use crate::registers::Registers;
+use crate::registers::RegisterLines;
 use crate::rules::rule;
 use refusal::NoMemory;
 use std::alloc::Global;
@@ -13,7 +13,7 @@ use verifier::{Refusal, State};
 
 /// The instruction at a slot.
 #[derive(Drop)]
-pub struct Place {
+pub struct InstructionPlace {
     pub slot: u32,
     /// The number of its line in the source text, from 1 on, where there is such a text.
     pub line: Option<u64>,
@@ -23,7 +23,7 @@ pub struct Place {
 
 /// What is known ahead of an instruction that isn't allowed.
 #[derive(Drop)]
-pub struct Known {
+pub struct RefusalContext {
     /// The slots of a way that leads there, from slot 0 on.
     pub way: Vec<u32>,
     /// What is known of each register there, on every way.
@@ -39,16 +39,16 @@ pub struct Known {
 pub struct Explanation {
     pub refusal: Refusal,
     /// Where the refusal tells the slot of an instruction.
-    pub place: Option<Place>,
+    pub place: Option<InstructionPlace>,
     /// Where that instruction isn't allowed: 31 to 37.
-    pub known: Option<Known>,
+    pub known: Option<RefusalContext>,
 }
 
-impl fmt::Display for Place {
+impl fmt::Display for InstructionPlace {
     ghost use Rattle.std.specs.Prelude.{Some};
-    ghost use Rattle.explain.specs.Texts.{place_text};
+    ghost use Rattle.explain.specs.Texts.{instruction_place_text};
 
-    ghost output = { λ place. Some (place_text place) };
+    ghost output = { λ place. Some (instruction_place_text place) };
 
     fn fmt<W: fmt::Write>(&self, f: &mut fmt::Formatter<W>) -> fmt::Result {
         let slot = self.slot;
@@ -61,9 +61,9 @@ impl fmt::Display for Place {
 
 /// The slots of a way, each behind a space.
 #[derive(Clone, Copy)]
-struct Way<'a>(&'a [u32]);
+struct WayText<'a>(&'a [u32]);
 
-impl<'a> fmt::Display for Way<'a> {
+impl<'a> fmt::Display for WayText<'a> {
     ghost use Rattle.std.specs.Prelude.{Some};
     ghost use Rattle.explain.specs.Texts.{way_text};
 
@@ -96,22 +96,22 @@ impl fmt::Display for NeedLine {
     }
 }
 
-impl fmt::Display for Known {
+impl fmt::Display for RefusalContext {
     ghost use Rattle.std.specs.Prelude.{Some};
     ghost use Rattle.explain.specs.Texts.{state_text};
 
     ghost output = { λ known. Some (state_text known) };
 
     fn fmt<W: fmt::Write>(&self, f: &mut fmt::Formatter<W>) -> fmt::Result {
-        let (need, way) = (NeedLine(self.enough), Way(&self.way));
-        let state = Registers(self.state);
+        let (need, way) = (NeedLine(self.enough), WayText(&self.way));
+        let state = RegisterLines(self.state);
         write!(f, "{need}way:{way}\nknown there:\n{state}")
     }
 }
 
 /// The line of a place, where there is one.
 #[derive(Clone, Copy)]
-struct PlaceLine<'a>(&'a Option<Place>);
+struct PlaceLine<'a>(&'a Option<InstructionPlace>);
 
 impl<'a> fmt::Display for PlaceLine<'a> {
     ghost use Rattle.std.specs.Prelude.{Some};
@@ -129,7 +129,7 @@ impl<'a> fmt::Display for PlaceLine<'a> {
 
 /// The lines of what is known, where it is.
 #[derive(Clone, Copy)]
-struct KnownLines<'a>(&'a Option<Known>);
+struct KnownLines<'a>(&'a Option<RefusalContext>);
 
 impl<'a> fmt::Display for KnownLines<'a> {
     ghost use Rattle.std.specs.Prelude.{Some};

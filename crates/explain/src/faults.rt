@@ -3,18 +3,18 @@
 ghost use Rattle.std.specs.Prelude.{◌≡◌, ◌<◌, ◌≤◌, ◌∷◌, [], ℕ, length, map, option_map, IfOk, MatchOption, None};
 ghost use Rattle.machine_model.specs.Limits.{max_part};
 ghost use Rattle.verifier.specs.RefusalCodes.{refusal_at};
-ghost use Rattle.explain.specs.Arriving.{AreArrivals, subject_of};
+ghost use Rattle.explain.specs.Arriving.{AreArrivals, subject_of_program};
 ghost use Rattle.explain.specs.Faults.{AreFaultsTold, AreTold, IsFaultTold, broken_at, refusal_of};
-ghost use Rattle.explain.specs.Lines.{told};
+ghost use Rattle.explain.specs.Lines.{numbered_text};
 
-use crate::arriving::{Arrival, Survey, arrivals};
+use crate::arriving::{AnalyzedProgram, Arrival, arrivals};
 use crate::explaining::explain_refusal;
 use crate::explanation::Explanation;
+use crate::graphed_program::graphed;
+use crate::instruction_places::{lines_for, place_in};
 use crate::knowing::known_in;
-use crate::lines::Line;
-use crate::places::{lines_for, place_in};
-use crate::sources::Sources;
-use crate::whole::graphed;
+use crate::lines::SourceLine;
+use crate::predecessors::Predecessors;
 use helpers::HelperTable;
 use insn_codec::Placed;
 use instruction_rules::{Rule, judge};
@@ -40,31 +40,33 @@ fn refusal_at(slot: u32, rule: Rule) -> Refusal
 /// What is told of the instruction at a slot, if it isn't allowed there.
 fn fault_at(
     alloc: Global,
-    survey: &Survey<'_>,
+    analyzed: &AnalyzedProgram<'_>,
     table: &[Arrival],
     placed: &[Placed],
-    lines: &[Line<'_>],
+    lines: &[SourceLine<'_>],
     slot: u32,
 ) -> Result<Option<Explanation>, NoMemory>
-    requires need { survey.now.need ≤ max_part }
-    requires slot { slot < length survey.now.graph.now.code }
-    requires table { AreArrivals (subject_of survey.now) table.now }
+    requires need { analyzed.now.need ≤ max_part }
+    requires slot { slot < length analyzed.now.graph.now.code }
+    requires table { AreArrivals (subject_of_program analyzed.now) table.now }
     ensures { IfOk result (λ found. MatchOption found
-        (broken_at (subject_of survey.now) slot ≡ None)
-        (λ why. IsFaultTold (subject_of survey.now) placed.now (map told lines.now) why
-        × (refusal_of slot (broken_at (subject_of survey.now) slot) ≡ why.refusal ∷ []))) }
+        (broken_at (subject_of_program analyzed.now) slot ≡ None)
+        (λ why. IsFaultTold (subject_of_program analyzed.now) placed.now
+        (map numbered_text lines.now) why
+        × (refusal_of slot (broken_at (subject_of_program analyzed.now) slot)
+        ≡ why.refusal ∷ []))) }
 {
-    let Some(insn) = survey.graph.insn(slot) else {
+    let Some(insn) = analyzed.graph.insn(slot) else {
         return Ok(None);
     };
     match &table[slot as usize] {
         Arrival::Unreached => Ok(None),
         Arrival::Undefined => Ok(None),
-        Arrival::Reached(state) => match judge(survey.need, survey.helpers, insn, state) {
+        Arrival::Reached(state) => match judge(analyzed.need, analyzed.helpers, insn, state) {
             Ok(_) => Ok(None),
             Err(rule) => {
                 let place = place_in(alloc, placed, lines, slot)?;
-                let known = known_in(alloc, survey, insn, slot, *state)?;
+                let known = known_in(alloc, analyzed, insn, slot, *state)?;
                 Ok(Some(Explanation {
                     refusal: refusal_at(slot, rule),
                     place,
@@ -78,19 +80,19 @@ fn fault_at(
 /// What is told of each instruction that isn't allowed.
 fn faults(
     alloc: Global,
-    survey: &Survey<'_>,
+    analyzed: &AnalyzedProgram<'_>,
     placed: &[Placed],
-    lines: &[Line<'_>],
+    lines: &[SourceLine<'_>],
 ) -> Result<Vec<Explanation>, NoMemory>
-    requires need { survey.now.need ≤ max_part }
-    ensures { IfOk result (λ list. AreFaultsTold (subject_of survey.now) placed.now
-        (map told lines.now) list.items) }
+    requires need { analyzed.now.need ≤ max_part }
+    ensures { IfOk result (λ list. AreFaultsTold (subject_of_program analyzed.now) placed.now
+        (map numbered_text lines.now) list.items) }
 {
-    let sources = Sources::of(alloc, survey.graph)?;
-    let table = arrivals(alloc, survey, &sources)?;
+    let predecessors = Predecessors::of(alloc, analyzed.graph)?;
+    let table = arrivals(alloc, analyzed, &predecessors)?;
     let mut list = Vec::new(alloc);
-    for slot in 0..survey.graph.slots() {
-        match fault_at(alloc, survey, &table, placed, lines, slot)? {
+    for slot in 0..analyzed.graph.slots() {
+        match fault_at(alloc, analyzed, &table, placed, lines, slot)? {
             None => {}
             Some(why) => list.push(why)?,
         }
@@ -121,11 +123,11 @@ pub fn explain_all(
             return Ok(list);
         }
     };
-    let survey = Survey {
+    let analyzed = AnalyzedProgram {
         need,
         helpers,
         graph: &whole.graph,
     };
     let lines = lines_for(alloc, code, source)?;
-    faults(alloc, &survey, &whole.placed, &lines)
+    faults(alloc, &analyzed, &whole.placed, &lines)
 }

@@ -5,12 +5,12 @@ ghost use Rattle.machine_model.specs.Edges.{insn_at};
 ghost use Rattle.machine_model.specs.Limits.{max_part};
 ghost use Rattle.verifier.specs.InStates.{Reached, in_state};
 ghost use Rattle.verifier.specs.Refusals.{RefusesProgram};
-ghost use Rattle.explain.specs.Arriving.{subject_of};
+ghost use Rattle.explain.specs.Arriving.{subject_of_program};
 ghost use Rattle.explain.specs.Refused.{IsRefusedAt};
 ghost use Rattle.explain.specs.Told.{IsKnownAt, IsKnownIn, IsKnownOf, ruled_slot};
 
-use crate::arriving::{Survey, state_at};
-use crate::explanation::Known;
+use crate::arriving::{AnalyzedProgram, state_at};
+use crate::explanation::RefusalContext;
 use crate::leading::way_to;
 use crate::needs::least_need;
 use flow_graph::{FlowFault, build};
@@ -40,19 +40,19 @@ fn ruled_slot(refusal: &Refusal) -> Option<u32>
 /// What is known at a slot where this instruction stands and this state arrives.
 pub(crate) fn known_in(
     alloc: Global,
-    survey: &Survey<'_>,
+    analyzed: &AnalyzedProgram<'_>,
     insn: &Insn,
     slot: u32,
     state: State,
-) -> Result<Known, NoMemory>
-    requires need { survey.now.need ≤ max_part }
-    requires there { insn_at survey.now.graph.now.code slot ≡ Some insn.now }
-    requires arrives { in_state (subject_of survey.now) slot ≡ Reached state }
-    ensures { IfOk result (λ known. IsKnownIn (subject_of survey.now) slot known) }
+) -> Result<RefusalContext, NoMemory>
+    requires need { analyzed.now.need ≤ max_part }
+    requires there { insn_at analyzed.now.graph.now.code slot ≡ Some insn.now }
+    requires arrives { in_state (subject_of_program analyzed.now) slot ≡ Reached state }
+    ensures { IfOk result (λ known. IsKnownIn (subject_of_program analyzed.now) slot known) }
 {
-    let way = way_to(alloc, survey.graph, slot)?;
-    let enough = least_need(survey.need, survey.helpers, insn, &state);
-    Ok(Known { way, state, enough })
+    let way = way_to(alloc, analyzed.graph, slot)?;
+    let enough = least_need(analyzed.need, analyzed.helpers, insn, &state);
+    Ok(RefusalContext { way, state, enough })
 }
 
 /// What is known at the slot, of a program that is refused there.
@@ -62,7 +62,7 @@ fn known_at(
     code: &[u8],
     helpers: &HelperTable,
     slot: u32,
-) -> Result<Known, NoMemory>
+) -> Result<RefusalContext, NoMemory>
     requires { IsRefusedAt need code.now helpers.now slot }
     ensures { IfOk result (λ known. IsKnownAt need code.now helpers.now slot known) }
 {
@@ -76,14 +76,14 @@ fn known_at(
         Err(FlowFault::NoMemory) => return Err(NoMemory),
         Err(_) => unreachable!(),
     };
-    let survey = Survey {
+    let analyzed = AnalyzedProgram {
         need,
         helpers,
         graph: &graph,
     };
-    let state = state_at(alloc, &survey, slot)?;
+    let state = state_at(alloc, &analyzed, slot)?;
     match graph.insn(slot) {
-        Some(insn) => known_in(alloc, &survey, insn, slot, state),
+        Some(insn) => known_in(alloc, &analyzed, insn, slot, state),
         None => unreachable!(),
     }
 }
@@ -95,7 +95,7 @@ pub(crate) fn known_of(
     code: &[u8],
     helpers: &HelperTable,
     refusal: &Refusal,
-) -> Result<Option<Known>, NoMemory>
+) -> Result<Option<RefusalContext>, NoMemory>
     requires { RefusesProgram need code.now helpers.now refusal.now }
     ensures { IfOk result
         (λ known. IsKnownOf need code.now helpers.now (ruled_slot refusal.now) known) }

@@ -9,20 +9,20 @@ mod faults;
 mod rules;
 
 pub use explaining::explain;
-pub use explanation::{Explanation, Known, Place, text_of};
+pub use explanation::{Explanation, InstructionPlace, RefusalContext, text_of};
 pub use faults::explain_all;
 
 // what leads to a slot, and what is known there
 mod arriving;
+mod graphed_program;
 mod knowing;
 mod leading;
 mod needs;
+mod predecessors;
 mod registers;
-mod sources;
-mod whole;
 
 pub use needs::Enough;
-pub use registers::Content;
+pub use registers::AbsText;
 
 // the graph, by basic blocks
 mod blocks;
@@ -32,8 +32,8 @@ pub use blocks::Block;
 pub use picture::{Picture, picture_of};
 
 // a slot's line in a source text
+mod instruction_places;
 mod lines;
-mod places;
 
-pub use lines::{Line, lines_of};
-pub use places::{index_of, line_at, lines_in, place_in};
+pub use instruction_places::{index_of, line_at, lines_in, place_in};
+pub use lines::{SourceLine, lines_of};

@@ -2,7 +2,7 @@
 
 ghost use Rattle.std.specs.Prelude.{◌≡◌, ◌++◌, map, IfOk};
 ghost use Rattle.assembler.specs.Source.{source_lines};
-ghost use Rattle.explain.specs.Lines.{said, told};
+ghost use Rattle.explain.specs.Lines.{said, numbered_text};
 
 use assembler::{split_before, stripped_line};
 use refusal::NoMemory;
@@ -10,7 +10,7 @@ use std::alloc::Global;
 
 /// A line that says something.
 #[derive(Clone, Copy)]
-pub struct Line<'a> {
+pub struct SourceLine<'a> {
     /// From 1 on.
     pub number: u64,
     /// What stands on it, without its comment and the blanks at both ends.
@@ -19,22 +19,23 @@ pub struct Line<'a> {
 
 // The lines, with this one if it says something.
 fn extended<'a>(
-    mut lines: Vec<Line<'a>>,
+    mut lines: Vec<SourceLine<'a>>,
     number: u64,
     text: &'a [u8],
-) -> Result<Vec<Line<'a>>, NoMemory>
-    ensures { IfOk result (λ more. map told more.items ≡ map told lines.entry.items
+) -> Result<Vec<SourceLine<'a>>, NoMemory>
+    ensures { IfOk result
+        (λ more. map numbered_text more.items ≡ map numbered_text lines.entry.items
         ++ said number text.now) }
 {
     if !text.is_empty() {
-        lines.push(Line { number, text })?;
+        lines.push(SourceLine { number, text })?;
     }
     Ok(lines)
 }
 
 /// The lines of a source text that say something, in their order: those that the assembler reads.
-pub fn lines_of(alloc: Global, source: &[u8]) -> Result<Vec<Line<'_>>, NoMemory>
-    ensures { IfOk result (λ lines. map told lines.items ≡ source_lines source.now) }
+pub fn lines_of(alloc: Global, source: &[u8]) -> Result<Vec<SourceLine<'_>>, NoMemory>
+    ensures { IfOk result (λ lines. map numbered_text lines.items ≡ source_lines source.now) }
 {
     let mut lines = Vec::new(alloc);
     let mut rest = source;

@@ -2,18 +2,18 @@
 
 ghost use Rattle.std.specs.Prelude.{◌≡◌, ◌<◌, None, length, map, option_map, IfOk, MatchResult};
 ghost use Rattle.verifier.specs.Refusals.{RefusesProgram};
-ghost use Rattle.explain.specs.Blocks.{ArePlaces, IsNumbered};
-ghost use Rattle.explain.specs.Lines.{told};
+ghost use Rattle.explain.specs.Blocks.{AreInstructionPlaces, IsNumbered};
+ghost use Rattle.explain.specs.Lines.{numbered_text};
 ghost use Rattle.explain.specs.Pictures.{IsPicture};
 ghost use Rattle.explain.specs.Told.{ruled_slot};
 
-use crate::arriving::Survey;
+use crate::arriving::AnalyzedProgram;
 use crate::blocks::{Block, blocks};
 use crate::explaining::explain;
-use crate::explanation::{Explanation, Place};
-use crate::lines::Line;
-use crate::places::{lines_for, number_at};
-use crate::whole::graphed;
+use crate::explanation::{Explanation, InstructionPlace};
+use crate::graphed_program::graphed;
+use crate::instruction_places::{lines_for, number_at};
+use crate::lines::SourceLine;
 use disassembler::line;
 use helpers::HelperTable;
 use insn_codec::Placed;
@@ -25,7 +25,7 @@ use verifier::Refusal;
 #[derive(Drop)]
 pub struct Picture {
     /// The instructions, in order.
-    pub places: Vec<Place>,
+    pub places: Vec<InstructionPlace>,
     /// The basic blocks, in the order of their instructions.
     pub blocks: Vec<Block>,
     /// Why the program is refused, if it is.
@@ -36,14 +36,15 @@ pub struct Picture {
 fn place_at(
     alloc: Global,
     placed: &[Placed],
-    lines: &[Line<'_>],
+    lines: &[SourceLine<'_>],
     index: usize,
-) -> Result<Place, NoMemory>
+) -> Result<InstructionPlace, NoMemory>
     requires { index < length placed.now }
-    ensures { IfOk result (λ place. IsNumbered placed.now (map told lines.now) index place) }
+    ensures { IfOk result
+        (λ place. IsNumbered placed.now (map numbered_text lines.now) index place) }
 {
     let text = line(alloc, &placed[index].insn)?;
-    Ok(Place {
+    Ok(InstructionPlace {
         slot: placed[index].slot,
         line: number_at(lines, index),
         text,
@@ -51,8 +52,13 @@ fn place_at(
 }
 
 /// The instructions, with the numbers of their lines.
-fn places(alloc: Global, placed: &[Placed], lines: &[Line<'_>]) -> Result<Vec<Place>, NoMemory>
-    ensures { IfOk result (λ places. ArePlaces placed.now (map told lines.now) places.items) }
+fn places(
+    alloc: Global,
+    placed: &[Placed],
+    lines: &[SourceLine<'_>],
+) -> Result<Vec<InstructionPlace>, NoMemory>
+    ensures { IfOk result
+        (λ places. AreInstructionPlaces placed.now (map numbered_text lines.now) places.items) }
 {
     let mut places = Vec::with_capacity(alloc, placed.len())?;
     for index in 0..placed.len() {
@@ -78,12 +84,12 @@ pub fn picture_of(
         × (ruled_slot refusal ≡ None)) }
 {
     let whole = graphed(alloc, need, code)?;
-    let survey = Survey {
+    let analyzed = AnalyzedProgram {
         need,
         helpers,
         graph: &whole.graph,
     };
-    let blocks = blocks(alloc, &survey, &whole.placed)?;
+    let blocks = blocks(alloc, &analyzed, &whole.placed)?;
     let lines = lines_for(alloc, code, source)?;
     let places = places(alloc, &whole.placed, &lines)?;
     let why = explain(alloc, need, code, helpers, source)?;

@@ -31,9 +31,9 @@ fn is_any(numbers: Numbers) -> bool
 
 /// A number: its unsigned range, and its signed one where that says more.
 #[derive(Clone, Copy)]
-struct Number(Numbers);
+struct NumbersText(Numbers);
 
-impl fmt::Display for Number {
+impl fmt::Display for NumbersText {
     ghost use Rattle.std.specs.Prelude.{Some};
     ghost use Rattle.explain.specs.Texts.{number_text};
 
@@ -59,9 +59,9 @@ impl fmt::Display for Number {
 
 /// A position with its sign, also before zero.
 #[derive(Clone, Copy)]
-struct Position(i32);
+struct PositionText(i32);
 
-impl fmt::Display for Position {
+impl fmt::Display for PositionText {
     ghost use Rattle.std.specs.Prelude.{Some};
     ghost use Rattle.disassembler.specs.Line.{signed_text};
 
@@ -79,9 +79,9 @@ impl fmt::Display for Position {
 
 /// Where a pointer leads, in bytes from its region's first.
 #[derive(Clone, Copy)]
-struct Positions(Reach);
+struct ReachText(Reach);
 
-impl fmt::Display for Positions {
+impl fmt::Display for ReachText {
     ghost use Rattle.std.specs.Prelude.{Some};
     ghost use Rattle.explain.specs.Texts.{reach_text};
 
@@ -90,18 +90,18 @@ impl fmt::Display for Positions {
     fn fmt<W: fmt::Write>(&self, f: &mut fmt::Formatter<W>) -> fmt::Result {
         let (lo, hi) = (self.0.lo(), self.0.hi());
         if lo < hi {
-            write!(f, "{} to {}", Position(lo), Position(hi))
+            write!(f, "{} to {}", PositionText(lo), PositionText(hi))
         } else {
-            write!(f, "{}", Position(lo))
+            write!(f, "{}", PositionText(lo))
         }
     }
 }
 
 /// What is known of a register. Its text is one line.
 #[derive(Clone, Copy)]
-pub struct Content(pub Abs);
+pub struct AbsText(pub Abs);
 
-impl fmt::Display for Content {
+impl fmt::Display for AbsText {
     ghost use Rattle.std.specs.Prelude.{Some};
     ghost use Rattle.explain.specs.Texts.{known_text};
 
@@ -110,9 +110,9 @@ impl fmt::Display for Content {
     fn fmt<W: fmt::Write>(&self, f: &mut fmt::Formatter<W>) -> fmt::Result {
         match self.0 {
             Abs::Unset => write!(f, "unset"),
-            Abs::Num(numbers) => write!(f, "{}", Number(numbers)),
-            Abs::Stack(reach) => write!(f, "stack{}", Positions(reach)),
-            Abs::Part(reach) => write!(f, "part{}", Positions(reach)),
+            Abs::Num(numbers) => write!(f, "{}", NumbersText(numbers)),
+            Abs::Stack(reach) => write!(f, "stack{}", ReachText(reach)),
+            Abs::Part(reach) => write!(f, "part{}", ReachText(reach)),
         }
     }
 }
@@ -128,7 +128,7 @@ impl fmt::Display for RegisterLine {
     ghost output = { λ line. Some (register_line line.0 line.1) };
 
     fn fmt<W: fmt::Write>(&self, f: &mut fmt::Formatter<W>) -> fmt::Result {
-        write!(f, "  r{} {}\n", self.0, Content(self.1))
+        write!(f, "  r{} {}\n", self.0, AbsText(self.1))
     }
 }
 
@@ -143,9 +143,9 @@ fn line_of(state: &State, number: u8) -> RegisterLine
 
 /// A line for each register.
 #[derive(Clone, Copy)]
-pub(crate) struct Registers(pub(crate) State);
+pub(crate) struct RegisterLines(pub(crate) State);
 
-impl fmt::Display for Registers {
+impl fmt::Display for RegisterLines {
     ghost use Rattle.std.specs.Prelude.{Some};
     ghost use Rattle.explain.specs.Texts.{registers_text};
 

@@ -1,8 +1,8 @@
 use Rattle.std.proofs.Common.{◌≡◌, ℕ, [], ◌∷◌, arith, inl, inr, map, subst, sym, ◌∙◌}
 use Rattle.std.proofs.lemmas.List.{length-append}
-use Rattle.explain.specs.declared.explanation.Place.{Place}
+use Rattle.explain.specs.declared.explanation.InstructionPlace.{InstructionPlace}
 use Rattle.explain.specs.Blocks.{IsNumbered}
-use Rattle.explain.specs.Lines.{told}
+use Rattle.explain.specs.Lines.{numbered_text}
 use Rattle.explain.proofs.BlockLemmas.{got_of_more}
 use Rattle.explain.proofs.picture.places.Goals as goal
 
@@ -14,7 +14,7 @@ loop-index-preserved c =
         | inl there ↦ c.loop-index.invariant.each k place there
         | inr last ↦
             let here : k ≡ c.loop-index.index = last.0 ∙ c.loop-index.invariant.long in
-            subst (λ (p : Place). IsNumbered c.args.placed.now (map told c.args.lines.now) k p) (sym last.1)
-            (subst (λ (n : ℕ). IsNumbered c.args.placed.now (map told c.args.lines.now) n c.in_ok-place.place) (sym here) c.in_ok-place.ensures)
+            subst (λ (p : InstructionPlace). IsNumbered c.args.placed.now (map numbered_text c.args.lines.now) k p) (sym last.1)
+            (subst (λ (n : ℕ). IsNumbered c.args.placed.now (map numbered_text c.args.lines.now) n c.in_ok-place.place) (sym here) c.in_ok-place.ensures)
       ];
     })

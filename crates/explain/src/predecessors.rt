@@ -12,7 +12,7 @@ use std::marker::Model;
 /// The slots that lead to each slot, lowest first: a list for each slot, linked through the edges.
 /// The verifier takes from its own lists what has come; these stay whole.
 #[derive(Drop)]
-pub(crate) struct Sources {
+pub(crate) struct Predecessors {
     /// The lowest slot that leads to a slot.
     first: Vec<Option<u32>>,
     /// The next slot that leads where a slot's edge to the following slot, or its only one, does.
@@ -23,7 +23,7 @@ pub(crate) struct Sources {
     edges: Vec<u32>,
 }
 
-impl Model for Sources {
+impl Model for Predecessors {
     ghost use Rattle.verifier.specs.Sources.{Links};
 
     ghost Value = { Links };
@@ -36,9 +36,9 @@ impl Model for Sources {
     } };
 }
 
-impl Sources {
+impl Predecessors {
     /// No slot is linked.
-    fn none(alloc: Global, slots: u32) -> Result<Sources, NoMemory>
+    fn none(alloc: Global, slots: u32) -> Result<Predecessors, NoMemory>
         ensures first { IfOk result (λ t. (length t.first ≡ slots)
             × ((s : ℕ) → s < slots → slice_index_or t.first s None ≡ None)) }
         ensures following { IfOk result (λ t. length t.following ≡ slots) }
@@ -50,7 +50,7 @@ impl Sources {
         let following = vec![in alloc; None; slots as usize]?;
         let taken = vec![in alloc; None; slots as usize]?;
         let edges = vec![in alloc; 0; slots as usize]?;
-        Ok(Sources {
+        Ok(Predecessors {
             first,
             following,
             taken,
@@ -129,19 +129,19 @@ impl Sources {
     }
 
     /// The slots that lead to each slot of a program.
-    pub(crate) fn of(alloc: Global, graph: &Graph) -> Result<Sources, NoMemory>
-        ensures { IfOk result (λ sources. AreLinked graph.now.code sources 0) }
+    pub(crate) fn of(alloc: Global, graph: &Graph) -> Result<Predecessors, NoMemory>
+        ensures { IfOk result (λ predecessors. AreLinked graph.now.code predecessors 0) }
     {
         let slots = graph.slots();
-        let mut sources = Sources::none(alloc, slots)?;
+        let mut predecessors = Predecessors::none(alloc, slots)?;
         let mut from = slots;
         while from > 0 {
             from -= 1;
             if let Some(_) = graph.insn(from) {
-                sources.link(graph, from);
+                predecessors.link(graph, from);
             }
         }
-        Ok(sources)
+        Ok(predecessors)
     }
 
     /// The lowest slot that leads to the slot.

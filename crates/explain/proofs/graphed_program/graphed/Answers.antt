@@ -3,7 +3,7 @@ use Rattle.std.proofs.lemmas.Result.{err_from_is_err_and}
 use Rattle.flow_graph.proofs.Decoded.{decoded_of}
 use Rattle.verifier.proofs.Verdicts.{codec_refused, flow_refused}
 use Rattle.explain.proofs.FaultLemmas.{codec_unruled, flow_unruled}
-use Rattle.explain.proofs.whole.graphed.Goals as goal
+use Rattle.explain.proofs.graphed_program.graphed.Goals as goal
 
 pub returns-in_err-placed : goal.returns-in_err-placed
 returns-in_err-placed c =

@@ -1,7 +1,7 @@
 use Rattle.std.proofs.Common.{take}
 use Rattle.std.specs.Fmt.{HasWritten, IsPlainFormatter}
 use Rattle.explain.specs.Texts.{way_text}
-use Rattle.explain.proofs.explanation.WayDisplay.fmt.Given as goal
+use Rattle.explain.proofs.explanation.WayTextDisplay.fmt.Given as goal
 
 abbrev pub invariant-loop-slot : goal.invariant-loop-slot
 invariant-loop-slot g l =

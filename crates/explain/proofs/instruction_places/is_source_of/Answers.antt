@@ -1,6 +1,6 @@
 use Rattle.std.proofs.Common.{rules}
 use Rattle.explain.proofs.SourceTexts.{source_found, source_refused}
-use Rattle.explain.proofs.places.is_source_of.Goals as goal
+use Rattle.explain.proofs.instruction_places.is_source_of.Goals as goal
 
 pub returns-in-Ok : goal.returns-in-Ok
 returns-in-Ok c =

@@ -1,6 +1,6 @@
 use Rattle.std.proofs.Common.{◌≡◌, ◌≢◌, ◌≤◌, ◌<◌, ◌-◌, ℕ, Some, length, slice_get}
 use Rattle.insn_codec.specs.declared.insn.Placed.{Placed}
-use Rattle.explain.proofs.places.index_of.Given as goal
+use Rattle.explain.proofs.instruction_places.index_of.Given as goal
 
 abbrev pub invariant-loop-index : goal.invariant-loop-index
 invariant-loop-index l = record {

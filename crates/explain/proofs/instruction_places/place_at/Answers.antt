@@ -1,7 +1,7 @@
 use Rattle.std.proofs.Common.{refl}
 use Rattle.std.proofs.lemmas.Result.{IfOk-weaker}
 use Rattle.explain.specs.Lines.{among, no_program}
-use Rattle.explain.proofs.places.place_at.Goals as goal
+use Rattle.explain.proofs.instruction_places.place_at.Goals as goal
 
 pub returns-in-Err : goal.returns-in-Err
 returns-in-Err c = no_program c.in-Err.field-0 c.in-Err.ensures.refused refl

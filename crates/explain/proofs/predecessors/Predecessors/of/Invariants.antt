@@ -1,8 +1,8 @@
 use Rattle.verifier.specs.Sources.{AreLinked}
-use Rattle.explain.proofs.sources.Sources.of.Given as goal
+use Rattle.explain.proofs.predecessors.Predecessors.of.Given as goal
 
 abbrev pub invariant-loop-from : goal.invariant-loop-from
-invariant-loop-from l = AreLinked l.graph.code l.sources l.from
+invariant-loop-from l = AreLinked l.graph.code l.predecessors l.from
 
 -- proposed from the loop's first test
 abbrev pub decreases-loop-from : goal.decreases-loop-from

@@ -5,7 +5,7 @@ use Rattle.flow_graph.specs.declared.graph.Next.TheVariants.{One, Two}
 use Rattle.machine_model.proofs.Codes.{begins_within}
 use Rattle.verifier.proofs.Counting.{edges_one, edges_two}
 use Rattle.verifier.proofs.Linking.{joint_one, linked_zero, linked_one, linked_two, one_end_two, link_to_one, counted_one, counted_two, room_for_one, room_for_two}
-use Rattle.explain.proofs.sources.Sources.link.Goals as goal
+use Rattle.explain.proofs.predecessors.Predecessors.link.Goals as goal
 
 pub returns-in-Zero : goal.returns-in-Zero
 returns-in-Zero c = linked_zero c.args.graph.now.code c.args.self.now c.args.from (rw add-one at c.requires.linked) c.in-Zero.ensures

@@ -1,10 +1,10 @@
 //! The instruction at a slot, and its line in a source text.
 
 ghost use Rattle.std.specs.Prelude.{◌≡◌, ◌↔◌, IsTrue, map, option_map, slice_get, IfOk};
-ghost use Rattle.explain.specs.Lines.{AreLinesFor, IsIndex, IsPlaceAt, IsPlaceIn, IsPlaceOf, IsSourceOf, lines_in, told};
+ghost use Rattle.explain.specs.Lines.{AreLinesFor, IsIndex, IsPlaceAt, IsPlaceIn, IsPlaceOf, IsSourceOf, lines_in, numbered_text};
 
-use crate::explanation::Place;
-use crate::lines::{Line, lines_of};
+use crate::explanation::InstructionPlace;
+use crate::lines::{SourceLine, lines_of};
 use assembler::{TextFault, assemble};
 use disassembler::line;
 use insn_codec::{CodecFault, Placed, decode};
@@ -26,7 +26,7 @@ pub fn index_of(placed: &[Placed], slot: u32) -> Option<usize>
 }
 
 /// The line at a place, from 0 on.
-pub fn line_at<'a>(lines: &[Line<'a>], place: usize) -> Option<Line<'a>>
+pub fn line_at<'a>(lines: &[SourceLine<'a>], place: usize) -> Option<SourceLine<'a>>
     ensures { result ≡ slice_get lines.now place }
 {
     if place < lines.len() {
@@ -37,8 +37,8 @@ pub fn line_at<'a>(lines: &[Line<'a>], place: usize) -> Option<Line<'a>>
 }
 
 /// The number of the line at a place, from 0 on.
-pub(crate) fn number_at(lines: &[Line<'_>], index: usize) -> Option<u64>
-    ensures { result ≡ option_map (λ line. line.0) (slice_get (map told lines.now) index) }
+pub(crate) fn number_at(lines: &[SourceLine<'_>], index: usize) -> Option<u64>
+    ensures { result ≡ option_map (λ line. line.0) (slice_get (map numbered_text lines.now) index) }
 {
     match line_at(lines, index) {
         Some(line) => Some(line.number),
@@ -50,16 +50,16 @@ pub(crate) fn number_at(lines: &[Line<'_>], index: usize) -> Option<u64>
 pub fn place_in(
     alloc: Global,
     placed: &[Placed],
-    lines: &[Line<'_>],
+    lines: &[SourceLine<'_>],
     slot: u32,
-) -> Result<Option<Place>, NoMemory>
-    ensures { IfOk result (λ place. IsPlaceIn placed.now (map told lines.now) slot place) }
+) -> Result<Option<InstructionPlace>, NoMemory>
+    ensures { IfOk result (λ place. IsPlaceIn placed.now (map numbered_text lines.now) slot place) }
 {
     let Some(index) = index_of(placed, slot) else {
         return Ok(None);
     };
     let text = line(alloc, &placed[index].insn)?;
-    Ok(Some(Place {
+    Ok(Some(InstructionPlace {
         slot,
         line: number_at(lines, index),
         text,
@@ -67,8 +67,8 @@ pub fn place_in(
 }
 
 /// The lines of a source text, if there is one.
-pub fn lines_in<'a>(alloc: Global, source: Option<&'a str>) -> Result<Vec<Line<'a>>, NoMemory>
-    ensures { IfOk result (λ lines. map told lines.items
+pub fn lines_in<'a>(alloc: Global, source: Option<&'a str>) -> Result<Vec<SourceLine<'a>>, NoMemory>
+    ensures { IfOk result (λ lines. map numbered_text lines.items
         ≡ lines_in (option_map (λ text. text.now) source.entry)) }
 {
     match source {
@@ -93,9 +93,9 @@ pub(crate) fn lines_for<'a>(
     alloc: Global,
     code: &[u8],
     source: Option<&'a str>,
-) -> Result<Vec<Line<'a>>, NoMemory>
+) -> Result<Vec<SourceLine<'a>>, NoMemory>
     ensures { IfOk result (λ lines. AreLinesFor code.now
-        (option_map (λ text. text.now) source.entry) (map told lines.items)) }
+        (option_map (λ text. text.now) source.entry) (map numbered_text lines.items)) }
 {
     match source {
         Some(text) => {
@@ -114,7 +114,7 @@ fn place_at(
     code: &[u8],
     source: Option<&str>,
     slot: u32,
-) -> Result<Option<Place>, NoMemory>
+) -> Result<Option<InstructionPlace>, NoMemory>
     ensures { IfOk result (λ place. IsPlaceAt code.now
         (option_map (λ text. text.now) source.entry) slot place) }
 {
@@ -133,7 +133,7 @@ pub(crate) fn place_of(
     code: &[u8],
     source: Option<&str>,
     slot: Option<u32>,
-) -> Result<Option<Place>, NoMemory>
+) -> Result<Option<InstructionPlace>, NoMemory>
     ensures { IfOk result (λ place. IsPlaceOf code.now
         (option_map (λ text. text.now) source.entry) slot place) }
 {
