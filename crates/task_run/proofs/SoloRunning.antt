@@ -16,7 +16,7 @@ use Rattle.task_trees.specs.Solo.{SpawnRequest, Solo}
 use Rattle.task_run.specs.Through.{Replied, GoesThrough, RunsAlone}
 use Rattle.task_trees.proofs.SoloParts.{LeadsFrom, leads_start, leads_goes, leads_taken, leads_refused, leads_end}
 
--- A task stands behind the frame, which leads from the start to wherever that task leads, while the spawner went through what was asked for.
+-- The frame represents a task, and leads from the start to wherever that task leads, while the spawner went through what was asked for.
 pub record IsUnderWay (c : Checked) (entries : Entries) (start : State) (through : List SpawnRequest → Type 0)
     (frame : Frame) (part : Piece) (credit : Credit) : Type 0 where
   pub registers : Registers

@@ -4,10 +4,10 @@
 
 mod arena;
 mod frames;
-mod listening;
+mod observing;
 mod running;
 
 pub use arena::Arena;
 pub use frames::{ArenaFrames, Frames};
-pub use listening::{Listener, Nobody};
+pub use observing::{Nobody, RunObserver};
 pub use running::run_to_end;

@@ -8,29 +8,29 @@ ghost use Rattle.interpreter.specs.Representation.{RepresentsTask, IsCovered, at
 ghost use Rattle.interpreter.specs.Children.{MayHandOver};
 ghost use Rattle.task_run.specs.Through.{GoesThrough, RunsAlone};
 
-use crate::listening::Listener;
+use crate::observing::RunObserver;
 use helpers::{Part, Spawner};
 use interpreter::{Credit, Frame, Next};
 use std::alloc::Global;
 use verifier::Verified;
 
-/// How many instructions a task runs at most until its listener is told.
+/// How many instructions a task runs at most until its observer is told.
 const STRETCH: usize = 256;
 
 /// Runs a task from slot 0 to its end, whatever the frame's own slot is, and gives R0. Whatever
-/// task stands behind the frame, what happens is the run of that task by itself, whose spawns the
-/// spawner answered one after the other. The listener is told of each stretch.
+/// task the frame represents, what happens is the run of that task by itself, whose spawns the
+/// spawner answered one after the other. The observer is told of each stretch.
 ///
 /// The call asks for a program that may call a job's helpers alone, and for a spawner that takes
 /// each child which a task with so much credit may hand over, whatever it has taken before.
-pub fn run_to_end<S: Spawner, L: Listener>(
+pub fn run_to_end<S: Spawner, L: RunObserver>(
     alloc: Global,
     frame: &mut Frame,
     code: &Verified,
     part: &mut Part,
     credit: &mut Credit,
     spawner: &mut S,
-    listener: &L,
+    observer: &L,
 ) -> u64
     requires own { code.now.helpers ≡ job_table }
     requires covered { IsCovered code.now (at_slot frame.old 0) part.old credit.old }
@@ -48,7 +48,7 @@ pub fn run_to_end<S: Spawner, L: Listener>(
     let mut slot = 0;
     loop {
         let ran = frame.run_at(alloc, code, slot, STRETCH, part, credit, spawner);
-        listener.pause();
+        observer.pause();
         match ran.next {
             Next::At(next) => slot = next,
             Next::Ended(r0) => return r0,

@@ -18,7 +18,7 @@ use Rattle.interpreter.specs.Representation.{RepresentsTask, IsCovered, StepEffe
 use Rattle.interpreter.specs.Stretch.{ContinuesFor, spent_on}
 use Rattle.interpreter.proofs.Enters.{behind_entry, covered_entry}
 
--- A task stands behind the frame, which leads from the start to wherever that task leads.
+-- The frame represents a task, and leads from the start to wherever that task leads.
 pub record IsUnderWay (p : Checked) (may : MayAnswer) (start : State) (frame : Frame) (part : Piece) (credit : Credit) : Type 0 where
   pub covered : IsCovered p frame part credit
   pub registers : Registers

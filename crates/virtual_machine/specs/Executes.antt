@@ -10,7 +10,7 @@ use Rattle.virtual_machine.specs.declared.vm_fault.VmFault.{VmFault}
 use Rattle.virtual_machine.specs.declared.vm_fault.VmFault.TheVariants.{NoProgram, CreditLow, MemoryShort, NoMemory}
 
 -- the program runs alone from its entry to its end with R0, and leaves these bytes
-pub record Runs (p : Checked) (may : MayAnswer) (credit : ℕ) (bytes : List ℕ) (r0 : ℕ)
+pub record ExecutesTo (p : Checked) (may : MayAnswer) (credit : ℕ) (bytes : List ℕ) (r0 : ℕ)
     (left : List ℕ) : Type 0 where
   pub last : State
   pub ends : EndsAlone (program_of p) may (alone credit bytes) r0 last
@@ -36,7 +36,7 @@ pub record Executes (program : Option Checked) (may : MayAnswer) (credit : ℕ) 
     (r0 : ℕ) (left : List ℕ) : Type 0 where
   pub p : Checked
   pub runnable : IsRunnable program credit (length bytes) p
-  pub runs : Runs p may credit bytes r0 left
+  pub runs : ExecutesTo p may credit bytes r0 left
 
 -- the program that is set runs with this argument, and used so much of the credit
 pub record ExecutesOn (program : Option Checked) (may : MayAnswer) (arg credit : ℕ) (bytes : List ℕ)

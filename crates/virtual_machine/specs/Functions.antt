@@ -4,11 +4,11 @@ use Rattle.helpers.specs.Table.{Table, arity_in}
 use Rattle.virtual_machine.specs.declared.registered.Registered.{Registered}
 
 -- what a function may answer to five arguments
-abbrev pub Post : Type 1
-Post = ℕ → ℕ → ℕ → ℕ → ℕ → ℕ → Type 0
+abbrev pub FunctionAnswers : Type 1
+FunctionAnswers = ℕ → ℕ → ℕ → ℕ → ℕ → ℕ → Type 0
 
 -- what a function may answer to a list of five arguments
-abbrev pub to_list : Post → List ℕ → ℕ → Type 0
+abbrev pub to_list : FunctionAnswers → List ℕ → ℕ → Type 0
 to_list post [] answer = ⊥
 to_list post (a ∷ []) answer = ⊥
 to_list post (a ∷ b ∷ []) answer = ⊥
@@ -32,8 +32,9 @@ may_answer None arguments answer = Unit {0}
 may_answer (Some f) arguments answer = answers f arguments answer
 
 -- there is a function of this id, which may answer so
-abbrev pub called : {X : Type 0} {g : _} → List (Option (Registered X g)) → ℕ → List ℕ → ℕ → Type 0
-called functions id arguments answer =
+abbrev pub call_answers : {X : Type 0} {g : _} → List (Option (Registered X g)) → ℕ → List ℕ → ℕ
+    → Type 0
+call_answers functions id arguments answer =
     (f : _) × (function_of functions id ≡ Some f) × answers f arguments answer
 
 -- the same helpers, with the same numbers of arguments

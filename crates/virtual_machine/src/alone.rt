@@ -2,7 +2,7 @@
 
 ghost use Rattle.std.specs.Prelude.{◌≡◌, ◌≤◌, length};
 ghost use Rattle.verifier.specs.Checked.{IsVerified, cost_at};
-ghost use Rattle.virtual_machine.specs.Functions.{HaveFunctions, called};
+ghost use Rattle.virtual_machine.specs.Functions.{HaveFunctions, call_answers};
 ghost use Rattle.virtual_machine.specs.Executes.{RunsOn};
 ghost use Rattle.machine_model.specs.Limits.{max_part, max_credit};
 
@@ -25,7 +25,7 @@ pub fn run_alone(
     requires small { length bytes.old ≤ max_part }
     requires cost { cost_at code.now 0 ≤ credit }
     requires limit { credit ≤ max_credit }
-    ensures runs { RunsOn code.now (called functions.old.places.items) arg credit bytes.old
+    ensures runs { RunsOn code.now (call_answers functions.old.places.items) arg credit bytes.old
         result.r0
         result.used bytes.new }
     ensures functions { functions.new ≡ functions.old }

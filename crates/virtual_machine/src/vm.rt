@@ -5,7 +5,7 @@ ghost use Rattle.helpers.specs.Table.{arity_in, job_table};
 ghost use Rattle.verifier.specs.Checked.{Checked};
 ghost use Rattle.verifier.specs.Refusals.{RefusesProgram};
 ghost use Rattle.std.proofs.Props.{props};
-ghost use Rattle.virtual_machine.specs.Functions.{AreSameHelpers, HaveFunctions, called, function_of};
+ghost use Rattle.virtual_machine.specs.Functions.{AreSameHelpers, HaveFunctions, call_answers, function_of};
 ghost use Rattle.virtual_machine.specs.Executes.{Executes, ExecutesOn, IsUnrunnable, IsProgramOf};
 ghost use Rattle.virtual_machine.specs.Registering.{IsRegistrable, IsUnregistrable};
 
@@ -191,7 +191,8 @@ impl Vm {
         requires small { length mem.old ≤ max_part }
         requires limit { credit ≤ max_credit }
         ensures runs { MatchResult result
-            (λ done. ExecutesOn (program_in self.old) (called (functions_in self.old)) arg credit
+            (λ done. ExecutesOn (program_in self.old)
+            (call_answers (functions_in self.old)) arg credit
             mem.old done.r0 done.used mem.new)
             (λ fault. IsUnrunnable (program_in self.old) credit (length mem.old) fault
             × (mem.new ≡ mem.old)) }
@@ -229,7 +230,8 @@ impl Vm {
         requires small { length mem.old ≤ max_part }
         requires limit { credit ≤ max_credit }
         ensures runs { MatchResult result
-            (λ r0. Executes (program_in self.old) (called (functions_in self.old)) credit mem.old r0
+            (λ r0. Executes (program_in self.old)
+            (call_answers (functions_in self.old)) credit mem.old r0
             mem.new)
             (λ fault. IsUnrunnable (program_in self.old) credit (length mem.old) fault
             × (mem.new ≡ mem.old)) }

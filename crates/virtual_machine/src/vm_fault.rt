@@ -1,7 +1,7 @@
 //! Why a single program isn't run.
 
 ghost use Rattle.std.specs.Prelude.{◌≡◌};
-ghost use Rattle.virtual_machine.specs.VmFaultCodes.{code_of_fault};
+ghost use Rattle.virtual_machine.specs.VmFaultCodes.{code_of_vm_fault};
 
 use refusal::NoMemory;
 use std::alloc::AllocError;
@@ -27,7 +27,7 @@ pub enum VmFault {
 impl VmFault {
     /// The number of the refusal: 41, 42, 43 or 99.
     pub fn code(&self) -> u8
-        ensures { result ≡ code_of_fault self.now }
+        ensures { result ≡ code_of_vm_fault self.now }
     {
         match self {
             VmFault::NoProgram => 41,

@@ -2,10 +2,10 @@
 use Rattle.std.proofs.Common.{◌≡◌, ℕ, zero, suc, ◌+◌, List, refl, sym, subst, arith}
 use Rattle.machine_model.specs.Machine.{State, Program, Effect, Continues, Ends, Spawns, Calls, Traps, effect}
 use Rattle.machine_model.specs.Alone.{no_entries}
-use Rattle.yielding.specs.Leading.{Passes, LeadsTo}
+use Rattle.yielding.specs.Leading.{StepsOn, LeadsTo}
 use Rattle.yielding.specs.Asking.{Exchange, EndsAsking}
 
-passes_on : (f g : State → Type 0) (e : Effect) → ((s : State) → f s → g s) → Passes f e → Passes g e
+passes_on : (f g : State → Type 0) (e : Effect) → ((s : State) → f s → g s) → StepsOn f e → StepsOn g e
 passes_on f g (Continues next) more on = more next on
 passes_on f g (Ends r0 last) more on = on
 passes_on f g (Spawns birth taken refused) more on = on
@@ -15,8 +15,8 @@ passes_on f g (Traps trap) more on = on
 -- one more
 pub leads_more : (p : Program) (n : ℕ) (s t u : State) → LeadsTo p t n s → effect p no_entries t ≡ Continues u → LeadsTo p u (suc n) s
 leads_more p zero s t u leads next =
-    subst (λ (r : State). Passes (LeadsTo p u zero) (effect p no_entries r)) (sym leads)
-    (subst (λ (e : Effect). Passes (LeadsTo p u zero) e) (sym next) refl)
+    subst (λ (r : State). StepsOn (LeadsTo p u zero) (effect p no_entries r)) (sym leads)
+    (subst (λ (e : Effect). StepsOn (LeadsTo p u zero) e) (sym next) refl)
 leads_more p (suc n) s t u leads next =
     passes_on (LeadsTo p t n) (LeadsTo p u (suc n)) (effect p no_entries s) (λ r on. leads_more p n r t u on next) leads
 
@@ -31,7 +31,7 @@ leads_then p (suc n) m s t u first later =
     (passes_on (LeadsTo p t n) (LeadsTo p u (n + m)) (effect p no_entries s) (λ r on. leads_then p n m r t u on later) first)
 
 ends_on : (p : Program) (f : State → Type 0) (s : State) (asked : List Exchange) (r0 : ℕ) (last : State) (e : Effect) → effect p no_entries s ≡ e →
-    ((r : State) → f r → EndsAsking p r asked r0 last) → Passes f e → EndsAsking p s asked r0 last
+    ((r : State) → f r → EndsAsking p r asked r0 last) → StepsOn f e → EndsAsking p s asked r0 last
 ends_on p f s asked r0 last (Continues next) is on passes = let more = on next passes in (suc more.0, rw is more.1)
 ends_on p f s asked r0 last (Ends word state) is on passes = absurd passes
 ends_on p f s asked r0 last (Spawns birth taken refused) is on passes = absurd passes

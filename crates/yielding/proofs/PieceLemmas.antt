@@ -16,14 +16,14 @@ use Rattle.interpreter.specs.declared.stretch.Pause.TheVariants as pause
 use Rattle.interpreter.specs.Operands.{arguments_of}
 use Rattle.interpreter.specs.Representation.{AtInsn, IsCovered, RepresentsState, lent, state_of}
 use Rattle.interpreter.specs.Stretch.{ContinuesFor, Pauses, spent_on}
-use Rattle.yielding.specs.declared.event.Event.{Event}
-use Rattle.yielding.specs.declared.event.Event.TheVariants as event
+use Rattle.yielding.specs.declared.event.PieceEnd.{PieceEnd}
+use Rattle.yielding.specs.declared.event.PieceEnd.TheVariants as event
 use Rattle.yielding.specs.declared.event.Question.{Question}
 use Rattle.yielding.specs.declared.stops.Stop.{Stop}
-use Rattle.yielding.specs.Leading.{LeadsTo, StopsAt}
+use Rattle.yielding.specs.Leading.{LeadsTo, IsPieceRun}
 use Rattle.yielding.specs.Standing.{IsStanding, MayGo, phase_after}
 use Rattle.yielding.specs.Stops.{Halts, IsStopOf}
-use Rattle.yielding.specs.Pieces.{IsSettled, Leaves, StepsTo}
+use Rattle.yielding.specs.Pieces.{MayResume, Leaves, StepsTo}
 use Rattle.yielding.proofs.AskLemmas.{asks}
 use Rattle.yielding.proofs.LeadLemmas.{leads_more, leads_then}
 
@@ -55,8 +55,8 @@ may_on_any p f part part' credit true same may = (may.0, may.1, at_on_any p f pa
 may_on_any p f part part' credit false same may = covered_on_any p f part part' credit same may
 
 -- what is settled may go on
-pub settled_stands : (p : Checked) (f : Frame) (bytes : List ℕ) (credit : Credit) (len : ℕ) (e : Event) → length bytes ≡ len →
-    IsSettled p f (lent bytes) credit e → IsStanding p f credit len (phase_after e)
+pub settled_stands : (p : Checked) (f : Frame) (bytes : List ℕ) (credit : Credit) (len : ℕ) (e : PieceEnd) → length bytes ≡ len →
+    MayResume p f (lent bytes) credit e → IsStanding p f credit len (phase_after e)
 settled_stands p f bytes credit len event.AtLimit size settled =
     λ goes other same. may_on_any p f (lent bytes) (lent other) credit false (same ∙ sym size) settled
 settled_stands p f bytes credit len (event.Asks question) size settled =
@@ -74,7 +74,7 @@ halts_by p f part credit ran limit (pause.Calls helper region) stop is pauses = 
   | inr host ↦ rw host.1 (pauses.0, host.0, pauses.1)
 ]
 
--- so many instructions lead from the state to one that stands behind the frame
+-- so many instructions lead from the state to one that the frame represents
 pub record IsLed (p : Checked) (n : ℕ) (s : State) (f : Frame) (part : Piece) (credit : Credit) : Type 0 where
   pub to : State
   pub leads : LeadsTo (program_of p) to n s
@@ -125,13 +125,13 @@ led_step p n s f part credit led slot f' bytes' credit' steps m count =
 -- ---- how a piece ends
 
 pub stops_at_limit : (p : Checked) (limit : ℕ) (s : State) (f : Frame) (bytes : List ℕ) (credit : Credit) → IsLed p limit s f (lent bytes) credit →
-    (last : State) × StopsAt (program_of p) limit s event.AtLimit last × Leaves p f bytes credit event.AtLimit last
+    (last : State) × IsPieceRun (program_of p) limit s event.AtLimit last × Leaves p f bytes credit event.AtLimit last
 stops_at_limit p limit s f bytes credit led = (led.to, led.leads, led.stands)
 
 pub stops_asking : (p : Checked) (limit n : ℕ) (s : State) (f : Frame) (bytes : List ℕ) (credit : Credit) → IsLed p n s f (lent bytes) credit → n < limit →
     (helper : ℕ) → 64 ≤ helper → AtInsn p f (lent bytes) credit (Call helper) → (question : Question) → question.helper ≡ helper →
     (arity : ℕ) → arity_in p.helpers helper ≡ Some arity → question.arguments ≡ arguments_of f.words arity →
-    (last : State) × StopsAt (program_of p) limit s (event.Asks question) last × Leaves p f bytes credit (event.Asks question) last
+    (last : State) × IsPieceRun (program_of p) limit s (event.Asks question) last × Leaves p f bytes credit (event.Asks question) last
 stops_asking p limit n s f bytes credit led less helper far at question named arity known told =
     let caller : State = state_of f (lent bytes) (record { held = credit.held; used = credit.used + price (Call helper) }) led.to.registers in
     let is : effect (program_of p) no_entries led.to ≡ Calls helper (arguments_of f.words arity) caller =
@@ -141,7 +141,7 @@ stops_asking p limit n s f bytes credit led less helper far at question named ar
 pub stops_ended : (p : Checked) (limit n : ℕ) (s : State) (f : Frame) (part : Piece) (credit : Credit) → IsLed p n s f part credit → n < limit →
     (r0 : ℕ) (f' : Frame) (bytes' : List ℕ) (credit' : Credit) →
     ((t : State) → RepresentsState p f part credit t → StepsTo p (effect (program_of p) no_entries t) (onto.Ended r0) f' bytes' credit') →
-    (last : State) × StopsAt (program_of p) limit s (event.Ended r0) last × Leaves p f' bytes' credit' (event.Ended r0) last
+    (last : State) × IsPieceRun (program_of p) limit s (event.Ended r0) last × Leaves p f' bytes' credit' (event.Ended r0) last
 stops_ended p limit n s f part credit led less r0 f' bytes' credit' steps =
     let done = steps led.to led.stands in
     (done.0, (n, less, led.to, led.leads, done.1), (done.2, done.3))

@@ -7,20 +7,20 @@ use Rattle.verifier.specs.Checked.{Checked, program_of}
 use Rattle.interpreter.specs.Representation.{RepresentsState, lent}
 use Rattle.virtual_machine.specs.Executes.{RunsOn}
 use Rattle.yielding.specs.declared.event.Question.{Question}
-use Rattle.yielding.specs.declared.event.Event.{Event}
-use Rattle.yielding.specs.declared.event.Event.TheVariants.{AtLimit, Asks, Ended}
+use Rattle.yielding.specs.declared.event.PieceEnd.{PieceEnd}
+use Rattle.yielding.specs.declared.event.PieceEnd.TheVariants.{AtLimit, Asks, Ended}
 use Rattle.yielding.specs.declared.phase.Phase.{Phase}
 use Rattle.yielding.specs.declared.phase.Phase.TheVariants as phase
 use Rattle.yielding.specs.Answering.{may_answer_by}
-use Rattle.yielding.specs.Asking.{Exchange, Asks as Asked, AsksWithin, EndsAsking, AnswersEach, RunsAsking}
+use Rattle.yielding.specs.Asking.{Exchange, FollowsEffect as Asked, AsksWithin, EndsAsking, AnswersCalls, RunsAsking}
 use Rattle.yielding.specs.Leading.{IsAnswered}
-use Rattle.yielding.specs.Standing.{Standing, waits}
+use Rattle.yielding.specs.Standing.{PausedTask, waits}
 use Rattle.yielding.specs.Pieces.{GoesPiece, one_if}
 use Rattle.yielding.specs.Going.{HasGone}
 use Rattle.yielding.proofs.LeadLemmas.{leads_ends}
 
 -- The task stands for a state, from which it leads, with this answer where it waits for one, to wherever it leads from its start, with these calls on the way.
-pub record IsOnWay (p : Checked) (start : State) (asked : List Exchange) (task : Standing) (bytes : List ℕ) (answer : ℕ) : Type 0 where
+pub record IsOnWay (p : Checked) (start : State) (asked : List Exchange) (task : PausedTask) (bytes : List ℕ) (answer : ℕ) : Type 0 where
   pub now : State
   pub stands : RepresentsState p task.frame (lent bytes) task.credit now
   pub leads : (first : State) (later : List Exchange) (r0 : ℕ) (last : State) → IsAnswered (program_of p) (waits task.phase) answer now first →
@@ -36,7 +36,7 @@ ready_leads p start asked at answer now is leads first later r0 last begun ends 
     leads later r0 last (subst (λ (s : State). EndsAsking (program_of p) s later r0 last) same ends)
 
 -- a task at its start
-pub way_start : (p : Checked) (start : State) (task : Standing) (bytes : List ℕ) (answer : ℕ) → task.phase ≡ phase.Ready →
+pub way_start : (p : Checked) (start : State) (task : PausedTask) (bytes : List ℕ) (answer : ℕ) → task.phase ≡ phase.Ready →
     RepresentsState p task.frame (lent bytes) task.credit start → IsOnWay p start [] task bytes answer
 way_start p start task bytes answer is stands = record {
   now = start;
@@ -76,10 +76,10 @@ none_more : (xs : List Exchange) → xs ++ [] ≡ xs
 none_more [] = refl
 none_more (x ∷ xs) = ap (λ (zs : List Exchange). x ∷ zs) (none_more xs)
 
-module _ (p : Checked) (start : State) (asked : List Exchange) (task next : Standing) (bytes left : List ℕ) (answer limit : ℕ)
+module _ (p : Checked) (start : State) (asked : List Exchange) (task next : PausedTask) (bytes left : List ℕ) (answer limit : ℕ)
     (is : task.program ≡ p) (way : IsOnWay p start asked task bytes answer) where
   -- the piece, over the program
-  gone_on : (e : Event) → HasGone task answer limit bytes e next left →
+  gone_on : (e : PieceEnd) → HasGone task answer limit bytes e next left →
       GoesPiece p (waits task.phase) answer limit task.frame bytes task.credit e next.frame left next.credit
   gone_on e gone =
       subst (λ (c : Checked). GoesPiece c (waits task.phase) answer limit task.frame bytes task.credit e next.frame left next.credit) is gone.goes
@@ -114,7 +114,7 @@ module _ (p : Checked) (start : State) (asked : List Exchange) (task next : Stan
       }
 
   -- a piece with which the task ended
-  pub way_ends : {F : Type 0} (step : F → Question → ℕ → F → Type 0) (f g : F) → AnswersEach step f asked g → (arg credit : ℕ) (old : List ℕ) →
+  pub way_ends : {F : Type 0} (step : F → Question → ℕ → F → Type 0) (f g : F) → AnswersCalls step f asked g → (arg credit : ℕ) (old : List ℕ) →
       start ≡ entering arg credit old → (r0 : ℕ) → HasGone task answer limit bytes (Ended r0) next left →
       RunsAsking p step f arg credit old r0 next.credit.used left g
   way_ends step f g answers arg credit old starts r0 gone =
@@ -136,15 +136,15 @@ module _ (p : Checked) (start : State) (asked : List Exchange) (task next : Stan
 
 -- it was called once more
 pub answers_more : {F : Type 0} (step : F → Question → ℕ → F → Type 0) (f g h : F) (asked : List Exchange) (question : Question) (word : ℕ) →
-    AnswersEach step f asked g → step g question word h → AnswersEach step f (asked ++ record { question = question; answer = word } ∷ []) h
+    AnswersCalls step f asked g → step g question word h → AnswersCalls step f (asked ++ record { question = question; answer = word } ∷ []) h
 answers_more {F = F} step f g h [] question word same did = (h, subst (λ (k : F). step k question word h) same did, refl)
 answers_more step f g h (e ∷ asked) question word went did = (went.0, went.1, answers_more step went.0 g h asked question word went.2 did)
 
 -- what follows where the function answers is what follows where it may answer so
 alone_on : {F : Type 0} (step : F → Question → ℕ → F → Type 0) (p : Checked) (n : ℕ) →
-    ((asked : List Exchange) (f g : F) (r0 : ℕ) (last s : State) → AnswersEach step f asked g → AsksWithin (program_of p) r0 last n asked s →
+    ((asked : List Exchange) (f g : F) (r0 : ℕ) (last s : State) → AnswersCalls step f asked g → AsksWithin (program_of p) r0 last n asked s →
     EndsWithin (program_of p) (may_answer_by step) r0 last n s) →
-    (asked : List Exchange) (f g : F) (r0 : ℕ) (last : State) (e : Effect) → AnswersEach step f asked g →
+    (asked : List Exchange) (f g : F) (r0 : ℕ) (last : State) (e : Effect) → AnswersCalls step f asked g →
     Asked (AsksWithin (program_of p) r0 last n) asked r0 last e →
     Follows (may_answer_by step) (EndsWithin (program_of p) (may_answer_by step) r0 last n) r0 last e
 alone_on step p n less asked f g r0 last (Continues next) answers follows = less asked f g r0 last next answers follows
@@ -152,12 +152,12 @@ alone_on step p n less asked f g r0 last (Ends word state) answers follows = (fo
 alone_on step p n less asked f g r0 last (Spawns birth taken refused) answers follows = absurd follows
 alone_on {F = F} step p n less asked f g r0 last (Calls helper arguments caller) answers follows =
     let e : Exchange = record { question = record { helper = helper; arguments = arguments }; answer = follows.0 } in
-    let all : AnswersEach step f (e ∷ follows.1) g = subst (λ (xs : List Exchange). AnswersEach step f xs g) follows.2 answers in
+    let all : AnswersCalls step f (e ∷ follows.1) g = subst (λ (xs : List Exchange). AnswersCalls step f xs g) follows.2 answers in
     (follows.0, (f, all.0, all.1), less follows.1 all.0 g r0 last (answered caller follows.0) all.2 follows.3)
 alone_on step p n less asked f g r0 last (Traps trap) answers follows = absurd follows
 
 alone_within : {F : Type 0} (step : F → Question → ℕ → F → Type 0) (p : Checked) (n : ℕ) (asked : List Exchange) (f g : F) (r0 : ℕ) (last s : State) →
-    AnswersEach step f asked g → AsksWithin (program_of p) r0 last n asked s → EndsWithin (program_of p) (may_answer_by step) r0 last n s
+    AnswersCalls step f asked g → AsksWithin (program_of p) r0 last n asked s → EndsWithin (program_of p) (may_answer_by step) r0 last n s
 alone_within step p zero asked f g r0 last s answers within = absurd within
 alone_within step p (suc n) asked f g r0 last s answers within =
     alone_on step p n (λ asked f g r0 last s answers within. alone_within step p n asked f g r0 last s answers within)

@@ -3,14 +3,14 @@ use Rattle.std.specs.Prelude.{◌≡◌, ℕ, ◌≤◌, List, length, false}
 use Rattle.task_trees.specs.Solo.{entering}
 use Rattle.verifier.specs.Checked.{Checked, cost_at}
 use Rattle.interpreter.specs.declared.credit.Credit.{Credit}
-use Rattle.yielding.specs.declared.event.Event.{Event}
-use Rattle.yielding.specs.declared.event.Event.TheVariants.{AtLimit, Asks, Ended}
+use Rattle.yielding.specs.declared.event.PieceEnd.{PieceEnd}
+use Rattle.yielding.specs.declared.event.PieceEnd.TheVariants.{AtLimit, Asks, Ended}
 use Rattle.yielding.specs.declared.phase.Phase.TheVariants.{Ready}
-use Rattle.yielding.specs.Standing.{Standing, StandsFor, has_ended, phase_after, waits}
+use Rattle.yielding.specs.Standing.{PausedTask, StandsFor, has_ended, phase_after, waits}
 use Rattle.yielding.specs.Pieces.{GoesPiece}
 
 -- the task stands for that of the program at its start, whatever bytes of this length it works on
-pub record IsStarted (p : Checked) (arg given size : ℕ) (task : Standing) : Type 0 where
+pub record IsAtStart (p : Checked) (arg given size : ℕ) (task : PausedTask) : Type 0 where
   pub affords : cost_at p 0 ≤ given
   pub fits : p.need ≤ size
   pub program : task.program ≡ p
@@ -21,8 +21,8 @@ pub record IsStarted (p : Checked) (arg given size : ℕ) (task : Standing) : Ty
       → StandsFor task bytes (entering arg given bytes)
 
 -- what a task leaves that went on, and its memory
-pub record HasGone (old : Standing) (answer limit : ℕ) (bytes : List ℕ) (event : Event)
-    (new : Standing) (bytes' : List ℕ) : Type 0 where
+pub record HasGone (old : PausedTask) (answer limit : ℕ) (bytes : List ℕ) (event : PieceEnd)
+    (new : PausedTask) (bytes' : List ℕ) : Type 0 where
   pub ready : has_ended old.phase ≡ false
   pub length_is : length bytes ≡ old.len
   pub goes : GoesPiece old.program (waits old.phase) answer limit old.frame bytes old.credit event
@@ -31,7 +31,7 @@ pub record HasGone (old : Standing) (answer limit : ℕ) (bytes : List ℕ) (eve
   pub size : length bytes' ≡ length bytes
 
 -- no more is used than is held
-abbrev pub IsWithin : Event → Credit → Type 0
-IsWithin AtLimit credit = credit.used ≤ credit.held
-IsWithin (Asks question) credit = credit.used ≤ credit.held
-IsWithin (Ended r0) credit = Unit {0}
+abbrev pub StaysWithin : PieceEnd → Credit → Type 0
+StaysWithin AtLimit credit = credit.used ≤ credit.held
+StaysWithin (Asks question) credit = credit.used ≤ credit.held
+StaysWithin (Ended r0) credit = Unit {0}

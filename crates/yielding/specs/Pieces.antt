@@ -8,9 +8,9 @@ use Rattle.interpreter.specs.declared.frame.Next.{Next}
 use Rattle.interpreter.specs.declared.frame.Next.TheVariants as onto
 use Rattle.interpreter.specs.declared.credit.Credit.{Credit}
 use Rattle.interpreter.specs.Representation.{IsCovered, RepresentsState, lent}
-use Rattle.yielding.specs.declared.event.Event.{Event}
-use Rattle.yielding.specs.declared.event.Event.TheVariants.{AtLimit, Asks, Ended}
-use Rattle.yielding.specs.Leading.{IsAnswered, StopsAt}
+use Rattle.yielding.specs.declared.event.PieceEnd.{PieceEnd}
+use Rattle.yielding.specs.declared.event.PieceEnd.TheVariants.{AtLimit, Asks, Ended}
+use Rattle.yielding.specs.Leading.{IsAnswered, IsPieceRun}
 use Rattle.yielding.specs.Standing.{IsAsking}
 
 -- what one instruction leads to that asks nothing of the host
@@ -21,33 +21,33 @@ StepsTo p effect (onto.Ended r0) frame bytes credit =
     (last : State) × (effect ≡ Ends r0 last) × (bytes ≡ last.part) × (credit.used ≡ last.used)
 
 -- what a piece leaves of the task whose state this is
-abbrev pub Leaves : Checked → Frame → List ℕ → Credit → Event → State → Type 0
+abbrev pub Leaves : Checked → Frame → List ℕ → Credit → PieceEnd → State → Type 0
 Leaves p frame bytes credit AtLimit last = RepresentsState p frame (lent bytes) credit last
 Leaves p frame bytes credit (Asks question) last =
     RepresentsState p frame (lent bytes) credit last
 Leaves p frame bytes credit (Ended r0) last = (bytes ≡ last.part) × (credit.used ≡ last.used)
 
 -- whatever state the frame stands for, the piece of `limit` instructions at most that begins there
-abbrev pub RunsPiece : Checked → ℕ → Frame → List ℕ → Credit → Event → Frame → List ℕ → Credit
+abbrev pub RunsPiece : Checked → ℕ → Frame → List ℕ → Credit → PieceEnd → Frame → List ℕ → Credit
     → Type 0
 RunsPiece p limit frame bytes credit event frame' bytes' credit' =
     (s : State) → RepresentsState p frame (lent bytes) credit s →
-    (last : State) × StopsAt (program_of p) limit s event last
+    (last : State) × IsPieceRun (program_of p) limit s event last
     × Leaves p frame' bytes' credit' event last
 
 -- the same, where the call that waits, if one does, is answered first
-abbrev pub GoesPiece : Checked → Bool → ℕ → ℕ → Frame → List ℕ → Credit → Event → Frame → List ℕ
+abbrev pub GoesPiece : Checked → Bool → ℕ → ℕ → Frame → List ℕ → Credit → PieceEnd → Frame → List ℕ
     → Credit → Type 0
 GoesPiece p waits answer limit frame bytes credit event frame' bytes' credit' =
     (s : State) → RepresentsState p frame (lent bytes) credit s →
     (first : State) × IsAnswered (program_of p) waits answer s first × (last : State)
-    × StopsAt (program_of p) limit first event last × Leaves p frame' bytes' credit' event last
+    × IsPieceRun (program_of p) limit first event last × Leaves p frame' bytes' credit' event last
 
 -- the task may go on as the event says
-abbrev pub IsSettled : Checked → Frame → Piece → Credit → Event → Type 0
-IsSettled p frame part credit AtLimit = IsCovered p frame part credit
-IsSettled p frame part credit (Asks question) = IsAsking p frame part credit
-IsSettled p frame part credit (Ended r0) = Unit {0}
+abbrev pub MayResume : Checked → Frame → Piece → Credit → PieceEnd → Type 0
+MayResume p frame part credit AtLimit = IsCovered p frame part credit
+MayResume p frame part credit (Asks question) = IsAsking p frame part credit
+MayResume p frame part credit (Ended r0) = Unit {0}
 
 -- ---- the least that a piece uses
 
@@ -55,7 +55,7 @@ abbrev pub one_if : Bool → ℕ
 one_if true = 1
 one_if false = 0
 
-abbrev pub limit_of : ℕ → Event → ℕ
+abbrev pub limit_of : ℕ → PieceEnd → ℕ
 limit_of limit AtLimit = limit
 limit_of limit (Asks question) = 0
 limit_of limit (Ended r0) = 0

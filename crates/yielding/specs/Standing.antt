@@ -7,14 +7,14 @@ use Rattle.verifier.specs.Checked.{Checked}
 use Rattle.interpreter.specs.declared.frame.Frame.{Frame}
 use Rattle.interpreter.specs.declared.credit.Credit.{Credit}
 use Rattle.interpreter.specs.Representation.{AtInsn, IsCovered, RepresentsState, lent}
-use Rattle.yielding.specs.declared.event.Event.{Event}
-use Rattle.yielding.specs.declared.event.Event.TheVariants as event
+use Rattle.yielding.specs.declared.event.PieceEnd.{PieceEnd}
+use Rattle.yielding.specs.declared.event.PieceEnd.TheVariants as event
 use Rattle.yielding.specs.declared.phase.Phase.{Phase}
 use Rattle.yielding.specs.declared.phase.Phase.TheVariants.{Ready, Waits, Ended}
 
 -- a task between two pieces: its program, its frame at the next slot, its credit, how many bytes
 -- its memory has, and where it stands
-pub record Standing : Type 0 where
+pub record PausedTask : Type 0 where
   pub program : Checked
   pub frame : Frame
   pub credit : Credit
@@ -32,7 +32,7 @@ has_ended Waits = false
 has_ended Ended = true
 
 -- where a task stands after a piece that ended so
-abbrev pub phase_after : Event → Phase
+abbrev pub phase_after : PieceEnd → Phase
 phase_after event.AtLimit = Ready
 phase_after (event.Asks question) = Waits
 phase_after (event.Ended r0) = Ended
@@ -54,5 +54,5 @@ IsStanding p frame credit len phase =
     → MayGo p frame (lent bytes) credit (waits phase)
 
 -- the task with these bytes stands for the state
-abbrev pub StandsFor : Standing → List ℕ → State → Type 0
+abbrev pub StandsFor : PausedTask → List ℕ → State → Type 0
 StandsFor task bytes s = RepresentsState task.program task.frame (lent bytes) task.credit s

@@ -4,11 +4,11 @@ use helpers::{Entry, SpawnRecord, Spawner};
 
 /// The answer to a call, whatever is called. Nothing is spawned beside it.
 #[derive(Drop)]
-pub(crate) struct Answer {
+pub(crate) struct CallAnswer {
     pub(crate) word: u64,
 }
 
-impl Spawner for Answer {
+impl Spawner for CallAnswer {
     ghost use Rattle.std.specs.Prelude.{◌≡◌, Err};
     ghost use Rattle.machine_model.specs.Alone.{no_entries};
 

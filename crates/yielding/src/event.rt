@@ -10,7 +10,7 @@ pub struct Question {
 
 /// Why a piece of a task's run ended.
 #[derive(Clone, Copy, Debug, PartialEq, Eq)]
-pub enum Event {
+pub enum PieceEnd {
     /// As many instructions ran as may run in it.
     AtLimit,
     /// The task waits for the answer to a call.

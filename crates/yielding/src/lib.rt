@@ -13,8 +13,8 @@ mod run;
 mod stops;
 mod task;
 
-pub use event::{Event, Question};
+pub use event::{PieceEnd, Question};
 pub use go_fault::GoFault;
 pub use phase::Phase;
 pub use run::run_with_answers;
-pub use task::Task;
+pub use task::HostedTask;

@@ -3,7 +3,7 @@
 ghost use Rattle.std.specs.Prelude.{◌≡◌};
 ghost use Rattle.yielding.specs.Standing.{has_ended, phase_after, waits};
 
-use crate::event::Event;
+use crate::event::PieceEnd;
 
 /// Where a task stands between two pieces of its run.
 #[derive(Clone, Copy, Debug, PartialEq, Eq)]
@@ -39,12 +39,12 @@ pub(crate) fn has_ended(phase: Phase) -> bool
 }
 
 /// Where a task stands after a piece that ended so.
-pub(crate) fn phase_after(event: &Event) -> Phase
+pub(crate) fn phase_after(event: &PieceEnd) -> Phase
     ensures { result ≡ phase_after event.now }
 {
     match event {
-        Event::AtLimit => Phase::Ready,
-        Event::Asks(_) => Phase::Waits,
-        Event::Ended(_) => Phase::Ended,
+        PieceEnd::AtLimit => Phase::Ready,
+        PieceEnd::Asks(_) => Phase::Waits,
+        PieceEnd::Ended(_) => Phase::Ended,
     }
 }

@@ -11,19 +11,19 @@ ghost use Rattle.interpreter.specs.Representation.{IsCovered, RepresentsState, a
 ghost use Rattle.yielding.specs.Leading.{IsAnswered};
 ghost use Rattle.yielding.specs.Standing.{MayGo, IsAsking};
 ghost use Rattle.yielding.specs.Stops.{RunsByItself};
-ghost use Rattle.yielding.specs.Pieces.{GoesPiece, IsSettled, RunsPiece, StepsTo, limit_of, one_if};
+ghost use Rattle.yielding.specs.Pieces.{GoesPiece, MayResume, RunsPiece, StepsTo, limit_of, one_if};
 
-use crate::answer::Answer;
-use crate::event::{Event, Question};
+use crate::answer::CallAnswer;
+use crate::event::{PieceEnd, Question};
 use crate::stops::{Stop, stop_of};
 use interpreter::{Credit, Frame, Next, Stretch};
 use verifier::Verified;
 
 /// A piece that has ended: the slot of the next instruction, and why it ended.
 #[derive(Clone, Copy)]
-pub(crate) struct Piece {
+pub(crate) struct EndedPiece {
     pub(crate) slot: u32,
-    pub(crate) event: Event,
+    pub(crate) event: PieceEnd,
 }
 
 /// What a call of a helper asks.
@@ -61,7 +61,7 @@ fn step(
     ensures spends { credit.old.used < credit.new.used }
     ensures holds { credit.new.held ≤ credit.old.held }
 {
-    let mut nothing = Answer { word: 0 };
+    let mut nothing = CallAnswer { word: 0 };
     let ran = frame.run_on(code, slot, 1, memory, credit, &mut nothing);
     ran.next
 }
@@ -85,7 +85,7 @@ fn answer_call(
     ensures spends { credit.old.used < credit.new.used }
     ensures holds { credit.new.held ≤ credit.old.held }
 {
-    let mut given = Answer { word: answer };
+    let mut given = CallAnswer { word: answer };
     let ran = frame.run_on(code, slot, 1, memory, credit, &mut given);
     match ran.next {
         Next::At(next) => next,
@@ -129,11 +129,11 @@ fn run_piece(
     credit: &mut Credit,
     memory: &mut [u8],
     limit: usize,
-) -> Piece
+) -> EndedPiece
     requires { IsCovered code.now (at_slot frame.old slot) (lent memory.old) credit.old }
     ensures runs { RunsPiece code.now limit (at_slot frame.old slot) memory.old credit.old
         result.event (at_slot frame.new result.slot) memory.new credit.new }
-    ensures settled { IsSettled code.now (at_slot frame.new result.slot) (lent memory.new)
+    ensures settled { MayResume code.now (at_slot frame.new result.slot) (lent memory.new)
         credit.new result.event }
     ensures len { length memory.new ≡ length memory.old }
     ensures spends { credit.old.used + limit_of limit result.event ≤ credit.new.used }
@@ -151,15 +151,15 @@ fn run_piece(
         left -= ran;
         match stop_of(pause) {
             Stop::AtLimit => {
-                return Piece {
+                return EndedPiece {
                     slot: at,
-                    event: Event::AtLimit,
+                    event: PieceEnd::AtLimit,
                 };
             }
             Stop::Asks(helper) => {
-                return Piece {
+                return EndedPiece {
                     slot: at,
-                    event: Event::Asks(question(code, frame, helper)),
+                    event: PieceEnd::Asks(question(code, frame, helper)),
                 };
             }
             Stop::ByItself => match step(code, frame, at, credit, memory) {
@@ -168,9 +168,9 @@ fn run_piece(
                     left -= 1;
                 }
                 Next::Ended(r0) => {
-                    return Piece {
+                    return EndedPiece {
                         slot: at,
-                        event: Event::Ended(r0),
+                        event: PieceEnd::Ended(r0),
                     };
                 }
             },
@@ -189,11 +189,11 @@ pub(crate) fn go_piece(
     waits: bool,
     answer: u64,
     limit: usize,
-) -> Piece
+) -> EndedPiece
     requires { MayGo code.now (at_slot frame.old slot) (lent memory.old) credit.old waits }
     ensures goes { GoesPiece code.now waits answer limit (at_slot frame.old slot) memory.old
         credit.old result.event (at_slot frame.new result.slot) memory.new credit.new }
-    ensures settled { IsSettled code.now (at_slot frame.new result.slot) (lent memory.new)
+    ensures settled { MayResume code.now (at_slot frame.new result.slot) (lent memory.new)
         credit.new result.event }
     ensures len { length memory.new ≡ length memory.old }
     ensures spends { credit.old.used + (one_if waits + limit_of limit result.event)

@@ -7,8 +7,8 @@ ghost use Rattle.virtual_machine.specs.Executes.{ExecutesOn, IsUnrunnable};
 ghost use Rattle.yielding.specs.Answering.{may_answer_by};
 ghost use Rattle.yielding.specs.Asking.{RunsAsking};
 
-use crate::event::{Event, Question};
-use crate::task::Task;
+use crate::event::{PieceEnd, Question};
+use crate::task::HostedTask;
 use std::alloc::Global;
 use std::sync::Arc;
 use verifier::Verified;
@@ -19,8 +19,8 @@ use virtual_machine::{Executed, VmFault};
 /// come to the run of the definition under what the function may answer. The function is called
 /// once for each of that run's calls, in their order, and for nothing else.
 ///
-/// The refusals are those of [`Task::start`], after which the memory is as it was, and the function
-/// wasn't called.
+/// The refusals are those of [`HostedTask::start`], after which the memory is as it was, and the
+/// function wasn't called.
 pub fn run_with_answers<F: FnMut(Question) -> u64>(
     program: Arc<Verified, Global>,
     memory: &mut [u8],
@@ -43,7 +43,7 @@ pub fn run_with_answers<F: FnMut(Question) -> u64>(
         done.used memory.new answer.new)
         (λ _. answer.new ≡ answer.old) }
 {
-    let mut task = match Task::start(program, credit, argument, memory.len()) {
+    let mut task = match HostedTask::start(program, credit, argument, memory.len()) {
         Ok(task) => task,
         Err(fault) => return Err(fault),
     };
@@ -51,9 +51,9 @@ pub fn run_with_answers<F: FnMut(Question) -> u64>(
     'pieces: loop {
         match task.go(word, memory, limit) {
             Ok(event) => match event {
-                Event::AtLimit => {}
-                Event::Asks(question) => word = answer(question),
-                Event::Ended(r0) => {
+                PieceEnd::AtLimit => {}
+                PieceEnd::Asks(question) => word = answer(question),
+                PieceEnd::Ended(r0) => {
                     return Ok(Executed {
                         r0,
                         used: task.used(),

@@ -6,11 +6,11 @@ ghost use Rattle.machine_model.specs.Limits.{max_part, max_credit};
 ghost use Rattle.interpreter.specs.Representation.{entry_frame};
 ghost use Rattle.virtual_machine.specs.Executes.{IsUnrunnable};
 ghost use Rattle.yielding.specs.GoFaults.{StaysAt};
-ghost use Rattle.yielding.specs.Going.{HasGone, IsStarted, IsWithin};
+ghost use Rattle.yielding.specs.Going.{HasGone, IsAtStart, StaysWithin};
 ghost use Rattle.yielding.specs.Pieces.{limit_of, one_if};
 ghost use Rattle.yielding.specs.Standing.{has_ended, waits};
 
-use crate::event::Event;
+use crate::event::PieceEnd;
 use crate::go_fault::GoFault;
 use crate::phase::{Phase, has_ended, phase_after, waits};
 use crate::pieces::go_piece;
@@ -24,7 +24,7 @@ use virtual_machine::VmFault;
 /// A task whose run stops where it asks its host: one owner of its program, its frame, its credit,
 /// and how many bytes its memory has. The memory is the host's, which lends it to each piece.
 #[derive(Drop)]
-pub struct Task {
+pub struct HostedTask {
     program: Arc<Verified, Global>,
     frame: Frame,
     slot: u32,
@@ -33,12 +33,12 @@ pub struct Task {
     phase: Phase,
 }
 
-impl Model for Task {
+impl Model for HostedTask {
     ghost use Rattle.std.specs.Arc.{arc_value};
     ghost use Rattle.interpreter.specs.Representation.{at_slot};
-    ghost use Rattle.yielding.specs.Standing.{IsStanding, Standing};
+    ghost use Rattle.yielding.specs.Standing.{IsStanding, PausedTask};
 
-    ghost Value = { Standing };
+    ghost Value = { PausedTask };
 
     ghost view = { λ t. record {
       program = arc_value t.program;
@@ -61,7 +61,7 @@ fn entered(len: u32, argument: u64) -> Frame
     frame
 }
 
-impl Task {
+impl HostedTask {
     /// A task at the start of its program, with this credit and this argument, whose memory will
     /// have `len` bytes.
     ///
@@ -73,11 +73,11 @@ impl Task {
         credit: u32,
         argument: u64,
         len: usize,
-    ) -> Result<Task, VmFault>
+    ) -> Result<HostedTask, VmFault>
         requires small { len ≤ max_part }
         requires limit { credit ≤ max_credit }
         ensures { MatchResult result
-            (λ task. IsStarted (arc_value program) argument credit len task)
+            (λ task. IsAtStart (arc_value program) argument credit len task)
             (λ fault. IsUnrunnable (Some (arc_value program)) credit len fault) }
     {
         let code: &Verified = &program;
@@ -95,7 +95,7 @@ impl Task {
                 given: len as u32,
             });
         }
-        Ok(Task {
+        Ok(HostedTask {
             program,
             frame: entered(len as u32, argument),
             slot: 0,
@@ -114,7 +114,7 @@ impl Task {
     ///
     /// The memory may have changed since the last piece. The refusals, in this order, after which
     /// all is as it was: 47 the task has ended, 43 the memory has another length than at the start.
-    pub fn go(&mut self, answer: u64, memory: &mut [u8], limit: u32) -> Result<Event, GoFault>
+    pub fn go(&mut self, answer: u64, memory: &mut [u8], limit: u32) -> Result<PieceEnd, GoFault>
         ensures goes { MatchResult result
             (λ event. HasGone self.old answer limit memory.old event self.new memory.new)
             (λ fault. StaysAt self.old.phase self.old.len (length memory.old) fault
@@ -123,7 +123,7 @@ impl Task {
         ensures spends { IfOk result (λ event. self.old.credit.used
             + (one_if (waits self.old.phase) + limit_of limit event) ≤ self.new.credit.used) }
         ensures holds { self.new.credit.held ≤ self.old.credit.held }
-        ensures within { IfOk result (λ event. IsWithin event self.new.credit) }
+        ensures within { IfOk result (λ event. StaysWithin event self.new.credit) }
     {
         if has_ended(self.phase) {
             return Err(GoFault::Ended);

@@ -1,14 +1,14 @@
 use Rattle.std.proofs.Common.{◌∙◌, refl, ap, arith}
 use Rattle.interpreter.specs.declared.frame.Frame.{Frame}
 use Rattle.interpreter.specs.Representation.{at_slot, lent}
-use Rattle.virtual_machine.specs.Functions.{called}
+use Rattle.virtual_machine.specs.Functions.{call_answers}
 use Rattle.virtual_machine.proofs.Running.{enters, goes_far, goes_on, ends}
 use Rattle.virtual_machine.proofs.Answering.{are_answers}
 use Rattle.virtual_machine.proofs.alone.run_alone.Goals as goal
 
 pub loop-next-init : goal.loop-next-init
 loop-next-init g c = record {
-  way = enters c.args.code.now (called c.args.functions.now.places.items) c.args.arg c.args.credit _ (lent c.args.bytes.now) (at_slot c.enter.new.self 0)
+  way = enters c.args.code.now (call_answers c.args.functions.now.places.items) c.args.arg c.args.credit _ (lent c.args.bytes.now) (at_slot c.enter.new.self 0)
       (omega (arith, c.ranges.arg)) c.requires.verified c.requires.need refl c.requires.small c.requires.cost c.requires.limit (ap (λ (f : Frame). at_slot f 0) c.enter.ensures);
   functions = refl;
 }

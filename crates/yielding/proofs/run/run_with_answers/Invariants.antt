@@ -1,7 +1,7 @@
 use Rattle.std.proofs.Common.{◌≡◌, ◌+◌, ◌-◌, ◌*◌, ◌≤◌, List, false, length, not}
 use Rattle.std.specs.Arc.{arc_value}
 use Rattle.task_trees.specs.Solo.{entering}
-use Rattle.yielding.specs.Asking.{Exchange, AnswersEach}
+use Rattle.yielding.specs.Asking.{Exchange, AnswersCalls}
 use Rattle.yielding.specs.Pieces.{one_if}
 use Rattle.yielding.specs.Standing.{has_ended, waits}
 use Rattle.yielding.proofs.RunLemmas.{IsOnWay}
@@ -13,7 +13,7 @@ invariant-pieces g l = record {
   program : l.task.program ≡ arc_value l.fn.program;
   goes : has_ended l.task.phase ≡ false;
   size : length l.memory ≡ l.task.len;
-  way : (asked : List Exchange) × AnswersEach (goal.F-step g) l.fn.answer asked l.answer
+  way : (asked : List Exchange) × AnswersCalls (goal.F-step g) l.fn.answer asked l.answer
       × IsOnWay (arc_value l.fn.program) (entering l.fn.argument l.fn.credit l.fn.memory) asked l.task l.memory l.word;
   within : l.task.credit.used ≤ l.task.credit.held;
 }

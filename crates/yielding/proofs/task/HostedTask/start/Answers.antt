@@ -4,7 +4,7 @@ use Rattle.interpreter.specs.declared.frame.Frame.{Frame}
 use Rattle.interpreter.specs.declared.credit.Credit.{Credit}
 use Rattle.interpreter.specs.Representation.{IsCovered, at_slot, entry_frame, lent}
 use Rattle.interpreter.proofs.Enters.{covered_entry}
-use Rattle.yielding.proofs.task.Task.start.Goals as goal
+use Rattle.yielding.proofs.task.HostedTask.start.Goals as goal
 
 pub invariant_of-result : goal.invariant_of-result
 invariant_of-result c = λ goes bytes size.

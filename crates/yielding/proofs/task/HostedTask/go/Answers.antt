@@ -1,5 +1,5 @@
 use Rattle.std.proofs.Common.{sym, ◌∙◌}
-use Rattle.yielding.proofs.task.Task.go.Goals as goal
+use Rattle.yielding.proofs.task.HostedTask.go.Goals as goal
 
 pub returns-clause-goes : goal.returns-clause-goes
 returns-clause-goes c = rw (← c.self.view_is) (record {
