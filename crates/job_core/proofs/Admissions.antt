@@ -11,7 +11,7 @@ use Rattle.verifier.specs.Refusals.{RefusesProgram}
 use Rattle.job_core.specs.declared.admission.ProgramBytes.{ProgramBytes}
 use Rattle.job_core.specs.Admitted.{AreOwn}
 use Rattle.job_core.proofs.Simulates.{some_within}
-use Rattle.job_core.specs.Admission.{Accepts, IsRefusedProgram, AreAccepted, IsFirstRefused, IsProgramFault, fault_of}
+use Rattle.job_core.specs.Admission.{Accepts, IsRefusedProgram, AreAccepted, IsFirstRefused, IsProgramFault, fault_of_program}
 
 -- the first of the programs are accepted, so many
 pub record AreAcceptedTo (programs : List ProgramBytes) (count : ℕ) (accepted : List Checked) : Type 0 where
@@ -56,7 +56,7 @@ first_refused programs count accepted p refusal so_far is refuses = record {
 
 pub first_fault : (programs : List ProgramBytes) (count : ℕ) (accepted : List Checked) (p : ProgramBytes) (refusal : Refusal) →
     AreAcceptedTo programs count accepted → slice_get programs count ≡ Some p → RefusesProgram p.need p.code.items job_table refusal →
-    IsProgramFault programs (fault_of count refusal)
+    IsProgramFault programs (fault_of_program count refusal)
 first_fault programs count accepted p NeedTooLarge so_far is refuses = first_refused programs count accepted p NeedTooLarge so_far is refuses
 first_fault programs count accepted p (Codec fault) so_far is refuses = first_refused programs count accepted p (Codec fault) so_far is refuses
 first_fault programs count accepted p (Flow fault) so_far is refuses = first_refused programs count accepted p (Flow fault) so_far is refuses

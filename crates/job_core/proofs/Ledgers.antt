@@ -31,30 +31,30 @@ use Rattle.credit_book.specs.declared.event.TaskEnd.{TaskEnd}
 use Rattle.credit_book.specs.Books.{Account, spawn_event}
 use Rattle.credit_book.specs.Buffers.{buffer_of}
 use Rattle.credit_book.specs.History.{May, may_work, standing_at, table_of, spent_in, returned_in}
-use Rattle.job_core.specs.declared.ledger.Ledger.{Ledger}
+use Rattle.job_core.specs.declared.ledger.TaskLedger.{TaskLedger}
 use Rattle.job_core.specs.declared.live.Live.{Live}
 use Rattle.job_core.specs.declared.tasks.Stepped.TheVariants as stepped
 use Rattle.job_core.specs.Keeping.{AreStandings}
-use Rattle.job_core.specs.Seats.{Enters, live_of}
+use Rattle.job_core.specs.Seats.{ChildEnters, live_of}
 use Rattle.job_core.specs.Representation.{WorldState, AreEntries, end_of, RepresentsJob, Steps}
 use Rattle.job_core.proofs.Adding.{Adds, entered}
 use Rattle.job_core.proofs.Booking.{standing_there, standings_long, standings_quiet, standings_spawned, standings_ended, spawned_tasks, spawned_spent, spawned_returned, spawned_buffer, ended_tasks, ended_spent, ended_returned, ended_buffer}
 use Rattle.job_core.proofs.OwnPrograms.{nobody, own_did, own_table}
 use Rattle.job_core.proofs.Simulates.{IsLiveAt, live_at, entries_same, entry_program, steps_went, steps_ended, ended_end}
 
-abbrev pub Told : Ledger → Ledger → SpawnRecord → Result (Unit {0}) SpawnRecord → Type 0
+abbrev pub Told : TaskLedger → TaskLedger → SpawnRecord → Result (Unit {0}) SpawnRecord → Type 0
 Told old new child reply = (new.entries.items ≡ old.entries.items) × (new.turn ≡ old.turn)
     × (new.book.board ≡ old.book.board) × (new.book.size ≡ old.book.size)
-    × Enters old.turn old.lives.items old.parents.items old.book.history child reply new.lives.items new.parents.items new.book.history
+    × ChildEnters old.turn old.lives.items old.parents.items old.book.history child reply new.lives.items new.parents.items new.book.history
 
 -- nothing is left by a call of a caller's helper
-abbrev pub Asked : Ledger → Ledger → ℕ → List ℕ → ℕ → Type 0
+abbrev pub Asked : TaskLedger → TaskLedger → ℕ → List ℕ → ℕ → Type 0
 Asked old new helper arguments answer = (answer ≡ 0) × (new ≡ old)
 
-abbrev ends_of : Ledger → List TaskEnd
+abbrev ends_of : TaskLedger → List TaskEnd
 ends_of ledger = (table_of ledger.book.history).tasks
 
-abbrev collected_of : Ledger → List ℕ
+abbrev collected_of : TaskLedger → List ℕ
 collected_of ledger = buffer_of ledger.book.size ledger.book.history
 
 -- ---- what a task may hand over
@@ -112,7 +112,7 @@ did_held E p (Traps trap) out frame part credit held silent told keeps first sec
 -- ---- the ledger ahead of a step, and behind it
 
 -- The task of the number is out of its place, and it is its turn. The ledger has what is kept of the others, and its book what is kept of all.
-pub record IsTaken (kept : WorldState) (n : ℕ) (ledger : Ledger) : Type 0 where
+pub record IsTaken (kept : WorldState) (n : ℕ) (ledger : TaskLedger) : Type 0 where
   pub entries : ledger.entries.items ≡ kept.entries
   pub lives : ledger.lives.items ≡ set kept.lives n None
   pub turn : ledger.turn ≡ n
@@ -125,7 +125,7 @@ pub record IsTaken (kept : WorldState) (n : ℕ) (ledger : Ledger) : Type 0 wher
   pub booked : AreStandings kept.lives ledger.book.history
 
 -- a step has left the ledger with at most one place more
-pub record IsLeft (kept : WorldState) (n : ℕ) (after : Live) (ledger : Ledger) : Type 0 where
+pub record IsLeft (kept : WorldState) (n : ℕ) (after : Live) (ledger : TaskLedger) : Type 0 where
   pub entries : ledger.entries.items ≡ kept.entries
   pub turn : ledger.turn ≡ n
   pub collected : collected_of ledger ≡ kept.collected
@@ -147,7 +147,7 @@ kept_is : (k : WorldState) (entries : List Entry) (lives lives' : List (Option L
     let b : WorldState = record k { entries = entries; lives = lives'; ends = ends'; parents = parents; collected = collected'; spent = spent'; returned = returned'; issued = issued } in a ≡ b
 kept_is k entries lives lives' ends ends' parents collected collected' spent spent' returned returned' issued e1 e2 e3 e4 e5 e6 = rw (e1, e2, e3, e4, e5, ← e6) refl
 
-module _ (kept : WorldState) (n : ℕ) (live : Live) (p : Checked) (out : StepOut) (after : Live) (old new : Ledger)
+module _ (kept : WorldState) (n : ℕ) (live : Live) (p : Checked) (out : StepOut) (after : Live) (old new : TaskLedger)
     (here : slice_get kept.lives n ≡ Some (Some live)) (read : p ≡ get_or kept.programs live.program p) (base : after.part.base ≡ live.part.base)
     (same_number : after.program ≡ live.program) (taken : IsTaken kept n old)
     (did : (registers : Registers) → RepresentsTask p live.frame registers →
@@ -179,7 +179,7 @@ module _ (kept : WorldState) (n : ℕ) (live : Live) (p : Checked) (out : StepOu
   within = slice_get_within kept.lives n (Some live) here
 
   -- a ledger with the same places and the same history
-  same_left : after.credit.held ≡ live.credit.held → (ledger : Ledger) → ledger.entries.items ≡ old.entries.items → ledger.turn ≡ old.turn →
+  same_left : after.credit.held ≡ live.credit.held → (ledger : TaskLedger) → ledger.entries.items ≡ old.entries.items → ledger.turn ≡ old.turn →
       ledger.book.board ≡ old.book.board → ledger.book.size ≡ old.book.size → ledger.lives.items ≡ old.lives.items →
       ledger.book.history ≡ old.book.history → IsLeft kept n after ledger
   same_left holds ledger entries turn board size lives history =
@@ -233,7 +233,7 @@ module _ (kept : WorldState) (n : ℕ) (live : Live) (p : Checked) (out : StepOu
   pub left : (j : JobState) → RepresentsJob kept j → IsLeft kept n after new
   left j behind =
       cases (IsLeft kept n after new) j (live_at kept j n live behind here)
-      (λ e holds. subst (λ (l : Ledger). IsLeft kept n after l) (sym e) (same_left holds old refl refl refl refl refl refl))
+      (λ e holds. subst (λ (l : TaskLedger). IsLeft kept n after l) (sym e) (same_left holds old refl refl refl refl refl refl))
       child_left
       (λ child told holds. same_left holds new told.0 told.1 told.2 told.3 told.4.0 told.4.2)
 
@@ -242,7 +242,7 @@ module _ (kept : WorldState) (n : ℕ) (live : Live) (p : Checked) (out : StepOu
 
   quiet : new ≡ old → (new.lives.items ≡ set kept.lives n None) × (ends_of new ≡ kept.ends) × (new.parents.items ≡ kept.parents)
   quiet e =
-      (ap (λ (l : Ledger). l.lives.items) e ∙ taken.lives, ap ends_of e ∙ taken.ends, ap (λ (l : Ledger). l.parents.items) e ∙ taken.parents)
+      (ap (λ (l : TaskLedger). l.lives.items) e ∙ taken.lives, ap ends_of e ∙ taken.ends, ap (λ (l : TaskLedger). l.parents.items) e ∙ taken.parents)
 
   heard : (child : SpawnRecord) (reply : Result (Unit {0}) SpawnRecord) → Told old new child reply →
       Adds n (set kept.lives n None) kept.ends kept.parents child reply new.lives.items (ends_of new) new.parents.items

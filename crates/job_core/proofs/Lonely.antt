@@ -6,7 +6,7 @@ use Rattle.machine_model.specs.JobState.{JobState, Task, Member, Move, run, step
 use Rattle.verifier.specs.Checked.{Checked, program_of}
 use Rattle.job_core.specs.declared.tasks.Stepped.TheVariants as stepped
 use Rattle.job_core.specs.declared.live.Live.{Live}
-use Rattle.job_core.specs.Representation.{WorldState, RepresentsJob, LeadsOn, Steps}
+use Rattle.job_core.specs.Representation.{WorldState, RepresentsJob, PlaysOn, Steps}
 use Rattle.job_core.specs.OneTask.{GoesAlone, stays, goes, RunsTask}
 use Rattle.job_core.proofs.Plays.{plays_none}
 use Rattle.job_core.proofs.Simulates.{live_at}
@@ -57,7 +57,7 @@ alive_all programs n (suc count) (m ∷ ms) j last numbers runs alive =
     one_step programs n count j through.0 last m.refuses (slice_get j.tasks n) refl is is (first_alive programs n count through.0 last rest alive) rest
 
 -- where what is kept has the task, the run that leads there is one of it alone
-pub lonely : (old new : WorldState) (n count : ℕ) (live : Live) (j : JobState) (numbers : List ℕ) → numbers ≡ replicate count n → LeadsOn old numbers new → slice_get new.lives n ≡ Some (Some live) →
+pub lonely : (old new : WorldState) (n count : ℕ) (live : Live) (j : JobState) (numbers : List ℕ) → numbers ≡ replicate count n → PlaysOn old numbers new → slice_get new.lives n ≡ Some (Some live) →
     RepresentsJob old j → (last : JobState) × GoesAlone (map program_of old.programs) n j count last × RepresentsJob new last × IsAlive last n
 lonely old new n count live j numbers all leads here behind =
     let plays = leads.plays j [] (plays_none old.programs j old refl behind) in
@@ -66,7 +66,7 @@ lonely old new n count live j numbers all leads here behind =
     (plays.last, alive_all (map program_of old.programs) n count plays.moves j plays.last (plays.numbers ∙ all) plays.runs alive, plays.behind, alive)
 
 -- it goes on
-pub runs_on : (old new : WorldState) (n count : ℕ) (live : Live) (j : JobState) (numbers : List ℕ) → numbers ≡ replicate count n → LeadsOn old numbers new → slice_get new.lives n ≡ Some (Some live) →
+pub runs_on : (old new : WorldState) (n count : ℕ) (live : Live) (j : JobState) (numbers : List ℕ) → numbers ≡ replicate count n → PlaysOn old numbers new → slice_get new.lives n ≡ Some (Some live) →
     RepresentsJob old j → RunsTask old j n count stepped.Went new
 runs_on old new n count live j numbers all leads here behind =
     let l = lonely old new n count live j numbers all leads here behind in
@@ -78,7 +78,7 @@ runs_on old new n count live j numbers all leads here behind =
     }
 
 -- it ends with one step more
-pub runs_out : (old mid new : WorldState) (n count r0 : ℕ) (live : Live) (j : JobState) (numbers : List ℕ) → numbers ≡ replicate count n → LeadsOn old numbers mid → slice_get mid.lives n ≡ Some (Some live) →
+pub runs_out : (old mid new : WorldState) (n count r0 : ℕ) (live : Live) (j : JobState) (numbers : List ℕ) → numbers ≡ replicate count n → PlaysOn old numbers mid → slice_get mid.lives n ≡ Some (Some live) →
     RepresentsJob old j → ((k : JobState) → RepresentsJob mid k → Steps mid k n (stepped.Ended r0) new) → RunsTask old j n (suc count) (stepped.Ended r0) new
 runs_out old mid new n count r0 live j numbers all leads here behind steps =
     let l = lonely old mid n count live j numbers all leads here behind in

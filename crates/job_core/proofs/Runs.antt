@@ -19,12 +19,12 @@ use Rattle.interpreter.specs.Children.{MayHandOver}
 use Rattle.interpreter.specs.Stretch.{ContinuesFor, Ran, spent_on}
 use Rattle.credit_book.specs.Books.{spawn_event}
 use Rattle.credit_book.specs.History.{May, table_of}
-use Rattle.job_core.specs.declared.ledger.Ledger.{Ledger}
+use Rattle.job_core.specs.declared.ledger.TaskLedger.{TaskLedger}
 use Rattle.job_core.specs.declared.live.Live.{Live}
 use Rattle.job_core.specs.declared.tasks.Stepped.{Stepped}
 use Rattle.job_core.specs.declared.tasks.Stepped.TheVariants as stepped
 use Rattle.job_core.specs.declared.tasks.Tasks.{Tasks}
-use Rattle.job_core.specs.Representation.{WorldState, RepresentsJob, LeadsOn, Plays, Steps}
+use Rattle.job_core.specs.Representation.{WorldState, RepresentsJob, PlaysOn, Plays, Steps}
 use Rattle.job_core.specs.Keeping.{kept_of, AreStandings}
 use Rattle.job_core.proofs.Booking.{standings_alike}
 use Rattle.job_core.proofs.Ledgers.{Told, Asked, Ending, IsTaken, hands_over, ledger_went, ledger_ended, left, same_set}
@@ -34,14 +34,14 @@ use Rattle.job_core.proofs.Onward.{less_ahead, some_ahead}
 
 -- ---- runs that lead on
 
-pub leads_none : (kept : WorldState) → LeadsOn kept [] kept
+pub leads_none : (kept : WorldState) → PlaysOn kept [] kept
 leads_none kept = record {
   programs = refl;
   plays = λ j schedule plays. subst (λ ns. Plays kept.programs j ns kept) (sym (append-nil schedule)) plays;
 }
 
-pub leads_more : (old mid new : WorldState) (numbers : List ℕ) (n : ℕ) (out : Stepped) → LeadsOn old numbers mid → new.programs ≡ mid.programs →
-    ((j : JobState) → RepresentsJob mid j → Steps mid j n out new) → LeadsOn old (numbers ++ n ∷ []) new
+pub leads_more : (old mid new : WorldState) (numbers : List ℕ) (n : ℕ) (out : Stepped) → PlaysOn old numbers mid → new.programs ≡ mid.programs →
+    ((j : JobState) → RepresentsJob mid j → Steps mid j n out new) → PlaysOn old (numbers ++ n ∷ []) new
 leads_more old mid new numbers n out so_far same steps = record {
   programs = same ∙ so_far.programs;
   plays = λ j schedule plays. subst (λ ns. Plays old.programs j ns new) (append_assoc schedule numbers (n ∷ []))
@@ -50,13 +50,13 @@ leads_more old mid new numbers n out so_far same steps = record {
 
 -- what leads on leads from each run on
 pub plays_led : (programs : List Checked) (j : JobState) (schedule numbers : List ℕ) (old new : WorldState) →
-    Plays programs j schedule old → LeadsOn old numbers new → Plays programs j (schedule ++ numbers) new
+    Plays programs j schedule old → PlaysOn old numbers new → Plays programs j (schedule ++ numbers) new
 plays_led programs j schedule numbers old new plays leads =
     subst (λ ps. Plays ps j (schedule ++ numbers) new) plays.same_programs
     (leads.plays j schedule (subst (λ ps. Plays ps j schedule old) (sym plays.same_programs) plays))
 
--- a job stands behind what is led to
-pub behind_led : (old new : WorldState) (numbers : List ℕ) (j : JobState) → RepresentsJob old j → LeadsOn old numbers new → (k : JobState) × RepresentsJob new k
+-- what is led to represents a job
+pub behind_led : (old new : WorldState) (numbers : List ℕ) (j : JobState) → RepresentsJob old j → PlaysOn old numbers new → (k : JobState) × RepresentsJob new k
 behind_led old new numbers j behind leads =
     let plays = leads.plays j [] (plays_none old.programs j old refl behind) in (plays.last, plays.behind)
 
@@ -70,13 +70,13 @@ take_named schedule gone n lt named = take_more schedule gone 0 lt ∙ ap (λ k.
 
 -- entries that name no live task change nothing
 pub leads_skips : (kept : WorldState) (schedule : List ℕ) (n : ℕ) → ((j : JobState) → RepresentsJob kept j → Steps kept j n stepped.Skipped kept) →
-    (k : ℕ) → k ≤ length schedule → ((i : ℕ) → i < k → get_or schedule i 0 ≡ n) → LeadsOn kept (take k schedule) kept
+    (k : ℕ) → k ≤ length schedule → ((i : ℕ) → i < k → get_or schedule i 0 ≡ n) → PlaysOn kept (take k schedule) kept
 leads_skips kept schedule n steps zero fits named = leads_none kept
 leads_skips kept schedule n steps (suc k) fits named =
     let lt : k < length schedule = omega (arith, fits) in
     let on = leads_skips kept schedule n steps k (omega (arith, fits)) (λ i less. named i (omega (arith, less))) in
     let one_more : k + 1 ≡ suc k = omega arith in
-    subst (λ ns. LeadsOn kept ns kept) (sym (take_named schedule k n lt (named k (omega arith))) ∙ ap (λ m. take m schedule) one_more)
+    subst (λ ns. PlaysOn kept ns kept) (sym (take_named schedule k n lt (named k (omega arith))) ∙ ap (λ m. take m schedule) one_more)
     (leads_more kept kept kept (take k schedule) n stepped.Skipped on refl steps)
 
 -- entries that all name the number
@@ -110,7 +110,7 @@ pub record IsUnderWay (old now : WorldState) (numbers : List ℕ) (n : ℕ) (liv
   pub out : slice_get now.lives n ≡ Some None
   pub read : code ≡ get_or now.programs live.program code
   pub behind : (j : JobState) × RepresentsJob (standing now n (living_at live slot)) j
-  pub leads : LeadsOn old numbers (standing now n (living_at live slot))
+  pub leads : PlaysOn old numbers (standing now n (living_at live slot))
 
 -- the task is taken from its place
 pub sets_out : (kept : WorldState) (n : ℕ) (live : Live) (code : Checked) → slice_get kept.lives n ≡ Some (Some live) →
@@ -125,7 +125,7 @@ sets_out kept n live code here read behind =
       out = set_same kept.lives n None (slice_get_within kept.lives n (Some live) here);
       read = read;
       behind = (behind.0, subst (λ k. RepresentsJob k behind.0) same behind.1);
-      leads = subst (λ k. LeadsOn kept [] k) same (leads_none kept);
+      leads = subst (λ k. PlaysOn kept [] k) same (leads_none kept);
     }
 
 -- the task that is out of its place is the one whose turn it is, and the book has its credit
@@ -184,13 +184,13 @@ module _ (old : WorldState) (tasks : Tasks) (numbers : List ℕ) (n : ℕ) (live
   }
 
   -- whatever it may hand over is what the book takes
-  pub hands : IsRunning tasks n live → MayHandOver (slice_get tasks.ledger.entries.items) live.credit.held
+  pub may_hand_over : IsRunning tasks n live → MayHandOver (slice_get tasks.ledger.entries.items) live.credit.held
       (λ child. May (table_of tasks.ledger.book.history) (spawn_event tasks.ledger.turn (length (table_of tasks.ledger.book.history).standings) child))
-  hands running =
+  may_hand_over running =
       hands_over tasks.programs.items tasks.ledger.entries.items (set tasks.ledger.lives.items n (Some live)) tasks.ledger.book.history n tasks.ledger.turn
       live.credit.held live way.behind.1.entries running.booked (set_same tasks.ledger.lives.items n (Some live) within) running.turn refl
 
-  module _ (running : IsRunning tasks n live) (next : Next) (after : Live) (ledger : Ledger) (base : after.part.base ≡ live.part.base) (same_number : after.program ≡ live.program)
+  module _ (running : IsRunning tasks n live) (next : Next) (after : Live) (ledger : TaskLedger) (base : after.part.base ≡ live.part.base) (same_number : after.program ≡ live.program)
       (did : (registers : Registers) → RepresentsTask code (at_slot live.frame slot) registers →
       StepEffect code (effect (program_of code) (slice_get tasks.ledger.entries.items) (state_of (at_slot live.frame slot) live.part live.credit registers))
       (out_of next) (at_slot after.frame (slot_after slot next)) after.part after.credit
@@ -269,8 +269,8 @@ no_stretch old now numbers ns n live slot code way same =
       out = way.out;
       read = way.read;
       behind = (way.behind.0, subst (λ (l : Live). RepresentsJob (standing now n l) way.behind.0) none way.behind.1);
-      leads = subst (λ ms. LeadsOn old ms (standing now n (living_on live 0 (at_slot live.frame slot) live.part))) same
-          (subst (λ (l : Live). LeadsOn old numbers (standing now n l)) none way.leads);
+      leads = subst (λ ms. PlaysOn old ms (standing now n (living_on live 0 (at_slot live.frame slot) live.part))) same
+          (subst (λ (l : Live). PlaysOn old numbers (standing now n l)) none way.leads);
     }
 
 module _ (old : WorldState) (tasks : Tasks) (schedule : List ℕ) (gone n : ℕ) (live : Live) (slot : ℕ) (code : Checked)

@@ -246,7 +246,7 @@ second_part buffer base size a b e long =
     ∙ ap (λ n. drop (length a) (take n (drop base buffer))) long
     ∙ ap (drop (length a)) (sym e) ∙ drop-append_seam a b
 
--- the child stands behind the record that it was started by
+-- the record that the child was started by represents it
 child_kept : (kept : WorldState) (j : JobState) (t : Task) (taken : State) (birth : Birth) (child : SpawnRecord) (base : ℕ) (p : Checked) →
     IsRecordOf child birth base → base ≡ t.base + length taken.part →
     taken.part ++ birth.bytes ≡ take t.size (drop t.base j.buffer) → length taken.part + length birth.bytes ≡ t.size →
@@ -520,7 +520,7 @@ module _ (kept : WorldState) (j : JobState) (n : ℕ) (live : Live) (behind : Re
       inr (adds.3, ap length adds.1 ∙ length-append (set kept.lives n None) (Some (live_of child) ∷ []) ∙ omega (arith, length-set kept.lives n None))
   grown_heard child (Err back) adds = grown_none adds
 
-  -- the job after the effect stands behind what is kept
+  -- what is kept represents the job after the effect
   pub went : (e : Effect) → Splits (take at.task.size (drop at.task.base j.buffer)) e →
       Births (entries_of (map program_of kept.programs)) at.task.held e → IsCovered at.checked frame part credit →
       StepEffect at.checked e Went frame part credit silent told nobody →

@@ -1,4 +1,4 @@
--- The job at its start stands behind what is kept of it.
+-- What is kept of a job at its start represents it.
 use Rattle.std.proofs.Common.{◌≡◌, ℕ, zero, suc, ◌<◌, ◌≤◌, ◌+◌, inl, inr, List, [], ◌∷◌, ◌++◌, map, get_or, length, take, replicate, slice_get, refl, sym, ◌∙◌, arith, ap, subst, Option, Some, None, false}
 use Rattle.std.proofs.lemmas.List.{take_more, length-map, length-replicate}
 use Rattle.std.proofs.Math.Seq.{take-length}

@@ -22,9 +22,9 @@ IsRefusedProgram p program.NoMemory = ⊥
 IsRefusedProgram p refusal = RefusesProgram p.need p.code.items job_table refusal
 
 -- the refusal of the program of this number that the verifier refuses
-abbrev pub fault_of : ℕ → Refusal → AdmitFault
-fault_of index program.NoMemory = NoMemory
-fault_of index refusal = Program index refusal
+abbrev pub fault_of_program : ℕ → Refusal → AdmitFault
+fault_of_program index program.NoMemory = NoMemory
+fault_of_program index refusal = Program index refusal
 
 -- the verifier accepts each program with the one at its place
 pub record AreAccepted (programs : List ProgramBytes) (accepted : List Checked) : Type 0 where

@@ -9,6 +9,6 @@ put None buffer = buffer
 put (Some live) buffer = written buffer live.part.base live.part.bytes
 
 -- those of all tasks in turn
-abbrev pub filled : List (Option Live) → List ℕ → List ℕ
-filled [] buffer = buffer
-filled (live ∷ lives) buffer = filled lives (put live buffer)
+abbrev pub filled_buffer : List (Option Live) → List ℕ → List ℕ
+filled_buffer [] buffer = buffer
+filled_buffer (live ∷ lives) buffer = filled_buffer lives (put live buffer)

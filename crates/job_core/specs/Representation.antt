@@ -1,4 +1,4 @@
--- Which jobs stand behind the tasks that a world keeps.
+-- Which jobs the tasks that a world keeps represent.
 use Rattle.std.specs.Prelude.{◌≡◌, ◌↔◌, ℕ, ◌≤◌, List, ◌++◌, map, length, take, drop, slice_get, sum_by, Bool, true, false, Option, Some, None}
 use Rattle.machine_model.specs.Limits.{max_credit}
 use Rattle.machine_model.specs.declared.program.Entry.{Entry}
@@ -54,7 +54,7 @@ end_of n (job.Ended e) = record {
   ran = true;
 }
 
--- the task stands behind what is kept of it, and its program covers it
+-- what is kept of the task represents it, and its program covers it
 pub record IsTaskOf (p : Checked) (buffer : List ℕ) (live : Live) (t : Task) : Type 0 where
   pub program : t.program ≡ live.program
   pub state : state_in buffer t ≡ state_of live.frame live.part live.credit t.registers
@@ -96,7 +96,7 @@ pub record AreEntries (programs : List Checked) (entries : List Entry) : Type 0 
   pub verified : (n : ℕ) (p : Checked) → slice_get programs n ≡ Some p → IsVerified p
   pub own : AreOwn programs
 
--- the job stands behind what is kept
+-- what is kept represents the job
 pub record RepresentsJob (kept : WorldState) (j : JobState) : Type 0 where
   pub entries : AreEntries kept.programs kept.entries
   pub kept_are : RepresentsTasks kept j
@@ -154,7 +154,7 @@ pub record PlaysJob (order : AdmittedJob) (schedule : List ℕ) (kept : WorldSta
       × HasAnswer (length order.buffer) plays.last fs
 
 -- Every run to what was kept goes on along these numbers to what is kept.
-pub record LeadsOn (old : WorldState) (numbers : List ℕ) (new : WorldState) : Type 0 where
+pub record PlaysOn (old : WorldState) (numbers : List ℕ) (new : WorldState) : Type 0 where
   pub programs : new.programs ≡ old.programs
   pub plays : (j : JobState) (schedule : List ℕ) → Plays old.programs j schedule old
       → Plays old.programs j (schedule ++ numbers) new

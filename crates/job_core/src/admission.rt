@@ -2,7 +2,7 @@
 
 ghost use Rattle.std.specs.Prelude.{◌≡◌, ◌≤◌, length, IfOk, IfErr};
 ghost use Rattle.job_core.specs.Admitted.{AreOwn};
-ghost use Rattle.job_core.specs.Admission.{AreAccepted, IsAdmittedFrom, IsProgramFault, RefusesJob, fault_of, number_of, place_of, slot_of};
+ghost use Rattle.job_core.specs.Admission.{AreAccepted, IsAdmittedFrom, IsProgramFault, RefusesJob, fault_of_program, number_of, place_of, slot_of};
 
 use crate::job::Job;
 use helpers::HelperTable;
@@ -118,7 +118,7 @@ impl<T: Drop> From<AllocFailed<T>> for AdmitFault {
 /// Why the program of this number isn't accepted.
 fn admit_fault(index: usize, refusal: Refusal) -> AdmitFault
     requires { index ≤ 16 }
-    ensures { result ≡ fault_of index refusal }
+    ensures { result ≡ fault_of_program index refusal }
 {
     match refusal {
         Refusal::NoMemory => AdmitFault::NoMemory,

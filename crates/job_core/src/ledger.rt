@@ -14,7 +14,7 @@ use std::alloc::Global;
 /// `turn` is the number of the task that runs, and `parents` has the number of each task's parent,
 /// from the first child on.
 #[derive(Drop)]
-pub struct Ledger {
+pub struct TaskLedger {
     pub alloc: Global,
     pub entries: Vec<Entry>,
     pub lives: Vec<Option<Live>>,
@@ -24,7 +24,7 @@ pub struct Ledger {
     ghost few: { vec_len entries ≤ 65536 },
 }
 
-impl Ledger {
+impl TaskLedger {
     /// Ends the task of a number: what it used of its credit is spent, the rest comes back, and the
     /// bytes of its part are collected.
     pub fn end(&mut self, number: u32, live: Live, r0: u64)
@@ -55,11 +55,11 @@ impl Ledger {
     }
 }
 
-impl Spawner for Ledger {
+impl Spawner for TaskLedger {
     ghost use Rattle.std.specs.Prelude.{◌≡◌, length, slice_get};
     ghost use Rattle.credit_book.specs.History.{May, table_of};
     ghost use Rattle.credit_book.specs.Books.{spawn_event};
-    ghost use Rattle.job_core.specs.Seats.{Enters};
+    ghost use Rattle.job_core.specs.Seats.{ChildEnters};
 
     ghost entries = { λ ledger. slice_get ledger.entries.items };
 
@@ -69,7 +69,7 @@ impl Spawner for Ledger {
     ghost spawns = { λ old child reply new. (new.entries.items ≡ old.entries.items)
         × (new.turn ≡ old.turn)
         × (new.book.board ≡ old.book.board) × (new.book.size ≡ old.book.size)
-        × Enters old.turn old.lives.items old.parents.items old.book.history child reply
+        × ChildEnters old.turn old.lives.items old.parents.items old.book.history child reply
         new.lives.items new.parents.items new.book.history };
 
     ghost calls = { λ old helper arguments answer new. (answer ≡ 0) × (new ≡ old) };

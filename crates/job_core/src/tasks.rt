@@ -2,7 +2,7 @@
 
 ghost use Rattle.std.specs.Prelude.{◌≡◌, ℕ, ◌<◌, ◌≤◌, ◌^◌, length, replicate, slice_get, List, ◌++◌};
 
-use crate::ledger::Ledger;
+use crate::ledger::TaskLedger;
 use crate::schedule::named_ahead;
 use interpreter::Next;
 use std::alloc::Global;
@@ -12,7 +12,7 @@ use verifier::Verified;
 #[derive(Drop)]
 pub struct Tasks {
     pub programs: Vec<Verified>,
-    pub ledger: Ledger,
+    pub ledger: TaskLedger,
 }
 
 /// What a step of a world has come to: no task of that number is alive, or the task went on, or it
@@ -26,7 +26,7 @@ pub enum Stepped {
 
 impl Tasks {
     ghost use Rattle.machine_model.specs.JobState.{JobState};
-    ghost use Rattle.job_core.specs.Representation.{RepresentsJob, Steps, LeadsOn};
+    ghost use Rattle.job_core.specs.Representation.{RepresentsJob, Steps, PlaysOn};
     ghost use Rattle.job_core.specs.OneTask.{IsSkipped, RunsTask};
     ghost use Rattle.job_core.specs.Keeping.{kept_of, IsBooked};
     ghost use Rattle.machine_model.specs.Limits.{max_credit};
@@ -71,7 +71,7 @@ impl Tasks {
     pub fn run_task(&mut self, alloc: Global, number: u32, limit: usize) -> (usize, Stepped)
         requires behind { (j : JobState) × RepresentsJob (kept_of self.old) j }
         requires booked { IsBooked self.old }
-        ensures leads { LeadsOn (kept_of self.old) (replicate result.0 number) (kept_of self.new) }
+        ensures leads { PlaysOn (kept_of self.old) (replicate result.0 number) (kept_of self.new) }
         ensures runs { (j : JobState) → RepresentsJob (kept_of self.old) j
             → RunsTask (kept_of self.old) j number result.0 result.1 (kept_of self.new) }
         ensures idle { result.0 ≡ 0 → 0 < limit
@@ -117,7 +117,7 @@ impl Tasks {
         requires booked { IsBooked self.old }
         requires some { 0 < length schedule.now }
         ensures leads { (numbers : List ℕ) × (schedule.now ≡ numbers ++ result.now)
-            × LeadsOn (kept_of self.old) numbers (kept_of self.new) }
+            × PlaysOn (kept_of self.old) numbers (kept_of self.new) }
         ensures booked { IsBooked self.new }
         ensures shorter { length result.now < length schedule.now }
     {

@@ -4,7 +4,7 @@ ghost use Rattle.std.specs.Prelude.{◌≡◌, IfOk};
 
 use crate::filling::fill;
 use crate::job::Job;
-use crate::ledger::Ledger;
+use crate::ledger::TaskLedger;
 use crate::live::Vacant;
 use crate::place::place_in;
 use crate::room::room_of;
@@ -40,7 +40,7 @@ impl World {
     ghost use Rattle.machine_model.specs.JobState as model;
     ghost use Rattle.machine_model.specs.JobState.{start, IsAlive, IsComplete, Member};
     ghost use Rattle.task_trees.specs.Families.{place_of};
-    ghost use Rattle.job_core.specs.Representation.{RepresentsJob, Steps, LeadsOn};
+    ghost use Rattle.job_core.specs.Representation.{RepresentsJob, Steps, PlaysOn};
     ghost use Rattle.job_core.specs.Answers.{AreTotals, IsReportOf};
     ghost use Rattle.job_core.specs.OneTask.{RunsTask};
     ghost use Rattle.job_core.specs.Rooms.{room_at};
@@ -68,7 +68,7 @@ impl World {
         Ok(World {
             tasks: Tasks {
                 programs,
-                ledger: Ledger {
+                ledger: TaskLedger {
                     alloc,
                     entries,
                     lives,
@@ -114,7 +114,7 @@ impl World {
     fn follow<'a>(&mut self, alloc: Global, schedule: &'a [u32]) -> &'a [u32]
         requires { 0 < length schedule.now }
         ensures leads { (numbers : List ℕ) × (schedule.now ≡ numbers ++ result.now)
-            × LeadsOn self.old numbers self.new }
+            × PlaysOn self.old numbers self.new }
         ensures shorter { length result.now < length schedule.now }
     {
         self.tasks.run(alloc, schedule)
@@ -131,8 +131,8 @@ impl World {
         }
     }
 
-    /// How many tasks there are, those that have ended among them. Their numbers run from 0. A job
-    /// stands behind every world, whatever was done with it.
+    /// How many tasks there are, those that have ended among them. Their numbers run from 0. Every
+    /// world represents a job, whatever was done with it.
     pub fn len(&self) -> u32
         ensures count { (j : model.JobState) → RepresentsJob self.now j → result ≡ length j.tasks }
         ensures behind { (j : model.JobState) × RepresentsJob self.now j }
@@ -225,7 +225,7 @@ impl World {
         }
         let World { tasks } = self;
         let Tasks { ledger, .. } = tasks;
-        let Ledger { book, .. } = ledger;
+        let TaskLedger { book, .. } = ledger;
         match book.close() {
             Ok(report) => Ok(report),
             Err(_) => unreachable!(),

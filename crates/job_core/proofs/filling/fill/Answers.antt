@@ -1,6 +1,6 @@
 use Rattle.std.proofs.Common.{◌≡◌, ◌∙◌, ◌≤◌, ◌+◌, sym, ap, arith, length}
 use Rattle.std.proofs.lemmas.List.{take_all}
-use Rattle.job_core.specs.Filled.{put, filled}
+use Rattle.job_core.specs.Filled.{put, filled_buffer}
 use Rattle.job_core.proofs.Buffers.{filled-more, length-put, none_put, item_live}
 use Rattle.job_core.proofs.filling.fill.Goals as goal
 use Rattle.job_core.proofs.filling.fill.Goals.{in-Some, in_default}
@@ -31,4 +31,4 @@ loop-live-preserved c =
 
 pub returns : goal.returns
 returns c = c.loop-live.invariant.so_far
-    ∙ ap (λ ls. filled ls c.args.buffer.now.items) (take_all c.loop-live.live-index c.args.lives.now c.loop-live-test.false)
+    ∙ ap (λ ls. filled_buffer ls c.args.buffer.now.items) (take_all c.loop-live.live-index c.args.lives.now c.loop-live-test.false)

@@ -9,7 +9,7 @@ use Rattle.job_core.specs.declared.tasks.Stepped.TheVariants as stepped
 use Rattle.job_core.proofs.Booking.{standings_alike}
 use Rattle.job_core.proofs.Ledgers.{same_set}
 use Rattle.job_core.proofs.Lonely.{runs_not, runs_on, runs_out}
-use Rattle.job_core.proofs.Runs.{leads_none, leads_more, sets_out, covered_there, hands, here, place, some_left, living_on, running_on, way_ran, way_on, way_ends}
+use Rattle.job_core.proofs.Runs.{leads_none, leads_more, sets_out, covered_there, may_hand_over, here, place, some_left, living_on, running_on, way_ran, way_on, way_ends}
 use Rattle.job_core.proofs.tasks.Tasks.run_task.Goals as goal
 
 pub returns-in_default-clause-leads : goal.returns-in_default-clause-leads
@@ -228,7 +228,7 @@ returns-in-Ended-clause-few c =
 
 pub run_at-ran-requires-clause-children : goal.run_at-ran-requires-clause-children
 run_at-ran-requires-clause-children c =
-    hands (kept_of c.args.self.now) (record c.args.self.now { ledger = c.loop-gone.ledger }) (take c.loop-gone.gone (replicate c.args.limit c.args.number))
+    may_hand_over (kept_of c.args.self.now) (record c.args.self.now { ledger = c.loop-gone.ledger }) (take c.loop-gone.gone (replicate c.args.limit c.args.number))
     c.args.number c.loop-gone.live c.loop-gone.slot c.index-code.result.now c.loop-gone.invariant.way c.loop-gone.invariant.running
 
 pub index_mut-requires : goal.index_mut-requires

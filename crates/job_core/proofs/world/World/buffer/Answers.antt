@@ -1,7 +1,7 @@
 use Rattle.std.proofs.Common.{◌≡◌, ◌∙◌, sym, ap, subst, arith, rules, length, slice_get, Some, List, Option}
 use Rattle.credit_book.specs.Buffers.{buffer_of}
 use Rattle.job_core.specs.declared.live.Live.{Live}
-use Rattle.job_core.specs.Filled.{filled}
+use Rattle.job_core.specs.Filled.{filled_buffer}
 use Rattle.job_core.specs.Keeping.{kept_of}
 use Rattle.job_core.specs.Representation.{WorldState, RepresentsJob}
 use Rattle.job_core.proofs.Buffers.{filled_behind, part_inside}
@@ -18,6 +18,6 @@ fill-requires c = λ n live e.
 pub returns : goal.returns
 returns c = λ j behind.
     let start : c.extend_from_slice.new.self.items ≡ buffer_of c.self.inside.tasks.ledger.book.size c.self.inside.tasks.ledger.book.history = search rules in
-    c.fill.ensures ∙ ap (λ (ls : List (Option Live)). filled ls c.extend_from_slice.new.self.items) c.deref.ensures.value
-    ∙ ap (filled c.self.inside.tasks.ledger.lives.items) start
+    c.fill.ensures ∙ ap (λ (ls : List (Option Live)). filled_buffer ls c.extend_from_slice.new.self.items) c.deref.ensures.value
+    ∙ ap (filled_buffer c.self.inside.tasks.ledger.lives.items) start
     ∙ filled_behind (kept_of c.self.inside.tasks) j (subst (λ (k : WorldState). RepresentsJob k j) (sym c.self.view_is) behind)
