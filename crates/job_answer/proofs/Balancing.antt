@@ -13,7 +13,7 @@ use Rattle.credit_book.proofs.Sound.{at_set, at_end}
 use Rattle.task_register.specs.declared.seats.TaskStart.{TaskStart}
 use Rattle.task_register.specs.Rule.{children_in}
 use Rattle.task_register.proofs.Steps.{children_longer, one_child, no_child}
-use Rattle.job_answer.specs.Agreement.{Balances, gone, shares}
+use Rattle.job_answer.specs.Agreement.{Balances, ended_standing, shares}
 
 off : false ≡ true → ⊥
 off e = true≢false (sym e)
@@ -71,56 +71,56 @@ shares_none starts below = nobodys (length starts) (drop 1 starts) below
 
 module _ (ss : List Standing) (ts : List TaskEnd) (paired : length ts ≡ length ss) where
   -- a task that is alive moves to another stage
-  pub balance_moved : (m n given children : ℕ) (stage : Stage) → m < length ss → is_alive (get_or ss m gone).stage ≡ true → is_alive stage ≡ true →
-      Balances given children (get_or ss n gone) (get_or ts n no_end) →
-      Balances given children (get_or (set ss m (record { held = (get_or ss m gone).held; stage = stage })) n gone) (get_or ts n no_end)
+  pub balance_moved : (m n given children : ℕ) (stage : Stage) → m < length ss → is_alive (get_or ss m ended_standing).stage ≡ true → is_alive stage ≡ true →
+      Balances given children (get_or ss n ended_standing) (get_or ts n no_end) →
+      Balances given children (get_or (set ss m (record { held = (get_or ss m ended_standing).held; stage = stage })) n ended_standing) (get_or ts n no_end)
   balance_moved m n given children stage lt was is old =
-      at_set (λ (s : Standing). Balances given children s (get_or ts n no_end)) ss m n (record { held = (get_or ss m gone).held; stage = stage }) gone lt
+      at_set (λ (s : Standing). Balances given children s (get_or ts n no_end)) ss m n (record { held = (get_or ss m ended_standing).held; stage = stage }) ended_standing lt
       (λ e. record {
-        alive = λ _. ap (λ k. (get_or ss k gone).held + children) (sym e) ∙ old.alive (ap (λ k. is_alive (get_or ss k gone).stage) e ∙ was);
+        alive = λ _. ap (λ k. (get_or ss k ended_standing).held + children) (sym e) ∙ old.alive (ap (λ k. is_alive (get_or ss k ended_standing).stage) e ∙ was);
         over = λ o. absurd (true≢false (sym is ∙ o));
       })
       (λ ne. old)
 
   -- a task is over
-  pub balance_ended : (m n given children used : ℕ) (new : TaskEnd) → m < length ss → is_alive (get_or ss m gone).stage ≡ true → used ≤ (get_or ss m gone).held →
-      new.spent ≡ used → new.rest ≡ (get_or ss m gone).held - used → Balances given children (get_or ss n gone) (get_or ts n no_end) →
-      Balances given children (get_or (set ss m gone) n gone) (get_or (set ts m new) n no_end)
+  pub balance_ended : (m n given children used : ℕ) (new : TaskEnd) → m < length ss → is_alive (get_or ss m ended_standing).stage ≡ true → used ≤ (get_or ss m ended_standing).held →
+      new.spent ≡ used → new.rest ≡ (get_or ss m ended_standing).held - used → Balances given children (get_or ss n ended_standing) (get_or ts n no_end) →
+      Balances given children (get_or (set ss m ended_standing) n ended_standing) (get_or (set ts m new) n no_end)
   balance_ended m n given children used new lt was le spent rest old =
       let lt' : m < length ts = omega (arith, lt, paired) in
-      at_set (λ (s : Standing). Balances given children s (get_or (set ts m new) n no_end)) ss m n gone gone lt
-      (λ e. at_set (λ (x : TaskEnd). Balances given children gone x) ts m n new no_end lt'
+      at_set (λ (s : Standing). Balances given children s (get_or (set ts m new) n no_end)) ss m n ended_standing ended_standing lt
+      (λ e. at_set (λ (x : TaskEnd). Balances given children ended_standing x) ts m n new no_end lt'
       (λ _. record {
         alive = λ a. absurd (off a);
         over = λ _.
-            let held = ap (λ k. (get_or ss k gone).held + children) (sym e) ∙ old.alive (ap (λ k. is_alive (get_or ss k gone).stage) e ∙ was) in
+            let held = ap (λ k. (get_or ss k ended_standing).held + children) (sym e) ∙ old.alive (ap (λ k. is_alive (get_or ss k ended_standing).stage) e ∙ was) in
             omega (arith, held, le, spent, rest);
       })
       (λ ne. absurd (ne e)))
-      (λ ne. at_set (λ (x : TaskEnd). Balances given children (get_or ss n gone) x) ts m n new no_end lt' (λ e. absurd (ne e)) (λ _. old))
+      (λ ne. at_set (λ (x : TaskEnd). Balances given children (get_or ss n ended_standing) x) ts m n new no_end lt' (λ e. absurd (ne e)) (λ _. old))
 
   -- a task has a child more
   module _ (starts : List TaskStart) (long : length ss ≡ length starts) (b : TaskStart) (parent : ℕ) (task : TaskEnd) (inside : parent < length ss)
-      (by : b.parent ≡ parent) (alive : is_alive (get_or ss parent gone).stage ≡ true) (less : b.share < (get_or ss parent gone).held) where
+      (by : b.parent ≡ parent) (alive : is_alive (get_or ss parent ended_standing).stage ≡ true) (less : b.share < (get_or ss parent ended_standing).held) where
     abbrev left : Standing
-    left = record { held = (get_or ss parent gone).held - b.share; stage = (get_or ss parent gone).stage }
+    left = record { held = (get_or ss parent ended_standing).held - b.share; stage = (get_or ss parent ended_standing).stage }
 
     abbrev new : Standing
     new = record { held = b.share; stage = Fresh }
 
-    pub balance_older : (n given : ℕ) → n < length starts → Balances given (shares (children_in n starts)) (get_or ss n gone) (get_or ts n no_end) →
-        Balances given (shares (children_in n (starts ++ b ∷ []))) (get_or (set ss parent left ++ new ∷ []) n gone) (get_or (ts ++ task ∷ []) n no_end)
+    pub balance_older : (n given : ℕ) → n < length starts → Balances given (shares (children_in n starts)) (get_or ss n ended_standing) (get_or ts n no_end) →
+        Balances given (shares (children_in n (starts ++ b ∷ []))) (get_or (set ss parent left ++ new ∷ []) n ended_standing) (get_or (ts ++ task ∷ []) n no_end)
     balance_older n given lt old =
         let some : 0 < length starts = omega (arith, inside, long) in
-        at_end (λ (s : Standing). Balances given (shares (children_in n (starts ++ b ∷ []))) s (get_or (ts ++ task ∷ []) n no_end)) (set ss parent left) n new gone
+        at_end (λ (s : Standing). Balances given (shares (children_in n (starts ++ b ∷ []))) s (get_or (ts ++ task ∷ []) n no_end)) (set ss parent left) n new ended_standing
         (let l = length-set ss parent left in omega (arith, lt, long, l))
-        (λ _. at_end (λ (x : TaskEnd). Balances given (shares (children_in n (starts ++ b ∷ []))) (get_or (set ss parent left) n gone) x) ts n task no_end (omega (arith, lt, long, paired))
-        (λ _. at_set (λ (s : Standing). Balances given (shares (children_in n (starts ++ b ∷ []))) s (get_or ts n no_end)) ss parent n left gone inside
+        (λ _. at_end (λ (x : TaskEnd). Balances given (shares (children_in n (starts ++ b ∷ []))) (get_or (set ss parent left) n ended_standing) x) ts n task no_end (omega (arith, lt, long, paired))
+        (λ _. at_set (λ (s : Standing). Balances given (shares (children_in n (starts ++ b ∷ []))) s (get_or ts n no_end)) ss parent n left ended_standing inside
         (λ e.
         let more = shares_more starts b n some (by ∙ sym e) in
         record {
           alive = λ _.
-              let held = ap (λ k. (get_or ss k gone).held + shares (children_in n starts)) (sym e) ∙ old.alive (ap (λ k. is_alive (get_or ss k gone).stage) e ∙ alive) in
+              let held = ap (λ k. (get_or ss k ended_standing).held + shares (children_in n starts)) (sym e) ∙ old.alive (ap (λ k. is_alive (get_or ss k ended_standing).stage) e ∙ alive) in
               omega (arith, held, more, less);
           over = λ o. absurd (true≢false (sym alive ∙ o));
         })
@@ -134,10 +134,10 @@ module _ (ss : List Standing) (ts : List TaskEnd) (paired : length ts ≡ length
         (λ e. absurd (let l = length-set ss parent left in omega (arith, e, lt, long, l)))
 
     pub balance_newest : (n : ℕ) → n ≡ length starts → ((k : ℕ) (x : TaskStart) → slice_get (drop 1 starts) k ≡ Some x → x.parent < length starts) → (e : TaskEnd) →
-        Balances b.share (shares (children_in n (starts ++ b ∷ []))) (get_or (set ss parent left ++ new ∷ []) n gone) e
+        Balances b.share (shares (children_in n (starts ++ b ∷ []))) (get_or (set ss parent left ++ new ∷ []) n ended_standing) e
     balance_newest n at below e =
         let some : 0 < length starts = omega (arith, inside, long) in
-        at_end (λ (s : Standing). Balances b.share (shares (children_in n (starts ++ b ∷ []))) s e) (set ss parent left) n new gone
+        at_end (λ (s : Standing). Balances b.share (shares (children_in n (starts ++ b ∷ []))) s e) (set ss parent left) n new ended_standing
         (let l = length-set ss parent left in omega (arith, at, long, l))
         (λ lt. absurd (let l = length-set ss parent left in omega (arith, lt, at, long, l)))
         (λ _.

@@ -13,13 +13,13 @@ use Rattle.credit_book.specs.declared.event.TaskEnd.{TaskEnd}
 use Rattle.credit_book.specs.declared.book.Report.{Report}
 use Rattle.credit_book.specs.History.{is_alive, standing_at, table_of, task_at}
 use Rattle.task_register.specs.declared.seats.TaskStart.{TaskStart}
-use Rattle.task_register.specs.declared.seats.EndedTask.{EndedTask}
+use Rattle.task_register.specs.declared.seats.TaskResult.{TaskResult}
 use Rattle.task_register.specs.declared.seats.RegisterState.{RegisterState}
 use Rattle.task_register.specs.Rule.{EachIs}
 use Rattle.job_answer.specs.Agreement.{shares}
 use Rattle.job_answer.proofs.SoloCredit.{handed_shares, solo_left}
-use Rattle.job_answer.specs.SpawnTree.{TaskRun, finished_of, given_by, taken}
-use Rattle.job_answer.specs.Gathered.{birth_of, handed, Piece, piece_of, left_of, laid, laid_from, IsRun, IsGathered, GatheredTree, root_start, parents_of}
+use Rattle.job_answer.specs.SpawnTree.{TaskRun, finished_run, given_by, taken}
+use Rattle.job_answer.specs.Gathered.{birth_at_start, handed, TaskRemains, remains_of, left_of, laid, laid_from, RanByItself, IsGathered, GatheredTree, root_start, parents_of}
 use Rattle.job_answer.proofs.Gathering.{gathers}
 use Rattle.job_answer.proofs.Laying.{answers}
 use Rattle.job_answer.proofs.Desking.{desk_once}
@@ -32,10 +32,10 @@ nothing i x e = cc
 one_some : {X : Type 0} (o : Option X) (a b : X) → o ≡ Some a → o ≡ Some b → a ≡ b
 one_some o a b x y = cc
 
-all_run : (programs : List Program) (os : List EndedTask) → EachIs (RunsOrNot programs) os → ((k : ℕ) (o : EndedTask) → slice_get os k ≡ Some o → o.ran ≡ true) → All (IsRun programs) os
-all_run programs [] each ran = All-nil (IsRun programs)
+all_run : (programs : List Program) (os : List TaskResult) → EachIs (RunsOrNot programs) os → ((k : ℕ) (o : TaskResult) → slice_get os k ≡ Some o → o.ran ≡ true) → All (RanByItself programs) os
+all_run programs [] each ran = All-nil (RanByItself programs)
 all_run programs (o ∷ os) each ran =
-    All-cons (IsRun programs) o os (subst (λ b. runs_by b programs o) (ran 0 o refl) each.0) (all_run programs os each.1 (λ k x there. ran (suc k) x there))
+    All-cons (RanByItself programs) o os (subst (λ b. runs_by b programs o) (ran 0 o refl) each.0) (all_run programs os each.1 (λ k x there. ran (suc k) x there))
 
 first_long : (starts : List TaskStart) (root : TaskStart) → slice_get starts 0 ≡ Some root → length starts ≡ suc (length (drop 1 starts))
 first_long [] root there = absurd (nothing 0 root there)
@@ -46,8 +46,8 @@ not_alive true none = absurd (none refl)
 not_alive false none = refl
 
 -- once all tasks are over, what each spent and returned, with its children's shares, is what it was given
-pub balance_closed : (job issued size : ℕ) (root : TaskStart) (runs : EndedTask → Type 0) (report : Report) (closed : ClosesJob job issued size root runs report) →
-    (k : ℕ) (o : EndedTask) → slice_get closed.known.over k ≡ Some o → (e : TaskEnd) → slice_get (table_of closed.history).tasks o.own.number ≡ Some e →
+pub balance_closed : (job issued size : ℕ) (root : TaskStart) (runs : TaskResult → Type 0) (report : Report) (closed : ClosesJob job issued size root runs report) →
+    (k : ℕ) (o : TaskResult) → slice_get closed.known.over k ≡ Some o → (e : TaskEnd) → slice_get (table_of closed.history).tasks o.own.number ≡ Some e →
     e.spent + e.rest + shares o.own.children ≡ o.own.birth.share
 balance_closed job issued size root runs report closed k o over e here =
     let task = closed.all.tasks k o over in
@@ -74,28 +74,28 @@ same_sums f h (x ∷ xs) (y ∷ ys) long each =
     sum_by-cons f x xs ∙ omega (arith, head, tail) ∙ sym (sum_by-cons h y ys)
 
 -- what the tasks of a register left is what those of the tree did
-laid_told : (memory : List ℕ) (fs : List Finished) (os : List EndedTask) → map left_of fs ≡ map piece_of os → laid_from memory os ≡ laid memory fs
+laid_told : (memory : List ℕ) (fs : List Finished) (os : List TaskResult) → map left_of fs ≡ map remains_of os → laid_from memory os ≡ laid memory fs
 laid_told memory [] [] told = refl
 laid_told memory [] (o ∷ os) told = absurd (cc)
 laid_told memory (f ∷ fs) [] told = absurd (cc)
 laid_told memory (f ∷ fs) (o ∷ os) told =
-    let head : left_of f ≡ piece_of o = cc in
-    let tail : map left_of fs ≡ map piece_of os = cc in
-    ap (λ (p : Piece). laid_from (take (length memory) (written memory p.base p.bytes)) os) (sym head)
+    let head : left_of f ≡ remains_of o = cc in
+    let tail : map left_of fs ≡ map remains_of os = cc in
+    ap (λ (p : TaskRemains). laid_from (take (length memory) (written memory p.base p.bytes)) os) (sym head)
     ∙ laid_told (take (length memory) (written memory f.ending.base f.bytes)) fs os tail
 
-mapped_sum : (ts : List TaskRun) → sum_by (λ (t : TaskRun). t.last.used) ts ≡ sum_by (λ (f : Finished). f.ending.spent) (map finished_of ts)
+mapped_sum : (ts : List TaskRun) → sum_by (λ (t : TaskRun). t.last.used) ts ≡ sum_by (λ (f : Finished). f.ending.spent) (map finished_run ts)
 mapped_sum [] = refl
 mapped_sum (t ∷ ts) =
     sum_by-cons (λ (x : TaskRun). x.last.used) t ts ∙ ap (λ n. t.last.used + n) (mapped_sum ts)
-    ∙ sym (sum_by-cons (λ (f : Finished). f.ending.spent) (finished_of t) (map finished_of ts))
+    ∙ sym (sum_by-cons (λ (f : Finished). f.ending.spent) (finished_run t) (map finished_run ts))
 
 module _ (programs : List Program) (job credit : ℕ) (buffer : List ℕ) (report : Report)
     (closed : ClosesJob job credit (length buffer) (root_start credit buffer) (RunsOrNot programs) report) (all_ran : AllRan report) where
   abbrev known : RegisterState
   known = closed.known
 
-  ran : (k : ℕ) (o : EndedTask) → slice_get known.over k ≡ Some o → o.ran ≡ true
+  ran : (k : ℕ) (o : TaskResult) → slice_get known.over k ≡ Some o → o.ran ≡ true
   ran k o there =
       let e = closed.agrees.table.ended k o there in
       sym e.ran ∙ all_ran o.own.number e.end (ap (λ (ts : List TaskEnd). slice_get ts o.own.number) closed.report_of.tasks ∙ e.there)
@@ -112,7 +112,7 @@ module _ (programs : List Program) (job credit : ℕ) (buffer : List ℕ) (repor
   family = gathers programs credit buffer known gathered
 
   -- what a task spent and returned is what it held at its end
-  rests : (n : ℕ) (t : TaskRun) → slice_get family.tasks n ≡ Some t → (o : EndedTask) (k : ℕ) → slice_get known.over k ≡ Some o → o.own.number ≡ n → birth_of o.own.birth ≡ t.birth →
+  rests : (n : ℕ) (t : TaskRun) → slice_get family.tasks n ≡ Some t → (o : TaskResult) (k : ℕ) → slice_get known.over k ≡ Some o → o.own.number ≡ n → birth_at_start o.own.birth ≡ t.birth →
       o.own.children ≡ map (handed n o.own.birth.base) (taken t.asked) → (e : TaskEnd) → slice_get (table_of closed.history).tasks o.own.number ≡ Some e → e.spent + e.rest ≡ t.last.held
   rests n t there o k over number birth children e here =
       let balance = balance_closed job credit (length buffer) (root_start credit buffer) (RunsOrNot programs) report closed k o over e here in
@@ -142,8 +142,8 @@ module _ (programs : List Program) (job credit : ℕ) (buffer : List ℕ) (repor
           program = ap (λ (x : TaskEnd). x.program) (sym same) ∙ tells.2.program ∙ ap (λ b. b.program) birth;
           arg = ap (λ (x : TaskEnd). x.arg) (sym same) ∙ tells.2.arg ∙ ap (λ b. b.arg) birth;
           given = ap (λ (x : TaskEnd). x.given) (sym same) ∙ tells.2.given ∙ ap (λ b. b.share) birth;
-          spent = e.spent ∙ ap (λ (p : Piece). p.spent) piece;
-          r0 = e.r0 ∙ ap (λ (p : Piece). p.r0) piece;
+          spent = e.spent ∙ ap (λ (p : TaskRemains). p.spent) piece;
+          r0 = e.r0 ∙ ap (λ (p : TaskRemains). p.r0) piece;
           rest = rests n t there o.0 c.0 at o.2 o.3 o.5 e.end e.there;
         },
       )
@@ -173,6 +173,6 @@ module _ (programs : List Program) (job credit : ℕ) (buffer : List ℕ) (repor
           a.all,
           closed.report_of.buffer ∙ closed.agrees.left (length buffer) ∙ a.buffer_is,
           closed.report_of.spent ∙ ap (sum_by (λ (e : TaskEnd). e.spent)) (sym closed.report_of.tasks) ∙ sums ∙ mapped_sum family.tasks
-              ∙ sym (sum_by-IsPermutation (λ (f : Finished). f.ending.spent) (map finished_of family.tasks) a.fs a.all),
+              ∙ sym (sum_by-IsPermutation (λ (f : Finished). f.ending.spent) (map finished_run family.tasks) a.fs a.all),
         );
   }

@@ -19,12 +19,12 @@ use Rattle.credit_book.proofs.Sound.{at_set, alive_from-work, alive_from-fresh, 
 use Rattle.credit_book.proofs.Histories.{table_of-push}
 use Rattle.credit_book.proofs.BufferLemmas.{buffer_from-push}
 use Rattle.task_register.specs.declared.seats.TaskStart.{TaskStart}
-use Rattle.task_register.specs.declared.seats.EndedTask.{EndedTask}
+use Rattle.task_register.specs.declared.seats.TaskResult.{TaskResult}
 use Rattle.task_register.specs.declared.seats.RegisterState.{RegisterState}
 use Rattle.task_register.specs.Rule.{children_in, with_start, with_end}
 use Rattle.task_register.proofs.Steps.{born_longer}
 use Rattle.job_answer.specs.Gathered.{numbers_to, laid_from}
-use Rattle.job_answer.specs.Agreement.{gone, alive_at, Tells, EndsSo, Balances, shares, AgreesWith, RegisterAgrees}
+use Rattle.job_answer.specs.Agreement.{ended_standing, alive_at, ReportsStart, EndsSo, Balances, shares, AgreesWith, RegisterAgrees}
 use Rattle.job_answer.proofs.Balancing.{no_end, balance_moved, balance_ended, balance_older, balance_newest}
 use Rattle.job_answer.proofs.Keyed.{one_if, zero_if, times_below, times_above}
 use mathlib.Core.Logic.{dite}
@@ -77,16 +77,16 @@ set_else (z ∷ zs) (suc i) (suc k) x y differs is = set_else zs i k x y (λ e. 
 
 -- ---- who is alive
 
-keep_set : (ss : List Standing) (p : ℕ) (s : Standing) → p < length ss → is_alive s.stage ≡ is_alive (get_or ss p gone).stage → (n : ℕ) →
+keep_set : (ss : List Standing) (p : ℕ) (s : Standing) → p < length ss → is_alive s.stage ≡ is_alive (get_or ss p ended_standing).stage → (n : ℕ) →
     alive_at (set ss p s) n ≡ alive_at ss n
 keep_set ss p s lt same n =
-    at_set (λ (x : Standing). as_one (is_alive x.stage) ≡ alive_at ss n) ss p n s gone lt
-    (λ e. ap as_one (same ∙ ap (λ k. is_alive (get_or ss k gone).stage) (sym e))) (λ ne. refl)
+    at_set (λ (x : Standing). as_one (is_alive x.stage) ≡ alive_at ss n) ss p n s ended_standing lt
+    (λ e. ap as_one (same ∙ ap (λ k. is_alive (get_or ss k ended_standing).stage) (sym e))) (λ ne. refl)
 
-end_set : (ss : List Standing) (m : ℕ) → m < length ss → is_alive (get_or ss m gone).stage ≡ true → (n : ℕ) →
-    as_one (m == n) + alive_at (set ss m gone) n ≡ alive_at ss n
+end_set : (ss : List Standing) (m : ℕ) → m < length ss → is_alive (get_or ss m ended_standing).stage ≡ true → (n : ℕ) →
+    as_one (m == n) + alive_at (set ss m ended_standing) n ≡ alive_at ss n
 end_set ss m lt alive n =
-    at_set (λ (x : Standing). as_one (m == n) + as_one (is_alive x.stage) ≡ alive_at ss n) ss m n gone gone lt
+    at_set (λ (x : Standing). as_one (m == n) + as_one (is_alive x.stage) ≡ alive_at ss n) ss m n ended_standing ended_standing lt
     (λ e. let one = one_if m n (sym e) in let here : alive_at ss n ≡ 1 = ap (λ k. alive_at ss k) e ∙ ap as_one alive in omega (arith, one, here))
     (λ ne. let other = zero_if m n (λ e. ne (sym e)) in omega (arith, other))
 
@@ -107,7 +107,7 @@ push_alive (x ∷ xs) s alive (suc n) = push_alive xs s alive n ∙ ap (λ k. al
 
 -- ---- a spawn
 
-tells_new : (n program arg share : ℕ) (b : TaskStart) → b.program ≡ program → b.arg ≡ arg → b.share ≡ share → Tells n b (new_task n program arg share)
+tells_new : (n program arg share : ℕ) (b : TaskStart) → b.program ≡ program → b.arg ≡ arg → b.share ≡ share → ReportsStart n b (new_task n program arg share)
 tells_new n program arg share b p a s = record { number = refl; program = sym p; arg = sym a; given = sym s }
 
 module _ (known : RegisterState) (t : TaskTable) (agrees : AgreesWith known t) where
@@ -138,7 +138,7 @@ module _ (known : RegisterState) (t : TaskTable) (agrees : AgreesWith known t) w
               let here : slice_get (t.tasks ++ new_task child program arg share ∷ []) n ≡ Some (new_task n program arg share) =
               ap (slice_get (t.tasks ++ new_task child program arg share ∷ [])) (sym place) ∙ last_is t.tasks (new_task child program arg share)
               ∙ ap (λ k. Some (new_task k program arg share)) at in
-              (new_task n program arg share, here, subst (λ x. Tells n x (new_task n program arg share)) is.1 (tells_new n program arg share b p a s))
+              (new_task n program arg share, here, subst (λ x. ReportsStart n x (new_task n program arg share)) is.1 (tells_new n program arg share b p a s))
         ];
         ended = λ k o there. let e = agrees.ended k o there in
             record { end = e.end; there = longer t.tasks (new_task child program arg share) e.end o.own.number e.there; spent = e.spent; r0 = e.r0; ran = e.ran };
@@ -158,11 +158,11 @@ module _ (known : RegisterState) (t : TaskTable) (agrees : AgreesWith known t) w
             let less : b.share < (standing_at t parent).held = (let lt = may.3 in omega (arith, lt, s)) in
             let task : TaskEnd = new_task child program arg share in
             let both : length t.tasks ≡ length t.standings = omega (arith, long, paired) in
-            subst (λ k. Balances c.share (shares (children_in n (known.starts ++ b ∷ []))) (get_or (set t.standings parent (record { held = (standing_at t parent).held - k; stage = (standing_at t parent).stage }) ++ record { held = k; stage = Fresh } ∷ []) n gone) (get_or (t.tasks ++ task ∷ []) n no_end)) s
+            subst (λ k. Balances c.share (shares (children_in n (known.starts ++ b ∷ []))) (get_or (set t.standings parent (record { held = (standing_at t parent).held - k; stage = (standing_at t parent).stage }) ++ record { held = k; stage = Fresh } ∷ []) n ended_standing) (get_or (t.tasks ++ task ∷ []) n no_end)) s
             (elim (end_cases known.starts b c n there) [
               | inl was ↦ balance_older t.standings t.tasks both known.starts paired b parent task inside by alive less n c.share
                   (slice_get_within known.starts n c was) (agrees.balanced n c was)
-              | inr is ↦ subst (λ x. Balances x.share (shares (children_in n (known.starts ++ b ∷ []))) (get_or (set t.standings parent (record { held = (standing_at t parent).held - b.share; stage = (standing_at t parent).stage }) ++ record { held = b.share; stage = Fresh } ∷ []) n gone) (get_or (t.tasks ++ task ∷ []) n no_end)) is.1
+              | inr is ↦ subst (λ x. Balances x.share (shares (children_in n (known.starts ++ b ∷ []))) (get_or (set t.standings parent (record { held = (standing_at t parent).held - b.share; stage = (standing_at t parent).stage }) ++ record { held = b.share; stage = Fresh } ∷ []) n ended_standing) (get_or (t.tasks ++ task ∷ []) n no_end)) is.1
                   (balance_newest t.standings t.tasks both known.starts paired b parent task inside by alive less n is.0 agrees.older (get_or (t.tasks ++ task ∷ []) n no_end))
             ]);
         older = λ k c there.
@@ -200,7 +200,7 @@ module _ (known : RegisterState) (t : TaskTable) (agrees : AgreesWith known t) w
 
   -- ---- an end
 
-  pub agrees_end : (o : EndedTask) → May t (End o.own.number o.used o.r0 o.ran o.base o.bytes) →
+  pub agrees_end : (o : TaskResult) → May t (End o.own.number o.used o.r0 o.ran o.base o.bytes) →
       AgreesWith (with_end known o) (after t (End o.own.number o.used o.r0 o.ran o.base o.bytes))
   agrees_end o may =
       let n : ℕ = o.own.number in
@@ -209,13 +209,13 @@ module _ (known : RegisterState) (t : TaskTable) (agrees : AgreesWith known t) w
       let long = agrees.long in
       let paired = agrees.paired in
       let new : TaskEnd = record (task_at t n) { spent = o.used; rest = (standing_at t n).held - o.used; r0 = o.r0; ran = o.ran } in
-      let counted_more : (m : ℕ) → count_by (λ (x : EndedTask). x.own.number == m) (known.over ++ o ∷ []) ≡ count_by (λ (x : EndedTask). x.own.number == m) known.over + as_one (n == m) =
-      λ m. sum_by-append (λ (x : EndedTask). as_one (x.own.number == m)) known.over (o ∷ []) ∙ omega (arith, sum_by-cons (λ (x : EndedTask). as_one (x.own.number == m)) o []) in
+      let counted_more : (m : ℕ) → count_by (λ (x : TaskResult). x.own.number == m) (known.over ++ o ∷ []) ≡ count_by (λ (x : TaskResult). x.own.number == m) known.over + as_one (n == m) =
+      λ m. sum_by-append (λ (x : TaskResult). as_one (x.own.number == m)) known.over (o ∷ []) ∙ omega (arith, sum_by-cons (λ (x : TaskResult). as_one (x.own.number == m)) o []) in
       record {
         long = length-set t.tasks n new ∙ long;
-        paired = length-set t.standings n gone ∙ paired;
+        paired = length-set t.standings n ended_standing ∙ paired;
         told = λ m b there. let old = agrees.told m b there in
-            by_number (λ k. k ≡ m → (e : TaskEnd) × (slice_get (set t.tasks n new) m ≡ Some e) × Tells m b e) n m
+            by_number (λ k. k ≡ m → (e : TaskEnd) × (slice_get (set t.tasks n new) m ≡ Some e) × ReportsStart m b e) n m
             (λ e.
             let same : task_at t n ≡ old.0 = ap (λ k. task_at t k) e ∙ get_or_from_slice_get t.tasks m old.0 _ old.1 in
             let at : slice_get (set t.tasks n new) m ≡ Some new = ap (slice_get (set t.tasks n new)) (sym e) ∙ set_here t.tasks n new (omega (arith, inside, long, paired)) in
@@ -250,15 +250,15 @@ module _ (known : RegisterState) (t : TaskTable) (agrees : AgreesWith known t) w
         older = agrees.older;
       }
     where
-      some_count : (os : List EndedTask) (k m : ℕ) (p : EndedTask) → slice_get os k ≡ Some p → p.own.number ≡ m → 1 ≤ count_by (λ (x : EndedTask). x.own.number == m) os
+      some_count : (os : List TaskResult) (k m : ℕ) (p : TaskResult) → slice_get os k ≡ Some p → p.own.number ≡ m → 1 ≤ count_by (λ (x : TaskResult). x.own.number == m) os
       some_count [] k m p there e = absurd (nothing k p there)
       some_count (x ∷ xs) zero m p there e =
           let same : x ≡ p = some_one x p there in
-          let one = one_if x.own.number m (ap (λ (y : EndedTask). y.own.number) same ∙ e) in
-          omega (arith, sum_by-cons (λ (y : EndedTask). as_one (y.own.number == m)) x xs, one)
+          let one = one_if x.own.number m (ap (λ (y : TaskResult). y.own.number) same ∙ e) in
+          omega (arith, sum_by-cons (λ (y : TaskResult). as_one (y.own.number == m)) x xs, one)
       some_count (x ∷ xs) (suc k) m p there e =
           let ih = some_count xs k m p there e in
-          omega (arith, sum_by-cons (λ (y : EndedTask). as_one (y.own.number == m)) x xs, ih)
+          omega (arith, sum_by-cons (λ (y : TaskResult). as_one (y.own.number == m)) x xs, ih)
 
       at_most_one : (n m : ℕ) → count_by (λ (k : ℕ). k == n) (numbers_to m) ≤ 1
       at_most_one n m = by_bound (dite (dec_lt n m) (λ lt. inl lt) (λ ge. inr ge))
@@ -267,7 +267,7 @@ module _ (known : RegisterState) (t : TaskTable) (agrees : AgreesWith known t) w
           by_bound (inl lt) = let one = times_below n m lt in omega (arith, one)
           by_bound (inr ge) = let none = times_above n m (omega (arith, ge)) in omega (arith, none)
 
-      twice : (k : ℕ) (p : EndedTask) → slice_get known.over k ≡ Some p → p.own.number ≡ o.own.number → is_alive (standing_at t o.own.number).stage ≡ true → ⊥
+      twice : (k : ℕ) (p : TaskResult) → slice_get known.over k ≡ Some p → p.own.number ≡ o.own.number → is_alive (standing_at t o.own.number).stage ≡ true → ⊥
       twice k p was same alive =
           let some = some_count known.over k o.own.number p was same in
           let counted = agrees.counted o.own.number in
@@ -277,11 +277,11 @@ module _ (known : RegisterState) (t : TaskTable) (agrees : AgreesWith known t) w
 
   -- ---- once no task is alive
 
-  pub over_once : IsComplete t → (n : ℕ) → count_by (λ (o : EndedTask). o.own.number == n) known.over ≡ count_by (λ (k : ℕ). k == n) (numbers_to (length known.starts))
+  pub over_once : IsComplete t → (n : ℕ) → count_by (λ (o : TaskResult). o.own.number == n) known.over ≡ count_by (λ (k : ℕ). k == n) (numbers_to (length known.starts))
   over_once complete n = by_stage (is_alive (standing_at t n).stage) refl
     where
       by_stage : (b : Bool) → is_alive (standing_at t n).stage ≡ b →
-          count_by (λ (o : EndedTask). o.own.number == n) known.over ≡ count_by (λ (k : ℕ). k == n) (numbers_to (length known.starts))
+          count_by (λ (o : TaskResult). o.own.number == n) known.over ≡ count_by (λ (k : ℕ). k == n) (numbers_to (length known.starts))
       by_stage true e = absurd (complete n e)
       by_stage false e =
           let counted = agrees.counted n in
@@ -290,7 +290,7 @@ module _ (known : RegisterState) (t : TaskTable) (agrees : AgreesWith known t) w
 
 -- ---- the buffer
 
-laid_push : (memory : List ℕ) (os : List EndedTask) (o : EndedTask) → laid_from memory (os ++ o ∷ []) ≡ take (length (laid_from memory os)) (written (laid_from memory os) o.base o.bytes)
+laid_push : (memory : List ℕ) (os : List TaskResult) (o : TaskResult) → laid_from memory (os ++ o ∷ []) ≡ take (length (laid_from memory os)) (written (laid_from memory os) o.base o.bytes)
 laid_push memory [] o = refl
 laid_push memory (x ∷ xs) o = laid_push (take (length memory) (written memory x.base x.bytes)) xs o
 
@@ -316,7 +316,7 @@ module _ (known : RegisterState) (history : List Event) (desk : RegisterAgrees k
   pub desk_claim : (n : ℕ) → is_alive (standing_at (table_of history) n).stage ≡ true → RegisterAgrees known (history ++ Claim n ∷ [])
   desk_claim n alive = quiet (Claim n) known refl (λ buffer. refl) (agrees_claim known (table_of history) desk.table n _ alive)
 
-  pub desk_end : (o : EndedTask) → May (table_of history) (End o.own.number o.used o.r0 o.ran o.base o.bytes) →
+  pub desk_end : (o : TaskResult) → May (table_of history) (End o.own.number o.used o.r0 o.ran o.base o.bytes) →
       RegisterAgrees (with_end known o) (history ++ End o.own.number o.used o.r0 o.ran o.base o.bytes ∷ [])
   desk_end o may =
       let e : Event = End o.own.number o.used o.r0 o.ran o.base o.bytes in
@@ -327,6 +327,6 @@ module _ (known : RegisterState) (history : List Event) (desk : RegisterAgrees k
             ∙ sym (laid_push (replicate size 0) known.over o);
       }
 
-  pub desk_once : IsComplete (table_of history) → (n : ℕ) → count_by (λ (o : EndedTask). o.own.number == n) known.over
+  pub desk_once : IsComplete (table_of history) → (n : ℕ) → count_by (λ (o : TaskResult). o.own.number == n) known.over
       ≡ count_by (λ (k : ℕ). k == n) (numbers_to (length known.starts))
   desk_once complete = over_once known (table_of history) desk.table complete

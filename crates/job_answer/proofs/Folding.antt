@@ -16,7 +16,7 @@ use Rattle.task_trees.specs.Eval.{Finished, Eval, ChildrenCome, SoloThenChildren
 use Rattle.task_trees.specs.Answer.{RootComes}
 use Rattle.task_trees.specs.Families.{children_of}
 use Rattle.task_trees.proofs.EvalBySolo.{eval_of_solo}
-use Rattle.job_answer.specs.SpawnTree.{TaskRun, task_of, finished_of, if_taken, taken, IsChildOf, IsSpawnTree, NoneRefused}
+use Rattle.job_answer.specs.SpawnTree.{TaskRun, task_at_start, finished_run, if_taken, taken, IsChildOf, IsSpawnTree, NoneRefused}
 
 -- ---- counting
 
@@ -86,45 +86,45 @@ all_taken (a ∷ later) none =
 
 abbrev collect : (ℕ → List Finished) → ℕ → List TaskRun → List Finished
 collect done i [] = []
-collect done i (t ∷ ts) = (done i ++ finished_of t ∷ []) ++ collect done (suc i) ts
+collect done i (t ∷ ts) = (done i ++ finished_run t ∷ []) ++ collect done (suc i) ts
 
-collect_none : (i : ℕ) (ts : List TaskRun) → collect (λ n. []) i ts ≡ map finished_of ts
+collect_none : (i : ℕ) (ts : List TaskRun) → collect (λ n. []) i ts ≡ map finished_run ts
 collect_none i [] = refl
-collect_none i (t ∷ ts) = ap (λ l. finished_of t ∷ l) (collect_none (suc i) ts)
+collect_none i (t ∷ ts) = ap (λ l. finished_run t ∷ l) (collect_none (suc i) ts)
 
 collect_last : (done : ℕ → List Finished) (i : ℕ) (ts : List TaskRun) (t : TaskRun) →
-    collect done i (ts ++ t ∷ []) ≡ collect done i ts ++ (done (i + length ts) ++ finished_of t ∷ [])
+    collect done i (ts ++ t ∷ []) ≡ collect done i ts ++ (done (i + length ts) ++ finished_run t ∷ [])
 collect_last done i [] t =
     let at : i + 0 ≡ i = omega arith in
-    append-nil (done i ++ finished_of t ∷ []) ∙ ap (λ n. done n ++ finished_of t ∷ []) (sym at)
+    append-nil (done i ++ finished_run t ∷ []) ∙ ap (λ n. done n ++ finished_run t ∷ []) (sym at)
 collect_last done i (u ∷ ts) t =
     let at : suc i + length ts ≡ i + suc (length ts) = omega arith in
-    ap (λ l. (done i ++ finished_of u ∷ []) ++ l) (collect_last done (suc i) ts t
-    ∙ ap (λ n. collect done (suc i) ts ++ (done n ++ finished_of t ∷ [])) at)
-    ∙ sym (append_assoc (done i ++ finished_of u ∷ []) (collect done (suc i) ts) (done (i + suc (length ts)) ++ finished_of t ∷ []))
+    ap (λ l. (done i ++ finished_run u ∷ []) ++ l) (collect_last done (suc i) ts t
+    ∙ ap (λ n. collect done (suc i) ts ++ (done n ++ finished_run t ∷ [])) at)
+    ∙ sym (append_assoc (done i ++ finished_run u ∷ []) (collect done (suc i) ts) (done (i + suc (length ts)) ++ finished_run t ∷ []))
 
 collect_same : (done done' : ℕ → List Finished) (i : ℕ) (ts : List TaskRun) → ((n : ℕ) → i ≤ n → done n ≡ done' n) →
     collect done i ts ≡ collect done' i ts
 collect_same done done' i [] same = refl
 collect_same done done' i (t ∷ ts) same =
-    ap (λ l. (l ++ finished_of t ∷ []) ++ collect done (suc i) ts) (same i (omega arith))
-    ∙ ap (λ l. (done' i ++ finished_of t ∷ []) ++ l) (collect_same done done' (suc i) ts (λ n le. same n (omega (arith, le))))
+    ap (λ l. (l ++ finished_run t ∷ []) ++ collect done (suc i) ts) (same i (omega arith))
+    ∙ ap (λ l. (done' i ++ finished_run t ∷ []) ++ l) (collect_same done done' (suc i) ts (λ n le. same n (omega (arith, le))))
 
 module _ (done done' : ℕ → List Finished) (p : ℕ) (xs : List Finished) (there : done' p ≡ xs ++ done p)
     (others : (n : ℕ) → n ≢ p → done' n ≡ done n) where
   here_added : (i : ℕ) (t : TaskRun) (ts : List TaskRun) → i ≡ p →
-      IsPermutation (((done i ++ finished_of t ∷ []) ++ collect done (suc i) ts) ++ xs) ((done' i ++ finished_of t ∷ []) ++ collect done' (suc i) ts)
+      IsPermutation (((done i ++ finished_run t ∷ []) ++ collect done (suc i) ts) ++ xs) ((done' i ++ finished_run t ∷ []) ++ collect done' (suc i) ts)
   here_added i t ts is =
-      let own : List Finished = done i ++ finished_of t ∷ [] in
+      let own : List Finished = done i ++ finished_run t ∷ [] in
       let rest : List Finished = collect done (suc i) ts in
       let same : collect done' (suc i) ts ≡ rest =
       collect_same done' done (suc i) ts (λ n le. others n (λ e. let bad : ⊥ = omega (arith, le, e, is) in bad)) in
       let now : done' i ≡ xs ++ done i = ap done' is ∙ there ∙ ap (λ n. xs ++ done n) (sym is) in
-      let right : xs ++ (own ++ rest) ≡ (done' i ++ finished_of t ∷ []) ++ collect done' (suc i) ts =
+      let right : xs ++ (own ++ rest) ≡ (done' i ++ finished_run t ∷ []) ++ collect done' (suc i) ts =
       sym (append_assoc xs own rest)
-      ∙ ap (λ l. l ++ rest) (sym (append_assoc xs (done i) (finished_of t ∷ [])))
-      ∙ ap (λ l. (l ++ finished_of t ∷ []) ++ rest) (sym now)
-      ∙ ap (λ l. (done' i ++ finished_of t ∷ []) ++ l) (sym same) in
+      ∙ ap (λ l. l ++ rest) (sym (append_assoc xs (done i) (finished_run t ∷ [])))
+      ∙ ap (λ l. (l ++ finished_run t ∷ []) ++ rest) (sym now)
+      ∙ ap (λ l. (done' i ++ finished_run t ∷ []) ++ l) (sym same) in
       subst (λ l. IsPermutation ((own ++ rest) ++ xs) l) right (IsPermutation-append_comm (own ++ rest) xs)
 
   added : (i : ℕ) (ts : List TaskRun) → i ≤ p → p < i + length ts → IsPermutation (collect done i ts ++ xs) (collect done' i ts)
@@ -133,12 +133,12 @@ module _ (done done' : ℕ → List Finished) (p : ℕ) (xs : List Finished) (th
       by_number (λ n. n ≤ p → n ≡ i → IsPermutation (collect done i (t ∷ ts) ++ xs) (collect done' i (t ∷ ts))) p i
       (λ le e. here_added i t ts (sym e))
       (λ ne le e.
-      let own : List Finished = done i ++ finished_of t ∷ [] in
+      let own : List Finished = done i ++ finished_run t ∷ [] in
       let ih = added (suc i) ts (below ne low) (omega (arith, high)) in
       let left : own ++ (collect done (suc i) ts ++ xs) ≡ (own ++ collect done (suc i) ts) ++ xs = sym (append_assoc own (collect done (suc i) ts) xs) in
-      let right : own ++ collect done' (suc i) ts ≡ (done' i ++ finished_of t ∷ []) ++ collect done' (suc i) ts =
-      ap (λ l. (l ++ finished_of t ∷ []) ++ collect done' (suc i) ts) (sym (others i ne)) in
-      subst (λ l. IsPermutation l ((done' i ++ finished_of t ∷ []) ++ collect done' (suc i) ts)) left
+      let right : own ++ collect done' (suc i) ts ≡ (done' i ++ finished_run t ∷ []) ++ collect done' (suc i) ts =
+      ap (λ l. (l ++ finished_run t ∷ []) ++ collect done' (suc i) ts) (sym (others i ne)) in
+      subst (λ l. IsPermutation l ((done' i ++ finished_run t ∷ []) ++ collect done' (suc i) ts)) left
       (subst (λ l. IsPermutation (own ++ (collect done (suc i) ts ++ xs)) l) right
       (IsPermutation-append_right own (collect done (suc i) ts ++ xs) (collect done' (suc i) ts) ih)))
       low refl
@@ -157,8 +157,8 @@ module _ (programs : List Program) (credit : ℕ) (buffer : List ℕ) (parents :
   -- The tasks past number k are folded into their parents: `done` has what came of them.
   record Stage (k : ℕ) (done : ℕ → List Finished) : Type 0 where
     pub comes : (i : ℕ) (t : TaskRun) → i ≤ k → slice_get tasks i ≡ Some t →
-        ChildrenCome programs (task_of t) (suc (born k i)) (drop (born k i) t.asked) (done i)
-    pub order : IsPermutation (map finished_of tasks) (collect done 0 (take (suc k) tasks))
+        ChildrenCome programs (task_at_start t) (suc (born k i)) (drop (born k i) t.asked) (done i)
+    pub order : IsPermutation (map finished_run tasks) (collect done 0 (take (suc k) tasks))
 
   record Staged (k : ℕ) : Type 0 where
     pub done : ℕ → List Finished
@@ -168,9 +168,9 @@ module _ (programs : List Program) (credit : ℕ) (buffer : List ℕ) (parents :
   all_given i t there = all_taken t.asked (λ k a asked. none i k t a there asked)
 
   -- all children of a task that asked for no more
-  over : (t : TaskRun) (n : ℕ) → length t.asked ≡ n → ChildrenCome programs (task_of t) (suc n) (drop n t.asked) []
+  over : (t : TaskRun) (n : ℕ) → length t.asked ≡ n → ChildrenCome programs (task_at_start t) (suc n) (drop n t.asked) []
   over t n long =
-      subst (λ l. ChildrenCome programs (task_of t) (suc n) l []) (sym (drop_all n t.asked (omega (arith, long)))) refl
+      subst (λ l. ChildrenCome programs (task_at_start t) (suc n) l []) (sym (drop_all n t.asked (omega (arith, long)))) refl
 
   all_there : Staged (length parents)
   all_there =
@@ -180,20 +180,20 @@ module _ (programs : List Program) (credit : ℕ) (buffer : List ℕ) (parents :
         done = λ n. [];
         stage = record {
           comes = λ i t le there. over t (born (length parents) i) (ap length (sym (all_given i t there)) ∙ family.all i t there ∙ ap (children_of i) (sym whole));
-          order = subst (λ l. IsPermutation (map finished_of tasks) l)
-              (sym (collect_none 0 (take (suc (length parents)) tasks) ∙ ap (map finished_of) every))
-              (IsPermutation-refl (map finished_of tasks));
+          order = subst (λ l. IsPermutation (map finished_run tasks) l)
+              (sym (collect_none 0 (take (suc (length parents)) tasks) ∙ ap (map finished_run) every))
+              (IsPermutation-refl (map finished_run tasks));
         };
       }
 
   -- a task whose children are all folded into it
   whole_task : (k : ℕ) (done : ℕ → List Finished) (t : TaskRun) → slice_get tasks k ≡ Some t → Stage k done → born k k ≡ 0 →
-      Eval programs (task_of t) t.birth.bytes (done k ++ finished_of t ∷ [])
+      Eval programs (task_at_start t) t.birth.bytes (done k ++ finished_run t ∷ [])
   whole_task k done t there stage childless =
       let r = family.ran k t there in
-      let come : ChildrenCome programs (task_of t) 1 t.asked (done k) =
-      subst (λ n. ChildrenCome programs (task_of t) (suc n) (drop n t.asked) (done k)) childless (stage.comes k t (omega arith) there) in
-      let s : SoloThenChildren programs (task_of t) t.birth.bytes (done k ++ finished_of t ∷ []) = record {
+      let come : ChildrenCome programs (task_at_start t) 1 t.asked (done k) =
+      subst (λ n. ChildrenCome programs (task_at_start t) (suc n) (drop n t.asked) (done k)) childless (stage.comes k t (omega arith) there) in
+      let s : SoloThenChildren programs (task_at_start t) t.birth.bytes (done k ++ finished_run t ∷ []) = record {
         program = r.program;
         there = r.there;
         asked = t.asked;
@@ -204,7 +204,7 @@ module _ (programs : List Program) (credit : ℕ) (buffer : List ℕ) (parents :
         come = come;
         is = refl;
       } in
-      eval_of_solo programs (task_of t) t.birth.bytes (done k ++ finished_of t ∷ []) refl s
+      eval_of_solo programs (task_at_start t) t.birth.bytes (done k ++ finished_run t ∷ []) refl s
 
   -- none of the tasks up to number k is the child of a later one
   childless : (k i : ℕ) → k ≤ i → born k i ≡ 0
@@ -214,14 +214,14 @@ module _ (programs : List Program) (credit : ℕ) (buffer : List ℕ) (parents :
       omega (arith, le, is, lt, old))
 
   -- a child as its parent asked for it
-  as_asked : (q t : TaskRun) (before : ℕ) (child : IsChildOf before q t) → task_of t ≡ child_at (task_of q) (suc before) child.request
+  as_asked : (q t : TaskRun) (before : ℕ) (child : IsChildOf before q t) → task_at_start t ≡ child_at (task_at_start q) (suc before) child.request
   as_asked q t before child =
       let birth = child.birth in let place = child.place in let base = child.base in cc
 
   module _ (k : ℕ) (p : ℕ) (t q : TaskRun) (parent : slice_get parents k ≡ Some p) (there : slice_get tasks (suc k) ≡ Some t)
       (above : slice_get tasks p ≡ Some q) (done : ℕ → List Finished) (stage : Stage (suc k) done) where
     abbrev own : List Finished
-    own = done (suc k) ++ finished_of t ∷ []
+    own = done (suc k) ++ finished_run t ∷ []
 
     abbrev next_done : ℕ → List Finished
     next_done n = cond (n == p) (own ++ done n) (done n)
@@ -238,37 +238,37 @@ module _ (programs : List Program) (credit : ℕ) (buffer : List ℕ) (parents :
     one_earlier = take_next parents k p parent
 
     -- the parent, with this child ahead of the later ones
-    with_child : ChildrenCome programs (task_of q) (suc (born k p)) (drop (born k p) q.asked) (own ++ done p)
+    with_child : ChildrenCome programs (task_at_start q) (suc (born k p)) (drop (born k p) q.asked) (own ++ done p)
     with_child =
         let child = family.each k p t q parent there above in
         let asked_so : slice_get q.asked (born k p) ≡ Some child.request = ap (λ (l : List SpawnRequest). slice_get l (born k p)) (sym (all_given p q above)) ∙ child.asked in
         let older = family.older k p parent in
         let more : born (suc k) p ≡ suc (born k p) = ap (children_of p) one_earlier ∙ one_more p (take k parents) in
-        let later : ChildrenCome programs (task_of q) (suc (suc (born k p))) (drop (suc (born k p)) q.asked) (done p) =
-        subst (λ n. ChildrenCome programs (task_of q) (suc n) (drop n q.asked) (done p)) more (stage.comes p q (omega (arith, older)) above) in
-        let alone : Eval programs (task_of t) t.birth.bytes own = whole_task (suc k) done t there stage (childless (suc k) (suc k) (omega arith)) in
-        let asked : Eval programs (child_at (task_of q) (suc (born k p)) child.request) t.birth.bytes own =
+        let later : ChildrenCome programs (task_at_start q) (suc (suc (born k p))) (drop (suc (born k p)) q.asked) (done p) =
+        subst (λ n. ChildrenCome programs (task_at_start q) (suc n) (drop n q.asked) (done p)) more (stage.comes p q (omega (arith, older)) above) in
+        let alone : Eval programs (task_at_start t) t.birth.bytes own = whole_task (suc k) done t there stage (childless (suc k) (suc k) (omega arith)) in
+        let asked : Eval programs (child_at (task_at_start q) (suc (born k p)) child.request) t.birth.bytes own =
         subst (λ (u : Task). Eval programs u t.birth.bytes own) (as_asked q t (born k p) child) alone in
-        let whole : Eval programs (child_at (task_of q) (suc (born k p)) child.request) child.request.birth.bytes own =
-        subst (λ (b : Birth). Eval programs (child_at (task_of q) (suc (born k p)) child.request) b.bytes own) child.birth asked in
-        subst (λ l. ChildrenCome programs (task_of q) (suc (born k p)) l (own ++ done p)) (sym (drop_here q.asked (born k p) child.request asked_so))
+        let whole : Eval programs (child_at (task_at_start q) (suc (born k p)) child.request) child.request.birth.bytes own =
+        subst (λ (b : Birth). Eval programs (child_at (task_at_start q) (suc (born k p)) child.request) b.bytes own) child.birth asked in
+        subst (λ l. ChildrenCome programs (task_at_start q) (suc (born k p)) l (own ++ done p)) (sym (drop_here q.asked (born k p) child.request asked_so))
         (own, done p, none p (born k p) q child.request above asked_so, whole, later, refl)
 
     next_comes : (i : ℕ) (u : TaskRun) → i ≤ k → slice_get tasks i ≡ Some u →
-        ChildrenCome programs (task_of u) (suc (born k i)) (drop (born k i) u.asked) (next_done i)
+        ChildrenCome programs (task_at_start u) (suc (born k i)) (drop (born k i) u.asked) (next_done i)
     next_comes i u le here =
-        by_number (λ n. n ≡ i → ChildrenCome programs (task_of u) (suc (born k i)) (drop (born k i) u.asked) (next_done i)) p i
-        (λ e. subst (λ l. ChildrenCome programs (task_of u) (suc (born k i)) (drop (born k i) u.asked) l) (sym (by_same i (i == p) refl (sym e)))
-        (subst (λ n. slice_get tasks n ≡ Some u → ChildrenCome programs (task_of u) (suc (born k n)) (drop (born k n) u.asked) (own ++ done n)) e
-        (λ there_p. subst (λ (x : TaskRun). ChildrenCome programs (task_of x) (suc (born k p)) (drop (born k p) x.asked) (own ++ done p))
+        by_number (λ n. n ≡ i → ChildrenCome programs (task_at_start u) (suc (born k i)) (drop (born k i) u.asked) (next_done i)) p i
+        (λ e. subst (λ l. ChildrenCome programs (task_at_start u) (suc (born k i)) (drop (born k i) u.asked) l) (sym (by_same i (i == p) refl (sym e)))
+        (subst (λ n. slice_get tasks n ≡ Some u → ChildrenCome programs (task_at_start u) (suc (born k n)) (drop (born k n) u.asked) (own ++ done n)) e
+        (λ there_p. subst (λ (x : TaskRun). ChildrenCome programs (task_at_start x) (suc (born k p)) (drop (born k p) x.asked) (own ++ done p))
         (one_some (slice_get tasks p) q u above there_p) with_child) here))
-        (λ ne e. subst (λ l. ChildrenCome programs (task_of u) (suc (born k i)) (drop (born k i) u.asked) l) (sym (by_other i (i == p) refl ne))
-        (subst (λ n. ChildrenCome programs (task_of u) (suc n) (drop n u.asked) (done i))
+        (λ ne e. subst (λ l. ChildrenCome programs (task_at_start u) (suc (born k i)) (drop (born k i) u.asked) l) (sym (by_other i (i == p) refl ne))
+        (subst (λ n. ChildrenCome programs (task_at_start u) (suc n) (drop n u.asked) (done i))
         (ap (children_of i) one_earlier ∙ no_more i p (take k parents) (λ x. ne (sym x)))
         (stage.comes i u (omega (arith, le)) here)))
         refl
 
-    next_order : IsPermutation (map finished_of tasks) (collect next_done 0 (take (suc k) tasks))
+    next_order : IsPermutation (map finished_run tasks) (collect next_done 0 (take (suc k) tasks))
     next_order =
         let older = family.older k p parent in
         let within = slice_get_within tasks (suc k) t there in
@@ -276,9 +276,9 @@ module _ (programs : List Program) (credit : ℕ) (buffer : List ℕ) (parents :
         let at : 0 + length (take (suc k) tasks) ≡ suc k = omega (arith, long) in
         let last : collect done 0 (take (suc (suc k)) tasks) ≡ collect done 0 (take (suc k) tasks) ++ own =
         ap (collect done 0) (take_next tasks (suc k) t there) ∙ collect_last done 0 (take (suc k) tasks) t
-        ∙ ap (λ n. collect done 0 (take (suc k) tasks) ++ (done n ++ finished_of t ∷ [])) at in
-        IsPermutation-trans (map finished_of tasks) (collect done 0 (take (suc k) tasks) ++ own) (collect next_done 0 (take (suc k) tasks))
-        (subst (λ l. IsPermutation (map finished_of tasks) l) last stage.order)
+        ∙ ap (λ n. collect done 0 (take (suc k) tasks) ++ (done n ++ finished_run t ∷ [])) at in
+        IsPermutation-trans (map finished_run tasks) (collect done 0 (take (suc k) tasks) ++ own) (collect next_done 0 (take (suc k) tasks))
+        (subst (λ l. IsPermutation (map finished_run tasks) l) last stage.order)
         (added done next_done p own (by_same p (p == p) refl refl) (λ n ne. by_other n (n == p) refl ne) 0 (take (suc k) tasks)
         (omega arith) (omega (arith, older, long)))
 
@@ -303,25 +303,25 @@ module _ (programs : List Program) (credit : ℕ) (buffer : List ℕ) (parents :
   staged zero k is = let same : length parents ≡ k = omega (arith, is) in subst (λ n. Staged n) same all_there
   staged (suc d) k is = down k (omega (arith, is)) (staged d (suc k) (omega (arith, is)))
 
-  root_is : (t : TaskRun) → slice_get tasks 0 ≡ Some t → task_of t ≡ root credit buffer
+  root_is : (t : TaskRun) → slice_get tasks 0 ≡ Some t → task_at_start t ≡ root credit buffer
   root_is t there =
       let top = family.top t there in
       let birth = top.0 in let place = top.1 in let base = top.2 in cc
 
   from_root : Staged 0 → (t : TaskRun) → slice_get tasks 0 ≡ Some t →
-      (fs : List Finished) × RootComes programs credit buffer fs × IsPermutation (map finished_of tasks) fs
+      (fs : List Finished) × RootComes programs credit buffer fs × IsPermutation (map finished_run tasks) fs
   from_root s t there =
-      let fs : List Finished = s.done 0 ++ finished_of t ∷ [] in
-      let alone : Eval programs (task_of t) t.birth.bytes fs = whole_task 0 s.done t there s.stage (childless 0 0 (omega arith)) in
+      let fs : List Finished = s.done 0 ++ finished_run t ∷ [] in
+      let alone : Eval programs (task_at_start t) t.birth.bytes fs = whole_task 0 s.done t there s.stage (childless 0 0 (omega arith)) in
       let bytes : t.birth.bytes ≡ buffer = ap (λ (b : Birth). b.bytes) (family.top t there).0 in
       let one : collect s.done 0 (take 1 tasks) ≡ fs = ap (collect s.done 0) (take_next tasks 0 t there) ∙ append-nil fs in (
         fs,
         subst (λ (l : List ℕ). Eval programs (root credit buffer) l fs) bytes
             (subst (λ (u : Task). Eval programs u t.birth.bytes fs) (root_is t there) alone),
-        subst (λ l. IsPermutation (map finished_of tasks) l) one s.stage.order,
+        subst (λ l. IsPermutation (map finished_run tasks) l) one s.stage.order,
       )
 
-  pub family_comes : (fs : List Finished) × RootComes programs credit buffer fs × IsPermutation (map finished_of tasks) fs
+  pub family_comes : (fs : List Finished) × RootComes programs credit buffer fs × IsPermutation (map finished_run tasks) fs
   family_comes =
       let long = family.long in
       let t = element tasks 0 (omega (arith, long)) in

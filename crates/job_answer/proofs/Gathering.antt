@@ -16,11 +16,11 @@ use Rattle.task_trees.specs.Families.{children_of}
 use Rattle.std.proofs.lemmas.List.Sorted.{IsPermutation-map}
 use Rattle.std.proofs.lemmas.Simd.{map-map}
 use Rattle.task_register.specs.declared.seats.TaskStart.{TaskStart}
-use Rattle.task_register.specs.declared.seats.EndedTask.{EndedTask}
+use Rattle.task_register.specs.declared.seats.TaskResult.{TaskResult}
 use Rattle.task_register.specs.declared.seats.RegisterState.{RegisterState}
 use Rattle.task_register.specs.Rule.{IsTask, children_in}
-use Rattle.job_answer.specs.SpawnTree.{TaskRun, RanSo, IsChildOf, IsSpawnTree, finished_of, taken, root_birth}
-use Rattle.job_answer.specs.Gathered.{birth_of, handed, IsRun, root_start, numbers_to, IsGathered, parents_of, piece_of, left_of, GatheredTree}
+use Rattle.job_answer.specs.SpawnTree.{TaskRun, RanSo, IsChildOf, IsSpawnTree, finished_run, taken, root_birth}
+use Rattle.job_answer.specs.Gathered.{birth_at_start, handed, RanByItself, root_start, numbers_to, IsGathered, parents_of, remains_of, left_of, GatheredTree}
 use Rattle.job_answer.proofs.Keyed.{Each, count, find, found_key, found_all, split_at, in_order, each_of_all, times_below, times_above, get_numbered, long_numbers}
 
 nothing : {X : Type 0} (i : ℕ) (x : X) → slice_get [] i ≡ Some x → ⊥
@@ -170,31 +170,31 @@ module _ (programs : List Program) (credit : ℕ) (buffer : List ℕ) (known : R
 
   -- one that is over, with what is known of it
   record Ran : Type 0 where
-    pub over : EndedTask
-    pub is_run : IsRun programs over
+    pub over : TaskResult
+    pub is_run : RanByItself programs over
     pub is_task : IsTask starts over.own
 
   abbrev key : Ran → ℕ
   key r = r.over.own.number
 
-  rans_of : (os : List EndedTask) → Each (IsRun programs) os → Each (λ (o : EndedTask). IsTask starts o.own) os → List Ran
+  rans_of : (os : List TaskResult) → Each (RanByItself programs) os → Each (λ (o : TaskResult). IsTask starts o.own) os → List Ran
   rans_of [] a b = []
   rans_of (o ∷ os) a b = record { over = o; is_run = a.0; is_task = b.0 } ∷ rans_of os a.1 b.1
 
-  count_rans : (n : ℕ) (os : List EndedTask) (a : Each (IsRun programs) os) (b : Each (λ (o : EndedTask). IsTask starts o.own) os) →
-      count key n (rans_of os a b) ≡ count_by (λ (o : EndedTask). o.own.number == n) os
+  count_rans : (n : ℕ) (os : List TaskResult) (a : Each (RanByItself programs) os) (b : Each (λ (o : TaskResult). IsTask starts o.own) os) →
+      count key n (rans_of os a b) ≡ count_by (λ (o : TaskResult). o.own.number == n) os
   unfolding rans_of
   count_rans n [] a b = refl
   count_rans n (o ∷ os) a b =
       sum_by-cons (λ (r : Ran). as_one (key r == n)) (record { over = o; is_run = a.0; is_task = b.0 }) (rans_of os a.1 b.1)
       ∙ ap (λ m. as_one (o.own.number == n) + m) (count_rans n os a.1 b.1)
-      ∙ sym (sum_by-cons (λ (x : EndedTask). as_one (x.own.number == n)) o os)
+      ∙ sym (sum_by-cons (λ (x : TaskResult). as_one (x.own.number == n)) o os)
 
-  abbrev all_run : Each (IsRun programs) known.over
-  all_run = each_of_all (IsRun programs) known.over g.runs
+  abbrev all_run : Each (RanByItself programs) known.over
+  all_run = each_of_all (RanByItself programs) known.over g.runs
 
-  abbrev all_tasks : Each (λ (o : EndedTask). IsTask starts o.own) known.over
-  all_tasks = each_of_index (λ (o : EndedTask). IsTask starts o.own) known.over g.all.tasks
+  abbrev all_tasks : Each (λ (o : TaskResult). IsTask starts o.own) known.over
+  all_tasks = each_of_index (λ (o : TaskResult). IsTask starts o.own) known.over g.all.tasks
 
   rans : List Ran
   rans = rans_of known.over all_run all_tasks
@@ -217,7 +217,7 @@ module _ (programs : List Program) (credit : ℕ) (buffer : List ℕ) (known : R
 
   abbrev run_of : Ran → TaskRun
   run_of r = record {
-    birth = birth_of r.over.own.birth;
+    birth = birth_at_start r.over.own.birth;
     place = place parents older (key r);
     base = r.over.own.birth.base;
     asked = r.is_run.asked;
@@ -262,7 +262,7 @@ module _ (programs : List Program) (credit : ℕ) (buffer : List ℕ) (known : R
       let start : (ran_at 0).over.own.birth ≡ root_start credit buffer =
       one_some (slice_get starts 0) (ran_at 0).over.own.birth (root_start credit buffer) (birth_at 0 is.0) g.root in
       subst (λ (x : TaskRun). (x.birth ≡ root_birth credit buffer) × (x.place ≡ []) × (x.base ≡ 0)) is.1 (
-        ap birth_of start,
+        ap birth_at_start start,
         ap (place parents older) (keyed 0 is.0) ∙ place_root parents older,
         ap (λ (s : TaskStart). s.base) start,
       )
@@ -287,7 +287,7 @@ module _ (programs : List Program) (credit : ℕ) (buffer : List ℕ) (known : R
       subst (λ (x : TaskRun). IsChildOf before x t) at.1 (subst (λ (x : TaskRun). IsChildOf before (task_at p) x) is.1 (record {
         request = a.0;
         asked = a.1;
-        birth = ap birth_of (sym a.2);
+        birth = ap birth_at_start (sym a.2);
         place = ap (place parents older) (keyed (suc n) is.0) ∙ place_child parents older n p parent
             ∙ ap (λ k. place parents older k ++ suc before ∷ []) (sym (keyed p at.0));
         base = ap (λ (x : TaskStart). x.base) (sym a.2);
@@ -313,24 +313,24 @@ module _ (programs : List Program) (credit : ℕ) (buffer : List ℕ) (known : R
   }
 
   abbrev end_of : Ran → Finished
-  end_of r = finished_of (run_of r)
+  end_of r = finished_run (run_of r)
 
-  left_is : (r : Ran) → left_of (end_of r) ≡ piece_of r.over
+  left_is : (r : Ran) → left_of (end_of r) ≡ remains_of r.over
   left_is r =
       let used = r.is_run.used in let bytes = r.is_run.bytes in let base = r.is_run.base in cc
 
   pub ended : List Finished
   ended = map end_of rans
 
-  all_told : (os : List EndedTask) (a : Each (IsRun programs) os) (b : Each (λ (o : EndedTask). IsTask starts o.own) os) →
-      map left_of (map end_of (rans_of os a b)) ≡ map piece_of os
+  all_told : (os : List TaskResult) (a : Each (RanByItself programs) os) (b : Each (λ (o : TaskResult). IsTask starts o.own) os) →
+      map left_of (map end_of (rans_of os a b)) ≡ map remains_of os
   unfolding rans_of
   all_told [] a b = refl
   all_told (o ∷ os) a b =
       ap (λ x. x ∷ map left_of (map end_of (rans_of os a.1 b.1))) (left_is (record { over = o; is_run = a.0; is_task = b.0 }))
-      ∙ ap (λ l. piece_of o ∷ l) (all_told os a.1 b.1)
+      ∙ ap (λ l. remains_of o ∷ l) (all_told os a.1 b.1)
 
-  pub told : map left_of ended ≡ map piece_of known.over
+  pub told : map left_of ended ≡ map remains_of known.over
   unfolding ended rans
   told = all_told known.over all_run all_tasks
 
@@ -341,17 +341,17 @@ module _ (programs : List Program) (credit : ℕ) (buffer : List ℕ) (known : R
       by_bound (inl lt) = let one = one_each n lt in omega (arith, one)
       by_bound (inr ge) = let none = counts n in let zero_times = times_above n (length starts) (omega (arith, ge)) in omega (arith, none, zero_times)
 
-  pub in_numbers : IsPermutation ended (map finished_of tasks)
+  pub in_numbers : IsPermutation ended (map finished_run tasks)
   unfolding ended tasks
   in_numbers =
       let order : IsPermutation rans (map ran_at (numbers_to (length starts))) =
       in_order key ran_at (length starts) rans counts (found_all key some_ran rans few) in
-      let same : map end_of (map ran_at (numbers_to (length starts))) ≡ map finished_of (map task_at (numbers_to (length starts))) =
-      map-map end_of ran_at (numbers_to (length starts)) ∙ sym (map-map finished_of task_at (numbers_to (length starts))) in
+      let same : map end_of (map ran_at (numbers_to (length starts))) ≡ map finished_run (map task_at (numbers_to (length starts))) =
+      map-map end_of ran_at (numbers_to (length starts)) ∙ sym (map-map finished_run task_at (numbers_to (length starts))) in
       subst (λ l. IsPermutation (map end_of rans) l) same (IsPermutation-map end_of rans (map ran_at (numbers_to (length starts))) order)
 
   -- one that is over is among those that are over
-  among_all : (os : List EndedTask) (a : Each (IsRun programs) os) (b : Each (λ (o : EndedTask). IsTask starts o.own) os) (n : ℕ) → count key n (rans_of os a b) ≡ 1 → (d : Ran) →
+  among_all : (os : List TaskResult) (a : Each (RanByItself programs) os) (b : Each (λ (o : TaskResult). IsTask starts o.own) os) (n : ℕ) → count key n (rans_of os a b) ≡ 1 → (d : Ran) →
       Contains os (find key d (rans_of os a b) n).over
   unfolding rans_of
   among_all [] a b n c d = absurd (omega (arith, c))
@@ -373,14 +373,14 @@ module _ (programs : List Program) (credit : ℕ) (buffer : List ℕ) (known : R
           subst (λ (x : Bool). Contains (o ∷ os) (cond x (record { over = o; is_run = a.0; is_task = b.0 }) (find key d (rans_of os a.1 b.1) n)).over) (sym t)
           (later (ih (omega (arith, c, split, none))))
 
-  pub each_told : (n : ℕ) (t : TaskRun) → slice_get tasks n ≡ Some t → (o : EndedTask)
-      × Contains known.over o × (o.own.number ≡ n) × (birth_of o.own.birth ≡ t.birth)
-      × (piece_of o ≡ left_of (finished_of t)) × (o.own.children ≡ map (handed n o.own.birth.base) (taken t.asked))
+  pub each_told : (n : ℕ) (t : TaskRun) → slice_get tasks n ≡ Some t → (o : TaskResult)
+      × Contains known.over o × (o.own.number ≡ n) × (birth_at_start o.own.birth ≡ t.birth)
+      × (remains_of o ≡ left_of (finished_run t)) × (o.own.children ≡ map (handed n o.own.birth.base) (taken t.asked))
   unfolding rans
   each_told n t there =
       let is = task_is n t there in
       let one = one_each n is.0 in
-      subst (λ (x : TaskRun). (o : EndedTask) × Contains known.over o × (o.own.number ≡ n) × (birth_of o.own.birth ≡ x.birth) × (piece_of o ≡ left_of (finished_of x))
+      subst (λ (x : TaskRun). (o : TaskResult) × Contains known.over o × (o.own.number ≡ n) × (birth_at_start o.own.birth ≡ x.birth) × (remains_of o ≡ left_of (finished_run x))
       × (o.own.children ≡ map (handed n o.own.birth.base) (taken x.asked))) is.1 (
         (ran_at n).over,
         among_all known.over all_run all_tasks n one some_ran,

@@ -5,9 +5,9 @@ use Rattle.machine_model.specs.Machine.{State, Program, Entries, Effect, Continu
 use Rattle.machine_model.proofs.Keeps.{Keeps, keeps_effect}
 use Rattle.task_trees.specs.Solo.{SpawnRequest, Proceeds, SoloWithin}
 use Rattle.task_register.specs.declared.seats.TaskStart.{TaskStart}
-use Rattle.task_register.specs.declared.seats.EndedTask.{EndedTask}
+use Rattle.task_register.specs.declared.seats.TaskResult.{TaskResult}
 use Rattle.job_answer.specs.Agreement.{shares}
-use Rattle.job_answer.specs.Gathered.{IsRun, handed}
+use Rattle.job_answer.specs.Gathered.{RanByItself, handed}
 use Rattle.job_answer.specs.OneAnswer.{IsPaidFor, RunsOrNot, runs_by}
 use Rattle.job_answer.specs.SpawnTree.{LeavesCredit, given_by, taken}
 
@@ -53,7 +53,7 @@ handed_shares number base (a ∷ later) =
     ∙ sym (sum_by-cons (λ (x : SpawnRequest). x.birth.share) a later)
 
 -- a task that ran spent no more than it held at its end, which is what it was given but for its children's shares
-pub run_left : (programs : List Program) (o : EndedTask) (run : IsRun programs o) → (run.last.held + shares o.own.children ≡ o.own.birth.share) × (o.used ≤ run.last.held)
+pub run_left : (programs : List Program) (o : TaskResult) (run : RanByItself programs o) → (run.last.held + shares o.own.children ≡ o.own.birth.share) × (o.used ≤ run.last.held)
 run_left programs o run =
     let l = solo_left run.program _ o.r0 run.alone.0 run.last run.asked _ run.alone.1 in
     let w = l.whole in
@@ -62,7 +62,7 @@ run_left programs o run =
     let used = run.used in
     (omega (arith, w, children), omega (arith, p, used))
 
-paid_by : (b : Bool) (programs : List Program) (o : EndedTask) → runs_by b programs o → IsPaidFor o
+paid_by : (b : Bool) (programs : List Program) (o : TaskResult) → runs_by b programs o → IsPaidFor o
 paid_by true programs o run = let l = run_left programs o run in let a = l.0 in let b = l.1 in omega (arith, a, b)
 paid_by false programs o run =
     let none : shares o.own.children ≡ 0 = ap shares run.children in
@@ -70,5 +70,5 @@ paid_by false programs o run =
     omega (arith, none, used)
 
 -- so does every task that is over
-pub paid_for : (programs : List Program) (o : EndedTask) → RunsOrNot programs o → IsPaidFor o
+pub paid_for : (programs : List Program) (o : TaskResult) → RunsOrNot programs o → IsPaidFor o
 paid_for programs o over = paid_by o.ran programs o over

@@ -8,27 +8,27 @@ use Rattle.credit_book.specs.declared.event.Stage.TheVariants.{Ended}
 use Rattle.credit_book.specs.History.{TaskTable, is_alive, standing_at, table_of, task_at}
 use Rattle.credit_book.specs.Buffers.{buffer_of}
 use Rattle.task_register.specs.declared.seats.TaskStart.{TaskStart}
-use Rattle.task_register.specs.declared.seats.EndedTask.{EndedTask}
+use Rattle.task_register.specs.declared.seats.TaskResult.{TaskResult}
 use Rattle.task_register.specs.declared.seats.RegisterState.{RegisterState}
 use Rattle.task_register.specs.Rule.{children_in}
 use Rattle.job_answer.specs.Gathered.{numbers_to, laid_from}
 
-abbrev pub gone : Standing
-gone = record { held = 0; stage = Ended }
+abbrev pub ended_standing : Standing
+ended_standing = record { held = 0; stage = Ended }
 
 -- 1 for a task that is alive, else 0
 abbrev pub alive_at : List Standing → ℕ → ℕ
-alive_at standings n = cond (is_alive (slice_index_or standings n gone).stage) 1 0
+alive_at standings n = cond (is_alive (slice_index_or standings n ended_standing).stage) 1 0
 
 -- the task of this number was started so
-pub record Tells (n : ℕ) (b : TaskStart) (e : TaskEnd) : Type 0 where
+pub record ReportsStart (n : ℕ) (b : TaskStart) (e : TaskEnd) : Type 0 where
   pub number : e.number ≡ n
   pub program : e.program ≡ b.program
   pub arg : e.arg ≡ b.arg
   pub given : e.given ≡ b.share
 
 -- it ended so
-pub record EndsSo (tasks : List TaskEnd) (o : EndedTask) : Type 0 where
+pub record EndsSo (tasks : List TaskEnd) (o : TaskResult) : Type 0 where
   pub end : TaskEnd
   pub there : slice_get tasks o.own.number ≡ Some end
   pub spent : end.spent ≡ o.used
@@ -52,9 +52,9 @@ pub record AgreesWith (known : RegisterState) (t : TaskTable) : Type 0 where
   pub long : length t.tasks ≡ length known.starts
   pub paired : length t.standings ≡ length known.starts
   pub told : (n : ℕ) (b : TaskStart) → slice_get known.starts n ≡ Some b → (e : TaskEnd)
-      × (slice_get t.tasks n ≡ Some e) × Tells n b e
-  pub ended : (k : ℕ) (o : EndedTask) → slice_get known.over k ≡ Some o → EndsSo t.tasks o
-  pub counted : (n : ℕ) → count_by (λ (o : EndedTask). o.own.number == n) known.over
+      × (slice_get t.tasks n ≡ Some e) × ReportsStart n b e
+  pub ended : (k : ℕ) (o : TaskResult) → slice_get known.over k ≡ Some o → EndsSo t.tasks o
+  pub counted : (n : ℕ) → count_by (λ (o : TaskResult). o.own.number == n) known.over
       + alive_at t.standings n ≡ count_by (λ (k : ℕ). k == n) (numbers_to (length known.starts))
   pub balanced : (n : ℕ) (b : TaskStart) → slice_get known.starts n ≡ Some b
       → Balances b.share (shares (children_in n known.starts)) (standing_at t n) (task_at t n)

@@ -9,14 +9,14 @@ use Rattle.machine_model.specs.Machine.{State, Program, Birth}
 use Rattle.machine_model.specs.JobState.{entries_of}
 use Rattle.task_trees.specs.Solo.{SpawnRequest, IsGiven, Solo, entering}
 use Rattle.task_register.specs.declared.seats.TaskStart.{TaskStart}
-use Rattle.task_register.specs.declared.seats.EndedTask.{EndedTask}
+use Rattle.task_register.specs.declared.seats.TaskResult.{TaskResult}
 use Rattle.task_register.specs.declared.seats.RegisterState.{RegisterState}
 use Rattle.task_register.specs.Rule.{AllKnown}
-use Rattle.job_answer.specs.SpawnTree.{TaskRun, IsSpawnTree, finished_of, taken}
+use Rattle.job_answer.specs.SpawnTree.{TaskRun, IsSpawnTree, finished_run, taken}
 
 -- what a task was started with, as the machine has it
-abbrev pub birth_of : TaskStart → Birth
-birth_of s = record { program = s.program; share = s.share; arg = s.arg; bytes = s.bytes }
+abbrev pub birth_at_start : TaskStart → Birth
+birth_at_start s = record { program = s.program; share = s.share; arg = s.arg; bytes = s.bytes }
 
 -- what a task of this number, whose part begins at this base, hands over by a spawn
 abbrev pub handed : ℕ → ℕ → SpawnRequest → TaskStart
@@ -31,7 +31,7 @@ handed number base a = record {
 
 -- The task ran so, by itself, on what it was started with, which suffices for its program. Its
 -- children are what it handed over, and it left its bytes where they were.
-pub record IsRun (programs : List Program) (o : EndedTask) : Type 0 where
+pub record RanByItself (programs : List Program) (o : TaskResult) : Type 0 where
   pub program : Program
   pub there : slice_get programs o.own.birth.program ≡ Some program
   pub suffices : IsGiven program o.own.birth.share o.own.birth.bytes
@@ -64,24 +64,24 @@ pub record IsGathered (programs : List Program) (credit : ℕ) (buffer : List �
     Type 0 where
   pub all : AllKnown known
   pub root : slice_get known.starts 0 ≡ Some (root_start credit buffer)
-  pub runs : All (IsRun programs) known.over
-  pub once : (n : ℕ) → count_by (λ (o : EndedTask). o.own.number == n) known.over
+  pub runs : All (RanByItself programs) known.over
+  pub once : (n : ℕ) → count_by (λ (o : TaskResult). o.own.number == n) known.over
       ≡ count_by (λ (k : ℕ). k == n) (numbers_to (length known.starts))
 
 abbrev pub parents_of : RegisterState → List ℕ
 parents_of known = map (λ (s : TaskStart). s.parent) (drop 1 known.starts)
 
 -- what a task left where, what it used and R0
-pub record Piece : Type 0 where
+pub record TaskRemains : Type 0 where
   pub base : ℕ
   pub bytes : List ℕ
   pub spent : ℕ
   pub r0 : ℕ
 
-abbrev pub piece_of : EndedTask → Piece
-piece_of o = record { base = o.base; bytes = o.bytes; spent = o.used; r0 = o.r0 }
+abbrev pub remains_of : TaskResult → TaskRemains
+remains_of o = record { base = o.base; bytes = o.bytes; spent = o.used; r0 = o.r0 }
 
-abbrev pub left_of : Finished → Piece
+abbrev pub left_of : Finished → TaskRemains
 left_of f = record {
   base = f.ending.base;
   bytes = f.bytes;
@@ -95,11 +95,11 @@ pub record GatheredTree (programs : List Program) (credit : ℕ) (buffer : List 
   pub tasks : List TaskRun
   pub family : IsSpawnTree programs credit buffer (parents_of known) tasks
   pub ended : List Finished
-  pub order : IsPermutation ended (map finished_of tasks)
-  pub told : map left_of ended ≡ map piece_of known.over
-  pub each : (n : ℕ) (t : TaskRun) → slice_get tasks n ≡ Some t → (o : EndedTask)
-      × Contains known.over o × (o.own.number ≡ n) × (birth_of o.own.birth ≡ t.birth)
-      × (piece_of o ≡ left_of (finished_of t))
+  pub order : IsPermutation ended (map finished_run tasks)
+  pub told : map left_of ended ≡ map remains_of known.over
+  pub each : (n : ℕ) (t : TaskRun) → slice_get tasks n ≡ Some t → (o : TaskResult)
+      × Contains known.over o × (o.own.number ≡ n) × (birth_at_start o.own.birth ≡ t.birth)
+      × (remains_of o ≡ left_of (finished_run t))
       × (o.own.children ≡ map (handed n o.own.birth.base) (taken t.asked))
 
 -- so much memory, with what each of these tasks left written in its turn
@@ -108,16 +108,17 @@ laid memory [] = memory
 laid memory (f ∷ fs) = laid (take (length memory) (written memory f.ending.base f.bytes)) fs
 
 -- the same of tasks of a register
-abbrev pub laid_from : List ℕ → List EndedTask → List ℕ
+abbrev pub laid_from : List ℕ → List TaskResult → List ℕ
 laid_from memory [] = memory
 laid_from memory (o ∷ os) = laid_from (take (length memory) (written memory o.base o.bytes)) os
 
 -- Where none of them was refused a spawn, they are what the root comes to: what they left, as it was
 -- written, is the answer's buffer, and what they used is what it spent.
-pub record Answers (programs : List Program) (credit : ℕ) (buffer : List ℕ) (known : RegisterState)
+pub record GivesAnswer (programs : List Program) (credit : ℕ) (buffer : List ℕ)
+    (known : RegisterState)
     (tasks : List TaskRun) : Type 0 where
   pub fs : List Finished
   pub comes : RootComes programs credit buffer fs
-  pub all : IsPermutation (map finished_of tasks) fs
+  pub all : IsPermutation (map finished_run tasks) fs
   pub buffer_is : laid_from (replicate (length buffer) 0) known.over ≡ joined (length buffer) fs
-  pub spent : sum_by (λ (o : EndedTask). o.used) known.over ≡ spent_in fs
+  pub spent : sum_by (λ (o : TaskResult). o.used) known.over ≡ spent_in fs

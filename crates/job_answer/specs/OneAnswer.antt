@@ -6,29 +6,29 @@ use Rattle.task_trees.specs.Eval.{Finished}
 use Rattle.task_trees.specs.Answer.{RootComes, joined, spent_in}
 use Rattle.credit_book.specs.declared.event.TaskEnd.{TaskEnd}
 use Rattle.credit_book.specs.declared.book.Report.{Report}
-use Rattle.task_register.specs.declared.seats.EndedTask.{EndedTask}
-use Rattle.job_answer.specs.SpawnTree.{TaskRun, IsSpawnTree, NoneRefused, finished_of}
+use Rattle.task_register.specs.declared.seats.TaskResult.{TaskResult}
+use Rattle.job_answer.specs.SpawnTree.{TaskRun, IsSpawnTree, NoneRefused, finished_run}
 use Rattle.job_answer.specs.Agreement.{shares}
-use Rattle.job_answer.specs.Gathered.{IsRun, laid}
+use Rattle.job_answer.specs.Gathered.{RanByItself, laid}
 
 -- the task wasn't run: it spent nothing, has no child, and left its bytes as they were
-pub record IsNotRun (o : EndedTask) : Type 0 where
+pub record IsNotRun (o : TaskResult) : Type 0 where
   pub used : o.used ≡ 0
   pub r0 : o.r0 ≡ 0
   pub base : o.base ≡ o.own.birth.base
   pub bytes : o.bytes ≡ o.own.birth.bytes
   pub children : o.own.children ≡ []
 
-abbrev pub runs_by : Bool → List Program → EndedTask → Type 0
-runs_by true programs o = IsRun programs o
+abbrev pub runs_by : Bool → List Program → TaskResult → Type 0
+runs_by true programs o = RanByItself programs o
 runs_by false programs o = IsNotRun o
 
 -- what holds of a task that is over: it ran by itself on what it was started with, or not at all
-abbrev pub RunsOrNot : List Program → EndedTask → Type 0
+abbrev pub RunsOrNot : List Program → TaskResult → Type 0
 RunsOrNot programs o = runs_by o.ran programs o
 
 -- a task that is over spent no more than it was given, but for what it gave its children
-abbrev pub IsPaidFor : EndedTask → Type 0
+abbrev pub IsPaidFor : TaskResult → Type 0
 IsPaidFor o = o.used + shares o.own.children ≤ o.own.birth.share
 
 abbrev pub AllRan : Report → Type 0
@@ -58,8 +58,8 @@ pub record HasOneAnswer (programs : List Program) (credit : ℕ) (buffer : List 
   pub told : (n : ℕ) (t : TaskRun) → slice_get tasks n ≡ Some t → (e : TaskEnd)
       × (slice_get report.tasks.items n ≡ Some e) × IsToldAs n t e
   pub ended : List Finished
-  pub order : IsPermutation ended (map finished_of tasks)
+  pub order : IsPermutation ended (map finished_run tasks)
   pub left : report.buffer.items ≡ laid (replicate (length buffer) 0) ended
   pub answer : NoneRefused tasks → (fs : List Finished) × RootComes programs credit buffer fs
-      × IsPermutation (map finished_of tasks) fs
+      × IsPermutation (map finished_run tasks) fs
       × (report.buffer.items ≡ joined (length buffer) fs) × (report.spent ≡ spent_in fs)

@@ -21,8 +21,8 @@ abbrev pub root_birth : ℕ → List ℕ → Birth
 root_birth credit buffer = record { program = 0; share = credit; arg = 0; bytes = buffer }
 
 -- the task at its start
-abbrev pub task_of : TaskRun → Task
-task_of t = record {
+abbrev pub task_at_start : TaskRun → Task
+task_at_start t = record {
   program = t.birth.program;
   arg = t.birth.arg;
   given = t.birth.share;
@@ -38,8 +38,11 @@ task_of t = record {
 }
 
 -- the task at its end, with the bytes that it left
-abbrev pub finished_of : TaskRun → Finished
-finished_of t = record { ending = ending_of (with_state (task_of t) t.last) t.last t.r0; bytes = t.last.part }
+abbrev pub finished_run : TaskRun → Finished
+finished_run t = record {
+  ending = ending_of (with_state (task_at_start t) t.last) t.last t.r0;
+  bytes = t.last.part;
+}
 
 -- the task ran so by itself, from its start on
 pub record RanSo (programs : List Program) (t : TaskRun) : Type 0 where

@@ -6,12 +6,12 @@ ghost use Rattle.credit_book.specs.declared.event.Event.{Event};
 ghost use Rattle.credit_book.specs.declared.event.Event.TheVariants.{Spawn, Park, Claim, End};
 ghost use Rattle.credit_book.specs.History.{IsComplete, May, is_alive, standing_at, table_of};
 ghost use Rattle.task_register.specs.declared.seats.TaskStart.{TaskStart};
-ghost use Rattle.task_register.specs.declared.seats.EndedTask.{EndedTask};
+ghost use Rattle.task_register.specs.declared.seats.TaskResult.{TaskResult};
 ghost use Rattle.task_register.specs.Rule.{with_start, with_end};
 ghost use Rattle.job_answer.specs.Agreement.{RegisterAgrees};
 ghost use Rattle.machine_model.specs.Machine.{Entries, Program, State};
 ghost use Rattle.task_register.specs.declared.seats.RegisterState.{RegisterState};
-ghost use Rattle.job_answer.specs.Gathered.{IsGathered, GatheredTree, Answers, numbers_to, root_start};
+ghost use Rattle.job_answer.specs.Gathered.{IsGathered, GatheredTree, GivesAnswer, numbers_to, root_start};
 ghost use Rattle.job_answer.specs.Closing.{ClosesJob};
 ghost use Rattle.job_answer.specs.OneAnswer.{AllRan, HasOneAnswer, IsPaidFor, RunsOrNot};
 ghost use Rattle.credit_book.specs.declared.book.Report.{Report as ReportOf};
@@ -22,7 +22,7 @@ ghost use Rattle.job_answer.specs.Children.{AddsEachChild, HasAdded};
 ghost use Rattle.std.specs.List.Sorted.{IsPermutation};
 ghost use Rattle.task_trees.specs.Eval.{Finished};
 ghost use Rattle.task_trees.specs.Answer.{RootComes, joined, spent_in};
-ghost use Rattle.job_answer.specs.SpawnTree.{IsSpawnTree, LeavesCredit, NoneRefused, TaskRun, finished_of};
+ghost use Rattle.job_answer.specs.SpawnTree.{IsSpawnTree, LeavesCredit, NoneRefused, TaskRun, finished_run};
 
 use helpers::Spawner;
 
@@ -32,7 +32,7 @@ use helpers::Spawner;
 pub fn gathers()
     ensures { (programs : List Program) (credit : ℕ) (buffer : List ℕ) (known : RegisterState) →
         IsGathered programs credit buffer known → (f : GatheredTree programs credit buffer known)
-        × (NoneRefused f.tasks → Answers programs credit buffer known f.tasks) }
+        × (NoneRefused f.tasks → GivesAnswer programs credit buffer known f.tasks) }
 {}
 
 /// Whatever a spawner goes through while a task runs by itself: the seat that it has knows just the
@@ -48,7 +48,7 @@ pub fn seats_know_children<S: Spawner>()
 pub fn credit_is_kept()
     ensures alone { (program : Program) (entries : Entries) (s last : State) (asked : List SpawnRequest)
         (r0 : ℕ) → Solo program entries s asked r0 last → LeavesCredit s.held asked last }
-    ensures paid { (programs : List Program) (o : EndedTask) → RunsOrNot programs o → IsPaidFor o }
+    ensures paid { (programs : List Program) (o : TaskResult) → RunsOrNot programs o → IsPaidFor o }
 {}
 
 /// A register under a job's lock, beside its book: they agree after each event, and once no task is
@@ -64,13 +64,14 @@ pub fn registers_agree()
     ensures claim { (known : RegisterState) (history : List Event) (n : ℕ) → RegisterAgrees known history →
         is_alive (standing_at (table_of history) n).stage ≡ true
         → RegisterAgrees known (history ++ Claim n ∷ []) }
-    ensures end { (known : RegisterState) (history : List Event) (o : EndedTask) → RegisterAgrees known history →
+    ensures end { (known : RegisterState) (history : List Event) (o : TaskResult)
+        → RegisterAgrees known history →
         May (table_of history) (End o.own.number o.used o.r0 o.ran o.base o.bytes) →
         RegisterAgrees (with_end known o)
         (history ++ End o.own.number o.used o.r0 o.ran o.base o.bytes ∷ []) }
     ensures once { (known : RegisterState) (history : List Event) → RegisterAgrees known history
         → IsComplete (table_of history) → (n : ℕ)
-        → count_by (λ (o : EndedTask). o.own.number == n) known.over
+        → count_by (λ (o : TaskResult). o.own.number == n) known.over
         ≡ count_by (λ (k : ℕ). k == n) (numbers_to (length known.starts)) }
 {}
 
@@ -80,7 +81,7 @@ pub fn spawn_trees_come()
     ensures { (programs : List Program) (credit : ℕ) (buffer : List ℕ) (parents : List ℕ)
         (tasks : List TaskRun) →
         IsSpawnTree programs credit buffer parents tasks → NoneRefused tasks → (fs : List Finished)
-        × RootComes programs credit buffer fs × IsPermutation (map finished_of tasks) fs }
+        × RootComes programs credit buffer fs × IsPermutation (map finished_run tasks) fs }
 {}
 
 /// The same, and the bytes that they left, joined in whatever order, are those of the root's
@@ -89,8 +90,8 @@ pub fn spawn_trees_answer()
     ensures { (programs : List Program) (credit : ℕ) (buffer : List ℕ) (parents : List ℕ)
         (tasks : List TaskRun) (ended : List Finished) →
         IsSpawnTree programs credit buffer parents tasks → NoneRefused tasks →
-        IsPermutation ended (map finished_of tasks) → (fs : List Finished)
-        × RootComes programs credit buffer fs × IsPermutation (map finished_of tasks) fs
+        IsPermutation ended (map finished_run tasks) → (fs : List Finished)
+        × RootComes programs credit buffer fs × IsPermutation (map finished_run tasks) fs
         × (joined (length buffer) ended ≡ joined (length buffer) fs)
         × (spent_in ended ≡ spent_in fs) }
 {}

@@ -12,22 +12,22 @@ use Rattle.atomic_table.specs.Table.{State, Me, Step, keeps, Allows, Splits, Joi
 use Rattle.atomic_table.proofs.Lists.{at_set, set_again}
 use Rattle.task_register.specs.declared.seats.TaskStart.{TaskStart}
 use Rattle.task_register.specs.declared.seats.SeatedTask.{SeatedTask}
-use Rattle.task_register.specs.declared.seats.EndedTask.{EndedTask}
+use Rattle.task_register.specs.declared.seats.TaskResult.{TaskResult}
 use Rattle.task_register.specs.declared.seats.RegisterState.{RegisterState}
-use Rattle.task_register.specs.declared.seats.View.{View}
-use Rattle.task_register.specs.Rule.{no_task, fresh_task, with_one_more, children_in, IsTask, empty_register, nobody, first_keeper, with_task, without_task, only_task, without_child, only_child, with_waiting, without_first, first_of, only_first, place_of, place_beside, place_waiting, IsHere, FitsRegister, IsRegister, AreOlder, with_start, with_end, BeginsJob, AddsChild, ClosesTask, AllKnown, KnowsAll}
+use Rattle.task_register.specs.declared.seats.TaskView.{TaskView}
+use Rattle.task_register.specs.Rule.{no_seated_task, fresh_task, with_one_more, children_in, IsTask, empty_register, empty_task_view, first_keeper_view, with_task, without_task, only_task, without_child, only_child, with_waiting, without_first_waiting, first_waiting, only_first, place_of_task, place_beside, place_waiting, IsHere, FitsTaskRegister, IsTaskRegister, AreOlder, with_start, with_end, BeginsJob, AddsChild, ClosesTask, AllKnown, KnowsAll}
 
 off : false ≡ true → ⊥
 off e = true≢false (sym e)
 
 -- the rule, of a state
-abbrev pub Ruling : State (Unit {0}) View → Type 0
-Ruling s = IsRegister s.views
+abbrev pub Ruling : State (Unit {0}) TaskView → Type 0
+Ruling s = IsTaskRegister s.views
 
 -- ---- lists
 
 -- what stands in a list that is longer by one
-at_end : (l : List View) (a b : View) (j : ℕ) → get_elem? (l ++ a ∷ []) j ≡ some b → (get_elem? l j ≡ some b) ⊎ ((j ≡ length l) × (a ≡ b))
+at_end : (l : List TaskView) (a b : TaskView) (j : ℕ) → get_elem? (l ++ a ∷ []) j ≡ some b → (get_elem? l j ≡ some b) ⊎ ((j ≡ length l) × (a ≡ b))
 at_end [] a b zero e = inr (refl, some-injective a b e)
 at_end [] a b (suc j) e = absurd (some-ne-none b (sym e))
 at_end (x ∷ xs) a b zero e = inl e
@@ -37,12 +37,12 @@ at_end (x ∷ xs) a b (suc j) e = later (at_end xs a b j e)
     later (inl was) = inl was
     later (inr t) = inr (ap suc t.0, t.1)
 
-within : (l : List View) (j : ℕ) (b : View) → get_elem? l j ≡ some b → j < length l
+within : (l : List TaskView) (j : ℕ) (b : TaskView) → get_elem? l j ≡ some b → j < length l
 within [] j b e = absurd (some-ne-none b (sym e))
 within (x ∷ xs) zero b e = omega arith
 within (x ∷ xs) (suc j) b e = let lt = within xs j b e in omega (arith, lt)
 
-long_set : (l : List View) (i : ℕ) (a : View) → length (set l i a) ≡ length l
+long_set : (l : List TaskView) (i : ℕ) (a : TaskView) → length (set l i a) ≡ length l
 long_set [] i a = refl
 long_set (x ∷ xs) zero a = refl
 long_set (x ∷ xs) (suc i) a = ap suc (long_set xs i a)
@@ -172,23 +172,23 @@ older_longer (x ∷ xs) b older lt k c there =
 
 -- ---- views
 
-set_each : (P : ℕ → View → Type 0) (views : List View) (by : ℕ) (w : View) → ((j : ℕ) (u : View) → j ≢ by → get_elem? views j ≡ some u → P j u) → P by w →
-    (j : ℕ) (u : View) → get_elem? (set views by w) j ≡ some u → P j u
+set_each : (P : ℕ → TaskView → Type 0) (views : List TaskView) (by : ℕ) (w : TaskView) → ((j : ℕ) (u : TaskView) → j ≢ by → get_elem? views j ≡ some u → P j u) → P by w →
+    (j : ℕ) (u : TaskView) → get_elem? (set views by w) j ≡ some u → P j u
 set_each P views by w others mine j u e =
     ⊎_elim
-    (λ (x : (j ≡ by) × (w ≡ u)). subst (λ (y : ℕ × View). P y.0 y.1) (λ i. (sym x.0 i, x.1 i)) mine)
+    (λ (x : (j ≡ by) × (w ≡ u)). subst (λ (y : ℕ × TaskView). P y.0 y.1) (λ i. (sym x.0 i, x.1 i)) mine)
     (λ (x : (j ≢ by) × (get_elem? views j ≡ some u)). others j u x.0 x.1)
     (at_set views by j w u e)
 
-end_each : (P : ℕ → View → Type 0) (views : List View) (w : View) → ((j : ℕ) (u : View) → get_elem? views j ≡ some u → P j u) → P (length views) w →
-    (j : ℕ) (u : View) → get_elem? (views ++ w ∷ []) j ≡ some u → P j u
+end_each : (P : ℕ → TaskView → Type 0) (views : List TaskView) (w : TaskView) → ((j : ℕ) (u : TaskView) → get_elem? views j ≡ some u → P j u) → P (length views) w →
+    (j : ℕ) (u : TaskView) → get_elem? (views ++ w ∷ []) j ≡ some u → P j u
 end_each P views w others mine j u e =
     ⊎_elim
     (λ (was : get_elem? views j ≡ some u). others j u was)
-    (λ (x : (j ≡ length views) × (w ≡ u)). subst (λ (y : ℕ × View). P y.0 y.1) (λ i. (sym x.0 i, x.1 i)) mine)
+    (λ (x : (j ≡ length views) × (w ≡ u)). subst (λ (y : ℕ × TaskView). P y.0 y.1) (λ i. (sym x.0 i, x.1 i)) mine)
     (at_end views w u j e)
 
-nobody_fits : (k : ℕ) (known : RegisterState) (at : ℕ → ℕ) (by : ℕ) → FitsRegister k known at by nobody
+nobody_fits : (k : ℕ) (known : RegisterState) (at : ℕ → ℕ) (by : ℕ) → FitsTaskRegister k known at by empty_task_view
 nobody_fits k known at by = record {
   keeping = λ e. absurd (off e);
   sitting = λ e. absurd (off e);
@@ -198,17 +198,17 @@ nobody_fits k known at by = record {
 }
 
 -- a seat that knows another task than the one that goes elsewhere
-fits_still : (k : ℕ) (known : RegisterState) (at : ℕ → ℕ) (m c j : ℕ) (u : View) → FitsRegister k known at j u → (at m ≡ place_of j → ⊥) → (at m ≡ place_beside j → ⊥) →
-    (at m ≡ place_waiting j → ⊥) → FitsRegister k known (changed at m c) j u
+fits_still : (k : ℕ) (known : RegisterState) (at : ℕ → ℕ) (m c j : ℕ) (u : TaskView) → FitsTaskRegister k known at j u → (at m ≡ place_of_task j → ⊥) → (at m ≡ place_beside j → ⊥) →
+    (at m ≡ place_waiting j → ⊥) → FitsTaskRegister k known (changed at m c) j u
 fits_still k known at m c j u f a b d = record {
   keeping = f.keeping;
-  sitting = λ e. here_still known.starts at m c (place_of j) u.task (f.sitting e) a;
+  sitting = λ e. here_still known.starts at m c (place_of_task j) u.task (f.sitting e) a;
   bearing = λ e. here_still known.starts at m c (place_beside j) u.child (f.bearing e) b;
   waiting = λ n o there. here_still known.starts at m c (place_waiting j) o (f.waiting n o there) d;
   apart = f.apart;
 }
 
-pub begins : IsRegister (first_keeper ∷ [])
+pub begins : IsTaskRegister (first_keeper_view ∷ [])
 begins = record {
   keeper_at = 0;
   known = empty_register;
@@ -218,9 +218,9 @@ begins = record {
   older = λ k b there. absurd (nothing (suc k) b there);
 }
   where
-    one : (by : ℕ) (v : View) → get_elem? (first_keeper ∷ []) by ≡ some v → FitsRegister 0 empty_register (λ n. 0) by v
+    one : (by : ℕ) (v : TaskView) → get_elem? (first_keeper_view ∷ []) by ≡ some v → FitsTaskRegister 0 empty_register (λ n. 0) by v
     one zero v e =
-        subst (FitsRegister 0 empty_register (λ n. 0) 0) (some-injective _ _ e)
+        subst (FitsTaskRegister 0 empty_register (λ n. 0) 0) (some-injective _ _ e)
         (record {
           keeping = λ k. (refl, refl);
           sitting = λ s. absurd (off s);
@@ -231,75 +231,75 @@ begins = record {
     one (suc by) v e = absurd (some-ne-none v (sym e))
 
 -- the seat of a new child leaves the keeper's
-pub leaves_child : (id : ℕ) (v : View) → v.has_child ≡ true → Splits Ruling id v (without_child v) (only_child v)
+pub leaves_child : (id : ℕ) (v : TaskView) → v.has_child ≡ true → Splits Ruling id v (without_child v) (only_child v)
 leaves_child id v has s kept at =
     let mine = kept.each id v at in
     let new : ℕ = length (set s.views id (without_child v)) in
     let m : ℕ = v.child.number in
     let here = (mine.bearing has).here in
-    let now : ℕ → ℕ = changed kept.at m (place_of new) in
+    let now : ℕ → ℕ = changed kept.at m (place_of_task new) in
     record {
       keeper_at = kept.keeper_at;
       known = kept.known;
       at = now;
-      each = end_each (λ j u. FitsRegister kept.keeper_at kept.known now j u) (set s.views id (without_child v)) (only_child v)
-          (set_each (λ j u. FitsRegister kept.keeper_at kept.known now j u) s.views id (without_child v)
-          (λ j u ne e. fits_still kept.keeper_at kept.known kept.at m (place_of new) j u (kept.each j u e)
+      each = end_each (λ j u. FitsTaskRegister kept.keeper_at kept.known now j u) (set s.views id (without_child v)) (only_child v)
+          (set_each (λ j u. FitsTaskRegister kept.keeper_at kept.known now j u) s.views id (without_child v)
+          (λ j u ne e. fits_still kept.keeper_at kept.known kept.at m (place_of_task new) j u (kept.each j u e)
           (λ x. omega (arith, here, x)) (λ x. ne (omega (arith, here, x))) (λ x. omega (arith, here, x)))
           (record {
             keeping = mine.keeping;
-            sitting = λ e. here_still kept.known.starts kept.at m (place_of new) (place_of id) v.task (mine.sitting e) (λ x. omega (arith, here, x));
+            sitting = λ e. here_still kept.known.starts kept.at m (place_of_task new) (place_of_task id) v.task (mine.sitting e) (λ x. omega (arith, here, x));
             bearing = λ e. absurd (off e);
-            waiting = λ n o there. here_still kept.known.starts kept.at m (place_of new) (place_waiting id) o (mine.waiting n o there) (λ x. omega (arith, here, x));
+            waiting = λ n o there. here_still kept.known.starts kept.at m (place_of_task new) (place_waiting id) o (mine.waiting n o there) (λ x. omega (arith, here, x));
             apart = mine.apart;
           }))
           (record {
             keeping = λ e. absurd (off e);
-            sitting = λ e. record { is_task = (mine.bearing has).is_task; here = changed_there kept.at m (place_of new) };
+            sitting = λ e. record { is_task = (mine.bearing has).is_task; here = changed_there kept.at m (place_of_task new) };
             bearing = λ e. absurd (off e);
             waiting = λ n o there. absurd (nothing n o there);
             apart = λ i n a b there. absurd (nothing i a there);
           });
-      ended = λ k o there. here_still kept.known.starts kept.at m (place_of new) 0 o.own (kept.ended k o there) (λ x. omega (arith, here, x));
+      ended = λ k o there. here_still kept.known.starts kept.at m (place_of_task new) 0 o.own (kept.ended k o there) (λ x. omega (arith, here, x));
       older = kept.older;
     }
 
 -- the seat of the task leaves the keeper's
-pub leaves_task : (id : ℕ) (v : View) → v.is_task ≡ true → Splits Ruling id v (without_task v) (only_task v)
+pub leaves_task : (id : ℕ) (v : TaskView) → v.is_task ≡ true → Splits Ruling id v (without_task v) (only_task v)
 leaves_task id v has s kept at =
     let mine = kept.each id v at in
     let new : ℕ = length (set s.views id (without_task v)) in
     let m : ℕ = v.task.number in
     let here = (mine.sitting has).here in
-    let now : ℕ → ℕ = changed kept.at m (place_of new) in
+    let now : ℕ → ℕ = changed kept.at m (place_of_task new) in
     record {
       keeper_at = kept.keeper_at;
       known = kept.known;
       at = now;
-      each = end_each (λ j u. FitsRegister kept.keeper_at kept.known now j u) (set s.views id (without_task v)) (only_task v)
-          (set_each (λ j u. FitsRegister kept.keeper_at kept.known now j u) s.views id (without_task v)
-          (λ j u ne e. fits_still kept.keeper_at kept.known kept.at m (place_of new) j u (kept.each j u e)
+      each = end_each (λ j u. FitsTaskRegister kept.keeper_at kept.known now j u) (set s.views id (without_task v)) (only_task v)
+          (set_each (λ j u. FitsTaskRegister kept.keeper_at kept.known now j u) s.views id (without_task v)
+          (λ j u ne e. fits_still kept.keeper_at kept.known kept.at m (place_of_task new) j u (kept.each j u e)
           (λ x. ne (omega (arith, here, x))) (λ x. omega (arith, here, x)) (λ x. omega (arith, here, x)))
           (record {
             keeping = mine.keeping;
             sitting = λ e. absurd (off e);
-            bearing = λ e. here_still kept.known.starts kept.at m (place_of new) (place_beside id) v.child (mine.bearing e) (λ x. omega (arith, here, x));
-            waiting = λ n o there. here_still kept.known.starts kept.at m (place_of new) (place_waiting id) o (mine.waiting n o there) (λ x. omega (arith, here, x));
+            bearing = λ e. here_still kept.known.starts kept.at m (place_of_task new) (place_beside id) v.child (mine.bearing e) (λ x. omega (arith, here, x));
+            waiting = λ n o there. here_still kept.known.starts kept.at m (place_of_task new) (place_waiting id) o (mine.waiting n o there) (λ x. omega (arith, here, x));
             apart = mine.apart;
           }))
           (record {
             keeping = λ e. absurd (off e);
-            sitting = λ e. record { is_task = (mine.sitting has).is_task; here = changed_there kept.at m (place_of new) };
+            sitting = λ e. record { is_task = (mine.sitting has).is_task; here = changed_there kept.at m (place_of_task new) };
             bearing = λ e. absurd (off e);
             waiting = λ n o there. absurd (nothing n o there);
             apart = λ i n a b there. absurd (nothing i a there);
           });
-      ended = λ k o there. here_still kept.known.starts kept.at m (place_of new) 0 o.own (kept.ended k o there) (λ x. omega (arith, here, x));
+      ended = λ k o there. here_still kept.known.starts kept.at m (place_of_task new) 0 o.own (kept.ended k o there) (λ x. omega (arith, here, x));
       older = kept.older;
     }
 
 -- and is taken in again
-pub takes : (id : ℕ) (v : View) (other : ℕ) (w : View) → w.is_task ≡ true → Joins Ruling id v other w (with_task v w) nobody
+pub takes : (id : ℕ) (v : TaskView) (other : ℕ) (w : TaskView) → w.is_task ≡ true → Joins Ruling id v other w (with_task v w) empty_task_view
 takes id v other w has s kept at apart there =
     let was : get_elem? s.views other ≡ some w =
     ⊎_elim (λ (t : (other ≡ id) × (with_task v w ≡ w)). absurd (apart t.0)) (λ (t : (other ≢ id) × (get_elem? s.views other ≡ some w)). t.1) (at_set s.views id other (with_task v w) w there) in
@@ -307,33 +307,33 @@ takes id v other w has s kept at apart there =
     let mine = kept.each id v at in
     let m : ℕ = w.task.number in
     let here = (theirs.sitting has).here in
-    let now : ℕ → ℕ = changed kept.at m (place_of id) in
+    let now : ℕ → ℕ = changed kept.at m (place_of_task id) in
     record {
       keeper_at = kept.keeper_at;
       known = kept.known;
       at = now;
-      each = set_each (λ j u. FitsRegister kept.keeper_at kept.known now j u) (set s.views id (with_task v w)) other nobody
+      each = set_each (λ j u. FitsTaskRegister kept.keeper_at kept.known now j u) (set s.views id (with_task v w)) other empty_task_view
           (λ j u away e. by_two s v w j u id other kept.keeper_at kept.known now e away
-          (λ differs found. fits_still kept.keeper_at kept.known kept.at m (place_of id) j u (kept.each j u found)
+          (λ differs found. fits_still kept.keeper_at kept.known kept.at m (place_of_task id) j u (kept.each j u found)
           (λ x. away (omega (arith, here, x))) (λ x. omega (arith, here, x)) (λ x. omega (arith, here, x)))
           (record {
             keeping = mine.keeping;
-            sitting = λ e. record { is_task = (theirs.sitting has).is_task; here = changed_there kept.at m (place_of id) };
-            bearing = λ e. here_still kept.known.starts kept.at m (place_of id) (place_beside id) v.child (mine.bearing e) (λ x. omega (arith, here, x));
-            waiting = λ n o there. here_still kept.known.starts kept.at m (place_of id) (place_waiting id) o (mine.waiting n o there) (λ x. omega (arith, here, x));
+            sitting = λ e. record { is_task = (theirs.sitting has).is_task; here = changed_there kept.at m (place_of_task id) };
+            bearing = λ e. here_still kept.known.starts kept.at m (place_of_task id) (place_beside id) v.child (mine.bearing e) (λ x. omega (arith, here, x));
+            waiting = λ n o there. here_still kept.known.starts kept.at m (place_of_task id) (place_waiting id) o (mine.waiting n o there) (λ x. omega (arith, here, x));
             apart = mine.apart;
           }))
           (nobody_fits kept.keeper_at kept.known now other);
-      ended = λ k o there. here_still kept.known.starts kept.at m (place_of id) 0 o.own (kept.ended k o there) (λ x. omega (arith, here, x));
+      ended = λ k o there. here_still kept.known.starts kept.at m (place_of_task id) 0 o.own (kept.ended k o there) (λ x. omega (arith, here, x));
       older = kept.older;
     }
   where
-    by_two : (s : State (Unit {0}) View) (v w : View) (j : ℕ) (u : View) (id other : ℕ) (k : ℕ) (known : RegisterState) (now : ℕ → ℕ) →
+    by_two : (s : State (Unit {0}) TaskView) (v w : TaskView) (j : ℕ) (u : TaskView) (id other : ℕ) (k : ℕ) (known : RegisterState) (now : ℕ → ℕ) →
         get_elem? (set s.views id (with_task v w)) j ≡ some u → j ≢ other →
-        (j ≢ id → get_elem? s.views j ≡ some u → FitsRegister k known now j u) → FitsRegister k known now id (with_task v w) → FitsRegister k known now j u
+        (j ≢ id → get_elem? s.views j ≡ some u → FitsTaskRegister k known now j u) → FitsTaskRegister k known now id (with_task v w) → FitsTaskRegister k known now j u
     by_two s v w j u id other k known now e away others mine =
         ⊎_elim
-        (λ (x : (j ≡ id) × (with_task v w ≡ u)). subst (λ (y : ℕ × View). FitsRegister k known now y.0 y.1) (λ i. (sym x.0 i, x.1 i)) mine)
+        (λ (x : (j ≡ id) × (with_task v w ≡ u)). subst (λ (y : ℕ × TaskView). FitsTaskRegister k known now y.0 y.1) (λ i. (sym x.0 i, x.1 i)) mine)
         (λ (x : (j ≢ id) × (get_elem? s.views j ≡ some u)). others x.0 x.1)
         (at_set s.views id j (with_task v w) u e)
 
@@ -349,7 +349,7 @@ end_split (z ∷ zs) a c (suc k) e =
     ]
 
 -- a seat of a task waits with the keeper
-pub keeps_task : (id : ℕ) (v : View) (other : ℕ) (w : View) → w.is_task ≡ true → Joins Ruling id v other w (with_waiting v w) nobody
+pub keeps_task : (id : ℕ) (v : TaskView) (other : ℕ) (w : TaskView) → w.is_task ≡ true → Joins Ruling id v other w (with_waiting v w) empty_task_view
 keeps_task id v other w has s kept at apart there =
     let was : get_elem? s.views other ≡ some w =
     ⊎_elim (λ (t : (other ≡ id) × (with_waiting v w ≡ w)). absurd (apart t.0)) (λ (t : (other ≢ id) × (get_elem? s.views other ≡ some w)). t.1) (at_set s.views id other (with_waiting v w) w there) in
@@ -382,13 +382,13 @@ keeps_task id v other w has s kept at apart there =
       keeper_at = kept.keeper_at;
       known = kept.known;
       at = now;
-      each = set_each (λ j u. FitsRegister kept.keeper_at kept.known now j u) (set s.views id (with_waiting v w)) other nobody
+      each = set_each (λ j u. FitsTaskRegister kept.keeper_at kept.known now j u) (set s.views id (with_waiting v w)) other empty_task_view
           (λ j u away e. by_keeper s v w j u id other kept.keeper_at kept.known now e away
           (λ differs found. fits_still kept.keeper_at kept.known kept.at m (place_waiting id) j u (kept.each j u found)
           (λ x. away (omega (arith, here, x))) (λ x. omega (arith, here, x)) (λ x. omega (arith, here, x)))
           (record {
             keeping = mine.keeping;
-            sitting = λ e. here_still kept.known.starts kept.at m (place_waiting id) (place_of id) v.task (mine.sitting e) (λ x. apart (omega (arith, here, x)));
+            sitting = λ e. here_still kept.known.starts kept.at m (place_waiting id) (place_of_task id) v.task (mine.sitting e) (λ x. apart (omega (arith, here, x)));
             bearing = λ e. here_still kept.known.starts kept.at m (place_waiting id) (place_beside id) v.child (mine.bearing e) (λ x. omega (arith, here, x));
             waiting = λ k o there. waits k o (end_split v.waiting w.task o k there);
             apart = λ j k a b x y. two j k a b (end_split v.waiting w.task a j x) (end_split v.waiting w.task b k y);
@@ -398,16 +398,16 @@ keeps_task id v other w has s kept at apart there =
       older = kept.older;
     }
   where
-    by_keeper : (s : State (Unit {0}) View) (v w : View) (j : ℕ) (u : View) (id other : ℕ) (k : ℕ) (known : RegisterState) (now : ℕ → ℕ) →
+    by_keeper : (s : State (Unit {0}) TaskView) (v w : TaskView) (j : ℕ) (u : TaskView) (id other : ℕ) (k : ℕ) (known : RegisterState) (now : ℕ → ℕ) →
         get_elem? (set s.views id (with_waiting v w)) j ≡ some u → j ≢ other →
-        (j ≢ id → get_elem? s.views j ≡ some u → FitsRegister k known now j u) → FitsRegister k known now id (with_waiting v w) → FitsRegister k known now j u
+        (j ≢ id → get_elem? s.views j ≡ some u → FitsTaskRegister k known now j u) → FitsTaskRegister k known now id (with_waiting v w) → FitsTaskRegister k known now j u
     by_keeper s v w j u id other k known now e away others mine =
         ⊎_elim
-        (λ (x : (j ≡ id) × (with_waiting v w ≡ u)). subst (λ (y : ℕ × View). FitsRegister k known now y.0 y.1) (λ i. (sym x.0 i, x.1 i)) mine)
+        (λ (x : (j ≡ id) × (with_waiting v w ≡ u)). subst (λ (y : ℕ × TaskView). FitsTaskRegister k known now y.0 y.1) (λ i. (sym x.0 i, x.1 i)) mine)
         (λ (x : (j ≢ id) × (get_elem? s.views j ≡ some u)). others x.0 x.1)
         (at_set s.views id j (with_waiting v w) u e)
 
-first_there : (l : List SeatedTask) → 0 < length l → slice_get l 0 ≡ Some (first_of l)
+first_there : (l : List SeatedTask) → 0 < length l → slice_get l 0 ≡ Some (first_waiting l)
 first_there [] lt = absurd (omega (arith, lt))
 first_there (o ∷ os) lt = refl
 
@@ -416,47 +416,47 @@ rest_there [] k o e = absurd (nothing k o e)
 rest_there (z ∷ zs) k o e = e
 
 -- the seat that has waited longest leaves the keeper's
-pub leaves_first : (id : ℕ) (v : View) → 0 < length v.waiting → Splits Ruling id v (without_first v) (only_first v)
+pub leaves_first : (id : ℕ) (v : TaskView) → 0 < length v.waiting → Splits Ruling id v (without_first_waiting v) (only_first v)
 leaves_first id v more s kept at =
     let mine = kept.each id v at in
-    let new : ℕ = length (set s.views id (without_first v)) in
-    let first : SeatedTask = first_of v.waiting in
+    let new : ℕ = length (set s.views id (without_first_waiting v)) in
+    let first : SeatedTask = first_waiting v.waiting in
     let waits = mine.waiting 0 first (first_there v.waiting more) in
     let m : ℕ = first.number in
     let here = waits.here in
-    let now : ℕ → ℕ = changed kept.at m (place_of new) in
+    let now : ℕ → ℕ = changed kept.at m (place_of_task new) in
     let behind : (k : ℕ) (o : SeatedTask) → slice_get (drop 1 v.waiting) k ≡ Some o → IsHere kept.known.starts now (place_waiting id) o =
     λ k o there.
     let stands = mine.waiting (suc k) o (rest_there v.waiting k o there) in
     record {
       is_task = stands.is_task;
-      here = changed_other kept.at m (place_of new) o.number
+      here = changed_other kept.at m (place_of_task new) o.number
           (λ e. let same = mine.apart (suc k) 0 o first (rest_there v.waiting k o there) (first_there v.waiting more) e in omega (arith, same)) ∙ stands.here;
     } in
     record {
       keeper_at = kept.keeper_at;
       known = kept.known;
       at = now;
-      each = end_each (λ j u. FitsRegister kept.keeper_at kept.known now j u) (set s.views id (without_first v)) (only_first v)
-          (set_each (λ j u. FitsRegister kept.keeper_at kept.known now j u) s.views id (without_first v)
-          (λ j u ne e. fits_still kept.keeper_at kept.known kept.at m (place_of new) j u (kept.each j u e)
+      each = end_each (λ j u. FitsTaskRegister kept.keeper_at kept.known now j u) (set s.views id (without_first_waiting v)) (only_first v)
+          (set_each (λ j u. FitsTaskRegister kept.keeper_at kept.known now j u) s.views id (without_first_waiting v)
+          (λ j u ne e. fits_still kept.keeper_at kept.known kept.at m (place_of_task new) j u (kept.each j u e)
           (λ x. omega (arith, here, x)) (λ x. omega (arith, here, x)) (λ x. ne (omega (arith, here, x))))
           (record {
             keeping = mine.keeping;
-            sitting = λ e. here_still kept.known.starts kept.at m (place_of new) (place_of id) v.task (mine.sitting e) (λ x. omega (arith, here, x));
-            bearing = λ e. here_still kept.known.starts kept.at m (place_of new) (place_beside id) v.child (mine.bearing e) (λ x. omega (arith, here, x));
+            sitting = λ e. here_still kept.known.starts kept.at m (place_of_task new) (place_of_task id) v.task (mine.sitting e) (λ x. omega (arith, here, x));
+            bearing = λ e. here_still kept.known.starts kept.at m (place_of_task new) (place_beside id) v.child (mine.bearing e) (λ x. omega (arith, here, x));
             waiting = behind;
             apart = λ j k a b x y same.
                 let next = mine.apart (suc j) (suc k) a b (rest_there v.waiting j a x) (rest_there v.waiting k b y) same in omega (arith, next);
           }))
           (record {
             keeping = λ e. absurd (off e);
-            sitting = λ e. record { is_task = waits.is_task; here = changed_there kept.at m (place_of new) };
+            sitting = λ e. record { is_task = waits.is_task; here = changed_there kept.at m (place_of_task new) };
             bearing = λ e. absurd (off e);
             waiting = λ n o there. absurd (nothing n o there);
             apart = λ i n a b there. absurd (nothing i a there);
           });
-      ended = λ k o there. here_still kept.known.starts kept.at m (place_of new) 0 o.own (kept.ended k o there) (λ x. omega (arith, here, x));
+      ended = λ k o there. here_still kept.known.starts kept.at m (place_of_task new) 0 o.own (kept.ended k o there) (λ x. omega (arith, here, x));
       older = kept.older;
     }
 
@@ -464,7 +464,7 @@ none_at_all : (starts : List TaskStart) (o : SeatedTask) → starts ≡ [] → I
 none_at_all starts o none t =
     nothing o.number o.birth (subst (λ (l : List TaskStart). slice_get l o.number ≡ Some o.birth) none t.birth)
 
-module _ (slots id : ℕ) (me : Me (Unit {0}) View) (st : Step (Unit {0})) where
+module _ (slots id : ℕ) (me : Me (Unit {0}) TaskView) (st : Step (Unit {0})) where
   -- the root is entered
   pub enters_root : (may : TaskStart → Type 0) (b : TaskStart) → me.0.is_keeper ≡ true → may b → me.0.known.starts ≡ [] →
       Allows Ruling slots id me 0 (λ n. n) (BeginsJob may st me)
@@ -474,7 +474,7 @@ module _ (slots id : ℕ) (me : Me (Unit {0}) View) (st : Step (Unit {0})) where
       let empty : kept.known.starts ≡ [] = ap (λ (k : RegisterState). k.starts) (sym known.1) ∙ none in
       let now : RegisterState = with_start kept.known b in
       let own : SeatedTask = fresh_task (length me.0.known.starts) b in
-      let w : View = record me.0 { known = with_start me.0.known b; has_child = true; child = own } in
+      let w : TaskView = record me.0 { known = with_start me.0.known b; has_child = true; child = own } in
       let long : length me.0.known.starts ≡ length kept.known.starts = ap (λ (k : RegisterState). length k.starts) known.1 in
       let places : ℕ → ℕ = changed kept.at (length me.0.known.starts) (place_beside id) in
       let begun : IsTask now.starts own =
@@ -487,7 +487,7 @@ module _ (slots id : ℕ) (me : Me (Unit {0}) View) (st : Step (Unit {0})) where
           keeper_at = kept.keeper_at;
           known = now;
           at = places;
-          each = set_each (λ j u. FitsRegister kept.keeper_at now places j u) s.views id w
+          each = set_each (λ j u. FitsTaskRegister kept.keeper_at now places j u) s.views id w
               (λ j u ne e. let f = kept.each j u e in
               record {
                 keeping = λ k. absurd (ne ((f.keeping k).0 ∙ sym known.0));
@@ -517,7 +517,7 @@ module _ (slots id : ℕ) (me : Me (Unit {0}) View) (st : Step (Unit {0})) where
       let known = mine.keeping keep in
       let own_task = mine.sitting has in
       let now : RegisterState = with_start kept.known b in
-      let w : View = record me.0 { known = with_start me.0.known b; task = with_one_more me.0.task b; has_child = true; child = fresh_task (length me.0.known.starts) b } in
+      let w : TaskView = record me.0 { known = with_start me.0.known b; task = with_one_more me.0.task b; has_child = true; child = fresh_task (length me.0.known.starts) b } in
       let long : length me.0.known.starts ≡ length kept.known.starts = ap (λ (k : RegisterState). length k.starts) known.1 in
       let n : ℕ = length me.0.known.starts in
       let places : ℕ → ℕ = changed kept.at n (place_beside id) in
@@ -532,11 +532,11 @@ module _ (slots id : ℕ) (me : Me (Unit {0}) View) (st : Step (Unit {0})) where
           keeper_at = kept.keeper_at;
           known = now;
           at = places;
-          each = set_each (λ j u. FitsRegister kept.keeper_at now places j u) s.views id w
+          each = set_each (λ j u. FitsTaskRegister kept.keeper_at now places j u) s.views id w
               (λ j u ne e. let f = kept.each j u e in
               record {
                 keeping = λ k. absurd (ne ((f.keeping k).0 ∙ sym known.0));
-                sitting = λ x. other_task kept.known.starts kept.at b me.0.task.number n id (place_of j) u.task long parent own_task.here (f.sitting x) (λ y. ne (omega (arith, y)));
+                sitting = λ x. other_task kept.known.starts kept.at b me.0.task.number n id (place_of_task j) u.task long parent own_task.here (f.sitting x) (λ y. ne (omega (arith, y)));
                 bearing = λ x. other_task kept.known.starts kept.at b me.0.task.number n id (place_beside j) u.child long parent own_task.here (f.bearing x) (λ y. omega (arith, y));
                 waiting = λ i o there. other_task kept.known.starts kept.at b me.0.task.number n id (place_waiting j) o long parent own_task.here (f.waiting i o there) (λ y. omega (arith, y));
                 apart = f.apart;
@@ -557,8 +557,8 @@ module _ (slots id : ℕ) (me : Me (Unit {0}) View) (st : Step (Unit {0})) where
         (b, allowed, refl),
       )
     where
-      other_task : (starts : List TaskStart) (places : ℕ → ℕ) (b : TaskStart) (p n seat place : ℕ) (o : SeatedTask) → n ≡ length starts → b.parent ≡ p → places p ≡ place_of seat →
-          IsHere starts places place o → (place ≡ place_of seat → ⊥) → IsHere (starts ++ b ∷ []) (changed places n (place_beside seat)) place o
+      other_task : (starts : List TaskStart) (places : ℕ → ℕ) (b : TaskStart) (p n seat place : ℕ) (o : SeatedTask) → n ≡ length starts → b.parent ≡ p → places p ≡ place_of_task seat →
+          IsHere starts places place o → (place ≡ place_of_task seat → ⊥) → IsHere (starts ++ b ∷ []) (changed places n (place_beside seat)) place o
       other_task starts places b p n seat place o long parent here h away =
           let inside = slice_get_within starts o.number o.birth h.is_task.birth in
           record {
@@ -567,7 +567,7 @@ module _ (slots id : ℕ) (me : Me (Unit {0}) View) (st : Step (Unit {0})) where
           }
 
   -- the task is over
-  pub closes : (may : EndedTask → Type 0) (o : EndedTask) → me.0.is_keeper ≡ true → me.0.is_task ≡ true → may o → o.own ≡ me.0.task →
+  pub closes : (may : TaskResult → Type 0) (o : TaskResult) → me.0.is_keeper ≡ true → me.0.is_task ≡ true → may o → o.own ≡ me.0.task →
       Allows Ruling slots id me 0 (λ n. n) (ClosesTask may st me)
   closes may o keep has allowed is s kept homes at fits =
       let mine = kept.each id me.0 at in
@@ -576,7 +576,7 @@ module _ (slots id : ℕ) (me : Me (Unit {0}) View) (st : Step (Unit {0})) where
       let here = own_task.here in
       let m : ℕ = me.0.task.number in
       let now : RegisterState = with_end kept.known o in
-      let w : View = record me.0 { known = with_end me.0.known o; is_task = false; task = no_task } in
+      let w : TaskView = record me.0 { known = with_end me.0.known o; is_task = false; task = no_seated_task } in
       let places : ℕ → ℕ = changed kept.at m 0 in (
         w,
         keeps,
@@ -585,11 +585,11 @@ module _ (slots id : ℕ) (me : Me (Unit {0}) View) (st : Step (Unit {0})) where
           keeper_at = kept.keeper_at;
           known = now;
           at = places;
-          each = set_each (λ j u. FitsRegister kept.keeper_at now places j u) s.views id w
+          each = set_each (λ j u. FitsTaskRegister kept.keeper_at now places j u) s.views id w
               (λ j u ne e. let f = kept.each j u e in
               record {
                 keeping = λ k. absurd (ne ((f.keeping k).0 ∙ sym known.0));
-                sitting = λ x. here_still kept.known.starts kept.at m 0 (place_of j) u.task (f.sitting x) (λ y. ne (omega (arith, here, y)));
+                sitting = λ x. here_still kept.known.starts kept.at m 0 (place_of_task j) u.task (f.sitting x) (λ y. ne (omega (arith, here, y)));
                 bearing = λ x. here_still kept.known.starts kept.at m 0 (place_beside j) u.child (f.bearing x) (λ y. omega (arith, here, y));
                 waiting = λ n q there. here_still kept.known.starts kept.at m 0 (place_waiting j) q (f.waiting n q there) (λ y. omega (arith, here, y));
                 apart = f.apart;
@@ -603,7 +603,7 @@ module _ (slots id : ℕ) (me : Me (Unit {0}) View) (st : Step (Unit {0})) where
               });
           ended = λ k p there. elim (end_there kept.known.over o p k there) [
             | inl was ↦ here_still kept.known.starts kept.at m 0 0 p.own (kept.ended k p was) (λ y. omega (arith, here, y))
-            | inr same ↦ subst (λ (x : SeatedTask). IsHere kept.known.starts places 0 x) (sym is ∙ ap (λ (x : EndedTask). x.own) same)
+            | inr same ↦ subst (λ (x : SeatedTask). IsHere kept.known.starts places 0 x) (sym is ∙ ap (λ (x : TaskResult). x.own) same)
                 (record { is_task = own_task.is_task; here = changed_there kept.at m 0 })
           ];
           older = kept.older;
@@ -639,7 +639,7 @@ module _ (slots id : ℕ) (me : Me (Unit {0}) View) (st : Step (Unit {0})) where
           keeper_at = kept.keeper_at;
           known = kept.known;
           at = kept.at;
-          each = λ j u e. kept.each j u (subst (λ (l : List View). get_elem? l j ≡ some u) (set_again s.views id me.0 at) e);
+          each = λ j u e. kept.each j u (subst (λ (l : List TaskView). get_elem? l j ≡ some u) (set_again s.views id me.0 at) e);
           ended = kept.ended;
           older = kept.older;
         },
@@ -647,6 +647,6 @@ module _ (slots id : ℕ) (me : Me (Unit {0}) View) (st : Step (Unit {0})) where
       )
 
 -- the first, and those behind it
-pub first_and_rest : (l : List SeatedTask) → 0 < length l → l ≡ first_of l ∷ drop 1 l
+pub first_and_rest : (l : List SeatedTask) → 0 < length l → l ≡ first_waiting l ∷ drop 1 l
 first_and_rest [] lt = absurd (omega (arith, lt))
 first_and_rest (o ∷ os) lt = refl

@@ -2,7 +2,7 @@
 use Rattle.std.specs.Prelude.{◌≡◌, ℕ, []}
 use Rattle.credit_book.specs.declared.task.Outcome.{Outcome}
 use Rattle.task_register.specs.declared.seats.TaskStart.{TaskStart}
-use Rattle.task_register.specs.declared.seats.EndedTask.{EndedTask}
+use Rattle.task_register.specs.declared.seats.TaskResult.{TaskResult}
 use Rattle.credit_book.specs.declared.task.Ticket.{Ticket}
 use Rattle.task_register.specs.declared.seats.SeatedTask.{SeatedTask}
 
@@ -28,8 +28,8 @@ start_by parent t = record {
 }
 
 -- the task of the seat, over with this outcome
-abbrev pub ended_by : SeatedTask → Outcome → EndedTask
-ended_by own o = record {
+abbrev pub ended_with : SeatedTask → Outcome → TaskResult
+ended_with own o = record {
   own = own;
   used = o.used;
   r0 = o.r0;

@@ -4,5 +4,5 @@
 mod register;
 mod seats;
 
-pub use register::{NewRegister, TaskRegister, TaskSeat};
-pub use seats::{EndedTask, JobId, RegisterState, SeatedTask, TaskStart, View};
+pub use register::{NewTaskRegister, TaskRegister, TaskSeat};
+pub use seats::{JobId, RegisterState, SeatedTask, TaskResult, TaskStart, TaskView};

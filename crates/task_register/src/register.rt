@@ -1,14 +1,14 @@
 //! The register of a job's starts, which exists in proofs alone.
 
 ghost use Rattle.std.specs.Prelude.{◌≡◌, ◌<◌, ◌∷◌, ◌++◌, [], length, slice_get, Some};
-ghost use Rattle.task_register.specs.Rule.{AllKnown, EachIs, IsOpen, keeper, fresh_task, empty_register, task_seat, with_start, with_end, with_one_more};
-ghost use Rattle.task_register.specs.Handing.{IsSeatOf, start_by, ended_by};
+ghost use Rattle.task_register.specs.Rule.{AllKnown, EachIs, IsOpen, keeper_view, fresh_task, empty_register, task_seat, with_start, with_end, with_one_more};
+ghost use Rattle.task_register.specs.Handing.{IsSeatOf, start_by, ended_with};
 ghost use Rattle.task_register.specs.declared.seats.TaskStart.{TaskStart as StartOf};
-ghost use Rattle.task_register.specs.declared.seats.EndedTask.{EndedTask as EndedOf};
+ghost use Rattle.task_register.specs.declared.seats.TaskResult.{TaskResult as EndedOf};
 
 use crate::seats::{
     EndRule, EndsTask, EntersChild, EntersRoot, FindsAll, JobId, KeepsTask, LeavesChild,
-    LeavesFirst, LeavesTask, OneSeatATask, StartRule, TakesTask, View,
+    LeavesFirst, LeavesTask, OneSeatATask, StartRule, TakesTask, TaskView,
 };
 use atomic_table::{Seat, Table};
 use credit_book::{Outcome, Ticket};
@@ -19,45 +19,45 @@ use std::snapshot::Snapshot;
 
 /// An empty register that has no name yet.
 #[derive(Drop)]
-pub struct NewRegister {
-    table: Table<(), View, (), OneSeatATask, Global>,
-    seat: Seat<(), View>,
+pub struct NewTaskRegister {
+    table: Table<(), TaskView, (), OneSeatATask, Global>,
+    seat: Seat<(), TaskView>,
 }
 
-impl Model for NewRegister {
+impl Model for NewTaskRegister {
     ghost use Rattle.std.specs.Prelude.{◌≡◌, []};
     ghost use Rattle.atomic_table.specs.Seated.{TableId};
-    ghost use Rattle.task_register.specs.Rule.{first_keeper};
+    ghost use Rattle.task_register.specs.Rule.{first_keeper_view};
 
     ghost Value = { TableId };
 
     ghost view = { λ r. r.table.shared.table_id };
 
     ghost invariant = { λ r. (r.table.shared.table_id.words ≡ 1)
-        × (r.seat.table_id ≡ r.table.shared.table_id) × (r.seat.me ≡ (first_keeper, [])) };
+        × (r.seat.table_id ≡ r.table.shared.table_id) × (r.seat.me ≡ (first_keeper_view, [])) };
 }
 
 /// The register of one job. It lies under the job's lock. Contracts see it as the tasks that were
 /// started and those that are over.
 #[derive(Drop)]
 pub struct TaskRegister<J: JobId> {
-    table: Table<(), View, (), OneSeatATask, Global>,
-    seat: Seat<(), View>,
+    table: Table<(), TaskView, (), OneSeatATask, Global>,
+    seat: Seat<(), TaskView>,
     of: PhantomData<J>,
 }
 
 impl<J: JobId> Model for TaskRegister<J> {
     ghost use Rattle.std.specs.Prelude.{◌≡◌, [], slice_get, Some};
-    ghost use Rattle.task_register.specs.Rule.{keeper, EachIs};
-    ghost use Rattle.task_register.specs.Register.{Register};
+    ghost use Rattle.task_register.specs.Rule.{keeper_view, EachIs};
+    ghost use Rattle.task_register.specs.Register.{RegisterModel};
 
-    ghost Value = { Register };
+    ghost Value = { RegisterModel };
 
     ghost view = { λ b. record { known = b.seat.me.0.known; waiting = b.seat.me.0.waiting } };
 
     ghost invariant = { λ b. (b.table.shared.table_id ≡ J.table)
         × (b.table.shared.table_id.words ≡ 1) × (b.seat.table_id ≡ J.table)
-        × (b.seat.me ≡ (keeper b.seat.me.0.known b.seat.me.0.waiting, []))
+        × (b.seat.me ≡ (keeper_view b.seat.me.0.known b.seat.me.0.waiting, []))
         × (slice_get b.seat.me.0.known.starts 0 ≡ Some J.root)
         × EachIs J.runs b.seat.me.0.known.over };
 }
@@ -65,7 +65,7 @@ impl<J: JobId> Model for TaskRegister<J> {
 /// The seat of one task, which goes with its ticket and its outcome. Contracts see it as the task.
 #[derive(Drop)]
 pub struct TaskSeat<J: JobId> {
-    seat: Seat<(), View>,
+    seat: Seat<(), TaskView>,
     of: PhantomData<J>,
 }
 
@@ -82,11 +82,11 @@ impl<J: JobId> Model for TaskSeat<J> {
         × (t.seat.me ≡ (task_seat t.seat.me.0.task, [])) };
 }
 
-impl NewRegister {
+impl NewTaskRegister {
     /// An empty register. It may answer that there is no memory.
-    pub fn new(alloc: Global) -> Result<NewRegister, NoMemory> {
+    pub fn new(alloc: Global) -> Result<NewTaskRegister, NoMemory> {
         match Table::of_words(alloc, &[0], &()) {
-            Ok((table, seat)) => Ok(NewRegister { table, seat }),
+            Ok((table, seat)) => Ok(NewTaskRegister { table, seat }),
             Err(_) => Err(NoMemory),
         }
     }
@@ -95,18 +95,18 @@ impl NewRegister {
     fn begin_as<E: StartRule>(
         mut self,
     ) -> (
-        Table<(), View, (), OneSeatATask, Global>,
-        Seat<(), View>,
-        Seat<(), View>,
+        Table<(), TaskView, (), OneSeatATask, Global>,
+        Seat<(), TaskView>,
+        Seat<(), TaskView>,
     )
         requires some { (b : StartOf) × E.enters b }
         ensures { (b : StartOf) × E.enters b × (result.0.shared.table_id ≡ self)
             × (result.0.shared.table_id.words ≡ 1) × (result.1.table_id ≡ self)
             × (result.2.table_id ≡ self)
-            × (result.1.me ≡ (keeper (with_start empty_register b) [], []))
+            × (result.1.me ≡ (keeper_view (with_start empty_register b) [], []))
             × (result.2.me ≡ (task_seat (fresh_task 0 b), [])) }
     {
-        let NewRegister { table, seat } = self;
+        let NewTaskRegister { table, seat } = self;
         let mut keeper = seat;
         table.shared.load::<EntersRoot<E>>(&mut keeper, 0);
         let root = table.shared.split_seat::<LeavesChild>(&mut keeper);
@@ -207,10 +207,10 @@ impl<J: JobId> TaskRegister<J> {
 
     /// The seat's task, which is open, is over with this outcome.
     pub fn close(&mut self, seat: TaskSeat<J>, outcome: &Snapshot<Outcome>)
-        requires runs { J.runs (ended_by seat outcome.now.value) }
+        requires runs { J.runs (ended_with seat outcome.now.value) }
         ensures open { IsOpen self.old.known self.old.waiting seat }
         ensures over { self.new ≡ record self.old {
-          known = with_end self.old.known (ended_by seat outcome.now.value);
+          known = with_end self.old.known (ended_with seat outcome.now.value);
         } }
     {
         self.close_as::<Brand>(seat, outcome);

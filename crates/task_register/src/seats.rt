@@ -24,7 +24,7 @@ pub struct SeatedTask {
 
 /// A task that is over: what it used, R0, whether it ran, and where it left which bytes. No value
 /// of it is made.
-pub struct EndedTask {
+pub struct TaskResult {
     pub own: SeatedTask,
     pub used: u32,
     pub r0: u64,
@@ -37,7 +37,7 @@ pub struct EndedTask {
 /// value of it is made.
 pub struct RegisterState {
     pub starts: LinkedList<TaskStart>,
-    pub over: LinkedList<EndedTask>,
+    pub over: LinkedList<TaskResult>,
 }
 
 /// What a seat knows. No value of it is made.
@@ -45,7 +45,7 @@ pub struct RegisterState {
 /// The keeper knows all that was started and all that is over, and the seat of a task that task.
 /// For the time of a step the keeper is the seat of a task too, and of a child of it. It keeps the
 /// seats of tasks that wait, in order.
-pub struct View {
+pub struct TaskView {
     pub is_keeper: bool,
     pub known: RegisterState,
     pub is_task: bool,
@@ -61,7 +61,7 @@ pub trait JobId {
     ghost use Rattle.atomic_table.specs.Seated.{TableId};
     ghost use Rattle.credit_book.specs.Boards.{Sign};
     ghost use Rattle.task_register.specs.declared.seats.TaskStart.{TaskStart};
-    ghost use Rattle.task_register.specs.declared.seats.EndedTask.{EndedTask};
+    ghost use Rattle.task_register.specs.declared.seats.TaskResult.{TaskResult};
 
     ghost table: { TableId };
 
@@ -69,15 +69,15 @@ pub trait JobId {
 
     ghost root: { TaskStart };
 
-    ghost runs: { EndedTask → Type 0 };
+    ghost runs: { TaskResult → Type 0 };
 }
 
 impl JobId for Brand {
-    ghost use Rattle.task_register.specs.Rule.{no_table, no_start};
+    ghost use Rattle.task_register.specs.Rule.{no_task_table, no_start};
 
-    ghost table = { no_table };
+    ghost table = { no_task_table };
 
-    ghost board = { record { table = no_table; job = 0; issued = 0 } };
+    ghost board = { record { table = no_task_table; job = 0; issued = 0 } };
 
     ghost root = { no_start };
 
@@ -87,29 +87,29 @@ impl JobId for Brand {
 /// Each task has one seat, which knows all its children.
 pub struct OneSeatATask;
 
-impl TableRule<(), View, ()> for OneSeatATask {
-    ghost use Rattle.task_register.specs.Rule.{IsRegister, first_keeper};
+impl TableRule<(), TaskView, ()> for OneSeatATask {
+    ghost use Rattle.task_register.specs.Rule.{IsTaskRegister, first_keeper_view};
 
-    ghost holds = { λ _ s. IsRegister s.views };
+    ghost holds = { λ _ s. IsTaskRegister s.views };
 
-    ghost first = { λ _. first_keeper };
+    ghost first = { λ _. first_keeper_view };
 }
 
 /// The keeper takes in the seat of a task.
 pub struct TakesTask;
 
-impl Join<View> for TakesTask {
-    ghost use Rattle.task_register.specs.Rule.{with_task, nobody};
+impl Join<TaskView> for TakesTask {
+    ghost use Rattle.task_register.specs.Rule.{with_task, empty_task_view};
 
     ghost both = { with_task };
 
-    ghost spent = { nobody };
+    ghost spent = { empty_task_view };
 }
 
 /// The keeper gives the seat of a task away.
 pub struct LeavesTask;
 
-impl Split<View> for LeavesTask {
+impl Split<TaskView> for LeavesTask {
     ghost use Rattle.task_register.specs.Rule.{without_task, only_task};
 
     ghost left = { without_task };
@@ -120,21 +120,21 @@ impl Split<View> for LeavesTask {
 /// The keeper takes in the seat of a task that waits, behind those that wait already.
 pub struct KeepsTask;
 
-impl Join<View> for KeepsTask {
-    ghost use Rattle.task_register.specs.Rule.{with_waiting, nobody};
+impl Join<TaskView> for KeepsTask {
+    ghost use Rattle.task_register.specs.Rule.{with_waiting, empty_task_view};
 
     ghost both = { with_waiting };
 
-    ghost spent = { nobody };
+    ghost spent = { empty_task_view };
 }
 
 /// The keeper gives the seat of the task away that has waited longest.
 pub struct LeavesFirst;
 
-impl Split<View> for LeavesFirst {
-    ghost use Rattle.task_register.specs.Rule.{without_first, only_first};
+impl Split<TaskView> for LeavesFirst {
+    ghost use Rattle.task_register.specs.Rule.{without_first_waiting, only_first};
 
-    ghost left = { without_first };
+    ghost left = { without_first_waiting };
 
     ghost right = { only_first };
 }
@@ -142,7 +142,7 @@ impl Split<View> for LeavesFirst {
 /// The keeper gives the seat of a new child away.
 pub struct LeavesChild;
 
-impl Split<View> for LeavesChild {
+impl Split<TaskView> for LeavesChild {
     ghost use Rattle.task_register.specs.Rule.{without_child, only_child};
 
     ghost left = { without_child };
@@ -163,9 +163,9 @@ impl StartRule for Brand {
 
 /// Says what an end may be. Each call picks it.
 pub trait EndRule {
-    ghost use Rattle.task_register.specs.declared.seats.EndedTask.{EndedTask};
+    ghost use Rattle.task_register.specs.declared.seats.TaskResult.{TaskResult};
 
-    ghost ends: { EndedTask → Type 0 };
+    ghost ends: { TaskResult → Type 0 };
 }
 
 impl EndRule for Brand {
@@ -177,7 +177,7 @@ pub struct EntersRoot<E: StartRule> {
     of: PhantomData<E>,
 }
 
-impl<E: StartRule> Play<(), View> for EntersRoot<E> {
+impl<E: StartRule> Play<(), TaskView> for EntersRoot<E> {
     ghost use Rattle.task_register.specs.Rule.{BeginsJob};
 
     ghost then = { BeginsJob E.enters };
@@ -188,7 +188,7 @@ pub struct EntersChild<E: StartRule> {
     of: PhantomData<E>,
 }
 
-impl<E: StartRule> Play<(), View> for EntersChild<E> {
+impl<E: StartRule> Play<(), TaskView> for EntersChild<E> {
     ghost use Rattle.task_register.specs.Rule.{AddsChild};
 
     ghost then = { AddsChild E.enters };
@@ -199,7 +199,7 @@ pub struct EndsTask<E: EndRule> {
     of: PhantomData<E>,
 }
 
-impl<E: EndRule> Play<(), View> for EndsTask<E> {
+impl<E: EndRule> Play<(), TaskView> for EndsTask<E> {
     ghost use Rattle.task_register.specs.Rule.{ClosesTask};
 
     ghost then = { ClosesTask E.ends };
@@ -208,7 +208,7 @@ impl<E: EndRule> Play<(), View> for EndsTask<E> {
 /// The keeper finds what each task that is over was started with, and all its children.
 pub struct FindsAll;
 
-impl Play<(), View> for FindsAll {
+impl Play<(), TaskView> for FindsAll {
     ghost use Rattle.task_register.specs.Rule.{KnowsAll};
 
     ghost then = { KnowsAll };

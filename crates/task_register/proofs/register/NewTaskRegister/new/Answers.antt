@@ -1,5 +1,5 @@
 use Rattle.task_register.proofs.Steps.{begins}
-use Rattle.task_register.proofs.register.NewRegister.new.Goals as goal
+use Rattle.task_register.proofs.register.NewTaskRegister.new.Goals as goal
 
 pub of_words-requires : goal.of_words-requires
 of_words-requires c = begins

@@ -2,7 +2,7 @@ use Rattle.std.proofs.Common.{ap, ◌∙◌, arith}
 use mathlib.Core.Option.{none}
 use Rattle.atomic_table.specs.Table.{step}
 use Rattle.task_register.proofs.Steps.{enters_root, leaves_child}
-use Rattle.task_register.proofs.register.NewRegister.begin_as.Goals as goal
+use Rattle.task_register.proofs.register.NewTaskRegister.begin_as.Goals as goal
 
 pub load-requires : goal.load-requires
 load-requires g c = (
