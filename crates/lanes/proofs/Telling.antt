@@ -8,9 +8,9 @@ use mathlib.Core.Logic.{dite}
 use native.Mathlib.Decide.{dec_lt, ℕ_discrete}
 use lib.ListN.{get_elem?}
 use Rattle.crossbeam_deque.specs.Tasks.{Finds, FindsFew, Blocks, Learns}
-use Rattle.lanes.specs.declared.moves.Task.{Task}
+use Rattle.lanes.specs.declared.moves.TicketData.{TicketData}
 use Rattle.lanes.specs.declared.moves.Moves.{Moves}
-use Rattle.lanes.specs.Interleaving.{IsInterleaving, Stands, FoundNone, ThiefFoundNone, IsFull}
+use Rattle.lanes.specs.Interleaving.{IsInterleaving, Stands, FoundNone, ThiefFoundNone, HasNoFreeSlot}
 use Rattle.lanes.specs.Laws.{KnowItsName}
 use Rattle.lanes.specs.Rule.{Interleaved, taken_by, times}
 
@@ -62,20 +62,20 @@ spot f g k (n ∷ ns) same one_of =
     (λ e. let is = one_other n k e in let more : times k ns ≡ 1 = omega (arith, one_of, is) in let h = spot f g k ns same more in
     (suc h.0, h.1, ap (λ y. y ∷ set (map f ns) h.0 (g k)) (same n e) ∙ ap (λ l. g n ∷ l) h.2))
 
-all_empty : (names : List ℕ) → All (λ (l : List Task). l ≡ []) (map (λ (c : ℕ). taken_by c []) names)
+all_empty : (names : List ℕ) → All (λ (l : List TicketData). l ≡ []) (map (λ (c : ℕ). taken_by c []) names)
 all_empty [] = λ k d lt. absurd (let never : ⊥ = omega (arith, lt) in never)
-all_empty (n ∷ ns) = All-cons (λ (l : List Task). l ≡ []) [] (map (λ (c : ℕ). taken_by c []) ns) refl (all_empty ns)
+all_empty (n ∷ ns) = All-cons (λ (l : List TicketData). l ≡ []) [] (map (λ (c : ℕ). taken_by c []) ns) refl (all_empty ns)
 
-not_both : (t : Task) (ts l : List Task) → l ≡ t ∷ ts → l ≡ [] → ⊥
+not_both : (t : TicketData) (ts l : List TicketData) → l ≡ t ∷ ts → l ≡ [] → ⊥
 not_both t ts l is none = cc
 
 -- what left in one order is an interleaving of what each caller took
-interleaves : (order : List (ℕ × Task)) (names : List ℕ) → ((c : ℕ) → times c names ≤ 1) → ((c : ℕ) → times c names ≡ 0 → taken_by c order ≡ [])
-    → IsInterleaving (map (λ c. taken_by c order) names) (map (λ (e : ℕ × Task). e.1) order)
+interleaves : (order : List (ℕ × TicketData)) (names : List ℕ) → ((c : ℕ) → times c names ≤ 1) → ((c : ℕ) → times c names ≡ 0 → taken_by c order ≡ [])
+    → IsInterleaving (map (λ c. taken_by c order) names) (map (λ (e : ℕ × TicketData). e.1) order)
 interleaves [] names apart nobody = all_empty names
 interleaves (e ∷ es) names apart nobody =
-    let f : ℕ → List Task = λ c. taken_by c (e ∷ es) in
-    let g : ℕ → List Task = λ c. taken_by c es in
+    let f : ℕ → List TicketData = λ c. taken_by c (e ∷ es) in
+    let g : ℕ → List TicketData = λ c. taken_by c es in
     let same : (c : ℕ) → c ≢ e.0 → f c ≡ g c = λ c n. rw (ne_eqb e.0 c (λ p. n (sym p))) refl in
     let first : f e.0 ≡ e.1 ∷ g e.0 = rw (eq-eqb e.0 e.0 refl) refl in
     let most = apart e.0 in
@@ -86,18 +86,18 @@ interleaves (e ∷ es) names apart nobody =
       at.0,
       g e.0,
       at.1 ∙ ap Some first,
-      subst (λ (l : List (List Task)). IsInterleaving l (map (λ (x : ℕ × Task). x.1) es)) (sym at.2)
+      subst (λ (l : List (List TicketData)). IsInterleaving l (map (λ (x : ℕ × TicketData). x.1) es)) (sym at.2)
           (interleaves es names apart (λ c z. dite (ℕ_discrete c e.0)
           (λ p. absurd (let zero_here : times e.0 names ≡ 0 = subst (λ (n : ℕ). times n names ≡ 0) p z in let never : ⊥ = omega (arith, zero_here, here) in never))
           (λ n. sym (same c n) ∙ nobody c z))),
     )
 
-module _ {X : Type 0} (task : X → Task) where
+module _ {X : Type 0} (task : X → TicketData) where
   pub told : (items : List X) (views : List Moves) (v : Moves) (h : Interleaved task items views) → get_elem? views 0 ≡ some v
-      → IsInterleaving (v.taken ∷ map (λ c. taken_by c h.order) h.out ++ v.gathered) (map (λ (e : ℕ × Task). e.1) h.order)
+      → IsInterleaving (v.taken ∷ map (λ c. taken_by c h.order) h.out ++ v.gathered) (map (λ (e : ℕ × TicketData). e.1) h.order)
   told items views v h at =
       let mine : v ≡ h.owner = some-injective v h.owner (sym at ∙ h.owner_is) in
-      let f : ℕ → List Task = λ c. taken_by c h.order in
+      let f : ℕ → List TicketData = λ c. taken_by c h.order in
       let owns = h.owns in
       let sums : (c : ℕ) → times c (h.out ++ h.back) ≡ times c h.out + times c h.back = λ c. times-append c h.out h.back in
       let apart : (c : ℕ) → times c (0 ∷ h.out ++ h.back) ≤ 1
@@ -113,7 +113,7 @@ module _ {X : Type 0} (task : X → Task) where
       let lists : map f (0 ∷ h.out ++ h.back) ≡ v.taken ∷ map f h.out ++ v.gathered
       = ap (λ l. taken_by 0 h.order ∷ l) (map-append f h.out h.back ∙ ap (λ l. map f h.out ++ l) (sym (ap (λ (m : Moves). m.gathered) mine ∙ h.gathered)))
       ∙ ap (λ l. l ∷ map f h.out ++ v.gathered) (sym (ap (λ (m : Moves). m.taken) mine ∙ h.own)) in
-      subst (λ (l : List (List Task)). IsInterleaving l (map (λ (e : ℕ × Task). e.1) h.order)) lists (interleaves h.order (0 ∷ h.out ++ h.back) apart nobody)
+      subst (λ (l : List (List TicketData)). IsInterleaving l (map (λ (e : ℕ × TicketData). e.1) h.order)) lists (interleaves h.order (0 ∷ h.out ++ h.back) apart nobody)
 
   pub counted : (items : List X) (views : List Moves) (v : Moves) (h : Interleaved task items views) → get_elem? views 0 ≡ some v
       → length (map (λ c. taken_by c h.order) h.out) + length v.gathered ≡ v.thieves
@@ -131,7 +131,7 @@ module _ {X : Type 0} (task : X → Task) where
     out = map (λ c. taken_by c h.order) h.out;
     count = counted items views v h at;
     shared = record {
-      left = map (λ (e : ℕ × Task). e.1) h.order;
+      left = map (λ (e : ℕ × TicketData). e.1) h.order;
       interleaved = told items views v h at;
       whole = ap (λ (m : Moves). m.pushed) (some-injective v h.owner (sym at ∙ h.owner_is)) ∙ h.whole;
     };
@@ -161,7 +161,7 @@ module _ {X : Type 0} (task : X → Task) where
   pub thief_finds_none : (caller : ℕ) (v : Moves) → v.steals ≡ true → FindsFew (Interleaved task) 0 caller v (ThiefFoundNone task v)
   thief_finds_none caller v may items views few h at = found_there caller v views may (subst (λ (l : List X). Interleaved task l views) (empty_of items few) h) at
 
-  pub is_full : (capacity : ℕ) (v : Moves) → Blocks (Interleaved task) capacity 0 v (IsFull task capacity v)
+  pub is_full : (capacity : ℕ) (v : Moves) → Blocks (Interleaved task) capacity 0 v (HasNoFreeSlot task capacity v)
   is_full capacity v items views why h at = elim why [
     | inl many ↦ inl (record { items = items; many = many; stands = stands_of items views v h at })
     | inr other ↦

@@ -1,9 +1,9 @@
 -- A worker tries the ways into the others' lanes one after the other.
 use Rattle.std.proofs.Common.{◌≡◌, ℕ, zero, suc, ◌+◌, ◌<◌, List, [], ◌∷◌, length, get_or, set, subst, arith}
-use Rattle.lanes.specs.declared.moves.Task.{Task}
+use Rattle.lanes.specs.declared.moves.TicketData.{TicketData}
 use Rattle.lanes.specs.Sharing.{InOther, GaveNone, FirstGaveNone}
 
-module _ {X : Type 0} (task : X → Task) (tries : ℕ) where
+module _ {X : Type 0} (task : X → TicketData) (tries : ℕ) where
   one_more : (place : ℕ) (old now : List InOther) (way tried : InOther) → place < length now → way ≡ get_or now place way
       → GaveNone task tries way tried → FirstGaveNone task tries place old now → FirstGaveNone task tries (suc place) old (set now place tried)
   one_more zero old [] way tried lt here none so_far = absurd (let never : ⊥ = omega (arith, lt) in never)

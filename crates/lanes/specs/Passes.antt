@@ -2,20 +2,20 @@
 use Rattle.std.specs.Prelude.{◌≡◌, ◌⊎◌, true, ℕ, ◌<◌}
 use Rattle.crossbeam_deque.specs.Handles.{view, taken, worker_view, worker_deque, worker_index, IsPassOf, stealer_deque, Pass as Seat}
 use Rattle.lanes.specs.declared.moves.Moves.{Moves}
-use Rattle.lanes.specs.declared.moves.Task.{Task}
+use Rattle.lanes.specs.declared.moves.TicketData.{TicketData}
 use Rattle.lanes.specs.Interleaving.{new_thief, ThiefFoundNone}
-use Rattle.lanes.specs.declared.ends.Lane.{Lane}
-use Rattle.lanes.specs.declared.ends.Stolen.{Stolen}
-use Rattle.lanes.specs.declared.ends.Stolen.TheVariants.{Got, Empty, Retry}
-use Rattle.lanes.specs.declared.ends.Thief.{Thief}
-use Rattle.lanes.specs.declared.ends.Pass.{Pass}
-use Rattle.lanes.specs.declared.ends.Owning.{Owning}
-use Rattle.lanes.specs.declared.ends.Stealing.{Stealing}
+use Rattle.lanes.specs.declared.deque.Lane.{Lane}
+use Rattle.lanes.specs.declared.deque.Stolen.{Stolen}
+use Rattle.lanes.specs.declared.deque.Stolen.TheVariants.{Got, Empty, Retry}
+use Rattle.lanes.specs.declared.deque.Thief.{Thief}
+use Rattle.lanes.specs.declared.deque.Pass.{Pass}
+use Rattle.lanes.specs.declared.deque.Owning.{Owning}
+use Rattle.lanes.specs.declared.deque.Stealing.{Stealing}
 
 module _ {T V A : Type 0} where
   -- what one knows that has a bare seat
-  abbrev pub known : Seat T V A → V
-  known seat = view seat
+  abbrev pub known_moves : Seat T V A → V
+  known_moves seat = view seat
 
   -- how many tickets one with a bare seat knows to have left the lane
   abbrev pub known_gone : Seat T V A → ℕ
@@ -77,7 +77,7 @@ module _ {X : Type 0} where
   MatchStolen Empty empty retry got = empty
   MatchStolen Retry empty retry got = retry
 
-  module _ (task : X → Task) where
+  module _ (task : X → TicketData) where
     -- Another caller came first: a ticket left the lane since the thief last looked. Or the lane
     -- had none.
     abbrev pub CameTooLate : Moves → ℕ → ℕ → Type 0

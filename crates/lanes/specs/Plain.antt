@@ -1,9 +1,9 @@
 -- A ticket as plain data.
 use Rattle.credit_book.specs.declared.task.Ticket.{Ticket}
-use Rattle.lanes.specs.declared.moves.Task.{Task}
+use Rattle.lanes.specs.declared.moves.TicketData.{TicketData}
 
-abbrev pub task_of : Ticket → Task
-task_of t = record {
+abbrev pub ticket_data : Ticket → TicketData
+ticket_data t = record {
   job = t.job;
   number = t.number;
   program = t.program;

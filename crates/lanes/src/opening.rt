@@ -4,7 +4,7 @@ ghost use Rattle.std.specs.Prelude.{◌≡◌, ◌≤◌, All, IfOk, vec_len};
 ghost use Rattle.lanes.specs.Interleaving.{with_thieves};
 ghost use Rattle.lanes.specs.Passes.{moves_of, next_place, IsOwner, IsNewThief};
 
-use crate::ends::{Lane, Owning, Pass, Stealing, Thief};
+use crate::deque::{Lane, Owning, Pass, Stealing, Thief};
 use crate::moves::Carried;
 use refusal::NoMemory;
 use std::alloc::Global;

@@ -37,17 +37,17 @@ pub(crate) struct Put<S: Slots> {
 }
 
 impl<T: Carried, S: Slots> Outcome<T, Moves> for Put<S> {
-    ghost use Rattle.lanes.specs.Interleaving.{OwnerPut, IsFull};
+    ghost use Rattle.lanes.specs.Interleaving.{OwnerPut, HasNoFreeSlot};
 
     ghost then = { OwnerPut T.task };
 
-    ghost full = { IsFull T.task S.slots };
+    ghost full = { HasNoFreeSlot T.task S.slots };
 }
 
 /// What a pop tells its lane's owner: also that there was none, where there was none.
-pub(crate) struct Took;
+pub(crate) struct Popped;
 
-impl<T: Carried> Outcome<T, Moves> for Took {
+impl<T: Carried> Outcome<T, Moves> for Popped {
     ghost use Rattle.lanes.specs.Interleaving.{OwnerTook, FoundNone};
 
     ghost then = { OwnerTook T.task };
@@ -78,20 +78,20 @@ impl Split<Moves> for Hires {
 }
 
 /// The name that a call picks for a lane.
-pub(crate) trait Name {
+pub(crate) trait LaneName {
     ghost lane: { ℕ };
 }
 
-impl Name for Brand {
+impl LaneName for Brand {
     ghost lane = { 0 };
 }
 
 /// The owner gives its lane a name, and makes a pass for a thief that knows it.
-pub(crate) struct Names<N: Name> {
+pub(crate) struct Names<N: LaneName> {
     of: PhantomData<N>,
 }
 
-impl<N: Name> Split<Moves> for Names<N> {
+impl<N: LaneName> Split<Moves> for Names<N> {
     ghost use Rattle.lanes.specs.Interleaving.{with_thief, new_thief};
 
     ghost left = { with_thief N.lane };
@@ -111,9 +111,9 @@ impl Join<Moves> for Gathers {
 }
 
 /// What a look at the tickets tells its lane's owner.
-pub(crate) struct Looks;
+pub(crate) struct SeesTickets;
 
-impl<T: Carried> Lesson<T, Moves> for Looks {
+impl<T: Carried> Lesson<T, Moves> for SeesTickets {
     ghost use Rattle.lanes.specs.Interleaving.{Stands};
 
     ghost fact = { λ m items. Stands T.task items m };

@@ -1,11 +1,11 @@
 //! The lanes of workers that steal from one another.
 ghost use Rattle.std.specs.Prelude.{◌≡◌, ◌+◌, ◌<◌, ◌≤◌, [], ◌∷◌, All, IfOk, MatchResult, MatchOption, length, vec_len};
-ghost use Rattle.lanes.specs.Interleaving.{new_thief, with_thief, HasNoRoom};
+ghost use Rattle.lanes.specs.Interleaving.{new_thief, with_thief, RefusesTicket};
 ghost use Rattle.lanes.specs.Sharing.{AreApart, AreNew, AreNewTo, IsAlone, IsIdle, IsTaken, IsUnused, LeadRound, Puts, lanes_of};
 
-use crate::ends::Lane;
+use crate::deque::Lane;
 use crate::moves::Carried;
-use crate::way::{Way, first_stolen};
+use crate::seated_thief::{SeatedThief, first_stolen};
 use refusal::NoMemory;
 use std::alloc::Global;
 use std::marker::{Brand, Model};
@@ -15,7 +15,7 @@ use std::marker::{Brand, Model};
 #[derive(Drop)]
 pub struct Lanes<T: Carried> {
     own: Lane<T>,
-    ways: Vec<Way<T>>,
+    ways: Vec<SeatedThief<T>>,
 }
 
 impl<T: Carried> Model for Lanes<T> {
@@ -53,7 +53,7 @@ impl<T: Carried> Lanes<T> {
     }
 
     /// A way into its own lane, for another worker.
-    fn way(&mut self) -> Result<Way<T>, NoMemory>
+    fn way(&mut self) -> Result<SeatedThief<T>, NoMemory>
         ensures made { IfOk result (λ _. self.new ≡ record {
           own = record {
             lane = self.old.own.lane;
@@ -66,11 +66,11 @@ impl<T: Carried> Lanes<T> {
             × (way.moved ≡ new_thief self.old.own.lane.name)) }
     {
         let (thief, seat) = self.own.way()?;
-        Ok(Way::new(thief, seat))
+        Ok(SeatedThief::new(thief, seat))
     }
 
     /// Gives it these ways.
-    fn meet(&mut self, ways: Vec<Way<T>>)
+    fn meet(&mut self, ways: Vec<SeatedThief<T>>)
         ensures { self.new ≡ record { own = self.old.own; others = ways.items } }
     {
         self.ways = ways;
@@ -81,7 +81,7 @@ impl<T: Carried> Lanes<T> {
     pub fn push(&mut self, ticket: T) -> Result<(), T>
         ensures { MatchResult result (λ _. Puts T.task self.old (ticket ∷ []) self.new)
             (λ back. (back ≡ ticket) × (self.new ≡ self.old)
-            × HasNoRoom T.task self.old.own.next self.old.own.moved) }
+            × RefusesTicket T.task self.old.own.next self.old.own.moved) }
     {
         self.own.put(ticket)
     }
@@ -105,7 +105,7 @@ fn ways_of<T: Carried>(
     alloc: Global,
     all: &mut Vec<Lanes<T>>,
     place: usize,
-) -> Result<Vec<Way<T>>, NoMemory>
+) -> Result<Vec<SeatedThief<T>>, NoMemory>
     requires within { place < length all.old.items }
     requires unused { All (λ m. IsUnused m.own) all.old.items }
     requires made { AreNewTo place all.old.items }

@@ -12,10 +12,10 @@ use Rattle.credit_book.specs.declared.book.Report.{Report}
 use Rattle.credit_book.specs.History.{table_of}
 use Rattle.task_trees.specs.Solo.{IsGiven}
 use Rattle.task_register.specs.declared.seats.TaskStart.{TaskStart}
-use Rattle.task_register.specs.declared.seats.EndedTask.{EndedTask}
+use Rattle.task_register.specs.declared.seats.TaskResult.{TaskResult}
 use Rattle.task_register.specs.Rule.{EachIs}
-use Rattle.job_answer.specs.Agreement.{Tells, EndsSo, shares}
-use Rattle.job_answer.specs.Gathered.{IsRun}
+use Rattle.job_answer.specs.Agreement.{ReportsStart, EndsSo, shares}
+use Rattle.job_answer.specs.Gathered.{RanByItself}
 use Rattle.job_answer.specs.Closing.{ClosesJob}
 use Rattle.job_answer.specs.OneAnswer.{RunsOrNot, runs_by}
 use Rattle.job_answer.proofs.Closing.{balance_closed}
@@ -34,7 +34,7 @@ unmapped [] n p e = absurd (cc)
 unmapped (x ∷ xs) zero p e = (x, refl, one_some (Some (program_of x)) (program_of x) p refl e)
 unmapped (x ∷ xs) (suc n) p e = unmapped xs n p e
 
-each_at : (P : EndedTask → Type 0) (os : List EndedTask) (k : ℕ) (o : EndedTask) → EachIs P os → slice_get os k ≡ Some o → P o
+each_at : (P : TaskResult → Type 0) (os : List TaskResult) (k : ℕ) (o : TaskResult) → EachIs P os → slice_get os k ≡ Some o → P o
 each_at P [] k o each e = absurd (cc)
 each_at P (x ∷ xs) zero o each e = subst P (one_some (Some x) x o refl e) each.0
 each_at P (x ∷ xs) (suc k) o each e = each_at P xs k o each.1 e
@@ -43,24 +43,24 @@ one_where : Bool → ℕ
 one_where b = cond b 1 0
 
 -- where some is counted, there is one
-some_counted : (os : List EndedTask) (n : ℕ) → count_by (λ (o : EndedTask). o.own.number == n) os ≡ 1 →
-    (k : ℕ) × (o : EndedTask) × (slice_get os k ≡ Some o) × (o.own.number ≡ n)
+some_counted : (os : List TaskResult) (n : ℕ) → count_by (λ (o : TaskResult). o.own.number == n) os ≡ 1 →
+    (k : ℕ) × (o : TaskResult) × (slice_get os k ≡ Some o) × (o.own.number ≡ n)
 unfolding one_where
 some_counted [] n one = absurd (omega (arith, one))
 some_counted (x ∷ xs) n one = by_test (x.own.number == n) refl (λ rest. some_counted xs n rest)
   where
     by_test : (b : Bool) → (x.own.number == n) ≡ b →
-        (count_by (λ (o : EndedTask). o.own.number == n) xs ≡ 1 → (k : ℕ) × (o : EndedTask) × (slice_get xs k ≡ Some o) × (o.own.number ≡ n)) →
-        (k : ℕ) × (o : EndedTask) × (slice_get (x ∷ xs) k ≡ Some o) × (o.own.number ≡ n)
+        (count_by (λ (o : TaskResult). o.own.number == n) xs ≡ 1 → (k : ℕ) × (o : TaskResult) × (slice_get xs k ≡ Some o) × (o.own.number ≡ n)) →
+        (k : ℕ) × (o : TaskResult) × (slice_get (x ∷ xs) k ≡ Some o) × (o.own.number ≡ n)
     by_test true t ih = (0, x, refl, grind (arith, nat_tests))
     by_test false t ih =
-        let split = sum_by-cons (λ (o : EndedTask). one_where (o.own.number == n)) x xs in
+        let split = sum_by-cons (λ (o : TaskResult). one_where (o.own.number == n)) x xs in
         let none : one_where (x.own.number == n) ≡ zero = ap one_where t in
         let later = ih (omega (arith, one, split, none)) in
         (suc later.0, later.1, later.2, later.3)
 
-gives : (programs : List Checked) (o : EndedTask) (e : TaskEnd) (n : ℕ) → Tells n o.own.birth e → e.spent ≡ o.used → e.r0 ≡ o.r0 →
-    e.spent + e.rest + shares o.own.children ≡ o.own.birth.share → IsRun (map program_of programs) o → GivesAlone programs e.program e.arg e.given e.r0 e.spent e.rest
+gives : (programs : List Checked) (o : TaskResult) (e : TaskEnd) (n : ℕ) → ReportsStart n o.own.birth e → e.spent ≡ o.used → e.r0 ≡ o.r0 →
+    e.spent + e.rest + shares o.own.children ≡ o.own.birth.share → RanByItself (map program_of programs) o → GivesAlone programs e.program e.arg e.given e.r0 e.spent e.rest
 gives programs o e n tells spent r0 balance run =
     let p = unmapped programs o.own.birth.program run.program run.there in
     let left = (run_left (map program_of programs) o run).0 in
@@ -77,7 +77,7 @@ gives programs o e n tells spent r0 balance run =
       rest_is = held;
     })
 
-ended_by_ran : (b : Bool) (programs : List Checked) (o : EndedTask) (e : TaskEnd) (n : ℕ) → o.ran ≡ b → Tells n o.own.birth e → e.spent ≡ o.used → e.r0 ≡ o.r0 → e.ran ≡ o.ran →
+ended_by_ran : (b : Bool) (programs : List Checked) (o : TaskResult) (e : TaskEnd) (n : ℕ) → o.ran ≡ b → ReportsStart n o.own.birth e → e.spent ≡ o.used → e.r0 ≡ o.r0 → e.ran ≡ o.ran →
     e.spent + e.rest + shares o.own.children ≡ o.own.birth.share → runs_by b (map program_of programs) o → ended_alone b programs e
 ended_by_ran true programs o e n ran tells spent r0 same balance run = gives programs o e n tells spent r0 balance run
 ended_by_ran false programs o e n ran tells spent r0 same balance run =
@@ -94,7 +94,7 @@ module _ (programs : List Checked) (job issued size : ℕ) (root : TaskStart) (r
       let counted = desk_once closed.known closed.history closed.agrees closed.complete n ∙ times_below n (length closed.known.starts) lt in
       let found = some_counted closed.known.over n counted in
       let k = found.0 in
-      let o : EndedTask = found.1 in
+      let o : TaskResult = found.1 in
       let ends : EndsSo (table_of closed.history).tasks o = closed.agrees.table.ended k o found.2 in
       let born = (closed.all.tasks k o found.2).birth in
       let tells = closed.agrees.table.told o.own.number o.own.birth born in
@@ -102,7 +102,7 @@ module _ (programs : List Checked) (job issued size : ℕ) (root : TaskStart) (r
       ap (slice_get (table_of closed.history).tasks) found.3 ∙ sym (ap (λ (ts : List TaskEnd). slice_get ts n) closed.report_of.tasks) ∙ here in
       let same : ends.end ≡ e = one_some (slice_get (table_of closed.history).tasks o.own.number) ends.end e ends.there there in
       let told : tells.0 ≡ e = one_some (slice_get (table_of closed.history).tasks o.own.number) tells.0 e tells.1 there in
-      let tell : Tells o.own.number o.own.birth e = subst (λ (x : TaskEnd). Tells o.own.number o.own.birth x) told tells.2 in
+      let tell : ReportsStart o.own.number o.own.birth e = subst (λ (x : TaskEnd). ReportsStart o.own.number o.own.birth x) told tells.2 in
       let spent : e.spent ≡ o.used = subst (λ (x : TaskEnd). x.spent ≡ o.used) same ends.spent in
       let r0 : e.r0 ≡ o.r0 = subst (λ (x : TaskEnd). x.r0 ≡ o.r0) same ends.r0 in
       let ran : e.ran ≡ o.ran = subst (λ (x : TaskEnd). x.ran ≡ o.ran) same ends.ran in

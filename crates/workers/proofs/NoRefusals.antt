@@ -19,12 +19,12 @@ use Rattle.credit_book.specs.Books.{Account, IsEndFault, IsParkFault, end_event,
 use Rattle.credit_book.specs.History.{IsHistoryOf, is_alive, is_fresh, may_work, standing_at, table_of, without_first}
 use Rattle.credit_book.proofs.Histories.{table_of-push}
 use Rattle.credit_book.proofs.Sound.{at_end, bit, parked, sound_of, times}
-use Rattle.task_register.specs.declared.seats.EndedTask.{EndedTask}
+use Rattle.task_register.specs.declared.seats.TaskResult.{TaskResult}
 use Rattle.task_register.specs.declared.seats.RegisterState.{RegisterState}
 use Rattle.task_register.specs.declared.seats.SeatedTask.{SeatedTask}
-use Rattle.task_register.specs.Handing.{ended_by}
+use Rattle.task_register.specs.Handing.{ended_with}
 use Rattle.task_register.specs.Rule.{IsOpen}
-use Rattle.job_answer.specs.Agreement.{RegisterAgrees, alive_at, gone, shares}
+use Rattle.job_answer.specs.Agreement.{RegisterAgrees, alive_at, ended_standing, shares}
 use Rattle.job_answer.specs.OneAnswer.{IsPaidFor}
 use Rattle.job_answer.proofs.Keyed.{times_below, zero_if}
 use Rattle.workers.specs.Locked.{AreSeats, IsJustSpawned}
@@ -64,7 +64,7 @@ just_spawned h h' parent r is =
     let left : Standing = record { held = (standing_at (table_of h) parent).held - r.share; stage = (standing_at (table_of h) parent).stage } in
     let long = length-set ss parent left in
     ap (λ t. is_fresh (standing_at t (length ss)).stage) (ap table_of is ∙ table_of-push h (spawn_event parent (length ss) r))
-    ∙ at_end (λ (s : Standing). is_fresh s.stage ≡ true) (set ss parent left) (length ss) (record { held = r.share; stage = Fresh }) gone
+    ∙ at_end (λ (s : Standing). is_fresh s.stage ≡ true) (set ss parent left) (length ss) (record { held = r.share; stage = Fresh }) ended_standing
     (omega (arith, long)) (λ lt. absurd (omega (arith, lt, long))) (λ _. refl)
 
 pub parks : (a : Account) (t : Ticket) (fault : BookFault) → t.job ≡ a.board.job → IsJustSpawned a t.number → IsParkFault a t fault → ⊥
@@ -75,12 +75,12 @@ parks a t NoMemory job fresh why = why
 
 -- ---- a task that has a seat
 
-none_over : (os : List EndedTask) (n : ℕ) → ((k : ℕ) (e : EndedTask) → slice_get os k ≡ Some e → e.own.number ≢ n) → count_by (λ (o : EndedTask). o.own.number == n) os ≡ 0
+none_over : (os : List TaskResult) (n : ℕ) → ((k : ℕ) (e : TaskResult) → slice_get os k ≡ Some e → e.own.number ≢ n) → count_by (λ (o : TaskResult). o.own.number == n) os ≡ 0
 none_over [] n none = refl
 none_over (o ∷ os) n none =
     let later = none_over os n (λ k e there. none (suc k) e there) in
     let first = zero_if o.own.number n (none 0 o refl) in
-    omega (arith, sum_by-cons (λ (x : EndedTask). cond (x.own.number == n) 1 0) o os, later, first)
+    omega (arith, sum_by-cons (λ (x : TaskResult). cond (x.own.number == n) 1 0) o os, later, first)
 
 none_waits : (job : ℕ) (ts : List Ticket) (ss : List SeatedTask) (n : ℕ) → AreSeats job ts ss → ((k : ℕ) (w : SeatedTask) → slice_get ss k ≡ Some w → w.number ≢ n) → times n (numbers ts) ≡ 0
 none_waits job [] ss n seats none = refl
@@ -120,7 +120,7 @@ module _ (job issued : ℕ) (h : List Event) (known : RegisterState) (ts : List 
       works_by (standing_at (table_of h) own.number).stage is_alive_now
       (sym ((sound_of job issued h legal).0.queued own.number) ∙ ap (times own.number) queued ∙ none_waits job ts ss own.number seats open_now.not_waiting)
 
-  pub affords : (o : Outcome) → IsPaidFor (ended_by own o) → o.used ≤ (standing_at (table_of h) own.number).held
+  pub affords : (o : Outcome) → IsPaidFor (ended_with own o) → o.used ≤ (standing_at (table_of h) own.number).held
   affords o paid =
       let balanced = (agrees.table.balanced own.number own.birth open_now.task.birth).alive is_alive_now in
       let children = ap shares open_now.task.children in

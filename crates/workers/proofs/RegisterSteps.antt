@@ -16,14 +16,14 @@ use Rattle.std.proofs.lemmas.List.Sums.{sum_by-cons}
 use Rattle.credit_book.specs.declared.event.TaskEnd.{TaskEnd}
 use Rattle.credit_book.specs.History.{new_task}
 use Rattle.task_register.specs.Rule.{empty_register}
-use Rattle.job_answer.specs.Agreement.{Tells, alive_at}
+use Rattle.job_answer.specs.Agreement.{ReportsStart, alive_at}
 use Rattle.job_answer.proofs.Keyed.{zero_if}
 use Rattle.task_register.specs.declared.seats.TaskStart.{TaskStart}
 use Rattle.task_register.specs.declared.seats.SeatedTask.{SeatedTask}
-use Rattle.task_register.specs.declared.seats.EndedTask.{EndedTask}
+use Rattle.task_register.specs.declared.seats.TaskResult.{TaskResult}
 use Rattle.task_register.specs.declared.seats.RegisterState.{RegisterState}
 use Rattle.task_register.specs.Rule.{children_in, with_start, with_end}
-use Rattle.task_register.specs.Handing.{IsSeatOf, start_by, ended_by}
+use Rattle.task_register.specs.Handing.{IsSeatOf, start_by, ended_with}
 use Rattle.job_answer.specs.Agreement.{Balances, RegisterAgrees, shares}
 use Rattle.job_answer.proofs.Desking.{desk_spawn, desk_park, desk_claim, desk_end}
 use Rattle.workers.specs.Locked.{AreSeats}
@@ -50,13 +50,13 @@ has_parked job issued n known h h' desk is legal =
     subst (λ l. RegisterAgrees known l) (sym is) (desk_park known h desk n (may_last job issued h h' (Park n) is legal))
 
 pub ended : (job issued : ℕ) (known known' : RegisterState) (h h' : List Event) (own : SeatedTask) (o : Outcome) → RegisterAgrees known h → own.number ≡ o.number →
-    h' ≡ h ++ end_event o ∷ [] → IsHistoryOf job issued h' → known' ≡ with_end known (ended_by own o) → RegisterAgrees known' h'
+    h' ≡ h ++ end_event o ∷ [] → IsHistoryOf job issued h' → known' ≡ with_end known (ended_with own o) → RegisterAgrees known' h'
 ended job issued known known' h h' own o desk number is legal now =
     let e : Event = End own.number o.used o.r0 o.ran o.part.base o.part.bytes in
     let same : end_event o ≡ e = ap (λ n. End n o.used o.r0 o.ran o.part.base o.part.bytes) (sym number) in
     let is' : h' ≡ h ++ e ∷ [] = is ∙ ap (λ x. h ++ x ∷ []) same in
-    subst (λ k. RegisterAgrees k h') (sym now) (subst (λ l. RegisterAgrees (with_end known (ended_by own o)) l) (sym is')
-    (desk_end known h desk (ended_by own o) (may_last job issued h h' e is' legal)))
+    subst (λ k. RegisterAgrees k h') (sym now) (subst (λ l. RegisterAgrees (with_end known (ended_with own o)) l) (sym is')
+    (desk_end known h desk (ended_with own o) (may_last job issued h h' e is' legal)))
 
 pub seats_push : (job : ℕ) (ts : List Ticket) (ss : List SeatedTask) (t : Ticket) (s : SeatedTask) → AreSeats job ts ss → IsSeatOf t s → t.job ≡ job →
     AreSeats job (ts ++ t ∷ []) (ss ++ s ∷ [])
@@ -66,10 +66,10 @@ seats_push job (t' ∷ ts) [] t s a h own = absurd a
 seats_push job (t' ∷ ts) (x ∷ xs) t s a h own = (a.0, a.1, seats_push job ts xs t s a.2 h own)
 
 told_first : (root : TaskStart) (issued : ℕ) → root.program ≡ 0 → root.arg ≡ 0 → root.share ≡ issued → (n : ℕ) (b : TaskStart) → slice_get (root ∷ []) n ≡ Some b →
-    (e : TaskEnd) × (slice_get (new_task 0 0 0 issued ∷ []) n ≡ Some e) × Tells n b e
+    (e : TaskEnd) × (slice_get (new_task 0 0 0 issued ∷ []) n ≡ Some e) × ReportsStart n b e
 told_first root issued p a s zero b there =
     let same : root ≡ b = cc in
-    (new_task 0 0 0 issued, refl, subst (λ x. Tells 0 x (new_task 0 0 0 issued)) same (record { number = refl; program = sym p; arg = sym a; given = sym s }))
+    (new_task 0 0 0 issued, refl, subst (λ x. ReportsStart 0 x (new_task 0 0 0 issued)) same (record { number = refl; program = sym p; arg = sym a; given = sym s }))
 told_first root issued p a s (suc n) b there = absurd (cc)
 
 counted_first : (issued : ℕ) (n : ℕ) → 0 + alive_at (record { held = issued; stage = Fresh } ∷ []) n ≡ count_by (λ (k : ℕ). k == n) (0 ∷ [])
@@ -101,7 +101,7 @@ opened job issued root known h p a s now is =
       left = λ size. refl;
     }))
   where
-    none : (k : ℕ) (o : EndedTask) → slice_get [] k ≡ Some o → ⊥
+    none : (k : ℕ) (o : TaskResult) → slice_get [] k ≡ Some o → ⊥
     none k o there = cc
 
     nobody : (k : ℕ) (b : TaskStart) → slice_get [] k ≡ Some b → ⊥

@@ -11,16 +11,16 @@ use Rattle.task_trees.specs.Solo.{SpawnRequest}
 use Rattle.task_run.specs.Through.{GoesThrough}
 use Rattle.task_register.specs.declared.seats.TaskStart.{TaskStart}
 use Rattle.task_register.specs.declared.seats.SeatedTask.{SeatedTask}
-use Rattle.task_register.specs.declared.seats.EndedTask.{EndedTask}
-use Rattle.task_register.specs.Handing.{IsSeatOf, ended_by}
+use Rattle.task_register.specs.declared.seats.TaskResult.{TaskResult}
+use Rattle.task_register.specs.Handing.{IsSeatOf, ended_with}
 use Rattle.task_register.specs.Rule.{with_one_more}
 use Rattle.job_answer.specs.SpawnTree.{taken}
-use Rattle.job_answer.specs.Gathered.{IsRun, handed}
+use Rattle.job_answer.specs.Gathered.{RanByItself, handed}
 use Rattle.job_answer.specs.Children.{AddsEachChild, HasAdded, start_of}
 use Rattle.job_answer.specs.OneAnswer.{IsNotRun, RunsOrNot, runs_by}
 use Rattle.job_answer.proofs.ChildrenLemmas.{has_borne}
 use Rattle.workers.specs.Outcomes.{IsOutcome, IsRunOf, IsUnrun, by_ran}
-use Rattle.workers.specs.Seats.{HasOneMore, IsOver, task_in}
+use Rattle.workers.specs.Seats.{HasOneMore, IsTaskOver, task_in}
 
 -- the task of a ticket, with these children
 abbrev seated_as : Ticket → ℕ → List TaskStart → SeatedTask
@@ -73,7 +73,7 @@ mapped (x ∷ xs) zero p e = ap (λ (o : Option Checked). some_program o) e
 mapped (x ∷ xs) (suc n) p e = mapped xs n p e
 
 run_is : (programs : List Checked) (ticket : Ticket) (through : List SpawnRequest → Type 0) (outcome : Outcome) (parent : ℕ) (run : IsRunOf programs ticket through outcome) →
-    IsRun (map program_of programs) (ended_by (seated_as ticket parent (map (handed ticket.number ticket.part.base) (taken run.run.alone.asked))) outcome)
+    RanByItself (map program_of programs) (ended_with (seated_as ticket parent (map (handed ticket.number ticket.part.base) (taken run.run.alone.asked))) outcome)
 run_is programs ticket through outcome parent run = record {
   program = program_of run.program;
   there = mapped programs ticket.program run.program run.named;
@@ -87,7 +87,7 @@ run_is programs ticket through outcome parent run = record {
   children = refl;
 }
 
-unrun_is : (ticket : Ticket) (outcome : Outcome) (parent : ℕ) → IsUnrun ticket outcome → IsNotRun (ended_by (seated_as ticket parent []) outcome)
+unrun_is : (ticket : Ticket) (outcome : Outcome) (parent : ℕ) → IsUnrun ticket outcome → IsNotRun (ended_with (seated_as ticket parent []) outcome)
 unrun_is ticket outcome parent u = record {
   used = u.used;
   r0 = u.r0;
@@ -97,8 +97,8 @@ unrun_is ticket outcome parent u = record {
 }
 
 module _ {S : Type 0} (old new : S) (turn : S → Option SeatedTask) (spawns : S → SpawnRecord → Result (Unit {0}) SpawnRecord → S → Type 0)
-    (adds : AddsEachChild (λ s. task_in (turn s)) spawns) (programs : List Checked) (holds : EndedTask → Type 0)
-    (allows : (o : EndedTask) → RunsOrNot (map program_of programs) o → holds o) (ticket : Ticket) (task : SeatedTask)
+    (adds : AddsEachChild (λ s. task_in (turn s)) spawns) (programs : List Checked) (holds : TaskResult → Type 0)
+    (allows : (o : TaskResult) → RunsOrNot (map program_of programs) o → holds o) (ticket : Ticket) (task : SeatedTask)
     (there : turn old ≡ Some task) (seat : IsSeatOf ticket task) (few : ticket.number < 2 ^ 32) (outcome : Outcome) where
   -- a seat of a task that has a number is there
   is_there : (o : Option SeatedTask) (own : SeatedTask) → task_in o ≡ own → own.number ≡ ticket.number → o ≡ Some own
@@ -107,7 +107,7 @@ module _ {S : Type 0} (old new : S) (turn : S → Option SeatedTask) (spawns : S
       absurd (omega (arith, big, few))
   is_there (Some t) own is number = ap Some is
 
-  over_ran : outcome.ran ≡ true → IsRunOf programs ticket (λ asked. GoesThrough spawns ticket.part.base old asked new) outcome → IsOver holds (turn new) outcome
+  over_ran : outcome.ran ≡ true → IsRunOf programs ticket (λ asked. GoesThrough spawns ticket.part.base old asked new) outcome → IsTaskOver holds (turn new) outcome
   over_ran ran run =
       let asked = run.run.alone.asked in
       let added = has_borne (λ s. task_in (turn s)) spawns adds ticket.part.base old new asked run.run.alone.went in
@@ -119,28 +119,28 @@ module _ {S : Type 0} (old new : S) (turn : S → Option SeatedTask) (spawns : S
         task = own;
         there = is_there (turn new) own is refl;
         number = sym run.run.number;
-        runs = allows (ended_by own outcome)
-            (subst (λ (b : Bool). runs_by b (map program_of programs) (ended_by own outcome)) (sym ran) (run_is programs ticket _ outcome task.birth.parent run));
+        runs = allows (ended_with own outcome)
+            (subst (λ (b : Bool). runs_by b (map program_of programs) (ended_with own outcome)) (sym ran) (run_is programs ticket _ outcome task.birth.parent run));
       }
 
-  over_unrun : outcome.ran ≡ false → IsUnrun ticket outcome → new ≡ old → IsOver holds (turn new) outcome
+  over_unrun : outcome.ran ≡ false → IsUnrun ticket outcome → new ≡ old → IsTaskOver holds (turn new) outcome
   over_unrun ran unrun same =
       let own : SeatedTask = seated_as ticket task.birth.parent [] in
       record {
         task = own;
         there = ap turn same ∙ there ∙ ap Some (begun_as ticket task seat);
         number = sym unrun.number;
-        runs = allows (ended_by own outcome)
-            (subst (λ (b : Bool). runs_by b (map program_of programs) (ended_by own outcome)) (sym ran) (unrun_is ticket outcome task.birth.parent unrun));
+        runs = allows (ended_with own outcome)
+            (subst (λ (b : Bool). runs_by b (map program_of programs) (ended_with own outcome)) (sym ran) (unrun_is ticket outcome task.birth.parent unrun));
       }
 
   by_either : (b : Bool) → outcome.ran ≡ b →
       by_ran b (IsRunOf programs ticket (λ asked. GoesThrough spawns ticket.part.base old asked new) outcome) (IsUnrun ticket outcome × (new ≡ old)) →
-      IsOver holds (turn new) outcome
+      IsTaskOver holds (turn new) outcome
   by_either true ran h = over_ran ran h
   by_either false ran h = over_unrun ran h.0 h.1
 
-  pub is_over : IsOutcome programs ticket (λ asked. GoesThrough spawns ticket.part.base old asked new) (new ≡ old) outcome → IsOver holds (turn new) outcome
+  pub is_over : IsOutcome programs ticket (λ asked. GoesThrough spawns ticket.part.base old asked new) (new ≡ old) outcome → IsTaskOver holds (turn new) outcome
   is_over h = by_either outcome.ran refl h
 
 -- a child more, and no other change of what is known

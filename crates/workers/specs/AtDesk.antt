@@ -17,14 +17,14 @@ IsParked old ticket new =
     (new.waiting ≡ old.waiting ++ ticket ∷ []) × HasMore old (Park ticket.number) new
 
 -- the task has ended
-abbrev pub IsEnded : Account → Outcome → Account → Type 0
-IsEnded old outcome new = (new.waiting ≡ old.waiting) × HasMore old (end_event outcome) new
+abbrev pub IsTaskEnded : Account → Outcome → Account → Type 0
+IsTaskEnded old outcome new = (new.waiting ≡ old.waiting) × HasMore old (end_event outcome) new
 
 -- each of these tasks, in this order
-abbrev pub AreEnded : Account → List Outcome → Account → Type 0
-AreEnded old [] new = new ≡ old
-AreEnded old (outcome ∷ outcomes) new =
-    (between : Account) × IsEnded old outcome between × AreEnded between outcomes new
+abbrev pub AreTasksEnded : Account → List Outcome → Account → Type 0
+AreTasksEnded old [] new = new ≡ old
+AreTasksEnded old (outcome ∷ outcomes) new =
+    (between : Account) × IsTaskEnded old outcome between × AreTasksEnded between outcomes new
 
 -- the ticket that waited first, and none where none waits
 abbrev pub IsClaimed : Account → Option Ticket → Account → Type 0

@@ -5,7 +5,7 @@ use Rattle.credit_book.specs.declared.task.Outcome.{Outcome}
 use Rattle.credit_book.specs.declared.task.Ticket.{Ticket}
 use Rattle.credit_book.specs.Books.{Account, spawn_event, ticket_of}
 use Rattle.credit_book.specs.History.{table_of}
-use Rattle.lanes.specs.Plain.{task_of}
+use Rattle.lanes.specs.Plain.{ticket_data}
 use Rattle.lanes.specs.Sharing.{IsIdle, IsTaken, Moved, Puts}
 use Rattle.workers.specs.AtDesk.{HasMore, IsParked}
 
@@ -13,13 +13,13 @@ use Rattle.workers.specs.AtDesk.{HasMore, IsParked}
 -- turn it is.
 abbrev pub Finds : Moved → Option Ticket → Moved → ℕ → Type 0
 Finds old (Some ticket) new turn =
-    (turn ≡ ticket.number) × (IsTaken task_of old ticket new ⊎ IsIdle task_of old new)
-Finds old None new turn = IsIdle task_of old new
+    (turn ≡ ticket.number) × (IsTaken ticket_data old ticket new ⊎ IsIdle ticket_data old new)
+Finds old None new turn = IsIdle ticket_data old new
 
 -- into the worker's own lane, or, where there was no room for it, elsewhere; no lane lost anything
 -- by it
 abbrev pub IsKept : Moved → Ticket → Moved → Type 0
-IsKept old ticket new = Puts task_of old (ticket ∷ []) new ⊎ (new ≡ old)
+IsKept old ticket new = Puts ticket_data old (ticket ∷ []) new ⊎ (new ≡ old)
 
 -- the ticket of this child, whatever its number in its job
 pub record IsHanded (old : Moved) (child : SpawnRecord) (new : Moved) : Type 0 where
@@ -31,7 +31,7 @@ pub record IsHanded (old : Moved) (child : SpawnRecord) (new : Moved) : Type 0 w
 -- are as they were
 abbrev pub IsKeptBeside : Moved → Account → Ticket → Moved → Account → Type 0
 IsKeptBeside lanes desk ticket lanes_after desk_after =
-    (Puts task_of lanes (ticket ∷ []) lanes_after × (desk_after ≡ desk))
+    (Puts ticket_data lanes (ticket ∷ []) lanes_after × (desk_after ≡ desk))
     ⊎ ((lanes_after ≡ lanes) × IsParked desk ticket desk_after)
 
 -- The book at the desk has this child, whose parent is the task whose turn it is. Its ticket is

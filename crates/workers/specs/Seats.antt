@@ -3,8 +3,8 @@ use Rattle.std.specs.Prelude.{◌≡◌, [], Option, Some, None}
 use Rattle.helpers.specs.declared.spawner.SpawnRecord.{SpawnRecord}
 use Rattle.credit_book.specs.declared.task.Outcome.{Outcome}
 use Rattle.task_register.specs.declared.seats.SeatedTask.{SeatedTask}
-use Rattle.task_register.specs.declared.seats.EndedTask.{EndedTask}
-use Rattle.task_register.specs.Handing.{ended_by}
+use Rattle.task_register.specs.declared.seats.TaskResult.{TaskResult}
+use Rattle.task_register.specs.Handing.{ended_with}
 use Rattle.task_register.specs.Rule.{no_start, with_one_more}
 use Rattle.job_answer.specs.Children.{start_of}
 use Rattle.job_answer.specs.OneAnswer.{IsPaidFor}
@@ -26,13 +26,13 @@ pub record HasOneMore (old : Option SeatedTask) (child : SpawnRecord) (new : Opt
   pub after : new ≡ Some (with_one_more task (start_of task.number child))
 
 -- the task ran as is to hold of each, and was paid for
-abbrev pub IsSettled : (EndedTask → Type 0) → EndedTask → Type 0
-IsSettled runs o = runs o × IsPaidFor o
+abbrev pub RanAndPaid : (TaskResult → Type 0) → TaskResult → Type 0
+RanAndPaid runs o = runs o × IsPaidFor o
 
 -- the seat is that of the outcome's task, of which this holds
-pub record IsOver (holds : EndedTask → Type 0) (seat : Option SeatedTask) (outcome : Outcome) :
+pub record IsTaskOver (holds : TaskResult → Type 0) (seat : Option SeatedTask) (outcome : Outcome) :
     Type 0 where
   pub task : SeatedTask
   pub there : seat ≡ Some task
   pub number : task.number ≡ outcome.number
-  pub runs : holds (ended_by task outcome)
+  pub runs : holds (ended_with task outcome)

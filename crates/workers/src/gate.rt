@@ -1,6 +1,6 @@
 //! Who is told of the tasks that run.
 
-use task_run::Listener;
+use task_run::RunObserver;
 
 /// Is told of each task ahead of its first step and past its last one, by the worker that runs it.
 pub trait Gate {
@@ -23,12 +23,12 @@ impl Gate for OpenGate {
 
 /// A gate, beside whoever is told how the tasks go on.
 #[derive(Drop)]
-pub(crate) struct Heard<'a, 'b, G, L> {
+pub(crate) struct GateAndObserver<'a, 'b, G, L> {
     pub gate: &'a G,
-    pub listener: &'b L,
+    pub observer: &'b L,
 }
 
-impl<G: Gate, L> Gate for Heard<'_, '_, G, L> {
+impl<G: Gate, L> Gate for GateAndObserver<'_, '_, G, L> {
     fn before(&self, number: u32) {
         self.gate.before(number);
     }
@@ -38,8 +38,8 @@ impl<G: Gate, L> Gate for Heard<'_, '_, G, L> {
     }
 }
 
-impl<G, L: Listener> Listener for Heard<'_, '_, G, L> {
+impl<G, L: RunObserver> RunObserver for GateAndObserver<'_, '_, G, L> {
     fn pause(&self) {
-        self.listener.pause();
+        self.observer.pause();
     }
 }

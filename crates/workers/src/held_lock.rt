@@ -1,13 +1,13 @@
-//! A worker's stay at the desk, from one spawn of a task to the next.
+//! How long a worker keeps its job's lock, from one spawn of a task to the next.
 
 use crate::worker::AtDesk;
 use std::cell::RefCell;
 use task_register::JobId;
-use task_run::Listener;
+use task_run::RunObserver;
 
-/// A stay, and whether the task has spawned since the last stretch of it ended.
+/// The lock, held, and whether the task has spawned since the last stretch of it ended.
 #[derive(Drop)]
-struct Visit<'a, J: JobId> {
+struct LockHold<'a, J: JobId> {
     desk: AtDesk<'a, J>,
     has_spawned: bool,
 }
@@ -17,46 +17,46 @@ struct Visit<'a, J: JobId> {
 /// leaves once a stretch of the task has gone by without a spawn, at its end at the latest.
 #[derive(Drop)]
 pub(crate) struct HeldLock<'a, J: JobId> {
-    visit: RefCell<Option<Visit<'a, J>>>,
+    hold: RefCell<Option<LockHold<'a, J>>>,
 }
 
 impl<'a, J: JobId> HeldLock<'a, J> {
     /// The worker is away from the desk.
     pub fn away() -> HeldLock<'a, J> {
         HeldLock {
-            visit: RefCell::new(None),
+            hold: RefCell::new(None),
         }
     }
 
     /// The desk, if the worker is at it. Whoever drops what this gives leaves it.
     pub fn take(&self) -> Option<AtDesk<'a, J>> {
-        match self.visit.try_replace(None) {
-            Ok(Some(visit)) => Some(visit.desk),
+        match self.hold.try_replace(None) {
+            Ok(Some(hold)) => Some(hold.desk),
             _ => None,
         }
     }
 
     /// Stays at the desk after a spawn.
     pub fn go_on(&self, desk: AtDesk<'a, J>) {
-        self.set(Visit {
+        self.set(LockHold {
             desk,
             has_spawned: true,
         });
     }
 
-    fn set(&self, visit: Visit<'a, J>) {
-        let _ = self.visit.try_replace(Some(visit));
+    fn set(&self, hold: LockHold<'a, J>) {
+        let _ = self.hold.try_replace(Some(hold));
     }
 }
 
-impl<J: JobId> Listener for HeldLock<'_, J> {
+impl<J: JobId> RunObserver for HeldLock<'_, J> {
     /// Leaves the desk, unless the task spawned a child in this stretch.
     fn pause(&self) {
-        if let Ok(Some(visit)) = self.visit.try_replace(None)
-            && visit.has_spawned
+        if let Ok(Some(hold)) = self.hold.try_replace(None)
+            && hold.has_spawned
         {
-            self.set(Visit {
-                desk: visit.desk,
+            self.set(LockHold {
+                desk: hold.desk,
                 has_spawned: false,
             });
         }

@@ -7,9 +7,9 @@ ghost use Rattle.credit_book.specs.declared.fault.BookFault.{BookFault};
 ghost use Rattle.credit_book.specs.History.{IsComplete, table_of};
 ghost use Rattle.job_answer.specs.Closing.{ClosesJob};
 ghost use Rattle.job_answer.specs.OneAnswer.{IsPaidFor};
-ghost use Rattle.task_register.specs.Handing.{ended_by, start_by};
+ghost use Rattle.task_register.specs.Handing.{ended_with, start_by};
 ghost use Rattle.task_register.specs.Rule.{empty_register, with_one_more, with_start};
-ghost use Rattle.workers.specs.AtDesk.{AreEnded, HasMore, IsClaimed, IsEnded, IsParked};
+ghost use Rattle.workers.specs.AtDesk.{AreTasksEnded, HasMore, IsClaimed, IsTaskEnded, IsParked};
 ghost use Rattle.workers.specs.Final.{IsFinal};
 ghost use Rattle.workers.specs.Locked.{IsJustSpawned};
 
@@ -123,9 +123,9 @@ impl<J: JobId> LockedBook<J> {
     fn end_seated(&mut self, outcome: Outcome, seat: TaskSeat<J>)
         requires number { seat.number ≡ outcome.number }
         requires job { outcome.job ≡ J.board.job }
-        requires runs { J.runs (ended_by seat outcome) }
-        requires paid { IsPaidFor (ended_by seat outcome) }
-        ensures { IsEnded self.old outcome self.new }
+        requires runs { J.runs (ended_with seat outcome) }
+        requires paid { IsPaidFor (ended_with seat outcome) }
+        ensures { IsTaskEnded self.old outcome self.new }
     {
         let _ = self.book.job();
         let was = Snapshot::of(&outcome);
@@ -138,7 +138,7 @@ impl<J: JobId> LockedBook<J> {
 
     /// Ends a task.
     pub fn end(&mut self, seated: SeatedOutcome<J>)
-        ensures { IsEnded self.old seated self.new }
+        ensures { IsTaskEnded self.old seated self.new }
     {
         let (outcome, seat) = seated.into_parts();
         self.end_seated(outcome, seat);
@@ -147,7 +147,7 @@ impl<J: JobId> LockedBook<J> {
     /// Ends tasks, the last of the list first.
     pub fn end_all(&mut self, outcomes: &mut Vec<SeatedOutcome<J>>)
         ensures all { outcomes.new.items ≡ [] }
-        ensures ended { AreEnded self.old (reverse outcomes.old.items) self.new }
+        ensures ended { AreTasksEnded self.old (reverse outcomes.old.items) self.new }
     {
         while let Some(outcome) = outcomes.pop() {
             self.end(outcome);

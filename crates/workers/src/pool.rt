@@ -4,11 +4,11 @@ ghost use Rattle.std.specs.Prelude.{◌≡◌, ◌≤◌, IfOk, length, map};
 ghost use Rattle.job_answer.specs.Gathered.{root_start};
 ghost use Rattle.job_answer.specs.OneAnswer.{RunsOrNot};
 ghost use Rattle.job_core.specs.Admitted.{AreOwn};
-ghost use Rattle.task_register.specs.declared.seats.EndedTask.{EndedTask};
+ghost use Rattle.task_register.specs.declared.seats.TaskResult.{TaskResult};
 ghost use Rattle.verifier.specs.Checked.{program_of};
 
 use crate::bell::Rest;
-use crate::gate::{Gate, Heard};
+use crate::gate::{Gate, GateAndObserver};
 use crate::held_lock::HeldLock;
 use crate::locked_book::LockedBook;
 use crate::seated::SeatedTicket;
@@ -22,7 +22,7 @@ use std::alloc::Global;
 use std::sync::Wait;
 use std::thread;
 use std::thread::{Scope, Threads};
-use task_register::{JobId, NewRegister};
+use task_register::{JobId, NewTaskRegister};
 use task_run::Frames;
 use verifier::Verified;
 
@@ -38,38 +38,38 @@ pub(crate) fn work<'s, R: Wait, G: Gate, J: JobId + 'static>(
     rt: &'s R,
     shared: &'s Shared<J>,
     gate: &'s G,
-    worker: Station<J>,
+    station: Station<J>,
     alloc: Global,
 ) -> Station<J> {
-    let Station { watch, lanes } = worker;
+    let Station { watch, lanes } = station;
     let mut watch = watch;
     let mut frames = Frames::new(alloc);
-    let stay = HeldLock::away();
-    let heard = Heard {
+    let held_lock = HeldLock::away();
+    let gate_and_observer = GateAndObserver {
         gate,
-        listener: &stay,
+        observer: &held_lock,
     };
-    let mut hands = Worker::new(rt, alloc, shared, &stay, lanes);
+    let mut worker = Worker::new(rt, alloc, shared, &held_lock, lanes);
     let mut rest = Rest::new(shared.bell());
     for _ in rt.forever() {
-        match hands.find() {
+        match worker.find() {
             Some(ticket) => {
                 rest.end();
-                let outcome = hands.run(alloc, ticket, &mut frames, &heard);
-                hands.end(outcome);
+                let outcome = worker.run(alloc, ticket, &mut frames, &gate_and_observer);
+                worker.end(outcome);
             }
             None => {
                 if watch.is_complete() {
                     break;
                 }
-                rest.pause(rt, hands.has_looked());
+                rest.pause(rt, worker.has_looked());
             }
         }
     }
     shared.bell().ring_for_all();
     Station {
         watch,
-        lanes: hands.into_lanes(),
+        lanes: worker.into_lanes(),
     }
 }
 
@@ -141,7 +141,7 @@ pub(crate) fn open_workers<J: JobId + 'static>(
 /// name.
 pub(crate) fn open_shared<J: JobId + 'static>(
     alloc: Global,
-    register: NewRegister,
+    register: NewTaskRegister,
     programs: Vec<Verified>,
     buffer: Vec<u8>,
     post: Post,
@@ -152,7 +152,7 @@ pub(crate) fn open_shared<J: JobId + 'static>(
     requires short { length buffer.items ≤ 65536 }
     requires few { length programs.items ≤ 16 }
     requires own { AreOwn programs.items }
-    requires runs { (o : EndedTask) → RunsOrNot (map program_of programs.items) o → J.runs o }
+    requires runs { (o : TaskResult) → RunsOrNot (map program_of programs.items) o → J.runs o }
     ensures { IfOk result (λ shared. shared ≡ programs.items) }
 {
     let (book, root) = Book::open(alloc, post, Part::whole(buffer))?;

@@ -5,7 +5,7 @@ ghost use Rattle.job_answer.specs.Closing.{ClosesJob};
 ghost use Rattle.job_answer.specs.Gathered.{root_start};
 ghost use Rattle.job_answer.specs.OneAnswer.{AllRan, HasOneAnswer, RunsOrNot};
 ghost use Rattle.job_core.specs.Admitted.{AreOwn};
-ghost use Rattle.task_register.specs.declared.seats.EndedTask.{EndedTask};
+ghost use Rattle.task_register.specs.declared.seats.TaskResult.{TaskResult};
 ghost use Rattle.verifier.specs.Checked.{program_of};
 ghost use Rattle.workers.specs.Final.{IsFinal};
 ghost use Rattle.workers.specs.EndedAlone.{EndedAlone};
@@ -20,14 +20,14 @@ use std::alloc::Global;
 use std::marker::Brand;
 use std::sync::Wait;
 use std::thread::Threads;
-use task_register::{JobId, NewRegister};
+use task_register::{JobId, NewTaskRegister};
 use verifier::Verified;
 
 /// Runs the job under a name, as [`run_job`] does.
 fn run_as<R: Threads + Wait + Sync, G: Gate + Sync, J: JobId + Send + Sync + 'static>(
     rt: &R,
     alloc: Global,
-    register: NewRegister,
+    register: NewTaskRegister,
     programs: Vec<Verified>,
     buffer: Vec<u8>,
     post: Post,
@@ -41,16 +41,16 @@ fn run_as<R: Threads + Wait + Sync, G: Gate + Sync, J: JobId + Send + Sync + 'st
     requires short { length buffer.items ≤ 65536 }
     requires few { length programs.items ≤ 16 }
     requires own { AreOwn programs.items }
-    requires runs { (o : EndedTask) → RunsOrNot (map program_of programs.items) o → J.runs o }
+    requires runs { (o : TaskResult) → RunsOrNot (map program_of programs.items) o → J.runs o }
     ensures report { IfOk result
         (λ report. IsFinal J.board.job J.board.issued (length J.root.bytes) report) }
     ensures closes { IfOk result (λ report. ClosesJob J.board.job J.board.issued
         (length J.root.bytes) J.root J.runs report) }
 {
     let mut post = post;
-    let crew = open_workers::<J>(alloc, &mut post, workers)?;
+    let stations = open_workers::<J>(alloc, &mut post, workers)?;
     let shared = open_shared::<J>(alloc, register, programs, buffer, post)?;
-    if !run_in_threads(rt, alloc, &shared, crew, gate) {
+    if !run_in_threads(rt, alloc, &shared, stations, gate) {
         return Err(PoolFault::NoWorker);
     }
     match shared.close() {
@@ -63,7 +63,7 @@ fn run_as<R: Threads + Wait + Sync, G: Gate + Sync, J: JobId + Send + Sync + 'st
 fn run_alone_as<R: Wait, G: Gate, J: JobId + 'static>(
     rt: &R,
     alloc: Global,
-    register: NewRegister,
+    register: NewTaskRegister,
     programs: Vec<Verified>,
     buffer: Vec<u8>,
     post: Post,
@@ -75,7 +75,7 @@ fn run_alone_as<R: Wait, G: Gate, J: JobId + 'static>(
     requires short { length buffer.items ≤ 65536 }
     requires few { length programs.items ≤ 16 }
     requires own { AreOwn programs.items }
-    requires runs { (o : EndedTask) → RunsOrNot (map program_of programs.items) o → J.runs o }
+    requires runs { (o : TaskResult) → RunsOrNot (map program_of programs.items) o → J.runs o }
     ensures report { IfOk result
         (λ report. IsFinal J.board.job J.board.issued (length J.root.bytes) report) }
     ensures closes { IfOk result (λ report. ClosesJob J.board.job J.board.issued
@@ -83,8 +83,8 @@ fn run_alone_as<R: Wait, G: Gate, J: JobId + 'static>(
     ensures refused { IfErr result (λ fault. fault ≡ NoMemory) }
 {
     let mut post = post;
-    let mut crew = open_workers::<J>(alloc, &mut post, 1)?;
-    let mut worker = match crew.pop() {
+    let mut stations = open_workers::<J>(alloc, &mut post, 1)?;
+    let mut worker = match stations.pop() {
         Some(worker) => worker,
         None => unreachable!(),
     };
@@ -128,7 +128,7 @@ pub fn run_job<R: Threads + Wait + Sync, G: Gate + Sync>(
     ensures answer { IfOk result (λ report. AllRan report
         → HasOneAnswer (map program_of job.programs) job.credit job.buffer report) }
 {
-    let register = NewRegister::new(alloc)?;
+    let register = NewTaskRegister::new(alloc)?;
     let (programs, credit, buffer) = job.into_parts();
     let _ = credit;
     run_as::<R, G, Brand>(rt, alloc, register, programs, buffer, post, workers, gate)
@@ -154,7 +154,7 @@ pub fn run_here<R: Wait, G: Gate>(
         → HasOneAnswer (map program_of job.programs) job.credit job.buffer report) }
     ensures refused { IfErr result (λ fault. fault ≡ NoMemory) }
 {
-    let register = NewRegister::new(alloc)?;
+    let register = NewTaskRegister::new(alloc)?;
     let (programs, credit, buffer) = job.into_parts();
     let _ = credit;
     run_alone_as::<R, G, Brand>(rt, alloc, register, programs, buffer, post, gate)

@@ -1,8 +1,8 @@
 //! Tickets and outcomes with the seats of their tasks. A seat has no bytes: it exists in proofs alone.
 
 ghost use Rattle.std.specs.Prelude.{◌≡◌};
-ghost use Rattle.task_register.specs.Handing.{IsSeatOf, ended_by};
-ghost use Rattle.workers.specs.Seats.{IsSettled};
+ghost use Rattle.task_register.specs.Handing.{IsSeatOf, ended_with};
+ghost use Rattle.workers.specs.Seats.{RanAndPaid};
 
 use credit_book::{Outcome, Ticket};
 use lanes::Carried;
@@ -29,9 +29,9 @@ impl<J: JobId> Model for SeatedTicket<J> {
 }
 
 impl<J: JobId> Carried for SeatedTicket<J> {
-    ghost use Rattle.lanes.specs.Plain.{task_of};
+    ghost use Rattle.lanes.specs.Plain.{ticket_data};
 
-    ghost task = { task_of };
+    ghost task = { ticket_data };
 }
 
 impl<J: JobId> SeatedTicket<J> {
@@ -73,15 +73,15 @@ pub(crate) struct SeatedOutcome<J: JobId> {
 impl<J: JobId> Model for SeatedOutcome<J> {
     ghost use Rattle.std.specs.Prelude.{◌≡◌};
     ghost use Rattle.credit_book.specs.declared.task.Outcome.{Outcome};
-    ghost use Rattle.task_register.specs.Handing.{ended_by};
-    ghost use Rattle.workers.specs.Seats.{IsSettled};
+    ghost use Rattle.task_register.specs.Handing.{ended_with};
+    ghost use Rattle.workers.specs.Seats.{RanAndPaid};
 
     ghost Value = { Outcome };
 
     ghost view = { λ e. e.outcome };
 
     ghost invariant = { λ e. (e.seat.number ≡ e.outcome.number)
-        × (e.outcome.job ≡ J.board.job) × IsSettled J.runs (ended_by e.seat e.outcome) };
+        × (e.outcome.job ≡ J.board.job) × RanAndPaid J.runs (ended_with e.seat e.outcome) };
 }
 
 impl<J: JobId> SeatedOutcome<J> {
@@ -89,7 +89,7 @@ impl<J: JobId> SeatedOutcome<J> {
     pub fn new(outcome: Outcome, seat: TaskSeat<J>) -> SeatedOutcome<J>
         requires number { seat.number ≡ outcome.number }
         requires job { outcome.job ≡ J.board.job }
-        requires settled { IsSettled J.runs (ended_by seat outcome) }
+        requires settled { RanAndPaid J.runs (ended_with seat outcome) }
         ensures { result ≡ outcome }
     {
         SeatedOutcome { outcome, seat }
@@ -100,7 +100,7 @@ impl<J: JobId> SeatedOutcome<J> {
         ensures outcome { result.0 ≡ self }
         ensures number { result.1.number ≡ self.number }
         ensures job { self.job ≡ J.board.job }
-        ensures settled { IsSettled J.runs (ended_by result.1 self) }
+        ensures settled { RanAndPaid J.runs (ended_with result.1 self) }
     {
         let SeatedOutcome { outcome, seat } = self;
         (outcome, seat)

@@ -10,14 +10,14 @@ ghost use Rattle.interpreter.specs.Children.{MayHandOver};
 ghost use Rattle.task_run.specs.Through.{GoesThrough};
 ghost use Rattle.workers.specs.Outcomes.{IsOutcome, IsRunBy, Suffices};
 
-use crate::gate::{Gate, Heard};
+use crate::gate::{Gate, GateAndObserver};
 use crate::outcome::unrun;
 use credit_book::{Outcome, Ticket};
 use helpers::{Entry, Spawner};
 use interpreter::{Credit, Frame};
 use machine_model::MAX_CREDIT;
 use std::alloc::Global;
-use task_run::{Frames, Listener, Nobody, run_to_end};
+use task_run::{Frames, Nobody, RunObserver, run_to_end};
 use verifier::Verified;
 
 /// What a spawn has to know of the program of this number, if the list has it. The call asks for at
@@ -45,7 +45,7 @@ fn suffices(code: &Verified, ticket: &Ticket) -> bool
 }
 
 /// Runs the ticket's task on a frame of zeros, and hands the spawner back.
-fn run_ticket<'c, 's, 'g, S: Spawner, G: Gate + Listener>(
+fn run_ticket<'c, 's, 'g, S: Spawner, G: Gate + RunObserver>(
     frame: &mut Frame,
     task: (Ticket, &'c Verified, &'s mut S, &'g G, Global),
 ) -> (Outcome, &'s mut S)
@@ -91,7 +91,7 @@ fn run_ticket<'c, 's, 'g, S: Spawner, G: Gate + Listener>(
 /// program's need. The call asks for programs that may call a job's helpers alone, and for a
 /// spawner that knows the programs of the list and takes each child which a task with so much
 /// credit may hand over, whatever it has taken before.
-pub(crate) fn work_heard<S: Spawner, G: Gate + Listener>(
+pub(crate) fn work_observed<S: Spawner, G: Gate + RunObserver>(
     alloc: Global,
     ticket: Ticket,
     programs: &[Verified],
@@ -154,9 +154,9 @@ pub fn work_one<S: Spawner, G: Gate>(
         (spawner.new ≡ spawner.old) result }
     ensures entries { S.entries spawner.new ≡ S.entries spawner.old }
 {
-    let heard = Heard {
+    let gate_and_observer = GateAndObserver {
         gate,
-        listener: &Nobody,
+        observer: &Nobody,
     };
-    work_heard(alloc, ticket, programs, spawner, frames, &heard)
+    work_observed(alloc, ticket, programs, spawner, frames, &gate_and_observer)
 }

@@ -3,11 +3,11 @@
 ghost use Rattle.std.specs.Prelude.{◌≡◌, ◌≤◌, length};
 
 use crate::bell::Bell;
-use crate::gate::{Gate, Heard};
+use crate::gate::{Gate, GateAndObserver};
 use crate::held_lock::HeldLock;
 use crate::locked_book::LockedBook;
 use crate::seated::{SeatedOutcome, SeatedTicket, Turn};
-use crate::work::{entry_in, work_heard};
+use crate::work::{entry_in, work_observed};
 use credit_book::{Outcome, Report, Ticket};
 use crossbeam_utils::CachePadded;
 use helpers::{Entry, SpawnRecord, Spawner};
@@ -54,7 +54,7 @@ impl<J: JobId> Model for Shared<J> {
     ghost use Rattle.std.specs.Prelude.{◌≡◌, ◌≤◌, List, length, map};
     ghost use Rattle.verifier.specs.Checked.{Checked, program_of};
     ghost use Rattle.job_core.specs.Admitted.{AreOwn};
-    ghost use Rattle.task_register.specs.declared.seats.EndedTask.{EndedTask};
+    ghost use Rattle.task_register.specs.declared.seats.TaskResult.{TaskResult};
     ghost use Rattle.job_answer.specs.OneAnswer.{RunsOrNot};
 
     ghost Value = { List Checked };
@@ -62,7 +62,7 @@ impl<J: JobId> Model for Shared<J> {
     ghost view = { λ s. s.programs.items };
 
     ghost invariant = { λ s. (length s.programs.items ≤ 16) × AreOwn s.programs.items
-        × ((o : EndedTask) → RunsOrNot (map program_of s.programs.items) o → J.runs o) };
+        × ((o : TaskResult) → RunsOrNot (map program_of s.programs.items) o → J.runs o) };
 }
 
 impl<J: JobId> Shared<J> {
@@ -71,14 +71,14 @@ impl<J: JobId> Shared<J> {
     ghost use Rattle.workers.specs.Final.{IsFinal};
     ghost use Rattle.verifier.specs.Checked.{program_of};
     ghost use Rattle.job_core.specs.Admitted.{AreOwn};
-    ghost use Rattle.task_register.specs.declared.seats.EndedTask.{EndedTask};
+    ghost use Rattle.task_register.specs.declared.seats.TaskResult.{TaskResult};
     ghost use Rattle.job_answer.specs.OneAnswer.{RunsOrNot};
 
     /// The programs, and the desk under a lock.
     pub fn new(programs: Vec<Verified>, desk: LockedBook<J>) -> Shared<J>
         requires few { length programs.items ≤ 16 }
         requires own { AreOwn programs.items }
-        requires runs { (o : EndedTask) → RunsOrNot (map program_of programs.items) o → J.runs o }
+        requires runs { (o : TaskResult) → RunsOrNot (map program_of programs.items) o → J.runs o }
         ensures { result ≡ programs.items }
     {
         Shared {
@@ -93,7 +93,7 @@ impl<J: JobId> Shared<J> {
         ensures programs { result.now ≡ self.now }
         ensures few { length result.now ≤ 16 }
         ensures own { AreOwn result.now }
-        ensures runs { (o : EndedTask) → RunsOrNot (map program_of result.now) o → J.runs o }
+        ensures runs { (o : TaskResult) → RunsOrNot (map program_of result.now) o → J.runs o }
     {
         &self.programs
     }
@@ -167,7 +167,7 @@ fn take_desk<'a, R: Wait, J: JobId>(rt: &R, shared: &'a Shared<J>) -> AtDesk<'a,
 pub(crate) struct Worker<'a, 'b, R, J: JobId> {
     rt: &'a R,
     pub shared: &'a Shared<J>,
-    stay: &'b HeldLock<'a, J>,
+    held_lock: &'b HeldLock<'a, J>,
     lanes: Lanes<SeatedTicket<J>>,
     turn: Option<Turn<J>>,
     has_child: bool,
@@ -180,9 +180,9 @@ impl<'a, 'b, R: Wait, J: JobId + 'static> Worker<'a, 'b, R, J> {
     ghost use Rattle.credit_book.specs.Books.{Account};
     ghost use Rattle.workers.specs.Locked.{IsJustSpawned};
     ghost use Rattle.credit_book.specs.declared.task.Ticket.{Ticket};
-    ghost use Rattle.workers.specs.AtDesk.{AreEnded, IsEnded};
+    ghost use Rattle.workers.specs.AtDesk.{AreTasksEnded, IsTaskEnded};
     ghost use Rattle.workers.specs.Handing.{Finds, IsHandedAt, IsHeldBack, IsKeptBeside};
-    ghost use Rattle.workers.specs.Seats.{HasOneMore, IsOver, IsSettled, task_in};
+    ghost use Rattle.workers.specs.Seats.{HasOneMore, IsTaskOver, RanAndPaid, task_in};
     ghost use Rattle.task_register.specs.Handing.{IsSeatOf};
     ghost use Rattle.task_register.specs.declared.seats.SeatedTask.{SeatedTask};
 
@@ -191,7 +191,7 @@ impl<'a, 'b, R: Wait, J: JobId + 'static> Worker<'a, 'b, R, J> {
         rt: &'a R,
         alloc: Global,
         shared: &'a Shared<J>,
-        stay: &'b HeldLock<'a, J>,
+        held_lock: &'b HeldLock<'a, J>,
         lanes: Lanes<SeatedTicket<J>>,
     ) -> Worker<'a, 'b, R, J>
         ensures { result.shared.now ≡ shared.now }
@@ -203,7 +203,7 @@ impl<'a, 'b, R: Wait, J: JobId + 'static> Worker<'a, 'b, R, J> {
         Worker {
             rt,
             shared,
-            stay,
+            held_lock,
             lanes,
             turn: None,
             has_child: false,
@@ -222,7 +222,7 @@ impl<'a, 'b, R: Wait, J: JobId + 'static> Worker<'a, 'b, R, J> {
 
     /// The desk, for this worker alone until it lets go of it.
     fn desk(&self) -> AtDesk<'a, J> {
-        match self.stay.take() {
+        match self.held_lock.take() {
             Some(desk) => desk,
             None => take_desk(self.rt, self.shared),
         }
@@ -230,7 +230,7 @@ impl<'a, 'b, R: Wait, J: JobId + 'static> Worker<'a, 'b, R, J> {
 
     /// The same, where nobody else is at it.
     fn desk_if_free(&self) -> Option<AtDesk<'a, J>> {
-        match self.stay.take() {
+        match self.held_lock.take() {
             Some(desk) => Some(desk),
             None => self.shared.desk_if_free(),
         }
@@ -294,7 +294,7 @@ impl<'a, 'b, R: Wait, J: JobId + 'static> Worker<'a, 'b, R, J> {
     fn tell(&mut self, desk: &mut LockedBook<J>)
         ensures same { (self.new.shared ≡ self.old.shared) × (self.new.lanes ≡ self.old.lanes)
             × (self.new.turn ≡ self.old.turn) }
-        ensures ended { AreEnded desk.old (reverse self.old.ended.items) desk.new }
+        ensures ended { AreTasksEnded desk.old (reverse self.old.ended.items) desk.new }
         ensures all { self.new.ended.items ≡ [] }
     {
         desk.end_all(&mut self.ended);
@@ -329,8 +329,8 @@ impl<'a, 'b, R: Wait, J: JobId + 'static> Worker<'a, 'b, R, J> {
         ensures same { (self.new.shared ≡ self.old.shared) × (self.new.lanes ≡ self.old.lanes)
             × (self.new.turn ≡ self.old.turn) }
         ensures ended { (between : Account)
-            × AreEnded desk.old (reverse self.old.ended.items) between
-            × IsEnded between outcome desk.new }
+            × AreTasksEnded desk.old (reverse self.old.ended.items) between
+            × IsTaskEnded between outcome desk.new }
         ensures all { self.new.ended.items ≡ [] }
     {
         self.tell(desk);
@@ -344,21 +344,21 @@ impl<'a, 'b, R: Wait, J: JobId + 'static> Worker<'a, 'b, R, J> {
         alloc: Global,
         ticket: Ticket,
         frames: &mut Frames,
-        heard: &Heard<'_, '_, G, HeldLock<'a, J>>,
+        gate_and_observer: &GateAndObserver<'_, '_, G, HeldLock<'a, J>>,
     ) -> Outcome
         requires seat { (task : SeatedTask) × (self.old.turn ≡ Some task) × IsSeatOf ticket task }
         requires few { ticket.number < 2 ^ 32 }
         requires job { ticket.job ≡ J.board.job }
-        ensures over { IsOver (IsSettled J.runs) self.new.turn result }
+        ensures over { IsTaskOver (RanAndPaid J.runs) self.new.turn result }
         ensures job { result.job ≡ J.board.job }
     {
         let programs = self.shared.list();
-        work_heard(alloc, ticket, programs, self, frames, heard)
+        work_observed(alloc, ticket, programs, self, frames, gate_and_observer)
     }
 
     /// Ends the task whose turn it is, or holds its outcome back where there is room for it.
     pub fn end(&mut self, outcome: Outcome)
-        requires over { IsOver (IsSettled J.runs) self.old.turn outcome }
+        requires over { IsTaskOver (RanAndPaid J.runs) self.old.turn outcome }
         requires job { outcome.job ≡ J.board.job }
         ensures same { (self.new.shared ≡ self.old.shared) × (self.new.lanes ≡ self.old.lanes) }
         ensures told { IsHeldBack self.old.ended.items outcome self.new.ended.items }
@@ -433,9 +433,9 @@ impl<R: Wait, J: JobId + 'static> Spawner for Worker<'_, '_, R, J> {
     ghost use Rattle.workers.specs.Handing.{IsHanded};
     ghost use Rattle.workers.specs.Seats.{HasOneMore};
 
-    ghost entries = { λ hands. entries_of (map program_of hands.shared.now) };
+    ghost entries = { λ worker. entries_of (map program_of worker.shared.now) };
 
-    ghost asks = { λ hands child. Unit {0} };
+    ghost asks = { λ worker child. Unit {0} };
 
     ghost spawns = { λ old child reply new.
         MatchResult reply (λ _. IsHanded old.lanes child new.lanes × (new.shared ≡ old.shared)
@@ -451,7 +451,7 @@ impl<R: Wait, J: JobId + 'static> Spawner for Worker<'_, '_, R, J> {
     fn spawn(&mut self, child: SpawnRecord) -> Result<(), SpawnRecord> {
         let mut desk = self.desk();
         let spawned = self.hand(&mut desk, child);
-        self.stay.go_on(desk);
+        self.held_lock.go_on(desk);
         spawned
     }
 

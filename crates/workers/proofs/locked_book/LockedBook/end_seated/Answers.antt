@@ -3,9 +3,9 @@ use Rattle.credit_book.specs.Boards.{Sign}
 use Rattle.credit_book.specs.History.{may_work, standing_at, table_of}
 use Rattle.credit_book.specs.declared.task.Ticket.{Ticket}
 use Rattle.job_answer.specs.OneAnswer.{IsPaidFor}
-use Rattle.task_register.specs.Register.{Register}
+use Rattle.task_register.specs.Register.{RegisterModel}
 use Rattle.task_register.specs.Rule.{with_end}
-use Rattle.task_register.specs.Handing.{ended_by}
+use Rattle.task_register.specs.Handing.{ended_with}
 use Rattle.workers.specs.Locked.{AreSeats}
 use Rattle.workers.proofs.NoRefusals.{affords, ends, may_work_now, queued_end}
 use Rattle.workers.proofs.RegisterSteps.{ended}
@@ -16,10 +16,10 @@ invariant_of-self g c =
     let done = c.in-Ok.ensures.done in
     let inv = c.self.invariant in
     let closed = c.close.ensures.over in
-    let own = ap (λ o. with_end c.self.inside.register.known (ended_by c.args.seat o)) c.of-was.ensures in (
+    let own = ap (λ o. with_end c.self.inside.register.known (ended_with c.args.seat o)) c.of-was.ensures in (
       ended _ _ c.self.inside.register.known c.close.new.self.known c.self.inside.book.history c.end.new.self.history c.args.seat c.args.outcome inv.0 c.requires.number
-          done.4 c.in-Ok.ensures.legal (ap (λ (r : Register). r.known) closed ∙ own),
-      subst (λ (l : List Ticket). AreSeats _ l c.close.new.self.waiting) (sym done.2) (subst (λ ss. AreSeats _ c.self.inside.book.waiting ss) (sym (ap (λ (r : Register). r.waiting) closed)) inv.1),
+          done.4 c.in-Ok.ensures.legal (ap (λ (r : RegisterModel). r.known) closed ∙ own),
+      subst (λ (l : List Ticket). AreSeats _ l c.close.new.self.waiting) (sym done.2) (subst (λ ss. AreSeats _ c.self.inside.book.waiting ss) (sym (ap (λ (r : RegisterModel). r.waiting) closed)) inv.1),
       done.0 ∙ inv.2,
       done.1 ∙ inv.3,
       queued_end c.self.inside.book.history c.end.new.self.history c.args.outcome c.self.inside.book.waiting c.end.new.self.waiting done.4 done.2 inv.4,
@@ -29,7 +29,7 @@ invariant_of-self g c =
 pub unreachable-requires : goal.unreachable-requires
 unreachable-requires g c =
     let inv = c.self.invariant in
-    let own : IsPaidFor (ended_by c.args.seat c.args.outcome) = c.requires.paid in
+    let own : IsPaidFor (ended_with c.args.seat c.args.outcome) = c.requires.paid in
     let history = c.self.inside.book.history in
     let waiting = c.self.inside.book.waiting in
     let works = may_work_now _ _ history c.self.inside.register.known waiting c.self.inside.register.waiting c.job.ensures.legal inv.0

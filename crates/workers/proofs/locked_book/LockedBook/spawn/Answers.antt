@@ -1,6 +1,6 @@
 use Rattle.std.proofs.Common.{List, ap, sym, subst, ◌∙◌}
 use Rattle.credit_book.specs.declared.task.Ticket.{Ticket}
-use Rattle.task_register.specs.Register.{Register}
+use Rattle.task_register.specs.Register.{RegisterModel}
 use Rattle.workers.specs.Locked.{AreSeats, IsJustSpawned}
 use Rattle.workers.proofs.NoRefusals.{just_spawned, queued_spawn}
 use Rattle.workers.proofs.RegisterSteps.{spawned}
@@ -12,9 +12,9 @@ invariant_of-self g c =
     let inv = c.self.invariant in
     let register = c.add_child-seat.ensures.register in (
       spawned _ _ c.self.inside.book.board.job c.args.parent c.self.inside.register.known c.add_child-seat.new.self.known c.self.inside.book.history
-          c.spawn.new.self.history c.args.child c.in-Ok.ticket c.args.seat.number inv.0 done.4 c.in-Ok.ensures.legal done.3 c.requires (ap (λ (r : Register). r.known) register),
+          c.spawn.new.self.history c.args.child c.in-Ok.ticket c.args.seat.number inv.0 done.4 c.in-Ok.ensures.legal done.3 c.requires (ap (λ (r : RegisterModel). r.known) register),
       subst (λ (l : List Ticket). AreSeats _ l c.add_child-seat.new.self.waiting) (sym done.2)
-          (subst (λ ss. AreSeats _ c.self.inside.book.waiting ss) (sym (ap (λ (r : Register). r.waiting) register)) inv.1),
+          (subst (λ ss. AreSeats _ c.self.inside.book.waiting ss) (sym (ap (λ (r : RegisterModel). r.waiting) register)) inv.1),
       done.0 ∙ inv.2,
       done.1 ∙ inv.3,
       queued_spawn c.self.inside.book.history c.spawn.new.self.history c.args.parent _ c.args.child c.self.inside.book.waiting c.spawn.new.self.waiting done.4 done.2 inv.4,

@@ -4,7 +4,7 @@ use Rattle.std.proofs.lemmas.List.{append-nil}
 use mathlib.Core.List.{Mem, not-mem-nil, mem-cons_self}
 use borrow.Author.Rules.{in_lives}
 use Rattle.workers.specs.Handing.{IsHanded}
-use Rattle.workers.specs.Seats.{HasOneMore, IsSettled, task_in}
+use Rattle.workers.specs.Seats.{HasOneMore, RanAndPaid, task_in}
 use Rattle.verifier.specs.Checked.{program_of}
 use Rattle.job_answer.proofs.SoloCredit.{paid_for}
 use Rattle.workers.proofs.SeatLemmas.{is_over, job_is, one_more_is}
@@ -15,17 +15,17 @@ empty : (l : List ℕ) → ((a : ℕ) → Mem a l → Mem a []) → l ≡ []
 empty [] none = refl
 empty (x ∷ xs) none = absurd (not-mem-nil (none x mem-cons_self))
 
-pub work_heard-requires-lives-S : goal.work_heard-requires-lives-S
-work_heard-requires-lives-S g c κs within =
+pub work_observed-requires-lives-S : goal.work_observed-requires-lives-S
+work_observed-requires-lives-S g c κs within =
     rw (empty g.row.J.lives c.type_bounds.static-J) (simp (append-nil, in_lives, within.0.0, within.0.1.0, within.1.0) tt)
 
-pub work_heard-requires-lives-G-Listener-3 : goal.work_heard-requires-lives-G-Listener-3
-work_heard-requires-lives-G-Listener-3 g c κs within = rw (empty g.row.J.lives c.type_bounds.static-J) (search rules)
+pub work_observed-requires-lives-G-RunObserver-3 : goal.work_observed-requires-lives-G-RunObserver-3
+work_observed-requires-lives-G-RunObserver-3 g c κs within = rw (empty g.row.J.lives c.type_bounds.static-J) (search rules)
 
 pub returns-clause-over : goal.returns-clause-over
 returns-clause-over g c =
     let seat = c.requires.seat in
-    is_over c.args.self.now c.work_heard.new.spawner (λ s. s.turn)
+    is_over c.args.self.now c.work_observed.new.spawner (λ s. s.turn)
     (λ old child reply new. MatchResult reply
     (λ _. IsHanded old.lanes child new.lanes × (new.shared ≡ old.shared) × (new.ended ≡ old.ended) × HasOneMore old.turn child new.turn)
     (λ _. new ≡ old))
@@ -33,9 +33,9 @@ returns-clause-over g c =
       took = λ old new child h. one_more_is old.turn new.turn child h.3;
       refused = λ old new child back same. ap (λ s. task_in s.turn) same;
     })
-    c.list-programs.result.now (IsSettled g.J.JobId.runs)
-    (λ o over. (c.list-programs.ensures.runs o over, paid_for (map program_of c.list-programs.result.now) o over)) c.args.ticket seat.0 seat.1 seat.2 c.requires.few c.work_heard.result
-    c.work_heard.ensures.outcome
+    c.list-programs.result.now (RanAndPaid g.J.JobId.runs)
+    (λ o over. (c.list-programs.ensures.runs o over, paid_for (map program_of c.list-programs.result.now) o over)) c.args.ticket seat.0 seat.1 seat.2 c.requires.few c.work_observed.result
+    c.work_observed.ensures.outcome
 
 pub returns-clause-job : goal.returns-clause-job
-returns-clause-job g c = job_is c.list-programs.result.now c.args.ticket _ _ c.work_heard.result c.work_heard.ensures.outcome ∙ c.requires.job
+returns-clause-job g c = job_is c.list-programs.result.now c.args.ticket _ _ c.work_observed.result c.work_observed.ensures.outcome ∙ c.requires.job

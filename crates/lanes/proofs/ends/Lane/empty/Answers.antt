@@ -1,5 +1,0 @@
-use Rattle.lanes.proofs.Moving.{begins}
-use Rattle.lanes.proofs.ends.Lane.empty.Goals as goal
-
-pub fifo_as-requires : goal.fifo_as-requires
-fifo_as-requires g c = begins g.T.Carried.task
