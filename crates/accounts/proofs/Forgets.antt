@@ -4,13 +4,13 @@ use Rattle.std.proofs.lemmas.List.{length-replicate}
 use Rattle.std.proofs.lemmas.List.Elements.{All-append, All-replicate}
 use Rattle.accounts.specs.declared.jobs.JobEntry.{JobEntry}
 use Rattle.accounts.specs.Jobs.{is_open}
-use Rattle.accounts.specs.Forgetting.{BeginsOpen, ForgetsJobs, IsGone, IsOver, begins_over}
+use Rattle.accounts.specs.Forgetting.{BeginsOpen, ForgetsJobs, IsGone, IsJobOver, begins_over}
 
 -- so many are forgotten, and these are kept, where before so many were and these were
 pub record IsForgetting (k0 : ℕ) (g : JobEntry) (xs0 : List JobEntry) (keep k : ℕ) (g1 : JobEntry) (xs : List JobEntry) : Type 0 where
   pub front : List JobEntry
   pub was : replicate k0 g ++ xs0 ≡ front ++ xs
-  pub over : All IsOver front
+  pub over : All IsJobOver front
   pub count : length front ≡ k
   pub same_gone : g1 ≡ g
   pub sum : k + length xs ≡ k0 + length xs0
@@ -20,7 +20,7 @@ pub forgetting_none : (k : ℕ) (g : JobEntry) (xs : List JobEntry) (keep : ℕ)
 forgetting_none k g xs keep gone = record {
   front = replicate k g;
   was = refl;
-  over = All-replicate IsOver k g (ap is_open gone.standing);
+  over = All-replicate IsJobOver k g (ap is_open gone.standing);
   count = length-replicate k g;
   same_gone = refl;
   sum = refl;
@@ -58,7 +58,7 @@ forgetting_one k0 g xs0 keep k g1 (x ∷ xs) ys f over more is =
     subst P (sym is) (record {
       front = f.front ++ x ∷ [];
       was = f.was ∙ joined f.front x xs;
-      over = all_pushed IsOver f.front x f.over (closed (is_open x.standing) over);
+      over = all_pushed IsJobOver f.front x f.over (closed (is_open x.standing) over);
       count = pushed_length f.front x ∙ ap (λ n. n + 1) f.count;
       same_gone = f.same_gone;
       sum = omega (arith, sum);

@@ -11,8 +11,8 @@ pub record IsGone (entry : JobEntry) : Type 0 where
   pub standing : entry.standing ≡ Failed 76
 
 -- the job is over
-abbrev pub IsOver : JobEntry → Type 0
-IsOver entry = is_open entry.standing ≡ false
+abbrev pub IsJobOver : JobEntry → Type 0
+IsJobOver entry = is_open entry.standing ≡ false
 
 -- the first of these is open
 abbrev pub BeginsOpen : List JobEntry → Type 0
@@ -29,7 +29,7 @@ pub record ForgetsJobs (old : List JobEntry) (keep : ℕ) (new : List JobEntry) 
   pub front : List JobEntry
   pub rest : List JobEntry
   pub was : old ≡ front ++ rest
-  pub over : All IsOver front
+  pub over : All IsJobOver front
   pub gone : JobEntry
   pub is_gone : IsGone gone
   pub is : new ≡ replicate (length front) gone ++ rest

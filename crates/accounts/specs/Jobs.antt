@@ -38,10 +38,10 @@ opened_in entry Open = entry.credit
 opened_in entry (Reported report) = 0
 opened_in entry (Failed code) = 0
 
-abbrev pub spent_in : Standing → ℕ
-spent_in Open = 0
-spent_in (Reported report) = report.spent
-spent_in (Failed code) = 0
+abbrev pub spent_by_job : Standing → ℕ
+spent_by_job Open = 0
+spent_by_job (Reported report) = report.spent
+spent_by_job (Failed code) = 0
 
 abbrev pub is_open : Standing → Bool
 is_open Open = true
@@ -55,4 +55,4 @@ opened_for name entry =
 
 unfoldable pub spent_for : List ℕ → JobEntry → ℕ
 spent_for name entry =
-    if bytes_eq name (string_bytes entry.tenant) then spent_in entry.standing else 0
+    if bytes_eq name (string_bytes entry.tenant) then spent_by_job entry.standing else 0

@@ -41,13 +41,13 @@ past_of ledger name = unwrap_or (lookup (bytes_eq name) ledger.past) 0
 abbrev pub opened_by : List JobEntry → List ℕ → ℕ
 opened_by jobs name = sum_by (opened_for name) jobs
 
-abbrev pub spent_by : List JobEntry → List ℕ → ℕ
-spent_by jobs name = sum_by (spent_for name) jobs
+abbrev pub spent_by_jobs : List JobEntry → List ℕ → ℕ
+spent_by_jobs jobs name = sum_by (spent_for name) jobs
 
 -- a tenant's account, if it was granted something
 abbrev pub account_in : List JobEntry → ℕ → List ℕ → Option ℕ → Result Account DeskFault
 account_in jobs past name (Some granted) =
-    Ok (account_with granted (opened_by jobs name) (past + spent_by jobs name))
+    Ok (account_with granted (opened_by jobs name) (past + spent_by_jobs jobs name))
 account_in jobs past name None = Err fault.NoTenant
 
 unfoldable pub account_at : Ledger → List ℕ → Result Account DeskFault
@@ -140,7 +140,7 @@ report_at ledger number = report_in (job_at ledger.jobs number)
 -- the sums are those of the tenant's jobs, with those that are forgotten, and within the grants
 pub record IsSummed (jobs : List JobEntry) (name : List ℕ) (sums : Sums) : Type 0 where
   pub opened : sums.opened ≡ opened_by jobs name
-  pub spent : spent_by jobs name ≤ sums.spent
+  pub spent : spent_by_jobs jobs name ≤ sums.spent
   pub within : sums.opened + sums.spent ≤ sums.granted
   pub limit : sums.granted ≤ most_granted
 
@@ -157,7 +157,7 @@ granted_by entry = (string_bytes entry.0, entry.1.granted)
 -- what the forgotten jobs of a tenant spent: what all spent, but for those that aren't forgotten
 abbrev pub spent_before : {Y : Type 0} → List JobEntry → String Y × Sums → List ℕ × ℕ
 spent_before jobs entry =
-    (string_bytes entry.0, entry.1.spent - spent_by jobs (string_bytes entry.0))
+    (string_bytes entry.0, entry.1.spent - spent_by_jobs jobs (string_bytes entry.0))
 
 abbrev pub ledger_of : {Y : Type 0} → BTreeMap (String Y) Sums → List JobEntry → Ledger
 ledger_of tenants jobs =

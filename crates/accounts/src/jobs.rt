@@ -2,7 +2,7 @@
 
 ghost use Rattle.std.specs.Prelude.{◌≡◌, ◌≤◌, ◌-◌, ◌++◌, ◌∷◌, [], ◌^◌, ◌<◌, ◌+◌, false, length, OnOk, OnErr, Some, option_map, slice_set};
 ghost use Rattle.accounts.specs.declared.jobs.JobEntry.{JobEntry};
-ghost use Rattle.accounts.specs.Jobs.{job_at, settled, spent_in, is_open};
+ghost use Rattle.accounts.specs.Jobs.{job_at, settled, spent_by_job, is_open};
 ghost use Rattle.accounts.specs.Forgetting.{ForgetsJobs, begins_over};
 
 use credit_book::Report;
@@ -34,7 +34,7 @@ impl Standing {
 
     /// What the job spent, once it is over.
     pub fn spent(&self) -> u32
-        ensures { result ≡ spent_in self.now }
+        ensures { result ≡ spent_by_job self.now }
     {
         match self {
             Standing::Reported(report) => report.spent,
@@ -161,7 +161,7 @@ fn is_first_over(jobs: &VecDeque<JobEntry>) -> bool
 /// How a job of this credit stands once it is over.
 pub fn settle(credit: u32, outcome: Result<Report, u8>) -> Standing
     ensures settled { result ≡ settled credit outcome }
-    ensures within { spent_in result ≤ credit }
+    ensures within { spent_by_job result ≤ credit }
     ensures over { is_open result ≡ false }
 {
     match outcome {

@@ -8,9 +8,9 @@ use Rattle.serde_json.specs.Data.{boolean, string}
 use Rattle.hex.specs.Hex.{encode_lower}
 use Rattle.credit_book.specs.declared.event.TaskEnd.{TaskEnd}
 use Rattle.sessions.specs.Replies.{items, result_data, task_data}
-use Rattle.sessions.specs.ResultTexts.{behind_tasks, result_text, told, weight}
+use Rattle.sessions.specs.ResultTexts.{behind_tasks, result_text, task_texts, weight}
 use Rattle.std.specs.Int.{w32, to_be_bytes}
-use Rattle.sessions.specs.declared.result.Outcome.{Outcome}
+use Rattle.sessions.specs.declared.result.JobOutcome.{JobOutcome}
 use Rattle.sessions.specs.Frames.{framed}
 use Rattle.sessions.specs.Outcomes.{outcome_data}
 use Rattle.sessions.specs.Replies.{longest_reply}
@@ -18,12 +18,12 @@ use Rattle.sessions.proofs.Writing.{seven}
 
 -- ---- the tasks
 
-told_items : (later : Bool) (ts : List TaskEnd) → items_text later (items (map task_data ts)) ≡ told later ts ++ 93 ∷ []
+told_items : (later : Bool) (ts : List TaskEnd) → items_text later (items (map task_data ts)) ≡ task_texts later ts ++ 93 ∷ []
 told_items later [] = refl
 told_items later (t ∷ ts) =
     ap (λ l. comma_if later ++ (compact_text (task_data t) ++ l)) (told_items true ts)
-    ∙ ap (λ l. comma_if later ++ l) (sym (append_assoc (compact_text (task_data t)) (told true ts) (93 ∷ [])))
-    ∙ sym (append_assoc (comma_if later) (compact_text (task_data t) ++ told true ts) (93 ∷ []))
+    ∙ ap (λ l. comma_if later ++ l) (sym (append_assoc (compact_text (task_data t)) (task_texts true ts) (93 ∷ [])))
+    ∙ sym (append_assoc (comma_if later) (compact_text (task_data t) ++ task_texts true ts) (93 ∷ []))
 
 behind_some : (ts : List TaskEnd) → behind_tasks true ts ≡ true
 behind_some [] = refl
@@ -33,22 +33,22 @@ behind_push : (later : Bool) (ts : List TaskEnd) (t : TaskEnd) → behind_tasks 
 behind_push later [] t = refl
 behind_push later (u ∷ us) t = refl
 
-pub told_push : (later : Bool) (ts : List TaskEnd) (t : TaskEnd) → told later (ts ++ t ∷ []) ≡ told later ts ++ (comma_if (behind_tasks later ts) ++ compact_text (task_data t))
+pub told_push : (later : Bool) (ts : List TaskEnd) (t : TaskEnd) → task_texts later (ts ++ t ∷ []) ≡ task_texts later ts ++ (comma_if (behind_tasks later ts) ++ compact_text (task_data t))
 told_push later [] t = ap (λ l. comma_if later ++ l) (append-nil (compact_text (task_data t)))
 told_push later (u ∷ us) t =
     ap (λ l. comma_if later ++ (compact_text (task_data u) ++ l))
-    (told_push true us t ∙ ap (λ b. told true us ++ (comma_if b ++ compact_text (task_data t))) (behind_some us))
-    ∙ ap (λ l. comma_if later ++ l) (sym (append_assoc (compact_text (task_data u)) (told true us) (44 ∷ compact_text (task_data t))))
-    ∙ sym (append_assoc (comma_if later) (compact_text (task_data u) ++ told true us) (44 ∷ compact_text (task_data t)))
+    (told_push true us t ∙ ap (λ b. task_texts true us ++ (comma_if b ++ compact_text (task_data t))) (behind_some us))
+    ∙ ap (λ l. comma_if later ++ l) (sym (append_assoc (compact_text (task_data u)) (task_texts true us) (44 ∷ compact_text (task_data t))))
+    ∙ sym (append_assoc (comma_if later) (compact_text (task_data u) ++ task_texts true us) (44 ∷ compact_text (task_data t)))
 
 -- one task more
-pub tasks_more : (o y0 y1 y2 : List ℕ) (later : Bool) (before after : List TaskEnd) (t : TaskEnd) → after ≡ before ++ t ∷ [] → y0 ≡ o ++ told false before → later ≡ behind_tasks false before →
-    y1 ≡ y0 ++ comma_if later → y2 ≡ y1 ++ compact_text (task_data t) → y2 ≡ o ++ told false after
+pub tasks_more : (o y0 y1 y2 : List ℕ) (later : Bool) (before after : List TaskEnd) (t : TaskEnd) → after ≡ before ++ t ∷ [] → y0 ≡ o ++ task_texts false before → later ≡ behind_tasks false before →
+    y1 ≡ y0 ++ comma_if later → y2 ≡ y1 ++ compact_text (task_data t) → y2 ≡ o ++ task_texts false after
 tasks_more o y0 y1 y2 later before after t more e0 el e1 e2 =
-    e2 ∙ ap (λ l. l ++ compact_text (task_data t)) (e1 ∙ ap (λ l. l ++ comma_if later) e0 ∙ append_assoc o (told false before) (comma_if later))
-    ∙ append_assoc o (told false before ++ comma_if later) (compact_text (task_data t))
-    ∙ ap (λ l. o ++ l) (append_assoc (told false before) (comma_if later) (compact_text (task_data t)) ∙ ap (λ b. told false before ++ (comma_if b ++ compact_text (task_data t))) el
-    ∙ sym (told_push false before t) ∙ ap (told false) (sym more))
+    e2 ∙ ap (λ l. l ++ compact_text (task_data t)) (e1 ∙ ap (λ l. l ++ comma_if later) e0 ∙ append_assoc o (task_texts false before) (comma_if later))
+    ∙ append_assoc o (task_texts false before ++ comma_if later) (compact_text (task_data t))
+    ∙ ap (λ l. o ++ l) (append_assoc (task_texts false before) (comma_if later) (compact_text (task_data t)) ∙ ap (λ b. task_texts false before ++ (comma_if b ++ compact_text (task_data t))) el
+    ∙ sym (told_push false before t) ∙ ap (task_texts false) (sym more))
 
 pub behind_more : (before after : List TaskEnd) (t : TaskEnd) → after ≡ before ++ t ∷ [] → true ≡ behind_tasks false after
 behind_more before after t more = sym (ap (behind_tasks false) more ∙ behind_push false before t)
@@ -60,20 +60,20 @@ one_more l a n e = omega (arith, e)
 one_fewer : (l a n : ℕ) → l ≡ a + n → l ≡ (a + 1) + n - 1
 one_fewer l a n e = omega (arith, e)
 
-behind_one : (t : TaskEnd) (ts : List TaskEnd) → length (told true ts) ≡ sum_by weight ts → length (compact_text (task_data t) ++ told true ts) ≡ length (compact_text (task_data t)) + sum_by weight ts
-behind_one t ts more = length-append (compact_text (task_data t)) (told true ts) ∙ ap (λ n. length (compact_text (task_data t)) + n) more
+behind_one : (t : TaskEnd) (ts : List TaskEnd) → length (task_texts true ts) ≡ sum_by weight ts → length (compact_text (task_data t) ++ task_texts true ts) ≡ length (compact_text (task_data t)) + sum_by weight ts
+behind_one t ts more = length-append (compact_text (task_data t)) (task_texts true ts) ∙ ap (λ n. length (compact_text (task_data t)) + n) more
 
 -- with a comma ahead of each
-told_weight : (ts : List TaskEnd) → length (told true ts) ≡ sum_by weight ts
+told_weight : (ts : List TaskEnd) → length (task_texts true ts) ≡ sum_by weight ts
 told_weight [] = refl
 told_weight (t ∷ ts) =
-    one_more (length (compact_text (task_data t) ++ told true ts)) (length (compact_text (task_data t))) (sum_by weight ts) (behind_one t ts (told_weight ts))
+    one_more (length (compact_text (task_data t) ++ task_texts true ts)) (length (compact_text (task_data t))) (sum_by weight ts) (behind_one t ts (told_weight ts))
     ∙ sym (sum_by-cons weight t ts)
 
-told_length : (ts : List TaskEnd) → length (told false ts) ≡ sum_by weight ts - 1
+told_length : (ts : List TaskEnd) → length (task_texts false ts) ≡ sum_by weight ts - 1
 told_length [] = refl
 told_length (t ∷ ts) =
-    one_fewer (length (compact_text (task_data t) ++ told true ts)) (length (compact_text (task_data t))) (sum_by weight ts) (behind_one t ts (told_weight ts))
+    one_fewer (length (compact_text (task_data t) ++ task_texts true ts)) (length (compact_text (task_data t))) (sum_by weight ts) (behind_one t ts (told_weight ts))
     ∙ ap (λ n. n - 1) (sym (sum_by-cons weight t ts))
 
 -- ---- the whole
@@ -81,8 +81,8 @@ told_length (t ∷ ts) =
 pub result_is : (buffer : List ℕ) (returned spent : ℕ) (tasks : List TaskEnd) → compact_text (result_data buffer returned spent tasks) ≡ result_text (compact_text (string (encode_lower buffer))) returned spent tasks
 unfolding serde_json_on_literals result_data result_text
 result_is buffer returned spent tasks =
-    let rest : items_text false (items (map task_data tasks)) ++ 125 ∷ [] ≡ told false tasks ++ codes "]}" =
-    ap (λ l. l ++ 125 ∷ []) (told_items false tasks) ∙ append_assoc (told false tasks) (93 ∷ []) (125 ∷ []) in
+    let rest : items_text false (items (map task_data tasks)) ++ 125 ∷ [] ≡ task_texts false tasks ++ codes "]}" =
+    ap (λ l. l ++ 125 ∷ []) (told_items false tasks) ∙ append_assoc (task_texts false tasks) (93 ∷ []) (125 ∷ []) in
     ap (λ l. codes "{\"buffer\":" ++ (compact_text (string (encode_lower buffer)) ++ ((codes ",\"ok\":true,\"returned\":" ++ decimal returned) ++ ((codes ",\"spent\":" ++ decimal spent) ++ (codes ",\"tasks\":[" ++ l))))) rest
 
 pub task_is : (t : TaskEnd) → compact_text (task_data t) ≡
@@ -101,7 +101,7 @@ task_written o y1 y2 y3 y4 y5 y6 y7 number program rest spent t n p r s e1 e2 e3
 
 pub result_written : (o y1 y2 y3 y4 y5 y6 y7 buffer : List ℕ) (r s returned spent : ℕ) (tasks : List TaskEnd) → r ≡ returned → s ≡ spent →
     y1 ≡ o ++ codes "{\"buffer\":" → y2 ≡ y1 ++ buffer → y3 ≡ y2 ++ (codes ",\"ok\":true,\"returned\":" ++ decimal r) → y4 ≡ y3 ++ (codes ",\"spent\":" ++ decimal s) →
-    y5 ≡ y4 ++ codes ",\"tasks\":[" → y6 ≡ y5 ++ told false tasks → y7 ≡ y6 ++ codes "]}" → y7 ≡ o ++ result_text buffer returned spent tasks
+    y5 ≡ y4 ++ codes ",\"tasks\":[" → y6 ≡ y5 ++ task_texts false tasks → y7 ≡ y6 ++ codes "]}" → y7 ≡ o ++ result_text buffer returned spent tasks
 unfolding result_text
 result_written o y1 y2 y3 y4 y5 y6 y7 buffer r s returned spent tasks a b e1 e2 e3 e4 e5 e6 e7 =
     seven o _ _ _ _ _ _ _ y1 y2 y3 y4 y5 y6 y7 e1 e2 (e3 ∙ ap (λ k. y2 ++ (codes ",\"ok\":true,\"returned\":" ++ decimal k)) a) (e4 ∙ ap (λ k. y3 ++ (codes ",\"spent\":" ++ decimal k)) b) e5 e6 e7
@@ -122,8 +122,8 @@ pub result_length : (buffer : List ℕ) (returned spent : ℕ) (tasks : List Tas
 unfolding result_text
 result_length buffer returned spent tasks =
     behind_list (codes "{\"buffer\":") _ _ (behind_list buffer _ _ (behind_pair (codes ",\"ok\":true,\"returned\":") (decimal returned) _ _
-    (behind_pair (codes ",\"spent\":") (decimal spent) _ _ (behind_list (codes ",\"tasks\":[") _ _ (behind_list (told false tasks) (codes "]}") _ refl)))))
-    ∙ result_sum (length buffer) (length (decimal returned)) (length (decimal spent)) (length (told false tasks)) (sum_by weight tasks) (told_length tasks)
+    (behind_pair (codes ",\"spent\":") (decimal spent) _ _ (behind_list (codes ",\"tasks\":[") _ _ (behind_list (task_texts false tasks) (codes "]}") _ refl)))))
+    ∙ result_sum (length buffer) (length (decimal returned)) (length (decimal spent)) (length (task_texts false tasks)) (sum_by weight tasks) (told_length tasks)
 
 task_sum : (n p r w s t : ℕ) → (10 + n) + ((11 + p) + ((6 + r) + ((7 + w) + ((8 + s) + ((9 + t) + 1))))) ≡ 52 + w + (n + p) + (r + s + t)
 task_sum n p r w s t = omega arith
@@ -153,7 +153,7 @@ result_long buffer returned spent tasks h =
 
 -- ---- an outcome's text, and its frame
 
-pub outcome_is : (o : Outcome) (buffer : List ℕ) → buffer ≡ compact_text (string (encode_lower o.buffer.now)) → result_text buffer o.returned o.spent o.tasks.now ≡ compact_text (outcome_data o)
+pub outcome_is : (o : JobOutcome) (buffer : List ℕ) → buffer ≡ compact_text (string (encode_lower o.buffer.now)) → result_text buffer o.returned o.spent o.tasks.now ≡ compact_text (outcome_data o)
 outcome_is o buffer e = ap (λ b. result_text b o.returned o.spent o.tasks.now) e ∙ sym (result_is o.buffer.now o.returned o.spent o.tasks.now)
 
 pub frame_written : (y0 y1 y2 bytes text : List ℕ) (count : ℕ) → y0 ≡ [] → bytes ≡ to_be_bytes w32 count → y1 ≡ y0 ++ bytes → count ≡ length text → y2 ≡ y1 ++ text → y2 ≡ framed text

@@ -5,9 +5,9 @@ use Rattle.credit_book.specs.declared.event.TaskEnd.{TaskEnd}
 use Rattle.sessions.specs.Replies.{task_data}
 
 -- the tasks, a comma between two, and one ahead where something stands before
-abbrev pub told : Bool → List TaskEnd → List ℕ
-told later [] = []
-told later (t ∷ ts) = comma_if later ++ (compact_text (task_data t) ++ told true ts)
+abbrev pub task_texts : Bool → List TaskEnd → List ℕ
+task_texts later [] = []
+task_texts later (t ∷ ts) = comma_if later ++ (compact_text (task_data t) ++ task_texts true ts)
 
 -- whether something stands before what comes behind these tasks
 abbrev pub behind_tasks : Bool → List TaskEnd → Bool
@@ -23,4 +23,4 @@ unfoldable pub result_text : List ℕ → ℕ → ℕ → List TaskEnd → List 
 result_text buffer returned spent tasks =
     codes "{\"buffer\":" ++ (buffer ++ ((codes ",\"ok\":true,\"returned\":" ++ decimal returned)
     ++ ((codes ",\"spent\":" ++ decimal spent) ++ (codes ",\"tasks\":["
-    ++ (told false tasks ++ codes "]}")))))
+    ++ (task_texts false tasks ++ codes "]}")))))

@@ -3,7 +3,7 @@
 ghost use Rattle.std.specs.Prelude.{◌≡◌, ◌≢◌, Some, None, IfOk, IfErr, option_map, map};
 ghost use Rattle.std.specs.List.{list_all};
 ghost use Rattle.serde_json.specs.View.{view};
-ghost use Rattle.sessions.specs.Grammar.{text_at, number_in, number_at, bytes_at, list_at, tenant_at, is_name, is_name_byte};
+ghost use Rattle.sessions.specs.Grammar.{text_at_key, number_between, number_at_key, bytes_at_key, list_at_key, tenant_at, is_name, is_name_byte};
 ghost use Rattle.sessions.specs.declared.fault.SessionFault.TheVariants.{BadRequest, NoMemory};
 
 use crate::fault::SessionFault;
@@ -15,14 +15,14 @@ const LONGEST_NAME: usize = 32;
 
 /// The text at a key.
 pub(crate) fn text_member<'a>(value: &'a Value, key: &str) -> Option<&'a str>
-    ensures { option_map (λ s. s.now) result ≡ text_at key.now (view value.now) }
+    ensures { option_map (λ s. s.now) result ≡ text_at_key key.now (view value.now) }
 {
     value.get(key).and_then(Value::as_str)
 }
 
 /// A whole number from low to high.
 pub(crate) fn number_of(value: &Value, low: u64, high: u64) -> Option<u64>
-    ensures { result ≡ number_in low high (view value.now) }
+    ensures { result ≡ number_between low high (view value.now) }
 {
     let number = value.as_u64()?;
     if low <= number && number <= high {
@@ -34,17 +34,17 @@ pub(crate) fn number_of(value: &Value, low: u64, high: u64) -> Option<u64>
 
 /// The whole number from low to high at a key.
 pub(crate) fn number_member(value: &Value, key: &str, low: u64, high: u64) -> Option<u64>
-    ensures { result ≡ number_at key.now low high (view value.now) }
+    ensures { result ≡ number_at_key key.now low high (view value.now) }
 {
     number_of(value.get(key)?, low, high)
 }
 
 /// The bytes that the hexadecimal text at a key writes.
-#[tactic(auto, unfolding(crate::specs::Grammar::bytes_at))]
+#[tactic(auto, unfolding(crate::specs::Grammar::bytes_at_key))]
 pub(crate) fn bytes_member(alloc: Global, value: &Value, key: &str) -> Result<Vec<u8>, SessionFault>
-    ensures ok { IfOk result (λ bytes. bytes_at key.now (view value.now) ≡ Some bytes.items) }
+    ensures ok { IfOk result (λ bytes. bytes_at_key key.now (view value.now) ≡ Some bytes.items) }
     ensures err { IfErr result (λ e. (e ≢ NoMemory) → (e ≡ BadRequest)
-        × (bytes_at key.now (view value.now) ≡ None)) }
+        × (bytes_at_key key.now (view value.now) ≡ None)) }
 {
     let Some(text) = text_member(value, key) else {
         return Err(SessionFault::BadRequest);
@@ -54,7 +54,8 @@ pub(crate) fn bytes_member(alloc: Global, value: &Value, key: &str) -> Result<Ve
 
 /// The values of the array at a key.
 pub(crate) fn list_member<'a>(value: &'a Value, key: &str) -> Option<&'a Vec<Value>>
-    ensures { option_map (λ vs. map view vs.now.items) result ≡ list_at key.now (view value.now) }
+    ensures { option_map (λ vs. map view vs.now.items) result
+        ≡ list_at_key key.now (view value.now) }
 {
     value.get(key)?.as_array()
 }

@@ -7,7 +7,7 @@ ghost use Rattle.sessions.specs.Frames.{framed};
 ghost use Rattle.sessions.specs.Replies.{refusal_data, account_data, submit_data, status_data, play_data, text_of, frame_of, frame_or_refusal, longest_reply};
 ghost use Rattle.sessions.specs.Outcomes.{outcome_data};
 
-use crate::result::{Outcome, result_frame, write_result};
+use crate::result::{JobOutcome, result_frame, write_result};
 use credit_book::TaskEnd;
 use itoa::Buffer;
 use refusal::NoMemory;
@@ -189,7 +189,7 @@ fn write_reply(alloc: Global, out: &mut Vec<u8>, reply: &Reply) -> Result<(), Al
         } => write_result(
             alloc,
             out,
-            &Outcome {
+            &JobOutcome {
                 buffer,
                 returned,
                 spent,
@@ -260,7 +260,7 @@ fn short_frame(alloc: Global, reply: &Reply) -> Result<Vec<u8>, NoMemory>
 
 // The frame of what a job came to, or of refusal 65.
 #[tactic(auto, unfolding(crate::specs::Replies::frame_or_refusal))]
-fn frame_of_result(alloc: Global, outcome: &Outcome<'_>) -> Result<Vec<u8>, NoMemory>
+fn frame_of_result(alloc: Global, outcome: &JobOutcome<'_>) -> Result<Vec<u8>, NoMemory>
     ensures { IfOk result
         (λ frame. frame.items ≡ frame_or_refusal (outcome_data outcome.now)) }
 {
@@ -285,7 +285,7 @@ pub fn reply_frame(alloc: Global, reply: &Reply) -> Result<Vec<u8>, NoMemory>
             tasks,
         } => frame_of_result(
             alloc,
-            &Outcome {
+            &JobOutcome {
                 buffer,
                 returned,
                 spent,

@@ -2,7 +2,7 @@
 
 ghost use Rattle.std.specs.Prelude.{◌≡◌, ◌≢◌, Some, None, IfOk, IfErr, map};
 ghost use Rattle.serde_json.specs.View.{view};
-ghost use Rattle.sessions.specs.Grammar.{program_from, programs_at, numbers_at, grant_of, account_of, submit_of, status_of, result_of, order_of, form_of, request_of, asked, order_asked, program_asked, object_of, object_asked};
+ghost use Rattle.sessions.specs.Grammar.{program_from, programs_at, numbers_at, grant_from, account_from, submit_from, status_from, result_from, job_from, form_from, request_from, request_asked, job_asked, program_asked, object_from, object_asked};
 ghost use Rattle.sessions.specs.Answers.{PayloadAnswer, ObjectAnswer};
 ghost use Rattle.sessions.specs.declared.fault.SessionFault.TheVariants.{BadRequest, NoMemory};
 
@@ -101,11 +101,11 @@ fn read_programs(alloc: Global, value: &Value) -> Result<Vec<ProgramBytes>, Sess
 }
 
 // The job that an object says.
-#[tactic(auto, unfolding(crate::specs::Grammar::order_of))]
-fn read_order(alloc: Global, value: &Value) -> Result<JobText, SessionFault>
-    ensures ok { IfOk result (λ o. order_of (view value.now) ≡ Some (order_asked o)) }
+#[tactic(auto, unfolding(crate::specs::Grammar::job_from))]
+fn read_job(alloc: Global, value: &Value) -> Result<JobText, SessionFault>
+    ensures ok { IfOk result (λ o. job_from (view value.now) ≡ Some (job_asked o)) }
     ensures err { IfErr result (λ e. (e ≢ NoMemory) → (e ≡ BadRequest)
-        × (order_of (view value.now) ≡ None)) }
+        × (job_from (view value.now) ≡ None)) }
 {
     let Some(credit) = number_member(value, "credit", 0, U32_MAX) else {
         return Err(SessionFault::BadRequest);
@@ -138,11 +138,11 @@ fn read_schedule(alloc: Global, value: &Value) -> Result<Vec<u32>, SessionFault>
     Ok(schedule)
 }
 
-#[tactic(auto, unfolding(crate::specs::Grammar::grant_of))]
+#[tactic(auto, unfolding(crate::specs::Grammar::grant_from))]
 fn read_grant(alloc: Global, value: &Value) -> Result<Request, SessionFault>
-    ensures ok { IfOk result (λ r. grant_of (view value.now) ≡ Some (asked r)) }
+    ensures ok { IfOk result (λ r. grant_from (view value.now) ≡ Some (request_asked r)) }
     ensures err { IfErr result (λ e. (e ≢ NoMemory) → (e ≡ BadRequest)
-        × (grant_of (view value.now) ≡ None)) }
+        × (grant_from (view value.now) ≡ None)) }
 {
     let Some(tenant) = tenant_member(value) else {
         return Err(SessionFault::BadRequest);
@@ -156,11 +156,11 @@ fn read_grant(alloc: Global, value: &Value) -> Result<Request, SessionFault>
     })
 }
 
-#[tactic(auto, unfolding(crate::specs::Grammar::account_of))]
+#[tactic(auto, unfolding(crate::specs::Grammar::account_from))]
 fn read_account(alloc: Global, value: &Value) -> Result<Request, SessionFault>
-    ensures ok { IfOk result (λ r. account_of (view value.now) ≡ Some (asked r)) }
+    ensures ok { IfOk result (λ r. account_from (view value.now) ≡ Some (request_asked r)) }
     ensures err { IfErr result (λ e. (e ≢ NoMemory) → (e ≡ BadRequest)
-        × (account_of (view value.now) ≡ None)) }
+        × (account_from (view value.now) ≡ None)) }
 {
     let Some(tenant) = tenant_member(value) else {
         return Err(SessionFault::BadRequest);
@@ -170,10 +170,10 @@ fn read_account(alloc: Global, value: &Value) -> Result<Request, SessionFault>
     })
 }
 
-#[tactic(auto, unfolding(crate::specs::Grammar::status_of))]
+#[tactic(auto, unfolding(crate::specs::Grammar::status_from))]
 fn read_status(value: &Value) -> Result<Request, SessionFault>
-    ensures ok { IfOk result (λ r. status_of (view value.now) ≡ Some (asked r)) }
-    ensures err { IfErr result (λ e. (e ≡ BadRequest) × (status_of (view value.now) ≡ None)) }
+    ensures ok { IfOk result (λ r. status_from (view value.now) ≡ Some (request_asked r)) }
+    ensures err { IfErr result (λ e. (e ≡ BadRequest) × (status_from (view value.now) ≡ None)) }
 {
     match number_member(value, "job", 0, u64::MAX) {
         Some(job) => Ok(Request::Status { job }),
@@ -181,11 +181,11 @@ fn read_status(value: &Value) -> Result<Request, SessionFault>
     }
 }
 
-#[tactic(auto, unfolding(crate::specs::Grammar::submit_of))]
+#[tactic(auto, unfolding(crate::specs::Grammar::submit_from))]
 fn read_submit(alloc: Global, value: &Value) -> Result<Request, SessionFault>
-    ensures ok { IfOk result (λ r. submit_of (view value.now) ≡ Some (asked r)) }
+    ensures ok { IfOk result (λ r. submit_from (view value.now) ≡ Some (request_asked r)) }
     ensures err { IfErr result (λ e. (e ≢ NoMemory) → (e ≡ BadRequest)
-        × (submit_of (view value.now) ≡ None)) }
+        × (submit_from (view value.now) ≡ None)) }
 {
     let Some(tenant) = tenant_member(value) else {
         return Err(SessionFault::BadRequest);
@@ -194,7 +194,7 @@ fn read_submit(alloc: Global, value: &Value) -> Result<Request, SessionFault>
         programs,
         credit,
         buffer,
-    } = read_order(alloc, value)?;
+    } = read_job(alloc, value)?;
     Ok(Request::Submit {
         tenant: String::from_str(alloc, tenant)?,
         programs,
@@ -203,10 +203,10 @@ fn read_submit(alloc: Global, value: &Value) -> Result<Request, SessionFault>
     })
 }
 
-#[tactic(auto, unfolding(crate::specs::Grammar::result_of))]
+#[tactic(auto, unfolding(crate::specs::Grammar::result_from))]
 fn read_result(value: &Value) -> Result<Request, SessionFault>
-    ensures ok { IfOk result (λ r. result_of (view value.now) ≡ Some (asked r)) }
-    ensures err { IfErr result (λ e. (e ≡ BadRequest) × (result_of (view value.now) ≡ None)) }
+    ensures ok { IfOk result (λ r. result_from (view value.now) ≡ Some (request_asked r)) }
+    ensures err { IfErr result (λ e. (e ≡ BadRequest) × (result_from (view value.now) ≡ None)) }
 {
     match number_member(value, "job", 0, u64::MAX) {
         Some(job) => Ok(Request::Result { job }),
@@ -215,11 +215,11 @@ fn read_result(value: &Value) -> Result<Request, SessionFault>
 }
 
 // The request of the form that `op` names.
-#[tactic(auto, unfolding(crate::specs::Grammar::form_of))]
+#[tactic(auto, unfolding(crate::specs::Grammar::form_from))]
 fn read_form(alloc: Global, op: &str, value: &Value) -> Result<Request, SessionFault>
-    ensures ok { IfOk result (λ r. form_of op.now (view value.now) ≡ Some (asked r)) }
+    ensures ok { IfOk result (λ r. form_from op.now (view value.now) ≡ Some (request_asked r)) }
     ensures err { IfErr result (λ e. (e ≢ NoMemory) → (e ≡ BadRequest)
-        × (form_of op.now (view value.now) ≡ None)) }
+        × (form_from op.now (view value.now) ≡ None)) }
 {
     if op == "grant" {
         return read_grant(alloc, value);
@@ -239,11 +239,11 @@ fn read_form(alloc: Global, op: &str, value: &Value) -> Result<Request, SessionF
     Err(SessionFault::BadRequest)
 }
 
-#[tactic(auto, unfolding(crate::specs::Grammar::request_of))]
+#[tactic(auto, unfolding(crate::specs::Grammar::request_from))]
 fn read_value(alloc: Global, value: &Value) -> Result<Request, SessionFault>
-    ensures ok { IfOk result (λ r. request_of (view value.now) ≡ Some (asked r)) }
+    ensures ok { IfOk result (λ r. request_from (view value.now) ≡ Some (request_asked r)) }
     ensures err { IfErr result (λ e. (e ≢ NoMemory) → (e ≡ BadRequest)
-        × (request_of (view value.now) ≡ None)) }
+        × (request_from (view value.now) ≡ None)) }
 {
     match text_member(value, "op") {
         Some(op) => read_form(alloc, op, value),
@@ -262,22 +262,22 @@ pub(crate) fn read_request(alloc: Global, payload: &[u8]) -> Result<Request, Ses
     }
 }
 
-#[tactic(auto, unfolding(crate::specs::Grammar::object_of))]
+#[tactic(auto, unfolding(crate::specs::Grammar::object_from))]
 fn read_object(
     alloc: Global,
     value: &Value,
     wants_schedule: bool,
 ) -> Result<JobObject, SessionFault>
-    ensures ok { IfOk result (λ o. object_of wants_schedule (view value.now)
+    ensures ok { IfOk result (λ o. object_from wants_schedule (view value.now)
         ≡ Some (object_asked o)) }
     ensures err { IfErr result (λ e. (e ≢ NoMemory) → (e ≡ BadRequest)
-        × (object_of wants_schedule (view value.now) ≡ None)) }
+        × (object_from wants_schedule (view value.now) ≡ None)) }
 {
     let JobText {
         programs,
         credit,
         buffer,
-    } = read_order(alloc, value)?;
+    } = read_job(alloc, value)?;
     if !wants_schedule {
         return Ok(JobObject {
             programs,

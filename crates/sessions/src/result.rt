@@ -7,7 +7,7 @@ ghost use Rattle.serde_json.specs.Data.{boolean, string};
 ghost use Rattle.hex.specs.Hex.{encode_lower};
 ghost use Rattle.sessions.specs.Frames.{framed};
 ghost use Rattle.sessions.specs.Replies.{longest_reply, task_data};
-ghost use Rattle.sessions.specs.ResultTexts.{result_text, told, weight};
+ghost use Rattle.sessions.specs.ResultTexts.{result_text, task_texts, weight};
 ghost use Rattle.sessions.specs.Outcomes.{outcome_data};
 
 use crate::reply::put_number;
@@ -27,7 +27,7 @@ const RESULT_FRAME: u64 = 53;
 
 /// What a job came to.
 #[derive(Clone, Copy)]
-pub(crate) struct Outcome<'a> {
+pub(crate) struct JobOutcome<'a> {
     pub(crate) buffer: &'a [u8],
     pub(crate) returned: u32,
     pub(crate) spent: u32,
@@ -73,7 +73,7 @@ fn write_task(out: &mut Vec<u8>, task: &TaskEnd) -> Result<(), AllocError>
 
 // The tasks' JSON, with a comma between two.
 fn write_tasks(out: &mut Vec<u8>, tasks: &[TaskEnd]) -> Result<(), AllocError>
-    ensures { OnOk result (out.new.items ≡ out.old.items ++ told false tasks.now) }
+    ensures { OnOk result (out.new.items ≡ out.old.items ++ task_texts false tasks.now) }
 {
     let mut is_later = false;
     for task in tasks {
@@ -117,7 +117,7 @@ fn write_quoted(
 pub(crate) fn write_result(
     alloc: Global,
     out: &mut Vec<u8>,
-    outcome: &Outcome<'_>,
+    outcome: &JobOutcome<'_>,
 ) -> Result<(), AllocError>
     ensures { OnOk result (out.new.items ≡ out.old.items ++ compact_text (outcome_data outcome.now)) }
 {
@@ -192,14 +192,14 @@ fn quoted_length(buffer: &[u8], returned: u32, spent: u32, tasks: &[TaskEnd]) ->
 /// 4,294,967,295, before any memory is asked for the tasks. It is written once, into its place.
 pub(crate) fn result_frame(
     alloc: Global,
-    outcome: &Outcome<'_>,
+    outcome: &JobOutcome<'_>,
 ) -> Result<Option<Vec<u8>>, AllocError>
     ensures { IfOk result (λ made. MatchOption made
         (longest_reply < length (compact_text (outcome_data outcome.now)))
         (λ frame. (frame.items ≡ framed (compact_text (outcome_data outcome.now)))
         × (length (compact_text (outcome_data outcome.now)) ≤ longest_reply))) }
 {
-    let Outcome {
+    let JobOutcome {
         buffer,
         returned,
         spent,

@@ -6,7 +6,7 @@ use Rattle.credit_book.specs.declared.board.Progress.{Progress}
 use Rattle.job_core.specs.declared.admission.ProgramBytes.{ProgramBytes}
 use Rattle.job_core.specs.Admitted as core
 use Rattle.accounts.specs.Ledgers.{Ledger, account_at, progress_at, report_at}
-use Rattle.sessions.specs.Grammar.{asked}
+use Rattle.sessions.specs.Grammar.{request_asked}
 use Rattle.sessions.specs.declared.request.Request.{Request}
 use Rattle.sessions.specs.declared.request.Request.TheVariants as request
 use Rattle.sessions.specs.declared.reply.Reply.{Reply}
@@ -19,7 +19,7 @@ module _ {R : Type 0} (starts : R → ℕ → core.AdmittedJob → Result (Unit 
     (desk after : Ledger) (runner left : R) (asks : Request) (told : Data) where
   -- what is told to this request
   abbrev told_to : Request → Type 0
-  told_to r = Replies starts looks desk runner (Ok (asked r)) told after left
+  told_to r = Replies starts looks desk runner (Ok (request_asked r)) told after left
 
   pub to_grant : (tenant : String Global) (amount : ℕ) (name : List ℕ) → asks ≡ request.Grant tenant amount → name ≡ string_bytes tenant → left ≡ runner →
       (Grants desk name amount told after ⊎ GrantsNone desk name amount told after) → told_to asks

@@ -29,7 +29,7 @@ use Rattle.streams.specs.declared.fault.StreamFault.TheVariants.{ReadFailed, Wri
 use Rattle.streams.proofs.Answered.{opened}
 use Rattle.streams.proofs.Serving.{grows_on, serves_grow, serves_more, serves_on}
 use Rattle.streams.specs.Inline.{StartsInline, TakesInline}
-use Rattle.streams.specs.LedgerReplies.{AreNoted, BeginsReplies, TakesAndPlays, PlaysNone, RepliesTo, Tells, WritesReplies, none_yet, one_more, unseen}
+use Rattle.streams.specs.LedgerReplies.{AreNoted, BeginsReplies, TakesAndPlays, PlaysNone, RepliesTo, RepliesWith, WritesReplies, none_yet, one_more, unseen}
 
 -- ---- each report can be noted
 
@@ -139,8 +139,8 @@ module _ {R : Type 0} (reports : R → List (ℕ × Report)) where
     plain_submit name programs credit buffer told (inl t) = inl (plain_job name programs credit buffer told t t.outcome refl)
     plain_submit name programs credit buffer told (inr t) = inr (record { fault = t.fault; why = t.why; same = same_ledger t.same_runner ∙ t.same; tells = t.tells })
 
-    plain_reply : (query : Result Asked ℕ) (told : Data) → Replies starts looks desk runner query told after left → Tells desk query told ledger
-    unfolding Replies Tells
+    plain_reply : (query : Result Asked ℕ) (told : Data) → Replies starts looks desk runner query told after left → RepliesWith desk query told ledger
+    unfolding Replies RepliesWith
     plain_reply (Err code) told r = (r.0, same_ledger r.2 ∙ r.1)
     plain_reply (Ok (grant name amount)) told r = subst (λ l. Grants desk name amount told l ⊎ GrantsNone desk name amount told l) (sym (same_ledger r.1)) r.0
     plain_reply (Ok (account name)) told r = (r.0, same_ledger r.2 ∙ r.1)

@@ -3,7 +3,7 @@ use Rattle.std.specs.Prelude.{ℕ}
 use Rattle.streams.specs.declared.fault.StreamFault.{StreamFault}
 use Rattle.streams.specs.declared.fault.StreamFault.TheVariants.{ReadFailed, WriteFailed, NoMemory}
 
-abbrev pub code_of : StreamFault → ℕ
-code_of ReadFailed = 83
-code_of WriteFailed = 84
-code_of NoMemory = 99
+abbrev pub code_of_stream_fault : StreamFault → ℕ
+code_of_stream_fault ReadFailed = 83
+code_of_stream_fault WriteFailed = 84
+code_of_stream_fault NoMemory = 99

@@ -50,19 +50,19 @@ abbrev pub unseen : Progress
 unseen = record { spent = 0; returned = 0; complete = false }
 
 -- what is told to what a frame asks, or to the number of its refusal, and the ledger after it
-unfoldable pub Tells : Ledger → Result Asked ℕ → Data → Ledger → Type 0
-Tells desk (Err code) told after = (told ≡ refused code) × (after ≡ desk)
-Tells desk (Ok (grant name amount)) told after =
+unfoldable pub RepliesWith : Ledger → Result Asked ℕ → Data → Ledger → Type 0
+RepliesWith desk (Err code) told after = (told ≡ refused code) × (after ≡ desk)
+RepliesWith desk (Ok (grant name amount)) told after =
     Grants desk name amount told after ⊎ GrantsNone desk name amount told after
-Tells desk (Ok (account name)) told after =
+RepliesWith desk (Ok (account name)) told after =
     (told ≡ account_told (account_at desk name)) × (after ≡ desk)
-Tells desk (Ok (submit name order)) told after =
+RepliesWith desk (Ok (submit name order)) told after =
     (programs : List ProgramBytes) × (map program_asked programs ≡ order.programs)
     × (TakesAndPlays desk name programs order.credit order.buffer told after
     ⊎ PlaysNone desk name programs order.credit order.buffer told after)
-Tells desk (Ok (status number)) told after =
+RepliesWith desk (Ok (status number)) told after =
     (told ≡ progress_told (progress_at desk number unseen)) × (after ≡ desk)
-Tells desk (Ok (result number)) told after =
+RepliesWith desk (Ok (result number)) told after =
     (told ≡ report_told (report_at desk number)) × (after ≡ desk)
 
 -- The payloads are answered one after the other, from a ledger to another, and these are the frames
@@ -71,7 +71,7 @@ pub data RepliesTo (start : Ledger) : List (List ℕ) → List ℕ → Ledger �
   none_yet : RepliesTo start [] [] start
   one_more : (payloads : List (List ℕ)) (text : List ℕ) (desk : Ledger) (payload : List ℕ)
       (query : Result Asked ℕ) (told : Reply) (after : Ledger) → RepliesTo start payloads text desk
-      → Hears payload query → Tells desk query (reply_data told) after
+      → Hears payload query → RepliesWith desk query (reply_data told) after
       → RepliesTo start (payloads ++ payload ∷ []) (text ++ frame_of told) after
 
 -- The replies to all frames of the bytes, and one 71 behind them where a length over the limit
@@ -107,8 +107,8 @@ pub record WritesReplies (desk : Ledger) (held : List (ℕ × Report)) (bytes be
 
 -- bytes begin a text: the replies to some payloads, or those to all of them and one 71 behind them,
 -- where a length over the limit comes next
-abbrev pub BeginsWith : List ℕ → List (List ℕ) → List ℕ → List ℕ → Type 0
-BeginsWith bytes further text part =
+abbrev pub IsBeginning : List ℕ → List (List ℕ) → List ℕ → List ℕ → Type 0
+IsBeginning bytes further text part =
     (more : List ℕ) × ((part ++ more ≡ text)
     ⊎ ((front (frames_of bytes).rest ≡ too_large) × (further ≡ [])
     × (part ++ more ≡ text ++ too_large_reply)))
@@ -128,4 +128,4 @@ pub record BeginsReplies (desk : Ledger) (held : List (ℕ × Report)) (bytes be
   pub replies : RepliesTo start payloads text last
   pub part : List ℕ
   pub written : after ≡ before ++ part
-  pub begins : BeginsWith bytes further text part
+  pub begins : IsBeginning bytes further text part

@@ -1,7 +1,7 @@
 //! A desk and a runner behind a stream.
 
 ghost use Rattle.std.specs.Prelude.{Ok};
-ghost use Rattle.sessions.specs.Grammar.{asked};
+ghost use Rattle.sessions.specs.Grammar.{request_asked};
 ghost use Rattle.streams.specs.Answering.{Framed, Replies};
 ghost use Rattle.streams.specs.Hearing.{query_of};
 
@@ -26,7 +26,8 @@ fn carry_out<N: Runner>(
     requires { N.ready runner.old }
     ensures ready { N.ready runner.new }
     ensures done { Framed result
-        (λ told. Replies N.starts N.looks desk.old runner.old (Ok (asked request)) told desk.new
+        (λ told. Replies N.starts N.looks desk.old runner.old
+        (Ok (request_asked request)) told desk.new
         runner.new) }
 {
     match request {

@@ -3,7 +3,7 @@
 ghost use Rattle.std.specs.Prelude.{◌≡◌, ◌≤◌, ◌⊎◌, ◌++◌, [], List, ℕ, false, is_err, IsTrue, OnOk, OnErr};
 ghost use Rattle.streams.specs.Stops.{IsGrown, IsPartWritten};
 
-use crate::ends::{Failed, Sink, write_all};
+use crate::source_and_sink::{Failed, Sink, write_all};
 
 // The most bytes that wait.
 const BATCH_LEN: usize = 65_536;

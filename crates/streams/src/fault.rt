@@ -21,11 +21,11 @@ pub enum StreamFault {
 }
 
 impl StreamFault {
-    ghost use Rattle.streams.specs.Faults.{code_of};
+    ghost use Rattle.streams.specs.Faults.{code_of_stream_fault};
 
     /// The number of the refusal.
     pub fn code(self) -> u8
-        ensures { result ≡ code_of self }
+        ensures { result ≡ code_of_stream_fault self }
     {
         match self {
             StreamFault::ReadFailed => 83,

@@ -2,10 +2,10 @@
 #![tactic(auto)]
 
 // the ends of a stream
-mod ends;
+mod source_and_sink;
 mod tap;
 
-pub use ends::{Failed, Sink, Source, write_all};
+pub use source_and_sink::{Failed, Sink, Source, write_all};
 pub use tap::Tap;
 
 // the frames of one, each answered

@@ -8,9 +8,9 @@ ghost use Rattle.streams.specs.Stops.{IsGivenUp, IsGrown, IsLastUnwritten, IsSer
 ghost use Rattle.streams.specs.Hearing.{HearsFront, query_of};
 
 use crate::batch::{put_reply, write_batch};
-use crate::ends::{Sink, Source, write_all};
 use crate::fault::StreamFault;
 use crate::handler::Handler;
+use crate::source_and_sink::{Sink, Source, write_all};
 use refusal::NoMemory;
 use sessions::{Reply, Request, Session, SessionFault, reply_frame};
 use std::alloc::Global;
@@ -20,25 +20,27 @@ const PIECE_LEN: usize = 4096;
 
 // What is heard at the front of a stream.
 #[derive(Drop)]
-enum Heard {
+enum NextFrame {
     Waiting,
     TooLarge,
     Question(Result<Request, u8>),
 }
 
-fn hear(alloc: Global, session: &mut Session) -> Result<Heard, NoMemory>
+fn hear(alloc: Global, session: &mut Session) -> Result<NextFrame, NoMemory>
     requires { ended_by session.old ≡ None }
     ensures heard { IfOk result (λ heard.
         HearsFront heard (unread session.old) (unread session.new)) }
-    ensures well { IfOk result (λ heard. heard ≢ Heard.TooLarge → ended_by session.new ≡ None) }
+    ensures well { IfOk result (λ heard. heard ≢ NextFrame.TooLarge → ended_by session.new ≡ None) }
 {
     match session.next_request(alloc) {
-        Ok(None) => Ok(Heard::Waiting),
-        Ok(Some(request)) => Ok(Heard::Question(Ok(request))),
-        Err(SessionFault::FrameTooLarge) => Ok(Heard::TooLarge),
+        Ok(None) => Ok(NextFrame::Waiting),
+        Ok(Some(request)) => Ok(NextFrame::Question(Ok(request))),
+        Err(SessionFault::FrameTooLarge) => Ok(NextFrame::TooLarge),
         Err(SessionFault::NoMemory) => Err(NoMemory),
-        Err(SessionFault::NotJson) => Ok(Heard::Question(Err(SessionFault::NotJson.code()))),
-        Err(SessionFault::BadRequest) => Ok(Heard::Question(Err(SessionFault::BadRequest.code()))),
+        Err(SessionFault::NotJson) => Ok(NextFrame::Question(Err(SessionFault::NotJson.code()))),
+        Err(SessionFault::BadRequest) => Ok(NextFrame::Question(Err(
+            SessionFault::BadRequest.code(),
+        ))),
     }
 }
 
@@ -107,9 +109,9 @@ fn answer_frames<W: Sink, D, H: Handler<D>>(
 {
     'frames: loop {
         let request = match hear(alloc, session)? {
-            Heard::Waiting => return Ok(true),
-            Heard::TooLarge => return Ok(false),
-            Heard::Question(request) => request,
+            NextFrame::Waiting => return Ok(true),
+            NextFrame::TooLarge => return Ok(false),
+            NextFrame::Question(request) => request,
         };
         answer_one(alloc, writer, batch, desk, handler, request)?;
         *number = number.saturating_add(1);

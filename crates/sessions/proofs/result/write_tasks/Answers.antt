@@ -1,6 +1,6 @@
 use Rattle.std.proofs.Common.{◌++◌, false, ap, ◌∙◌}
 use Rattle.std.proofs.lemmas.List.{take_all, take_more}
-use Rattle.sessions.specs.ResultTexts.{told}
+use Rattle.sessions.specs.ResultTexts.{task_texts}
 use Rattle.sessions.proofs.ResultLemmas.{behind_more, tasks_more}
 use Rattle.sessions.proofs.result.write_tasks.Goals as goal
 
@@ -13,4 +13,4 @@ loop-task-preserved c =
     }
 
 pub returns : goal.returns
-returns c = c.loop-task.invariant.written ∙ ap (λ ts. c.args.out.now.items ++ told false ts) (take_all c.loop-task.task-index c.args.tasks.now c.loop-task-test.false)
+returns c = c.loop-task.invariant.written ∙ ap (λ ts. c.args.out.now.items ++ task_texts false ts) (take_all c.loop-task.task-index c.args.tasks.now c.loop-task-test.false)
