@@ -7,7 +7,7 @@ use Rattle.sessions.specs.Answers.{Hears}
 use Rattle.streams.specs.Stops.{IsStarved, ahead_of_reply, between}
 use Rattle.conversation.specs.declared.ended.Ended.{Ended}
 use Rattle.conversation.specs.declared.ended.Ended.TheVariants.{TooLarge, NoMemory}
-use Rattle.conversation.specs.Ends.{IsEnded, IsRefused}
+use Rattle.conversation.specs.Endings.{IsEnded, IsRefused}
 
 -- a length over the limit comes next
 pub ends_at_length : {S : Type 0} (ended : Ended) (answers : S → Result Asked ℕ → List ℕ → S → Type 0) (start : S) (bytes before : List ℕ) (count : ℕ) (end : S) (left out after : List ℕ) →

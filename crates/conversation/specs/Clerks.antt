@@ -17,5 +17,5 @@ pub record ClerkAnswers (old : Clerk) (query : Result Asked ℕ) (reply : List �
   pub answered : Answers handed_starts handed_looks handed_takes old.ledger mid query reply
       new.ledger new.jobs
 
-abbrev pub answers : Unit {0} × Clerk → Result Asked ℕ → List ℕ → Unit {0} × Clerk → Type 0
-answers s query reply t = ClerkAnswers s.1 query reply t.1
+abbrev pub clerk_answers : Unit {0} × Clerk → Result Asked ℕ → List ℕ → Unit {0} × Clerk → Type 0
+clerk_answers s query reply t = ClerkAnswers s.1 query reply t.1

@@ -4,9 +4,9 @@ use Rattle.sessions.specs.Session.{unread, ended_by}
 use Rattle.conversation.specs.declared.conversation.Conversation.{Conversation}
 
 -- it isn't over
-abbrev pub IsOpen : Conversation → Type 0
-IsOpen c = (c.ended ≡ None) × (ended_by c.session ≡ None)
+abbrev pub IsOpenConversation : Conversation → Type 0
+IsOpenConversation c = (c.ended ≡ None) × (ended_by c.session ≡ None)
 
 -- nothing was said in it
-abbrev pub IsFresh : Conversation → Type 0
-IsFresh c = IsOpen c × (unread c.session ≡ []) × (c.due.items ≡ [])
+abbrev pub IsNewConversation : Conversation → Type 0
+IsNewConversation c = IsOpenConversation c × (unread c.session ≡ []) × (c.due.items ≡ [])

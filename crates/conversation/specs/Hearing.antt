@@ -3,12 +3,12 @@ use Rattle.std.specs.Prelude.{◌≡◌, List, ℕ}
 use Rattle.sessions.specs.Frames.{front, whole, partial, too_large}
 use Rattle.sessions.specs.Answers.{Hears}
 use Rattle.streams.specs.Hearing.{query_of}
-use Rattle.conversation.specs.declared.frames.Heard.{Heard}
-use Rattle.conversation.specs.declared.frames.Heard.TheVariants.{Waiting, TooLarge, Question}
+use Rattle.conversation.specs.declared.frames.ArrivedFrame.{ArrivedFrame}
+use Rattle.conversation.specs.declared.frames.ArrivedFrame.TheVariants.{Waiting, TooLarge, Question}
 
 -- what stands first in the bytes, and the bytes that are left once it is heard
-abbrev pub HearsFront : Heard → List ℕ → List ℕ → Type 0
-HearsFront Waiting bytes left = (front bytes ≡ partial) × (left ≡ bytes)
-HearsFront TooLarge bytes left = (front bytes ≡ too_large) × (left ≡ bytes)
-HearsFront (Question request) bytes left =
+abbrev pub IsArrivedFrame : ArrivedFrame → List ℕ → List ℕ → Type 0
+IsArrivedFrame Waiting bytes left = (front bytes ≡ partial) × (left ≡ bytes)
+IsArrivedFrame TooLarge bytes left = (front bytes ≡ too_large) × (left ≡ bytes)
+IsArrivedFrame (Question request) bytes left =
     (payload : List ℕ) × (front bytes ≡ whole payload left) × Hears payload (query_of request)

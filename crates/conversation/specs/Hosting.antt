@@ -5,9 +5,9 @@ use Rattle.std.specs.Ordering.{nat_cmp}
 use Rattle.sessions.specs.Frames.{front, partial}
 use Rattle.sessions.specs.Session.{unread}
 use Rattle.streams.specs.Serves.{Serves}
-use Rattle.conversation.specs.Clerks.{answers}
-use Rattle.conversation.specs.Conversations.{IsFresh, IsOpen}
-use Rattle.conversation.specs.Ends.{IsEnded}
+use Rattle.conversation.specs.Clerks.{clerk_answers}
+use Rattle.conversation.specs.Conversations.{IsNewConversation, IsOpenConversation}
+use Rattle.conversation.specs.Endings.{IsEnded}
 use Rattle.conversation.specs.declared.clerk.Clerk.{Clerk}
 use Rattle.conversation.specs.declared.conversation.Conversation.{Conversation}
 use Rattle.conversation.specs.declared.ended.Ended.{Ended}
@@ -15,8 +15,8 @@ use Rattle.conversation.specs.declared.host_desk.HostDesk.{HostDesk}
 use Rattle.conversation.specs.declared.host_desk.Sent.{Sent}
 
 -- no tenant, no job and no connection
-abbrev pub IsNew : HostDesk → Type 0
-IsNew desk = (desk.clerk.ledger ≡ record { grants = []; past = []; jobs = [] })
+abbrev pub IsEmptyDesk : HostDesk → Type 0
+IsEmptyDesk desk = (desk.clerk.ledger ≡ record { grants = []; past = []; jobs = [] })
     × (desk.clerk.jobs.waiting.entries ≡ []) × (desk.conversations.entries ≡ [])
 
 -- nothing changes
@@ -30,12 +30,14 @@ IsAsBefore old new = (new.conversations.entries ≡ old.conversations.entries)
 pub record Feeds (clerk : Clerk) (old : Conversation) (piece : List ℕ)
     (result : Result (Unit {0}) Ended) (after : Clerk) (new : Conversation) : Type 0 where
   pub served : OnOk result ((count : ℕ)
-      × Serves answers (tt, clerk) (unread old.session ++ piece) old.due.items count (tt, after)
+      × Serves clerk_answers (tt, clerk) (unread old.session ++ piece) old.due.items count
+      (tt, after)
       (unread new.session) new.due.items)
   pub left : OnOk result (front (unread new.session) ≡ partial)
-  pub goes_on : OnOk result (IsOpen new)
-  pub ended : IsOpen old → IfErr result (λ ended.
-      IsEnded ended answers (tt, clerk) (unread old.session ++ piece) old.due.items (tt, after)
+  pub goes_on : OnOk result (IsOpenConversation new)
+  pub ended : IsOpenConversation old → IfErr result (λ ended.
+      IsEnded ended clerk_answers (tt, clerk) (unread old.session ++ piece) old.due.items
+      (tt, after)
       new.due.items)
   pub told : IfErr result (λ ended. new.ended ≡ Some ended)
   pub closed : IfSome old.ended (λ ended. (result ≡ Err ended) × (new ≡ old) × (after ≡ clerk))
@@ -53,7 +55,7 @@ pub record FeedsAt (desk : HostDesk) (number : ℕ) (piece : List ℕ)
 -- a conversation is begun, under a number that none had before
 pub record Connects (desk : HostDesk) (number : ℕ) (after : HostDesk) : Type 0 where
   pub conversation : Conversation
-  pub fresh : IsFresh conversation
+  pub fresh : IsNewConversation conversation
   pub was : get nat_cmp desk.conversations number ≡ None
   pub updates : Updates nat_cmp desk.conversations after.conversations number (Some conversation)
   pub later : desk.connected < number

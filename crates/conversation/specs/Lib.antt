@@ -1,6 +1,6 @@
 pub mod Clerks
 pub mod Conversations
-pub mod Ends
+pub mod Endings
 pub mod Handed
 pub mod Hearing
 pub mod Hosting

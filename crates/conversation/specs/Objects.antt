@@ -12,19 +12,19 @@ program_data p =
     object (member (codes "code") (string (encode_lower p.code))
     (member (codes "need") (whole p.need) no_members))
 
-unfoldable pub order_data : JobText → Data
-order_data order =
+unfoldable pub job_data : JobText → Data
+job_data order =
     object (member (codes "buffer") (string (encode_lower order.buffer))
     (member (codes "credit") (whole order.credit)
     (member (codes "programs") (array (items (map program_data order.programs))) no_members)))
 
 -- the bytes of the object
 abbrev pub object_text : JobText → List ℕ
-object_text order = compact_text (order_data order)
+object_text order = compact_text (job_data order)
 
 -- the text is the object, and is read as that
 abbrev pub IsObject : JobText → List ℕ → Type 0
-IsObject order text = (text ≡ object_text order) × ReadsJson text (order_data order)
+IsObject order text = (text ≡ object_text order) × ReadsJson text (job_data order)
 
 -- there is none, or it is that of the job that a submit asks for
 abbrev pub IsObjectFor : Option (Vec ℕ Global) → Result Asked ℕ → Type 0

@@ -22,12 +22,12 @@ impl Conversation {
     ghost use Rattle.sessions.specs.Frames.{front, partial};
     ghost use Rattle.sessions.specs.Session.{unread};
     ghost use Rattle.streams.specs.Serves.{Serves};
-    ghost use Rattle.conversation.specs.Conversations.{IsFresh, IsOpen};
-    ghost use Rattle.conversation.specs.Ends.{IsEnded};
+    ghost use Rattle.conversation.specs.Conversations.{IsNewConversation, IsOpenConversation};
+    ghost use Rattle.conversation.specs.Endings.{IsEnded};
 
     /// A conversation in which nothing was said.
     pub fn new(alloc: Global) -> Conversation
-        ensures { IsFresh result }
+        ensures { IsNewConversation result }
     {
         Conversation {
             session: Session::new(alloc),
@@ -57,8 +57,8 @@ impl Conversation {
             self.old.due.items count (desk.new, handler.new) (unread self.new.session)
             self.new.due.items) }
         ensures left { OnOk result (front (unread self.new.session) ≡ partial) }
-        ensures goes_on { OnOk result (IsOpen self.new) }
-        ensures ended { IsOpen self.old → IfErr result (λ ended.
+        ensures goes_on { OnOk result (IsOpenConversation self.new) }
+        ensures ended { IsOpenConversation self.old → IfErr result (λ ended.
             IsEnded ended H.answers (desk.old, handler.old)
             (unread self.old.session ++ piece.now) self.old.due.items (desk.new, handler.new)
             self.new.due.items) }

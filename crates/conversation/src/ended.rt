@@ -18,11 +18,11 @@ pub enum Ended {
 }
 
 impl Ended {
-    ghost use Rattle.conversation.specs.Ends.{code_of};
+    ghost use Rattle.conversation.specs.Endings.{code_of_ending};
 
     /// The number of the refusal.
     pub fn code(self) -> u8
-        ensures { result ≡ code_of self }
+        ensures { result ≡ code_of_ending self }
     {
         match self {
             Ended::TooLarge => 71,

@@ -5,8 +5,8 @@ ghost use Rattle.sessions.specs.Frames.{front, partial};
 ghost use Rattle.sessions.specs.Session.{unread, ended_by};
 ghost use Rattle.streams.specs.Serves.{Serves};
 ghost use Rattle.streams.specs.Hearing.{query_of};
-ghost use Rattle.conversation.specs.Hearing.{HearsFront};
-ghost use Rattle.conversation.specs.Ends.{IsEnded, IsRefused};
+ghost use Rattle.conversation.specs.Hearing.{IsArrivedFrame};
+ghost use Rattle.conversation.specs.Endings.{IsEnded, IsRefused};
 
 use crate::ended::Ended;
 use bytes::BytesMut;
@@ -17,25 +17,28 @@ use streams::Handler;
 
 // What is heard at the front of the bytes that came.
 #[derive(Drop)]
-enum Heard {
+enum ArrivedFrame {
     Waiting,
     TooLarge,
     Question(Result<Request, u8>),
 }
 
-fn hear(alloc: Global, session: &mut Session) -> Result<Heard, NoMemory>
+fn hear(alloc: Global, session: &mut Session) -> Result<ArrivedFrame, NoMemory>
     requires { ended_by session.old ≡ None }
     ensures heard { IfOk result (λ heard.
-        HearsFront heard (unread session.old) (unread session.new)) }
-    ensures well { IfOk result (λ heard. heard ≢ Heard.TooLarge → ended_by session.new ≡ None) }
+        IsArrivedFrame heard (unread session.old) (unread session.new)) }
+    ensures well { IfOk result
+        (λ heard. heard ≢ ArrivedFrame.TooLarge → ended_by session.new ≡ None) }
 {
     match session.next_request(alloc) {
-        Ok(None) => Ok(Heard::Waiting),
-        Ok(Some(request)) => Ok(Heard::Question(Ok(request))),
-        Err(SessionFault::FrameTooLarge) => Ok(Heard::TooLarge),
+        Ok(None) => Ok(ArrivedFrame::Waiting),
+        Ok(Some(request)) => Ok(ArrivedFrame::Question(Ok(request))),
+        Err(SessionFault::FrameTooLarge) => Ok(ArrivedFrame::TooLarge),
         Err(SessionFault::NoMemory) => Err(NoMemory),
-        Err(SessionFault::NotJson) => Ok(Heard::Question(Err(SessionFault::NotJson.code()))),
-        Err(SessionFault::BadRequest) => Ok(Heard::Question(Err(SessionFault::BadRequest.code()))),
+        Err(SessionFault::NotJson) => Ok(ArrivedFrame::Question(Err(SessionFault::NotJson.code()))),
+        Err(SessionFault::BadRequest) => Ok(ArrivedFrame::Question(Err(
+            SessionFault::BadRequest.code(),
+        ))),
     }
 }
 
@@ -103,9 +106,9 @@ fn answer_frames<D, H: Handler<D>>(
 {
     'frames: loop {
         let request = match hear(alloc, session)? {
-            Heard::Waiting => return Ok(()),
-            Heard::TooLarge => return Err(refuse_length(alloc, due)),
-            Heard::Question(request) => request,
+            ArrivedFrame::Waiting => return Ok(()),
+            ArrivedFrame::TooLarge => return Err(refuse_length(alloc, due)),
+            ArrivedFrame::Question(request) => request,
         };
         answer_one(alloc, due, desk, handler, request)?;
     }

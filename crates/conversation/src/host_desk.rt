@@ -32,11 +32,11 @@ impl HostDesk {
     ghost use Rattle.accounts.specs.Ledgers.{Finishes, IsNotOpen};
     ghost use Rattle.accounts.specs.declared.fault.DeskFault.TheVariants.{NoJob};
     ghost use Rattle.conversation.specs.Handed.{HasFirst};
-    ghost use Rattle.conversation.specs.Hosting.{Connects, FeedsAt, IsAsBefore, IsNew, Sends};
+    ghost use Rattle.conversation.specs.Hosting.{Connects, FeedsAt, IsAsBefore, IsEmptyDesk, Sends};
 
     /// A desk with no tenant, no job and no connection.
     pub fn new(alloc: Global) -> HostDesk
-        ensures { IsNew result }
+        ensures { IsEmptyDesk result }
     {
         HostDesk {
             clerk: Clerk::new(alloc),

@@ -2,9 +2,9 @@
 
 ghost use Rattle.std.specs.Prelude.{◌≡◌, Ok, IfOk, map};
 ghost use Rattle.serde_json.specs.View.{view};
-ghost use Rattle.sessions.specs.Grammar.{asked, program_asked};
+ghost use Rattle.sessions.specs.Grammar.{request_asked, program_asked};
 ghost use Rattle.streams.specs.Hearing.{query_of};
-ghost use Rattle.conversation.specs.Objects.{IsObject, IsObjectFor, order_data, program_data};
+ghost use Rattle.conversation.specs.Objects.{IsObject, IsObjectFor, job_data, program_data};
 
 use job_core::ProgramBytes;
 use refusal::NoMemory;
@@ -31,14 +31,14 @@ fn program_values(alloc: Global, programs: &[ProgramBytes]) -> Result<Vec<Value>
     Ok(values)
 }
 
-#[tactic(auto, unfolding(crate::specs::Objects::order_data))]
+#[tactic(auto, unfolding(crate::specs::Objects::job_data))]
 fn order_value(
     alloc: Global,
     programs: &[ProgramBytes],
     credit: u32,
     buffer: &[u8],
 ) -> Result<Value, AllocError>
-    ensures { IfOk result (λ v. view v ≡ order_data (record {
+    ensures { IfOk result (λ v. view v ≡ job_data (record {
       programs = map program_asked programs.now;
       credit = credit;
       buffer = buffer.now;
@@ -69,7 +69,7 @@ fn object_text(
 
 // The object of a submit's job, if there is memory for it.
 fn submit_object(alloc: Global, request: &Request) -> Option<Vec<u8>>
-    ensures { IsObjectFor result (Ok (asked request.now)) }
+    ensures { IsObjectFor result (Ok (request_asked request.now)) }
 {
     match request {
         Request::Submit {

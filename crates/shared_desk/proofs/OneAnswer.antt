@@ -8,7 +8,7 @@ use Rattle.sessions.specs.declared.request.Request.{Request}
 use Rattle.streams.specs.Hearing.{query_of}
 use Rattle.shared_desk.specs.Histories.{Entry, Replays, none_yet, one_more, part_of}
 use Rattle.shared_desk.specs.ClientViews.{ClientView}
-use Rattle.shared_desk.specs.Answered.{IsSharedAnswer, Records, entry_of}
+use Rattle.shared_desk.specs.Answered.{IsSharedAnswer, Records, entry_for}
 
 module _ {S : Type 0} (answers : S → Result Asked ℕ → List ℕ → S → Type 0) (begins : S → Type 0) where
   -- an empty history leads to where it begins
@@ -32,7 +32,7 @@ module _ {S : Type 0} (answers : S → Result Asked ℕ → List ℕ → S → T
       subst (λ (l : List Entry). Replays answers begins l t) (sym longer) (one_more history s e t replays is.answered)
 
   -- an entry is this connection's, of this question
-  entry_is : (v : ClientView) (request : Result Request ℕ) (e : Entry) → e.connection ≡ v.number → e.query ≡ query_of request → e ≡ entry_of v (query_of request) e.reply
+  entry_is : (v : ClientView) (request : Result Request ℕ) (e : Entry) → e.connection ≡ v.number → e.query ≡ query_of request → e ≡ entry_for v (query_of request) e.reply
   entry_is v request e whose asked = λ i. record { connection = whose i; query = asked i; reply = e.reply }
 
   pub shared_answer : (v w : ClientView) (history : List Entry) (s : S) (request : Result Request ℕ) (t : S) (reply : Result (Vec ℕ Global) NoMemory) (e : Entry)
@@ -72,7 +72,7 @@ module _ {S : Type 0} (answers : S → Result Asked ℕ → List ℕ → S → T
   legal_seen v query reply w answer = (
     answer.after,
     subst (λ (l : List Entry). Replays answers begins l answer.after) (sym answer.seen)
-        (one_more (v.seen ++ answer.between) answer.before (entry_of v query reply) answer.after answer.legal answer.answered),
+        (one_more (v.seen ++ answer.between) answer.before (entry_for v query reply) answer.after answer.legal answer.answered),
   )
 
   pub own_part : (v : ClientView) (query : Result Asked ℕ) (reply : List ℕ) (w : ClientView) → IsSharedAnswer answers begins v query reply w → part_of w.number w.seen ≡ w.part

@@ -5,7 +5,7 @@ use mathlib.Core.Option.{some, some-ne-none, some-injective}
 use mathlib.Core.List.{IsPrefix}
 use lib.ListN.{get_elem?}
 use Rattle.shared_desk.specs.Histories.{Entry}
-use Rattle.shared_desk.specs.declared.seats.View.{View}
+use Rattle.shared_desk.specs.declared.seats.DeskView.{DeskView}
 use Rattle.shared_desk.specs.Histories.{put_if, part_of}
 
 pub prefix_self : {A : Type 0} (xs : List A) → IsPrefix xs xs
@@ -39,7 +39,7 @@ part_other n [] e differs =
 part_other n (x ∷ xs) e differs = put_same (x.connection == n) x _ _ (part_other n xs e differs)
 
 -- what stands in a list that is longer by one
-pub at_end : (l : List View) (a b : View) (j : ℕ) → get_elem? (l ++ a ∷ []) j ≡ some b → (get_elem? l j ≡ some b) ⊎ ((j ≡ length l) × (a ≡ b))
+pub at_end : (l : List DeskView) (a b : DeskView) (j : ℕ) → get_elem? (l ++ a ∷ []) j ≡ some b → (get_elem? l j ≡ some b) ⊎ ((j ≡ length l) × (a ≡ b))
 at_end [] a b zero e = inr (refl, some-injective a b e)
 at_end [] a b (suc j) e = absurd (some-ne-none b (sym e))
 at_end (x ∷ xs) a b zero e = inl e

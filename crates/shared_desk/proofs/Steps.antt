@@ -9,42 +9,42 @@ use Rattle.atomic_table.proofs.Lists.{at_set, set_again}
 use Rattle.shared_desk.specs.Histories.{Entry}
 use Rattle.shared_desk.specs.declared.closed.ClosedConnection.{ClosedConnection}
 use Rattle.shared_desk.specs.Closed.{AreClosed, is_among}
-use Rattle.shared_desk.specs.declared.seats.View.{View}
+use Rattle.shared_desk.specs.declared.seats.DeskView.{DeskView}
 use Rattle.shared_desk.specs.Histories.{part_of}
-use Rattle.shared_desk.specs.Rule.{recorder, founder, client, nobody, with_recorder, without_recorder, only_recorder, one_more_opened, newcomer, Fits, IsShared, AddsEntry, SeesAll, ClosesItself, KnowsTheCount, KnowsItsPart}
+use Rattle.shared_desk.specs.Rule.{recorder, founder, client, empty_desk_view, with_recorder, without_recorder, only_recorder, one_more_opened, new_client_view, FitsHistory, IsShared, AddsEntry, SeesAll, ClosesItself, KnowsTheCount, KnowsItsPart}
 use Rattle.shared_desk.proofs.Parts.{prefix_self, prefix_more, part_own, part_other, at_end}
 
 off : false ≡ true → ⊥
 off e = true≢false (sym e)
 
 -- the rule, of a state
-abbrev pub Ruling : State (Unit {0}) View → Type 0
+abbrev pub Ruling : State (Unit {0}) DeskView → Type 0
 Ruling s = IsShared s.views
 
 -- one view changes
-fits_set : (seat door : ℕ) (place : ℕ → ℕ) (opened : ℕ) (history : List Entry) (closed : List ClosedConnection) (views : List View) (by : ℕ) (w : View) → ((j : ℕ) (u : View) → j ≢ by → get_elem? views j ≡ some u → Fits seat door place opened history closed j u) → Fits seat door place opened history closed by w
-    → (j : ℕ) (u : View) → get_elem? (set views by w) j ≡ some u → Fits seat door place opened history closed j u
+fits_set : (seat door : ℕ) (place : ℕ → ℕ) (opened : ℕ) (history : List Entry) (closed : List ClosedConnection) (views : List DeskView) (by : ℕ) (w : DeskView) → ((j : ℕ) (u : DeskView) → j ≢ by → get_elem? views j ≡ some u → FitsHistory seat door place opened history closed j u) → FitsHistory seat door place opened history closed by w
+    → (j : ℕ) (u : DeskView) → get_elem? (set views by w) j ≡ some u → FitsHistory seat door place opened history closed j u
 fits_set seat door place opened history closed views by w others mine j u e =
     ⊎_elim
-    (λ (x : (j ≡ by) × (w ≡ u)). subst (λ (y : ℕ × View). Fits seat door place opened history closed y.0 y.1) (λ i. (sym x.0 i, x.1 i)) mine)
+    (λ (x : (j ≡ by) × (w ≡ u)). subst (λ (y : ℕ × DeskView). FitsHistory seat door place opened history closed y.0 y.1) (λ i. (sym x.0 i, x.1 i)) mine)
     (λ (x : (j ≢ by) × (get_elem? views j ≡ some u)). others j u x.0 x.1)
     (at_set views by j w u e)
 
 -- and a new one comes behind
-fits_end : (seat door : ℕ) (place : ℕ → ℕ) (opened : ℕ) (history : List Entry) (closed : List ClosedConnection) (views : List View) (w : View) → ((j : ℕ) (u : View) → get_elem? views j ≡ some u → Fits seat door place opened history closed j u) → Fits seat door place opened history closed (length views) w
-    → (j : ℕ) (u : View) → get_elem? (views ++ w ∷ []) j ≡ some u → Fits seat door place opened history closed j u
+fits_end : (seat door : ℕ) (place : ℕ → ℕ) (opened : ℕ) (history : List Entry) (closed : List ClosedConnection) (views : List DeskView) (w : DeskView) → ((j : ℕ) (u : DeskView) → get_elem? views j ≡ some u → FitsHistory seat door place opened history closed j u) → FitsHistory seat door place opened history closed (length views) w
+    → (j : ℕ) (u : DeskView) → get_elem? (views ++ w ∷ []) j ≡ some u → FitsHistory seat door place opened history closed j u
 fits_end seat door place opened history closed views w others mine j u e =
     ⊎_elim
     (λ (was : get_elem? views j ≡ some u). others j u was)
-    (λ (x : (j ≡ length views) × (w ≡ u)). subst (λ (y : ℕ × View). Fits seat door place opened history closed y.0 y.1) (λ i. (sym x.0 i, x.1 i)) mine)
+    (λ (x : (j ≡ length views) × (w ≡ u)). subst (λ (y : ℕ × DeskView). FitsHistory seat door place opened history closed y.0 y.1) (λ i. (sym x.0 i, x.1 i)) mine)
     (at_end views w u j e)
 
 -- a view that knows nothing fits anywhere
-nobody_fits : (seat door : ℕ) (place : ℕ → ℕ) (opened : ℕ) (history : List Entry) (closed : List ClosedConnection) (by : ℕ) → Fits seat door place opened history closed by nobody
+nobody_fits : (seat door : ℕ) (place : ℕ → ℕ) (opened : ℕ) (history : List Entry) (closed : List ClosedConnection) (by : ℕ) → FitsHistory seat door place opened history closed by empty_desk_view
 nobody_fits seat door place opened history closed by = record { recording = λ e. absurd (off e); opening = λ e. absurd (off e); serving = λ e. absurd (off e) }
 
 -- one who doesn't keep fits wherever the recorder sits
-fits_moved : (seat now door : ℕ) (place : ℕ → ℕ) (opened : ℕ) (history : List Entry) (closed : List ClosedConnection) (by : ℕ) (v : View) → by ≢ seat → Fits seat door place opened history closed by v → Fits now door place opened history closed by v
+fits_moved : (seat now door : ℕ) (place : ℕ → ℕ) (opened : ℕ) (history : List Entry) (closed : List ClosedConnection) (by : ℕ) (v : DeskView) → by ≢ seat → FitsHistory seat door place opened history closed by v → FitsHistory now door place opened history closed by v
 fits_moved seat now door place opened history closed by v apart f = record { recording = λ k. absurd (apart (f.recording k).0); opening = f.opening; serving = f.serving }
 
 same_number : (m n : ℕ) → m ≡ n → (m == n) ≡ true
@@ -84,12 +84,12 @@ none_among opened n history (c ∷ cs) le all =
 pub begins : IsShared (founder ∷ [])
 begins = record { recorder_at = 0; opener_at = 0; seat_of = λ n. 0; opened = 0; history = []; closed = []; each = one; ended = tt; others = λ n le. refl }
   where
-    one : (by : ℕ) (v : View) → get_elem? (founder ∷ []) by ≡ some v → Fits 0 0 (λ n. 0) 0 [] [] by v
-    one zero v e = subst (Fits 0 0 (λ n. 0) 0 [] [] 0) (some-injective _ _ e) (record { recording = λ k. (refl, refl, refl); opening = λ k. (refl, refl); serving = λ s. absurd (off s) })
+    one : (by : ℕ) (v : DeskView) → get_elem? (founder ∷ []) by ≡ some v → FitsHistory 0 0 (λ n. 0) 0 [] [] by v
+    one zero v e = subst (FitsHistory 0 0 (λ n. 0) 0 [] [] 0) (some-injective _ _ e) (record { recording = λ k. (refl, refl, refl); opening = λ k. (refl, refl); serving = λ s. absurd (off s) })
     one (suc by) v e = absurd (some-ne-none v (sym e))
 
 -- a seat that knows nothing
-pub spares : (id : ℕ) (v : View) → Splits Ruling id v v nobody
+pub spares : (id : ℕ) (v : DeskView) → Splits Ruling id v v empty_desk_view
 spares id v s kept at =
     record {
       recorder_at = kept.recorder_at;
@@ -98,15 +98,15 @@ spares id v s kept at =
       opened = kept.opened;
       history = kept.history;
       closed = kept.closed;
-      each = fits_end kept.recorder_at kept.opener_at kept.seat_of kept.opened kept.history kept.closed (set s.views id v) nobody
-          (λ j u was. kept.each j u (subst (λ (l : List View). get_elem? l j ≡ some u) (set_again s.views id v at) was))
+      each = fits_end kept.recorder_at kept.opener_at kept.seat_of kept.opened kept.history kept.closed (set s.views id v) empty_desk_view
+          (λ j u was. kept.each j u (subst (λ (l : List DeskView). get_elem? l j ≡ some u) (set_again s.views id v at) was))
           (nobody_fits _ _ _ _ _ _ _);
       ended = kept.ended;
       others = kept.others;
     }
 
 -- a seat takes in the recorder's
-pub holds : (id : ℕ) (v : View) (other : ℕ) (w : View) → w.is_recorder ≡ true → Joins Ruling id v other w (with_recorder v w) nobody
+pub holds : (id : ℕ) (v : DeskView) (other : ℕ) (w : DeskView) → w.is_recorder ≡ true → Joins Ruling id v other w (with_recorder v w) empty_desk_view
 holds id v other w keep s kept at apart there =
     let was : get_elem? s.views other ≡ some w =
     ⊎_elim (λ (t : (other ≡ id) × (with_recorder v w ≡ w)). absurd (apart t.0)) (λ (t : (other ≢ id) × (get_elem? s.views other ≡ some w)). t.1) (at_set s.views id other (with_recorder v w) w there) in
@@ -119,25 +119,25 @@ holds id v other w keep s kept at apart there =
       opened = kept.opened;
       history = kept.history;
       closed = kept.closed;
-      each = fits_set id kept.opener_at kept.seat_of kept.opened kept.history kept.closed (set s.views id (with_recorder v w)) other nobody
+      each = fits_set id kept.opener_at kept.seat_of kept.opened kept.history kept.closed (set s.views id (with_recorder v w)) other empty_desk_view
           (λ j u away e. set_but j u away e (at_set s.views id j (with_recorder v w) u e) theirs mine)
           (nobody_fits _ _ _ _ _ _ _);
       ended = kept.ended;
       others = kept.others;
     }
   where
-    set_but : (j : ℕ) (u : View) → j ≢ other → get_elem? (set s.views id (with_recorder v w)) j ≡ some u
+    set_but : (j : ℕ) (u : DeskView) → j ≢ other → get_elem? (set s.views id (with_recorder v w)) j ≡ some u
         → ((j ≡ id) × (with_recorder v w ≡ u)) ⊎ ((j ≢ id) × (get_elem? s.views j ≡ some u))
-        → (other ≡ kept.recorder_at) × (w.history ≡ kept.history) × (w.closed ≡ kept.closed) → Fits kept.recorder_at kept.opener_at kept.seat_of kept.opened kept.history kept.closed id v
-        → Fits id kept.opener_at kept.seat_of kept.opened kept.history kept.closed j u
+        → (other ≡ kept.recorder_at) × (w.history ≡ kept.history) × (w.closed ≡ kept.closed) → FitsHistory kept.recorder_at kept.opener_at kept.seat_of kept.opened kept.history kept.closed id v
+        → FitsHistory id kept.opener_at kept.seat_of kept.opened kept.history kept.closed j u
     set_but j u away e (inl t) theirs mine =
-        subst (λ (y : ℕ × View). Fits id kept.opener_at kept.seat_of kept.opened kept.history kept.closed y.0 y.1) (λ i. (sym t.0 i, t.1 i))
+        subst (λ (y : ℕ × DeskView). FitsHistory id kept.opener_at kept.seat_of kept.opened kept.history kept.closed y.0 y.1) (λ i. (sym t.0 i, t.1 i))
         (record { recording = λ k. (refl, theirs.1, theirs.2); opening = mine.opening; serving = mine.serving })
     set_but j u away e (inr t) theirs mine =
         fits_moved kept.recorder_at id kept.opener_at kept.seat_of kept.opened kept.history kept.closed j u (λ same. away (same ∙ sym theirs.0)) (kept.each j u t.1)
 
 -- and gives it up
-pub leaves : (id : ℕ) (v : View) → v.is_recorder ≡ true → Splits Ruling id v (without_recorder v) (only_recorder v)
+pub leaves : (id : ℕ) (v : DeskView) → v.is_recorder ≡ true → Splits Ruling id v (without_recorder v) (only_recorder v)
 leaves id v keep s kept at =
     let mine = kept.each id v at in
     let known = mine.recording keep in
@@ -163,7 +163,7 @@ abbrev placed : (ℕ → ℕ) → ℕ → ℕ → ℕ → ℕ
 placed place number now n = if n == number then now else place n
 
 -- the opener opens a connection
-pub opens : (id : ℕ) (v : View) → v.is_opener ≡ true → v.is_client ≡ false → Splits Ruling id v (one_more_opened v) (newcomer v)
+pub opens : (id : ℕ) (v : DeskView) → v.is_opener ≡ true → v.is_client ≡ false → Splits Ruling id v (one_more_opened v) (new_client_view v)
 opens id v gate alone s kept at =
     let mine = kept.each id v at in
     let known = mine.opening gate in
@@ -176,7 +176,7 @@ opens id v gate alone s kept at =
       opened = kept.opened + 1;
       history = kept.history;
       closed = kept.closed;
-      each = fits_end kept.recorder_at kept.opener_at place (kept.opened + 1) kept.history kept.closed (set s.views id (one_more_opened v)) (newcomer v)
+      each = fits_end kept.recorder_at kept.opener_at place (kept.opened + 1) kept.history kept.closed (set s.views id (one_more_opened v)) (new_client_view v)
           (fits_set kept.recorder_at kept.opener_at place (kept.opened + 1) kept.history kept.closed s.views id (one_more_opened v)
           (λ j u apart e. old now known j u apart (kept.each j u e))
           (record { recording = mine.recording; opening = λ k. (known.0, ap (λ n. n + 1) known.1); serving = λ e. absurd (off (sym alone ∙ e)) }))
@@ -185,7 +185,7 @@ opens id v gate alone s kept at =
       others = λ n le. kept.others n (omega arith);
     }
   where
-    old : (now : ℕ) → (id ≡ kept.opener_at) × (v.opened ≡ kept.opened) → (j : ℕ) (u : View) → j ≢ id → Fits kept.recorder_at kept.opener_at kept.seat_of kept.opened kept.history kept.closed j u → Fits kept.recorder_at kept.opener_at (placed kept.seat_of v.opened now) (kept.opened + 1) kept.history kept.closed j u
+    old : (now : ℕ) → (id ≡ kept.opener_at) × (v.opened ≡ kept.opened) → (j : ℕ) (u : DeskView) → j ≢ id → FitsHistory kept.recorder_at kept.opener_at kept.seat_of kept.opened kept.history kept.closed j u → FitsHistory kept.recorder_at kept.opener_at (placed kept.seat_of v.opened now) (kept.opened + 1) kept.history kept.closed j u
     old now known j u apart f =
         record {
           recording = f.recording;
@@ -202,7 +202,7 @@ opens id v gate alone s kept at =
         let it_is : (v.opened == v.opened) ≡ true = grind (arith, nat_tests) in
         (sym (ap (λ (b : Bool). if b then now else kept.seat_of v.opened) it_is), omega arith, kept.others v.opened (omega arith), (kept.history, refl), none_among kept.opened v.opened kept.history kept.closed (omega (arith, is)) kept.ended)
 
-module _ (slots id : ℕ) (me : Me (Unit {0}) View) (st : Step (Unit {0})) where
+module _ (slots id : ℕ) (me : Me (Unit {0}) DeskView) (st : Step (Unit {0})) where
   -- an answer is added to the connection that is the recorder too
   pub adds : (may : Entry → Type 0) (e : Entry) → me.0.is_recorder ≡ true → me.0.is_client ≡ true → may e → e.connection ≡ me.0.number → Allows Ruling slots id me 0 (λ n. n) (AddsEntry may st me)
   adds may e keep serve allowed whose s kept homes at fits =
@@ -285,7 +285,7 @@ module _ (slots id : ℕ) (me : Me (Unit {0}) View) (st : Step (Unit {0})) where
           opened = kept.opened;
           history = kept.history;
           closed = kept.closed;
-          each = λ j u e. kept.each j u (subst (λ (l : List View). get_elem? l j ≡ some u) (set_again s.views id me.0 at) e);
+          each = λ j u e. kept.each j u (subst (λ (l : List DeskView). get_elem? l j ≡ some u) (set_again s.views id me.0 at) e);
           ended = kept.ended;
           others = kept.others;
         },
@@ -312,7 +312,7 @@ module _ (slots id : ℕ) (me : Me (Unit {0}) View) (st : Step (Unit {0})) where
           opened = kept.opened;
           history = kept.history;
           closed = kept.closed;
-          each = λ j u e. kept.each j u (subst (λ (l : List View). get_elem? l j ≡ some u) (set_again s.views id me.0 at) e);
+          each = λ j u e. kept.each j u (subst (λ (l : List DeskView). get_elem? l j ≡ some u) (set_again s.views id me.0 at) e);
           ended = kept.ended;
           others = kept.others;
         },

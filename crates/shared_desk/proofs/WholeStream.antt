@@ -12,7 +12,7 @@ use Rattle.streams.specs.Stops.{EndsWith, IsDue, IsPartWritten, IsServed, IsRead
 use Rattle.shared_desk.specs.Histories.{Entry, queries_of, replies_of, part_of}
 use Rattle.shared_desk.specs.ClientViews.{ClientView, Extends}
 use Rattle.shared_desk.specs.Grants.{admitted}
-use Rattle.shared_desk.specs.Answered.{IsSharedAnswer, entry_of}
+use Rattle.shared_desk.specs.Answered.{IsSharedAnswer, entry_for}
 use Rattle.shared_desk.specs.Parts.{Asks, IsWritten, IsWrittenToTheFault, IsWrittenInPart, IsWrittenButOne, IsWrittenUpTo, NamesTheEnd, IsServedPart, IsServedClient}
 use Rattle.shared_desk.proofs.Parts.{prefix_self, prefix_trans}
 
@@ -73,10 +73,10 @@ module _ {S : Type 0} (may : Bool) (answers : S → Result Asked ℕ → List �
   abbrev pub shared : Unit {0} × ClientView → Result Asked ℕ → List ℕ → Unit {0} × ClientView → Type 0
   shared s query reply t = IsSharedAnswer answers begins s.1 (admitted may query) reply t.1
 
-  extends_one : (v : ClientView) (query : Result Asked ℕ) (reply : List ℕ) (w : ClientView) → IsSharedAnswer answers begins v query reply w → Extends v (entry_of v query reply ∷ []) w
+  extends_one : (v : ClientView) (query : Result Asked ℕ) (reply : List ℕ) (w : ClientView) → IsSharedAnswer answers begins v query reply w → Extends v (entry_for v query reply ∷ []) w
   extends_one v query reply w answer = record {
     number = answer.number;
-    seen = (answer.between ++ entry_of v query reply ∷ [], sym (append_assoc v.seen answer.between (entry_of v query reply ∷ [])) ∙ sym answer.seen);
+    seen = (answer.between ++ entry_for v query reply ∷ [], sym (append_assoc v.seen answer.between (entry_for v query reply ∷ [])) ∙ sym answer.seen);
     more = answer.more;
   }
 
@@ -86,7 +86,7 @@ module _ {S : Type 0} (may : Bool) (answers : S → Result Asked ℕ → List �
       record { part = []; extends = extends_none start.1; asked = refl; counts = refl; written = sym (append-nil before) }
   entries start bytes before count end left out (one_more count1 s left1 out1 payload rest reply query t served first heard answer) =
       let r = entries start bytes before count1 s left1 out1 served in
-      let e = entry_of s.1 (admitted may query) reply in
+      let e = entry_for s.1 (admitted may query) reply in
       record {
         part = r.part ++ e ∷ [];
         extends = extends_on start.1 s.1 t.1 r.part (e ∷ []) r.extends (extends_one s.1 (admitted may query) reply t.1 answer);
@@ -165,7 +165,7 @@ module _ {S : Type 0} (may : Bool) (answers : S → Result Asked ℕ → List �
       )
   starved_of start bytes before end after (ahead_of_reply count s left out payload rest reply query t served first heard answer) =
       let r = entries start bytes before count s left out served in
-      let e = entry_of s.1 (admitted may query) reply in (
+      let e = entry_for s.1 (admitted may query) reply in (
         r.part ++ e ∷ [],
         extends_on start.1 s.1 t.1 r.part (e ∷ []) r.extends (extends_one s.1 (admitted may query) reply t.1 answer),
         record {

@@ -9,8 +9,8 @@ use Rattle.shared_desk.specs.Histories.{Entry, Replays, part_of}
 use Rattle.shared_desk.specs.ClientViews.{ClientView}
 
 -- this answer, to this connection
-abbrev pub entry_of : ClientView → Result Asked ℕ → List ℕ → Entry
-entry_of v query reply = record { connection = v.number; query = query; reply = reply }
+abbrev pub entry_for : ClientView → Result Asked ℕ → List ℕ → Entry
+entry_for v query reply = record { connection = v.number; query = query; reply = reply }
 
 -- The reply is the one that the plain handler gives at some point of a legal history. That history
 -- begins with all that the connection had seen, and goes on with what others were answered. The
@@ -24,8 +24,8 @@ pub record IsSharedAnswer {S : Type 0} (answers : S → Result Asked ℕ → Lis
   pub after : S
   pub answered : answers before query reply after
   pub number : w.number ≡ v.number
-  pub seen : w.seen ≡ (v.seen ++ between) ++ entry_of v query reply ∷ []
-  pub more : w.part ≡ v.part ++ entry_of v query reply ∷ []
+  pub seen : w.seen ≡ (v.seen ++ between) ++ entry_for v query reply ∷ []
+  pub more : w.part ≡ v.part ++ entry_for v query reply ∷ []
   pub own : part_of v.number w.seen ≡ w.part
 
 -- an entry of what the handler answered: what was asked, and the reply, as far as it found memory

@@ -5,14 +5,14 @@ use mathlib.Core.List.{IsPrefix}
 use lib.ListN.{get_elem?}
 use Rattle.atomic_table.specs.Table.{Me, Step}
 use Rattle.atomic_table.specs.Seated.{TableId}
-use Rattle.shared_desk.specs.declared.seats.View.{View}
+use Rattle.shared_desk.specs.declared.seats.DeskView.{DeskView}
 use Rattle.shared_desk.specs.declared.closed.ClosedConnection.{ClosedConnection}
 use Rattle.shared_desk.specs.Histories.{Entry, part_of}
 use Rattle.shared_desk.specs.Closed.{AreClosed, is_among}
 
 -- the name of no table
-abbrev pub no_table : TableId
-no_table = record {
+abbrev pub no_history_table : TableId
+no_history_table = record {
   words = 0;
   slots = 0;
   views_name = 0;
@@ -25,8 +25,8 @@ no_table = record {
 -- ---- who sits where
 
 -- a seat that knows nothing
-abbrev pub nobody : View
-nobody = record {
+abbrev pub empty_desk_view : DeskView
+empty_desk_view = record {
   is_client = false;
   number = 0;
   seen = [];
@@ -39,46 +39,48 @@ nobody = record {
 }
 
 -- the recorder, who knows the whole history, and which connections are over
-abbrev pub recorder : List Entry → List ClosedConnection → View
+abbrev pub recorder : List Entry → List ClosedConnection → DeskView
 recorder history closed =
-    record nobody { is_recorder = true; history = history; closed = closed }
+    record empty_desk_view { is_recorder = true; history = history; closed = closed }
 
 -- the opener, who knows how many connections were opened
-abbrev pub opener : ℕ → View
-opener opened = record nobody { is_opener = true; opened = opened }
+abbrev pub opener : ℕ → DeskView
+opener opened = record empty_desk_view { is_opener = true; opened = opened }
 
 -- the first seat, which is both
-abbrev pub founder : View
-founder = record nobody { is_opener = true; is_recorder = true }
+abbrev pub founder : DeskView
+founder = record empty_desk_view { is_opener = true; is_recorder = true }
 
 -- a connection
-abbrev pub client : ℕ → List Entry → List Entry → View
-client n seen part = record nobody { is_client = true; number = n; seen = seen; part = part }
+abbrev pub client : ℕ → List Entry → List Entry → DeskView
+client n seen part =
+    record empty_desk_view { is_client = true; number = n; seen = seen; part = part }
 
 -- a seat that becomes the recorder, or is it no more
-abbrev pub with_recorder : View → View → View
+abbrev pub with_recorder : DeskView → DeskView → DeskView
 with_recorder v w =
     record v { is_recorder = w.is_recorder; history = w.history; closed = w.closed }
 
-abbrev pub without_recorder : View → View
+abbrev pub without_recorder : DeskView → DeskView
 without_recorder v = record v { is_recorder = false; history = []; closed = [] }
 
-abbrev pub only_recorder : View → View
+abbrev pub only_recorder : DeskView → DeskView
 only_recorder v =
-    record nobody { is_recorder = v.is_recorder; history = v.history; closed = v.closed }
+    record empty_desk_view { is_recorder = v.is_recorder; history = v.history; closed = v.closed }
 
 -- the opener has opened one more, which has seen nothing
-abbrev pub one_more_opened : View → View
+abbrev pub one_more_opened : DeskView → DeskView
 one_more_opened v = record v { opened = v.opened + 1 }
 
-abbrev pub newcomer : View → View
-newcomer v = client v.opened [] []
+abbrev pub new_client_view : DeskView → DeskView
+new_client_view v = client v.opened [] []
 
 -- ---- the rule
 
 -- what the view at a seat says is so
-pub record Fits (recorder_at opener_at : ℕ) (seat_of : ℕ → ℕ) (opened : ℕ) (history : List Entry)
-    (closed : List ClosedConnection) (seat : ℕ) (v : View) : Type 0 where
+pub record FitsHistory (recorder_at opener_at : ℕ) (seat_of : ℕ → ℕ) (opened : ℕ)
+    (history : List Entry)
+    (closed : List ClosedConnection) (seat : ℕ) (v : DeskView) : Type 0 where
   pub recording : v.is_recorder ≡ true → (seat ≡ recorder_at) × (v.history ≡ history)
       × (v.closed ≡ closed)
   pub opening : v.is_opener ≡ true → (seat ≡ opener_at) × (v.opened ≡ opened)
@@ -89,22 +91,23 @@ pub record Fits (recorder_at opener_at : ℕ) (seat_of : ℕ → ℕ) (opened : 
 -- There is one history. One seat knows it whole, and one knows how many connections were opened.
 -- Each connection that isn't over has one seat, which knows its part of the history. One that is
 -- over has no seat, and its part is known. A connection that was not opened has no part.
-pub record IsShared (views : List View) : Type 0 where
+pub record IsShared (views : List DeskView) : Type 0 where
   pub recorder_at : ℕ
   pub opener_at : ℕ
   pub seat_of : ℕ → ℕ
   pub opened : ℕ
   pub history : List Entry
   pub closed : List ClosedConnection
-  pub each : (seat : ℕ) (v : View) → get_elem? views seat ≡ some v
-      → Fits recorder_at opener_at seat_of opened history closed seat v
+  pub each : (seat : ℕ) (v : DeskView) → get_elem? views seat ≡ some v
+      → FitsHistory recorder_at opener_at seat_of opened history closed seat v
   pub ended : AreClosed opened history closed
   pub others : (n : ℕ) → opened ≤ n → part_of n history ≡ []
 
 -- ---- the steps
 
 -- a connection, as the recorder, adds an entry of its own
-abbrev pub AddsEntry : {S : Type 0} → (Entry → Type 0) → Step S → Me S View → ℕ → Me S View → Type 0
+abbrev pub AddsEntry : {S : Type 0} → (Entry → Type 0) → Step S → Me S DeskView → ℕ → Me S DeskView
+    → Type 0
 AddsEntry allows s v found w =
     (e : Entry) × allows e × (e.connection ≡ v.0.number) × IsPrefix v.0.seen v.0.history
     × (part_of v.0.number (v.0.history ++ e ∷ []) ≡ v.0.part ++ e ∷ [])
@@ -115,7 +118,7 @@ AddsEntry allows s v found w =
     ))
 
 -- a connection, as the recorder, sees the whole history, of which it knows its part
-abbrev pub SeesAll : {S : Type 0} → Step S → Me S View → ℕ → Me S View → Type 0
+abbrev pub SeesAll : {S : Type 0} → Step S → Me S DeskView → ℕ → Me S DeskView → Type 0
 SeesAll s v found w =
     IsPrefix v.0.seen v.0.history × (part_of v.0.number v.0.history ≡ v.0.part)
     × (w ≡ (
@@ -124,19 +127,19 @@ SeesAll s v found w =
     ))
 
 -- a connection, as the recorder, compares its part with the whole history
-abbrev pub KnowsItsPart : {S : Type 0} → Step S → Me S View → ℕ → Me S View → Type 0
+abbrev pub KnowsItsPart : {S : Type 0} → Step S → Me S DeskView → ℕ → Me S DeskView → Type 0
 KnowsItsPart s v found w = (w ≡ v) × (part_of v.0.number v.0.history ≡ v.0.part)
 
 -- a connection, as the recorder, is over, and has no seat from then on
-abbrev pub ClosesItself : {S : Type 0} → (ClosedConnection → Type 0) → Step S → Me S View → ℕ
-    → Me S View → Type 0
+abbrev pub ClosesItself : {S : Type 0} → (ClosedConnection → Type 0) → Step S → Me S DeskView → ℕ
+    → Me S DeskView → Type 0
 ClosesItself allows s v found w =
     (c : ClosedConnection) × allows c × (c.connection ≡ v.0.number) × (c.part ≡ v.0.part)
     × (w ≡ (recorder v.0.history (c ∷ v.0.closed), v.1))
 
 -- the opener, as the recorder, sees that a connection that was not opened has no part, and that
 -- those that are over were opened and have their parts
-abbrev pub KnowsTheCount : {S : Type 0} → Step S → Me S View → ℕ → Me S View → Type 0
+abbrev pub KnowsTheCount : {S : Type 0} → Step S → Me S DeskView → ℕ → Me S DeskView → Type 0
 KnowsTheCount s v found w =
     (w ≡ v) × ((n : ℕ) → v.0.opened ≤ n → part_of n v.0.history ≡ [])
     × AreClosed v.0.opened v.0.history v.0.closed

@@ -5,7 +5,7 @@ ghost use Rattle.shared_desk.specs.Histories.{Replays, part_of};
 ghost use Rattle.shared_desk.specs.Parts.{IsServedClient};
 
 use crate::desk::SharedDesk;
-use crate::gate::Gate;
+use crate::request_filter::RequestFilter;
 use crate::seats::Origin;
 use crate::shared_history::{ClientSeat, SharedHistory};
 use refusal::NoMemory;
@@ -16,9 +16,9 @@ use std::sync::{Mutex, Wait};
 use streams::{Handler, Sink, Source, StreamFault, serve_stream};
 
 /// Answers one connection's requests at the shared desk, each under the lock, where they pass the
-/// gate. Contracts see it as what the connection knows of the history.
+/// filter. Contracts see it as what the connection knows of the history.
 #[derive(Drop)]
-pub struct Client<'a, R, D, H: Handler<D>, J: Origin<D, H>, G: Gate> {
+pub struct Client<'a, R, D, H: Handler<D>, J: Origin<D, H>, G: RequestFilter> {
     rt: &'a R,
     history: &'a SharedHistory<J>,
     lock: &'a Mutex<SharedDesk<D, H, J>>,
@@ -26,7 +26,8 @@ pub struct Client<'a, R, D, H: Handler<D>, J: Origin<D, H>, G: Gate> {
     of: PhantomData<G>,
 }
 
-impl<'a, R, D, H: Handler<D>, J: Origin<D, H>, G: Gate> Model for Client<'a, R, D, H, J, G> {
+impl<'a, R, D, H: Handler<D>, J: Origin<D, H>, G: RequestFilter> Model
+    for Client<'a, R, D, H, J, G> {
     ghost use Rattle.std.specs.Prelude.{◌≡◌};
     ghost use Rattle.shared_desk.specs.ClientViews.{ClientView};
     ghost use Rattle.shared_desk.specs.Histories.{Replays, part_of};
@@ -39,7 +40,7 @@ impl<'a, R, D, H: Handler<D>, J: Origin<D, H>, G: Gate> Model for Client<'a, R, 
         × (part_of c.seat.number c.seat.seen ≡ c.seat.part) };
 }
 
-impl<'a, R, D, H: Handler<D>, J: Origin<D, H>, G: Gate> Client<'a, R, D, H, J, G> {
+impl<'a, R, D, H: Handler<D>, J: Origin<D, H>, G: RequestFilter> Client<'a, R, D, H, J, G> {
     /// A connection that has seen a legal history.
     pub fn of(
         rt: &'a R,
@@ -71,7 +72,7 @@ impl<'a, R, D, H: Handler<D>, J: Origin<D, H>, G: Gate> Client<'a, R, D, H, J, G
     }
 }
 
-impl<'a, R: Wait, D, H: Handler<D>, J: Origin<D, H>, G: Gate> Client<'a, R, D, H, J, G> {
+impl<'a, R: Wait, D, H: Handler<D>, J: Origin<D, H>, G: RequestFilter> Client<'a, R, D, H, J, G> {
     /// A connection that was opened. It sees all that was answered so far.
     pub fn new(
         rt: &'a R,
@@ -86,7 +87,7 @@ impl<'a, R: Wait, D, H: Handler<D>, J: Origin<D, H>, G: Gate> Client<'a, R, D, H
     }
 }
 
-impl<R: Wait, D, H: Handler<D>, J: Origin<D, H>, G: Gate> Handler<()>
+impl<R: Wait, D, H: Handler<D>, J: Origin<D, H>, G: RequestFilter> Handler<()>
     for Client<'_, R, D, H, J, G> {
     ghost use Rattle.shared_desk.specs.Answered.{IsSharedAnswer};
     ghost use Rattle.shared_desk.specs.Grants.{admitted};
@@ -109,13 +110,21 @@ impl<R: Wait, D, H: Handler<D>, J: Origin<D, H>, G: Gate> Handler<()>
     }
 }
 
-/// Serves a connection's stream, as `serve_stream` does. What came and passes the gate asks the
+/// Serves a connection's stream, as `serve_stream` does. What came and passes the filter asks the
 /// connection's own part of the history, and what was written are the replies of that part, in order.
 ///
 /// 83 where the reader failed: all replies of the part are written. 84 where the writer failed: a
 /// beginning of them. 99 where there was no memory, and neither failed: all of them, or all but the
 /// last one.
-pub fn serve_client<S: Source, W: Sink, R: Wait, D, H: Handler<D>, J: Origin<D, H>, G: Gate>(
+pub fn serve_client<
+    S: Source,
+    W: Sink,
+    R: Wait,
+    D,
+    H: Handler<D>,
+    J: Origin<D, H>,
+    G: RequestFilter,
+>(
     alloc: Global,
     reader: &mut S,
     writer: &mut W,
@@ -134,14 +143,22 @@ pub fn serve_client<S: Source, W: Sink, R: Wait, D, H: Handler<D>, J: Origin<D, 
 }
 
 /// Serves a connection that was opened, of which nothing came and nothing was written yet, through
-/// its gate, and closes it: the history then has its part, and what went through its ends.
-pub fn serve_opened<G: Gate, S: Source, W: Sink, R: Wait, D, H: Handler<D>, J: Origin<D, H>>(
+/// its filter, and closes it: the history then has its part, and what went through its ends.
+pub fn serve_opened<
+    G: RequestFilter,
+    S: Source,
+    W: Sink,
+    R: Wait,
+    D,
+    H: Handler<D>,
+    J: Origin<D, H>,
+>(
     rt: &R,
     alloc: Global,
     history: &SharedHistory<J>,
     lock: &Mutex<SharedDesk<D, H, J>>,
     seat: ClientSeat<J>,
-    gate: &G,
+    filter: &G,
     reader: &mut S,
     writer: &mut W,
 )
@@ -153,5 +170,5 @@ pub fn serve_opened<G: Gate, S: Source, W: Sink, R: Wait, D, H: Handler<D>, J: O
     let outcome = serve_client(alloc, reader, writer, &mut client);
     let seat = client.into_seat();
     lock.lock(rt)
-        .close(history, seat, gate, reader, writer, &outcome);
+        .close(history, seat, filter, reader, writer, &outcome);
 }

@@ -6,7 +6,7 @@ ghost use Rattle.shared_desk.specs.Parts.{IsServedClient, IsServedPart};
 
 use crate::client::{Client, serve_client};
 use crate::desk::SharedDesk;
-use crate::gate::AllRequests;
+use crate::request_filter::AllRequests;
 use crate::seats::{HistoryId, Origin};
 use crate::shared_history::{ClientSeat, Opener, SharedHistory};
 use refusal::NoMemory;

@@ -7,7 +7,7 @@ ghost use Rattle.shared_desk.specs.Histories.{Replays, part_of};
 ghost use Rattle.shared_desk.specs.Answered.{IsSharedAnswer};
 ghost use Rattle.shared_desk.specs.Closed as closed;
 
-use crate::gate::Gate;
+use crate::request_filter::RequestFilter;
 use crate::seats::Origin;
 use crate::shared_history::{ClientSeat, Opener, Recorder, SharedHistory};
 use refusal::NoMemory;
@@ -125,12 +125,12 @@ impl<D, H: Handler<D>, J: Origin<D, H>> SharedDesk<D, H, J> {
         reply
     }
 
-    /// A connection is over: its gate, its seat, its two ends, and how its stream ended.
-    pub fn close<G: Gate, S: Source, W: Sink>(
+    /// A connection is over: its filter, its seat, its two ends, and how its stream ended.
+    pub fn close<G: RequestFilter, S: Source, W: Sink>(
         &mut self,
         history: &SharedHistory<J>,
         seat: ClientSeat<J>,
-        gate: &G,
+        filter: &G,
         reader: &S,
         writer: &W,
         outcome: &Result<u64, StreamFault>,
@@ -141,7 +141,7 @@ impl<D, H: Handler<D>, J: Origin<D, H>> SharedDesk<D, H, J> {
         ensures over { self.new.2 ≡ closed.closed_of G.may_grant S.transcript S.is_over S.has_failed
             W.transcript W.has_failed seat reader.now writer.now outcome.now ∷ self.old.2 }
     {
-        let _ = gate;
+        let _ = filter;
         history.close::<Brand, S, W>(seat, &mut self.recorder, reader, writer, outcome);
         self.outcome = earlier_fault(self.outcome, outcome);
         self.over = self.over.saturating_add(1);

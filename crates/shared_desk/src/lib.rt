@@ -17,11 +17,11 @@ pub use shared_history::{ClientSeat, NewHistory, Opener, Recorder, SharedHistory
 // what lies under the lock, and one connection's way to it
 mod client;
 mod desk;
-mod gate;
+mod request_filter;
 
 pub use client::{Client, serve_client, serve_opened};
 pub use desk::SharedDesk;
-pub use gate::{AllRequests, Gate, NoGrants};
+pub use request_filter::{AllRequests, NoGrants, RequestFilter};
 
 // many connections at once
 mod connections;

@@ -32,7 +32,7 @@ impl Model for LogEntry {
 /// recorder knows the whole history and which connections are over, and the opener how many
 /// connections were opened. For the time of a step the seat of a connection or of the opener is the
 /// recorder too.
-pub struct View {
+pub struct DeskView {
     pub is_client: bool,
     pub number: u64,
     pub seen: LinkedList<LogEntry>,
@@ -52,9 +52,9 @@ pub trait HistoryId {
 }
 
 impl HistoryId for Brand {
-    ghost use Rattle.shared_desk.specs.Rule.{no_table};
+    ghost use Rattle.shared_desk.specs.Rule.{no_history_table};
 
-    ghost table = { no_table };
+    ghost table = { no_history_table };
 }
 
 /// Says what the desk and the handler may be at the start of the history.
@@ -67,9 +67,9 @@ impl<D, H> Origin<D, H> for Brand {
 }
 
 /// There is one history, of which each connection knows its part.
-pub struct Ruled;
+pub struct OneHistory;
 
-impl TableRule<(), View, ()> for Ruled {
+impl TableRule<(), DeskView, ()> for OneHistory {
     ghost use Rattle.shared_desk.specs.Rule.{IsShared, founder};
 
     ghost holds = { λ _ s. IsShared s.views };
@@ -80,18 +80,18 @@ impl TableRule<(), View, ()> for Ruled {
 /// A seat becomes the recorder too.
 pub struct TakesRecorder;
 
-impl Join<View> for TakesRecorder {
-    ghost use Rattle.shared_desk.specs.Rule.{with_recorder, nobody};
+impl Join<DeskView> for TakesRecorder {
+    ghost use Rattle.shared_desk.specs.Rule.{with_recorder, empty_desk_view};
 
     ghost both = { with_recorder };
 
-    ghost spent = { nobody };
+    ghost spent = { empty_desk_view };
 }
 
 /// A seat is the recorder no more.
 pub struct LeavesRecorder;
 
-impl Split<View> for LeavesRecorder {
+impl Split<DeskView> for LeavesRecorder {
     ghost use Rattle.shared_desk.specs.Rule.{without_recorder, only_recorder};
 
     ghost left = { without_recorder };
@@ -102,23 +102,23 @@ impl Split<View> for LeavesRecorder {
 /// A seat that knows nothing.
 pub struct Spares;
 
-impl Split<View> for Spares {
-    ghost use Rattle.shared_desk.specs.Rule.{nobody};
+impl Split<DeskView> for Spares {
+    ghost use Rattle.shared_desk.specs.Rule.{empty_desk_view};
 
     ghost left = { λ v. v };
 
-    ghost right = { λ _. nobody };
+    ghost right = { λ _. empty_desk_view };
 }
 
 /// The opener opens a connection.
 pub struct Opens;
 
-impl Split<View> for Opens {
-    ghost use Rattle.shared_desk.specs.Rule.{one_more_opened, newcomer};
+impl Split<DeskView> for Opens {
+    ghost use Rattle.shared_desk.specs.Rule.{one_more_opened, new_client_view};
 
     ghost left = { one_more_opened };
 
-    ghost right = { newcomer };
+    ghost right = { new_client_view };
 }
 
 /// Says which entry a step may add. Each call picks it.
@@ -133,11 +133,11 @@ impl EntryRule for Brand {
 }
 
 /// One entry more, of the connection whose seat steps.
-pub struct Adds<E: EntryRule> {
+pub struct LogsEntry<E: EntryRule> {
     of: PhantomData<E>,
 }
 
-impl<E: EntryRule> Play<(), View> for Adds<E> {
+impl<E: EntryRule> Play<(), DeskView> for LogsEntry<E> {
     ghost use Rattle.shared_desk.specs.Rule.{AddsEntry};
 
     ghost then = { AddsEntry E.allows };
@@ -159,16 +159,16 @@ pub struct Closes<E: ClosingRule> {
     of: PhantomData<E>,
 }
 
-impl<E: ClosingRule> Play<(), View> for Closes<E> {
+impl<E: ClosingRule> Play<(), DeskView> for Closes<E> {
     ghost use Rattle.shared_desk.specs.Rule.{ClosesItself};
 
     ghost then = { ClosesItself E.closes };
 }
 
 /// A connection sees the whole history.
-pub struct Looks;
+pub struct SeesHistory;
 
-impl Play<(), View> for Looks {
+impl Play<(), DeskView> for SeesHistory {
     ghost use Rattle.shared_desk.specs.Rule.{SeesAll};
 
     ghost then = { SeesAll };
@@ -177,7 +177,7 @@ impl Play<(), View> for Looks {
 /// A connection compares what it knows with the whole history.
 pub struct Compares;
 
-impl Play<(), View> for Compares {
+impl Play<(), DeskView> for Compares {
     ghost use Rattle.shared_desk.specs.Rule.{KnowsItsPart};
 
     ghost then = { KnowsItsPart };
@@ -186,7 +186,7 @@ impl Play<(), View> for Compares {
 /// The opener looks at the whole history.
 pub struct Counts;
 
-impl Play<(), View> for Counts {
+impl Play<(), DeskView> for Counts {
     ghost use Rattle.shared_desk.specs.Rule.{KnowsTheCount};
 
     ghost then = { KnowsTheCount };

@@ -7,8 +7,8 @@ ghost use Rattle.shared_desk.specs.Closed.{AreClosed};
 ghost use Rattle.shared_desk.specs.declared.closed.ClosedConnection.{ClosedConnection};
 
 use crate::seats::{
-    Adds, Closes, ClosingRule, Compares, Counts, EntryRule, HistoryId, LeavesRecorder, Looks,
-    Opens, Ruled, Spares, TakesRecorder, View,
+    Closes, ClosingRule, Compares, Counts, DeskView, EntryRule, HistoryId, LeavesRecorder,
+    LogsEntry, OneHistory, Opens, SeesHistory, Spares, TakesRecorder,
 };
 use atomic_table::{Seat, Table};
 use refusal::NoMemory;
@@ -22,8 +22,8 @@ use streams::StreamFault;
 /// An empty history that has no name yet, with its first seat.
 #[derive(Drop)]
 pub struct NewHistory {
-    table: Table<(), View, (), Ruled, Global>,
-    seat: Seat<(), View>,
+    table: Table<(), DeskView, (), OneHistory, Global>,
+    seat: Seat<(), DeskView>,
 }
 
 impl Model for NewHistory {
@@ -42,7 +42,7 @@ impl Model for NewHistory {
 /// The word that all steps are made on.
 #[derive(Drop)]
 pub struct SharedHistory<J: HistoryId> {
-    table: Table<(), View, (), Ruled, Global>,
+    table: Table<(), DeskView, (), OneHistory, Global>,
     of: PhantomData<J>,
 }
 
@@ -60,7 +60,7 @@ impl<J: HistoryId> Model for SharedHistory<J> {
 /// What one connection knows.
 #[derive(Drop)]
 pub struct ClientSeat<J: HistoryId> {
-    seat: Seat<(), View>,
+    seat: Seat<(), DeskView>,
     of: PhantomData<J>,
 }
 
@@ -85,7 +85,7 @@ impl<J: HistoryId> Model for ClientSeat<J> {
 /// connections that are over.
 #[derive(Drop)]
 pub struct Recorder<J: HistoryId> {
-    seat: Seat<(), View>,
+    seat: Seat<(), DeskView>,
     of: PhantomData<J>,
 }
 
@@ -106,7 +106,7 @@ impl<J: HistoryId> Model for Recorder<J> {
 /// Opens connections, and knows how many it has opened. Contracts see it as that number.
 #[derive(Drop)]
 pub struct Opener<J: HistoryId> {
-    seat: Seat<(), View>,
+    seat: Seat<(), DeskView>,
     of: PhantomData<J>,
 }
 
@@ -200,7 +200,7 @@ impl<J: HistoryId> SharedHistory<J> {
         self.table
             .shared
             .join_seat::<TakesRecorder>(&mut seat.seat, held);
-        self.table.shared.load::<Adds<E>>(&mut seat.seat, 0);
+        self.table.shared.load::<LogsEntry<E>>(&mut seat.seat, 0);
         let left = self
             .table
             .shared
@@ -221,7 +221,7 @@ impl<J: HistoryId> SharedHistory<J> {
         self.table
             .shared
             .join_seat::<TakesRecorder>(&mut seat.seat, held);
-        self.table.shared.load::<Looks>(&mut seat.seat, 0);
+        self.table.shared.load::<SeesHistory>(&mut seat.seat, 0);
         let left = self
             .table
             .shared

@@ -6,9 +6,9 @@ use Rattle.streams.specs.Serves.{none_yet}
 use Rattle.streams.specs.Stops.{between}
 use Rattle.streams.specs.Hearing.{query_of}
 use Rattle.streams.proofs.Serving.{serves_one}
-use Rattle.conversation.specs.Hearing.{HearsFront}
-use Rattle.conversation.specs.declared.frames.Heard.{Heard}
-use Rattle.conversation.specs.declared.frames.Heard.TheVariants.{TooLarge, Question}
+use Rattle.conversation.specs.Hearing.{IsArrivedFrame}
+use Rattle.conversation.specs.declared.frames.ArrivedFrame.{ArrivedFrame}
+use Rattle.conversation.specs.declared.frames.ArrivedFrame.TheVariants.{TooLarge, Question}
 use Rattle.conversation.proofs.Taking.{ends_at_length, starved_at_reply}
 use Rattle.conversation.proofs.frames.answer_frames.Goals as goal
 
@@ -24,14 +24,14 @@ returns-in_err-hear-clause-ended g c =
 pub returns-in-TooLarge-clause-ended : goal.returns-in-TooLarge-clause-ended
 returns-in-TooLarge-clause-ended g c =
     let served = c.frames.invariant.served in
-    let P : Heard → Type 0 = λ h. HearsFront h (unread c.frames.session) (unread c.hear.new.session) in
+    let P : ArrivedFrame → Type 0 = λ h. IsArrivedFrame h (unread c.frames.session) (unread c.hear.new.session) in
     let heard = subst P c.in-TooLarge.is c.in_ok-hear.ensures.heard in
     ends_at_length c.refuse_length.result g.H.Handler.answers _ _ _ served.0 _ (unread c.frames.session) c.frames.due.items c.refuse_length.new.due.items served.1 heard.0 c.refuse_length.ensures
 
 pub returns-in_err-answer_one-clause-ended : goal.returns-in_err-answer_one-clause-ended
 returns-in_err-answer_one-clause-ended g c =
     let served = c.frames.invariant.served in
-    let P : Heard → Type 0 = λ h. HearsFront h (unread c.frames.session) (unread c.hear.new.session) in
+    let P : ArrivedFrame → Type 0 = λ h. IsArrivedFrame h (unread c.frames.session) (unread c.hear.new.session) in
     let heard = subst P c.in-Question.is c.in_ok-hear.ensures.heard in
     let reply = c.in_err-answer_one.ensures.err in
     let p = err_from_is_err_and c.from_residual-in_err-answer_one.result c.from_residual-in_err-answer_one.ensures.1 in
@@ -39,14 +39,14 @@ returns-in_err-answer_one-clause-ended g c =
 
 pub frames-smaller : goal.frames-smaller
 frames-smaller g c =
-    let P : Heard → Type 0 = λ h. HearsFront h (unread c.frames.session) (unread c.hear.new.session) in
+    let P : ArrivedFrame → Type 0 = λ h. IsArrivedFrame h (unread c.frames.session) (unread c.hear.new.session) in
     let heard = subst P c.in-Question.is c.in_ok-hear.ensures.heard in
     front_shorter (unread c.frames.session) heard.0 (unread c.hear.new.session) heard.1
 
 pub frames-preserved : goal.frames-preserved
 frames-preserved g c =
     let served = c.frames.invariant.served in
-    let P : Heard → Type 0 = λ h. HearsFront h (unread c.frames.session) (unread c.hear.new.session) in
+    let P : ArrivedFrame → Type 0 = λ h. IsArrivedFrame h (unread c.frames.session) (unread c.hear.new.session) in
     let heard = subst P c.in-Question.is c.in_ok-hear.ensures.heard in
     let reply = c.in_ok-answer_one.ensures.ok in
     record {

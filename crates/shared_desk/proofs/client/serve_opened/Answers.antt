@@ -7,11 +7,11 @@ use Rattle.shared_desk.proofs.client.serve_opened.Goals as goal
 pub close-requires : goal.close-requires
 close-requires g c =
     let end = c.serve_client-outcome in
-    let whole = served_from_nothing g.G.Gate.may_grant g.S.Source.transcript g.S.Source.is_over g.S.Source.has_failed g.W.Sink.transcript g.W.Sink.has_failed
+    let whole = served_from_nothing g.G.RequestFilter.may_grant g.S.Source.transcript g.S.Source.is_over g.S.Source.has_failed g.W.Sink.transcript g.W.Sink.has_failed
     ((c.args.reader.now, c.args.writer.now), c.new-client.result)
     ((end.new.reader, end.new.writer), end.new.client)
     end.result end.ensures.served (c.new-client.ensures.1 ∙ c.requires.fresh) c.requires.source.1 c.requires.sink.1 in
     record {
-      served = subst (λ (v : ClientView). IsServedWhole (closed_of g.G.Gate.may_grant g.S.Source.transcript g.S.Source.is_over g.S.Source.has_failed g.W.Sink.transcript g.W.Sink.has_failed v end.new.reader end.new.writer end.result))
+      served = subst (λ (v : ClientView). IsServedWhole (closed_of g.G.RequestFilter.may_grant g.S.Source.transcript g.S.Source.is_over g.S.Source.has_failed g.W.Sink.transcript g.W.Sink.has_failed v end.new.reader end.new.writer end.result))
           (sym c.into_seat-seat.ensures.same) whole;
     }

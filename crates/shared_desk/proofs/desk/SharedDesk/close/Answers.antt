@@ -11,7 +11,7 @@ close-requires g c = (_, refl, refl, refl)
 pub invariant_of-self : goal.invariant_of-self
 invariant_of-self g c =
     let n = c.close.ensures in
-    let over = closed_of g.G.Gate.may_grant g.S.Source.transcript g.S.Source.is_over g.S.Source.has_failed g.W.Sink.transcript g.W.Sink.has_failed c.args.seat c.args.reader.now c.args.writer.now c.args.outcome.now in
+    let over = closed_of g.G.RequestFilter.may_grant g.S.Source.transcript g.S.Source.is_over g.S.Source.has_failed g.W.Sink.transcript g.W.Sink.has_failed c.args.seat c.args.reader.now c.args.writer.now c.args.outcome.now in
     let before = c.self.inside.recorder in
     let known = c.self.invariant in
     let now : c.close.new.recorder ≡ (before.0, over ∷ before.1) = closed_is n.0 over before.0 before.1 c.close.new.recorder n.1 n.2 in
@@ -31,5 +31,5 @@ returns-clause-same g c =
 pub returns-clause-over : goal.returns-clause-over
 returns-clause-over g c =
     let n = c.close.ensures in
-    let over = closed_of g.G.Gate.may_grant g.S.Source.transcript g.S.Source.is_over g.S.Source.has_failed g.W.Sink.transcript g.W.Sink.has_failed c.args.seat c.args.reader.now c.args.writer.now c.args.outcome.now in
+    let over = closed_of g.G.RequestFilter.may_grant g.S.Source.transcript g.S.Source.is_over g.S.Source.has_failed g.W.Sink.transcript g.W.Sink.has_failed c.args.seat c.args.reader.now c.args.writer.now c.args.outcome.now in
     ap (λ r. r.1) n.2 ∙ (ap (λ (x : ClosedConnection). x ∷ c.self.inside.recorder.1) n.1 ∙ ap (λ (l : List ClosedConnection). over ∷ l) (ap (λ v. v.2) c.self.view_is))

@@ -7,9 +7,9 @@ use Rattle.streams.specs.Stops.{IsStarved, too_large_reply}
 use Rattle.conversation.specs.declared.ended.Ended.{Ended}
 use Rattle.conversation.specs.declared.ended.Ended.TheVariants.{TooLarge, NoMemory}
 
-abbrev pub code_of : Ended → ℕ
-code_of TooLarge = 71
-code_of NoMemory = 99
+abbrev pub code_of_ending : Ended → ℕ
+code_of_ending TooLarge = 71
+code_of_ending NoMemory = 99
 
 -- what is to be sent, where a length over the limit is answered
 abbrev pub IsRefused : Ended → List ℕ → List ℕ → Type 0

@@ -10,7 +10,7 @@ use sessions::Request;
 const NO_REQUEST: u8 = 73;
 
 /// Which requests of a connection come to the desk: all, or all but grants.
-pub trait Gate {
+pub trait RequestFilter {
     ghost use Rattle.std.specs.Prelude.{Bool};
 
     // Whether grants do.
@@ -25,7 +25,7 @@ pub trait Gate {
 /// A connection whose requests all come to the desk.
 pub struct AllRequests;
 
-impl Gate for AllRequests {
+impl RequestFilter for AllRequests {
     ghost use Rattle.std.specs.Prelude.{true};
 
     ghost may_grant = { true };
@@ -38,7 +38,7 @@ impl Gate for AllRequests {
 /// A connection that may make no grants.
 pub struct NoGrants;
 
-impl Gate for NoGrants {
+impl RequestFilter for NoGrants {
     ghost use Rattle.std.specs.Prelude.{false};
 
     ghost may_grant = { false };
