@@ -7,7 +7,7 @@ ghost use Rattle.machine_model.specs.Limits.{max_credit};
 
 use bpfjobs_cli::{Answer, FAILED, UNREAD, print_usage, tell, words};
 use bpfrun_core::{
-    Asked, Request, answer, draw, form_of, request, step_lines, step_objects, trace,
+    RunArguments, RunOptions, answer, draw, form_of, request, step_lines, step_objects, trace,
 };
 use std::alloc::Global;
 use std::process::ExitCode;
@@ -39,8 +39,8 @@ fn told<R: Print>(rt: &R, answer: &Answer) -> u8 {
 // program doesn't run. Tells whether that went well.
 fn traced<R: Files + Print + Eprint + AllocGlobal>(
     rt: &R,
-    request: &Request<'_>,
-    asked: &Asked,
+    request: &RunArguments<'_>,
+    asked: &RunOptions,
     input: &[u8],
     memory: Option<&[u8]>,
 ) -> bool
@@ -85,7 +85,7 @@ fn written<R: Files + Eprint>(rt: &R, path: &str, text: &str) -> bool {
 // Tries the program on its memory, prints what it comes to, and gives the status.
 fn tried<R: Files + Print + Eprint + AllocGlobal>(
     rt: &R,
-    request: &Request<'_>,
+    request: &RunArguments<'_>,
     memory: Option<Vec<u8>>,
 ) -> u8
     requires { request.now.credit ≤ max_credit }
@@ -93,7 +93,7 @@ fn tried<R: Files + Print + Eprint + AllocGlobal>(
     let Some(input) = contents(rt, request.file) else {
         return FAILED;
     };
-    let asked = Asked {
+    let asked = RunOptions {
         form: form_of(request.file),
         need: request.need,
         arg: request.arg,
@@ -123,7 +123,7 @@ fn tried<R: Files + Print + Eprint + AllocGlobal>(
 }
 
 // Does what the words ask for, and gives the status.
-fn act<R: Files + Print + Eprint + AllocGlobal>(rt: &R, request: &Request<'_>) -> u8
+fn act<R: Files + Print + Eprint + AllocGlobal>(rt: &R, request: &RunArguments<'_>) -> u8
     requires { request.now.credit ≤ max_credit }
 {
     let Some(path) = request.memory else {

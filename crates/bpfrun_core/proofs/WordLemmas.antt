@@ -9,7 +9,7 @@ use Rattle.clap.proofs.OnLiterals.{clap_on_literals}
 use Rattle.bpfjobs_cli.specs.Commands.{IsNumberIn}
 use Rattle.bpfjobs_cli.proofs.NumberLemmas.{signed_number, unsigned_number}
 use Rattle.bpfjobs_cli.proofs.RowLemmas.{HasValue, both, default_value, maybe_value, required_value}
-use Rattle.bpfrun_core.specs.Program.{arg_rule, bpfrun_app, credit_rule, file_rule, need_rule}
+use Rattle.bpfrun_core.specs.Program.{arg_rule, bpfrun_app, credit_rule, file_rule, bpfrun_need_rule}
 use Rattle.bpfrun_core.specs.Requests.{IsMaybeNumber, SaysRequest}
 
 -- the rules as clap builds them
@@ -42,13 +42,13 @@ module _ (words : List Text) (has : Bool) (below : Kinds) (none : level_fault to
       (value.0, value.2)
 
   need : (number : Option ℕ) × IsMaybeNumber rows (codes "need") 4294967295 number
-  need = go (maybe_value (rule need_rule) refl (omega arith) top (names_of (built bpfrun_app)) words has below
+  need = go (maybe_value (rule bpfrun_need_rule) refl (omega arith) top (names_of (built bpfrun_app)) words has below
       (other, ((λ same. refl), (other, (other, (other, (other, (other, (other, (other, (other, (other, (other, tt)))))))))))) none)
     where
-      go : (one_of (codes "need") rows ≡ None) ⊎ HasValue (rule need_rule) rows → (number : Option ℕ) × IsMaybeNumber rows (codes "need") 4294967295 number
+      go : (one_of (codes "need") rows ≡ None) ⊎ HasValue (rule bpfrun_need_rule) rows → (number : Option ℕ) × IsMaybeNumber rows (codes "need") 4294967295 number
       go (inl e) = (None, e)
       go (inr value) =
-          let number = signed_number (rule need_rule) 0 4294967295 rows refl value in
+          let number = signed_number (rule bpfrun_need_rule) 0 4294967295 rows refl value in
           (Some number.0, number.1)
 
   credit : (number : ℕ) × IsNumberIn rows (codes "credit") 0 2147483647 number

@@ -7,15 +7,15 @@ use Rattle.verifier.specs.declared.refusals.Refusal.{Refusal}
 use Rattle.verifier.specs.Refusals.{RefusesProgram}
 use Rattle.bpfjobs_cli.specs.Printed.{Prints}
 use Rattle.explain.specs.declared.explanation.Explanation.{Explanation}
-use Rattle.explain.specs.declared.lines.Line.{Line}
+use Rattle.explain.specs.declared.lines.SourceLine.{SourceLine}
 use Rattle.explain.specs.Faults.{AreTold}
-use Rattle.explain.specs.Lines.{told}
-use Rattle.bpfrun_core.specs.declared.answering.Asked.{Asked}
-use Rattle.bpfrun_core.specs.declared.fault.Fault.{Fault}
-use Rattle.bpfrun_core.specs.declared.fault.Fault.TheVariants as fault
-use Rattle.bpfrun_core.specs.declared.form.Form.{Form}
+use Rattle.explain.specs.Lines.{numbered_text}
+use Rattle.bpfrun_core.specs.declared.answering.RunOptions.{RunOptions}
+use Rattle.bpfrun_core.specs.declared.fault.RunFault.{RunFault}
+use Rattle.bpfrun_core.specs.declared.fault.RunFault.TheVariants as fault
+use Rattle.bpfrun_core.specs.declared.form.FileForm.{FileForm}
 use Rattle.bpfrun_core.specs.Forms.{IsRead, IsUnread}
-use Rattle.bpfrun_core.specs.Places.{IsFaultPlace, IsQuote}
+use Rattle.bpfrun_core.specs.FaultLines.{IsFaultPlace, IsQuote}
 use Rattle.bpfrun_core.specs.Printed.{IsRefusalText, ran_text}
 use Rattle.bpfrun_core.specs.Runs.{IsProgramRun, IsStopped}
 
@@ -26,23 +26,23 @@ need_of None (Some bytes) = min (length bytes) max_part
 need_of None None = 0
 
 -- its memory, or else as many zeros as it needs
-abbrev pub part_of : Option ℕ → Option (List ℕ) → List ℕ
-part_of need (Some bytes) = bytes
-part_of need None = replicate (min (need_of need None) max_part) 0
+abbrev pub starting_memory : Option ℕ → Option (List ℕ) → List ℕ
+starting_memory need (Some bytes) = bytes
+starting_memory need None = replicate (min (need_of need None) max_part) 0
 
 -- a memory that is shown
-abbrev pub shown : Bool → List ℕ → Option (List ℕ)
-shown is_shown left = if is_shown then Some left else None
+abbrev pub shown_memory : Bool → List ℕ → Option (List ℕ)
+shown_memory is_shown left = if is_shown then Some left else None
 
 -- The lines of the refusal, with what it quotes and the place that it is about.
-pub record PrintsRefusal (form : Form) (input code : List ℕ) (why : Fault) (text : List ℕ)
+pub record PrintsRefusal (form : FileForm) (input code : List ℕ) (why : RunFault) (text : List ℕ)
     (status : ℕ) : Type 0 where
   pub lasting : why ≢ fault.NoMemory
   pub quote : Option (List ℕ)
   pub quotes : IsQuote why input quote
-  pub place : Option Line
+  pub place : Option SourceLine
   pub about : IsFaultPlace form why input code place
-  pub lines : IsRefusalText why quote (option_map told place) text
+  pub lines : IsRefusalText why quote (option_map numbered_text place) text
   pub one : status ≡ 1
 
 -- some instructions aren't allowed, or the program has no graph, and that is explained
@@ -53,7 +53,8 @@ pub record AreExplained (need : ℕ) (code : List ℕ) : Type 0 where
   pub some : list ≢ []
 
 -- The verifier's refusal is told, or explained, or each instruction that isn't allowed is.
-pub data IsRejected (asked : Asked) (need : ℕ) (input code : List ℕ) (why : Refusal) (text : List ℕ)
+pub data IsRejected (asked : RunOptions) (need : ℕ) (input code : List ℕ) (why : Refusal)
+    (text : List ℕ)
     (status : ℕ) : Type 0 where
   declined : PrintsRefusal asked.form input code (fault.Program why) text status
       → IsRejected asked need input code why text status
@@ -63,24 +64,24 @@ pub data IsRejected (asked : Asked) (need : ℕ) (input code : List ℕ) (why : 
       → IsRejected asked need input code why text status
 
 -- A program of these bytes that needs so much, on this memory, and what its run leaves of it.
-pub data IsJudged (asked : Asked) (need : ℕ) (input code old left : List ℕ) (is_shown : Bool)
+pub data IsJudged (asked : RunOptions) (need : ℕ) (input code old left : List ℕ) (is_shown : Bool)
     (text : List ℕ) (status : ℕ) : Type 0 where
   ran : (r0 used : ℕ) → IsProgramRun need code asked.arg asked.credit old r0 used left
-      → Prints text status (ran_text r0 used (shown is_shown left)) 0
+      → Prints text status (ran_text r0 used (shown_memory is_shown left)) 0
       → IsJudged asked need input code old left is_shown text status
   rejected : (why : Refusal) → IsStopped need code asked.credit old (fault.Program why) → left ≡ old
       → IsRejected asked need input code why text status
       → IsJudged asked need input code old left is_shown text status
-  stopped : (why : Fault) → IsStopped need code asked.credit old why → left ≡ old
+  stopped : (why : RunFault) → IsStopped need code asked.credit old why → left ≡ old
       → PrintsRefusal asked.form input code why text status
       → IsJudged asked need input code old left is_shown text status
 
 -- What is answered to a program as its file has it.
-pub data IsTried (asked : Asked) (need : ℕ) (input old left : List ℕ) (is_shown : Bool)
+pub data IsTried (asked : RunOptions) (need : ℕ) (input old left : List ℕ) (is_shown : Bool)
     (text : List ℕ) (status : ℕ) : Type 0 where
   judged : (code : List ℕ) → IsRead asked.form input code
       → IsJudged asked need input code old left is_shown text status
       → IsTried asked need input old left is_shown text status
-  unread : (why : Fault) → IsUnread asked.form input why → left ≡ old
+  unread : (why : RunFault) → IsUnread asked.form input why → left ≡ old
       → PrintsRefusal asked.form input [] why text status
       → IsTried asked need input old left is_shown text status

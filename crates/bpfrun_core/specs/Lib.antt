@@ -1,7 +1,7 @@
 pub mod Faults
 pub mod Forms
 pub mod Runs
-pub mod Places
+pub mod FaultLines
 pub mod Printed
 pub mod Answered
 pub mod Traced

@@ -3,8 +3,8 @@ use Rattle.std.specs.Prelude.{◌≡◌, ◌⊎◌, ◌<◌, ◌==◌, ℕ, List
 use Rattle.std.specs.Fmt.{decimal}
 use Rattle.std.specs.List.{after_first, position_or_len}
 use Rattle.hex.specs.Hex.{encode_lower}
-use Rattle.bpfrun_core.specs.declared.fault.Fault.{Fault}
-use Rattle.bpfrun_core.specs.Faults.{number_of}
+use Rattle.bpfrun_core.specs.declared.fault.RunFault.{RunFault}
+use Rattle.bpfrun_core.specs.Faults.{number_of_run_fault}
 
 -- `memory` and its bytes in hexadecimal, where it is shown
 abbrev pub memory_line : Option (List ℕ) → List ℕ
@@ -20,9 +20,9 @@ abbrev pub ran_text : ℕ → ℕ → Option (List ℕ) → List ℕ
 ran_text r0 used shown = run_lines r0 used ++ memory_line shown
 
 -- `line N: ` and what stands on it, where a refusal is about a line
-abbrev pub place_line : Option (ℕ × List ℕ) → List ℕ
-place_line None = []
-place_line (Some line) = ((codes "line " ++ (decimal line.0 ++ codes ": ")) ++ line.1) ++ 10 ∷ []
+abbrev pub line_of_fault : Option (ℕ × List ℕ) → List ℕ
+line_of_fault None = []
+line_of_fault (Some line) = ((codes "line " ++ (decimal line.0 ++ codes ": ")) ++ line.1) ++ 10 ∷ []
 
 -- a colon and what is quoted, where something is
 abbrev pub quote_text : Option (List ℕ) → List ℕ
@@ -42,7 +42,7 @@ AreWordsOf text words =
     ⊎ ((position_or_len (λ b. b == 32) text ≡ length text) × (words ≡ text))
 
 -- `refused N: ` with words and what is quoted, and the line
-pub record IsRefusalText (fault : Fault) (quote : Option (List ℕ)) (place : Option (ℕ × List ℕ))
+pub record IsRefusalText (fault : RunFault) (quote : Option (List ℕ)) (place : Option (ℕ × List ℕ))
     (text : List ℕ) : Type 0 where
   pub words : List ℕ
-  pub same : text ≡ refused_line (number_of fault) words quote ++ place_line place
+  pub same : text ≡ refused_line (number_of_run_fault fault) words quote ++ line_of_fault place

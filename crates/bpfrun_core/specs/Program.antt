@@ -8,8 +8,8 @@ use Rattle.clap.specs.declared.builder.value_parser.ValueParser.TheVariants as v
 abbrev pub file_rule : Rule
 file_rule = record (new_rule (codes "file")) { value_names = 1; required = true }
 
-abbrev pub need_rule : Rule
-need_rule = record (new_rule (codes "need")) {
+abbrev pub bpfrun_need_rule : Rule
+bpfrun_need_rule = record (new_rule (codes "need")) {
   long = Some (codes "need");
   value_names = 1;
   parser = Some (vp.Signed (pos 0) (pos 4294967295));
@@ -52,21 +52,21 @@ graph_rule = record (new_rule (codes "graph")) {
   action = Some SetTrue;
 }
 
-abbrev pub trace_rule : Rule
-trace_rule = record (new_rule (codes "trace")) {
+abbrev pub bpfrun_trace_rule : Rule
+bpfrun_trace_rule = record (new_rule (codes "trace")) {
   long = Some (codes "trace");
   action = Some SetTrue;
 }
 
-abbrev pub trace_json_rule : Rule
-trace_json_rule = record (new_rule (codes "trace-json")) {
+abbrev pub bpfrun_trace_json_rule : Rule
+bpfrun_trace_json_rule = record (new_rule (codes "trace-json")) {
   long = Some (codes "trace-json");
   value_names = 1;
 }
 
 -- the program without its arguments, which tells its version
-abbrev pub named_app : App
-named_app = record {
+abbrev pub bare_bpfrun_app : App
+bare_bpfrun_app = record {
   top = record (new_app (codes "bpfrun")).top { has_version = true };
   subs = [];
 }
@@ -74,6 +74,6 @@ named_app = record {
 abbrev pub bpfrun_app : App
 bpfrun_app = with_rule (with_rule (with_rule
     (with_rule (with_rule (with_rule
-    (with_rule (with_rule (with_rule (with_rule named_app file_rule) need_rule)
+    (with_rule (with_rule (with_rule (with_rule bare_bpfrun_app file_rule) bpfrun_need_rule)
     credit_rule) arg_rule) memory_rule) explain_rule) explain_all_rule) graph_rule)
-    trace_rule) trace_json_rule
+    bpfrun_trace_rule) bpfrun_trace_json_rule

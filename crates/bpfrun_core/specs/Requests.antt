@@ -8,7 +8,7 @@ use Rattle.bpfjobs_cli.specs.Commands.{IsNumberIn}
 use Rattle.bpfjobs_cli.specs.declared.commands.Usage.{Usage}
 use Rattle.bpfjobs_cli.specs.declared.commands.Usage.TheVariants as usage
 use Rattle.bpfrun_core.specs.Program.{bpfrun_app}
-use Rattle.bpfrun_core.specs.declared.asked.Request.{Request}
+use Rattle.bpfrun_core.specs.declared.arguments.RunArguments.{RunArguments}
 
 -- the value of an argument that may be missing, read as a number up to high
 abbrev pub IsMaybeNumber : List Row → Text → ℕ → Option ℕ → Type 0
@@ -16,7 +16,7 @@ IsMaybeNumber rows id high None = one_of id rows ≡ None
 IsMaybeNumber rows id high (Some number) = IsNumberIn rows id 0 high number
 
 -- each of its parts is the value of its argument
-pub record IsRequestOf (rows : List Row) (request : Request) : Type 0 where
+pub record IsRequestOf (rows : List Row) (request : RunArguments) : Type 0 where
   pub file : first_of (codes "file") rows ≡ Some request.file.now
   pub memory : first_of (codes "memory") rows ≡ option_map (λ path. path.now) request.memory
   pub need : IsMaybeNumber rows (codes "need") 4294967295 request.need

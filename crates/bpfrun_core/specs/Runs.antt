@@ -7,8 +7,8 @@ use Rattle.verifier.specs.Checked.{Checked, cost_at}
 use Rattle.verifier.specs.Refusals.{IsAccepted, RefusesProgram}
 use Rattle.virtual_machine.specs.Executes.{ExecutesOn}
 use Rattle.run_trace.specs.Traces.{unanswered}
-use Rattle.bpfrun_core.specs.declared.fault.Fault.{Fault}
-use Rattle.bpfrun_core.specs.declared.fault.Fault.TheVariants as fault
+use Rattle.bpfrun_core.specs.declared.fault.RunFault.{RunFault}
+use Rattle.bpfrun_core.specs.declared.fault.RunFault.TheVariants as fault
 
 -- the program is accepted, and runs with R0 and what it used of the credit, and leaves these bytes
 pub record IsProgramRun (need : ℕ) (code : List ℕ) (arg credit : ℕ) (old : List ℕ) (r0 used : ℕ)
@@ -25,7 +25,7 @@ pub record IsShort (need : ℕ) (code : List ℕ) (lacks : Checked → Type 0) :
   pub lacking : lacks program
 
 -- why it doesn't run
-abbrev pub IsStopped : ℕ → List ℕ → ℕ → List ℕ → Fault → Type 0
+abbrev pub IsStopped : ℕ → List ℕ → ℕ → List ℕ → RunFault → Type 0
 IsStopped need code credit memory fault.NotText = ⊥
 IsStopped need code credit memory fault.NotHexadecimal = ⊥
 IsStopped need code credit memory (fault.Text why) = ⊥

@@ -3,12 +3,12 @@
 ghost use Rattle.std.specs.Prelude.{◌≡◌, ◌≢◌, ◌≤◌, List, ℕ, Bool, option_map, is_some, true, IfOk, IfSome};
 ghost use Rattle.helpers.specs.Table.{job_table};
 ghost use Rattle.verifier.specs.Refusals.{RefusesProgram};
-ghost use Rattle.bpfrun_core.specs.Answered.{AreExplained, PrintsRefusal, IsJudged, IsRejected, IsTried, need_of, part_of};
-ghost use Rattle.bpfrun_core.specs.declared.fault.Fault.TheVariants as fault_variant;
+ghost use Rattle.bpfrun_core.specs.Answered.{AreExplained, PrintsRefusal, IsJudged, IsRejected, IsTried, need_of, starting_memory};
+ghost use Rattle.bpfrun_core.specs.declared.fault.RunFault.TheVariants as fault_variant;
 ghost use Rattle.machine_model.specs.Limits.{max_credit};
 
-use crate::fault::Fault;
-use crate::form::Form;
+use crate::fault::RunFault;
+use crate::form::FileForm;
 use crate::place::{place_of, quote_of};
 use crate::reading::{bytes_of, source_of};
 use crate::running::run;
@@ -23,8 +23,8 @@ use verifier::Refusal;
 
 /// How a program is tried.
 #[derive(Clone, Copy, Debug, PartialEq, Eq)]
-pub struct Asked {
-    pub form: Form,
+pub struct RunOptions {
+    pub form: FileForm,
     /// How many bytes of its part it needs; if that isn't said, all of its memory, and none without
     /// one.
     pub need: Option<u32>,
@@ -52,7 +52,7 @@ pub(crate) fn need_of(need: Option<u32>, memory: Option<&[u8]>) -> u32
 // Why the verifier refuses a program; none where it doesn't.
 fn explain_refusal(
     alloc: Global,
-    form: Form,
+    form: FileForm,
     need: u32,
     input: &[u8],
     code: &[u8],
@@ -90,7 +90,7 @@ fn text_of(alloc: Global, list: &[Explanation]) -> Result<String, NoMemory> {
 // Why each instruction isn't allowed that isn't; none where all are.
 fn explain_faults(
     alloc: Global,
-    form: Form,
+    form: FileForm,
     need: u32,
     input: &[u8],
     code: &[u8],
@@ -117,10 +117,10 @@ fn explain_faults(
 // The lines of a refusal.
 pub(crate) fn print_refusal(
     alloc: Global,
-    form: Form,
+    form: FileForm,
     input: &[u8],
     code: &[u8],
-    fault: &Fault,
+    fault: &RunFault,
 ) -> Result<Answer, NoMemory>
     requires { fault.now ≢ fault_variant.NoMemory }
     ensures { IfOk result
@@ -134,7 +134,7 @@ pub(crate) fn print_refusal(
 // What is answered where the verifier refuses a program.
 pub(crate) fn answer_refusal(
     alloc: Global,
-    asked: &Asked,
+    asked: &RunOptions,
     need: u32,
     input: &[u8],
     code: &[u8],
@@ -154,13 +154,13 @@ pub(crate) fn answer_refusal(
             return Ok(answer);
         }
     }
-    print_refusal(alloc, asked.form, input, code, &Fault::Program(refusal))
+    print_refusal(alloc, asked.form, input, code, &RunFault::Program(refusal))
 }
 
 // What is answered to the bytes of a program.
 fn answer_code(
     alloc: Global,
-    asked: &Asked,
+    asked: &RunOptions,
     need: u32,
     input: &[u8],
     code: &[u8],
@@ -175,8 +175,8 @@ fn answer_code(
     match run(alloc, need, code, memory, asked.arg, asked.credit) {
         Ok(done) if is_shown => tell_run(alloc, done, Some(memory)),
         Ok(done) => tell_run(alloc, done, None),
-        Err(Fault::NoMemory) => Err(NoMemory),
-        Err(Fault::Program(refusal)) => answer_refusal(alloc, asked, need, input, code, refusal),
+        Err(RunFault::NoMemory) => Err(NoMemory),
+        Err(RunFault::Program(refusal)) => answer_refusal(alloc, asked, need, input, code, refusal),
         Err(fault) => print_refusal(alloc, asked.form, input, code, &fault),
     }
 }
@@ -184,7 +184,7 @@ fn answer_code(
 // What is answered to a program with this memory, which is shown or not.
 fn answer_input(
     alloc: Global,
-    asked: &Asked,
+    asked: &RunOptions,
     need: u32,
     input: &[u8],
     memory: &mut [u8],
@@ -197,7 +197,7 @@ fn answer_input(
 {
     match bytes_of(alloc, asked.form, input) {
         Ok(code) => answer_code(alloc, asked, need, input, &code, memory, is_shown),
-        Err(Fault::NoMemory) => Err(NoMemory),
+        Err(RunFault::NoMemory) => Err(NoMemory),
         Err(fault) => print_refusal(alloc, asked.form, input, &[], &fault),
     }
 }
@@ -207,7 +207,7 @@ fn answer_input(
 /// without a need it needs the whole memory. The call asks for a credit of at most 2,147,483,647.
 pub fn answer(
     alloc: Global,
-    asked: &Asked,
+    asked: &RunOptions,
     input: &[u8],
     memory: Option<Vec<u8>>,
 ) -> Result<Answer, NoMemory>
@@ -215,7 +215,7 @@ pub fn answer(
     ensures { IfOk result (λ answer. (left : List ℕ)
         × IsTried asked.now (need_of asked.now.need (option_map (λ m. m.items) memory))
         input.now
-        (part_of asked.now.need (option_map (λ m. m.items) memory)) left (is_some memory)
+        (starting_memory asked.now.need (option_map (λ m. m.items) memory)) left (is_some memory)
         answer.text.items answer.status) }
 {
     match memory {

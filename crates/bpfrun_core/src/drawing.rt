@@ -2,10 +2,10 @@
 
 ghost use Rattle.std.specs.Prelude.{◌≡◌, option_map, IfOk};
 ghost use Rattle.bpfrun_core.specs.Answered.{need_of};
-ghost use Rattle.bpfrun_core.specs.Drawn.{IsDrawn, IsDrawnCode, status_of};
+ghost use Rattle.bpfrun_core.specs.Drawn.{IsDrawn, IsDrawnCode, picture_status};
 
-use crate::answering::{Asked, answer_refusal, need_of, print_refusal};
-use crate::fault::Fault;
+use crate::answering::{RunOptions, answer_refusal, need_of, print_refusal};
+use crate::fault::RunFault;
 use crate::reading::{bytes_of, source_of};
 use bpfjobs_cli::Answer;
 use explain::{Picture, picture_of};
@@ -17,7 +17,7 @@ use verifier::Refusal;
 
 // 0 where the program is accepted, and else 1.
 fn status_of(picture: &Picture) -> u8
-    ensures { result ≡ status_of picture.now }
+    ensures { result ≡ picture_status picture.now }
 {
     match &picture.why {
         None => 0,
@@ -28,7 +28,7 @@ fn status_of(picture: &Picture) -> u8
 // What is drawn of the bytes of a program.
 fn draw_code(
     alloc: Global,
-    asked: &Asked,
+    asked: &RunOptions,
     need: u32,
     input: &[u8],
     code: &[u8],
@@ -52,7 +52,7 @@ fn draw_code(
 /// [`answer`](crate::answer) tells where a program has no graph.
 pub fn draw(
     alloc: Global,
-    asked: &Asked,
+    asked: &RunOptions,
     input: &[u8],
     memory: Option<&[u8]>,
 ) -> Result<Answer, NoMemory>
@@ -63,7 +63,7 @@ pub fn draw(
     let need = need_of(asked.need, memory);
     match bytes_of(alloc, asked.form, input) {
         Ok(code) => draw_code(alloc, asked, need, input, &code),
-        Err(Fault::NoMemory) => Err(NoMemory),
+        Err(RunFault::NoMemory) => Err(NoMemory),
         Err(fault) => print_refusal(alloc, asked.form, input, &[], &fault),
     }
 }

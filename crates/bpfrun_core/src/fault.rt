@@ -1,7 +1,7 @@
 //! Why a program doesn't run.
 
 ghost use Rattle.std.specs.Prelude.{◌≡◌};
-ghost use Rattle.bpfrun_core.specs.Faults.{number_of};
+ghost use Rattle.bpfrun_core.specs.Faults.{number_of_run_fault};
 
 use assembler::TextFault;
 use refusal::NoMemory;
@@ -11,7 +11,7 @@ use verifier::Refusal;
 
 /// Why a program doesn't run.
 #[derive(Clone, Copy, Debug, PartialEq, Eq, Hash, Error)]
-pub enum Fault {
+pub enum RunFault {
     /// Source text is no UTF-8.
     #[error("73: the text is no UTF-8")]
     NotText,
@@ -38,41 +38,41 @@ pub enum Fault {
     NoMemory,
 }
 
-impl Fault {
+impl RunFault {
     /// The number of the refusal: 73 no text or no hexadecimal, 65 too much memory, 42 too little
     /// credit, 43 too little memory, 99, or that of the assembler (1, 3, 11 to 13) or the verifier
     /// (1 to 7, 21 to 25, 31 to 38).
     pub fn code(&self) -> u8
-        ensures { result ≡ number_of self.now }
+        ensures { result ≡ number_of_run_fault self.now }
     {
         match self {
-            Fault::NotText | Fault::NotHexadecimal => 73,
-            Fault::Text(fault) => fault.code(),
-            Fault::MemoryTooLarge => 65,
-            Fault::Program(refusal) => refusal.code(),
-            Fault::CreditLow { .. } => 42,
-            Fault::MemoryShort { .. } => 43,
-            Fault::NoMemory => 99,
+            RunFault::NotText | RunFault::NotHexadecimal => 73,
+            RunFault::Text(fault) => fault.code(),
+            RunFault::MemoryTooLarge => 65,
+            RunFault::Program(refusal) => refusal.code(),
+            RunFault::CreditLow { .. } => 42,
+            RunFault::MemoryShort { .. } => 43,
+            RunFault::NoMemory => 99,
         }
     }
 }
 
-impl From<NoMemory> for Fault {
-    ghost use Rattle.bpfrun_core.specs.declared.fault.Fault.TheVariants as fault;
+impl From<NoMemory> for RunFault {
+    ghost use Rattle.bpfrun_core.specs.declared.fault.RunFault.TheVariants as fault;
 
     ghost from_gives = { λ _ given. given ≡ fault.NoMemory };
 
-    fn from(_refusal: NoMemory) -> Fault {
-        Fault::NoMemory
+    fn from(_refusal: NoMemory) -> RunFault {
+        RunFault::NoMemory
     }
 }
 
-impl From<AllocError> for Fault {
-    ghost use Rattle.bpfrun_core.specs.declared.fault.Fault.TheVariants as fault;
+impl From<AllocError> for RunFault {
+    ghost use Rattle.bpfrun_core.specs.declared.fault.RunFault.TheVariants as fault;
 
     ghost from_gives = { λ _ given. given ≡ fault.NoMemory };
 
-    fn from(_refusal: AllocError) -> Fault {
-        Fault::NoMemory
+    fn from(_refusal: AllocError) -> RunFault {
+        RunFault::NoMemory
     }
 }

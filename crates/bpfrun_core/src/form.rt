@@ -5,7 +5,7 @@ ghost use Rattle.bpfrun_core.specs.Forms.{form_of};
 
 /// How a program's file is written.
 #[derive(Clone, Copy, Debug, PartialEq, Eq, Hash)]
-pub enum Form {
+pub enum FileForm {
     /// Source text, an instruction a line.
     Text,
     /// The program's bytes in hexadecimal.
@@ -16,14 +16,14 @@ pub enum Form {
 
 /// The form that the end of a path tells: `.bpf` source text, `.hex` hexadecimal, any other end
 /// bytes.
-pub fn form_of(path: &str) -> Form
+pub fn form_of(path: &str) -> FileForm
     ensures { result ≡ form_of path.now }
 {
     if path.ends_with(".bpf") {
-        Form::Text
+        FileForm::Text
     } else if path.ends_with(".hex") {
-        Form::Hexadecimal
+        FileForm::Hexadecimal
     } else {
-        Form::Bytes
+        FileForm::Bytes
     }
 }

@@ -8,8 +8,8 @@ mod form;
 mod reading;
 mod running;
 
-pub use fault::Fault;
-pub use form::{Form, form_of};
+pub use fault::RunFault;
+pub use form::{FileForm, form_of};
 pub use reading::bytes_of;
 pub use running::run;
 
@@ -22,7 +22,7 @@ pub use place::{place_of, quote_of};
 mod answering;
 mod telling;
 
-pub use answering::{Asked, answer};
+pub use answering::{RunOptions, answer};
 
 // the steps of the run
 mod tracing;
@@ -35,10 +35,10 @@ mod drawing;
 pub use drawing::draw;
 
 // the words of the command line
-mod asked;
+mod arguments;
 mod program;
 mod texts;
 mod words;
 
-pub use asked::Request;
+pub use arguments::RunArguments;
 pub use words::request;

@@ -2,22 +2,22 @@
 
 ghost use Rattle.std.specs.Prelude.{option_map, IfOk};
 ghost use Rattle.assembler.specs.Source.{source_lines};
-ghost use Rattle.bpfrun_core.specs.Places.{IsAtSlot, IsNumbered, IsFaultPlace, IsQuote};
+ghost use Rattle.bpfrun_core.specs.FaultLines.{IsAtSlot, IsLineNumbered, IsFaultPlace, IsQuote};
 
-use crate::fault::Fault;
-use crate::form::Form;
+use crate::fault::RunFault;
+use crate::form::FileForm;
 use assembler::line_with_number;
-use explain::{Line, index_of, line_at, lines_of};
+use explain::{SourceLine, index_of, line_at, lines_of};
 use insn_codec::{CodecFault, decode};
 use refusal::NoMemory;
 use std::alloc::Global;
 
 // The line of this number.
-fn numbered(source: &[u8], number: u64) -> Option<Line<'_>>
-    ensures { IsNumbered number (source_lines source.now) result }
+fn numbered(source: &[u8], number: u64) -> Option<SourceLine<'_>>
+    ensures { IsLineNumbered number (source_lines source.now) result }
 {
     let text = line_with_number(source, number)?;
-    Some(Line { number, text })
+    Some(SourceLine { number, text })
 }
 
 // The line of the instruction at a slot.
@@ -26,7 +26,7 @@ fn at_slot<'a>(
     source: &'a [u8],
     code: &[u8],
     slot: u32,
-) -> Result<Option<Line<'a>>, NoMemory>
+) -> Result<Option<SourceLine<'a>>, NoMemory>
     ensures { IfOk result (λ place. IsAtSlot slot code.now (source_lines source.now) place) }
 {
     let placed = match decode(alloc, code) {
@@ -45,36 +45,36 @@ fn at_slot<'a>(
 /// where the file is no source text.
 pub fn place_of<'a>(
     alloc: Global,
-    form: Form,
+    form: FileForm,
     input: &'a [u8],
     code: &[u8],
-    fault: &Fault,
-) -> Result<Option<Line<'a>>, NoMemory>
+    fault: &RunFault,
+) -> Result<Option<SourceLine<'a>>, NoMemory>
     ensures { IfOk result (λ place. IsFaultPlace form fault.now input.now code.now place) }
 {
     match form {
-        Form::Text => match fault {
-            Fault::Text(fault) => match fault.line() {
+        FileForm::Text => match fault {
+            RunFault::Text(fault) => match fault.line() {
                 Some(number) => Ok(numbered(input, number)),
                 None => Ok(None),
             },
-            Fault::Program(refusal) => match refusal.slot() {
+            RunFault::Program(refusal) => match refusal.slot() {
                 Some(slot) => at_slot(alloc, input, code, slot),
                 None => Ok(None),
             },
             _ => Ok(None),
         },
-        Form::Hexadecimal | Form::Bytes => Ok(None),
+        FileForm::Hexadecimal | FileForm::Bytes => Ok(None),
     }
 }
 
 /// What a refusal quotes of a source text: the word of its line, or the operands. None where the
 /// refusal isn't of a line.
-pub fn quote_of<'a>(input: &'a [u8], fault: &Fault) -> Option<&'a str>
+pub fn quote_of<'a>(input: &'a [u8], fault: &RunFault) -> Option<&'a str>
     ensures { IsQuote fault.now input.now (option_map (λ part. part.now) result) }
 {
     match fault {
-        Fault::Text(fault) => fault.quoted(str::from_utf8(input).ok()?),
+        RunFault::Text(fault) => fault.quoted(str::from_utf8(input).ok()?),
         _ => None,
     }
 }

@@ -3,7 +3,7 @@
 ghost use Rattle.std.specs.Prelude.{◌≡◌, false, IfOk};
 ghost use Rattle.clap.specs.Words.{app_of, rule_of};
 ghost use Rattle.clap.specs.declared.builder.command.Command.TheViews.{out-Command as fields_of};
-ghost use Rattle.bpfrun_core.specs.Program.{file_rule, need_rule, credit_rule, arg_rule, memory_rule, explain_rule, trace_rule, trace_json_rule, bpfrun_app, explain_all_rule, graph_rule, named_app};
+ghost use Rattle.bpfrun_core.specs.Program.{file_rule, bpfrun_need_rule, credit_rule, arg_rule, memory_rule, explain_rule, bpfrun_trace_rule, bpfrun_trace_json_rule, bpfrun_app, explain_all_rule, graph_rule, bare_bpfrun_app};
 
 use crate::texts;
 use clap::{Arg, ArgAction, Command};
@@ -20,7 +20,7 @@ fn file<'a>(alloc: Global) -> Arg<'a>
 }
 
 fn need<'a>(alloc: Global) -> Arg<'a>
-    ensures rule { rule_of result ≡ need_rule }
+    ensures rule { rule_of result ≡ bpfrun_need_rule }
     ensures local { result.global ≡ false }
 {
     Arg::new(alloc, "need")
@@ -95,7 +95,7 @@ fn graph<'a>(alloc: Global) -> Arg<'a>
 }
 
 fn trace<'a>(alloc: Global) -> Arg<'a>
-    ensures rule { rule_of result ≡ trace_rule }
+    ensures rule { rule_of result ≡ bpfrun_trace_rule }
     ensures local { result.global ≡ false }
 {
     Arg::new(alloc, "trace")
@@ -105,7 +105,7 @@ fn trace<'a>(alloc: Global) -> Arg<'a>
 }
 
 fn trace_json<'a>(alloc: Global) -> Arg<'a>
-    ensures rule { rule_of result ≡ trace_json_rule }
+    ensures rule { rule_of result ≡ bpfrun_trace_json_rule }
     ensures local { result.global ≡ false }
 {
     Arg::new(alloc, "trace-json")
@@ -116,7 +116,7 @@ fn trace_json<'a>(alloc: Global) -> Arg<'a>
 
 // The program without its arguments.
 fn named<'a>(alloc: Global) -> Command<'a>
-    ensures app { app_of result ≡ named_app }
+    ensures app { app_of result ≡ bare_bpfrun_app }
     ensures local { (fields_of result).has_globals ≡ false }
 {
     Command::new(alloc, "bpfrun")

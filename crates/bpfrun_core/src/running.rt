@@ -4,7 +4,7 @@ ghost use Rattle.std.specs.Prelude.{◌≡◌, ◌≤◌, MatchResult};
 ghost use Rattle.bpfrun_core.specs.Runs.{IsProgramRun, IsStopped};
 ghost use Rattle.machine_model.specs.Limits.{max_credit};
 
-use crate::fault::Fault;
+use crate::fault::RunFault;
 use machine_model::MAX_PART;
 use std::alloc::Global;
 use verifier::Refusal;
@@ -24,14 +24,14 @@ pub fn run(
     memory: &mut [u8],
     arg: u64,
     credit: u32,
-) -> Result<Executed, Fault>
+) -> Result<Executed, RunFault>
     requires limit { credit ≤ max_credit }
     ensures { MatchResult result
         (λ done. IsProgramRun need code.now arg credit memory.old done.r0 done.used memory.new)
         (λ fault. IsStopped need code.now credit memory.old fault × (memory.new ≡ memory.old)) }
 {
     if memory.len() > MAX_PART {
-        return Err(Fault::MemoryTooLarge);
+        return Err(RunFault::MemoryTooLarge);
     }
     let mut vm = match Vm::new(alloc, None) {
         Ok(vm) => vm,
@@ -39,13 +39,13 @@ pub fn run(
     };
     match vm.set_program(alloc, need, code) {
         Ok(()) => {}
-        Err(Refusal::NoMemory) => return Err(Fault::NoMemory),
-        Err(refusal) => return Err(Fault::Program(refusal)),
+        Err(Refusal::NoMemory) => return Err(RunFault::NoMemory),
+        Err(refusal) => return Err(RunFault::Program(refusal)),
     }
     match vm.execute(memory, arg, credit) {
         Ok(done) => Ok(done),
-        Err(VmFault::CreditLow { wanted, given }) => Err(Fault::CreditLow { wanted, given }),
-        Err(VmFault::MemoryShort { wanted, given }) => Err(Fault::MemoryShort { wanted, given }),
+        Err(VmFault::CreditLow { wanted, given }) => Err(RunFault::CreditLow { wanted, given }),
+        Err(VmFault::MemoryShort { wanted, given }) => Err(RunFault::MemoryShort { wanted, given }),
         Err(VmFault::NoProgram | VmFault::NoMemory) => unreachable!(),
     }
 }

@@ -2,12 +2,12 @@
 
 ghost use Rattle.std.specs.Prelude.{◌≡◌, option_map, string_bytes, IfOk};
 ghost use Rattle.bpfjobs_cli.specs.Printed.{Prints};
-ghost use Rattle.explain.specs.Lines.{told};
-ghost use Rattle.bpfrun_core.specs.Printed.{AreWordsOf, IsRefusalText, memory_line, place_line, quote_text, ran_text};
+ghost use Rattle.explain.specs.Lines.{numbered_text};
+ghost use Rattle.bpfrun_core.specs.Printed.{AreWordsOf, IsRefusalText, memory_line, line_of_fault, quote_text, ran_text};
 
-use crate::fault::Fault;
+use crate::fault::RunFault;
 use bpfjobs_cli::Answer;
-use explain::Line;
+use explain::SourceLine;
 use refusal::NoMemory;
 use std::alloc::Global;
 use virtual_machine::Executed;
@@ -46,8 +46,9 @@ pub(crate) fn tell_run(
 }
 
 // The line that a refusal is about, as it is printed.
-fn place_line(alloc: Global, place: Option<Line<'_>>) -> Result<Vec<u8>, NoMemory>
-    ensures { IfOk result (λ text. text.items ≡ place_line (option_map told place.entry)) }
+fn place_line(alloc: Global, place: Option<SourceLine<'_>>) -> Result<Vec<u8>, NoMemory>
+    ensures { IfOk result
+        (λ text. text.items ≡ line_of_fault (option_map numbered_text place.entry)) }
 {
     match place {
         Some(line) => {
@@ -85,13 +86,13 @@ fn quote_text(alloc: Global, quote: Option<&str>) -> Result<String, NoMemory>
 /// status 1.
 pub(crate) fn tell_refusal(
     alloc: Global,
-    fault: &Fault,
+    fault: &RunFault,
     quote: Option<&str>,
-    place: Option<Line<'_>>,
+    place: Option<SourceLine<'_>>,
 ) -> Result<Answer, NoMemory>
     ensures text { IfOk result
         (λ answer. IsRefusalText fault.now (option_map (λ part. part.now) quote.entry)
-        (option_map told place.entry) answer.text.items) }
+        (option_map numbered_text place.entry) answer.text.items) }
     ensures status { IfOk result (λ answer. answer.status ≡ 1) }
 {
     let text = format!(in alloc; "{fault}")?;

@@ -2,12 +2,12 @@
 
 ghost use Rattle.std.specs.Prelude.{◌≡◌, ◌≤◌, option_map, string_bytes, IfOk, MatchOption};
 ghost use Rattle.machine_model.specs.Limits.{max_credit};
-ghost use Rattle.bpfrun_core.specs.Answered.{need_of, part_of};
+ghost use Rattle.bpfrun_core.specs.Answered.{need_of, starting_memory};
 ghost use Rattle.bpfrun_core.specs.Lines.{object_line, object_lines, step_line, step_lines};
 ghost use Rattle.bpfrun_core.specs.Traced.{IsTraced, IsUntraced};
 
-use crate::answering::{Asked, need_of};
-use crate::fault::Fault;
+use crate::answering::{RunOptions, need_of};
+use crate::fault::RunFault;
 use crate::reading::{bytes_of, source_of};
 use crate::running::run;
 use machine_model::MAX_PART;
@@ -19,7 +19,7 @@ use std::alloc::Global;
 /// The part of a program at its start: its memory, or else as many zeros as it needs.
 fn part_of(alloc: Global, need: Option<u32>, memory: Option<&[u8]>) -> Result<Vec<u8>, NoMemory>
     ensures { IfOk result (λ part. part.items
-        ≡ part_of need (option_map (λ bytes. bytes.now) memory.entry)) }
+        ≡ starting_memory need (option_map (λ bytes. bytes.now) memory.entry)) }
 {
     match memory {
         Some(memory) => {
@@ -40,7 +40,7 @@ fn part_of(alloc: Global, need: Option<u32>, memory: Option<&[u8]>) -> Result<Ve
 /// has more than 64 bits.
 pub fn trace(
     alloc: Global,
-    asked: &Asked,
+    asked: &RunOptions,
     input: &[u8],
     memory: Option<&[u8]>,
 ) -> Result<Option<Trace>, Unanswered>
@@ -52,7 +52,7 @@ pub fn trace(
 {
     let code = match bytes_of(alloc, asked.form, input) {
         Ok(code) => code,
-        Err(Fault::NoMemory) => return Err(Unanswered::NoMemory),
+        Err(RunFault::NoMemory) => return Err(Unanswered::NoMemory),
         Err(_) => return Ok(None),
     };
     let need = need_of(asked.need, memory);
@@ -64,7 +64,7 @@ pub fn trace(
             let steps = trace_run(alloc, &code, source, &start, asked.arg, asked.credit)?;
             Ok(Some(steps))
         }
-        Err(Fault::NoMemory) => Err(Unanswered::NoMemory),
+        Err(RunFault::NoMemory) => Err(Unanswered::NoMemory),
         Err(_) => Ok(None),
     }
 }

@@ -7,7 +7,7 @@ ghost use Rattle.bpfrun_core.specs.Program.{bpfrun_app};
 ghost use Rattle.bpfrun_core.specs.Requests.{IsMaybeNumber, IsRequestOf, IsBpfrunUsage, SaysRequest};
 ghost use Rattle.machine_model.specs.Limits.{max_credit};
 
-use crate::asked::Request;
+use crate::arguments::RunArguments;
 use crate::program::bpfrun;
 use bpfjobs_cli::Usage;
 use clap::ArgMatches;
@@ -58,12 +58,12 @@ fn flag(matches: &ArgMatches<'_>, id: &str) -> bool
     }
 }
 
-fn request_of<'a>(matches: &ArgMatches<'a>) -> Request<'a>
+fn request_of<'a>(matches: &ArgMatches<'a>) -> RunArguments<'a>
     requires { SaysRequest (rows_of (found_of matches.now)) }
     ensures parts { IsRequestOf (rows_of (found_of matches.now)) result }
     ensures limit { result.credit ≤ max_credit }
 {
-    Request {
+    RunArguments {
         file: file(matches),
         memory: matches.get_str("memory"),
         need: need(matches),
@@ -80,7 +80,7 @@ fn request_of<'a>(matches: &ArgMatches<'a>) -> Request<'a>
 /// What the words ask for, of which the first is the program's name: each part of it is the value
 /// that clap's matches of the words give. Words that clap takes are refused only for want of
 /// memory.
-pub fn request<'a>(alloc: Global, words: &'a [String]) -> Result<Request<'a>, Usage>
+pub fn request<'a>(alloc: Global, words: &'a [String]) -> Result<RunArguments<'a>, Usage>
     ensures ok { IfOk result
         (λ request. IsRequestOf (matches_of bpfrun_app (map string_bytes words.now)) request) }
     ensures limit { IfOk result (λ request. request.credit ≤ max_credit) }

@@ -6,16 +6,16 @@ use Rattle.run_trace.specs.StepTexts.{job_step_text}
 use Rattle.run_trace.specs.StepObjects.{job_step_object}
 
 -- the line of a step
-unfoldable pub step_line : JobStep → List ℕ
-step_line step = job_step_text step ++ codes "\n"
+unfoldable pub job_step_line : JobStep → List ℕ
+job_step_line step = job_step_text step ++ codes "\n"
 
 -- a line for each step
-abbrev pub step_lines : List JobStep → List ℕ
-step_lines steps = flat_map step_line steps
+abbrev pub job_step_lines : List JobStep → List ℕ
+job_step_lines steps = flat_map job_step_line steps
 
 -- the object of a step, on a line
-unfoldable pub object_line : JobStep → List ℕ
-object_line step = job_step_object step ++ codes "\n"
+unfoldable pub job_object_line : JobStep → List ℕ
+job_object_line step = job_step_object step ++ codes "\n"
 
-abbrev pub object_lines : List JobStep → List ℕ
-object_lines steps = flat_map object_line steps
+abbrev pub job_object_lines : List JobStep → List ℕ
+job_object_lines steps = flat_map job_object_line steps

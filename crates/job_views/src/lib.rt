@@ -3,9 +3,9 @@
 #![tactic(auto)]
 
 // the job that the input says, as the definitions have it
-mod order;
+mod requested_job;
 
-pub use order::{JobOrder, ordered};
+pub use requested_job::{RequestedJob, requested_job};
 
 // its steps and its tree
 mod views;

@@ -3,9 +3,9 @@
 ghost use Rattle.std.specs.Prelude.{◌≡◌, map, IfOk, MatchOption};
 ghost use Rattle.reference.specs.Records.{move_of};
 ghost use Rattle.reference.specs.Evaluating.{finished_of};
-ghost use Rattle.job_views.specs.Shown.{AreStepsPlayed, HasNoSteps, HasNoTree, IsTreeRun, taken};
+ghost use Rattle.job_views.specs.Shown.{AreStepsPlayed, HasNoSteps, HasNoTree, IsTreeRun, taken_move};
 
-use crate::order::{JobOrder, ordered};
+use crate::requested_job::{RequestedJob, requested_job};
 use reference::{ReferenceMove, Unanswered};
 use refusal::NoMemory;
 use run_trace::{JobStep, Tree, trace_job, tree_of};
@@ -13,7 +13,7 @@ use std::alloc::Global;
 
 /// The entries of a schedule, at which no spawn is refused.
 fn moves_of(alloc: Global, schedule: &[u32]) -> Result<Vec<ReferenceMove>, NoMemory>
-    ensures { IfOk result (λ moves. map move_of moves.items ≡ map taken schedule.now) }
+    ensures { IfOk result (λ moves. map move_of moves.items ≡ map taken_move schedule.now) }
 {
     let mut moves = Vec::new(alloc);
     for number in schedule {
@@ -32,15 +32,15 @@ pub fn steps_of(alloc: Global, input: &[u8]) -> Result<Option<Vec<JobStep>>, Una
     ensures { IfOk result (λ told. MatchOption told (HasNoSteps input.now)
         (λ steps. AreStepsPlayed input.now steps.items)) }
 {
-    let Some(order) = ordered(alloc, input, true)? else {
+    let Some(job) = requested_job(alloc, input, true)? else {
         return Ok(None);
     };
-    let JobOrder {
+    let RequestedJob {
         programs,
         credit,
         buffer,
         schedule,
-    } = order;
+    } = job;
     let moves = moves_of(alloc, &schedule)?;
     trace_job(alloc, &programs, credit, buffer, &moves)
 }
@@ -52,14 +52,14 @@ pub fn tree_in(alloc: Global, input: &[u8]) -> Result<Option<Tree>, Unanswered>
     ensures { IfOk result (λ found. MatchOption found (HasNoTree input.now)
         (λ tree. IsTreeRun input.now (map finished_of tree.tasks.items))) }
 {
-    let Some(order) = ordered(alloc, input, false)? else {
+    let Some(job) = requested_job(alloc, input, false)? else {
         return Ok(None);
     };
-    let JobOrder {
+    let RequestedJob {
         programs,
         credit,
         buffer,
         ..
-    } = order;
+    } = job;
     tree_of(alloc, &programs, credit, buffer)
 }

@@ -6,29 +6,29 @@ use Rattle.machine_model.specs.Value.{Registers}
 use Rattle.reference.specs.declared.records.Content.{Content}
 use Rattle.reference.specs.declared.records.Content.TheVariants as content
 use Rattle.reference.specs.Records.{registers_of, value_of}
-use Rattle.run_trace.specs.declared.step.Change.{Change}
+use Rattle.run_trace.specs.declared.step.RegisterChange.{RegisterChange}
 use Rattle.run_trace.specs.Steps.{AreChanges}
 
-nothing : (c : Change) → None ≡ Some c → ⊥
+nothing : (c : RegisterChange) → None ≡ Some c → ⊥
 nothing c e = cc
 
-push_cases : (xs : List Change) (x c : Change) (k : ℕ) → slice_get (xs ++ x ∷ []) k ≡ Some c → (slice_get xs k ≡ Some c) ⊎ (x ≡ c)
+push_cases : (xs : List RegisterChange) (x c : RegisterChange) (k : ℕ) → slice_get (xs ++ x ∷ []) k ≡ Some c → (slice_get xs k ≡ Some c) ⊎ (x ≡ c)
 push_cases [] x c zero e = inr (cc)
 push_cases [] x c (suc k) e = absurd (nothing c e)
 push_cases (y ∷ xs) x c zero e = inl e
 push_cases (y ∷ xs) x c (suc k) e = push_cases xs x c k e
 
-push_last : (xs : List Change) (x : Change) → slice_get (xs ++ x ∷ []) (length xs) ≡ Some x
+push_last : (xs : List RegisterChange) (x : RegisterChange) → slice_get (xs ++ x ∷ []) (length xs) ≡ Some x
 push_last [] x = refl
 push_last (y ∷ xs) x = push_last xs x
 
-push_old : (xs : List Change) (x c : Change) (k : ℕ) → slice_get xs k ≡ Some c → slice_get (xs ++ x ∷ []) k ≡ Some c
+push_old : (xs : List RegisterChange) (x c : RegisterChange) (k : ℕ) → slice_get xs k ≡ Some c → slice_get (xs ++ x ∷ []) k ≡ Some c
 push_old [] x c k e = absurd (nothing c e)
 push_old (y ∷ xs) x c zero e = e
 push_old (y ∷ xs) x c (suc k) e = push_old xs x c k e
 
 -- the one behind the others, or one of these
-push_places : (xs : List Change) (x c : Change) (k : ℕ) → slice_get (xs ++ x ∷ []) k ≡ Some c →
+push_places : (xs : List RegisterChange) (x c : RegisterChange) (k : ℕ) → slice_get (xs ++ x ∷ []) k ≡ Some c →
     ((k < length xs) × (slice_get xs k ≡ Some c)) ⊎ ((k ≡ length xs) × (x ≡ c))
 push_places [] x c zero e = inr (refl, cc)
 push_places [] x c (suc k) e = absurd (nothing c e)
@@ -39,20 +39,20 @@ push_places (y ∷ xs) x c (suc k) e = elim (push_places xs x c k e) [
 ]
 
 -- what is told of the registers below n
-pub record AreTold (old new : Registers) (changes : List Change) (n : ℕ) : Type 0 where
-  pub told : (k : ℕ) (c : Change) → slice_get changes k ≡ Some c → (new c.register ≡ value_of c.content) × (old c.register ≢ new c.register)
-  pub others : (r : ℕ) → r < n → ((k : ℕ) (c : Change) → slice_get changes k ≡ Some c → c.register ≢ r) → new r ≡ old r
-  pub below : (k : ℕ) (c : Change) → slice_get changes k ≡ Some c → c.register < n
-  pub rising : (j k : ℕ) (c d : Change) → j < k → slice_get changes j ≡ Some c → slice_get changes k ≡ Some d → c.register < d.register
+pub record AreTold (old new : Registers) (changes : List RegisterChange) (n : ℕ) : Type 0 where
+  pub told : (k : ℕ) (c : RegisterChange) → slice_get changes k ≡ Some c → (new c.register ≡ value_of c.content) × (old c.register ≢ new c.register)
+  pub others : (r : ℕ) → r < n → ((k : ℕ) (c : RegisterChange) → slice_get changes k ≡ Some c → c.register ≢ r) → new r ≡ old r
+  pub below : (k : ℕ) (c : RegisterChange) → slice_get changes k ≡ Some c → c.register < n
+  pub rising : (j k : ℕ) (c d : RegisterChange) → j < k → slice_get changes j ≡ Some c → slice_get changes k ≡ Some d → c.register < d.register
 
-pub told_more : (old new : Registers) (changes : List Change) (n : ℕ) (x : Change) → x.register ≡ n → new n ≡ value_of x.content → old n ≢ new n →
+pub told_more : (old new : Registers) (changes : List RegisterChange) (n : ℕ) (x : RegisterChange) → x.register ≡ n → new n ≡ value_of x.content → old n ≢ new n →
     AreTold old new changes n → AreTold old new (changes ++ x ∷ []) (n + 1)
 told_more old new changes n x at holds other t = record {
   told = λ k c e. elim (push_cases changes x c k e) [
     | inl before ↦ t.told k c before
     | inr same ↦ (
-      ap new (sym (ap (λ (d : Change). d.register) same) ∙ at) ∙ (holds ∙ ap (λ (d : Change). value_of d.content) same),
-      λ equal. other (ap old (sym at ∙ ap (λ (d : Change). d.register) same) ∙ (equal ∙ ap new (sym (ap (λ (d : Change). d.register) same) ∙ at))),
+      ap new (sym (ap (λ (d : RegisterChange). d.register) same) ∙ at) ∙ (holds ∙ ap (λ (d : RegisterChange). value_of d.content) same),
+      λ equal. other (ap old (sym at ∙ ap (λ (d : RegisterChange). d.register) same) ∙ (equal ∙ ap new (sym (ap (λ (d : RegisterChange). d.register) same) ∙ at))),
     )
   ];
   others = λ r lt none. elim (cases_lt r n) [
@@ -61,13 +61,13 @@ told_more old new changes n x at holds other t = record {
   ];
   below = λ k c e. elim (push_cases changes x c k e) [
     | inl before ↦ let lt = t.below k c before in omega (arith, lt)
-    | inr same ↦ let is : c.register ≡ n = sym (ap (λ (d : Change). d.register) same) ∙ at in omega (arith, is)
+    | inr same ↦ let is : c.register ≡ n = sym (ap (λ (d : RegisterChange). d.register) same) ∙ at in omega (arith, is)
   ];
   rising = λ j k c d lt one two. elim (push_places changes x c j one) [
     | inl first ↦ elim (push_cases changes x d k two) [
       | inl before ↦ t.rising j k c d lt first.1 before
       | inr same ↦
-          let is : d.register ≡ n = sym (ap (λ (e : Change). e.register) same) ∙ at in
+          let is : d.register ≡ n = sym (ap (λ (e : RegisterChange). e.register) same) ∙ at in
           let low = t.below j c first.1 in
           omega (arith, is, low)
     ]
@@ -78,7 +78,7 @@ told_more old new changes n x at holds other t = record {
   ];
 }
 
-pub told_same : (old new : Registers) (changes : List Change) (n : ℕ) → new n ≡ old n → AreTold old new changes n → AreTold old new changes (n + 1)
+pub told_same : (old new : Registers) (changes : List RegisterChange) (n : ℕ) → new n ≡ old n → AreTold old new changes n → AreTold old new changes (n + 1)
 told_same old new changes n same t = record {
   told = t.told;
   others = λ r lt none. elim (cases_lt r n) [
@@ -111,7 +111,7 @@ alike (content.Part j) (content.Part k) e = let same : j ≡ k = cc in ap conten
 outside : (old new : List Content) (r : ℕ) → length old ≤ r → length new ≤ r → registers_of new r ≡ registers_of old r
 outside old new r long longer = ap value_of (get_or_past new r content.Unset longer ∙ sym (get_or_past old r content.Unset long))
 
-pub told_all : (old new : List Content) (changes : List Change) (n : ℕ) → length old ≡ 11 → length new ≡ 11 → 11 ≤ n → AreTold (registers_of old) (registers_of new) changes n →
+pub told_all : (old new : List Content) (changes : List RegisterChange) (n : ℕ) → length old ≡ 11 → length new ≡ 11 → 11 ≤ n → AreTold (registers_of old) (registers_of new) changes n →
     AreChanges (registers_of old) (registers_of new) changes
 told_all old new changes n before after all t = record {
   told = t.told;

@@ -12,7 +12,7 @@ use Rattle.reference.specs.Records.{FarOn, FarWithin, GoesFar}
 use Rattle.run_trace.specs.declared.step.Step.{Step}
 use Rattle.run_trace.specs.Steps.{IsStep}
 use Rattle.run_trace.specs.Traces.{AreSteps, LeadBy, unanswered}
-use Rattle.run_trace.specs.Following.{Ending, IsReference}
+use Rattle.run_trace.specs.Following.{ReachesEnd, IsReference}
 
 pub lead_on : (p : Program) (placed : List Placed) (lines : List (ℕ × List ℕ)) (s t next : State) (steps : List Step) (step : Step) → LeadBy p placed lines s steps t →
     effect p no_entries t ≡ Continues next → IsStep placed lines t step next → LeadBy p placed lines s (steps ++ step ∷ []) next
@@ -33,13 +33,13 @@ lead_end p placed lines s t last steps step r0 leads ends told = record {
   told = told;
 }
 
-module _ (p : Program) (s : State) (ending : Ending p s) where
+module _ (p : Program) (s : State) (ending : ReachesEnd p s) where
   follows_by : (n : ℕ) → EndsWithin p unanswered ending.r0 ending.last n s → (e : Effect) → effect p no_entries s ≡ e →
       (k : ℕ) × Follows unanswered (EndsWithin p unanswered ending.r0 ending.last k) ending.r0 ending.last e
   follows_by zero ends e is = absurd ends
   follows_by (suc n) ends e is = (n, subst (Follows unanswered (EndsWithin p unanswered ending.r0 ending.last n) ending.r0 ending.last) is ends)
 
-  pub ending_on : (next : State) → effect p no_entries s ≡ Continues next → Ending p next
+  pub ending_on : (next : State) → effect p no_entries s ≡ Continues next → ReachesEnd p next
   ending_on next is =
       let f = follows_by ending.steps ending.ends (Continues next) is in
       record { steps = f.0; r0 = ending.r0; last = ending.last; ends = f.1 }
@@ -102,7 +102,7 @@ pub far_here : (p : Program) (s : State) → (4294967296 ≤ s.slot) ⊎ GoesFar
 far_here p s far = elim far [ inl past ↦ inl past | inr goes ↦ inr (inl goes) ]
 
 -- where the task goes on, an instruction of the list begins
-pub begins_in : (placed : List Placed) (p : Program) (s t : State) → IsReference placed p → Ending p s → t ≡ s →
+pub begins_in : (placed : List Placed) (p : Program) (s t : State) → IsReference placed p → ReachesEnd p s → t ≡ s →
     (i : Insn) × (insn_at (code_of placed) t.slot ≡ Some i)
 begins_in placed p s t reference ending same =
     let b = begins p s ending in

@@ -18,7 +18,7 @@ use Rattle.reference.specs.Records.{member_of, move_of, program_of, task_of}
 use Rattle.run_trace.specs.declared.job_programs.JobPrograms.{JobPrograms}
 use Rattle.run_trace.specs.declared.job_programs.Listed.{Listed}
 use Rattle.run_trace.specs.Spelled.{AreListed, listings_of, programs_of}
-use Rattle.run_trace.specs.JobSteps.{AreStepsOf, AreTold, IsToldOf, Tells, listed}
+use Rattle.run_trace.specs.JobSteps.{AreStepsOf, AreJobSteps, IsStepIfAlive, TellsEffect, listed_step}
 use Rattle.run_trace.specs.JobTelling.{IsEffectIn, IsToldBy, Stops}
 
 -- what an instruction leaves of the part: as many bytes, but where a spawn is taken
@@ -59,16 +59,16 @@ begins_in placed s t e h goes at = go (insn_at h.program.code s.slot) refl
 
 -- one entry more is told
 pub told_more : (listings : List (List Placed)) (programs : List Program) (moves : List Move) (j k l : JobState) (move : Move) (steps : List JobStep) (told : Option JobStep) →
-    AreTold listings programs j moves steps k → step programs k move.number move.refuses ≡ Some l → IsToldOf listings programs k move told →
-    AreTold listings programs j (moves ++ move ∷ []) (steps ++ listed told) l
+    AreJobSteps listings programs j moves steps k → step programs k move.number move.refuses ≡ Some l → IsStepIfAlive listings programs k move told →
+    AreJobSteps listings programs j (moves ++ move ∷ []) (steps ++ listed_step told) l
 told_more listings programs [] j k l move steps told before goes is = (
   l,
   subst (λ (x : JobState). step programs x move.number move.refuses ≡ Some l) (sym before.1) goes,
   (
     told,
     [],
-    subst (λ (x : JobState). IsToldOf listings programs x move told) (sym before.1) is,
-    ap (λ (xs : List JobStep). xs ++ listed told) before.0 ∙ with_nothing (listed told),
+    subst (λ (x : JobState). IsStepIfAlive listings programs x move told) (sym before.1) is,
+    ap (λ (xs : List JobStep). xs ++ listed_step told) before.0 ∙ with_nothing (listed_step told),
     (refl, refl),
   ),
 )
@@ -81,9 +81,9 @@ told_more listings programs (first ∷ moves) j k l move steps told (next, went,
   went,
   (
     one,
-    rest ++ listed told,
+    rest ++ listed_step told,
     is_one,
-    ap (λ (xs : List JobStep). xs ++ listed told) parts ∙ assoc (listed one) rest (listed told),
+    ap (λ (xs : List JobStep). xs ++ listed_step told) parts ∙ assoc (listed_step one) rest (listed_step told),
     told_more listings programs moves next k l move rest told later goes is,
   ),
 )
@@ -128,7 +128,7 @@ module _ (programs : List Program) (j : JobState) (n : ℕ) (refuses : Bool) (t 
   pub told_by : (listings : List (List Placed)) (p : Program) (placed : List Placed) (s : State) (e : Effect) (count : ℕ) (told : Option JobStep) →
       slice_get programs t.program ≡ Some p → slice_get listings t.program ≡ Some placed → count ≡ length j.tasks → s ≡ state_in j.buffer t →
       e ≡ effect p (entries_of programs) (state_in j.buffer t) → IsToldBy placed n count refuses s told e → (next : JobState) →
-      step programs j n refuses ≡ Some next → IsToldOf listings programs j (record { number = n; refuses = refuses }) told
+      step programs j n refuses ≡ Some next → IsStepIfAlive listings programs j (record { number = n; refuses = refuses }) told
   told_by listings p placed s e count None there listing many same is by next goes =
       absurd (stops_here j n t refuses e next by (ap (applied j n t refuses) is ∙ (sym (live_step (Some p) there) ∙ goes)))
   told_by listings p placed s e count (Some told) there listing many same is by next goes = record {
@@ -139,9 +139,9 @@ module _ (programs : List Program) (j : JobState) (n : ℕ) (refuses : Bool) (t 
     has_program = there;
     placed = placed;
     has_listing = listing;
-    tells = subst (λ (x : Effect). Tells placed (length j.tasks) refuses (state_in j.buffer t) told x) is
-        (subst (λ (x : State). Tells placed (length j.tasks) refuses x told e) same
-        (subst (λ (k : ℕ). Tells placed k refuses s told e) many by.1));
+    tells = subst (λ (x : Effect). TellsEffect placed (length j.tasks) refuses (state_in j.buffer t) told x) is
+        (subst (λ (x : State). TellsEffect placed (length j.tasks) refuses x told e) same
+        (subst (λ (k : ℕ). TellsEffect placed k refuses s told e) many by.1));
   }
 
 pub next_taken : (moves : List ReferenceMove) (i : ℕ) (m : ReferenceMove) → slice_get moves i ≡ Some m →
@@ -152,24 +152,24 @@ next_taken (x ∷ xs) (suc i) m e = ap (λ (ms : List Move). move_of x ∷ ms) (
 
 -- the steps of a beginning of the moves, with those of one move more
 pub told_next : (listings : List (List Placed)) (programs : List Program) (moves : List ReferenceMove) (i : ℕ) (m : ReferenceMove) (j k l : JobState) (steps more : List JobStep)
-    (told : Option JobStep) → slice_get moves i ≡ Some m → AreTold listings programs j (take i (map move_of moves)) steps k →
-    step programs k m.number m.refuses ≡ Some l → IsToldOf listings programs k (move_of m) told → more ≡ steps ++ listed told →
-    AreTold listings programs j (take (i + 1) (map move_of moves)) more l
+    (told : Option JobStep) → slice_get moves i ≡ Some m → AreJobSteps listings programs j (take i (map move_of moves)) steps k →
+    step programs k m.number m.refuses ≡ Some l → IsStepIfAlive listings programs k (move_of m) told → more ≡ steps ++ listed_step told →
+    AreJobSteps listings programs j (take (i + 1) (map move_of moves)) more l
 told_next listings programs moves i m j k l steps more told here before goes is same =
-    subst (λ (ms : List Move). AreTold listings programs j ms more l) (sym (next_taken moves i m here) ∙ ap (λ n. take n (map move_of moves)) (sym (add-one i)))
-    (subst (λ (xs : List JobStep). AreTold listings programs j (take i (map move_of moves) ++ move_of m ∷ []) xs l) (sym same)
+    subst (λ (ms : List Move). AreJobSteps listings programs j ms more l) (sym (next_taken moves i m here) ∙ ap (λ n. take n (map move_of moves)) (sym (add-one i)))
+    (subst (λ (xs : List JobStep). AreJobSteps listings programs j (take i (map move_of moves) ++ move_of m ∷ []) xs l) (sym same)
     (told_more listings programs (take i (map move_of moves)) j k l (move_of m) steps told before goes is))
 
 -- all of the moves
 pub told_whole : (listings : List (List Placed)) (programs : List Program) (moves : List ReferenceMove) (i : ℕ) (j k : JobState) (steps : List JobStep) →
-    length moves ≤ i → run programs j (take i (map move_of moves)) ≡ Some k → AreTold listings programs j (take i (map move_of moves)) steps k →
+    length moves ≤ i → run programs j (take i (map move_of moves)) ≡ Some k → AreJobSteps listings programs j (take i (map move_of moves)) steps k →
     AreStepsOf listings programs j (map move_of moves) steps
 told_whole listings programs moves i j k steps all runs told =
     let same : take i (map move_of moves) ≡ map move_of moves = all_taken moves i all in
     record {
       last = k;
       runs = subst (λ (ms : List Move). run programs j ms ≡ Some k) same runs;
-      told = subst (λ (ms : List Move). AreTold listings programs j ms steps k) same told;
+      told = subst (λ (ms : List Move). AreJobSteps listings programs j ms steps k) same told;
     }
   where
     all_taken : (ms : List ReferenceMove) (n : ℕ) → length ms ≤ n → take n (map move_of ms) ≡ map move_of ms

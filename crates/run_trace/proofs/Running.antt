@@ -13,7 +13,7 @@ use Rattle.verifier.specs.Refusals.{HasFlow, IsAccepted}
 use Rattle.verifier.proofs.OneVerdict.{one_program}
 use Rattle.explain.specs.Lines.{lines_in}
 use Rattle.run_trace.specs.declared.tracing.Trace.{Trace}
-use Rattle.run_trace.specs.Following.{Ending, FollowsTo, IsReference}
+use Rattle.run_trace.specs.Following.{ReachesEnd, FollowsTo, IsReference}
 use Rattle.run_trace.specs.Traces.{AreSteps, IsTrace, unanswered}
 use Rattle.run_trace.proofs.SameEffect.{same_effect, same_end}
 use Rattle.run_trace.proofs.SameTrace.{far_same, steps_same}
@@ -33,7 +33,7 @@ module _ (need : ℕ) (bytes : List ℕ) (v : Checked) (placed : List Placed) (a
     back : (s : State) → effect p no_entries s ≡ effect (program_of v) no_entries s
     back s = sym (alike s)
 
-    pub ending_of : (s : State) (r0 : ℕ) (last : State) (n : ℕ) → EndsWithin (program_of v) unanswered r0 last n s → Ending p s
+    pub ending_of : (s : State) (r0 : ℕ) (last : State) (n : ℕ) → EndsWithin (program_of v) unanswered r0 last n s → ReachesEnd p s
     ending_of s r0 last n ends = record {
       steps = n;
       r0 = r0;

@@ -14,7 +14,7 @@ pub record IsReference (placed : List Placed) (p : Program) : Type 0 where
   pub registered : (helper : ℕ) → p.registered helper ≡ arity_in job_table helper
 
 -- the task ends
-pub record Ending (p : Program) (s : State) : Type 0 where
+pub record ReachesEnd (p : Program) (s : State) : Type 0 where
   pub steps : ℕ
   pub r0 : ℕ
   pub last : State

@@ -20,18 +20,18 @@ born_as number birth = record {
 
 -- What a step tells of an effect on a task in this state, in a job of so many tasks. A task that
 -- spawns has handed over the last bytes of its part: of those that it keeps none changes.
-abbrev pub Tells : List Placed → ℕ → Bool → State → JobStep → Effect → Type 0
-Tells placed count refuses s told (Continues next) =
-    IsStep placed [] s told.step next × (told.came ≡ came.Went)
-Tells placed count refuses s told (Ends r0 last) =
+abbrev pub TellsEffect : List Placed → ℕ → Bool → State → JobStep → Effect → Type 0
+TellsEffect placed count refuses s told (Continues next) =
+    IsStep placed [] s told.step next × (told.came ≡ came.Continued)
+TellsEffect placed count refuses s told (Ends r0 last) =
     IsStep placed [] s told.step last × (told.came ≡ came.Ended r0)
-Tells placed count true s told (Spawns birth taken refused) =
-    IsStep placed [] s told.step refused × (told.came ≡ came.Went)
-Tells placed count false s told (Spawns birth taken refused) =
+TellsEffect placed count true s told (Spawns birth taken refused) =
+    IsStep placed [] s told.step refused × (told.came ≡ came.Continued)
+TellsEffect placed count false s told (Spawns birth taken refused) =
     IsStep placed [] (record s { part = taken.part }) told.step taken
     × (told.came ≡ came.Spawned (born_as count birth))
-Tells placed count refuses s told (Calls helper arguments caller) = ⊥
-Tells placed count refuses s told (Traps trap) = ⊥
+TellsEffect placed count refuses s told (Calls helper arguments caller) = ⊥
+TellsEffect placed count refuses s told (Traps trap) = ⊥
 
 -- The number is that of a live task, and told is what its program's instruction does to it.
 pub record IsJobStep (listings : List (List Placed)) (programs : List Program) (j : JobState)
@@ -43,30 +43,31 @@ pub record IsJobStep (listings : List (List Placed)) (programs : List Program) (
   pub has_program : slice_get programs task.program ≡ Some program
   pub placed : List Placed
   pub has_listing : slice_get listings task.program ≡ Some placed
-  pub tells : Tells placed (length j.tasks) move.refuses (state_in j.buffer task) told
+  pub tells : TellsEffect placed (length j.tasks) move.refuses (state_in j.buffer task) told
       (effect program (entries_of programs) (state_in j.buffer task))
 
 -- what is told of an entry of a schedule: nothing where its number is that of no live task
-abbrev pub IsToldOf : List (List Placed) → List Program → JobState → Move → Option JobStep → Type 0
-IsToldOf listings programs j move None = IsAlive j move.number → ⊥
-IsToldOf listings programs j move (Some told) = IsJobStep listings programs j move told
+abbrev pub IsStepIfAlive : List (List Placed) → List Program → JobState → Move → Option JobStep
+    → Type 0
+IsStepIfAlive listings programs j move None = IsAlive j move.number → ⊥
+IsStepIfAlive listings programs j move (Some told) = IsJobStep listings programs j move told
 
-abbrev pub listed : Option JobStep → List JobStep
-listed None = []
-listed (Some told) = told ∷ []
+abbrev pub listed_step : Option JobStep → List JobStep
+listed_step None = []
+listed_step (Some told) = told ∷ []
 
 -- The steps are those of a job along these entries, in their order, from one job to another.
-abbrev pub AreTold : List (List Placed) → List Program → JobState → List Move → List JobStep
+abbrev pub AreJobSteps : List (List Placed) → List Program → JobState → List Move → List JobStep
     → JobState → Type 0
-AreTold listings programs j [] steps last = (steps ≡ []) × (j ≡ last)
-AreTold listings programs j (move ∷ moves) steps last =
+AreJobSteps listings programs j [] steps last = (steps ≡ []) × (j ≡ last)
+AreJobSteps listings programs j (move ∷ moves) steps last =
     (next : JobState) × (step programs j move.number move.refuses ≡ Some next)
-    × ((told : Option JobStep) × (rest : List JobStep) × IsToldOf listings programs j move told
-    × (steps ≡ listed told ++ rest) × AreTold listings programs next moves rest last)
+    × ((told : Option JobStep) × (rest : List JobStep) × IsStepIfAlive listings programs j move told
+    × (steps ≡ listed_step told ++ rest) × AreJobSteps listings programs next moves rest last)
 
 -- The run over the entries leads to a job, and the steps are those on the way.
 pub record AreStepsOf (listings : List (List Placed)) (programs : List Program) (j : JobState)
     (moves : List Move) (steps : List JobStep) : Type 0 where
   pub last : JobState
   pub runs : run programs j moves ≡ Some last
-  pub told : AreTold listings programs j moves steps last
+  pub told : AreJobSteps listings programs j moves steps last

@@ -4,7 +4,7 @@ use Rattle.insn_codec.specs.declared.insn.Placed.{Placed}
 use Rattle.flow_graph.specs.Program.{code_of}
 use Rattle.machine_model.specs.Machine.{State, Program, Entries, Effect, Continues, Ends, Spawns, Calls, Traps, effect}
 use Rattle.run_trace.specs.declared.job_step.JobStep.{JobStep}
-use Rattle.run_trace.specs.JobSteps.{Tells}
+use Rattle.run_trace.specs.JobSteps.{TellsEffect}
 
 -- the effect of an instruction of this list on a task in this state
 pub record IsEffectIn (placed : List Placed) (s : State) (e : Effect) : Type 0 where
@@ -25,4 +25,4 @@ Stops (Traps trap) = Unit {0}
 abbrev pub IsToldBy : List Placed → ℕ → ℕ → Bool → State → Option JobStep → Effect → Type 0
 IsToldBy placed number count refuses s None e = Stops e
 IsToldBy placed number count refuses s (Some told) e =
-    (told.task ≡ number) × Tells placed count refuses s told e
+    (told.task ≡ number) × TellsEffect placed count refuses s told e

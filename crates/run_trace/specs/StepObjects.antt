@@ -4,11 +4,11 @@ use Rattle.std.specs.Fmt.{decimal}
 use Rattle.std.specs.List.{flat_map}
 use Rattle.run_trace.specs.Texts.{content_text}
 use Rattle.run_trace.specs.StepTexts.{hex_text}
-use Rattle.run_trace.specs.declared.step.Change.{Change}
+use Rattle.run_trace.specs.declared.step.RegisterChange.{RegisterChange}
 use Rattle.run_trace.specs.declared.step.Step.{Step}
-use Rattle.run_trace.specs.declared.step.Written.{Written}
+use Rattle.run_trace.specs.declared.step.ChangedBytes.{ChangedBytes}
 use Rattle.run_trace.specs.declared.job_step.Came.{Came}
-use Rattle.run_trace.specs.declared.job_step.Came.TheVariants.{Went, Ended, Spawned}
+use Rattle.run_trace.specs.declared.job_step.Came.TheVariants.{Continued, Ended, Spawned}
 use Rattle.run_trace.specs.declared.job_step.JobStep.{JobStep}
 
 -- the line of the source text, if one is told
@@ -17,21 +17,21 @@ line_member None = []
 line_member (Some line) = codes ",\"line\":" ++ decimal line
 
 -- a register, and what it holds
-abbrev pub register_member : Change → List ℕ
+abbrev pub register_member : RegisterChange → List ℕ
 register_member change = codes "\"r" ++ (decimal change.register ++ (codes "\":\""
     ++ (content_text change.content ++ codes "\"")))
 
 -- registers behind the first, each behind a comma
-abbrev pub further_members : List Change → List ℕ
+abbrev pub further_members : List RegisterChange → List ℕ
 further_members changes = flat_map (λ change. codes "," ++ register_member change) changes
 
 -- the registers that changed, with a comma between two
-abbrev pub register_members : List Change → List ℕ
+abbrev pub register_members : List RegisterChange → List ℕ
 register_members [] = []
 register_members (first ∷ more) = register_member first ++ further_members more
 
 -- where bytes of this region changed, if any did, and these bytes
-abbrev pub region_member : List ℕ → Option Written → List ℕ
+abbrev pub region_member : List ℕ → Option ChangedBytes → List ℕ
 region_member name None = []
 region_member name (Some w) = codes ",\"" ++ (name ++ (codes "\":{\"at\":" ++ (decimal w.at
     ++ (codes ",\"bytes\":\"" ++ (hex_text w.bytes.items ++ codes "\"}")))))
@@ -54,7 +54,7 @@ step_object step = codes "{" ++ (step_members step ++ codes "}")
 
 -- what a step of a job led to, as a member
 abbrev pub outcome_member : Came → List ℕ
-outcome_member Went = []
+outcome_member Continued = []
 outcome_member (Ended r0) = codes ",\"r0\":" ++ decimal r0
 outcome_member (Spawned born) = codes ",\"spawned\":{\"task\":" ++ (decimal born.number
     ++ (codes ",\"program\":" ++ (decimal born.program ++ (codes ",\"share\":"

@@ -2,14 +2,14 @@
 use Rattle.std.specs.Prelude.{ℕ, ◌/◌, ◌%◌, false, List, [], ◌∷◌, ◌++◌, codes, Option, Some, None}
 use Rattle.std.specs.Fmt.{decimal, digit_glyph}
 use Rattle.std.specs.List.{flat_map}
-use Rattle.explain.specs.Texts.{place_text}
+use Rattle.explain.specs.Texts.{instruction_place_text}
 use Rattle.run_trace.specs.Texts.{change_text}
-use Rattle.run_trace.specs.declared.step.Change.{Change}
+use Rattle.run_trace.specs.declared.step.RegisterChange.{RegisterChange}
 use Rattle.run_trace.specs.declared.step.Step.{Step}
-use Rattle.run_trace.specs.declared.step.Written.{Written}
+use Rattle.run_trace.specs.declared.step.ChangedBytes.{ChangedBytes}
 use Rattle.run_trace.specs.declared.job_step.Born.{Born}
 use Rattle.run_trace.specs.declared.job_step.Came.{Came}
-use Rattle.run_trace.specs.declared.job_step.Came.TheVariants.{Went, Ended, Spawned}
+use Rattle.run_trace.specs.declared.job_step.Came.TheVariants.{Continued, Ended, Spawned}
 use Rattle.run_trace.specs.declared.job_step.JobStep.{JobStep}
 
 -- a byte in hexadecimal
@@ -20,21 +20,22 @@ abbrev pub hex_text : List ℕ → List ℕ
 hex_text bytes = flat_map hex_byte bytes
 
 -- the place of the bytes in their region, and the bytes
-abbrev pub written_text : Written → List ℕ
+abbrev pub written_text : ChangedBytes → List ℕ
 written_text w = codes "+" ++ (decimal w.at ++ (codes " " ++ hex_text w.bytes.items))
 
 -- each register that changed, and what it holds
-abbrev pub changes_text : List Change → List ℕ
+abbrev pub changes_text : List RegisterChange → List ℕ
 changes_text changes = flat_map (λ change. change_text change ++ codes ", ") changes
 
 -- the bytes of this region, if any changed
-abbrev pub region_text : List ℕ → Option Written → List ℕ
+abbrev pub region_text : List ℕ → Option ChangedBytes → List ℕ
 region_text name None = []
 region_text name (Some w) = name ++ (written_text w ++ codes ", ")
 
 -- the place of the instruction, what it changed, and what the run has used since
 abbrev pub step_text : Step → List ℕ
-step_text step = place_text step.place ++ (codes " ; " ++ (changes_text step.registers.items
+step_text step = instruction_place_text step.place
+    ++ (codes " ; " ++ (changes_text step.registers.items
     ++ (region_text (codes "stack") step.stack ++ (region_text (codes "part") step.part
     ++ (codes "used " ++ decimal step.used)))))
 
@@ -45,7 +46,7 @@ born_text born = codes "task " ++ (decimal born.number ++ (codes " of program "
 
 -- what a step led to
 abbrev pub came_text : Came → List ℕ
-came_text Went = []
+came_text Continued = []
 came_text (Ended r0) = codes ", ends with " ++ decimal r0
 came_text (Spawned born) = codes ", spawns " ++ born_text born
 

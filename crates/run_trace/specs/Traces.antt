@@ -58,7 +58,7 @@ pub record Runs (code : List ℕ) (arg credit : ℕ) (memory : List ℕ) : Type 
   pub ends : EndsAlone (program_of program) unanswered (entering arg credit memory) r0 last
 
 -- on the run's way a pointer's position has more than 64 bits
-pub record GoesFar (code : List ℕ) (arg credit : ℕ) (memory : List ℕ) : Type 0 where
+pub record RunGoesFar (code : List ℕ) (arg credit : ℕ) (memory : List ℕ) : Type 0 where
   pub need : ℕ
   pub program : Checked
   pub accepted : IsAccepted need code job_table program

@@ -4,7 +4,7 @@ ghost use Rattle.std.specs.Prelude.{◌≡◌, ◌↔◌, ℕ, ◌-◌, ◌≤�
 ghost use Rattle.reference.specs.Records.{registers_of};
 ghost use Rattle.run_trace.specs.Steps.{AreChanges, IsOther, IsRegionAfter, IsSame};
 
-use crate::step::{Change, Written};
+use crate::step::{ChangedBytes, RegisterChange};
 use reference::Content;
 use refusal::NoMemory;
 use std::alloc::Global;
@@ -38,7 +38,7 @@ pub(crate) fn changed_registers(
     alloc: Global,
     before: &[Content; 11],
     after: &[Content; 11],
-) -> Result<Vec<Change>, NoMemory>
+) -> Result<Vec<RegisterChange>, NoMemory>
     ensures { IfOk result (λ changes. AreChanges (registers_of before.now)
         (registers_of after.now) changes.items) }
 {
@@ -46,7 +46,7 @@ pub(crate) fn changed_registers(
     for register in 0u8..11 {
         let content = after[register as usize];
         if !is_same(before[register as usize], content) {
-            changes.push(Change { register, content })?;
+            changes.push(RegisterChange { register, content })?;
         }
     }
     Ok(changes)
@@ -89,7 +89,7 @@ pub(crate) fn changed_bytes(
     alloc: Global,
     before: &[u8],
     after: &[u8],
-) -> Result<Option<Written>, NoMemory>
+) -> Result<Option<ChangedBytes>, NoMemory>
     requires { length before.now ≡ length after.now }
     ensures { IfOk result (λ written. IsRegionAfter before.now after.now written) }
 {
@@ -99,5 +99,5 @@ pub(crate) fn changed_bytes(
     let end = behind_others(before, after, first);
     let mut bytes = Vec::new(alloc);
     bytes.extend_from_slice(&after[first..end])?;
-    Ok(Some(Written { at: first, bytes }))
+    Ok(Some(ChangedBytes { at: first, bytes }))
 }

@@ -3,7 +3,7 @@
 ghost use Rattle.std.specs.Prelude.{◌↔◌, IsTrue};
 ghost use Rattle.run_trace.specs.Ways.{IsOnWay, IsStepOn};
 
-use explain::{Block, Content, Explanation, Picture, Place};
+use explain::{AbsText, Block, Explanation, InstructionPlace, Picture};
 use flow_graph::Next;
 use insn_codec::Register;
 use std::fmt;
@@ -62,9 +62,9 @@ fn is_step(way: &[u32], from: u32, to: u32) -> bool
 
 /// A line for each register that is set.
 #[derive(Clone, Copy)]
-struct Head(Option<State>);
+struct StateLines(Option<State>);
 
-impl fmt::Display for Head {
+impl fmt::Display for StateLines {
     fn fmt<W: fmt::Write>(&self, f: &mut fmt::Formatter<W>) -> fmt::Result {
         let Some(state) = &self.0 else {
             return write!(f, "nothing known{END}");
@@ -73,7 +73,7 @@ impl fmt::Display for Head {
             let known = state.at(Register::new(number));
             match known {
                 Abs::Unset => {}
-                known => write!(f, "r{number} {}{END}", Content(known))?,
+                known => write!(f, "r{number} {}{END}", AbsText(known))?,
             }
         }
         Ok(())
@@ -82,9 +82,9 @@ impl fmt::Display for Head {
 
 /// An instruction's line in its box.
 #[derive(Clone, Copy)]
-struct Row<'a>(&'a Picture, &'a Place);
+struct InstructionRow<'a>(&'a Picture, &'a InstructionPlace);
 
-impl<'a> fmt::Display for Row<'a> {
+impl<'a> fmt::Display for InstructionRow<'a> {
     fn fmt<W: fmt::Write>(&self, f: &mut fmt::Formatter<W>) -> fmt::Result {
         if is_refused(&self.0.why, self.1.slot) {
             write!(f, "<font color=\"red\">{}</font>{END}", self.1)
@@ -94,7 +94,7 @@ impl<'a> fmt::Display for Row<'a> {
     }
 }
 
-/// What stands behind a box's name or an edge's ends to make it red.
+/// The attribute that makes a box or an edge red.
 fn red(is_red: bool) -> &'static str {
     if is_red { ", color=red" } else { "" }
 }
@@ -110,11 +110,11 @@ impl<'a> fmt::Display for BlockBox<'a> {
         write!(
             f,
             "  s{head} [label=<<font color=\"gray40\">cost {cost}{END}{}</font>",
-            Head(block.known)
+            StateLines(block.known)
         )?;
         for index in block.first..block.end {
             if let Some(place) = picture.places.get(index) {
-                write!(f, "{}", Row(picture, place))?;
+                write!(f, "{}", InstructionRow(picture, place))?;
             }
         }
         let on_way = is_on_way(way_in(&picture.why), head);

@@ -17,7 +17,7 @@ pub struct Born {
 #[derive(Clone, Copy, Debug, PartialEq, Eq)]
 pub enum Came {
     /// The task goes on.
-    Went,
+    Continued,
     /// The task ended with R0.
     Ended(u64),
     /// The task goes on beside a child.

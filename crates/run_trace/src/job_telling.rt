@@ -27,7 +27,7 @@ impl fmt::Display for Came {
 
     fn fmt<W: fmt::Write>(&self, f: &mut fmt::Formatter<W>) -> fmt::Result {
         match self {
-            Came::Went => Ok(()),
+            Came::Continued => Ok(()),
             Came::Ended(r0) => write!(f, ", ends with {r0}"),
             Came::Spawned(born) => write!(f, ", spawns {born}"),
         }
@@ -47,9 +47,9 @@ impl fmt::Display for JobStep {
 
 /// What a step led to, as a member.
 #[derive(Clone, Copy)]
-struct Outcome(Came);
+struct CameMember(Came);
 
-impl fmt::Display for Outcome {
+impl fmt::Display for CameMember {
     ghost use Rattle.std.specs.Prelude.{Some};
     ghost use Rattle.run_trace.specs.StepObjects.{outcome_member};
 
@@ -57,7 +57,7 @@ impl fmt::Display for Outcome {
 
     fn fmt<W: fmt::Write>(&self, f: &mut fmt::Formatter<W>) -> fmt::Result {
         match self.0 {
-            Came::Went => Ok(()),
+            Came::Continued => Ok(()),
             Came::Ended(r0) => write!(f, ",\"r0\":{r0}"),
             Came::Spawned(born) => write!(
                 f,
@@ -85,7 +85,7 @@ impl<'a> fmt::Display for JobJson<'a> {
             f,
             "{{\"task\":{},{members}{}}}",
             told.task,
-            Outcome(told.came)
+            CameMember(told.came)
         )
     }
 }

@@ -7,7 +7,7 @@ ghost use Rattle.reference.specs.declared.records.JobMember.TheVariants as membe
 ghost use Rattle.reference.specs.declared.records.Unanswered.TheVariants as untraced;
 ghost use Rattle.flow_graph.specs.Program.{IsDecoded};
 ghost use Rattle.run_trace.specs.Spelled.{AreListed, listings_of, programs_of};
-ghost use Rattle.run_trace.specs.JobSteps.{AreStepsOf, IsToldOf, born_as, listed};
+ghost use Rattle.run_trace.specs.JobSteps.{AreStepsOf, IsStepIfAlive, born_as, listed_step};
 ghost use Rattle.run_trace.specs.JobTelling.{IsEffectIn, IsToldBy};
 
 use crate::job_programs::JobPrograms;
@@ -71,7 +71,7 @@ fn tell(
     match outcome {
         StepOutcome::Continues(next) => {
             let step = step_between(alloc, &listing, before, next)?;
-            let came = Came::Went;
+            let came = Came::Continued;
             Ok(Some(JobStep { task, step, came }))
         }
         StepOutcome::Ends(r0, last) => {
@@ -82,7 +82,7 @@ fn tell(
         StepOutcome::Spawns(child, taken, refused) => {
             if entry.refuses {
                 let step = step_between(alloc, &listing, before, refused)?;
-                let came = Came::Went;
+                let came = Came::Continued;
                 Ok(Some(JobStep { task, step, came }))
             } else {
                 let kept = cut(alloc, before, taken)?;
@@ -104,11 +104,11 @@ fn told_of(
     task: &LiveTask,
     entry: ReferenceMove,
 ) -> Result<Option<JobStep>, Unanswered>
-    requires listed { AreListed (listings_of programs.now) (programs_of programs.now) }
+    requires listed_step { AreListed (listings_of programs.now) (programs_of programs.now) }
     requires alive { slice_get job.now.tasks.items entry.number ≡ Some (member.Live task.now) }
     ensures told { IfOk result (λ told. (next : JobState)
         → step (programs_of programs.now) (job_of job.now) entry.number entry.refuses ≡ Some next
-        → IsToldOf (listings_of programs.now) (programs_of programs.now) (job_of job.now)
+        → IsStepIfAlive (listings_of programs.now) (programs_of programs.now) (job_of job.now)
         (move_of entry) told) }
     ensures far { result ≡ Err untraced.TooLarge
         → IsFarStep (programs_of programs.now) (job_of job.now) entry.number entry.refuses }
@@ -135,10 +135,10 @@ fn told_at(
     job: &ReferenceJob,
     entry: ReferenceMove,
 ) -> Result<Option<JobStep>, Unanswered>
-    requires listed { AreListed (listings_of programs.now) (programs_of programs.now) }
+    requires listed_step { AreListed (listings_of programs.now) (programs_of programs.now) }
     ensures told { IfOk result (λ told. (next : JobState)
         → step (programs_of programs.now) (job_of job.now) entry.number entry.refuses ≡ Some next
-        → IsToldOf (listings_of programs.now) (programs_of programs.now) (job_of job.now)
+        → IsStepIfAlive (listings_of programs.now) (programs_of programs.now) (job_of job.now)
         (move_of entry) told) }
     ensures far { result ≡ Err untraced.TooLarge
         → IsFarStep (programs_of programs.now) (job_of job.now) entry.number entry.refuses }
@@ -154,7 +154,7 @@ fn told_at(
 
 /// The steps with one more, if there is one.
 fn extended(mut steps: Vec<JobStep>, told: Option<JobStep>) -> Result<Vec<JobStep>, NoMemory>
-    ensures { IfOk result (λ more. more.items ≡ steps.items ++ listed told) }
+    ensures { IfOk result (λ more. more.items ≡ steps.items ++ listed_step told) }
 {
     if let Some(step) = told {
         steps.push(step)?;

@@ -1,6 +1,6 @@
 //! Steps as JSON, a line each.
 
-use crate::step::{Change, Step, Written};
+use crate::step::{ChangedBytes, RegisterChange, Step};
 use crate::telling::{Digits, Holding};
 use std::fmt;
 
@@ -10,9 +10,9 @@ pub struct Json<'a>(pub &'a Step);
 
 /// The bytes of a region that were written, as a member.
 #[derive(Clone, Copy)]
-struct Member<'a>(&'a str, &'a Option<Written>);
+struct RegionMember<'a>(&'a str, &'a Option<ChangedBytes>);
 
-impl<'a> fmt::Display for Member<'a> {
+impl<'a> fmt::Display for RegionMember<'a> {
     ghost use Rattle.std.specs.Prelude.{Some};
     ghost use Rattle.run_trace.specs.StepObjects.{region_member};
 
@@ -53,7 +53,7 @@ impl fmt::Display for LineMember {
 
 /// A register that changed, as a member.
 #[derive(Clone, Copy)]
-struct RegisterMember<'a>(&'a Change);
+struct RegisterMember<'a>(&'a RegisterChange);
 
 impl<'a> fmt::Display for RegisterMember<'a> {
     ghost use Rattle.std.specs.Prelude.{Some};
@@ -74,7 +74,7 @@ impl<'a> fmt::Display for RegisterMember<'a> {
 
 /// Members behind the first, each behind a comma.
 #[derive(Clone, Copy)]
-struct FurtherMembers<'a>(&'a [Change]);
+struct FurtherMembers<'a>(&'a [RegisterChange]);
 
 impl<'a> fmt::Display for FurtherMembers<'a> {
     ghost use Rattle.std.specs.Prelude.{Some};
@@ -92,7 +92,7 @@ impl<'a> fmt::Display for FurtherMembers<'a> {
 
 /// The registers that changed, as members.
 #[derive(Clone, Copy)]
-struct RegisterMembers<'a>(&'a [Change]);
+struct RegisterMembers<'a>(&'a [RegisterChange]);
 
 impl<'a> fmt::Display for RegisterMembers<'a> {
     ghost use Rattle.std.specs.Prelude.{Some};
@@ -123,7 +123,10 @@ impl<'a> fmt::Display for Effects<'a> {
     fn fmt<W: fmt::Write>(&self, f: &mut fmt::Formatter<W>) -> fmt::Result {
         let step = self.0;
         let registers = RegisterMembers(&step.registers);
-        let (stack, part) = (Member("stack", &step.stack), Member("part", &step.part));
+        let (stack, part) = (
+            RegionMember("stack", &step.stack),
+            RegionMember("part", &step.part),
+        );
         write!(
             f,
             ",\"registers\":{{{registers}}}{stack}{part},\"used\":{}",

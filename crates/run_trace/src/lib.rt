@@ -6,7 +6,7 @@
 mod changes;
 mod step;
 
-pub use step::{Change, Step, Written};
+pub use step::{ChangedBytes, RegisterChange, Step};
 
 // the steps of a run
 mod tracing;

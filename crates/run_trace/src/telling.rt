@@ -1,6 +1,6 @@
 //! Steps as text, a line each.
 
-use crate::step::{Change, Step, Written};
+use crate::step::{ChangedBytes, RegisterChange, Step};
 use reference::Content;
 use std::fmt;
 
@@ -44,7 +44,7 @@ impl fmt::Display for Holding {
     }
 }
 
-impl fmt::Display for Change {
+impl fmt::Display for RegisterChange {
     ghost use Rattle.std.specs.Prelude.{Some};
     ghost use Rattle.run_trace.specs.Texts.{change_text};
 
@@ -90,7 +90,7 @@ impl<'a> fmt::Display for Digits<'a> {
 }
 
 /// What was written: where, and the bytes.
-impl fmt::Display for Written {
+impl fmt::Display for ChangedBytes {
     ghost use Rattle.std.specs.Prelude.{Some};
     ghost use Rattle.run_trace.specs.StepTexts.{written_text};
 
@@ -103,7 +103,7 @@ impl fmt::Display for Written {
 
 /// The registers that changed.
 #[derive(Clone, Copy)]
-struct Changes<'a>(&'a [Change]);
+struct Changes<'a>(&'a [RegisterChange]);
 
 impl<'a> fmt::Display for Changes<'a> {
     ghost use Rattle.std.specs.Prelude.{Some};
@@ -121,9 +121,9 @@ impl<'a> fmt::Display for Changes<'a> {
 
 /// The bytes of a region that changed, behind its name.
 #[derive(Clone, Copy)]
-struct Region<'a>(&'a str, &'a Option<Written>);
+struct WrittenRegion<'a>(&'a str, &'a Option<ChangedBytes>);
 
-impl<'a> fmt::Display for Region<'a> {
+impl<'a> fmt::Display for WrittenRegion<'a> {
     ghost use Rattle.std.specs.Prelude.{Some};
     ghost use Rattle.run_trace.specs.StepTexts.{region_text};
 
@@ -145,7 +145,10 @@ impl fmt::Display for Step {
 
     fn fmt<W: fmt::Write>(&self, f: &mut fmt::Formatter<W>) -> fmt::Result {
         let changes = Changes(&self.registers);
-        let (stack, part) = (Region("stack", &self.stack), Region("part", &self.part));
+        let (stack, part) = (
+            WrittenRegion("stack", &self.stack),
+            WrittenRegion("part", &self.part),
+        );
         write!(
             f,
             "{} ; {changes}{stack}{part}used {}",

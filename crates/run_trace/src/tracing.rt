@@ -5,17 +5,17 @@ ghost use Rattle.flow_graph.specs.Program.{IsDecoded, code_of};
 ghost use Rattle.verifier.specs.Refusals.{HasFlow};
 ghost use Rattle.insn_codec.specs.declared.insn.Insn.{Insn};
 ghost use Rattle.machine_model.specs.Edges.{insn_at};
-ghost use Rattle.explain.specs.Lines.{told};
+ghost use Rattle.explain.specs.Lines.{numbered_text};
 ghost use Rattle.reference.specs.Records.{FarWithin, program_of, state_of};
 ghost use Rattle.reference.specs.declared.records.Unanswered.TheVariants as untraced;
-ghost use Rattle.run_trace.specs.Following.{Ending, FollowsTo, IsReference};
+ghost use Rattle.run_trace.specs.Following.{ReachesEnd, FollowsTo, IsReference};
 ghost use Rattle.run_trace.specs.Steps.{IsStep};
-ghost use Rattle.run_trace.specs.Traces.{GoesFar, IsTrace, Runs, unanswered};
+ghost use Rattle.run_trace.specs.Traces.{RunGoesFar, IsTrace, Runs, unanswered};
 ghost use Rattle.task_trees.specs.Solo.{entering};
 
 use crate::changes::{changed_bytes, changed_registers};
 use crate::step::Step;
-use explain::{Line, lines_in, place_in};
+use explain::{SourceLine, lines_in, place_in};
 use flow_graph::{FlowFault, build};
 use insn_codec::{CodecFault, Placed, decode};
 use reference::{Content, ReferenceProgram, Running, StepOutcome, Unanswered, effect};
@@ -36,7 +36,7 @@ pub struct Trace {
 #[derive(Clone, Copy)]
 pub(crate) struct Listing<'a> {
     pub(crate) placed: &'a [Placed],
-    pub(crate) lines: &'a [Line<'a>],
+    pub(crate) lines: &'a [SourceLine<'a>],
 }
 
 /// The task at its start, with all the credit, this argument and these bytes as its part.
@@ -95,7 +95,7 @@ pub(crate) fn step_between(
     requires turn { IsDecoded listing.now.placed.now }
     requires size { length after.now.part.items ≡ length before.now.part.items }
     ensures { IfOk result (λ step. IsStep listing.now.placed.now
-        (map told listing.now.lines.now) (state_of before.now) step (state_of after.now)) }
+        (map numbered_text listing.now.lines.now) (state_of before.now) step (state_of after.now)) }
 {
     let found = place_in(alloc, listing.placed, listing.lines, before.slot as u32)?;
     let Some(place) = found else { unreachable!() };
@@ -141,9 +141,9 @@ fn follow(
 ) -> Result<Trace, Unanswered>
     requires reference { IsReference listing.now.placed.now (program_of program.now) }
     requires turn { IsDecoded listing.now.placed.now }
-    requires ends { Ending (program_of program.now) (state_of start) }
+    requires ends { ReachesEnd (program_of program.now) (state_of start) }
     ensures steps { IfOk result (λ trace. FollowsTo (program_of program.now)
-        listing.now.placed.now (map told listing.now.lines.now) (state_of start) trace) }
+        listing.now.placed.now (map numbered_text listing.now.lines.now) (state_of start) trace) }
     ensures far { result ≡ Err untraced.TooLarge → (n : ℕ)
         × FarWithin (program_of program.now) unanswered n (state_of start) }
 {
@@ -187,7 +187,7 @@ pub fn trace_run(
     requires { Runs code.now arg credit memory.now }
     ensures steps { IfOk result (λ trace. IsTrace code.now
         (option_map (λ text. text.now) source.entry) arg credit memory.now trace) }
-    ensures far { result ≡ Err untraced.TooLarge → GoesFar code.now arg credit memory.now }
+    ensures far { result ≡ Err untraced.TooLarge → RunGoesFar code.now arg credit memory.now }
 {
     let placed = match decode(alloc, code) {
         Ok(placed) => placed,

@@ -12,7 +12,7 @@ use crate::job_programs::JobPrograms;
 use reference::{Evaluation, FinishedTask, Unanswered, evaluate};
 use std::alloc::Global;
 
-/// Each task of a job at its end: a task stands behind all that come of it, and the root last.
+/// Each task of a job at its end: a task follows all that come of it, and the root is last.
 #[derive(Drop)]
 pub struct Tree {
     pub tasks: Vec<FinishedTask>,

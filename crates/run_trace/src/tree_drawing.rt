@@ -6,9 +6,9 @@ use std::fmt;
 
 /// Numbers, each behind a slash.
 #[derive(Clone, Copy)]
-struct Numbers<'a>(&'a [u64]);
+struct SlashedNumbers<'a>(&'a [u64]);
 
-impl<'a> fmt::Display for Numbers<'a> {
+impl<'a> fmt::Display for SlashedNumbers<'a> {
     ghost use Rattle.std.specs.Prelude.{Some};
     ghost use Rattle.run_trace.specs.TreeTexts.{numbers_text};
 
@@ -36,16 +36,16 @@ impl<'a> fmt::Display for PlaceName<'a> {
         if self.0.is_empty() {
             write!(f, "/")
         } else {
-            write!(f, "{}", Numbers(self.0))
+            write!(f, "{}", SlashedNumbers(self.0))
         }
     }
 }
 
 /// What a task was given and came to.
 #[derive(Clone, Copy)]
-struct TaskEnd<'a>(&'a EndedTask);
+struct EndedTaskLines<'a>(&'a EndedTask);
 
-impl<'a> fmt::Display for TaskEnd<'a> {
+impl<'a> fmt::Display for EndedTaskLines<'a> {
     ghost use Rattle.std.specs.Prelude.{Some};
     ghost use Rattle.run_trace.specs.TreeTexts.{end_text};
 
@@ -80,7 +80,7 @@ impl<'a> fmt::Display for TaskBox<'a> {
             task.program,
             task.arg,
             task.given,
-            TaskEnd(task)
+            EndedTaskLines(task)
         )
     }
 }

@@ -1,5 +1,5 @@
 use Rattle.std.proofs.Common.{refl}
-use Rattle.bpfrun_core.specs.Places.{between, no_program, there}
+use Rattle.bpfrun_core.specs.FaultLines.{between, no_program, there}
 use Rattle.explain.proofs.PlaceLemmas.{line_there}
 use Rattle.bpfrun_core.proofs.place.at_slot.Goals as goal
 

@@ -2,7 +2,7 @@ use Rattle.std.proofs.Common.{◌≡◌, ◌<◌, ◌-◌, ◌∙◌, suc, lengt
 use Rattle.std.proofs.lemmas.Result.{err_from_is_err_and}
 use Rattle.machine_model.specs.Alone.{no_entries}
 use Rattle.machine_model.specs.Machine.{State, Continues, Ends, effect}
-use Rattle.explain.specs.Lines.{told}
+use Rattle.explain.specs.Lines.{numbered_text}
 use Rattle.reference.specs.Records.{GoesFar, birth_from, program_of, state_of, trap_of}
 use Rattle.reference.proofs.AloneLemmas.{alone_effect}
 use Rattle.reference.proofs.RunLemmas.{same_error}
@@ -47,12 +47,12 @@ pub returns-in-Ends-clause-steps : goal.returns-in-Ends-clause-steps
 returns-in-Ends-clause-steps c =
     let ends : effect (program_of c.args.program.now) no_entries (state_of c.run.state) ≡ Ends c.in-Ends.r0 (state_of c.in-Ends.last) =
     sym ((rw c.in-Ends.is at c.in_ok-next.ensures.value) ∙ alone_effect (program_of c.args.program.now) (state_of c.run.state)) in
-    let one = subst (λ (s : State). IsStep c.args.listing.now.placed.now (map told c.args.listing.now.lines.now) s c.in_ok-step_between-in-Ends.field-0 (state_of c.in-Ends.last))
+    let one = subst (λ (s : State). IsStep c.args.listing.now.placed.now (map numbered_text c.args.listing.now.lines.now) s c.in_ok-step_between-in-Ends.field-0 (state_of c.in-Ends.last))
     c.in_ok-before.ensures c.in_ok-step_between-in-Ends.ensures in
     record {
       last = state_of c.in-Ends.last;
       steps = rw c.in_ok-push-in-Ends.ensures.items
-          (lead_end (program_of c.args.program.now) c.args.listing.now.placed.now (map told c.args.listing.now.lines.now) (state_of c.args.start) (state_of c.run.state)
+          (lead_end (program_of c.args.program.now) c.args.listing.now.placed.now (map numbered_text c.args.listing.now.lines.now) (state_of c.args.start) (state_of c.run.state)
           (state_of c.in-Ends.last) c.run.steps.items c.in_ok-step_between-in-Ends.field-0 c.in-Ends.r0 c.run.invariant.leads ends one);
       used = refl;
       left = refl;
@@ -85,10 +85,10 @@ pub run-preserved : goal.run-preserved
 run-preserved c =
     let goes : effect (program_of c.args.program.now) no_entries (state_of c.run.state) ≡ Continues (state_of c.in-Continues.next) =
     sym ((rw c.in-Continues.is at c.in_ok-next.ensures.value) ∙ alone_effect (program_of c.args.program.now) (state_of c.run.state)) in
-    let one = subst (λ (s : State). IsStep c.args.listing.now.placed.now (map told c.args.listing.now.lines.now) s c.in_ok-step_between-in-Continues.field-0
+    let one = subst (λ (s : State). IsStep c.args.listing.now.placed.now (map numbered_text c.args.listing.now.lines.now) s c.in_ok-step_between-in-Continues.field-0
     (state_of c.in-Continues.next)) c.in_ok-before.ensures c.in_ok-step_between-in-Continues.ensures in
     rw c.in_ok-push-in-Continues.ensures.items (record {
-      leads = lead_on (program_of c.args.program.now) c.args.listing.now.placed.now (map told c.args.listing.now.lines.now) (state_of c.args.start) (state_of c.run.state)
+      leads = lead_on (program_of c.args.program.now) c.args.listing.now.placed.now (map numbered_text c.args.listing.now.lines.now) (state_of c.args.start) (state_of c.run.state)
           (state_of c.in-Continues.next) c.run.steps.items c.in_ok-step_between-in-Continues.field-0 c.run.invariant.leads goes one;
       ends = ending_on (program_of c.args.program.now) (state_of c.run.state) c.run.invariant.ends (state_of c.in-Continues.next) goes;
       far = λ n far. c.run.invariant.far (suc n) (far_on (program_of c.args.program.now) (state_of c.run.state) (state_of c.in-Continues.next) n goes far);

@@ -6,7 +6,7 @@ use Rattle.task_trees.specs.Solo.{entering}
 use Rattle.reference.specs.Records.{FarWithin, program_of as reference_program, state_of}
 use Rattle.verifier.specs.Checked.{program_of}
 use Rattle.explain.proofs.RefusedLemmas.{not_codec}
-use Rattle.run_trace.specs.Following.{Ending}
+use Rattle.run_trace.specs.Following.{ReachesEnd}
 use Rattle.run_trace.specs.Traces.{unanswered}
 use Rattle.run_trace.proofs.Running.{accepted_flow, ending_of, far_of, trace_of}
 use Rattle.run_trace.proofs.tracing.trace_run.Goals as goal
@@ -32,7 +32,7 @@ follow-requires-clause-ends c =
     let reference = rw c.deref.ensures.value at c.in_ok-program.ensures in
     let ends = ending_of c.requires.need c.args.code.now c.requires.program c.in-Ok.placed.items c.requires.accepted c.in-Ok.ensures.found
     (reference_program c.in_ok-program.program) reference (entering c.args.arg c.args.credit c.args.memory.now) c.requires.r0 c.requires.last c.requires.ends.0 c.requires.ends.1 in
-    subst (Ending (reference_program c.in_ok-program.program)) (sym c.in_ok-start.ensures) ends
+    subst (ReachesEnd (reference_program c.in_ok-program.program)) (sym c.in_ok-start.ensures) ends
 
 pub returns-clause-steps : goal.returns-clause-steps
 returns-clause-steps c =

@@ -1,7 +1,7 @@
 use Rattle.std.proofs.Common.{take}
 use Rattle.std.specs.Fmt.{HasWritten, IsPlainFormatter}
 use Rattle.run_trace.specs.TreeTexts.{numbers_text}
-use Rattle.run_trace.proofs.tree_drawing.NumbersDisplay.fmt.Given as goal
+use Rattle.run_trace.proofs.tree_drawing.SlashedNumbersDisplay.fmt.Given as goal
 
 abbrev pub invariant-loop-number : goal.invariant-loop-number
 invariant-loop-number g l =

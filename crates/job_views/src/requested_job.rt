@@ -4,7 +4,7 @@ ghost use Rattle.std.specs.Prelude.{◌≡◌, List, IfOk, MatchOption};
 ghost use Rattle.verifier.specs.Checked.{Checked};
 ghost use Rattle.job_core.specs.Admission.{AreAccepted};
 ghost use Rattle.run_trace.specs.Spelled.{listings_of, programs_of};
-ghost use Rattle.job_views.specs.Shown.{AreSpelledBy, IsOrder, IsRefusedJob};
+ghost use Rattle.job_views.specs.Shown.{AreSpelledBy, IsRequestedJob, IsRefusedJob};
 
 use job_core::{AdmitFault, ProgramBytes, admit};
 use refusal::NoMemory;
@@ -14,7 +14,7 @@ use std::alloc::Global;
 
 /// A job that is admitted.
 #[derive(Drop)]
-pub struct JobOrder {
+pub struct RequestedJob {
     pub programs: JobPrograms,
     pub credit: u32,
     pub buffer: Vec<u8>,
@@ -45,13 +45,13 @@ fn job_programs(alloc: Global, programs: &[ProgramBytes]) -> Result<JobPrograms,
 
 /// The job that the input says, with its schedule where one is wanted; none where it says none, or
 /// one that isn't admitted. Refused for want of memory alone.
-pub fn ordered(
+pub fn requested_job(
     alloc: Global,
     input: &[u8],
     wants_schedule: bool,
-) -> Result<Option<JobOrder>, NoMemory>
+) -> Result<Option<RequestedJob>, NoMemory>
     ensures { IfOk result (λ found. MatchOption found (IsRefusedJob wants_schedule input.now)
-        (λ order. IsOrder wants_schedule input.now order)) }
+        (λ job. IsRequestedJob wants_schedule input.now job)) }
 {
     let object = match job_object(alloc, input, wants_schedule) {
         Ok(object) => object,
@@ -66,7 +66,7 @@ pub fn ordered(
     } = object;
     let whole = copied(alloc, &buffer)?;
     match admit(alloc, &programs, credit, whole) {
-        Ok(_) => Ok(Some(JobOrder {
+        Ok(_) => Ok(Some(RequestedJob {
             programs: job_programs(alloc, &programs)?,
             credit,
             buffer,

@@ -2,7 +2,7 @@
 
 /// A program that is to be tried, and how.
 #[derive(Clone, Copy, Debug, PartialEq, Eq)]
-pub struct Request<'a> {
+pub struct RunArguments<'a> {
     /// The path of the program.
     pub file: &'a str,
     /// The path of its memory, if it has one.

@@ -4,7 +4,7 @@ use Rattle.insn_codec.specs.declared.insn.Placed.{Placed}
 use Rattle.machine_model.specs.Machine.{Program}
 use Rattle.run_trace.specs.Spelled.{listings_of, programs_of}
 use Rattle.job_views.proofs.Spelling.{AreSpelledTo, accepted_at, spelled_all, spelled_more, spelled_none}
-use Rattle.job_views.proofs.order.job_programs.Goals as goal
+use Rattle.job_views.proofs.requested_job.job_programs.Goals as goal
 
 pub loop-program-init : goal.loop-program-init
 loop-program-init c =
