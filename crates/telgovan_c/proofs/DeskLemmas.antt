@@ -1,20 +1,20 @@
 -- What is handed over, and whether there was a connection.
 use Rattle.std.proofs.Common.{◌≡◌, ℕ, ◌<◌, ◌≤◌, ◌+◌, List, [], ◌∷◌, ◌++◌, length, drop, slice_get, Option, Some, None, IfSome, IfNone, is_some, Vec, Global, false, refl, sym, ap, ◌∙◌, arith, length-append}
-use Rattle.telgovan_c.specs.Explains.{IsPlaced, fits, too_long}
+use Rattle.telgovan_c.specs.Explains.{FillsRoom, fits, too_long}
 use Rattle.telgovan_c.specs.declared.desks.HandedJob.{HandedJob}
 
 abbrev pub told : ℕ → List ℕ → HandedJob
 told job text = record { job = job; length = length text }
 
 -- bytes that don't fit the room leave it
-pub placed_short : (bytes old new : List ℕ) → IsPlaced bytes old new → length new < length bytes → (length old < length bytes) × (new ≡ old)
+pub placed_short : (bytes old new : List ℕ) → FillsRoom bytes old new → length new < length bytes → (length old < length bytes) × (new ≡ old)
 placed_short bytes old new (fits within is) less =
     let long : length new ≡ length bytes + length (drop (length bytes) old) = ap length is ∙ length-append bytes (drop (length bytes) old) in
     absurd (omega (arith, long, less))
 placed_short bytes old new (too_long more same) less = (more, same)
 
 -- and bytes that fit stand at its beginning
-pub placed_whole : (bytes old new : List ℕ) → IsPlaced bytes old new → length bytes ≤ length new → (length bytes ≤ length old) × (new ≡ bytes ++ drop (length bytes) old)
+pub placed_whole : (bytes old new : List ℕ) → FillsRoom bytes old new → length bytes ≤ length new → (length bytes ≤ length old) × (new ≡ bytes ++ drop (length bytes) old)
 placed_whole bytes old new (fits within is) enough = (within, is)
 placed_whole bytes old new (too_long more same) enough =
     let as_long : length new ≡ length old = ap length same in

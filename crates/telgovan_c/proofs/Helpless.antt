@@ -5,17 +5,17 @@ use Rattle.machine_model.specs.Machine.{State, Program, Effect, Continues, Ends,
 use Rattle.machine_model.specs.Alone.{MayAnswer, EndsWithin, Follows, no_entries}
 use Rattle.virtual_machine.specs.Executes.{ExecutesOn}
 use Rattle.helpers.specs.Table.{Table, job_table}
-use Rattle.virtual_machine.specs.Functions.{HaveFunctions, called}
+use Rattle.virtual_machine.specs.Functions.{HaveFunctions, call_answers}
 use Rattle.virtual_machine.specs.declared.registered.Registered.{Registered}
 use Rattle.task_trees.specs.Solo.{entering}
 use Rattle.verifier.specs.Checked.{program_of}
-use Rattle.telgovan_c.specs.Runs.{unanswered}
+use Rattle.run_trace.specs.Traces.{unanswered}
 
 none_there : {R : Type 0} (is_low : Bool) (place : ℕ) → if◌then◌else◌ {A = Option R} is_low None (slice_index_or [] place None) ≡ None
 none_there true place = refl
 none_there false place = refl
 
-pub nobody : {X : Type 0} {g : _} (functions : List (Option (Registered X g))) → functions ≡ [] → (helper : ℕ) (arguments : List ℕ) (answer : ℕ) → called functions helper arguments answer → ⊥
+pub nobody : {X : Type 0} {g : _} (functions : List (Option (Registered X g))) → functions ≡ [] → (helper : ℕ) (arguments : List ℕ) (answer : ℕ) → call_answers functions helper arguments answer → ⊥
 nobody {X} {g} functions empty helper arguments answer (f, there, may) =
     let gone = none_there {R = Registered X g} (nat_lt helper 64) (helper - 64) in
     absurd (cc (gone, rw empty at there))

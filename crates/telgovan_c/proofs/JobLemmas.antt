@@ -16,8 +16,8 @@ use Rattle.job_core.specs.Admitted.{AdmittedJob}
 use Rattle.job_core.specs.PlaysLowest.{GoesLowest, none_yet, one_more, IsPlayed}
 use Rattle.job_core.proofs.Simulates.{some_within}
 use Rattle.telgovan_c.specs.declared.jobs.CodePiece.{CodePiece}
-use Rattle.telgovan_c.specs.declared.jobs.EndedTask.{EndedTask}
-use Rattle.telgovan_c.specs.Jobs.{AreCut, AreCutTo, AreWritten, IsCut, task_of}
+use Rattle.telgovan_c.specs.declared.jobs.ReportedTask.{ReportedTask}
+use Rattle.telgovan_c.specs.Jobs.{AreCut, AreCutTo, AreWritten, IsCut, reported_task}
 
 -- ---- the programs of the pieces
 
@@ -72,13 +72,13 @@ cut_stops code pieces count programs piece so_far is outside =
 -- ---- the tasks as they are written
 
 -- the first so many are written, and the others are as they were
-pub record AreWrittenTo (ends : List TaskEnd) (old : List EndedTask) (done : ℕ) (new : List EndedTask) : Type 0 where
+pub record AreWrittenTo (ends : List TaskEnd) (old : List ReportedTask) (done : ℕ) (new : List ReportedTask) : Type 0 where
   pub most : done ≤ length ends
   pub count : length new ≡ length old
-  pub written : (n : ℕ) (ended : TaskEnd) → n < done → slice_get ends n ≡ Some ended → slice_get new n ≡ Some (task_of ended)
+  pub written : (n : ℕ) (ended : TaskEnd) → n < done → slice_get ends n ≡ Some ended → slice_get new n ≡ Some (reported_task ended)
   pub kept : (n : ℕ) → done ≤ n → slice_get new n ≡ slice_get old n
 
-pub written_none : (ends : List TaskEnd) (old : List EndedTask) → AreWrittenTo ends old 0 old
+pub written_none : (ends : List TaskEnd) (old : List ReportedTask) → AreWrittenTo ends old 0 old
 written_none ends old = record {
   most = omega arith;
   count = refl;
@@ -86,28 +86,28 @@ written_none ends old = record {
   kept = λ n le. refl;
 }
 
-pub written_more : (ends : List TaskEnd) (old : List EndedTask) (done : ℕ) (new : List EndedTask) (ended : TaskEnd) →
+pub written_more : (ends : List TaskEnd) (old : List ReportedTask) (done : ℕ) (new : List ReportedTask) (ended : TaskEnd) →
     AreWrittenTo ends old done new → done < length new → slice_get ends done ≡ Some ended →
-    AreWrittenTo ends old (done + 1) (set new done (task_of ended))
+    AreWrittenTo ends old (done + 1) (set new done (reported_task ended))
 written_more ends old done new ended so_far within there = record {
   most = let below = slice_get_within ends done ended there in omega (arith, below);
-  count = length-set new done (task_of ended) ∙ so_far.count;
+  count = length-set new done (reported_task ended) ∙ so_far.count;
   written = λ n other lt e. by_number
-      (λ k. (x : TaskEnd) → slice_get ends k ≡ Some x → k < done + 1 → slice_get (set new done (task_of ended)) k ≡ Some (task_of x))
+      (λ k. (x : TaskEnd) → slice_get ends k ≡ Some x → k < done + 1 → slice_get (set new done (reported_task ended)) k ≡ Some (reported_task x))
       done n (λ x is below. last x is) (λ ne x is below. earlier n ne x is below) other e lt;
-  kept = λ n from. set_other new done n (task_of ended) (λ is. omega (arith, is, from)) ∙ so_far.kept n (omega (arith, from));
+  kept = λ n from. set_other new done n (reported_task ended) (λ is. omega (arith, is, from)) ∙ so_far.kept n (omega (arith, from));
 } where
-  last : (x : TaskEnd) → slice_get ends done ≡ Some x → slice_get (set new done (task_of ended)) done ≡ Some (task_of x)
+  last : (x : TaskEnd) → slice_get ends done ≡ Some x → slice_get (set new done (reported_task ended)) done ≡ Some (reported_task x)
   last x is =
       let same : ended ≡ x = cc in
-      set_same new done (task_of ended) within ∙ ap (λ (y : TaskEnd). Some (task_of y)) same
+      set_same new done (reported_task ended) within ∙ ap (λ (y : TaskEnd). Some (reported_task y)) same
 
   earlier : (n : ℕ) → n ≢ done → (x : TaskEnd) → slice_get ends n ≡ Some x → n < done + 1 →
-      slice_get (set new done (task_of ended)) n ≡ Some (task_of x)
-  earlier n ne x is below = set_other new done n (task_of ended) ne ∙ so_far.written n x (omega (arith, ne, below)) is
+      slice_get (set new done (reported_task ended)) n ≡ Some (reported_task x)
+  earlier n ne x is below = set_other new done n (reported_task ended) ne ∙ so_far.written n x (omega (arith, ne, below)) is
 
 -- there is no room for more
-pub written_room : (ends : List TaskEnd) (old : List EndedTask) (done : ℕ) (new : List EndedTask) → AreWrittenTo ends old done new →
+pub written_room : (ends : List TaskEnd) (old : List ReportedTask) (done : ℕ) (new : List ReportedTask) → AreWrittenTo ends old done new →
     length new ≤ done → AreWritten ends old new
 written_room ends old done new so_far full = record {
   count = so_far.count;
@@ -116,7 +116,7 @@ written_room ends old done new so_far full = record {
 }
 
 -- there are no more tasks
-pub written_all : (ends : List TaskEnd) (old : List EndedTask) (done : ℕ) (new : List EndedTask) → AreWrittenTo ends old done new →
+pub written_all : (ends : List TaskEnd) (old : List ReportedTask) (done : ℕ) (new : List ReportedTask) → AreWrittenTo ends old done new →
     done ≡ length ends → AreWritten ends old new
 written_all ends old done new so_far all = record {
   count = so_far.count;

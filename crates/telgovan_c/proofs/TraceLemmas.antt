@@ -7,10 +7,10 @@ use Rattle.verifier.specs.Checked.{Checked}
 use Rattle.verifier.specs.Refusals.{IsAccepted}
 use Rattle.virtual_machine.specs.declared.vm_fault.VmFault.TheVariants.{NoProgram, CreditLow, MemoryShort, NoMemory}
 use Rattle.virtual_machine.specs.Executes.{ExecutesOn}
-use Rattle.run_trace.specs.Traces.{Runs}
+use Rattle.run_trace.specs.Traces.{Runs, unanswered}
 use Rattle.telgovan_c.specs.declared.runs.RunOutcome.{RunOutcome}
 use Rattle.telgovan_c.specs.declared.texts.Written.{Written}
-use Rattle.telgovan_c.specs.Runs.{IsRunOutcome, unanswered}
+use Rattle.telgovan_c.specs.Runs.{IsRunOutcome}
 use Rattle.telgovan_c.specs.Runs as run
 use Rattle.telgovan_c.specs.Texts.{refused_text}
 use Rattle.telgovan_c.specs.Traces.{IsProgramTraced, over_limit, stopped}

@@ -3,9 +3,9 @@ use Rattle.std.specs.Prelude.{◌≡◌, ℕ, ◌<◌, ◌≤◌, List, [], ◌�
 use Rattle.std.specs.declared.alloc.Global.{Global}
 use Rattle.std.specs.BTreeMap.{get, Updates}
 use Rattle.std.specs.Ordering.{nat_cmp}
-use Rattle.conversation.specs.Ends.{code_of}
+use Rattle.conversation.specs.Endings.{code_of_ending}
 use Rattle.conversation.specs.Handed.{HasFirst}
-use Rattle.conversation.specs.Hosting.{Connects, FeedsAt, IsAsBefore, IsNew, Sends}
+use Rattle.conversation.specs.Hosting.{Connects, FeedsAt, IsAsBefore, IsEmptyDesk, Sends}
 use Rattle.conversation.specs.declared.ended.Ended.{Ended}
 use Rattle.conversation.specs.declared.host_desk.HostDesk.{HostDesk}
 use Rattle.conversation.specs.declared.host_desk.Sent.{Sent}
@@ -19,7 +19,7 @@ desk_in d = d.held.kept
 
 -- a new desk is held; or there is no memory, and the handle holds what it held
 pub data IsDesk (old new : Option HostDesk) (status : ℕ) : Type 0 where
-  made : (desk : HostDesk) → IsNew desk → new ≡ Some desk → status ≡ 0 → IsDesk old new status
+  made : (desk : HostDesk) → IsEmptyDesk desk → new ≡ Some desk → status ≡ 0 → IsDesk old new status
   no_memory : new ≡ old → status ≡ 99 → IsDesk old new status
 
 -- a conversation is begun; or there is no memory or no desk, and nothing changes
@@ -34,7 +34,7 @@ pub data IsConnected (old : Option HostDesk) (was : ℕ) (new : Option HostDesk)
 
 abbrev pub status_of : Result (Unit {0}) Ended → ℕ
 status_of (Ok _) = 0
-status_of (Err ended) = code_of ended
+status_of (Err ended) = code_of_ending ended
 
 -- a piece is taken; or there is no such connection or no desk, and nothing changes
 pub data IsFed (old : Option HostDesk) (connection : ℕ) (bytes : List ℕ) (new : Option HostDesk)
@@ -92,10 +92,10 @@ pub data IsHandedBy (old : HostDesk) (before : List ℕ) (new : HostDesk) (room 
       → room ≡ before → told ≡ record { job = 0; length = 0 } → status ≡ 0
       → IsHandedBy old before new room told status
 
-pub data IsHanded (old : Option HostDesk) (before : List ℕ) (was : HandedJob)
+pub data IsJobGiven (old : Option HostDesk) (before : List ℕ) (was : HandedJob)
     (new : Option HostDesk) (room : List ℕ) (told : HandedJob) (status : ℕ) : Type 0 where
   by_desk : (desk after : HostDesk) → old ≡ Some desk → new ≡ Some after
       → IsHandedBy desk before after room told status
-      → IsHanded old before was new room told status
+      → IsJobGiven old before was new room told status
   no_desk : old ≡ None → new ≡ None → room ≡ before → told ≡ was → status ≡ 41
-      → IsHanded old before was new room told status
+      → IsJobGiven old before was new room told status

@@ -11,10 +11,10 @@ use Rattle.telgovan_c.specs.declared.texts.Written.{Written}
 use Rattle.telgovan_c.specs.Texts.{IsSourceText}
 
 -- The bytes stand at the beginning of the room, if they fit, and nothing else of it changes.
-pub data IsPlaced (bytes old new : List ℕ) : Type 0 where
+pub data FillsRoom (bytes old new : List ℕ) : Type 0 where
   fits : length bytes ≤ length old → new ≡ bytes ++ drop (length bytes) old
-      → IsPlaced bytes old new
-  too_long : length old < length bytes → new ≡ old → IsPlaced bytes old new
+      → FillsRoom bytes old new
+  too_long : length old < length bytes → new ≡ old → FillsRoom bytes old new
 
 -- a text of so many bytes, for this status and slot
 abbrev pub explained_as : ℕ → ℕ → Option ℕ → Written
@@ -31,7 +31,7 @@ pub data IsExplained (need : ℕ) (code source old new : List ℕ) (told : Writt
       → told ≡ explained_as 0 0 None → IsExplained need code source old new told
   refused : (text : Option (List ℕ)) → IsSourceText source text → (why : Explanation)
       → IsTold need code job_table text why → (words : List ℕ) → IsTextOf why words
-      → IsPlaced words old new
+      → FillsRoom words old new
       → told ≡ explained_as (length words) (number_of why.refusal) (slot_of why.refusal)
       → IsExplained need code source old new told
   no_memory : new ≡ old → told ≡ explained_as 0 99 None

@@ -6,12 +6,12 @@ use Rattle.accounts.specs.Ledgers.{Finishes, IsNotOpen}
 use Rattle.credit_book.specs.declared.book.Report.{Report}
 use Rattle.credit_book.specs.declared.event.TaskEnd.{TaskEnd}
 use Rattle.conversation.specs.declared.host_desk.HostDesk.{HostDesk}
-use Rattle.telgovan_c.specs.declared.jobs.EndedTask.{EndedTask}
+use Rattle.telgovan_c.specs.declared.jobs.ReportedTask.{ReportedTask}
 use Rattle.telgovan_c.specs.declared.jobs.JobReport.{JobReport}
 
 -- a task that C tells; each counts as run
-abbrev pub end_of : EndedTask → TaskEnd
-end_of task = record {
+abbrev pub task_end_of : ReportedTask → TaskEnd
+task_end_of task = record {
   number = task.number;
   program = task.program;
   arg = task.argument;
@@ -23,21 +23,21 @@ end_of task = record {
 }
 
 -- the place of a task's program is over its limit, or there is no memory
-abbrev pub RefusesEnds : List EndedTask → ℕ → Type 0
+abbrev pub RefusesEnds : List ReportedTask → ℕ → Type 0
 RefusesEnds tasks status =
-    ((n : ℕ) × (task : EndedTask) × (slice_get tasks n ≡ Some task) × (65535 < task.program)
+    ((n : ℕ) × (task : ReportedTask) × (slice_get tasks n ≡ Some task) × (65535 < task.program)
     × (status ≡ 65)) ⊎ (status ≡ 99)
 
 -- what the job came to: its report; or the number of what it failed by
-pub data IsTold (told : JobReport) (buffer : List ℕ) (tasks : List EndedTask) :
+pub data IsJobOutcome (told : JobReport) (buffer : List ℕ) (tasks : List ReportedTask) :
     Result Report ℕ → Type 0 where
   reported : (report : Report) → told.status ≡ 0 → report.spent ≡ told.spent
       → report.returned ≡ told.returned → report.buffer.items ≡ buffer
-      → report.tasks.items ≡ map end_of tasks → IsTold told buffer tasks (Ok report)
-  failed : told.status ≢ 0 → IsTold told buffer tasks (Err told.status)
+      → report.tasks.items ≡ map task_end_of tasks → IsJobOutcome told buffer tasks (Ok report)
+  failed : told.status ≢ 0 → IsJobOutcome told buffer tasks (Err told.status)
 
 -- or that isn't taken
-pub data RefusesTold (told : JobReport) (tasks : List EndedTask) (status : ℕ) : Type 0 where
+pub data RefusesTold (told : JobReport) (tasks : List ReportedTask) (status : ℕ) : Type 0 where
   no_such_end : told.status ≡ 0 → RefusesEnds tasks status → RefusesTold told tasks status
   over_limit : 255 < told.status → status ≡ 65 → RefusesTold told tasks status
 
@@ -54,13 +54,13 @@ pub data IsFinishedBy (old : HostDesk) (job : ℕ) (outcome : Result Report ℕ)
       → IsFinishedBy old job outcome new status
 
 -- with what C tells of it; or that isn't taken or there is no desk, and nothing changes
-pub data IsFinished (old : Option HostDesk) (job : ℕ) (told : JobReport) (buffer : List ℕ)
-    (tasks : List EndedTask) (new : Option HostDesk) (status : ℕ) : Type 0 where
+pub data FinishesJob (old : Option HostDesk) (job : ℕ) (told : JobReport) (buffer : List ℕ)
+    (tasks : List ReportedTask) (new : Option HostDesk) (status : ℕ) : Type 0 where
   by_desk : (desk after : HostDesk) (outcome : Result Report ℕ) → old ≡ Some desk
-      → new ≡ Some after → IsTold told buffer tasks outcome
+      → new ≡ Some after → IsJobOutcome told buffer tasks outcome
       → IsFinishedBy desk job outcome after status
-      → IsFinished old job told buffer tasks new status
+      → FinishesJob old job told buffer tasks new status
   refused : (desk : HostDesk) → old ≡ Some desk → new ≡ old → RefusesTold told tasks status
-      → IsFinished old job told buffer tasks new status
+      → FinishesJob old job told buffer tasks new status
   no_desk : old ≡ None → new ≡ None → status ≡ 41
-      → IsFinished old job told buffer tasks new status
+      → FinishesJob old job told buffer tasks new status

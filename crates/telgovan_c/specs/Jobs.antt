@@ -11,7 +11,7 @@ use Rattle.job_core.specs.Admitted.{AdmittedJob}
 use Rattle.job_core.specs.PlaysLowest.{IsPlayed}
 use Rattle.telgovan_c.specs.declared.jobs.JobReport.{JobReport}
 use Rattle.telgovan_c.specs.declared.jobs.CodePiece.{CodePiece}
-use Rattle.telgovan_c.specs.declared.jobs.EndedTask.{EndedTask}
+use Rattle.telgovan_c.specs.declared.jobs.ReportedTask.{ReportedTask}
 
 -- the refusal, with the place and the slot that it tells
 abbrev pub refused_report : AdmitFault → JobReport
@@ -53,8 +53,8 @@ played_report report = record {
 }
 
 -- a task of the report
-abbrev pub task_of : TaskEnd → EndedTask
-task_of ended = record {
+abbrev pub reported_task : TaskEnd → ReportedTask
+reported_task ended = record {
   argument = ended.arg;
   r0 = ended.r0;
   number = ended.number;
@@ -65,10 +65,10 @@ task_of ended = record {
 }
 
 -- the room has as many of the tasks as it can have, in order, and else what it had
-pub record AreWritten (ends : List TaskEnd) (old new : List EndedTask) : Type 0 where
+pub record AreWritten (ends : List TaskEnd) (old new : List ReportedTask) : Type 0 where
   pub count : length new ≡ length old
   pub written : (n : ℕ) (ended : TaskEnd) → n < length old → slice_get ends n ≡ Some ended
-      → slice_get new n ≡ Some (task_of ended)
+      → slice_get new n ≡ Some (reported_task ended)
   pub kept : (n : ℕ) → length ends ≤ n → slice_get new n ≡ slice_get old n
 
 -- the program is that of the piece, which the code has
@@ -120,7 +120,7 @@ RefusesNumbers count credit size NoMemory = ⊥
 -- a job of these programs is admitted and played by the live task of lowest number; or it is
 -- refused, and nothing changes
 pub data IsJobOf (programs : List ProgramBytes) (credit : ℕ) (old new : List ℕ)
-    (room tasks : List EndedTask) (told : JobReport) : Type 0 where
+    (room tasks : List ReportedTask) (told : JobReport) : Type 0 where
   played : (job : AdmittedJob) → IsAdmittedFrom programs credit old job → (report : Report)
       → IsPlayed job report → new ≡ report.buffer.items → AreWritten report.tasks.items room tasks
       → told ≡ played_report report → IsJobOf programs credit old new room tasks told
@@ -130,7 +130,7 @@ pub data IsJobOf (programs : List ProgramBytes) (credit : ℕ) (old new : List �
 -- a job of the programs that the pieces of the code are; or it is refused before they are cut out,
 -- and nothing changes
 pub data IsJob (code : List ℕ) (pieces : List CodePiece) (credit : ℕ) (old new : List ℕ)
-    (room tasks : List EndedTask) (told : JobReport) : Type 0 where
+    (room tasks : List ReportedTask) (told : JobReport) : Type 0 where
   of_programs : (programs : List ProgramBytes) → length programs ≡ length pieces
       → AreCut code pieces programs → IsJobOf programs credit old new room tasks told
       → IsJob code pieces credit old new room tasks told

@@ -6,7 +6,7 @@ use Rattle.verifier.specs.declared.refusals.Refusal.{Refusal}
 use Rattle.verifier.specs.Checked.{Checked, cost_at}
 use Rattle.verifier.specs.Refusals.{IsAccepted, RefusesProgram}
 use Rattle.telgovan_c.specs.declared.boxed.Boxed.{Boxed}
-use Rattle.telgovan_c.specs.declared.handle.Program.{Program}
+use Rattle.telgovan_c.specs.declared.program_handle.ProgramHandle.{ProgramHandle}
 use Rattle.telgovan_c.specs.declared.runs.Run.{Run}
 use Rattle.telgovan_c.specs.declared.runs.RunOutcome.{RunOutcome}
 use Rattle.telgovan_c.specs.declared.verdicts.Verdict.{Verdict}
@@ -19,8 +19,8 @@ shown None = None
 shown (Some boxed) = Some (arc_value boxed.program)
 
 -- the program that the handle holds, if it holds one
-abbrev pub program_in : Program → Option Checked
-program_in p = shown p.held.kept
+abbrev pub held_program : ProgramHandle → Option Checked
+held_program p = shown p.held.kept
 
 -- the handle holds the program of these bytes; or that is refused, and the handle holds what it
 -- held
@@ -56,12 +56,12 @@ pub data IsHeldBurst (program : Option Checked) (credit : ℕ) (old new : List �
 
 -- the other handle holds the same program; or there is none, or no memory, and it holds what it
 -- held
-pub data IsShared (program old new : Option Checked) (status : ℕ) : Type 0 where
+pub data SharesProgram (program old new : Option Checked) (status : ℕ) : Type 0 where
   shared : (p : Checked) → program ≡ Some p → new ≡ Some p → status ≡ 0
-      → IsShared program old new status
-  empty : program ≡ None → new ≡ old → status ≡ 41 → IsShared program old new status
+      → SharesProgram program old new status
+  empty : program ≡ None → new ≡ old → status ≡ 41 → SharesProgram program old new status
   no_memory : (p : Checked) → program ≡ Some p → new ≡ old → status ≡ 99
-      → IsShared program old new status
+      → SharesProgram program old new status
 
 -- the cost is that of the program that the handle holds, if it holds one
 pub data IsHeldCost (program : Option Checked) (old new status : ℕ) : Type 0 where

@@ -2,22 +2,18 @@
 use Rattle.std.specs.Prelude.{◌≡◌, ℕ, zero, suc, ◌+◌, ◌<◌, ◌≤◌, ◌⊎◌, List, ◌++◌, length, take, drop, slice_range, slice_get, Some}
 use Rattle.machine_model.specs.Limits.{max_credit, max_part}
 use Rattle.helpers.specs.Table.{job_table}
-use Rattle.machine_model.specs.Alone.{MayAnswer}
 use Rattle.verifier.specs.declared.refusals.Refusal.{Refusal}
 use Rattle.verifier.specs.Checked.{Checked}
 use Rattle.verifier.specs.RefusalCodes.{number_of}
 use Rattle.verifier.specs.Refusals.{IsAccepted, RefusesProgram}
+use Rattle.run_trace.specs.Traces.{unanswered}
 use Rattle.virtual_machine.specs.declared.vm_fault.VmFault.{VmFault}
 use Rattle.virtual_machine.specs.Executes.{ExecutesOn, IsUnrunnable}
-use Rattle.virtual_machine.specs.VmFaultCodes.{code_of_fault}
+use Rattle.virtual_machine.specs.VmFaultCodes.{code_of_vm_fault}
 use Rattle.telgovan_c.specs.declared.verdicts.Verdict.{Verdict}
 use Rattle.telgovan_c.specs.declared.runs.RunOutcome.{RunOutcome}
 use Rattle.telgovan_c.specs.declared.runs.Run.{Run}
 use Rattle.telgovan_c.specs.Verdicts.{accepted_verdict, refused_verdict}
-
--- nobody answers a helper of a caller's, which no program may call
-abbrev pub unanswered : MayAnswer
-unanswered helper arguments answer = ⊥
 
 abbrev pub refused_run : ℕ → RunOutcome
 refused_run number = record { r0 = 0; status = number; used = 0 }
@@ -30,7 +26,7 @@ pub data IsRunOutcome (p : Checked) (argument credit : ℕ) (old new : List ℕ)
       → IsRunOutcome p argument credit old new told
   refused : credit ≤ max_credit → length old ≤ max_part → (fault : VmFault)
       → IsUnrunnable (Some p) credit (length old) fault → new ≡ old
-      → told ≡ refused_run (code_of_fault fault) → IsRunOutcome p argument credit old new told
+      → told ≡ refused_run (code_of_vm_fault fault) → IsRunOutcome p argument credit old new told
   ran : credit ≤ max_credit → length old ≤ max_part → (r0 used : ℕ)
       → ExecutesOn (Some p) unanswered argument credit old r0 used new
       → told ≡ record { r0 = r0; status = 0; used = used }

@@ -22,18 +22,18 @@ IsSourceText bytes None = IsUtf8 bytes → ⊥
 IsSourceText bytes (Some text) = IsUtf8 bytes × (text ≡ bytes)
 
 -- the bytes stand at the beginning of the room, if they fit, and nothing else of it changes
-pub data IsWritten (bytes old new : List ℕ) (told : Written) : Type 0 where
+pub data IsTextWritten (bytes old new : List ℕ) (told : Written) : Type 0 where
   fits : length bytes ≤ length old → new ≡ bytes ++ drop (length bytes) old
       → told ≡ record { length = length bytes; place = 0; status = 0; has_place = false }
-      → IsWritten bytes old new told
+      → IsTextWritten bytes old new told
   too_long : length old < length bytes → new ≡ old
       → told ≡ record { length = length bytes; place = 0; status = 65; has_place = false }
-      → IsWritten bytes old new told
+      → IsTextWritten bytes old new told
 
 -- of a source text
 pub data IsAssembled (source old new : List ℕ) (told : Written) : Type 0 where
   assembled : (bytes : List ℕ) (insns : List Insn) → IsUtf8 source
-      → IsAssembly bytes insns (source_lines source) → IsWritten bytes old new told
+      → IsAssembly bytes insns (source_lines source) → IsTextWritten bytes old new told
       → IsAssembled source old new told
   refused : (fault : TextFault) → IsUtf8 source → IsTextRefusal fault (source_lines source)
       → new ≡ old → told ≡ refused_text (text_number fault) (line_of fault)
@@ -44,7 +44,7 @@ pub data IsAssembled (source old new : List ℕ) (told : Written) : Type 0 where
 -- of bytes, as lines
 pub data IsDisassembled (code old new : List ℕ) (told : Written) : Type 0 where
   listed : (listing : List ℕ) (insns : List Insn) → IsListing listing code insns
-      → IsWritten listing old new told → IsDisassembled code old new told
+      → IsTextWritten listing old new told → IsDisassembled code old new told
   refused : (fault : CodecFault) → IsRefusal fault code → new ≡ old
       → told ≡ refused_text (codec_number fault) (codec_slot fault)
       → IsDisassembled code old new told

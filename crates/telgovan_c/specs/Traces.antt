@@ -8,12 +8,11 @@ use Rattle.verifier.specs.RefusalCodes.{number_of, slot_of}
 use Rattle.verifier.specs.Refusals.{IsAccepted, RefusesProgram}
 use Rattle.virtual_machine.specs.declared.vm_fault.VmFault.{VmFault}
 use Rattle.virtual_machine.specs.Executes.{ExecutesOn, IsUnrunnable}
-use Rattle.virtual_machine.specs.VmFaultCodes.{code_of_fault}
+use Rattle.virtual_machine.specs.VmFaultCodes.{code_of_vm_fault}
 use Rattle.run_trace.specs.declared.tracing.Trace.{Trace}
-use Rattle.run_trace.specs.Traces.{GoesFar, IsTrace}
+use Rattle.run_trace.specs.Traces.{RunGoesFar, IsTrace, unanswered}
 use Rattle.telgovan_c.specs.declared.texts.Written.{Written}
-use Rattle.telgovan_c.specs.Runs.{unanswered}
-use Rattle.telgovan_c.specs.Texts.{IsSourceText, IsWritten, refused_text}
+use Rattle.telgovan_c.specs.Texts.{IsSourceText, IsTextWritten, refused_text}
 
 -- so many lines, each with a line feed behind it
 abbrev pub AreLines : ℕ → List ℕ → Type 0
@@ -27,9 +26,9 @@ pub data AreStepsWritten (code source : List ℕ) (argument credit : ℕ) (memor
     (told : Written) : Type 0 where
   written : (text : Option (List ℕ)) → IsSourceText source text → (trace : Trace)
       → IsTrace code text argument credit memory trace → (lines : List ℕ)
-      → AreLines (length trace.steps.items) lines → IsWritten lines old new told
+      → AreLines (length trace.steps.items) lines → IsTextWritten lines old new told
       → AreStepsWritten code source argument credit memory old new told
-  too_far : GoesFar code argument credit memory → new ≡ old → told ≡ refused_text 65 None
+  too_far : RunGoesFar code argument credit memory → new ≡ old → told ≡ refused_text 65 None
       → AreStepsWritten code source argument credit memory old new told
   no_memory : new ≡ old → told ≡ refused_text 99 None
       → AreStepsWritten code source argument credit memory old new told
@@ -43,7 +42,7 @@ pub data IsProgramTraced (p : Checked) (code source : List ℕ) (argument credit
       → IsProgramTraced p code source argument credit memory old new told
   stopped : credit ≤ max_credit → length memory ≤ max_part → (fault : VmFault)
       → IsUnrunnable (Some p) credit (length memory) fault → new ≡ old
-      → told ≡ refused_text (code_of_fault fault) None
+      → told ≡ refused_text (code_of_vm_fault fault) None
       → IsProgramTraced p code source argument credit memory old new told
   ran : credit ≤ max_credit → length memory ≤ max_part → (r0 used : ℕ) (left : List ℕ)
       → ExecutesOn (Some p) unanswered argument credit memory r0 used left
@@ -53,11 +52,11 @@ pub data IsProgramTraced (p : Checked) (code source : List ℕ) (argument credit
       → IsProgramTraced p code source argument credit memory old new told
 
 -- a program verified and its run told; or refused
-pub data IsTraced (need : ℕ) (code source : List ℕ) (argument credit : ℕ)
+pub data IsTraceTold (need : ℕ) (code source : List ℕ) (argument credit : ℕ)
     (memory old new : List ℕ) (told : Written) : Type 0 where
   accepted : (program : Checked) → IsAccepted need code job_table program
       → IsProgramTraced program code source argument credit memory old new told
-      → IsTraced need code source argument credit memory old new told
+      → IsTraceTold need code source argument credit memory old new told
   refused : (refusal : Refusal) → RefusesProgram need code job_table refusal → new ≡ old
       → told ≡ refused_text (number_of refusal) (slot_of refusal)
-      → IsTraced need code source argument credit memory old new told
+      → IsTraceTold need code source argument credit memory old new told

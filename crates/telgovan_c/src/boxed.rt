@@ -9,7 +9,7 @@ use refusal::NoMemory;
 use std::alloc::Global;
 use std::sync::Arc;
 use verifier::Verified;
-use yielding::Task;
+use yielding::HostedTask;
 
 /// A program that several handles may hold, in several threads, and the task that runs it, where a
 /// handle holds one. It was verified with the helpers of a job, or with helpers of the host's
@@ -18,7 +18,7 @@ use yielding::Task;
 pub struct Boxed {
     program: Arc<Verified, Global>,
     hosted: bool,
-    pub(crate) task: Option<Box<Task>>,
+    pub(crate) task: Option<Box<HostedTask>>,
     ghost own: { hosted ≡ false → (arc_value program).helpers ≡ job_table } by { Prim.hlevel
         props },
     ghost beside: { hosted ≡ true → (arc_value program).helpers ≢ job_table } by { Prim.hlevel
@@ -59,7 +59,11 @@ impl Boxed {
     }
 
     /// The same program, with a task that runs it.
-    pub(crate) fn running(&self, alloc: Global, task: Task) -> Result<Box<Boxed, Global>, NoMemory>
+    pub(crate) fn running(
+        &self,
+        alloc: Global,
+        task: HostedTask,
+    ) -> Result<Box<Boxed, Global>, NoMemory>
         ensures { IfOk result (λ boxed.
             option_map (λ b. b.value) boxed.value.task ≡ Some task) }
     {

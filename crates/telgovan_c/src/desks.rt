@@ -1,7 +1,7 @@
 //! Desks that C holds: what clients say and are told, and the jobs that C runs for them.
 
 ghost use Rattle.std.specs.Prelude.{◌≡◌, None};
-ghost use Rattle.telgovan_c.specs.Desks.{IsConnected, IsDesk, IsDisconnected, IsFed, IsHanded, IsHandedBy, IsSent, desk_in};
+ghost use Rattle.telgovan_c.specs.Desks.{IsConnected, IsDesk, IsDisconnected, IsFed, IsJobGiven, IsHandedBy, IsSent, desk_in};
 
 use crate::desk_handle::DeskHandle;
 use crate::explains::place_into;
@@ -126,8 +126,8 @@ fn disconnect_held(alloc: Global, desk: DeskHandle, connection: u64) -> (DeskHan
     }
 }
 
-// Hands the first job that waits over, if its object fits the room.
-fn hand_over(desk: &mut HostDesk, room: &mut [u8], told: &mut HandedJob) -> u32
+// Gives the first job that waits, if its object fits the room.
+fn give_job(desk: &mut HostDesk, room: &mut [u8], told: &mut HandedJob) -> u32
     ensures { IsHandedBy desk.old room.old desk.new room.new told.new result }
 {
     let length = match desk.first_job() {
@@ -158,12 +158,12 @@ fn next_held(
     room: &mut [u8],
     told: &mut HandedJob,
 ) -> (DeskHandle, u32)
-    ensures { IsHanded (desk_in desk) room.old told.old (desk_in result.0) room.new told.new
+    ensures { IsJobGiven (desk_in desk) room.old told.old (desk_in result.0) room.new told.new
         result.1 }
 {
     match desk.into_box() {
         Some(mut desk) => {
-            let status = hand_over(&mut desk, room, told);
+            let status = give_job(&mut desk, room, told);
             (DeskHandle::of(desk), status)
         }
         None => (DeskHandle::none(alloc), NO_DESK),
@@ -261,7 +261,7 @@ pub extern "C" fn telgovan_desk_next_job(
     room: &mut [u8],
     told: &mut HandedJob,
 ) -> u32
-    ensures { IsHanded (desk_in desk.old) room.old told.old (desk_in desk.new) room.new told.new
+    ensures { IsJobGiven (desk_in desk.old) room.old told.old (desk_in desk.new) room.new told.new
         result }
 {
     let taken = replace(desk, DeskHandle::none(alloc));

@@ -2,7 +2,7 @@
 
 ghost use Rattle.std.specs.Prelude.{◌≡◌, length, None};
 ghost use Rattle.verifier.specs.RefusalCodes.{number_of, slot_of};
-ghost use Rattle.telgovan_c.specs.Explains.{IsExplained, IsPlaced, explained_as};
+ghost use Rattle.telgovan_c.specs.Explains.{IsExplained, FillsRoom, explained_as};
 
 use crate::texts::{Written, source_in};
 use explain::{explain, text_of};
@@ -15,7 +15,7 @@ const NO_MEMORY: u32 = 99;
 
 /// Copies the bytes to the beginning of the room, if they fit.
 pub(crate) fn place_into(bytes: &[u8], room: &mut [u8])
-    ensures { IsPlaced bytes.now room.old room.new }
+    ensures { FillsRoom bytes.now room.old room.new }
 {
     if bytes.len() <= room.len() {
         room[..bytes.len()].copy_from_slice(bytes);

@@ -2,10 +2,10 @@
 
 ghost use Rattle.std.specs.Prelude.{◌≡◌, ◌≤◌, IfOk, IfErr, map};
 ghost use Rattle.telgovan_c.specs.Desks.{desk_in};
-ghost use Rattle.telgovan_c.specs.Finishing.{IsFinished, IsFinishedBy, IsTold, RefusesEnds, RefusesTold, end_of};
+ghost use Rattle.telgovan_c.specs.Finishing.{FinishesJob, IsFinishedBy, IsJobOutcome, RefusesEnds, RefusesTold, task_end_of};
 
 use crate::desk_handle::DeskHandle;
-use crate::jobs::{EndedTask, JobReport};
+use crate::jobs::{JobReport, ReportedTask};
 use conversation::HostDesk;
 use credit_book::{Report, TaskEnd};
 use std::alloc::Global;
@@ -19,9 +19,9 @@ const OVER_LIMIT: u32 = 65;
 const NO_MEMORY: u32 = 99;
 
 // A task that C tells. Each counts as run.
-fn end_of(task: &EndedTask) -> TaskEnd
+fn end_of(task: &ReportedTask) -> TaskEnd
     requires { task.now.program ≤ 65535 }
-    ensures { result ≡ end_of task.now }
+    ensures { result ≡ task_end_of task.now }
 {
     TaskEnd {
         number: task.number,
@@ -36,8 +36,8 @@ fn end_of(task: &EndedTask) -> TaskEnd
 }
 
 // The tasks that C tells.
-fn ends_of(alloc: Global, tasks: &[EndedTask]) -> Result<Vec<TaskEnd>, u32>
-    ensures ok { IfOk result (λ ends. ends.items ≡ map end_of tasks.now) }
+fn ends_of(alloc: Global, tasks: &[ReportedTask]) -> Result<Vec<TaskEnd>, u32>
+    ensures ok { IfOk result (λ ends. ends.items ≡ map task_end_of tasks.now) }
     ensures err { IfErr result (λ status. RefusesEnds tasks.now status) }
 {
     let mut ends = Vec::new(alloc);
@@ -57,11 +57,11 @@ fn report_of(
     alloc: Global,
     report: &JobReport,
     buffer: &[u8],
-    tasks: &[EndedTask],
+    tasks: &[ReportedTask],
 ) -> Result<Report, u32>
     ensures ok { IfOk result (λ told. (told.spent ≡ report.now.spent)
         × (told.returned ≡ report.now.returned) × (told.buffer.items ≡ buffer.now)
-        × (told.tasks.items ≡ map end_of tasks.now)) }
+        × (told.tasks.items ≡ map task_end_of tasks.now)) }
     ensures err { IfErr result (λ status. RefusesEnds tasks.now status) }
 {
     let tasks = ends_of(alloc, tasks)?;
@@ -82,9 +82,9 @@ fn outcome_of(
     alloc: Global,
     report: &JobReport,
     buffer: &[u8],
-    tasks: &[EndedTask],
+    tasks: &[ReportedTask],
 ) -> Result<Result<Report, u8>, u32>
-    ensures ok { IfOk result (λ outcome. IsTold report.now buffer.now tasks.now outcome) }
+    ensures ok { IfOk result (λ outcome. IsJobOutcome report.now buffer.now tasks.now outcome) }
     ensures err { IfErr result (λ status. RefusesTold report.now tasks.now status) }
 {
     if report.status == 0 {
@@ -116,9 +116,9 @@ fn finish_held(
     job: u64,
     report: &JobReport,
     buffer: &[u8],
-    tasks: &[EndedTask],
+    tasks: &[ReportedTask],
 ) -> (DeskHandle, u32)
-    ensures { IsFinished (desk_in desk) job report.now buffer.now tasks.now (desk_in result.0)
+    ensures { FinishesJob (desk_in desk) job report.now buffer.now tasks.now (desk_in result.0)
         result.1 }
 {
     match desk.into_box() {
@@ -144,9 +144,9 @@ pub extern "C" fn telgovan_desk_finish(
     job: u64,
     report: &JobReport,
     buffer: &[u8],
-    tasks: &[EndedTask],
+    tasks: &[ReportedTask],
 ) -> u32
-    ensures { IsFinished (desk_in desk.old) job report.now buffer.now tasks.now (desk_in desk.new)
+    ensures { FinishesJob (desk_in desk.old) job report.now buffer.now tasks.now (desk_in desk.new)
         result }
 {
     let taken = replace(desk, DeskHandle::none(alloc));

@@ -5,12 +5,12 @@ ghost use Rattle.std.proofs.Props.{props};
 ghost use Rattle.helpers.specs.Table.{arity_in, job_table};
 ghost use Rattle.telgovan_c.specs.Hosted.{AreAritiesTo, AreHelpersTo, IsLoadedOver, IsLoadedWith, no_helper};
 ghost use Rattle.telgovan_c.specs.HelperFaults.{AreNoHelpers, IsWordFault, code_of_helper_fault};
-ghost use Rattle.telgovan_c.specs.Programs.{program_in};
+ghost use Rattle.telgovan_c.specs.Programs.{held_program};
 ghost use Rattle.telgovan_c.specs.Verdicts.{refused_at};
 
 use crate::boxed::Boxed;
-use crate::handle::Program;
 use crate::helper_fault::HelperFault;
+use crate::program_handle::ProgramHandle;
 use crate::verdicts::{Verdict, accepted_verdict, refused_verdict};
 use helpers::HelperTable;
 use std::alloc::Global;
@@ -95,17 +95,17 @@ fn load_over(
     need: u32,
     code: &[u8],
     helpers: &Helpers,
-    program: &mut Program,
+    program: &mut ProgramHandle,
 ) -> Verdict
-    ensures { IsLoadedOver need code.now helpers.now.table (program_in program.old)
-        (program_in program.new) result }
+    ensures { IsLoadedOver need code.now helpers.now.table (held_program program.old)
+        (held_program program.new) result }
 {
     match verify(alloc, need, code, &helpers.table) {
         Ok(verified) => {
             let verdict = accepted_verdict(&verified);
             match Boxed::of(alloc, verified, helpers.hosted) {
                 Ok(boxed) => {
-                    *program = Program::of(boxed);
+                    *program = ProgramHandle::of(boxed);
                     verdict
                 }
                 Err(_) => refused_verdict(&Refusal::NoMemory),
@@ -128,9 +128,15 @@ fn refused_helpers(fault: HelperFault) -> Verdict
 }
 
 // Loads a program over the helpers that the words say.
-fn load_with(alloc: Global, need: u32, code: &[u8], words: &[u32], program: &mut Program) -> Verdict
-    ensures { IsLoadedWith need code.now words.now (program_in program.old)
-        (program_in program.new) result }
+fn load_with(
+    alloc: Global,
+    need: u32,
+    code: &[u8],
+    words: &[u32],
+    program: &mut ProgramHandle,
+) -> Verdict
+    ensures { IsLoadedWith need code.now words.now (held_program program.old)
+        (held_program program.new) result }
 {
     match helpers_told(alloc, words) {
         Ok(helpers) => load_over(alloc, need, code, &helpers, program),
@@ -147,11 +153,11 @@ pub extern "C" fn telgovan_program_load_with(
     need: u32,
     code: &[u8],
     words: &[u32],
-    program: &mut Program,
+    program: &mut ProgramHandle,
     verdict: &mut Verdict,
 ) -> u32
-    ensures loaded { IsLoadedWith need code.now words.now (program_in program.old)
-        (program_in program.new) verdict.new }
+    ensures loaded { IsLoadedWith need code.now words.now (held_program program.old)
+        (held_program program.new) verdict.new }
     ensures status { result ≡ verdict.new.status }
 {
     *verdict = load_with(alloc, need, code, words, program);

@@ -2,7 +2,7 @@
 
 ghost use Rattle.std.specs.Prelude.{◌≡◌, ◌≤◌, ◌+◌, ◌<◌, length, slice_range, IfOk, IfSome, IfNone};
 ghost use Rattle.job_core.specs.Admission.{IsWithinLimits};
-ghost use Rattle.telgovan_c.specs.Jobs.{AreCutTo, AreWritten, IsJob, IsJobOf, RefusesNumbers, IsWithinNumbers, missing_report, played_report, refused_report, task_of};
+ghost use Rattle.telgovan_c.specs.Jobs.{AreCutTo, AreWritten, IsJob, IsJobOf, RefusesNumbers, IsWithinNumbers, missing_report, played_report, refused_report, reported_task};
 
 use job_core::{AdmitFault, ProgramBytes, Report, TaskEnd, admit, play_lowest};
 use machine_model::{MAX_CREDIT, MAX_PART};
@@ -26,7 +26,7 @@ pub struct CodePiece {
 /// how much of that it spent and returned, and R0 at its end.
 #[repr(C)]
 #[derive(Clone, Copy)]
-pub struct EndedTask {
+pub struct ReportedTask {
     pub argument: u64,
     pub r0: u64,
     pub number: u32,
@@ -88,10 +88,10 @@ fn missing_report(place: u32) -> JobReport
 }
 
 // A task of the report, for C.
-fn task_of(end: &TaskEnd) -> EndedTask
-    ensures { result ≡ task_of end.now }
+fn task_of(end: &TaskEnd) -> ReportedTask
+    ensures { result ≡ reported_task end.now }
 {
-    EndedTask {
+    ReportedTask {
         argument: end.arg,
         r0: end.r0,
         number: end.number,
@@ -103,7 +103,7 @@ fn task_of(end: &TaskEnd) -> EndedTask
 }
 
 // Writes as many of the tasks as there is room for.
-fn write_tasks(ends: &[TaskEnd], tasks: &mut [EndedTask])
+fn write_tasks(ends: &[TaskEnd], tasks: &mut [ReportedTask])
     ensures { AreWritten ends.now tasks.old tasks.new }
 {
     let mut done = 0;
@@ -117,7 +117,7 @@ fn write_tasks(ends: &[TaskEnd], tasks: &mut [EndedTask])
 }
 
 // Writes what a job left of its buffer and its tasks.
-fn write_report(report: &Report, buffer: &mut [u8], tasks: &mut [EndedTask]) -> JobReport
+fn write_report(report: &Report, buffer: &mut [u8], tasks: &mut [ReportedTask]) -> JobReport
     requires same { length report.now.buffer.items ≡ length buffer.old }
     ensures buffer { buffer.new ≡ report.now.buffer.items }
     ensures tasks { AreWritten report.now.tasks.items tasks.old tasks.new }
@@ -202,7 +202,7 @@ fn play_programs(
     programs: &[ProgramBytes],
     credit: u32,
     buffer: &mut [u8],
-    tasks: &mut [EndedTask],
+    tasks: &mut [ReportedTask],
 ) -> JobReport
     requires limits { IsWithinLimits programs.now credit buffer.old }
     ensures { IsJobOf programs.now credit buffer.old buffer.new tasks.old tasks.new result }
@@ -227,7 +227,7 @@ fn play_within(
     pieces: &[CodePiece],
     credit: u32,
     buffer: &mut [u8],
-    tasks: &mut [EndedTask],
+    tasks: &mut [ReportedTask],
 ) -> JobReport
     requires limits { IsWithinNumbers (length pieces.now) credit (length buffer.old) }
     ensures { IsJob code.now pieces.now credit buffer.old buffer.new tasks.old tasks.new result }
@@ -250,7 +250,7 @@ fn play_pieces(
     pieces: &[CodePiece],
     credit: u32,
     buffer: &mut [u8],
-    tasks: &mut [EndedTask],
+    tasks: &mut [ReportedTask],
 ) -> JobReport
     ensures { IsJob code.now pieces.now credit buffer.old buffer.new tasks.old tasks.new result }
 {
@@ -277,7 +277,7 @@ pub extern "C" fn telgovan_job(
     pieces: &[CodePiece],
     credit: u32,
     buffer: &mut [u8],
-    tasks: &mut [EndedTask],
+    tasks: &mut [ReportedTask],
     report: &mut JobReport,
 ) -> u32
     ensures job { IsJob code.now pieces.now credit buffer.old buffer.new tasks.old tasks.new

@@ -6,6 +6,7 @@
 //! of the refusal.
 #![tactic(auto)]
 
+mod box_held;
 mod boxed;
 mod desk_handle;
 mod desk_held;
@@ -13,12 +14,11 @@ mod desks;
 mod explains;
 mod finishing;
 mod graphs;
-mod handle;
-mod held;
 mod helper_fault;
 mod hosted;
 mod jobs;
 mod parts;
+mod program_handle;
 mod programs;
 mod runs;
 mod task_handle;
@@ -35,9 +35,9 @@ pub use desks::{
 pub use explains::telgovan_explain;
 pub use finishing::telgovan_desk_finish;
 pub use graphs::telgovan_graph;
-pub use handle::Program;
 pub use hosted::telgovan_program_load_with;
-pub use jobs::{CodePiece, EndedTask, JobReport, telgovan_job};
+pub use jobs::{CodePiece, JobReport, ReportedTask, telgovan_job};
+pub use program_handle::ProgramHandle;
 pub use programs::{
     telgovan_program_burst, telgovan_program_cost, telgovan_program_load, telgovan_program_run,
     telgovan_program_share, telgovan_program_unload,

@@ -1,10 +1,10 @@
 //! Programs that C holds between calls.
 
 ghost use Rattle.std.specs.Prelude.{◌≡◌, None};
-ghost use Rattle.telgovan_c.specs.Programs.{IsHeldBurst, IsHeldCost, IsHeldRun, IsLoaded, IsShared, program_in};
+ghost use Rattle.telgovan_c.specs.Programs.{IsHeldBurst, IsHeldCost, IsHeldRun, IsLoaded, SharesProgram, held_program};
 
 use crate::boxed::Boxed;
-use crate::handle::Program;
+use crate::program_handle::ProgramHandle;
 use crate::runs::{Run, RunOutcome, refused_run, run_all, run_program};
 use crate::verdicts::{Verdict, accepted_verdict, refused_verdict};
 use helpers::HelperTable;
@@ -27,15 +27,15 @@ pub(crate) fn sendable<T: Send>(value: T) -> T
 }
 
 // Loads a program into the handle, in place of the one that it held.
-fn load(alloc: Global, need: u32, code: &[u8], program: &mut Program) -> Verdict
-    ensures { IsLoaded need code.now (program_in program.old) (program_in program.new) result }
+fn load(alloc: Global, need: u32, code: &[u8], program: &mut ProgramHandle) -> Verdict
+    ensures { IsLoaded need code.now (held_program program.old) (held_program program.new) result }
 {
     match verify(alloc, need, code, &HelperTable::job()) {
         Ok(verified) => {
             let verdict = accepted_verdict(&verified);
             match Boxed::of(alloc, verified, false) {
                 Ok(boxed) => {
-                    *program = Program::of(boxed);
+                    *program = ProgramHandle::of(boxed);
                     verdict
                 }
                 Err(_) => refused_verdict(&Refusal::NoMemory),
@@ -48,79 +48,83 @@ fn load(alloc: Global, need: u32, code: &[u8], program: &mut Program) -> Verdict
 // Runs what the handle holds once, and gives the handle back.
 fn run_held(
     alloc: Global,
-    program: Program,
+    program: ProgramHandle,
     credit: u32,
     argument: u64,
     memory: &mut [u8],
-) -> (Program, RunOutcome)
-    ensures run { IsHeldRun (program_in program) argument credit memory.old memory.new result.1 }
-    ensures same { program_in result.0 ≡ program_in program }
+) -> (ProgramHandle, RunOutcome)
+    ensures run { IsHeldRun (held_program program) argument credit memory.old memory.new result.1 }
+    ensures same { held_program result.0 ≡ held_program program }
 {
     match program.into_box() {
         Some(boxed) => {
             if boxed.is_hosted() {
-                return (Program::of(boxed), refused_run(MAY_ASK));
+                return (ProgramHandle::of(boxed), refused_run(MAY_ASK));
             }
             let outcome = run_program(alloc, boxed.program(), memory, argument, credit);
-            (Program::of(boxed), outcome)
+            (ProgramHandle::of(boxed), outcome)
         }
-        None => (Program::none(alloc), refused_run(NO_PROGRAM)),
+        None => (ProgramHandle::none(alloc), refused_run(NO_PROGRAM)),
     }
 }
 
 // Runs what the handle holds on each piece in turn, and gives the handle back.
 fn run_held_all(
     alloc: Global,
-    program: Program,
+    program: ProgramHandle,
     credit: u32,
     memory: &mut [u8],
     runs: &mut [Run],
-) -> (Program, u32)
-    ensures runs { IsHeldBurst (program_in program) credit memory.old memory.new runs.old runs.new
+) -> (ProgramHandle, u32)
+    ensures runs { IsHeldBurst (held_program program) credit memory.old memory.new runs.old runs.new
         result.1 }
-    ensures same { program_in result.0 ≡ program_in program }
+    ensures same { held_program result.0 ≡ held_program program }
 {
     match program.into_box() {
         Some(boxed) => {
             if boxed.is_hosted() {
-                return (Program::of(boxed), MAY_ASK);
+                return (ProgramHandle::of(boxed), MAY_ASK);
             }
             run_all(alloc, boxed.program(), memory, runs, credit);
-            (Program::of(boxed), 0)
+            (ProgramHandle::of(boxed), 0)
         }
-        None => (Program::none(alloc), NO_PROGRAM),
+        None => (ProgramHandle::none(alloc), NO_PROGRAM),
     }
 }
 
 // One more owner of what the handle holds, put into another handle, and the handle again.
-fn share_held(alloc: Global, program: Program, other: &mut Program) -> (Program, u32)
-    ensures shared { IsShared (program_in program) (program_in other.old) (program_in other.new)
-        result.1 }
-    ensures same { program_in result.0 ≡ program_in program }
+fn share_held(
+    alloc: Global,
+    program: ProgramHandle,
+    other: &mut ProgramHandle,
+) -> (ProgramHandle, u32)
+    ensures shared { SharesProgram (held_program program) (held_program other.old)
+        (held_program other.new) result.1 }
+    ensures same { held_program result.0 ≡ held_program program }
 {
     match program.into_box() {
         Some(boxed) => match boxed.share(alloc) {
             Ok(shared) => {
-                *other = sendable(Program::of(shared));
-                (Program::of(boxed), 0)
+                *other = sendable(ProgramHandle::of(shared));
+                (ProgramHandle::of(boxed), 0)
             }
-            Err(_) => (Program::of(boxed), NO_MEMORY),
+            Err(_) => (ProgramHandle::of(boxed), NO_MEMORY),
         },
-        None => (Program::none(alloc), NO_PROGRAM),
+        None => (ProgramHandle::none(alloc), NO_PROGRAM),
     }
 }
 
 // What a run of what the handle holds may cost, and the handle again.
-fn cost_held(alloc: Global, program: Program, cost: &mut u32) -> (Program, u32)
-    ensures cost { IsHeldCost (program_in program) cost.old cost.new result.1 }
-    ensures same { program_in result.0 ≡ program_in program }
+fn cost_held(alloc: Global, program: ProgramHandle, cost: &mut u32) -> (ProgramHandle, u32)
+    ensures cost { IsHeldCost (held_program program) cost.old cost.new result.1 }
+    ensures same { held_program result.0 ≡ held_program program }
 {
     match program.into_box() {
         Some(boxed) => {
             *cost = boxed.program().cost();
-            (Program::of(boxed), 0)
+            (ProgramHandle::of(boxed), 0)
         }
-        None => (Program::none(alloc), NO_PROGRAM),
+        None => (ProgramHandle::none(alloc), NO_PROGRAM),
     }
 }
 
@@ -132,10 +136,10 @@ pub extern "C" fn telgovan_program_load(
     alloc: Global,
     need: u32,
     code: &[u8],
-    program: &mut Program,
+    program: &mut ProgramHandle,
     verdict: &mut Verdict,
 ) -> u32
-    ensures loaded { IsLoaded need code.now (program_in program.old) (program_in program.new)
+    ensures loaded { IsLoaded need code.now (held_program program.old) (held_program program.new)
         verdict.new }
     ensures status { result ≡ verdict.new.status }
 {
@@ -149,18 +153,18 @@ pub extern "C" fn telgovan_program_load(
 #[unsafe(no_mangle)]
 pub extern "C" fn telgovan_program_run(
     alloc: Global,
-    program: &mut Program,
+    program: &mut ProgramHandle,
     credit: u32,
     argument: u64,
     memory: &mut [u8],
     outcome: &mut RunOutcome,
 ) -> u32
-    ensures run { IsHeldRun (program_in program.old) argument credit memory.old memory.new
+    ensures run { IsHeldRun (held_program program.old) argument credit memory.old memory.new
         outcome.new }
-    ensures same { program_in program.new ≡ program_in program.old }
+    ensures same { held_program program.new ≡ held_program program.old }
     ensures status { result ≡ outcome.new.status }
 {
-    let taken = replace(program, Program::none(alloc));
+    let taken = replace(program, ProgramHandle::none(alloc));
     let (kept, told) = run_held(alloc, taken, credit, argument, memory);
     *program = kept;
     *outcome = told;
@@ -173,16 +177,16 @@ pub extern "C" fn telgovan_program_run(
 #[unsafe(no_mangle)]
 pub extern "C" fn telgovan_program_burst(
     alloc: Global,
-    program: &mut Program,
+    program: &mut ProgramHandle,
     credit: u32,
     memory: &mut [u8],
     runs: &mut [Run],
 ) -> u32
-    ensures runs { IsHeldBurst (program_in program.old) credit memory.old memory.new runs.old
+    ensures runs { IsHeldBurst (held_program program.old) credit memory.old memory.new runs.old
         runs.new result }
-    ensures same { program_in program.new ≡ program_in program.old }
+    ensures same { held_program program.new ≡ held_program program.old }
 {
-    let taken = replace(program, Program::none(alloc));
+    let taken = replace(program, ProgramHandle::none(alloc));
     let (kept, status) = run_held_all(alloc, taken, credit, memory, runs);
     *program = kept;
     status
@@ -194,14 +198,14 @@ pub extern "C" fn telgovan_program_burst(
 #[unsafe(no_mangle)]
 pub extern "C" fn telgovan_program_share(
     alloc: Global,
-    program: &mut Program,
-    other: &mut Program,
+    program: &mut ProgramHandle,
+    other: &mut ProgramHandle,
 ) -> u32
-    ensures shared { IsShared (program_in program.old) (program_in other.old)
-        (program_in other.new) result }
-    ensures same { program_in program.new ≡ program_in program.old }
+    ensures shared { SharesProgram (held_program program.old) (held_program other.old)
+        (held_program other.new) result }
+    ensures same { held_program program.new ≡ held_program program.old }
 {
-    let taken = replace(program, Program::none(alloc));
+    let taken = replace(program, ProgramHandle::none(alloc));
     let (kept, status) = share_held(alloc, taken, other);
     *program = kept;
     status
@@ -210,11 +214,15 @@ pub extern "C" fn telgovan_program_share(
 /// Tells the most that a run of the program may use of its credit. It answers 0, or 41 where the
 /// handle holds none, after which the cost is what it was.
 #[unsafe(no_mangle)]
-pub extern "C" fn telgovan_program_cost(alloc: Global, program: &mut Program, cost: &mut u32) -> u32
-    ensures cost { IsHeldCost (program_in program.old) cost.old cost.new result }
-    ensures same { program_in program.new ≡ program_in program.old }
+pub extern "C" fn telgovan_program_cost(
+    alloc: Global,
+    program: &mut ProgramHandle,
+    cost: &mut u32,
+) -> u32
+    ensures cost { IsHeldCost (held_program program.old) cost.old cost.new result }
+    ensures same { held_program program.new ≡ held_program program.old }
 {
-    let taken = replace(program, Program::none(alloc));
+    let taken = replace(program, ProgramHandle::none(alloc));
     let (kept, status) = cost_held(alloc, taken, cost);
     *program = kept;
     status
@@ -223,8 +231,8 @@ pub extern "C" fn telgovan_program_cost(alloc: Global, program: &mut Program, co
 /// Lets go of what the handle holds, and frees it where no other handle holds it. The handle holds
 /// none from then on.
 #[unsafe(no_mangle)]
-pub extern "C" fn telgovan_program_unload(alloc: Global, program: &mut Program)
-    ensures { program_in program.new ≡ None }
+pub extern "C" fn telgovan_program_unload(alloc: Global, program: &mut ProgramHandle)
+    ensures { held_program program.new ≡ None }
 {
-    *program = Program::none(alloc);
+    *program = ProgramHandle::none(alloc);
 }

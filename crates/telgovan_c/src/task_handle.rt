@@ -3,14 +3,14 @@
 ghost use Rattle.std.specs.Prelude.{◌≡◌, None, Some, option_map};
 
 use crate::boxed::Boxed;
-use crate::handle::Program;
+use crate::program_handle::ProgramHandle;
 use std::alloc::Global;
 
 /// A task that C holds, or none. All bytes 0 are a handle that holds none.
 #[repr(C)]
 #[derive(Drop)]
 pub struct TaskHandle {
-    handle: Program,
+    handle: ProgramHandle,
 }
 
 impl TaskHandle {
@@ -19,7 +19,7 @@ impl TaskHandle {
         ensures { result.handle.held.kept ≡ None }
     {
         TaskHandle {
-            handle: Program::none(alloc),
+            handle: ProgramHandle::none(alloc),
         }
     }
 
@@ -28,7 +28,7 @@ impl TaskHandle {
         ensures { result.handle.held.kept ≡ Some boxed.value }
     {
         TaskHandle {
-            handle: Program::of(boxed),
+            handle: ProgramHandle::of(boxed),
         }
     }
 

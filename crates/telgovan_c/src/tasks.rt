@@ -2,17 +2,17 @@
 
 ghost use Rattle.std.specs.Prelude.{◌≡◌, ◌≤◌, None, Some, length, option_map};
 ghost use Rattle.std.specs.Arc.{arc_value};
-ghost use Rattle.telgovan_c.specs.Programs.{program_in};
-ghost use Rattle.telgovan_c.specs.Tasks.{IsGone, IsBegun, event_told, refused_event, task_in, task_of};
+ghost use Rattle.telgovan_c.specs.Programs.{held_program};
+ghost use Rattle.telgovan_c.specs.Tasks.{IsResumed, IsBegun, event_told, refused_event, held_task, boxed_task};
 
 use crate::boxed::Boxed;
-use crate::handle::Program;
+use crate::program_handle::ProgramHandle;
 use crate::programs::sendable;
 use crate::task_handle::TaskHandle;
 use machine_model::{MAX_CREDIT, MAX_PART};
 use std::alloc::Global;
 use std::mem::replace;
-use yielding::{Event, Task};
+use yielding::{HostedTask, PieceEnd};
 
 // The handle holds no program.
 const NO_PROGRAM: u32 = 41;
@@ -59,11 +59,11 @@ fn refused_event(number: u32) -> TaskEvent
 }
 
 // What C is told of an event.
-fn event_told(event: Event, used: u32) -> TaskEvent
+fn event_told(event: PieceEnd, used: u32) -> TaskEvent
     ensures { result ≡ event_told event used }
 {
     match event {
-        Event::AtLimit => TaskEvent {
+        PieceEnd::AtLimit => TaskEvent {
             r0: 0,
             arguments: [0; 5],
             status: 0,
@@ -71,7 +71,7 @@ fn event_told(event: Event, used: u32) -> TaskEvent
             helper: 0,
             used,
         },
-        Event::Asks(question) => {
+        PieceEnd::Asks(question) => {
             let arguments = question.arguments;
             TaskEvent {
                 r0: 0,
@@ -82,7 +82,7 @@ fn event_told(event: Event, used: u32) -> TaskEvent
                 used,
             }
         }
-        Event::Ended(r0) => TaskEvent {
+        PieceEnd::Ended(r0) => TaskEvent {
             r0,
             arguments: [0; 5],
             status: 0,
@@ -103,7 +103,7 @@ fn start_boxed(
     task: &mut TaskHandle,
 ) -> u32
     ensures { IsBegun (Some (arc_value boxed.now.program)) argument credit length
-        (task_in task.old) (task_in task.new) result }
+        (held_task task.old) (held_task task.new) result }
 {
     if credit > MAX_CREDIT || length > MAX_PART {
         return OVER_LIMIT;
@@ -111,7 +111,7 @@ fn start_boxed(
     let Ok(owner) = boxed.owner() else {
         return NO_MEMORY;
     };
-    match Task::start(owner, credit, argument, length) {
+    match HostedTask::start(owner, credit, argument, length) {
         Ok(started) => match boxed.running(alloc, started) {
             Ok(running) => {
                 *task = sendable(TaskHandle::of(running));
@@ -126,28 +126,28 @@ fn start_boxed(
 // Lets another handle hold a task of the program, and gives the program's handle back.
 fn start_held(
     alloc: Global,
-    program: Program,
+    program: ProgramHandle,
     credit: u32,
     argument: u64,
     length: usize,
     task: &mut TaskHandle,
-) -> (Program, u32)
-    ensures begun { IsBegun (program_in program) argument credit length (task_in task.old)
-        (task_in task.new) result.1 }
-    ensures same { program_in result.0 ≡ program_in program }
+) -> (ProgramHandle, u32)
+    ensures begun { IsBegun (held_program program) argument credit length (held_task task.old)
+        (held_task task.new) result.1 }
+    ensures same { held_program result.0 ≡ held_program program }
 {
     match program.into_box() {
         Some(boxed) => {
             let status = start_boxed(alloc, &boxed, credit, argument, length, task);
-            (Program::of(boxed), status)
+            (ProgramHandle::of(boxed), status)
         }
-        None => (Program::none(alloc), NO_PROGRAM),
+        None => (ProgramHandle::none(alloc), NO_PROGRAM),
     }
 }
 
 // Goes on with a task.
-fn go_task(task: &mut Task, answer: u64, memory: &mut [u8], limit: u32) -> TaskEvent
-    ensures { IsGone (Some task.old) answer limit memory.old memory.new (Some task.new) result }
+fn go_task(task: &mut HostedTask, answer: u64, memory: &mut [u8], limit: u32) -> TaskEvent
+    ensures { IsResumed (Some task.old) answer limit memory.old memory.new (Some task.new) result }
 {
     match task.go(answer, memory, limit) {
         Ok(event) => event_told(event, task.used()),
@@ -157,8 +157,8 @@ fn go_task(task: &mut Task, answer: u64, memory: &mut [u8], limit: u32) -> TaskE
 
 // Goes on with the box's task, if it has one.
 fn go_boxed(boxed: &mut Boxed, answer: u64, memory: &mut [u8], limit: u32) -> TaskEvent
-    ensures gone { IsGone (task_of boxed.old) answer limit memory.old memory.new
-        (task_of boxed.new) result }
+    ensures gone { IsResumed (boxed_task boxed.old) answer limit memory.old memory.new
+        (boxed_task boxed.new) result }
 {
     match &mut boxed.task {
         Some(task) => go_task(task, answer, memory, limit),
@@ -174,7 +174,7 @@ fn go_held(
     memory: &mut [u8],
     limit: u32,
 ) -> (TaskHandle, TaskEvent)
-    ensures { IsGone (task_in task) answer limit memory.old memory.new (task_in result.0)
+    ensures { IsResumed (held_task task) answer limit memory.old memory.new (held_task result.0)
         result.1 }
 {
     match task.into_box() {
@@ -194,17 +194,17 @@ fn go_held(
 #[unsafe(no_mangle)]
 pub extern "C" fn telgovan_task_start(
     alloc: Global,
-    program: &mut Program,
+    program: &mut ProgramHandle,
     credit: u32,
     argument: u64,
     length: usize,
     task: &mut TaskHandle,
 ) -> u32
-    ensures begun { IsBegun (program_in program.old) argument credit length (task_in task.old)
-        (task_in task.new) result }
-    ensures same { program_in program.new ≡ program_in program.old }
+    ensures begun { IsBegun (held_program program.old) argument credit length (held_task task.old)
+        (held_task task.new) result }
+    ensures same { held_program program.new ≡ held_program program.old }
 {
-    let taken = replace(program, Program::none(alloc));
+    let taken = replace(program, ProgramHandle::none(alloc));
     let (kept, status) = start_held(alloc, taken, credit, argument, length, task);
     *program = kept;
     status
@@ -223,8 +223,8 @@ pub extern "C" fn telgovan_task_go(
     limit: u32,
     event: &mut TaskEvent,
 ) -> u32
-    ensures gone { IsGone (task_in task.old) answer limit memory.old memory.new (task_in task.new)
-        event.new }
+    ensures gone { IsResumed (held_task task.old) answer limit memory.old memory.new
+        (held_task task.new) event.new }
     ensures status { result ≡ event.new.status }
 {
     let taken = replace(task, TaskHandle::none(alloc));
@@ -237,7 +237,7 @@ pub extern "C" fn telgovan_task_go(
 /// Lets go of the task that the handle holds. The handle holds none from then on.
 #[unsafe(no_mangle)]
 pub extern "C" fn telgovan_task_drop(alloc: Global, task: &mut TaskHandle)
-    ensures { task_in task.new ≡ None }
+    ensures { held_task task.new ≡ None }
 {
     *task = TaskHandle::none(alloc);
 }

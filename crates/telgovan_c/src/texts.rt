@@ -1,7 +1,7 @@
 //! Source text to bytes, and back.
 
 ghost use Rattle.std.specs.Prelude.{◌≡◌, option_map};
-ghost use Rattle.telgovan_c.specs.Texts.{IsAssembled, IsDisassembled, IsSourceText, IsWritten, refused_text};
+ghost use Rattle.telgovan_c.specs.Texts.{IsAssembled, IsDisassembled, IsSourceText, IsTextWritten, refused_text};
 
 use assembler::assemble;
 use disassembler::disassemble;
@@ -39,7 +39,7 @@ pub(crate) fn refused_text(number: u32, place: Option<u64>) -> Written
 
 /// Writes the bytes at the beginning of the room, if they fit.
 pub(crate) fn write_into(bytes: &[u8], room: &mut [u8]) -> Written
-    ensures { IsWritten bytes.now room.old room.new result }
+    ensures { IsTextWritten bytes.now room.old room.new result }
 {
     let length = bytes.len() as u64;
     let status = if bytes.len() <= room.len() {

@@ -4,7 +4,7 @@ ghost use Rattle.std.specs.Prelude.{◌≡◌, ℕ, length, string_bytes, IfOk};
 ghost use Rattle.helpers.specs.Table.{job_table};
 ghost use Rattle.verifier.specs.Refusals.{IsAccepted};
 ghost use Rattle.run_trace.specs.Traces.{Runs};
-ghost use Rattle.telgovan_c.specs.Traces.{AreLines, AreStepsWritten, IsProgramTraced, IsTraced};
+ghost use Rattle.telgovan_c.specs.Traces.{AreLines, AreStepsWritten, IsProgramTraced, IsTraceTold};
 
 use crate::runs::run_program;
 use crate::texts::{Written, place_of, refused_text, source_in, write_into};
@@ -110,7 +110,7 @@ fn trace_into(
     memory: &[u8],
     room: &mut [u8],
 ) -> Written
-    ensures { IsTraced need code.now source.now argument credit memory.now room.old room.new
+    ensures { IsTraceTold need code.now source.now argument credit memory.now room.old room.new
         result }
 {
     match verify(alloc, need, code, &HelperTable::job()) {
@@ -139,8 +139,8 @@ pub extern "C" fn telgovan_trace(
     room: &mut [u8],
     told: &mut Written,
 ) -> u32
-    ensures traced { IsTraced need code.now source.now argument credit memory.now room.old room.new
-        told.new }
+    ensures traced { IsTraceTold need code.now source.now argument credit memory.now room.old
+        room.new told.new }
     ensures status { result ≡ told.new.status }
 {
     *told = trace_into(alloc, need, code, source, credit, argument, memory, room);

@@ -8,6 +8,6 @@ pub returns-in-Some : goal.returns-in-Some
 returns-in-Some c =
     let held : desk_in c.args.desk ≡ Some c.in-Some.desk.value = search rules in
     let is : c.deref_mut.result.now ≡ c.in-Some.desk.value = search rules in
-    let new : desk_in c.of.result ≡ Some c.hand_over-status.new.desk = search rules in
-    by_desk c.in-Some.desk.value c.hand_over-status.new.desk held new
-    (subst (λ (d : HostDesk). IsHandedBy d c.args.room.now c.hand_over-status.new.desk c.hand_over-status.new.room c.hand_over-status.new.told c.hand_over-status.result) is c.hand_over-status.ensures)
+    let new : desk_in c.of.result ≡ Some c.give_job-status.new.desk = search rules in
+    by_desk c.in-Some.desk.value c.give_job-status.new.desk held new
+    (subst (λ (d : HostDesk). IsHandedBy d c.args.room.now c.give_job-status.new.desk c.give_job-status.new.room c.give_job-status.new.told c.give_job-status.result) is c.give_job-status.ensures)

@@ -1,10 +1,10 @@
 use Rattle.std.proofs.Common.{inl, refl}
 use Rattle.std.specs.Prelude.{get_or}
 use Rattle.std.proofs.lemmas.Option.{slice_get-get_or}
-use Rattle.telgovan_c.specs.declared.jobs.EndedTask.{EndedTask}
+use Rattle.telgovan_c.specs.declared.jobs.ReportedTask.{ReportedTask}
 use Rattle.telgovan_c.proofs.finishing.ends_of.Goals as goal
 
-abbrev blank : EndedTask
+abbrev blank : ReportedTask
 blank = record { argument = 0; r0 = 0; number = 0; program = 0; given = 0; spent = 0; returned = 0 }
 
 pub returns-then-task-gt65535-clause-err : goal.returns-then-task-gt65535-clause-err

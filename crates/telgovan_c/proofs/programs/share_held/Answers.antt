@@ -1,7 +1,7 @@
 use Rattle.std.proofs.Common.{◌≡◌, ap, ◌∙◌, refl, rules, Some}
 use Rattle.std.specs.Arc.{arc_value}
 use Rattle.telgovan_c.specs.declared.boxed.Boxed.{Boxed}
-use Rattle.telgovan_c.specs.Programs.{shared, no_memory, program_in, shown}
+use Rattle.telgovan_c.specs.Programs.{shared, no_memory, held_program, shown}
 use Rattle.telgovan_c.proofs.programs.share_held.Goals as goal
 
 -- the other handle holds the same
@@ -11,7 +11,7 @@ returns-in-Ok-clause-shared c =
     let is : c.deref.result.now ≡ c.in-Some.boxed.value = search rules in
     let same : arc_value c.in-Ok.shared.value.program ≡ arc_value c.deref.result.now.program = search rules in
     shared (arc_value c.in-Some.boxed.value.program) (ap shown held)
-    (ap program_in c.sendable.ensures ∙ ap shown c.of.ensures ∙ ap Some (same ∙ ap (λ (b : Boxed). arc_value b.program) is)) refl
+    (ap held_program c.sendable.ensures ∙ ap shown c.of.ensures ∙ ap Some (same ∙ ap (λ (b : Boxed). arc_value b.program) is)) refl
 
 pub returns-in-Err-clause-shared : goal.returns-in-Err-clause-shared
 returns-in-Err-clause-shared c =

@@ -1,7 +1,7 @@
 use Rattle.std.proofs.Common.{◌<◌, ◌⊎◌, ap, inl, inr, refl, ◌∙◌}
 use Rattle.std.specs.Arc.{arc_value}
 use Rattle.machine_model.specs.Limits.{max_credit, max_part}
-use Rattle.telgovan_c.specs.Tasks.{begun, no_memory, over_limit, refused, task_in, task_shown}
+use Rattle.telgovan_c.specs.Tasks.{begun, no_memory, over_limit, refused, held_task, task_shown}
 use Rattle.telgovan_c.proofs.tasks.start_boxed.Goals as goal
 use Rattle.telgovan_c.proofs.tasks.start_boxed.Goals.{then-credit-gt-MAX_CREDIT-via-then-credit-gt-MAX_CREDIT, then-credit-gt-MAX_CREDIT-via-else-credit-gt-MAX_CREDIT+then-length-gt-MAX_PART}
 
@@ -20,7 +20,7 @@ returns-in_default c =
 pub returns-in-Ok-running : goal.returns-in-Ok-running
 returns-in-Ok-running c =
     begun (arc_value c.args.boxed.now.program) refl c.if-credit-gt-MAX_CREDIT.false c.if-length-gt-MAX_PART.false c.in-Ok-start.started
-    (ap task_in c.sendable.ensures ∙ ap task_shown c.of.ensures ∙ c.in-Ok-running.ensures) (rw c.in-Ok.ensures at c.in-Ok-start.ensures) refl
+    (ap held_task c.sendable.ensures ∙ ap task_shown c.of.ensures ∙ c.in-Ok-running.ensures) (rw c.in-Ok.ensures at c.in-Ok-start.ensures) refl
 
 pub returns-in-Err-running : goal.returns-in-Err-running
 returns-in-Err-running c =

@@ -1,7 +1,7 @@
 use Rattle.std.proofs.Common.{◌≡◌, ◌≤◌, ◌++◌, ℕ, List, length, drop, arith, refl, subst}
 use Rattle.telgovan_c.specs.Desks.{handed, short}
 use Rattle.telgovan_c.proofs.DeskLemmas.{fetched_first, placed_short, placed_whole, told_as}
-use Rattle.telgovan_c.proofs.desks.hand_over.Goals as goal
+use Rattle.telgovan_c.proofs.desks.give_job.Goals as goal
 
 -- the room is too short
 pub returns-then-length-room : goal.returns-then-length-room
