@@ -28,13 +28,13 @@ const CHILDREN: u32 = 800;
 
 /// A board and a reader of it.
 #[derive(Drop)]
-struct Looker {
+struct BoardReader {
     board: Arc<Board>,
     reader: Reader,
     ghost same: { reader.board ≡ arc_value board },
 }
 
-impl Looker {
+impl BoardReader {
     fn look(&mut self) -> Progress {
         let board: &Board = &self.board;
         board.look(&mut self.reader)
@@ -47,7 +47,7 @@ fn looked<C: Clock>(clock: &C, alloc: Global) -> anyhow::Result<Duration> {
     for _ in 0..ROUNDS {
         let (_board, mut post, _reader) = Board::open(alloc, 1, 34)?;
         let (board, reader) = post.seat()?;
-        let mut looker = Looker { board, reader };
+        let mut looker = BoardReader { board, reader };
         let start = Instant::now(clock)?;
         for _ in 0..LOOKS {
             let _ = looker.look();

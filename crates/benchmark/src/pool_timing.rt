@@ -22,12 +22,12 @@ const SPAWN_PRICE: u32 = 20;
 
 /// A tree: the root spawns so many tasks, each of which spawns as many, which take so many steps.
 #[derive(Clone, Copy)]
-struct Tree {
+struct TreeShape {
     children: u32,
     steps: u32,
 }
 
-impl Tree {
+impl TreeShape {
     /// How many tasks there are.
     fn tasks(self) -> u32 {
         self.children
@@ -104,7 +104,7 @@ impl Tree {
 fn played_once<C: Clock>(
     clock: &C,
     alloc: Global,
-    tree: Tree,
+    tree: TreeShape,
     schedule: &[u32],
 ) -> anyhow::Result<Duration> {
     let job = tree.job(alloc)?;
@@ -118,7 +118,7 @@ fn played_once<C: Clock>(
 }
 
 /// The time of the quickest round, by `play`.
-fn played<C: Clock>(clock: &C, alloc: Global, tree: Tree) -> anyhow::Result<Duration> {
+fn played<C: Clock>(clock: &C, alloc: Global, tree: TreeShape) -> anyhow::Result<Duration> {
     let schedule = tree.schedule(alloc)?;
     let mut quickest = Duration::MAX;
     for _ in 0..ROUNDS {
@@ -131,7 +131,7 @@ fn played<C: Clock>(clock: &C, alloc: Global, tree: Tree) -> anyhow::Result<Dura
 fn run<R: Clock + Threads + Wait + Sync>(
     rt: &R,
     alloc: Global,
-    tree: Tree,
+    tree: TreeShape,
     workers: u32,
     number: u64,
 ) -> anyhow::Result<Duration> {
@@ -151,7 +151,7 @@ fn run<R: Clock + Threads + Wait + Sync>(
 fn run_in_turn<R: Clock + Threads + Wait + Sync>(
     rt: &R,
     alloc: Global,
-    tree: Tree,
+    tree: TreeShape,
 ) -> anyhow::Result<[Duration; 3]> {
     let [mut one, mut two, mut four] = [Duration::MAX; 3];
     for round in 0..POOL_ROUNDS {
@@ -175,7 +175,7 @@ fn print_tree<R: Clock + Threads + Wait + Sync, W: Write>(
     rt: &R,
     alloc: Global,
     output: &mut W,
-    tree: Tree,
+    tree: TreeShape,
 ) -> anyhow::Result<()> {
     let (tasks, steps) = (u128::from(tree.tasks()), tree.steps);
     let alone = played(rt, alloc, tree)?;
@@ -204,11 +204,11 @@ pub fn print_pool_times<R: Clock + Threads + Wait + Sync, W: Write>(
     output: &mut W,
 ) -> anyhow::Result<()> {
     for tree in [
-        Tree {
+        TreeShape {
             children: 100,
             steps: 1000,
         },
-        Tree {
+        TreeShape {
             children: 316,
             steps: 10,
         },

@@ -30,7 +30,7 @@ use crate::machines::{called, verdict};
 use crate::parts::{arities, spawned};
 use crate::ranges::{at_entry, computed, computed_unsigned, met, narrowed, of_load};
 use crate::row::{Row, bytes_of, memory_of, programs_of, turns_of};
-use crate::trees::{Tree, over};
+use crate::trees::{TreeJob, over};
 use crate::turns::answers;
 use std::alloc::Global;
 
@@ -47,7 +47,7 @@ fn of_job(
     turns: &[&str],
     is_tree: bool,
 ) -> anyhow::Result<String> {
-    let tree = Tree {
+    let tree = TreeJob {
         programs: programs_of(alloc, row.program)?,
         credit: credit.parse::<u32>()?,
         buffer: memory_of(alloc, memory)?,

@@ -1,7 +1,7 @@
 //! Jobs over a schedule by the reference: what is there of each task then.
 
 use crate::row::text_of;
-use crate::trees::{Tree, copied, place_text, reference_programs};
+use crate::trees::{TreeJob, copied, place_text, reference_programs};
 use reference::{Content, JobMember, ReferenceJob, ReferenceMove, run};
 use std::alloc::Global;
 
@@ -88,7 +88,7 @@ fn moves_of(alloc: Global, turns: &[(u32, bool)]) -> anyhow::Result<Vec<Referenc
 }
 
 /// What a job has come to after the turns, or that a task trapped.
-pub fn after(alloc: Global, tree: &Tree, turns: &[(u32, bool)]) -> anyhow::Result<String> {
+pub fn after(alloc: Global, tree: &TreeJob, turns: &[(u32, bool)]) -> anyhow::Result<String> {
     let programs = reference_programs(alloc, tree)?;
     let moves = moves_of(alloc, turns)?;
     let buffer = copied(alloc, &tree.buffer)?;

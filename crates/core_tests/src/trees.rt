@@ -14,7 +14,7 @@ const MOST_STEPS: u32 = 1_000_000;
 
 /// A job: its programs, of which number 0 is the root's, its credit and its buffer.
 #[derive(Drop)]
-pub struct Tree {
+pub struct TreeJob {
     pub programs: Vec<ProgramBytes>,
     pub credit: u32,
     pub buffer: Vec<u8>,
@@ -22,15 +22,15 @@ pub struct Tree {
 
 /// What a job comes to: the credit spent, the buffer, and each task's place with its R0.
 #[derive(Drop)]
-struct Answer {
+struct JobAnswer {
     spent: u32,
     buffer: Vec<u8>,
     r0s: BTreeMap<String, u64>,
 }
 
-impl Answer {
-    fn new(alloc: Global) -> Answer {
-        Answer {
+impl JobAnswer {
+    fn new(alloc: Global) -> JobAnswer {
+        JobAnswer {
             spent: 0,
             buffer: Vec::new(alloc),
             r0s: BTreeMap::new(alloc),
@@ -85,8 +85,8 @@ fn place_of(alloc: Global, world: &World, number: u32) -> anyhow::Result<String>
 }
 
 /// What a complete job has come to.
-fn reported(alloc: Global, world: &World, report: &Report) -> anyhow::Result<Answer> {
-    let mut answer = Answer::new(alloc);
+fn reported(alloc: Global, world: &World, report: &Report) -> anyhow::Result<JobAnswer> {
+    let mut answer = JobAnswer::new(alloc);
     answer.spent = report.spent;
     answer.buffer.extend_from_slice(&report.buffer)?;
     for end in &report.tasks {
@@ -98,7 +98,7 @@ fn reported(alloc: Global, world: &World, report: &Report) -> anyhow::Result<Ans
 }
 
 /// What the job comes to over a schedule.
-fn by_play(alloc: Global, tree: &Tree, schedule: &[u32]) -> anyhow::Result<String> {
+fn by_play(alloc: Global, tree: &TreeJob, schedule: &[u32]) -> anyhow::Result<String> {
     let buffer = copied(alloc, &tree.buffer)?;
     let job = admit(alloc, &tree.programs, tree.credit, buffer)?;
     let world = play(alloc, job, schedule)?;
@@ -109,7 +109,7 @@ fn by_play(alloc: Global, tree: &Tree, schedule: &[u32]) -> anyhow::Result<Strin
 }
 
 /// Adds a task that ended to what the job comes to.
-fn add(alloc: Global, answer: &mut Answer, task: &FinishedTask) -> anyhow::Result<()> {
+fn add(alloc: Global, answer: &mut JobAnswer, task: &FinishedTask) -> anyhow::Result<()> {
     let end = &task.ending;
     answer.spent = answer.spent.saturating_add(end.spent);
     for (index, byte) in task.bytes.iter().enumerate() {
@@ -122,7 +122,7 @@ fn add(alloc: Global, answer: &mut Answer, task: &FinishedTask) -> anyhow::Resul
 }
 
 /// The programs of a job, for the reference.
-pub fn reference_programs(alloc: Global, tree: &Tree) -> anyhow::Result<Vec<ReferenceProgram>> {
+pub fn reference_programs(alloc: Global, tree: &TreeJob) -> anyhow::Result<Vec<ReferenceProgram>> {
     let mut programs = Vec::new(alloc);
     for program in &tree.programs {
         let none = Vec::new(alloc);
@@ -133,7 +133,7 @@ pub fn reference_programs(alloc: Global, tree: &Tree) -> anyhow::Result<Vec<Refe
 
 /// What these tasks of a job of so many bytes have come to.
 fn evaluated(alloc: Global, size: usize, tasks: &[FinishedTask]) -> anyhow::Result<String> {
-    let mut answer = Answer::new(alloc);
+    let mut answer = JobAnswer::new(alloc);
     answer.buffer = vec![in alloc; 0; size]?;
     for task in tasks {
         add(alloc, &mut answer, task)?;
@@ -142,7 +142,7 @@ fn evaluated(alloc: Global, size: usize, tasks: &[FinishedTask]) -> anyhow::Resu
 }
 
 /// What the root comes to with all that it spawns, by the reference, where each spawn is taken.
-fn by_evaluation(alloc: Global, tree: &Tree) -> anyhow::Result<String> {
+fn by_evaluation(alloc: Global, tree: &TreeJob) -> anyhow::Result<String> {
     let programs = reference_programs(alloc, tree)?;
     let buffer = copied(alloc, &tree.buffer)?;
     match evaluate(alloc, &programs, tree.credit, buffer, MOST_STEPS) {
@@ -152,7 +152,7 @@ fn by_evaluation(alloc: Global, tree: &Tree) -> anyhow::Result<String> {
 }
 
 /// What the job comes to over a schedule, where the root comes to the same by the reference.
-pub fn over(alloc: Global, tree: &Tree, schedule: &[u32]) -> anyhow::Result<String> {
+pub fn over(alloc: Global, tree: &TreeJob, schedule: &[u32]) -> anyhow::Result<String> {
     let played = by_play(alloc, tree, schedule)?;
     let expected = by_evaluation(alloc, tree)?;
     if played.as_str() == expected.as_str() {

@@ -3,7 +3,7 @@
 ghost use Rattle.std.specs.Prelude.{◌≡◌};
 ghost use Rattle.interpreter.specs.Representation.{zeroed};
 
-use crate::stop::{Stop, holds};
+use crate::stop::{ScenarioFault, holds};
 use interpreter::Frame;
 use std::alloc::Global;
 use task_run::Frames;
@@ -22,14 +22,14 @@ fn enter(frame: &mut Frame, task: u64) -> u64
 
 /// Tasks of three jobs, each on a frame. Where the memory for one is refused, a new arena is taken,
 /// so that each task runs.
-pub fn placed(alloc: Global) -> Result<Vec<u64>, Stop> {
+pub fn placed(alloc: Global) -> Result<Vec<u64>, ScenarioFault> {
     let mut frames = Frames::new(alloc);
     let mut ran = 0u64;
     for job in 0..3u64 {
         for task in 0..FRAMES {
             match frames.with_frame(job, task, enter) {
                 Ok(answer) => holds(answer == task, "another task ran")?,
-                Err(_) => return Err(Stop::Differs("a task had no frame")),
+                Err(_) => return Err(ScenarioFault::Differs("a task had no frame")),
             }
             ran = ran.wrapping_add(1);
         }

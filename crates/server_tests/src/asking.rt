@@ -1,6 +1,6 @@
 //! What a runner answers that is asked for the job of two tasks, whatever it runs jobs by.
 
-use crate::stop::{Stop, holds};
+use crate::stop::{ScenarioFault, holds};
 use crate::tree::{job, numbers};
 use credit_book::{Progress, Report};
 use std::alloc::Global;
@@ -11,7 +11,7 @@ const PATIENCE: u32 = 1_000_000_000;
 
 /// Gives the job to a runner as number 1. `false`: the start was refused, and the runner holds
 /// nothing.
-fn is_started<N: Runner>(alloc: Global, runner: &mut N) -> Result<bool, Stop>
+fn is_started<N: Runner>(alloc: Global, runner: &mut N) -> Result<bool, ScenarioFault>
     requires { N.ready runner.old }
     ensures { N.ready runner.new }
 {
@@ -39,14 +39,14 @@ fn is_started<N: Runner>(alloc: Global, runner: &mut N) -> Result<bool, Stop>
 }
 
 /// Gives the job to a runner, again where that is refused.
-pub fn start<N: Runner>(alloc: Global, runner: &mut N) -> Result<(), Stop>
+pub fn start<N: Runner>(alloc: Global, runner: &mut N) -> Result<(), ScenarioFault>
     requires { N.ready runner.old }
     ensures { N.ready runner.new }
 {
     if is_started(alloc, runner)? || is_started(alloc, runner)? {
         Ok(())
     } else {
-        Err(Stop::Differs("a start is refused twice"))
+        Err(ScenarioFault::Differs("a start is refused twice"))
     }
 }
 
@@ -65,7 +65,11 @@ pub fn awaited<N: Runner>(runner: &mut N) -> Option<(u64, Result<Report, u8>)>
 }
 
 /// Adds what a runner sees of a job.
-fn add_look<N: Runner>(runner: &mut N, number: u64, told: &mut Vec<u64>) -> Result<(), Stop>
+fn add_look<N: Runner>(
+    runner: &mut N,
+    number: u64,
+    told: &mut Vec<u64>,
+) -> Result<(), ScenarioFault>
     requires { N.ready runner.old }
     ensures { N.ready runner.new }
 {
@@ -78,7 +82,11 @@ fn add_look<N: Runner>(runner: &mut N, number: u64, told: &mut Vec<u64>) -> Resu
 
 /// What a runner answers: a start, another under the same number, a look at a job that it hasn't,
 /// the job that it gives, whether there is another, and a look at what it gave.
-pub fn asked<N: Runner>(alloc: Global, runner: &mut N, told: &mut Vec<u64>) -> Result<(), Stop>
+pub fn asked<N: Runner>(
+    alloc: Global,
+    runner: &mut N,
+    told: &mut Vec<u64>,
+) -> Result<(), ScenarioFault>
     requires { N.ready runner.old }
     ensures { N.ready runner.new }
 {
@@ -92,7 +100,7 @@ pub fn asked<N: Runner>(alloc: Global, runner: &mut N, told: &mut Vec<u64>) -> R
             told.push(number)?;
             told.extend_from_slice(&numbers(alloc, &report)?)?;
         }
-        _ => return Err(Stop::Differs("the job isn't given")),
+        _ => return Err(ScenarioFault::Differs("the job isn't given")),
     }
     told.push(u64::from(runner.take().is_some()))?;
     add_look(runner, 1, told)
@@ -120,13 +128,17 @@ fn watched<N: Runner>(runner: &mut N, number: u64) -> (u64, u32)
 
 /// Starts three jobs, and looks at one while they run: how often a look went back, what it had
 /// spent, the sum of the jobs' numbers and of what they spent, and whether there is a fourth.
-pub fn together<N: Runner>(alloc: Global, runner: &mut N, told: &mut Vec<u64>) -> Result<(), Stop>
+pub fn together<N: Runner>(
+    alloc: Global,
+    runner: &mut N,
+    told: &mut Vec<u64>,
+) -> Result<(), ScenarioFault>
     requires { N.ready runner.old }
     ensures { N.ready runner.new }
 {
     for number in [7, 8, 9] {
         if runner.start(alloc, number, job(alloc)?).is_err() {
-            return Err(Stop::Differs("a start is refused"));
+            return Err(ScenarioFault::Differs("a start is refused"));
         }
     }
     let (went_back, spent) = watched(runner, 8);
@@ -138,7 +150,7 @@ pub fn together<N: Runner>(alloc: Global, runner: &mut N, told: &mut Vec<u64>) -
             Some((number, Ok(report))) => {
                 sum = sum.saturating_add(number.saturating_mul(u64::from(report.spent)));
             }
-            _ => return Err(Stop::Differs("a job isn't given")),
+            _ => return Err(ScenarioFault::Differs("a job isn't given")),
         }
     }
     told.push(sum)?;

@@ -4,7 +4,7 @@ ghost use Rattle.std.specs.Prelude.{◌≤◌, vec_len};
 ghost use Rattle.std.proofs.Props.{props};
 ghost use Rattle.job_core.specs.Admitted.{AreOwn};
 
-use crate::stop::Stop;
+use crate::stop::ScenarioFault;
 use crate::tree::{admitted, assembled, job, numbers};
 use credit_book::{Board, Book, Outcome, Refused, Report, Ticket};
 use helpers::{Entry, Part, SpawnRecord, Spawner};
@@ -16,24 +16,24 @@ use workers::{OpenGate, entry_in, unrun, work_one};
 
 /// The programs of a job.
 #[derive(Drop)]
-struct Known {
+struct ProgramList {
     programs: Vec<Verified>,
     ghost few: { vec_len programs ≤ 16 },
     ghost own: { AreOwn programs.items } by { Prim.hlevel props },
 }
 
-impl Known {
+impl ProgramList {
     /// A job's programs, its credit, and its buffer as the root's part.
-    fn of(job: Job) -> (Known, u32, Part) {
+    fn of(job: Job) -> (ProgramList, u32, Part) {
         let (programs, credit, buffer) = job.into_parts();
-        (Known { programs }, credit, Part::whole(buffer))
+        (ProgramList { programs }, credit, Part::whole(buffer))
     }
 }
 
 /// A book, and the programs of its job. What is spawned is parked.
 #[derive(Drop)]
 struct ByHand<'a> {
-    known: &'a Known,
+    known: &'a ProgramList,
     book: Book,
 }
 
@@ -41,13 +41,13 @@ impl<'a> ByHand<'a> {
     /// The book of a job with this number, credit and part of the root, and the root's ticket.
     fn open(
         alloc: Global,
-        known: &'a Known,
+        known: &'a ProgramList,
         number: u64,
         credit: u32,
         root: Part,
-    ) -> Result<(ByHand<'a>, Ticket), Stop> {
+    ) -> Result<(ByHand<'a>, Ticket), ScenarioFault> {
         if credit < 1 || credit > 2_147_483_647 {
-            return Err(Stop::Differs("no such job"));
+            return Err(ScenarioFault::Differs("no such job"));
         }
         let (_board, post, _reader) = Board::open(alloc, number, credit)?;
         let (book, ticket) = Book::open(alloc, post, root)?;
@@ -107,9 +107,9 @@ fn run_root(
     number: u64,
     text: &str,
     told: &mut Vec<u64>,
-) -> Result<(), Stop> {
+) -> Result<(), ScenarioFault> {
     let programs = assembled(alloc, &[(0, text)])?;
-    let (known, credit, root) = Known::of(admitted(alloc, &programs, 100, Vec::new(alloc))?);
+    let (known, credit, root) = ProgramList::of(admitted(alloc, &programs, 100, Vec::new(alloc))?);
     let (mut hand, root) = ByHand::open(alloc, &known, number, credit, root)?;
     let outcome = hand.run(alloc, root, frames);
     told.push(outcome.r0)?;
@@ -124,7 +124,7 @@ const READS: &str = "ldxdw r0, [r10-8]\nexit\n";
 
 /// What tasks find on frames that others have written: a task of another job, of the same job, and
 /// one behind the end of a job.
-pub fn zeroed(alloc: Global) -> Result<Vec<u64>, Stop> {
+pub fn zeroed(alloc: Global) -> Result<Vec<u64>, ScenarioFault> {
     let mut told = Vec::new(alloc);
     let mut frames = Frames::new(alloc);
     for (number, text) in [(1, WRITES), (2, READS), (2, WRITES), (2, READS)] {
@@ -142,7 +142,7 @@ fn finish(
     frames: &mut Frames,
     ticket: Ticket,
     runs: bool,
-) -> Result<(), Stop> {
+) -> Result<(), ScenarioFault> {
     let outcome = if runs {
         hand.run(alloc, ticket, frames)
     } else {
@@ -151,13 +151,13 @@ fn finish(
     if hand.end(outcome) {
         Ok(())
     } else {
-        Err(Stop::Differs("an end is refused"))
+        Err(ScenarioFault::Differs("an end is refused"))
     }
 }
 
 /// Runs the root and its child, or leaves them, and gives the report.
-fn family(alloc: Global, runs_root: bool, runs_child: bool) -> Result<Report, Stop> {
-    let (known, credit, root) = Known::of(job(alloc)?);
+fn family(alloc: Global, runs_root: bool, runs_child: bool) -> Result<Report, ScenarioFault> {
+    let (known, credit, root) = ProgramList::of(job(alloc)?);
     let mut frames = Frames::new(alloc);
     let (mut hand, root) = ByHand::open(alloc, &known, 1, credit, root)?;
     finish(alloc, &mut hand, &mut frames, root, runs_root)?;
@@ -167,13 +167,13 @@ fn family(alloc: Global, runs_root: bool, runs_child: bool) -> Result<Report, St
     let ByHand { book, .. } = hand;
     match book.close() {
         Ok(report) => Ok(report),
-        Err(_) => Err(Stop::Differs("a task is alive")),
+        Err(_) => Err(ScenarioFault::Differs("a task is alive")),
     }
 }
 
 /// The numbers of the reports where all is run, where the child is left, and where the root is,
 /// and how many tasks were run: a task that isn't run gives all back.
-pub fn left(alloc: Global) -> Result<Vec<u64>, Stop> {
+pub fn left(alloc: Global) -> Result<Vec<u64>, ScenarioFault> {
     let mut told = Vec::new(alloc);
     for (runs_root, runs_child) in [(true, true), (true, false), (false, true)] {
         let report = family(alloc, runs_root, runs_child)?;

@@ -1,8 +1,8 @@
 //! Commands whose input or output fails at some call: where the input fails nothing is written, and
 //! where the output does, a beginning of the answer.
 
-use crate::ends::{ALWAYS, Dripping, Filling};
-use crate::stop::{Stop, holds};
+use crate::failing_ends::{ALWAYS, Dripping, Filling};
+use crate::stop::{ScenarioFault, holds};
 use bpfjobs_cli::Command;
 use std::alloc::Global;
 use std::sync::Wait;
@@ -45,7 +45,7 @@ fn tell(
     answer: Result<u8, StreamFault>,
     written: &[u8],
     whole: &str,
-) -> Result<(), Stop> {
+) -> Result<(), ScenarioFault> {
     let told = match answer {
         Ok(status) => status,
         Err(fault) => fault.code(),
@@ -77,7 +77,7 @@ fn writer(alloc: Global, step: usize, calls: u64) -> Filling {
 }
 
 /// What verdicts come to.
-pub fn verdicts(alloc: Global) -> Result<Vec<u64>, Stop> {
+pub fn verdicts(alloc: Global) -> Result<Vec<u64>, ScenarioFault> {
     let mut numbers = Vec::new(alloc);
     for (reads, writes) in VERDICTS {
         let mut reader = Tap::new(reader(PROGRAM, 10, reads));
@@ -90,7 +90,7 @@ pub fn verdicts(alloc: Global) -> Result<Vec<u64>, Stop> {
 }
 
 /// What runs of a job on a thread come to.
-pub fn jobs<R: Threads + Wait + Sync>(rt: &R, alloc: Global) -> Result<Vec<u64>, Stop> {
+pub fn jobs<R: Threads + Wait + Sync>(rt: &R, alloc: Global) -> Result<Vec<u64>, ScenarioFault> {
     let mut numbers = Vec::new(alloc);
     for (reads, writes) in JOBS {
         let mut reader = Tap::new(reader(JOB, 20, reads));

@@ -2,7 +2,7 @@
 
 use crate::frames::frames;
 use crate::hearing::replied;
-use crate::stop::{Stop, holds};
+use crate::stop::{ScenarioFault, holds};
 use crate::tree::{CREDIT, buffer, programs, told};
 use accounts::{Account, Desk};
 use job_core::{Job, ProgramBytes, play_lowest};
@@ -34,7 +34,7 @@ const GRANT: u32 = 240;
 
 /// The account of a tenant, which has to add up. That of one that was granted nothing has zeros
 /// alone.
-fn account(desk: &Desk, tenant: &str) -> Result<Account, Stop> {
+fn account(desk: &Desk, tenant: &str) -> Result<Account, ScenarioFault> {
     let account = match desk.account(tenant) {
         Ok(account) => account,
         Err(_) => Account {
@@ -54,7 +54,7 @@ fn account(desk: &Desk, tenant: &str) -> Result<Account, Stop> {
 }
 
 /// A grant that is refused changes nothing, and is made when it comes again.
-fn grant(alloc: Global, desk: &mut Desk, tenant: &str) -> Result<(), Stop> {
+fn grant(alloc: Global, desk: &mut Desk, tenant: &str) -> Result<(), ScenarioFault> {
     let before = account(desk, tenant)?;
     for _ in 0..2u8 {
         match desk.grant(alloc, tenant, GRANT) {
@@ -70,7 +70,7 @@ fn grant(alloc: Global, desk: &mut Desk, tenant: &str) -> Result<(), Stop> {
             "a grant that was refused changed the account",
         )?;
     }
-    Err(Stop::Differs("a grant is refused twice"))
+    Err(ScenarioFault::Differs("a grant is refused twice"))
 }
 
 /// A job that is refused changes nothing, and is taken under the same number when it comes again.
@@ -80,7 +80,7 @@ fn submit(
     tenant: &str,
     programs: &[ProgramBytes],
     number: u64,
-) -> Result<Job, Stop> {
+) -> Result<Job, ScenarioFault> {
     let before = account(desk, tenant)?;
     for _ in 0..2u8 {
         match desk.submit(alloc, tenant, programs, CREDIT, buffer(alloc)?) {
@@ -98,7 +98,7 @@ fn submit(
             "a job that was refused changed the account",
         )?;
     }
-    Err(Stop::Differs("a job is refused twice"))
+    Err(ScenarioFault::Differs("a job is refused twice"))
 }
 
 /// Plays the job and ends it. Where that finds no memory the job fails, and its credit is back.
@@ -108,7 +108,7 @@ fn finish(
     tenant: &str,
     number: u64,
     job: Job,
-) -> Result<Vec<u64>, Stop> {
+) -> Result<Vec<u64>, ScenarioFault> {
     let before = account(desk, tenant)?;
     let Ok(report) = play_lowest(alloc, job) else {
         holds(desk.finish(number, Err(99)).is_ok(), "a job isn't open")?;
@@ -116,7 +116,7 @@ fn finish(
         let back = Some(before.opened) == after.opened.checked_add(u64::from(CREDIT))
             && before.spent == after.spent;
         holds(back, "the credit of a job that failed isn't back")?;
-        return Err(Stop::Refused);
+        return Err(ScenarioFault::Refused);
     };
     let spent = report.spent;
     holds(
@@ -128,13 +128,13 @@ fn finish(
         && Some(before.opened) == after.opened.checked_add(u64::from(CREDIT));
     holds(charged, "a job is charged otherwise than its report says")?;
     let Ok(report) = desk.result(number) else {
-        return Err(Stop::Differs("a report is gone"));
+        return Err(ScenarioFault::Differs("a report is gone"));
     };
     told(alloc, report)
 }
 
 /// Takes jobs of two tenants, and ends all but the last.
-fn take_jobs(alloc: Global, desk: &mut Desk) -> Result<(), Stop> {
+fn take_jobs(alloc: Global, desk: &mut Desk) -> Result<(), ScenarioFault> {
     let programs = programs(alloc)?;
     for number in 1..=JOBS {
         let tenant = if number % 2 == 0 { "b" } else { TENANTS[12] };
@@ -147,7 +147,7 @@ fn take_jobs(alloc: Global, desk: &mut Desk) -> Result<(), Stop> {
 }
 
 /// Each tenant's balance and open credit.
-fn balances(alloc: Global, desk: &Desk) -> Result<Vec<u64>, Stop> {
+fn balances(alloc: Global, desk: &Desk) -> Result<Vec<u64>, ScenarioFault> {
     let mut numbers = Vec::new(alloc);
     for tenant in TENANTS {
         let account = account(desk, tenant)?;
@@ -158,7 +158,7 @@ fn balances(alloc: Global, desk: &Desk) -> Result<Vec<u64>, Stop> {
 }
 
 /// Grants to all tenants, and jobs of two of them, with the accounts that are left.
-pub fn kept(alloc: Global) -> Result<Vec<u64>, Stop> {
+pub fn kept(alloc: Global) -> Result<Vec<u64>, ScenarioFault> {
     let mut desk = Desk::new(alloc);
     for tenant in TENANTS {
         grant(alloc, &mut desk, tenant)?;
@@ -168,7 +168,7 @@ pub fn kept(alloc: Global) -> Result<Vec<u64>, Stop> {
 }
 
 /// The replies to a report of the desk.
-pub fn answered(alloc: Global) -> Result<Vec<u64>, Stop> {
+pub fn answered(alloc: Global) -> Result<Vec<u64>, ScenarioFault> {
     let programs = programs(alloc)?;
     let mut desk = Desk::new(alloc);
     grant(alloc, &mut desk, "t")?;
@@ -176,7 +176,7 @@ pub fn answered(alloc: Global) -> Result<Vec<u64>, Stop> {
     finish(alloc, &mut desk, "t", 1, job)?;
     match desk.result(1) {
         Ok(report) => replied(alloc, report),
-        Err(_) => Err(Stop::Differs("a report is gone")),
+        Err(_) => Err(ScenarioFault::Differs("a report is gone")),
     }
 }
 
@@ -204,25 +204,25 @@ fn has_replies(
     answer: Result<u64, StreamFault>,
     written: &[u8],
     replies: &[u8],
-) -> Result<(), Stop> {
+) -> Result<(), ScenarioFault> {
     match answer {
         Ok(count) => holds(count == 6, "not every frame is answered")?,
-        Err(StreamFault::ReadFailed) => return Err(Stop::Differs("the reader failed")),
+        Err(StreamFault::ReadFailed) => return Err(ScenarioFault::Differs("the reader failed")),
         Err(_) => {
             let begins = replies.get(..written.len()) == Some(written);
             holds(begins, "what is written is no beginning of the replies")?;
-            return Err(Stop::Refused);
+            return Err(ScenarioFault::Refused);
         }
     }
     if written == replies {
         Ok(())
     } else {
-        Err(Stop::Refused)
+        Err(ScenarioFault::Refused)
     }
 }
 
 /// A stream of requests, served. The account adds up, and the job's credit is open, spent or back.
-pub fn served(alloc: Global) -> Result<Vec<u64>, Stop> {
+pub fn served(alloc: Global) -> Result<Vec<u64>, ScenarioFault> {
     let stream = frames(alloc, &REQUESTS)?;
     let replies = frames(alloc, &REPLIES)?;
     let mut reader = Tap::new(stream.as_slice());

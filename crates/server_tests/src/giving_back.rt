@@ -1,7 +1,7 @@
 //! Calls that find no memory: what was handed in comes back, what stood is as it was, and the call
 //! goes through once it is made again.
 
-use crate::stop::{Stop, holds};
+use crate::stop::{ScenarioFault, holds};
 use crate::tree::programs;
 use credit_book::{Board, Book, Post, Ticket};
 use helpers::{HelperTable, Part};
@@ -15,7 +15,7 @@ const CREDIT: u32 = 34;
 const SIZE: usize = 8;
 
 /// A book, whose opening is called once more where it was refused.
-fn opened(alloc: Global, post: Post, root: Part) -> Result<(Book, Ticket), Stop> {
+fn opened(alloc: Global, post: Post, root: Part) -> Result<(Book, Ticket), ScenarioFault> {
     match Book::open(alloc, post, root) {
         Ok(book) => Ok(book),
         Err(unopened) => {
@@ -31,7 +31,11 @@ fn has(list: &JobPrograms, count: usize) -> bool {
 }
 
 /// One program more, which is added once more where that was refused.
-fn added(alloc: Global, list: &mut JobPrograms, program: &ProgramBytes) -> Result<(), Stop> {
+fn added(
+    alloc: Global,
+    list: &mut JobPrograms,
+    program: &ProgramBytes,
+) -> Result<(), ScenarioFault> {
     let code = program.code.as_slice();
     match verify(alloc, program.need, code, &HelperTable::job()) {
         Ok(_) => {
@@ -42,13 +46,13 @@ fn added(alloc: Global, list: &mut JobPrograms, program: &ProgramBytes) -> Resul
             }
             Ok(())
         }
-        Err(Refusal::NoMemory) => Err(Stop::Refused),
-        Err(_) => Err(Stop::Differs("a program isn't accepted")),
+        Err(Refusal::NoMemory) => Err(ScenarioFault::Refused),
+        Err(_) => Err(ScenarioFault::Differs("a program isn't accepted")),
     }
 }
 
 /// A book's job, its credit and its bytes, and how many programs are listed.
-pub fn given_back(alloc: Global) -> Result<Vec<u64>, Stop> {
+pub fn given_back(alloc: Global) -> Result<Vec<u64>, ScenarioFault> {
     let (_board, post, _reader) = Board::open(alloc, 1, CREDIT)?;
     let root = Part::whole(vec![in alloc; 0; SIZE]?);
     let (book, ticket) = opened(alloc, post, root)?;

@@ -1,7 +1,7 @@
 //! A session that is fed in pieces, and replies.
 
 use crate::frames::frames;
-use crate::stop::{Stop, holds};
+use crate::stop::{ScenarioFault, holds};
 use credit_book::{Report, TaskEnd};
 use sessions::{Reply, Request, Session, SessionFault, reply_frame, reply_text};
 use std::alloc::Global;
@@ -21,7 +21,7 @@ const TEXTS: [&str; 7] = [
 const PIECE_LEN: usize = 40;
 
 /// What is heard of the stream.
-pub fn heard(alloc: Global) -> Result<Vec<u64>, Stop> {
+pub fn heard(alloc: Global) -> Result<Vec<u64>, ScenarioFault> {
     let stream = frames(alloc, &TEXTS)?;
     let mut session = Session::new(alloc);
     let mut numbers = Vec::new(alloc);
@@ -44,29 +44,29 @@ pub fn heard(alloc: Global) -> Result<Vec<u64>, Stop> {
 }
 
 /// A piece that is refused is taken when it comes again.
-fn feed(session: &mut Session, piece: &[u8]) -> Result<(), Stop> {
+fn feed(session: &mut Session, piece: &[u8]) -> Result<(), ScenarioFault> {
     for _ in 0..2u8 {
         match session.feed(piece) {
             Ok(()) => return Ok(()),
             Err(SessionFault::NoMemory) => {}
-            Err(_) => return Err(Stop::Differs("a piece is refused by another number")),
+            Err(_) => return Err(ScenarioFault::Differs("a piece is refused by another number")),
         }
     }
-    Err(Stop::Differs("a piece is refused twice"))
+    Err(ScenarioFault::Differs("a piece is refused twice"))
 }
 
 /// A session whose frame found no memory answers nothing else from then on.
-fn stays_refused(alloc: Global, session: &mut Session) -> Stop {
+fn stays_refused(alloc: Global, session: &mut Session) -> ScenarioFault {
     for _ in 0..2u8 {
         match session.next_request(alloc) {
             Err(SessionFault::NoMemory) => {}
-            _ => return Stop::Differs("a request after a frame that found no memory"),
+            _ => return ScenarioFault::Differs("a request after a frame that found no memory"),
         }
         if session.feed(b"{}") != Err(SessionFault::NoMemory) {
-            return Stop::Differs("a piece after a frame that found no memory");
+            return ScenarioFault::Differs("a piece after a frame that found no memory");
         }
     }
-    Stop::Refused
+    ScenarioFault::Refused
 }
 
 fn number_of(request: &Request) -> u64 {
@@ -88,7 +88,7 @@ fn number_of(request: &Request) -> u64 {
 }
 
 /// The texts and the frames of replies.
-pub fn replied(alloc: Global, report: &Report) -> Result<Vec<u64>, Stop> {
+pub fn replied(alloc: Global, report: &Report) -> Result<Vec<u64>, ScenarioFault> {
     let mut numbers = Vec::new(alloc);
     for reply in [
         Reply::Refused {
@@ -122,7 +122,7 @@ pub fn replied(alloc: Global, report: &Report) -> Result<Vec<u64>, Stop> {
 
 /// A reply that is refused is given when it is asked for again, and its frame is its text behind
 /// its length.
-fn frame_length(alloc: Global, reply: &Reply) -> Result<u64, Stop> {
+fn frame_length(alloc: Global, reply: &Reply) -> Result<u64, ScenarioFault> {
     for _ in 0..3u8 {
         let Ok(text) = reply_text(alloc, reply) else {
             continue;
@@ -136,7 +136,7 @@ fn frame_length(alloc: Global, reply: &Reply) -> Result<u64, Stop> {
         )?;
         return Ok(text.len() as u64);
     }
-    Err(Stop::Differs("a reply is refused three times"))
+    Err(ScenarioFault::Differs("a reply is refused three times"))
 }
 
 const TASKS: [TaskEnd; 1] = [TaskEnd {
@@ -171,7 +171,7 @@ const REPLIES: [(Reply<'static>, &str); 2] = [
 ];
 
 /// The lengths of replies whose texts have to be those written out by hand.
-pub fn written(alloc: Global) -> Result<Vec<u64>, Stop> {
+pub fn written(alloc: Global) -> Result<Vec<u64>, ScenarioFault> {
     let mut numbers = Vec::new(alloc);
     for (reply, text) in REPLIES {
         let told = reply_text(alloc, &reply)?;

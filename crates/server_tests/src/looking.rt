@@ -2,7 +2,7 @@
 
 use crate::lookers::looks;
 use crate::opened::Opened;
-use crate::stop::Stop;
+use crate::stop::ScenarioFault;
 use crate::tree::{admitted, assembled};
 use std::alloc::Global;
 use std::sync::Wait;
@@ -12,7 +12,7 @@ use std::thread::Threads;
 use workers::OpenGate;
 
 /// The text of a program that spawns 32 tasks of a program, each with the share.
-fn spawning(alloc: Global, program: u32, share: u32) -> Result<String, Stop> {
+fn spawning(alloc: Global, program: u32, share: u32) -> Result<String, ScenarioFault> {
     let mut text = String::new(alloc);
     for _ in 0..32u32 {
         let spawn = format!(in alloc;
@@ -26,7 +26,7 @@ fn spawning(alloc: Global, program: u32, share: u32) -> Result<String, Stop> {
 
 /// A root that spawns 32 tasks, each of which spawns 32 that only end: 1,057 tasks. A spawn costs
 /// 20 with its moves, and all ends 2.
-fn crowd(alloc: Global) -> Result<Opened, Stop> {
+fn crowd(alloc: Global) -> Result<Opened, ScenarioFault> {
     let share = 20 * 32 + 2 + 32 * 2;
     let credit = 20 * 32 + 2 + 32 * share;
     let root = spawning(alloc, 1, share)?;
@@ -43,7 +43,7 @@ fn crowd(alloc: Global) -> Result<Opened, Stop> {
 
 /// Runs the job with four workers, while four other threads look. Whether each look was right, and
 /// all was spent.
-fn watched<R: Threads + Wait + Sync>(rt: &R, alloc: Global) -> Result<bool, Stop> {
+fn watched<R: Threads + Wait + Sync>(rt: &R, alloc: Global) -> Result<bool, ScenarioFault> {
     let mut opened = crowd(alloc)?;
     let issued = opened.issued();
     let mut lookers = Vec::new(alloc);
@@ -69,7 +69,10 @@ fn watched<R: Threads + Wait + Sync>(rt: &R, alloc: Global) -> Result<bool, Stop
 }
 
 /// In how many of a hundred runs no look goes back.
-pub fn looked_at<R: Threads + Wait + Sync>(rt: &R, alloc: Global) -> Result<Vec<u64>, Stop> {
+pub fn looked_at<R: Threads + Wait + Sync>(
+    rt: &R,
+    alloc: Global,
+) -> Result<Vec<u64>, ScenarioFault> {
     let mut right = 0u64;
     for _ in 0..100u32 {
         right = right.wrapping_add(u64::from(watched(rt, alloc)?));

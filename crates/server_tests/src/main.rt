@@ -27,7 +27,7 @@ mod worlds;
 
 // ends that fail, and runners behind a stream
 mod commands;
-mod ends;
+mod failing_ends;
 mod runners;
 mod wording;
 
@@ -45,14 +45,14 @@ mod looking;
 mod meeting;
 mod opened;
 
-use requests::{Question, make, question_of};
+use requests::{ScenarioCall, make, question_of};
 use std::alloc::Global;
 use std::io;
 use std::io::{Read, Write};
 use std::process::ExitCode;
 use std::sync::Wait;
 use std::thread::Threads;
-use stop::Stop;
+use stop::ScenarioFault;
 
 const NAMES: [&str; 33] = [
     "played", "stepped", "heard", "replied", "desk", "stream", "frames", "workers", "runner",
@@ -62,7 +62,7 @@ const NAMES: [&str; 33] = [
 ];
 
 /// One turn of a scenario in which memory may be refused.
-fn turn<R>(rt: R, alloc: Global, name: &str) -> Result<Vec<u64>, Stop>
+fn turn<R>(rt: R, alloc: Global, name: &str) -> Result<Vec<u64>, ScenarioFault>
 where
     R: Threads + Wait + Copy + Send + Sync + Drop + 'static,
 {
@@ -82,7 +82,7 @@ where
 }
 
 /// Another scenario.
-fn by_itself<R>(rt: R, alloc: Global, name: &str) -> Result<Vec<u64>, Stop>
+fn by_itself<R>(rt: R, alloc: Global, name: &str) -> Result<Vec<u64>, ScenarioFault>
 where
     R: Threads + Wait + Copy + Send + Sync + Drop + 'static,
 {
@@ -90,7 +90,7 @@ where
         "faults" => wording::faults(alloc),
         "object" => wording::object(alloc),
         "texts" => hearing::written(alloc),
-        "taps" => ends::handed_on(alloc),
+        "taps" => failing_ends::handed_on(alloc),
         "verdicts" => commands::verdicts(alloc),
         "jobs" => commands::jobs(&rt, alloc),
         "chosen" => runners::replies(alloc),
@@ -105,23 +105,27 @@ where
         "answers" => pools::answers(rt, alloc),
         "meetings" => meeting::meetings(&rt, alloc),
         "looks" => looking::looked_at(&rt, alloc),
-        _ => ends::swept_by_name(alloc, name),
+        _ => failing_ends::swept_by_name(alloc, name),
     }
 }
 
 /// What a scenario comes to. One request alone is refused, so that its second turn goes through.
-fn came_to<R>(rt: R, alloc: Global, name: &str) -> Result<Vec<u64>, Stop>
+fn came_to<R>(rt: R, alloc: Global, name: &str) -> Result<Vec<u64>, ScenarioFault>
 where
     R: Threads + Wait + Copy + Send + Sync + Drop + 'static,
 {
     match turn(rt, alloc, name) {
-        Err(Stop::Refused) => turn(rt, alloc, name),
+        Err(ScenarioFault::Refused) => turn(rt, alloc, name),
         other => other,
     }
 }
 
 /// Prints what a scenario came to.
-fn print<W: Write>(output: &mut W, name: &str, answer: &Result<Vec<u64>, Stop>) -> io::Result<()> {
+fn print<W: Write>(
+    output: &mut W,
+    name: &str,
+    answer: &Result<Vec<u64>, ScenarioFault>,
+) -> io::Result<()> {
     write!(output, "{name}")?;
     match answer {
         Ok(numbers) => {
@@ -129,8 +133,8 @@ fn print<W: Write>(output: &mut W, name: &str, answer: &Result<Vec<u64>, Stop>) 
                 write!(output, " {number}")?;
             }
         }
-        Err(Stop::Refused) => write!(output, ": refused again")?,
-        Err(Stop::Differs(what)) => write!(output, ": {what}")?,
+        Err(ScenarioFault::Refused) => write!(output, ": refused again")?,
+        Err(ScenarioFault::Differs(what)) => write!(output, ": {what}")?,
     }
     writeln!(output)
 }
@@ -139,7 +143,7 @@ fn print<W: Write>(output: &mut W, name: &str, answer: &Result<Vec<u64>, Stop>) 
 const INPUT_LEN: usize = 64;
 
 /// Goes through one scenario, with requests ahead of it and behind it.
-fn ask<R, W>(rt: R, alloc: Global, output: &mut W, question: &Question) -> io::Result<()>
+fn ask<R, W>(rt: R, alloc: Global, output: &mut W, question: &ScenarioCall) -> io::Result<()>
 where
     R: Threads + Wait + Copy + Send + Sync + Drop + 'static,
     W: Write,

@@ -2,7 +2,7 @@
 //! worker doesn't.
 
 use crate::opened::Opened;
-use crate::stop::Stop;
+use crate::stop::ScenarioFault;
 use crate::tree::{admitted, assembled};
 use std::alloc::Global;
 use std::hint;
@@ -83,7 +83,11 @@ exit
 ";
 
 /// What two tasks come to that so many workers run, and whether each saw the other.
-fn met<R: Threads + Wait + Sync>(rt: &R, alloc: Global, workers: u32) -> Result<[u64; 5], Stop> {
+fn met<R: Threads + Wait + Sync>(
+    rt: &R,
+    alloc: Global,
+    workers: u32,
+) -> Result<[u64; 5], ScenarioFault> {
     let programs = assembled(alloc, &[(0, ROOT), (0, "mov64 r0, 0\nexit\n")])?;
     let job = admitted(alloc, &programs, 48, Vec::new(alloc))?;
     let gate = Meeting::new();
@@ -99,7 +103,10 @@ fn met<R: Threads + Wait + Sync>(rt: &R, alloc: Global, workers: u32) -> Result<
 }
 
 /// The same of two workers and of one.
-pub fn meetings<R: Threads + Wait + Sync>(rt: &R, alloc: Global) -> Result<Vec<u64>, Stop> {
+pub fn meetings<R: Threads + Wait + Sync>(
+    rt: &R,
+    alloc: Global,
+) -> Result<Vec<u64>, ScenarioFault> {
     let mut numbers = Vec::new(alloc);
     for workers in [2, 1] {
         for number in met(rt, alloc, workers)? {

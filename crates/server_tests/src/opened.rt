@@ -3,7 +3,7 @@
 ghost use Rattle.std.specs.Prelude.{◌≡◌};
 
 use crate::lookers::Looker;
-use crate::stop::Stop;
+use crate::stop::ScenarioFault;
 use credit_book::{Board, Post, Report};
 use job_core::Job;
 use refusal::NoMemory;
@@ -22,10 +22,10 @@ pub struct Opened {
 
 impl Opened {
     /// A job beside the post of a board of its own, with this number.
-    pub fn new(alloc: Global, number: u64, job: Job) -> Result<Opened, Stop> {
+    pub fn new(alloc: Global, number: u64, job: Job) -> Result<Opened, ScenarioFault> {
         let credit = job.credit();
         if credit < 1 || credit > 2_147_483_647 {
-            return Err(Stop::Differs("no such job"));
+            return Err(ScenarioFault::Differs("no such job"));
         }
         let (_board, post, _reader) = Board::open(alloc, number, credit)?;
         Ok(Opened { job, post })
@@ -48,15 +48,15 @@ impl Opened {
         alloc: Global,
         workers: u32,
         gate: &G,
-    ) -> Result<Report, Stop> {
+    ) -> Result<Report, ScenarioFault> {
         let Opened { job, post } = self;
         if workers < 1 || workers > 16 {
-            return Err(Stop::Differs("no such workers"));
+            return Err(ScenarioFault::Differs("no such workers"));
         }
         match run_job(rt, alloc, job, post, workers, gate) {
             Ok(report) => Ok(report),
-            Err(PoolFault::NoMemory) | Err(PoolFault::NoWorker) => Err(Stop::Refused),
-            Err(PoolFault::BookRefused) => Err(Stop::Differs("the book refused an end")),
+            Err(PoolFault::NoMemory) | Err(PoolFault::NoWorker) => Err(ScenarioFault::Refused),
+            Err(PoolFault::BookRefused) => Err(ScenarioFault::Differs("the book refused an end")),
         }
     }
 }

@@ -2,7 +2,7 @@
 
 ghost use Rattle.lanes.specs.Passes.{IsOwner, IsGuest, IsSameLane, IsSameThief};
 
-use crate::stop::Stop;
+use crate::stop::ScenarioFault;
 use crate::tickets::{Tickets, number_of};
 use credit_book::Ticket;
 use lanes::{Lanes, lanes_between};
@@ -15,14 +15,14 @@ fn put(
     tickets: &mut Tickets,
     lane: &mut Lane,
     pass: &mut Pass<Owning>,
-) -> Result<(), Stop>
+) -> Result<(), ScenarioFault>
     requires { IsOwner lane.old pass.old }
     ensures { IsOwner lane.new pass.new × IsSameLane lane.old lane.new }
 {
     let ticket = tickets.next(alloc)?;
     match lane.push(pass, ticket) {
         Ok(()) => Ok(()),
-        Err(_) => Err(Stop::Differs("a push is refused")),
+        Err(_) => Err(ScenarioFault::Differs("a push is refused")),
     }
 }
 
@@ -41,7 +41,7 @@ fn stolen(thief: &mut Thief, pass: &mut Pass<Stealing>) -> u64
 
 /// What an owner and a thief find of three tickets: the owner, the thief, the owner twice, and the
 /// thief. Then how many are left of two more, once the owner has the thief's pass.
-pub fn in_order(alloc: Global) -> Result<Vec<u64>, Stop> {
+pub fn in_order(alloc: Global) -> Result<Vec<u64>, ScenarioFault> {
     let mut numbers = Vec::new(alloc);
     let mut tickets = Tickets::open(alloc)?;
     let (mut lane, mut pass, mut thieves) = lane(alloc, 1)?;
@@ -49,7 +49,7 @@ pub fn in_order(alloc: Global) -> Result<Vec<u64>, Stop> {
     put(alloc, &mut tickets, &mut lane, &mut pass)?;
     put(alloc, &mut tickets, &mut lane, &mut pass)?;
     let Some((mut thief, mut seat)) = thieves.pop() else {
-        return Err(Stop::Differs("there is no thief"));
+        return Err(ScenarioFault::Differs("there is no thief"));
     };
     let found = [
         number_of(lane.take(&mut pass)),
@@ -88,7 +88,7 @@ const HALVES: [Turns; 5] = [
 ];
 
 /// Lanes between workers, with so many tickets in each worker's own.
-fn filled(alloc: Global, counts: &[u32]) -> Result<Vec<Lanes<Ticket>>, Stop> {
+fn filled(alloc: Global, counts: &[u32]) -> Result<Vec<Lanes<Ticket>>, ScenarioFault> {
     let mut tickets = Tickets::open(alloc)?;
     let workers = if counts.len() < 16 {
         counts.len() as u32
@@ -100,7 +100,7 @@ fn filled(alloc: Global, counts: &[u32]) -> Result<Vec<Lanes<Ticket>>, Stop> {
         for _ in 0..*count {
             let ticket = tickets.next(alloc)?;
             if lanes.push(ticket).is_err() {
-                return Err(Stop::Differs("a push is refused"));
+                return Err(ScenarioFault::Differs("a push is refused"));
             }
         }
     }
@@ -108,7 +108,7 @@ fn filled(alloc: Global, counts: &[u32]) -> Result<Vec<Lanes<Ticket>>, Stop> {
 }
 
 /// Adds the number of what each of these places finds, 0 where that is nothing.
-fn find(alloc: Global, turns: Turns, numbers: &mut Vec<u64>) -> Result<(), Stop> {
+fn find(alloc: Global, turns: Turns, numbers: &mut Vec<u64>) -> Result<(), ScenarioFault> {
     let (counts, places) = turns;
     let mut all = filled(alloc, counts)?;
     for place in places {
@@ -121,7 +121,7 @@ fn find(alloc: Global, turns: Turns, numbers: &mut Vec<u64>) -> Result<(), Stop>
     Ok(())
 }
 
-fn found(alloc: Global, rows: &[Turns]) -> Result<Vec<u64>, Stop> {
+fn found(alloc: Global, rows: &[Turns]) -> Result<Vec<u64>, ScenarioFault> {
     let mut numbers = Vec::new(alloc);
     for turns in rows {
         find(alloc, *turns, &mut numbers)?;
@@ -130,11 +130,11 @@ fn found(alloc: Global, rows: &[Turns]) -> Result<Vec<u64>, Stop> {
 }
 
 /// What workers find that have a ticket each.
-pub fn own_first(alloc: Global) -> Result<Vec<u64>, Stop> {
+pub fn own_first(alloc: Global) -> Result<Vec<u64>, ScenarioFault> {
     found(alloc, &OWN)
 }
 
 /// What two workers find, of which the first has all tickets.
-pub fn by_halves(alloc: Global) -> Result<Vec<u64>, Stop> {
+pub fn by_halves(alloc: Global) -> Result<Vec<u64>, ScenarioFault> {
     found(alloc, &HALVES)
 }

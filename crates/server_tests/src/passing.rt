@@ -3,7 +3,7 @@
 ghost use Rattle.std.specs.Prelude.{All};
 ghost use Rattle.lanes.specs.Passes.{IsOwner, IsGuest};
 
-use crate::stop::Stop;
+use crate::stop::ScenarioFault;
 use crate::tally::Tally;
 use crate::tickets::Tickets;
 use std::alloc::Global;
@@ -80,13 +80,13 @@ fn pushes_one(
     tickets: &mut Tickets,
     turn: u32,
     seen: &mut Vec<u32>,
-) -> Result<(), Stop>
+) -> Result<(), ScenarioFault>
     requires { IsOwner lane.old pass.old }
     ensures { IsOwner lane.new pass.new }
 {
     let ticket = tickets.next(alloc)?;
     if lane.push(pass, ticket).is_err() {
-        return Err(Stop::Differs("a push is refused"));
+        return Err(ScenarioFault::Differs("a push is refused"));
     }
     if turn % 8 == 0 {
         takes(lane, pass, seen);
@@ -100,7 +100,7 @@ fn pushes(
     lane: Lane,
     pass: Pass<Owning>,
     is_over: &AtomicBool,
-) -> Result<Vec<u32>, Stop>
+) -> Result<Vec<u32>, ScenarioFault>
     requires { IsOwner lane pass }
 {
     let mut lane = lane;
@@ -140,7 +140,7 @@ fn run_all<'s, E: 's, R: Threads + Wait + Sync>(
     thieves: Vec<(Thief, Pass<Stealing>)>,
     is_over: &'s AtomicBool,
     tally: &Tally,
-) -> Result<(), Stop>
+) -> Result<(), ScenarioFault>
     requires owner { IsOwner lane pass }
     requires thieves { All (λ g. IsGuest g.0 g.1) thieves.items }
 {
@@ -164,7 +164,7 @@ fn run_all<'s, E: 's, R: Threads + Wait + Sync>(
 
 /// Lets an owner and three thieves have the tickets. Whether each was taken once, and each of them
 /// took them in the order of pushing.
-fn shared_out<R: Threads + Wait + Sync>(rt: &R, alloc: Global) -> Result<bool, Stop> {
+fn shared_out<R: Threads + Wait + Sync>(rt: &R, alloc: Global) -> Result<bool, ScenarioFault> {
     let tally = Tally::new(alloc, 50_001)?;
     let seen = &tally;
     let over = AtomicBool::new(false);
@@ -173,7 +173,7 @@ fn shared_out<R: Threads + Wait + Sync>(rt: &R, alloc: Global) -> Result<bool, S
     let pushed = thread::scope(
         thread::scope_env(),
         rt,
-        |scope| -> Result<(), Stop>
+        |scope| -> Result<(), ScenarioFault>
             requires { IsOwner own pass × All (λ g. IsGuest g.0 g.1) thieves.items }
         { run_all(rt, scope, alloc, own, pass, thieves, is_over, seen) },
     );
@@ -183,7 +183,10 @@ fn shared_out<R: Threads + Wait + Sync>(rt: &R, alloc: Global) -> Result<bool, S
 
 /// Whether an owner and three thieves, each in a thread of its own, take each ticket once and in
 /// the order of pushing.
-pub fn by_passes<R: Threads + Wait + Sync>(rt: &R, alloc: Global) -> Result<Vec<u64>, Stop> {
+pub fn by_passes<R: Threads + Wait + Sync>(
+    rt: &R,
+    alloc: Global,
+) -> Result<Vec<u64>, ScenarioFault> {
     let mut numbers = Vec::new(alloc);
     numbers.push(u64::from(shared_out(rt, alloc)?))?;
     Ok(numbers)

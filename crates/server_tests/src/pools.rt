@@ -1,7 +1,7 @@
 //! The job on two workers, in this thread and in threads of its own.
 
 use crate::asking::{asked, awaited, start, together};
-use crate::stop::{Stop, holds};
+use crate::stop::{ScenarioFault, holds};
 use crate::tree::{CREDIT, job, told as told_of};
 use credit_book::{Board, Report};
 use job_core::Job;
@@ -15,7 +15,7 @@ use workers::{OpenGate, PoolFault, run_job};
 const WORKERS: u32 = 2;
 
 /// What a task that wasn't run leaves, beside one that was: nothing is spent of what it was given.
-fn told_by_pool(alloc: Global, report: &Report) -> Result<Vec<u64>, Stop> {
+fn told_by_pool(alloc: Global, report: &Report) -> Result<Vec<u64>, ScenarioFault> {
     let mut spent = 0u32;
     let mut rest = 0u32;
     let mut all_ran = true;
@@ -34,16 +34,19 @@ fn told_by_pool(alloc: Global, report: &Report) -> Result<Vec<u64>, Stop> {
     if all_ran {
         told_of(alloc, report)
     } else {
-        Err(Stop::Refused)
+        Err(ScenarioFault::Refused)
     }
 }
 
 /// The job on two workers, under a board that is looked at when it is over.
-pub fn run_by_two<R: Threads + Wait + Sync>(rt: &R, alloc: Global) -> Result<Vec<u64>, Stop> {
+pub fn run_by_two<R: Threads + Wait + Sync>(
+    rt: &R,
+    alloc: Global,
+) -> Result<Vec<u64>, ScenarioFault> {
     let job = job(alloc)?;
     let credit = job.credit();
     if credit < 1 || credit > 2_147_483_647 {
-        return Err(Stop::Differs("the job has another credit"));
+        return Err(ScenarioFault::Differs("the job has another credit"));
     }
     let (board, post, mut reader) = Board::open(alloc, 1, credit)?;
     match run_job(rt, alloc, job, post, WORKERS, &OpenGate) {
@@ -54,13 +57,13 @@ pub fn run_by_two<R: Threads + Wait + Sync>(rt: &R, alloc: Global) -> Result<Vec
             holds(same, "the board doesn't say what the report does")?;
             told_by_pool(alloc, &report)
         }
-        Err(PoolFault::NoMemory) | Err(PoolFault::NoWorker) => Err(Stop::Refused),
-        Err(PoolFault::BookRefused) => Err(Stop::Differs("the book refused an end")),
+        Err(PoolFault::NoMemory) | Err(PoolFault::NoWorker) => Err(ScenarioFault::Refused),
+        Err(PoolFault::BookRefused) => Err(ScenarioFault::Differs("the book refused an end")),
     }
 }
 
 /// The job in a thread of its own, taken when it has ended.
-pub fn run_by_runner<R>(rt: R, alloc: Global) -> Result<Vec<u64>, Stop>
+pub fn run_by_runner<R>(rt: R, alloc: Global) -> Result<Vec<u64>, ScenarioFault>
 where
     R: Threads + Wait + Copy + Send + Sync + Drop + 'static,
 {
@@ -76,14 +79,14 @@ where
     runner.join_all();
     match given {
         Some((1, Ok(report))) => told_by_pool(alloc, &report),
-        Some((1, Err(81))) | Some((1, Err(99))) => Err(Stop::Refused),
-        Some(_) => Err(Stop::Differs("the job fails by another number")),
-        None => Err(Stop::Differs("the job isn't given")),
+        Some((1, Err(81))) | Some((1, Err(99))) => Err(ScenarioFault::Refused),
+        Some(_) => Err(ScenarioFault::Differs("the job fails by another number")),
+        None => Err(ScenarioFault::Differs("the job isn't given")),
     }
 }
 
 /// What a runner answers about a job, and then about three at once.
-pub fn answers<R>(rt: R, alloc: Global) -> Result<Vec<u64>, Stop>
+pub fn answers<R>(rt: R, alloc: Global) -> Result<Vec<u64>, ScenarioFault>
 where
     R: Threads + Wait + Copy + Send + Sync + Drop + 'static,
 {

@@ -6,20 +6,20 @@ use std::alloc::Global;
 
 /// A scenario, and how many requests are made ahead of it and, at most, behind it.
 #[derive(Drop)]
-pub struct Question<'a> {
+pub struct ScenarioCall<'a> {
     pub name: &'a str,
     pub ahead: u32,
     pub most: u32,
 }
 
 /// Reads `NAME AHEAD MOST`.
-pub fn question_of(input: &[u8]) -> Option<Question<'_>> {
+pub fn question_of(input: &[u8]) -> Option<ScenarioCall<'_>> {
     let text = str::from_utf8(input).ok()?;
     let mut words = text.trim().split(' ');
     let name = words.next()?;
     let ahead = words.next()?.parse().ok()?;
     let most = words.next()?.parse().ok()?;
-    Some(Question { name, ahead, most })
+    Some(ScenarioCall { name, ahead, most })
 }
 
 /// Makes requests for memory, one after the other, and drops what they give. How many were made

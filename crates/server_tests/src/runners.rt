@@ -2,7 +2,7 @@
 //! whose job waits for the next request.
 
 use crate::frames::frames;
-use crate::stop::{Stop, holds};
+use crate::stop::{ScenarioFault, holds};
 use accounts::{Account, Desk};
 use credit_book::{Progress, Report};
 use job_core::Job;
@@ -75,7 +75,7 @@ fn served<N: Runner>(
     runner: &mut N,
     requests: &[&str],
     replies: &[&str],
-) -> Result<u64, Stop>
+) -> Result<u64, ScenarioFault>
     requires { N.ready runner.old }
     ensures { N.ready runner.new }
 {
@@ -90,12 +90,12 @@ fn served<N: Runner>(
     )?;
     match answer {
         Ok(count) => Ok(count),
-        Err(_) => Err(Stop::Differs("a stream in memory failed")),
+        Err(_) => Err(ScenarioFault::Differs("a stream in memory failed")),
     }
 }
 
 /// How many replies tell what the runner sees, and how many a start that is refused.
-pub fn replies(alloc: Global) -> Result<Vec<u64>, Stop> {
+pub fn replies(alloc: Global) -> Result<Vec<u64>, ScenarioFault> {
     let seen = Progress {
         spent: 5,
         returned: 2,
@@ -126,7 +126,7 @@ fn account(desk: &Desk) -> Account {
 
 /// Replies, and what is open of a job that waits for its next request in the runner; what it has
 /// spent once it has passed, and whether the runner has another.
-pub fn passed_on(alloc: Global) -> Result<Vec<u64>, Stop> {
+pub fn passed_on(alloc: Global) -> Result<Vec<u64>, ScenarioFault> {
     let mut desk = Desk::new(alloc);
     let mut runner = InlineRunner::new(alloc);
     let [grant, submit, ..] = REQUESTS;

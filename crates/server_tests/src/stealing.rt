@@ -1,6 +1,6 @@
 //! An owner that pushes and takes, while thieves steal from it and from one another.
 
-use crate::stop::Stop;
+use crate::stop::ScenarioFault;
 use crate::tally::Tally;
 use crate::tickets::Tickets;
 use credit_book::Ticket;
@@ -35,13 +35,13 @@ fn steals<R: Wait>(rt: &R, lanes: Lanes<Ticket>, is_alone: bool, tally: &Tally) 
 }
 
 /// Pushes all tickets, of which it takes one for every eight, and then what is left.
-fn pushes(alloc: Global, lanes: Lanes<Ticket>, tally: &Tally) -> Result<(), Stop> {
+fn pushes(alloc: Global, lanes: Lanes<Ticket>, tally: &Tally) -> Result<(), ScenarioFault> {
     let mut lanes = lanes;
     let mut tickets = Tickets::open(alloc)?;
     for turn in 0..TICKETS {
         let ticket = tickets.next(alloc)?;
         if lanes.push(ticket).is_err() {
-            return Err(Stop::Differs("a push is refused"));
+            return Err(ScenarioFault::Differs("a push is refused"));
         }
         if turn % 8 == 0
             && let Some(ticket) = lanes.next()
@@ -60,14 +60,18 @@ fn pushes(alloc: Global, lanes: Lanes<Ticket>, tally: &Tally) -> Result<(), Stop
 }
 
 /// Lets so many thieves, 1 to 15, and an owner have the tickets. Whether each was seen once.
-fn shared_out<R: Threads + Wait + Sync>(rt: &R, alloc: Global, thieves: u32) -> Result<bool, Stop> {
+fn shared_out<R: Threads + Wait + Sync>(
+    rt: &R,
+    alloc: Global,
+    thieves: u32,
+) -> Result<bool, ScenarioFault> {
     let tally = Tally::new(alloc, 100_001)?;
     let seen = &tally;
     let thieves = thieves.clamp(1, 15);
     let is_alone = thieves == 1;
     let mut all = lanes_between(alloc, thieves + 1)?;
     let Some(own) = all.pop() else {
-        return Err(Stop::Differs("there are no lanes"));
+        return Err(ScenarioFault::Differs("there are no lanes"));
     };
     let pushed = thread::scope(thread::scope_env(), rt, |scope| {
         for lanes in all {
@@ -87,7 +91,10 @@ fn shared_out<R: Threads + Wait + Sync>(rt: &R, alloc: Global, thieves: u32) -> 
 }
 
 /// Whether each ticket is seen once, where one thief takes and where three do.
-pub fn by_lanes<R: Threads + Wait + Sync>(rt: &R, alloc: Global) -> Result<Vec<u64>, Stop> {
+pub fn by_lanes<R: Threads + Wait + Sync>(
+    rt: &R,
+    alloc: Global,
+) -> Result<Vec<u64>, ScenarioFault> {
     let mut numbers = Vec::new(alloc);
     for thieves in [1, 3] {
         numbers.push(u64::from(shared_out(rt, alloc, thieves)?))?;

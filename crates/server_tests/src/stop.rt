@@ -8,7 +8,7 @@ use std::alloc::{AllocError, AllocFailed};
 
 /// Why a scenario doesn't come to its numbers.
 #[derive(Clone, Copy, Debug, PartialEq, Eq)]
-pub enum Stop {
+pub enum ScenarioFault {
     /// Memory was refused where nothing is left to call again, or a spawn was: the scenario begins
     /// anew.
     Refused,
@@ -16,38 +16,38 @@ pub enum Stop {
     Differs(&'static str),
 }
 
-impl From<AllocError> for Stop {
-    fn from(_error: AllocError) -> Stop {
-        Stop::Refused
+impl From<AllocError> for ScenarioFault {
+    fn from(_error: AllocError) -> ScenarioFault {
+        ScenarioFault::Refused
     }
 }
 
-impl<T: Drop> From<AllocFailed<T>> for Stop {
-    fn from(_error: AllocFailed<T>) -> Stop {
-        Stop::Refused
+impl<T: Drop> From<AllocFailed<T>> for ScenarioFault {
+    fn from(_error: AllocFailed<T>) -> ScenarioFault {
+        ScenarioFault::Refused
     }
 }
 
-impl From<NoMemory> for Stop {
-    fn from(_error: NoMemory) -> Stop {
-        Stop::Refused
+impl From<NoMemory> for ScenarioFault {
+    fn from(_error: NoMemory) -> ScenarioFault {
+        ScenarioFault::Refused
     }
 }
 
-impl From<Unopened> for Stop {
-    fn from(_error: Unopened) -> Stop {
-        Stop::Refused
+impl From<Unopened> for ScenarioFault {
+    fn from(_error: Unopened) -> ScenarioFault {
+        ScenarioFault::Refused
     }
 }
 
 /// Stops unless it holds.
-pub fn holds(it: bool, otherwise: &'static str) -> Result<(), Stop>
+pub fn holds(it: bool, otherwise: &'static str) -> Result<(), ScenarioFault>
     ensures ok { OnOk result (it ≡ true) }
     ensures err { OnErr result (it ≡ false) }
 {
     if it {
         Ok(())
     } else {
-        Err(Stop::Differs(otherwise))
+        Err(ScenarioFault::Differs(otherwise))
     }
 }

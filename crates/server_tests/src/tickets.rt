@@ -1,6 +1,6 @@
 //! Tickets of one book, for lanes alone.
 
-use crate::stop::Stop;
+use crate::stop::ScenarioFault;
 use credit_book::{Board, Book, Ticket};
 use helpers::{Part, SpawnRecord};
 use std::alloc::Global;
@@ -13,14 +13,14 @@ pub struct Tickets {
 
 impl Tickets {
     /// The book of a new job.
-    pub fn open(alloc: Global) -> Result<Tickets, Stop> {
+    pub fn open(alloc: Global) -> Result<Tickets, ScenarioFault> {
         let (_board, post, _reader) = Board::open(alloc, 1, 2_000_001)?;
         let (book, _root) = Book::open(alloc, post, Part::whole(Vec::new(alloc)))?;
         Ok(Tickets { book })
     }
 
     /// The ticket of the next task. They are numbered from 1.
-    pub fn next(&mut self, alloc: Global) -> Result<Ticket, Stop> {
+    pub fn next(&mut self, alloc: Global) -> Result<Ticket, ScenarioFault> {
         let child = SpawnRecord {
             program: 0,
             share: 1,
@@ -29,7 +29,7 @@ impl Tickets {
         };
         match self.book.spawn(0, child) {
             Ok(ticket) => Ok(ticket),
-            Err(_) => Err(Stop::Differs("a spawn is refused")),
+            Err(_) => Err(ScenarioFault::Differs("a spawn is refused")),
         }
     }
 }

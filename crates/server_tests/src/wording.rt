@@ -1,6 +1,6 @@
 //! What faults say that no client is told, and what is read of a job's object.
 
-use crate::stop::{Stop, holds};
+use crate::stop::{ScenarioFault, holds};
 use job_server::ServeFault;
 use sessions::{SessionFault, job_object};
 use std::alloc::Global;
@@ -15,7 +15,7 @@ const FAULTS: [(StreamFault, &str); 3] = [
 
 /// The numbers of faults, whose texts have to be those written out by hand: of a stream, of a
 /// session, and the status of a server that serves no more.
-pub fn faults(alloc: Global) -> Result<Vec<u64>, Stop> {
+pub fn faults(alloc: Global) -> Result<Vec<u64>, ScenarioFault> {
     let mut numbers = Vec::new(alloc);
     for (fault, text) in FAULTS {
         let told = format!(in alloc; "{fault}")?;
@@ -44,9 +44,9 @@ const OBJECT: &str =
 
 /// The fields of a job's object: its credit, its buffer, its schedule, and the need and the bytes
 /// of each program.
-pub fn object(alloc: Global) -> Result<Vec<u64>, Stop> {
+pub fn object(alloc: Global) -> Result<Vec<u64>, ScenarioFault> {
     let Ok(job) = job_object(alloc, OBJECT.as_bytes(), true) else {
-        return Err(Stop::Differs("the object isn't read"));
+        return Err(ScenarioFault::Differs("the object isn't read"));
     };
     let mut numbers = Vec::new(alloc);
     numbers.push(u64::from(job.credit))?;

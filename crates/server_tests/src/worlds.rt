@@ -1,6 +1,6 @@
 //! A job from its programs' texts to its report: played along a schedule, and step by step.
 
-use crate::stop::{Stop, holds};
+use crate::stop::{ScenarioFault, holds};
 use crate::tree::{CREDIT, job, told};
 use job_core::{Report, World, play};
 use std::alloc::Global;
@@ -9,17 +9,17 @@ use std::alloc::Global;
 const SCHEDULE: [u32; 12] = [0, 0, 0, 0, 0, 0, 0, 0, 0, 1, 1, 1];
 
 /// The job over the schedule.
-pub fn played(alloc: Global) -> Result<Vec<u64>, Stop> {
+pub fn played(alloc: Global) -> Result<Vec<u64>, ScenarioFault> {
     let world = play(alloc, job(alloc)?, &SCHEDULE)?;
     match world.close() {
         Ok(report) => told(alloc, &report),
-        Err(_) => Err(Stop::Differs("a task is alive")),
+        Err(_) => Err(ScenarioFault::Differs("a task is alive")),
     }
 }
 
 /// Takes the steps of the schedule, and looks at the sums, the buffer and the task's place after
 /// each.
-fn looks_at(alloc: Global, world: &mut World) -> Result<Vec<u64>, Stop> {
+fn looks_at(alloc: Global, world: &mut World) -> Result<Vec<u64>, ScenarioFault> {
     let mut looks = Vec::new(alloc);
     for number in SCHEDULE {
         world.step(alloc, number);
@@ -31,7 +31,7 @@ fn looks_at(alloc: Global, world: &mut World) -> Result<Vec<u64>, Stop> {
 }
 
 /// The numbers of the report, and behind them those of the looks.
-fn told_with(alloc: Global, report: &Report, looks: &[u64]) -> Result<Vec<u64>, Stop> {
+fn told_with(alloc: Global, report: &Report, looks: &[u64]) -> Result<Vec<u64>, ScenarioFault> {
     let mut numbers = told(alloc, report)?;
     for look in looks {
         numbers.push(*look)?;
@@ -40,17 +40,17 @@ fn told_with(alloc: Global, report: &Report, looks: &[u64]) -> Result<Vec<u64>, 
 }
 
 /// The job step by step, with its sums, its buffer and the place of each task looked at between.
-pub fn stepped(alloc: Global) -> Result<Vec<u64>, Stop> {
+pub fn stepped(alloc: Global) -> Result<Vec<u64>, ScenarioFault> {
     let mut world = World::open(alloc, job(alloc)?)?;
     let looks = looks_at(alloc, &mut world)?;
     match world.close() {
         Ok(report) => told_with(alloc, &report, &looks),
-        Err(_) => Err(Stop::Differs("a task is alive")),
+        Err(_) => Err(ScenarioFault::Differs("a task is alive")),
     }
 }
 
 /// All of the credit that was issued is held, returned or spent.
-fn adds_up(world: &World) -> Result<(), Stop> {
+fn adds_up(world: &World) -> Result<(), ScenarioFault> {
     let totals = world.totals();
     let ended = totals.returned.checked_add(totals.spent);
     let sum = match ended {
@@ -61,7 +61,7 @@ fn adds_up(world: &World) -> Result<(), Stop> {
 }
 
 /// The first byte of the buffer and the first of the child's.
-fn first_and_fifth(alloc: Global, world: &World) -> Result<u64, Stop> {
+fn first_and_fifth(alloc: Global, world: &World) -> Result<u64, ScenarioFault> {
     let before = world.totals();
     for _ in 0..2u8 {
         if let Ok(buffer) = world.buffer(alloc) {
@@ -75,11 +75,11 @@ fn first_and_fifth(alloc: Global, world: &World) -> Result<u64, Stop> {
             "a buffer that was refused changed the sums",
         )?;
     }
-    Err(Stop::Differs("the buffer is refused twice"))
+    Err(ScenarioFault::Differs("the buffer is refused twice"))
 }
 
 /// How deep in the tree the task stands.
-fn length_of_place(alloc: Global, world: &World, number: u32) -> Result<u64, Stop> {
+fn length_of_place(alloc: Global, world: &World, number: u32) -> Result<u64, ScenarioFault> {
     for _ in 0..2u8 {
         match world.place(alloc, number) {
             Ok(Some(place)) => return Ok(place.len() as u64),
@@ -87,5 +87,5 @@ fn length_of_place(alloc: Global, world: &World, number: u32) -> Result<u64, Sto
             Err(_) => {}
         }
     }
-    Err(Stop::Differs("a place is refused twice"))
+    Err(ScenarioFault::Differs("a place is refused twice"))
 }

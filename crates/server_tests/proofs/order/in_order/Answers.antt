@@ -1,8 +1,8 @@
 use Rattle.std.proofs.Common.{rules}
 use Rattle.credit_book.specs.declared.task.Ticket.{Ticket}
-use Rattle.lanes.specs.declared.ends.Pass.{Pass}
-use Rattle.lanes.specs.declared.ends.Stealing.{Stealing}
-use Rattle.lanes.specs.declared.ends.Thief.{Thief}
+use Rattle.lanes.specs.declared.deque.Pass.{Pass}
+use Rattle.lanes.specs.declared.deque.Stealing.{Stealing}
+use Rattle.lanes.specs.declared.deque.Thief.{Thief}
 use Rattle.lanes.specs.Passes.{IsNewThief}
 use Rattle.server_tests.proofs.LastOnes.{of_last}
 use Rattle.server_tests.proofs.order.in_order.Goals as goal

@@ -1,7 +1,7 @@
 use Rattle.credit_book.specs.declared.task.Ticket.{Ticket}
-use Rattle.lanes.specs.declared.ends.Pass.{Pass}
-use Rattle.lanes.specs.declared.ends.Stealing.{Stealing}
-use Rattle.lanes.specs.declared.ends.Thief.{Thief}
+use Rattle.lanes.specs.declared.deque.Pass.{Pass}
+use Rattle.lanes.specs.declared.deque.Stealing.{Stealing}
+use Rattle.lanes.specs.declared.deque.Thief.{Thief}
 use Rattle.lanes.specs.Passes.{IsGuest}
 use Rattle.server_tests.proofs.LastOnes.{of_last, of_first}
 use Rattle.server_tests.proofs.passing.run_all.Goals as goal

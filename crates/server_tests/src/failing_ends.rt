@@ -2,7 +2,7 @@
 //! desk is that of the requests read.
 
 use crate::frames::frames;
-use crate::stop::{Stop, holds};
+use crate::stop::{ScenarioFault, holds};
 use accounts::Desk;
 use std::alloc::Global;
 use std::io::{self, ErrorKind, Read, Write};
@@ -76,11 +76,11 @@ struct Sweep {
 
 /// A sweep's name, its grants, the bytes of a read and of a write, whether the reader's calls are
 /// counted, whether the writer fails, and the most calls.
-type Row = (&'static str, usize, usize, usize, bool, bool, u64);
+type SweepRow = (&'static str, usize, usize, usize, bool, bool, u64);
 
 // A request has 44 bytes and a reply 62. So of the pieces of 50 four end within the fourth frame,
 // and a reply is written in three calls, or in nine.
-const SWEEPS: [Row; 5] = [
+const SWEEPS: [SweepRow; 5] = [
     ("reads", 4, 50, 25, true, true, 5),
     ("writes", 4, 50, 25, false, true, 12),
     ("drips", 1, 1, 4096, true, true, 45),
@@ -106,7 +106,7 @@ fn came(
     calls: u64,
     bytes: &[u8],
     replies: &[u8],
-) -> Result<[u64; 3], Stop> {
+) -> Result<[u64; 3], ScenarioFault> {
     let (reads, writes) = if sweep.of_reader {
         (calls, ALWAYS)
     } else {
@@ -143,7 +143,7 @@ fn came(
 }
 
 /// What the streams of a sweep come to, by the calls that go well.
-fn swept(alloc: Global, sweep: Sweep) -> Result<Vec<u64>, Stop> {
+fn swept(alloc: Global, sweep: Sweep) -> Result<Vec<u64>, ScenarioFault> {
     let mut bytes = frames(alloc, &[GRANT; 4])?;
     bytes.truncate(sweep.grants.saturating_mul(44));
     let mut replies = frames(alloc, &REPLIES)?;
@@ -158,7 +158,7 @@ fn swept(alloc: Global, sweep: Sweep) -> Result<Vec<u64>, Stop> {
 }
 
 /// What the streams of the sweep of this name come to.
-pub fn swept_by_name(alloc: Global, name: &str) -> Result<Vec<u64>, Stop> {
+pub fn swept_by_name(alloc: Global, name: &str) -> Result<Vec<u64>, ScenarioFault> {
     for (other, grants, step, room, of_reader, fails, most) in SWEEPS {
         if name == other {
             let sweep = Sweep {
@@ -172,12 +172,12 @@ pub fn swept_by_name(alloc: Global, name: &str) -> Result<Vec<u64>, Stop> {
             return swept(alloc, sweep);
         }
     }
-    Err(Stop::Differs("no such sweep"))
+    Err(ScenarioFault::Differs("no such sweep"))
 }
 
 /// Each end by itself: what a reader gives and what a writer takes, and 84 for what it doesn't.
-pub fn handed_on(alloc: Global) -> Result<Vec<u64>, Stop> {
-    let failed = Stop::Differs("an end in memory failed");
+pub fn handed_on(alloc: Global) -> Result<Vec<u64>, ScenarioFault> {
+    let failed = ScenarioFault::Differs("an end in memory failed");
     let mut numbers = Vec::new(alloc);
     let mut reader = Tap::new(b"abc".as_slice());
     let mut piece = [0u8; 2];
@@ -200,8 +200,8 @@ pub fn handed_on(alloc: Global) -> Result<Vec<u64>, Stop> {
 }
 
 /// Adds what a writer takes of three bytes and of none, and one that takes none at all.
-fn take(alloc: Global, numbers: &mut Vec<u64>) -> Result<(), Stop> {
-    let failed = Stop::Differs("an end in memory failed");
+fn take(alloc: Global, numbers: &mut Vec<u64>) -> Result<(), ScenarioFault> {
+    let failed = ScenarioFault::Differs("an end in memory failed");
     let mut writer = Tap::new(Vec::new(alloc));
     let Ok(three) = writer.write(b"abc") else {
         return Err(failed);
