@@ -5,7 +5,7 @@
 // the job that the input says, as the definitions have it
 mod requested_job;
 
-pub use requested_job::{RequestedJob, requested_job};
+pub use requested_job::{RequestedJob, read_requested_job};
 
 // its steps and its tree
 mod views;

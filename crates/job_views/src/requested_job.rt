@@ -45,7 +45,7 @@ fn job_programs(alloc: Global, programs: &[ProgramBytes]) -> Result<JobPrograms,
 
 /// The job that the input says, with its schedule where one is wanted; none where it says none, or
 /// one that isn't admitted. Refused for want of memory alone.
-pub fn requested_job(
+pub fn read_requested_job(
     alloc: Global,
     input: &[u8],
     wants_schedule: bool,

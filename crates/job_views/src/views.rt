@@ -5,7 +5,7 @@ ghost use Rattle.reference.specs.Records.{move_of};
 ghost use Rattle.reference.specs.Evaluating.{finished_of};
 ghost use Rattle.job_views.specs.Shown.{AreStepsPlayed, HasNoSteps, HasNoTree, IsTreeRun, taken_move};
 
-use crate::requested_job::{RequestedJob, requested_job};
+use crate::requested_job::{RequestedJob, read_requested_job};
 use reference::{ReferenceMove, Unanswered};
 use refusal::NoMemory;
 use run_trace::{JobStep, Tree, trace_job, tree_of};
@@ -32,7 +32,7 @@ pub fn steps_of(alloc: Global, input: &[u8]) -> Result<Option<Vec<JobStep>>, Una
     ensures { IfOk result (λ told. MatchOption told (HasNoSteps input.now)
         (λ steps. AreStepsPlayed input.now steps.items)) }
 {
-    let Some(job) = requested_job(alloc, input, true)? else {
+    let Some(job) = read_requested_job(alloc, input, true)? else {
         return Ok(None);
     };
     let RequestedJob {
@@ -52,7 +52,7 @@ pub fn tree_in(alloc: Global, input: &[u8]) -> Result<Option<Tree>, Unanswered>
     ensures { IfOk result (λ found. MatchOption found (HasNoTree input.now)
         (λ tree. IsTreeRun input.now (map finished_of tree.tasks.items))) }
 {
-    let Some(job) = requested_job(alloc, input, false)? else {
+    let Some(job) = read_requested_job(alloc, input, false)? else {
         return Ok(None);
     };
     let RequestedJob {

@@ -104,7 +104,7 @@ fn told_of(
     task: &LiveTask,
     entry: ReferenceMove,
 ) -> Result<Option<JobStep>, Unanswered>
-    requires listed_step { AreListed (listings_of programs.now) (programs_of programs.now) }
+    requires listed { AreListed (listings_of programs.now) (programs_of programs.now) }
     requires alive { slice_get job.now.tasks.items entry.number ≡ Some (member.Live task.now) }
     ensures told { IfOk result (λ told. (next : JobState)
         → step (programs_of programs.now) (job_of job.now) entry.number entry.refuses ≡ Some next
@@ -135,7 +135,7 @@ fn told_at(
     job: &ReferenceJob,
     entry: ReferenceMove,
 ) -> Result<Option<JobStep>, Unanswered>
-    requires listed_step { AreListed (listings_of programs.now) (programs_of programs.now) }
+    requires listed { AreListed (listings_of programs.now) (programs_of programs.now) }
     ensures told { IfOk result (λ told. (next : JobState)
         → step (programs_of programs.now) (job_of job.now) entry.number entry.refuses ≡ Some next
         → IsStepIfAlive (listings_of programs.now) (programs_of programs.now) (job_of job.now)

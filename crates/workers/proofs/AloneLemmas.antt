@@ -24,7 +24,7 @@ use Rattle.job_answer.proofs.SoloCredit.{run_left}
 use Rattle.job_answer.proofs.Keyed.{times_below}
 use Rattle.workers.specs.EndedAlone.{EndedAlone, GivesAlone, ended_alone}
 
-one_some : {X : Type 0} (o : Option X) (a b : X) → o ≡ Some a → o ≡ Some b → a ≡ b
+pub one_some : {X : Type 0} (o : Option X) (a b : X) → o ≡ Some a → o ≡ Some b → a ≡ b
 one_some o a b x y = cc
 
 -- a program of the list as the machine has it is one of the list
@@ -34,7 +34,7 @@ unmapped [] n p e = absurd (cc)
 unmapped (x ∷ xs) zero p e = (x, refl, one_some (Some (program_of x)) (program_of x) p refl e)
 unmapped (x ∷ xs) (suc n) p e = unmapped xs n p e
 
-each_at : (P : TaskResult → Type 0) (os : List TaskResult) (k : ℕ) (o : TaskResult) → EachIs P os → slice_get os k ≡ Some o → P o
+pub each_at : (P : TaskResult → Type 0) (os : List TaskResult) (k : ℕ) (o : TaskResult) → EachIs P os → slice_get os k ≡ Some o → P o
 each_at P [] k o each e = absurd (cc)
 each_at P (x ∷ xs) zero o each e = subst P (one_some (Some x) x o refl e) each.0
 each_at P (x ∷ xs) (suc k) o each e = each_at P xs k o each.1 e
@@ -43,7 +43,7 @@ one_where : Bool → ℕ
 one_where b = cond b 1 0
 
 -- where some is counted, there is one
-some_counted : (os : List TaskResult) (n : ℕ) → count_by (λ (o : TaskResult). o.own.number == n) os ≡ 1 →
+pub some_counted : (os : List TaskResult) (n : ℕ) → count_by (λ (o : TaskResult). o.own.number == n) os ≡ 1 →
     (k : ℕ) × (o : TaskResult) × (slice_get os k ≡ Some o) × (o.own.number ≡ n)
 unfolding one_where
 some_counted [] n one = absurd (omega (arith, one))

@@ -4,3 +4,4 @@ pub mod RegisterSteps
 pub mod SeatLemmas
 pub mod AloneLemmas
 pub mod NoRefusals
+pub mod HeardLemmas

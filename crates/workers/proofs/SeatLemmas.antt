@@ -157,3 +157,12 @@ job_is programs ticket through silent outcome h = by_either outcome.ran h
     by_either : (b : Bool) → by_ran b (IsRunOf programs ticket through outcome) (IsUnrun ticket outcome × silent) → outcome.job ≡ ticket.job
     by_either true run = run.run.job
     by_either false unrun = unrun.0.job
+
+-- and it has its ticket's number
+pub number_is : (programs : List Checked) (ticket : Ticket) (through : List SpawnRequest → Type 0) (silent : Type 0) (outcome : Outcome) →
+    IsOutcome programs ticket through silent outcome → outcome.number ≡ ticket.number
+number_is programs ticket through silent outcome h = by_either outcome.ran h
+  where
+    by_either : (b : Bool) → by_ran b (IsRunOf programs ticket through outcome) (IsUnrun ticket outcome × silent) → outcome.number ≡ ticket.number
+    by_either true run = run.run.number
+    by_either false unrun = unrun.0.number

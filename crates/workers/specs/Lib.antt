@@ -5,4 +5,5 @@ pub mod EndedAlone
 pub mod Handing
 pub mod Locked
 pub mod AtDesk
+pub mod Heard
 pub mod Seats

@@ -15,7 +15,7 @@ pub enum PoolFault {
     #[error("81: no worker could be started")]
     NoWorker,
     /// A task was alive when all workers had left: 82. The book refuses no end.
-    #[error("82: the book refused an end, or is another job's")]
+    #[error("82: a task was alive when all workers had left")]
     BookRefused,
     /// A growth was refused: 99.
     #[error("99: out of memory")]

@@ -1,14 +1,15 @@
 //! The threads of a pool, each of which runs tasks of the job until no task is alive.
 
-ghost use Rattle.std.specs.Prelude.{◌≡◌, ◌≤◌, IfOk, length, map};
+ghost use Rattle.std.specs.Prelude.{◌≡◌, ◌≤◌, ℕ, IfOk, length, map, true};
 ghost use Rattle.job_answer.specs.Gathered.{root_start};
 ghost use Rattle.job_answer.specs.OneAnswer.{RunsOrNot};
 ghost use Rattle.job_core.specs.Admitted.{AreOwn};
 ghost use Rattle.task_register.specs.declared.seats.TaskResult.{TaskResult};
 ghost use Rattle.verifier.specs.Checked.{program_of};
+ghost use Rattle.workers.specs.Heard.{HasHeard};
 
 use crate::bell::Rest;
-use crate::gate::{Gate, GateAndObserver};
+use crate::gate::{Gate, GateAndObserver, GatedJob};
 use crate::held_lock::HeldLock;
 use crate::locked_book::LockedBook;
 use crate::seated::SeatedTicket;
@@ -34,13 +35,15 @@ pub(crate) struct Station<J: JobId> {
 }
 
 /// What one worker does, until a look says that the job is complete.
-pub(crate) fn work<'s, R: Wait, G: Gate, J: JobId + 'static>(
+pub(crate) fn work<'s, R: Wait, G: Gate, J: GatedJob + 'static>(
     rt: &'s R,
     shared: &'s Shared<J>,
     gate: &'s G,
     station: Station<J>,
     alloc: Global,
-) -> Station<J> {
+) -> Station<J>
+    requires { (n : ℕ) → HasHeard G.begins G.ends gate.now n → J.heard n }
+{
     let Station { watch, lanes } = station;
     let mut watch = watch;
     let mut frames = Frames::new(alloc);
@@ -74,30 +77,44 @@ pub(crate) fn work<'s, R: Wait, G: Gate, J: JobId + 'static>(
 }
 
 /// Starts a thread for a worker. Whether it could be started.
-fn start<'s, E: 's, R: Threads + Wait + Sync, G: Gate + Sync, J: JobId + Send + Sync + 'static>(
+fn start<'s, E: 's, R: Threads + Wait + Sync, G: Gate + Sync, J: GatedJob + Send + Sync + 'static>(
     rt: &'s R,
     scope: &Scope<'s, E>,
     shared: &'s Shared<J>,
     gate: &'s G,
     worker: Station<J>,
     alloc: Global,
-) -> bool {
+) -> bool
+    requires { (n : ℕ) → HasHeard G.begins G.ends gate.now n → J.heard n }
+{
     scope
-        .spawn(move || {
-            let _ = work(rt, shared, gate, worker, alloc);
-        })
+        .spawn(
+            move ||
+                requires { (n : ℕ) → HasHeard G.begins G.ends gate.now n → J.heard n }
+            {
+                let _ = work(rt, shared, gate, worker, alloc);
+            },
+        )
         .is_ok()
 }
 
 /// Starts a thread for each worker. Whether any could be started.
-fn start_all<'s, E: 's, R: Threads + Wait + Sync, G: Gate + Sync, J: JobId + Send + Sync + 'static>(
+fn start_all<
+    's,
+    E: 's,
+    R: Threads + Wait + Sync,
+    G: Gate + Sync,
+    J: GatedJob + Send + Sync + 'static,
+>(
     rt: &'s R,
     scope: &Scope<'s, E>,
     shared: &'s Shared<J>,
     gate: &'s G,
     workers: Vec<Station<J>>,
     alloc: Global,
-) -> bool {
+) -> bool
+    requires { (n : ℕ) → HasHeard G.begins G.ends gate.now n → J.heard n }
+{
     let mut is_any = false;
     for worker in workers {
         if start(rt, scope, shared, gate, worker, alloc) {
@@ -111,11 +128,17 @@ fn start_all<'s, E: 's, R: Threads + Wait + Sync, G: Gate + Sync, J: JobId + Sen
 pub(crate) fn run_in_threads<
     R: Threads + Wait + Sync,
     G: Gate + Sync,
-    J: JobId + Send + Sync + 'static,
->(rt: &R, alloc: Global, shared: &Shared<J>, workers: Vec<Station<J>>, gate: &G) -> bool {
-    thread::scope(thread::scope_env(), rt, |scope| -> bool {
-        start_all(rt, scope, shared, gate, workers, alloc)
-    })
+    J: GatedJob + Send + Sync + 'static,
+>(rt: &R, alloc: Global, shared: &Shared<J>, workers: Vec<Station<J>>, gate: &G) -> bool
+    requires { (n : ℕ) → HasHeard G.begins G.ends gate.now n → J.heard n }
+{
+    thread::scope(
+        thread::scope_env(),
+        rt,
+        |scope| -> bool
+            requires { (n : ℕ) → HasHeard G.begins G.ends gate.now n → J.heard n }
+        { start_all(rt, scope, shared, gate, workers, alloc) },
+    )
 }
 
 /// So many workers: each has its own watch over the post's board, and its own lane.
@@ -139,7 +162,7 @@ pub(crate) fn open_workers<J: JobId + 'static>(
 
 /// What the workers of a job share, with the root's ticket parked: the register takes the job's
 /// name.
-pub(crate) fn open_shared<J: JobId + 'static>(
+pub(crate) fn open_shared<J: GatedJob + 'static>(
     alloc: Global,
     register: NewTaskRegister,
     programs: Vec<Verified>,
@@ -152,7 +175,8 @@ pub(crate) fn open_shared<J: JobId + 'static>(
     requires short { length buffer.items ≤ 65536 }
     requires few { length programs.items ≤ 16 }
     requires own { AreOwn programs.items }
-    requires runs { (o : TaskResult) → RunsOrNot (map program_of programs.items) o → J.runs o }
+    requires runs { (o : TaskResult) → RunsOrNot (map program_of programs.items) o
+        → (o.ran ≡ true → J.heard o.own.number) → J.runs o }
     ensures { IfOk result (λ shared. shared ≡ programs.items) }
 {
     let (book, root) = Book::open(alloc, post, Part::whole(buffer))?;

@@ -1,6 +1,6 @@
 //! The run of a job by a pool of workers, or by the calling thread alone.
 
-ghost use Rattle.std.specs.Prelude.{◌≡◌, ◌≤◌, All, IfErr, IfOk, length, map};
+ghost use Rattle.std.specs.Prelude.{◌≡◌, ◌≤◌, ℕ, All, IfErr, IfOk, length, map, true};
 ghost use Rattle.job_answer.specs.Closing.{ClosesJob};
 ghost use Rattle.job_answer.specs.Gathered.{root_start};
 ghost use Rattle.job_answer.specs.OneAnswer.{AllRan, HasOneAnswer, RunsOrNot};
@@ -9,10 +9,11 @@ ghost use Rattle.task_register.specs.declared.seats.TaskResult.{TaskResult};
 ghost use Rattle.verifier.specs.Checked.{program_of};
 ghost use Rattle.workers.specs.Final.{IsFinal};
 ghost use Rattle.workers.specs.EndedAlone.{EndedAlone};
+ghost use Rattle.workers.specs.Heard.{HasHeard, HasHeardAll};
 ghost use Rattle.workers.specs.declared.fault.PoolFault.TheVariants.{NoMemory};
 
 use crate::fault::PoolFault;
-use crate::gate::Gate;
+use crate::gate::{Gate, GatedJob};
 use crate::pool::{open_shared, open_workers, run_in_threads, work};
 use credit_book::{Post, Report};
 use job_core::Job;
@@ -20,11 +21,11 @@ use std::alloc::Global;
 use std::marker::Brand;
 use std::sync::Wait;
 use std::thread::Threads;
-use task_register::{JobId, NewTaskRegister};
+use task_register::NewTaskRegister;
 use verifier::Verified;
 
 /// Runs the job under a name, as [`run_job`] does.
-fn run_as<R: Threads + Wait + Sync, G: Gate + Sync, J: JobId + Send + Sync + 'static>(
+fn run_as<R: Threads + Wait + Sync, G: Gate + Sync, J: GatedJob + Send + Sync + 'static>(
     rt: &R,
     alloc: Global,
     register: NewTaskRegister,
@@ -41,7 +42,9 @@ fn run_as<R: Threads + Wait + Sync, G: Gate + Sync, J: JobId + Send + Sync + 'st
     requires short { length buffer.items ≤ 65536 }
     requires few { length programs.items ≤ 16 }
     requires own { AreOwn programs.items }
-    requires runs { (o : TaskResult) → RunsOrNot (map program_of programs.items) o → J.runs o }
+    requires runs { (o : TaskResult) → RunsOrNot (map program_of programs.items) o
+        → (o.ran ≡ true → J.heard o.own.number) → J.runs o }
+    requires gate { (n : ℕ) → HasHeard G.begins G.ends gate.now n → J.heard n }
     ensures report { IfOk result
         (λ report. IsFinal J.board.job J.board.issued (length J.root.bytes) report) }
     ensures closes { IfOk result (λ report. ClosesJob J.board.job J.board.issued
@@ -60,7 +63,7 @@ fn run_as<R: Threads + Wait + Sync, G: Gate + Sync, J: JobId + Send + Sync + 'st
 }
 
 /// Runs the job under a name in the calling thread alone.
-fn run_alone_as<R: Wait, G: Gate, J: JobId + 'static>(
+fn run_alone_as<R: Wait, G: Gate, J: GatedJob + 'static>(
     rt: &R,
     alloc: Global,
     register: NewTaskRegister,
@@ -75,7 +78,9 @@ fn run_alone_as<R: Wait, G: Gate, J: JobId + 'static>(
     requires short { length buffer.items ≤ 65536 }
     requires few { length programs.items ≤ 16 }
     requires own { AreOwn programs.items }
-    requires runs { (o : TaskResult) → RunsOrNot (map program_of programs.items) o → J.runs o }
+    requires runs { (o : TaskResult) → RunsOrNot (map program_of programs.items) o
+        → (o.ran ≡ true → J.heard o.own.number) → J.runs o }
+    requires gate { (n : ℕ) → HasHeard G.begins G.ends gate.now n → J.heard n }
     ensures report { IfOk result
         (λ report. IsFinal J.board.job J.board.issued (length J.root.bytes) report) }
     ensures closes { IfOk result (λ report. ClosesJob J.board.job J.board.issued
@@ -104,10 +109,11 @@ fn run_alone_as<R: Wait, G: Gate, J: JobId + 'static>(
 /// Runs the job in so many threads, 1 to 16, and gives the report of its book once no task is
 /// alive. The post is that of the job, opened with its credit.
 ///
-/// Each task of the report that ran gives what it gives by itself, and each other spent nothing.
-/// Where each ran, the report tells of runs that agree from parent to child, from the job's credit
-/// and buffer on, and its buffer is what they left. Where none of these was refused a spawn, they
-/// are the one answer of the job: that of [`job_core::play`], for every schedule.
+/// Each task of the report that ran gives what it gives by itself, and each other spent nothing. The
+/// gate was told of each that ran. Where each ran, the report tells of runs that agree from parent to
+/// child, from the job's credit and buffer on, and its buffer is what they left. Where none of these
+/// was refused a spawn, they are the one answer of the job: that of [`job_core::play`], for every
+/// schedule.
 ///
 /// 81 where no thread could be started: with some started the job runs on those. 82 where a task was
 /// alive when all workers had left; the book refuses no end and no ticket. 99 where there was no
@@ -125,6 +131,7 @@ pub fn run_job<R: Threads + Wait + Sync, G: Gate + Sync>(
     ensures report { IfOk result (λ report.
         IsFinal post.board.job job.credit (length job.buffer) report) }
     ensures alone { IfOk result (λ report. All (EndedAlone job.programs) report.tasks.items) }
+    ensures heard { IfOk result (λ report. HasHeardAll G.begins G.ends gate.now report) }
     ensures answer { IfOk result (λ report. AllRan report
         → HasOneAnswer (map program_of job.programs) job.credit job.buffer report) }
 {
@@ -150,6 +157,7 @@ pub fn run_here<R: Wait, G: Gate>(
     ensures report { IfOk result (λ report.
         IsFinal post.board.job job.credit (length job.buffer) report) }
     ensures alone { IfOk result (λ report. All (EndedAlone job.programs) report.tasks.items) }
+    ensures heard { IfOk result (λ report. HasHeardAll G.begins G.ends gate.now report) }
     ensures answer { IfOk result (λ report. AllRan report
         → HasOneAnswer (map program_of job.programs) job.credit job.buffer report) }
     ensures refused { IfErr result (λ fault. fault ≡ NoMemory) }

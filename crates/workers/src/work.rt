@@ -1,6 +1,6 @@
 //! One task, from its ticket to its outcome.
 
-ghost use Rattle.std.specs.Prelude.{◌≡◌, ◌≤◌, ◌^◌, ◌<◌, ◌↔◌, IsTrue, IsSome, length, map};
+ghost use Rattle.std.specs.Prelude.{◌≡◌, ◌≤◌, ◌^◌, ◌<◌, ◌↔◌, true, IsTrue, IsSome, length, map};
 ghost use Rattle.machine_model.specs.JobState.{entries_of};
 ghost use Rattle.helpers.specs.Table.{job_table};
 ghost use Rattle.verifier.specs.Checked.{program_of, IsVerified};
@@ -8,6 +8,7 @@ ghost use Rattle.job_core.specs.Admitted.{AreOwn};
 ghost use Rattle.interpreter.specs.Representation.{zeroed};
 ghost use Rattle.interpreter.specs.Children.{MayHandOver};
 ghost use Rattle.task_run.specs.Through.{GoesThrough};
+ghost use Rattle.workers.specs.Heard.{HasHeard};
 ghost use Rattle.workers.specs.Outcomes.{IsOutcome, IsRunBy, Suffices};
 
 use crate::gate::{Gate, GateAndObserver};
@@ -60,6 +61,7 @@ fn run_ticket<'c, 's, 'g, S: Spawner, G: Gate + RunObserver>(
         result.0 }
     ensures entries { S.entries result.1.now ≡ S.entries task.entry.2.now }
     ensures same { result.1.ghost_name ≡ task.entry.2.ghost_name }
+    ensures heard { HasHeard G.begins G.ends task.entry.3.now task.entry.0.number }
 {
     let (ticket, code, spawner, gate, alloc) = task;
     let (job, number) = (ticket.job(), ticket.number());
@@ -84,7 +86,7 @@ fn run_ticket<'c, 's, 'g, S: Spawner, G: Gate + RunObserver>(
 }
 
 /// Runs the ticket's task to its end, by itself, on a frame of zeros, or not at all. The gate is
-/// told how it goes on as well.
+/// told of a task that runs, and how it goes on as well.
 ///
 /// The task isn't run where no frame can be had, or where the list has no program of its number,
 /// its credit is under the program's cost or over 2,147,483,647, or its part is shorter than the
@@ -107,6 +109,7 @@ pub(crate) fn work_observed<S: Spawner, G: Gate + RunObserver>(
         (λ asked. GoesThrough S.spawns ticket.part.base spawner.old asked spawner.new)
         (spawner.new ≡ spawner.old) result }
     ensures entries { S.entries spawner.new ≡ S.entries spawner.old }
+    ensures heard { result.ran ≡ true → HasHeard G.begins G.ends gate.now ticket.number }
 {
     let Some(code) = programs.get(ticket.program() as usize) else {
         return unrun(ticket);
@@ -130,7 +133,8 @@ pub(crate) fn work_observed<S: Spawner, G: Gate + RunObserver>(
     }
 }
 
-/// Runs the ticket's task to its end, by itself, on a frame of zeros, or not at all.
+/// Runs the ticket's task to its end, by itself, on a frame of zeros, or not at all. The gate is
+/// told of a task that runs.
 ///
 /// The task isn't run where no frame can be had, or where the list has no program of its number,
 /// its credit is under the program's cost or over 2,147,483,647, or its part is shorter than the
@@ -153,6 +157,7 @@ pub fn work_one<S: Spawner, G: Gate>(
         (λ asked. GoesThrough S.spawns ticket.part.base spawner.old asked spawner.new)
         (spawner.new ≡ spawner.old) result }
     ensures entries { S.entries spawner.new ≡ S.entries spawner.old }
+    ensures heard { result.ran ≡ true → HasHeard G.begins G.ends gate.now ticket.number }
 {
     let gate_and_observer = GateAndObserver {
         gate,

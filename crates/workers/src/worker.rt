@@ -3,7 +3,7 @@
 ghost use Rattle.std.specs.Prelude.{◌≡◌, ◌≤◌, length};
 
 use crate::bell::Bell;
-use crate::gate::{Gate, GateAndObserver};
+use crate::gate::{Gate, GateAndObserver, GatedJob};
 use crate::held_lock::HeldLock;
 use crate::locked_book::LockedBook;
 use crate::seated::{SeatedOutcome, SeatedTicket, Turn};
@@ -16,7 +16,6 @@ use std::alloc::Global;
 use std::marker::Model;
 use std::sync::{Mutex, MutexGuard, Wait};
 use std::{hint, thread};
-use task_register::JobId;
 use task_run::Frames;
 use verifier::Verified;
 
@@ -44,14 +43,14 @@ const PATIENCE: u32 = 100;
 /// programs lie on lines of their own, so that who tries the lock holds nobody else up. Contracts see
 /// the programs, by which each task of the job runs.
 #[derive(Drop)]
-pub(crate) struct Shared<J: JobId> {
+pub(crate) struct Shared<J: GatedJob> {
     programs: Vec<Verified>,
     bell: CachePadded<Bell>,
     desk: CachePadded<Mutex<CachePadded<LockedBook<J>>>>,
 }
 
-impl<J: JobId> Model for Shared<J> {
-    ghost use Rattle.std.specs.Prelude.{◌≡◌, ◌≤◌, List, length, map};
+impl<J: GatedJob> Model for Shared<J> {
+    ghost use Rattle.std.specs.Prelude.{◌≡◌, ◌≤◌, List, length, map, true};
     ghost use Rattle.verifier.specs.Checked.{Checked, program_of};
     ghost use Rattle.job_core.specs.Admitted.{AreOwn};
     ghost use Rattle.task_register.specs.declared.seats.TaskResult.{TaskResult};
@@ -62,11 +61,12 @@ impl<J: JobId> Model for Shared<J> {
     ghost view = { λ s. s.programs.items };
 
     ghost invariant = { λ s. (length s.programs.items ≤ 16) × AreOwn s.programs.items
-        × ((o : TaskResult) → RunsOrNot (map program_of s.programs.items) o → J.runs o) };
+        × ((o : TaskResult) → RunsOrNot (map program_of s.programs.items) o
+        → (o.ran ≡ true → J.heard o.own.number) → J.runs o) };
 }
 
-impl<J: JobId> Shared<J> {
-    ghost use Rattle.std.specs.Prelude.{IfErr, IfOk, map};
+impl<J: GatedJob> Shared<J> {
+    ghost use Rattle.std.specs.Prelude.{IfErr, IfOk, map, true};
     ghost use Rattle.job_answer.specs.Closing.{ClosesJob};
     ghost use Rattle.workers.specs.Final.{IsFinal};
     ghost use Rattle.verifier.specs.Checked.{program_of};
@@ -78,7 +78,8 @@ impl<J: JobId> Shared<J> {
     pub fn new(programs: Vec<Verified>, desk: LockedBook<J>) -> Shared<J>
         requires few { length programs.items ≤ 16 }
         requires own { AreOwn programs.items }
-        requires runs { (o : TaskResult) → RunsOrNot (map program_of programs.items) o → J.runs o }
+        requires runs { (o : TaskResult) → RunsOrNot (map program_of programs.items) o
+            → (o.ran ≡ true → J.heard o.own.number) → J.runs o }
         ensures { result ≡ programs.items }
     {
         Shared {
@@ -93,7 +94,8 @@ impl<J: JobId> Shared<J> {
         ensures programs { result.now ≡ self.now }
         ensures few { length result.now ≤ 16 }
         ensures own { AreOwn result.now }
-        ensures runs { (o : TaskResult) → RunsOrNot (map program_of result.now) o → J.runs o }
+        ensures runs { (o : TaskResult) → RunsOrNot (map program_of result.now) o
+            → (o.ran ≡ true → J.heard o.own.number) → J.runs o }
     {
         &self.programs
     }
@@ -151,7 +153,7 @@ fn wait_a_while(turn: u32) {
 }
 
 /// The desk, for this worker alone until it lets go of it.
-fn take_desk<'a, R: Wait, J: JobId>(rt: &R, shared: &'a Shared<J>) -> AtDesk<'a, J> {
+fn take_desk<'a, R: Wait, J: GatedJob>(rt: &R, shared: &'a Shared<J>) -> AtDesk<'a, J> {
     for turn in 0..TRIES {
         if let Some(desk) = shared.desk_if_free() {
             return desk;
@@ -164,7 +166,7 @@ fn take_desk<'a, R: Wait, J: JobId>(rt: &R, shared: &'a Shared<J>) -> AtDesk<'a,
 /// A worker's lanes, the task that it runs, whether that has a child, whether the last claim was made
 /// at the desk, and what the worker ran that the book hasn't been told of.
 #[derive(Drop)]
-pub(crate) struct Worker<'a, 'b, R, J: JobId> {
+pub(crate) struct Worker<'a, 'b, R, J: GatedJob> {
     rt: &'a R,
     pub shared: &'a Shared<J>,
     held_lock: &'b HeldLock<'a, J>,
@@ -175,12 +177,13 @@ pub(crate) struct Worker<'a, 'b, R, J: JobId> {
     ended: Vec<SeatedOutcome<J>>,
 }
 
-impl<'a, 'b, R: Wait, J: JobId + 'static> Worker<'a, 'b, R, J> {
-    ghost use Rattle.std.specs.Prelude.{◌⊎◌, ◌<◌, ◌^◌, [], reverse, IfErr, IfOk, None, Some};
+impl<'a, 'b, R: Wait, J: GatedJob + 'static> Worker<'a, 'b, R, J> {
+    ghost use Rattle.std.specs.Prelude.{◌⊎◌, ◌<◌, ◌^◌, ℕ, [], reverse, IfErr, IfOk, None, Some};
     ghost use Rattle.credit_book.specs.Books.{Account};
     ghost use Rattle.workers.specs.Locked.{IsJustSpawned};
     ghost use Rattle.credit_book.specs.declared.task.Ticket.{Ticket};
     ghost use Rattle.workers.specs.AtDesk.{AreTasksEnded, IsTaskEnded};
+    ghost use Rattle.workers.specs.Heard.{HasHeard};
     ghost use Rattle.workers.specs.Handing.{Finds, IsHandedAt, IsHeldBack, IsKeptBeside};
     ghost use Rattle.workers.specs.Seats.{HasOneMore, IsTaskOver, RanAndPaid, task_in};
     ghost use Rattle.task_register.specs.Handing.{IsSeatOf};
@@ -349,6 +352,8 @@ impl<'a, 'b, R: Wait, J: JobId + 'static> Worker<'a, 'b, R, J> {
         requires seat { (task : SeatedTask) × (self.old.turn ≡ Some task) × IsSeatOf ticket task }
         requires few { ticket.number < 2 ^ 32 }
         requires job { ticket.job ≡ J.board.job }
+        requires gate { (n : ℕ) → HasHeard G.begins G.ends
+            gate_and_observer.now.gate.now n → J.heard n }
         ensures over { IsTaskOver (RanAndPaid J.runs) self.new.turn result }
         ensures job { result.job ≡ J.board.job }
     {
@@ -426,7 +431,7 @@ impl<'a, 'b, R: Wait, J: JobId + 'static> Worker<'a, 'b, R, J> {
     }
 }
 
-impl<R: Wait, J: JobId + 'static> Spawner for Worker<'_, '_, R, J> {
+impl<R: Wait, J: GatedJob + 'static> Spawner for Worker<'_, '_, R, J> {
     ghost use Rattle.std.specs.Prelude.{◌≡◌, map, MatchResult};
     ghost use Rattle.machine_model.specs.JobState.{entries_of};
     ghost use Rattle.verifier.specs.Checked.{program_of};

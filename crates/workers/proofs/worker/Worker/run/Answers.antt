@@ -1,4 +1,4 @@
-use Rattle.std.proofs.Common.{◌≡◌, ℕ, List, [], ◌∷◌, map, ap, ◌∙◌, refl, rules}
+use Rattle.std.proofs.Common.{◌≡◌, ℕ, true, List, [], ◌∷◌, map, ap, ◌∙◌, refl, rules}
 use Rattle.std.specs.Prelude.{MatchResult}
 use Rattle.std.proofs.lemmas.List.{append-nil}
 use mathlib.Core.List.{Mem, not-mem-nil, mem-cons_self}
@@ -7,7 +7,8 @@ use Rattle.workers.specs.Handing.{IsHanded}
 use Rattle.workers.specs.Seats.{HasOneMore, RanAndPaid, task_in}
 use Rattle.verifier.specs.Checked.{program_of}
 use Rattle.job_answer.proofs.SoloCredit.{paid_for}
-use Rattle.workers.proofs.SeatLemmas.{is_over, job_is, one_more_is}
+use Rattle.workers.proofs.HeardLemmas.{settled_heard}
+use Rattle.workers.proofs.SeatLemmas.{is_over, job_is, number_is, one_more_is}
 use Rattle.workers.proofs.worker.Worker.run.Goals as goal
 
 -- a list with no member
@@ -25,7 +26,10 @@ work_observed-requires-lives-G-RunObserver-3 g c κs within = rw (empty g.row.J.
 pub returns-clause-over : goal.returns-clause-over
 returns-clause-over g c =
     let seat = c.requires.seat in
-    is_over c.args.self.now c.work_observed.new.spawner (λ s. s.turn)
+    settled_heard g.J.JobId.runs g.J.GatedJob.heard c.work_observed.new.spawner.turn c.work_observed.result c.args.ticket.number
+    (number_is c.list-programs.result.now c.args.ticket _ _ c.work_observed.result c.work_observed.ensures.outcome)
+    (λ ran. let h = c.work_observed.ensures.heard ran in c.requires.gate c.args.ticket.number (record { begun = h.begun; ended = h.ended }))
+    (is_over c.args.self.now c.work_observed.new.spawner (λ s. s.turn)
     (λ old child reply new. MatchResult reply
     (λ _. IsHanded old.lanes child new.lanes × (new.shared ≡ old.shared) × (new.ended ≡ old.ended) × HasOneMore old.turn child new.turn)
     (λ _. new ≡ old))
@@ -33,9 +37,9 @@ returns-clause-over g c =
       took = λ old new child h. one_more_is old.turn new.turn child h.3;
       refused = λ old new child back same. ap (λ s. task_in s.turn) same;
     })
-    c.list-programs.result.now (RanAndPaid g.J.JobId.runs)
-    (λ o over. (c.list-programs.ensures.runs o over, paid_for (map program_of c.list-programs.result.now) o over)) c.args.ticket seat.0 seat.1 seat.2 c.requires.few c.work_observed.result
-    c.work_observed.ensures.outcome
+    c.list-programs.result.now (λ o. (o.ran ≡ true → g.J.GatedJob.heard o.own.number) → RanAndPaid g.J.JobId.runs o)
+    (λ o over told. (c.list-programs.ensures.runs o over told, paid_for (map program_of c.list-programs.result.now) o over)) c.args.ticket seat.0 seat.1 seat.2 c.requires.few c.work_observed.result
+    c.work_observed.ensures.outcome)
 
 pub returns-clause-job : goal.returns-clause-job
 returns-clause-job g c = job_is c.list-programs.result.now c.args.ticket _ _ c.work_observed.result c.work_observed.ensures.outcome ∙ c.requires.job

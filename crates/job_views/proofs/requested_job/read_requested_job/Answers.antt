@@ -1,6 +1,6 @@
 use Rattle.std.proofs.Common.{refl}
 use Rattle.job_views.specs.Shown.{no_job, no_object}
-use Rattle.job_views.proofs.requested_job.requested_job.Goals as goal
+use Rattle.job_views.proofs.requested_job.read_requested_job.Goals as goal
 
 pub returns-in-Err : goal.returns-in-Err
 returns-in-Err c = no_object c.in-Err.field-0 c.in-Err.ensures
