@@ -4,7 +4,7 @@
 use accounts::Desk;
 use anyhow::bail;
 use job_core::play_lowest;
-use job_server::serve_on;
+use job_server::{Bounds, Plan, serve_listener};
 use sessions::{Reply, Request, Session, reply_frame};
 use std::alloc::Global;
 use std::io::{Read, Write};
@@ -210,9 +210,21 @@ where
     let all = grants(alloc)?;
     let listener = TcpListener::bind(&rt, SocketAddr::from((Ipv4Addr::LOCALHOST, 0)))?;
     let address = listener.local_addr()?;
+    let plan = Plan {
+        workers: 1,
+        sessions: 2,
+        bounds: Bounds {
+            clients: 1,
+            timeout: 0,
+            open_jobs: 0,
+            keep: 0,
+        },
+        stop: None,
+        log: None,
+    };
     let (served, times) = thread::join(
         &rt,
-        || serve_on(rt, alloc, &listener, 1, 2),
+        || serve_listener(&rt, alloc, &listener, plan),
         || (
             one_by_one(&rt, address, &frame),
             at_once(&rt, alloc, address, &all),

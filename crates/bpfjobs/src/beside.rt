@@ -1,10 +1,9 @@
-//! What stands beside a server: a thread that waits for the end of the input, and one that writes a log.
+//! The threads beside a server: one that waits for the end of the input, and one that writes a log.
 
-ghost use Rattle.bpfjobs_cli.specs.Commands.{IsInRange};
-
-use bpfjobs_cli::{Command, LocalServer};
-use job_server::{Door, LogLines, ServerLog, StopFlag, address_of, open_log, write_lines};
+use bpfjobs_cli::{Endpoint, Serve};
+use job_server::{StopFlag, address_of};
 use refusal::NoMemory;
+use server_log::{Door, LogLines, ServerLog, open_log, write_lines};
 use std::alloc::Global;
 use std::io::Read;
 use std::net::{Net, TcpStream};
@@ -12,32 +11,32 @@ use std::os::unix::net::UnixStream;
 use std::sync::{Arc, Wait};
 use std::time::Clock;
 
-/// Where a server listens.
+/// The place of a server that a connection wakes.
 #[derive(Drop)]
-pub enum Place {
+pub enum ListenAddress {
     /// A port of 127.0.0.1.
     Port(u16),
     /// A socket in the file system.
     Path(String),
 }
 
-impl Place {
-    // Wakes who waits for a connection there, by one.
+impl ListenAddress {
+    // Wakes the thread that waits for a connection there, by one.
     fn wake<R: Net>(&self, rt: &R) {
         match self {
-            Place::Port(port) => {
+            ListenAddress::Port(port) => {
                 let _ = TcpStream::connect(rt, address_of(*port));
             }
-            Place::Path(path) => {
+            ListenAddress::Path(path) => {
                 let _ = UnixStream::connect(rt, path.as_str());
             }
         }
     }
 }
 
-// Reads the input to its end. Then it raises the flag, and wakes who waits for a connection by one of
-// its own.
-fn stop_at_end<R: Input + Net>(rt: &R, place: &Place, stop: &StopFlag) {
+// Reads the input to its end. Then raises the flag, and wakes the thread that waits for a connection
+// by one of its own.
+fn stop_at_end<R: Input + Net>(rt: &R, place: &ListenAddress, stop: &StopFlag) {
     let mut reader = rt.reader();
     let mut piece = [0u8; 64];
     for _ in 0..u64::MAX {
@@ -50,11 +49,11 @@ fn stop_at_end<R: Input + Net>(rt: &R, place: &Place, stop: &StopFlag) {
     place.wake(rt);
 }
 
-/// What a thread beside a server does.
+/// The task of a thread beside a server.
 #[derive(Drop)]
 pub enum Helper {
     /// It stops the server that listens there once the input has ended.
-    Stops(Place, Arc<StopFlag, Global>),
+    Stops(ListenAddress, Arc<StopFlag, Global>),
     /// It writes the lines of a log on standard error.
     Writes(LogLines),
 }
@@ -76,80 +75,51 @@ pub struct Beside {
     log: Option<ServerLog>,
 }
 
-// A server's flag where a place is watched, its log where it has one, and what their threads do.
-fn beside_of(
-    alloc: Global,
-    place: Option<Place>,
-    log: Option<(ServerLog, LogLines)>,
-) -> Result<(Beside, Vec<Helper>), NoMemory> {
+// The place where this endpoint takes connections.
+fn place_of(alloc: Global, endpoint: &Endpoint) -> Result<ListenAddress, NoMemory> {
+    match endpoint {
+        Endpoint::Port(port) => Ok(ListenAddress::Port(*port)),
+        Endpoint::Socket { path, grants: _ } => Ok(ListenAddress::Path(String::from_str(
+            alloc, path,
+        )?)),
+    }
+}
+
+// The log of a server at this endpoint, and the lines that come to it.
+fn log_of(alloc: Global, endpoint: &Endpoint) -> Result<(ServerLog, LogLines), NoMemory> {
+    match endpoint {
+        Endpoint::Port(_) => open_log(alloc, Door::Port, Door::Port),
+        Endpoint::Socket { path: _, grants } => {
+            let granting = if grants.is_some() {
+                Door::Grants
+            } else {
+                Door::Socket
+            };
+            open_log(alloc, granting, Door::Socket)
+        }
+    }
+}
+
+/// The flag and the log that a server's options ask for, and what their threads do.
+pub fn beside_server(alloc: Global, server: &Serve) -> Result<(Beside, Vec<Helper>), NoMemory> {
     let mut helpers = Vec::new(alloc);
     let mut beside = Beside {
         stop: None,
         log: None,
     };
-    if let Some(place) = place {
+    if server.options.until_eof {
+        let place = place_of(alloc, &server.endpoint)?;
         let stop = Arc::new(alloc, StopFlag::new())?;
         let theirs = Arc::try_clone(&stop)?;
         helpers.push(Helper::Stops(place, theirs))?;
         beside.stop = Some(stop);
     }
-    if let Some((log, lines)) = log {
+    if server.options.logs {
+        let (log, lines) = log_of(alloc, &server.endpoint)?;
         helpers.push(Helper::Writes(lines))?;
         beside.log = Some(log);
     }
     Ok((beside, helpers))
-}
-
-/// What stands beside a server of a port, and beside any other command, which has nothing.
-pub fn beside_port(
-    alloc: Global,
-    command: &Command,
-    logs: bool,
-) -> Result<(Beside, Vec<Helper>), NoMemory>
-    requires { IsInRange command.now }
-{
-    let Command::ServeClients {
-        port,
-        workers: _,
-        sessions: _,
-        bounds,
-    } = command
-    else {
-        return beside_of(alloc, None, None);
-    };
-    let place = if bounds.until_eof {
-        Some(Place::Port(*port as u16))
-    } else {
-        None
-    };
-    let log = if logs {
-        Some(open_log(alloc, Door::Port, Door::Port)?)
-    } else {
-        None
-    };
-    beside_of(alloc, place, log)
-}
-
-/// What stands beside a server by sockets in the file system.
-pub fn beside_paths(
-    alloc: Global,
-    server: &LocalServer,
-) -> Result<(Beside, Vec<Helper>), NoMemory> {
-    let place = if server.bounds.until_eof {
-        Some(Place::Path(String::from_str(alloc, &server.socket)?))
-    } else {
-        None
-    };
-    let granting = match server.grants {
-        Some(_) => Door::Grants,
-        None => Door::Socket,
-    };
-    let log = if server.logs {
-        Some(open_log(alloc, granting, Door::Socket)?)
-    } else {
-        None
-    };
-    beside_of(alloc, place, log)
 }
 
 impl Beside {

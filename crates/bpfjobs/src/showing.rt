@@ -2,7 +2,7 @@
 
 ghost use Rattle.std.specs.Prelude.{◌≤◌};
 
-use bpfjobs_cli::{Answer, Command, FAILED, Shown, answer_to, read_all, tell};
+use bpfjobs_cli::{Answer, FAILED, Shown, answer_play, answer_run, read_all, tell};
 use job_views::{step_lines, step_objects, steps_of, tree_in, tree_text};
 use refusal::NoMemory;
 use run_trace::JobStep;
@@ -85,7 +85,7 @@ pub fn play_shown<R: Input + Print + Eprint + Files + AllocGlobal>(
             return FAILED;
         }
     }
-    told(rt, answer_to(alloc, Command::Play, &input))
+    told(rt, answer_play(alloc, &input))
 }
 
 /// Runs a job on so many threads, writes its tree into a file, prints what it comes to, and gives
@@ -110,12 +110,5 @@ where
             return FAILED;
         }
     }
-    let bytes: &[u8] = &input;
-    let mut reader = Tap::new(bytes);
-    let mut writer = Tap::new(io::writer(rt));
-    let command = Command::Run { workers };
-    match job_server::perform(rt, alloc, command, &mut reader, &mut writer) {
-        Ok(status) => status,
-        Err(_) => FAILED,
-    }
+    told(rt, answer_run(rt, alloc, workers, &input))
 }

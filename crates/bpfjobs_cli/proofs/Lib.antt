@@ -1,6 +1,5 @@
 pub mod LineLemmas
-pub mod LocalLemmas
-pub mod SocketLemmas
+pub mod EndpointLemmas
 pub mod NumberLemmas
 pub mod FlagLemmas
 pub mod RowLemmas

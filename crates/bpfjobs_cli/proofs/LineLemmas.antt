@@ -1,12 +1,10 @@
 -- Each line that clap takes says a command, with its numbers.
-use Rattle.std.proofs.Common.{◌≡◌, ◌↔◌, ◌≤◌, ◌<◌, ◌&&◌, ◌==◌, length, ℕ, Bool, IsTrue, not, codes, true, false, refl, sym, ap, ◌∙◌, subst, inl, inr, arith, List, [], Option, Some, None, is_some, true≢false, unwrap_or}
+use Rattle.std.proofs.Common.{◌≡◌, ◌↔◌, ◌≤◌, ◌<◌, ◌&&◌, ◌⊎◌, length, ℕ, Bool, IsTrue, codes, true, false, refl, sym, ap, ◌∙◌, subst, inl, inr, arith, List, [], Option, Some, None, is_some, true≢false, unwrap_or}
 use Rattle.std.specs.Prelude.{pos}
-use Rattle.std.proofs.lemmas.Bool.{cases_Bool}
 use Rattle.std.proofs.lemmas.Slice.Eq.{bytes_eq-Decides}
 use Rattle.std.specs.Str.{bytes_eq}
-use borrow.Author.Tests.{eqb-true}
 use Rattle.clap.specs.Facts.{unwrap_or_range}
-use Rattle.clap.specs.Walk.{Row, Rule, Text, action_of, first_of, nothing_held, rows_after}
+use Rattle.clap.specs.Walk.{Row, Rule, Text, action_of, first_of, nothing_held, one_of, rows_after}
 use Rattle.clap.specs.Simple.{App, Shape, argument_words, built, built_leaf, filled, help_shape, inherited, is_simple, marked_built, new_app, with_leaf_noted, subcommand_of, with_index}
 use Rattle.clap.specs.Kinds.{HasKind}
 use Rattle.clap.specs.declared.error.Error.{Error}
@@ -14,12 +12,11 @@ use Rattle.clap.specs.Faults.{fault_of, is_simple_and_free, level_fault}
 use Rattle.clap.specs.declared.builder.action.ArgAction.TheVariants as action
 use Rattle.clap.specs.declared.builder.value_parser.ValueParser.TheVariants as vp
 use Rattle.clap.proofs.OnLiterals.{clap_on_literals}
-use Rattle.bpfjobs_cli.specs.Commands.{AreBoundsOf, IsNumberIn, SaysCommand, no_bounds}
-use Rattle.bpfjobs_cli.specs.declared.commands.Bounds.{Bounds}
+use Rattle.bpfjobs_cli.specs.Commands.{AreOptionsOf, IsMaybeNumber, IsNumberIn, SaysCommand, says_assemble, says_disassemble, says_verify, says_play, says_run, says_serve}
+use Rattle.bpfjobs_cli.specs.declared.commands.ServeOptions.{ServeOptions}
 use Rattle.bpfjobs_cli.specs.Program.{bpfjobs_app, need_rule, port_rule, run_app, play_app, serve_app, sessions_rule, clients_rule, timeout_rule, open_jobs_rule, keep_rule, verify_app, workers_rule}
-use Rattle.bpfjobs_cli.specs.declared.commands.Command.TheVariants.{Assemble, Disassemble, Verify, Play, Run, Serve, ServeClients}
 use Rattle.bpfjobs_cli.proofs.NumberLemmas.{signed_number}
-use Rattle.bpfjobs_cli.proofs.RowLemmas.{Among, Each, IsOnly, On, both, default_value, required_value}
+use Rattle.bpfjobs_cli.proofs.RowLemmas.{Among, Each, HasValue, IsOnly, On, both, default_value, maybe_value, required_value}
 use Rattle.bpfjobs_cli.proofs.SubcommandLemmas.{Gives, HasNoAlias, subcommand_gives}
 
 -- the rules as clap builds them
@@ -39,6 +36,18 @@ module _ (a : Rule) (low high : ℕ) (sets : action_of a ≡ action.Set) (wants 
   left_out : 0 < length a.defaults → (n : ℕ) × IsNumberIn (rows_after s.rules [] words) a.id low high n
   left_out there = signed_number a low high _ parser (default_value a sets wants s [] words false [] only none among there)
 
+-- the same of an argument that may be missing
+module _ (a : Rule) (low high : ℕ) (sets : action_of a ≡ action.Set) (wants : 1 ≤ (unwrap_or_range a.range).start_inclusive) (parser : a.parser ≡ Some (vp.Signed (pos low) (pos high)))
+    (s : Shape) (words : List Text) (only : Each (IsOnly a) s.rules) (none : level_fault s [] nothing_held words false [] ≡ []) where
+  may_be : (n : Option ℕ) × IsMaybeNumber (rows_after s.rules [] words) a.id low high n
+  may_be = go (maybe_value a sets wants s [] words false [] only none)
+    where
+      go : (one_of a.id (rows_after s.rules [] words) ≡ None) ⊎ HasValue a (rows_after s.rules [] words) → (n : Option ℕ) × IsMaybeNumber (rows_after s.rules [] words) a.id low high n
+      go (inl e) = (None, e)
+      go (inr value) =
+          let number = signed_number a low high _ parser value in
+          (Some number.0, number.1)
+
 -- a subcommand as clap builds it
 abbrev leaf : Shape → Shape
 leaf s = built_leaf (inherited (with_leaf_noted (marked_built bpfjobs_app.top)) s)
@@ -48,25 +57,25 @@ unfolding clap_on_literals
 plain = refl
 
 assemble : Gives SaysCommand (leaf (new_app (codes "assemble")).top)
-assemble words own none = (Assemble, refl)
+assemble words own none = says_assemble refl
 
 disassemble : Gives SaysCommand (leaf (new_app (codes "disassemble")).top)
-disassemble words own none = (Disassemble, refl)
+disassemble words own none = says_disassemble refl
 
 verify : Gives SaysCommand (leaf verify_app.top)
 verify words own none =
     let need = wanted (rule need_rule) 0 4294967295 refl (omega arith) refl (leaf verify_app.top) words
     ((λ same. refl), (other, tt)) (inl refl) none refl refl in
-    (Verify need.0, (refl, need.1))
+    says_verify refl need
 
 play : Gives SaysCommand (leaf play_app.top)
-play words own none = (Play, refl)
+play words own none = says_play refl
 
 run : Gives SaysCommand (leaf run_app.top)
 run words own none =
     let workers = left_out (rule workers_rule) 1 16 refl (omega arith) refl (leaf run_app.top) words
     ((λ same. refl), (other, (other, tt))) (inl refl) none (omega arith) in
-    (Run workers.0, (refl, workers.1))
+    says_run refl workers
 
 -- whether an argument that is a flag is given
 is_given : Option Text → Bool
@@ -81,75 +90,44 @@ flag_given (Some text) = (
   λ there. (bytes_eq-Decides text (codes "true")).1 (ap (λ o. unwrap_or o text) there),
 )
 
--- whether these bounds are none
-are_none : Bounds → Bool
-are_none b = (b.clients == 1) && (b.timeout == 0) && (b.open_jobs == 0) && (b.keep == 0) && not b.until_eof
-
-five : (c t o k u : Bool) → (c && t && o && k && not u) ≡ true → (c ≡ true) × (t ≡ true) × (o ≡ true) × (k ≡ true) × (u ≡ false)
-five true true true true false e = (refl, refl, refl, refl, refl)
-five true true true true true e = cc
-five true true true false u e = cc
-five true true false k u e = cc
-five true false o k u e = cc
-five false t o k u e = cc
-
-bounds_of : ℕ → ℕ → ℕ → ℕ → Bool → Bounds
-bounds_of c t o k u = record { clients = c; timeout = t; open_jobs = o; keep = k; until_eof = u }
-
-none_at_all : (b : Bounds) → are_none b ≡ true → b ≡ no_bounds
-unfolding are_none bounds_of
-none_at_all b none =
-    let tests = five (b.clients == 1) (b.timeout == 0) (b.open_jobs == 0) (b.keep == 0) b.until_eof none in
-    let c : b.clients ≡ 1 = eqb-true b.clients 1 tests.0 in
-    let t : b.timeout ≡ 0 = eqb-true b.timeout 0 tests.1 in
-    let o : b.open_jobs ≡ 0 = eqb-true b.open_jobs 0 tests.2 in
-    let k : b.keep ≡ 0 = eqb-true b.keep 0 tests.3 in
-    ap (λ n. bounds_of n b.timeout b.open_jobs b.keep b.until_eof) c
-    ∙ ap (λ n. bounds_of 1 n b.open_jobs b.keep b.until_eof) t
-    ∙ ap (λ n. bounds_of 1 0 n b.keep b.until_eof) o
-    ∙ ap (λ n. bounds_of 1 0 0 n b.until_eof) k
-    ∙ ap (λ u. bounds_of 1 0 0 0 u) tests.4
-
-serves : (rows : List Row) (port workers sessions : ℕ) (bounds : Bounds) → IsNumberIn rows (codes "port") 1 65535 port → IsNumberIn rows (codes "workers") 1 16 workers
-    → IsNumberIn rows (codes "sessions") 1 1000000 sessions → AreBoundsOf rows bounds → SaysCommand (codes "serve") rows
-unfolding are_none
-serves rows port workers sessions bounds p w s b =
-    elim (cases_Bool (are_none bounds)) [
-      | inl none ↦ (Serve port workers sessions, (refl, p, w, s, subst (AreBoundsOf rows) (none_at_all bounds none) b))
-      | inr some ↦ (ServeClients port workers sessions bounds, (refl, p, w, s, b, λ is. true≢false (sym (ap are_none is) ∙ some)))
-    ]
-
 serve : Gives SaysCommand (leaf serve_app.top)
 serve words own none =
-    let port = wanted (rule port_rule) 1 65535 refl (omega arith) refl (leaf serve_app.top) words
-    ((λ same. refl), (other, (other, (other, (other, (other, (other, (other, (other, (other, tt)))))))))) (inl refl) none refl refl in
+    let port = may_be (rule port_rule) 1 65535 refl (omega arith) refl (leaf serve_app.top) words
+    ((λ same. refl), (other, (other, (other, (other, (other, (other, (other, (other, (other, (other, (other, tt)))))))))))) none in
     let workers = left_out (rule workers_rule) 1 16 refl (omega arith) refl (leaf serve_app.top) words
-    (other, ((λ same. refl), (other, (other, (other, (other, (other, (other, (other, (other, tt)))))))))) (inr (inl refl)) none (omega arith) in
+    (other, (other, (other, ((λ same. refl), (other, (other, (other, (other, (other, (other, (other, (other, tt)))))))))))) (inr (inr (inr (inl refl)))) none (omega arith) in
     let sessions = left_out (rule sessions_rule) 1 1000000 refl (omega arith) refl (leaf serve_app.top) words
-    (other, (other, ((λ same. refl), (other, (other, (other, (other, (other, (other, (other, tt)))))))))) (inr (inr (inl refl))) none (omega arith) in
+    (other, (other, (other, (other, ((λ same. refl), (other, (other, (other, (other, (other, (other, (other, tt)))))))))))) (inr (inr (inr (inr (inl refl))))) none (omega arith) in
     let clients = left_out (rule clients_rule) 1 64 refl (omega arith) refl (leaf serve_app.top) words
-    (other, (other, (other, ((λ same. refl), (other, (other, (other, (other, (other, (other, tt)))))))))) (inr (inr (inr (inl refl)))) none (omega arith) in
+    (other, (other, (other, (other, (other, ((λ same. refl), (other, (other, (other, (other, (other, (other, tt)))))))))))) (inr (inr (inr (inr (inr (inl refl)))))) none (omega arith) in
     let timeout = left_out (rule timeout_rule) 0 3600 refl (omega arith) refl (leaf serve_app.top) words
-    (other, (other, (other, (other, ((λ same. refl), (other, (other, (other, (other, (other, tt)))))))))) (inr (inr (inr (inr (inl refl))))) none (omega arith) in
+    (other, (other, (other, (other, (other, (other, ((λ same. refl), (other, (other, (other, (other, (other, tt)))))))))))) (inr (inr (inr (inr (inr (inr (inl refl))))))) none (omega arith) in
     let open_jobs = left_out (rule open_jobs_rule) 0 1000000 refl (omega arith) refl (leaf serve_app.top) words
-    (other, (other, (other, (other, (other, ((λ same. refl), (other, (other, (other, (other, tt)))))))))) (inr (inr (inr (inr (inr (inl refl)))))) none (omega arith) in
+    (other, (other, (other, (other, (other, (other, (other, ((λ same. refl), (other, (other, (other, (other, tt)))))))))))) (inr (inr (inr (inr (inr (inr (inr (inl refl)))))))) none (omega arith) in
     let keep = left_out (rule keep_rule) 0 1000000 refl (omega arith) refl (leaf serve_app.top) words
-    (other, (other, (other, (other, (other, (other, ((λ same. refl), (other, (other, (other, tt)))))))))) (inr (inr (inr (inr (inr (inr (inl refl))))))) none (omega arith) in
+    (other, (other, (other, (other, (other, (other, (other, (other, ((λ same. refl), (other, (other, (other, tt)))))))))))) (inr (inr (inr (inr (inr (inr (inr (inr (inl refl))))))))) none (omega arith) in
     let rows = rows_after (leaf serve_app.top).rules [] words in
-    let bounds : Bounds = record {
+    let options : ServeOptions = record {
+      workers = workers.0;
+      sessions = sessions.0;
       clients = clients.0;
       timeout = timeout.0;
       open_jobs = open_jobs.0;
       keep = keep.0;
       until_eof = is_given (first_of (codes "until-eof") rows);
+      logs = is_given (first_of (codes "log") rows);
     } in
-    serves rows port.0 workers.0 sessions.0 bounds port.1 workers.1 sessions.1 (record {
+    let are_options : AreOptionsOf rows options = record {
+      workers = workers.1;
+      sessions = sessions.1;
       clients = clients.1;
       timeout = timeout.1;
       open_jobs = open_jobs.1;
       keep = keep.1;
       until_eof = flag_given (first_of (codes "until-eof") rows);
-    })
+      logs = flag_given (first_of (codes "log") rows);
+    } in
+    says_serve refl (record { port = port; options = (options, are_options) })
 
 -- clap's own subcommand, which gives help
 help : Gives SaysCommand (built_leaf help_shape)

@@ -15,7 +15,7 @@ use Rattle.clap.specs.declared.builder.value_parser.ValueParser.{ValueParser}
 use Rattle.clap.specs.declared.builder.value_parser.ValueParser.TheVariants as vp
 use Rattle.clap.proofs.ValueTestLemmas.{accepts-Accepts}
 use Rattle.clap.proofs.WalkLemmas.{one_text-rows}
-use Rattle.bpfjobs_cli.specs.Commands.{IsNumberIn}
+use Rattle.bpfjobs_cli.specs.Commands.{IsMaybeNumber, IsNumberIn}
 use Rattle.bpfjobs_cli.proofs.RowLemmas.{HasValue}
 
 -- a subcommand's name and rows
@@ -102,3 +102,11 @@ never_none x (Some y) is none = cc
 
 pub number_read : (f : Found) (id : Text) (low high n m : ℕ) (r : Option ℕ) → IsNumberIn (rows_of f) id low high n → r ≡ Some n → r ≡ Some m → IsNumberIn (rows_of f) id low high m
 number_read f id low high n m r number is read = subst (λ (k : ℕ). IsNumberIn (rows_of f) id low high k) (ap (λ o. unwrap_or o n) (sym is ∙ read)) number
+
+-- a number that may be missing is read as it is told
+pub maybe_read : {E : Type 0} (G : List ℕ → Result ℕ E → Type 0) (k low high : ℕ) (f : Found) (id : Text) (told r : Option ℕ) → IsMaybeNumber (rows_of f) id low high told
+    → (one_text f id ≡ None → r ≡ None) → ((t : Text) → one_text f id ≡ Some t → ReadsOne G t r) → ((u : List ℕ) (x : Result ℕ E) → G u x → ParsesUnsigned k 10 u x) → high < 2 ^ k
+    → IsMaybeNumber (rows_of f) id low high r
+maybe_read G k low high f id None r number nothing something only fits = subst (IsMaybeNumber (rows_of f) id low high) (sym (nothing (one_text-rows f id ∙ number))) number
+maybe_read G k low high f id (Some n) r number nothing something only fits =
+    subst (IsMaybeNumber (rows_of f) id low high) (sym (some_number G k low high n f id r number something only fits)) number

@@ -1,12 +1,17 @@
 -- The command that a subcommand and its matches are.
-use Rattle.std.specs.Prelude.{◌≡◌, ◌≢◌, ◌↔◌, ◌⊎◌, ℕ, ◌≤◌, Bool, IsTrue, List, codes, Some, option_map, true, false}
+use Rattle.std.specs.Prelude.{◌≡◌, ◌↔◌, ◌⊎◌, ℕ, ◌≤◌, Bool, IsTrue, List, [], codes, Option, Some, None, is_some, option_map, string_bytes, true}
 use Rattle.std.specs.Str.Parse.{IsNumeral, digits_value, without_leading_plus}
 use Rattle.clap.specs.Faults.{fault_of}
-use Rattle.clap.specs.Words.{HasKind, Row, Text, first_of, kind_of, one_of, takes}
+use Rattle.clap.specs.Words.{HasKind, Row, Text, first_of, kind_of, one_of, subcommand_of, takes}
 use Rattle.clap.specs.declared.error.kind.ErrorKind.TheVariants.{DisplayHelp, DisplayVersion, OutOfMemory}
-use Rattle.bpfjobs_cli.specs.declared.commands.Bounds.{Bounds}
 use Rattle.bpfjobs_cli.specs.declared.commands.Command.{Command}
-use Rattle.bpfjobs_cli.specs.declared.commands.Command.TheVariants.{Assemble, Disassemble, Verify, Play, Run, Serve, ServeClients}
+use Rattle.bpfjobs_cli.specs.declared.commands.Command.TheVariants.{Assemble, Disassemble, Verify, Play, Run, Serve}
+use Rattle.bpfjobs_cli.specs.declared.commands.Endpoint.{Endpoint}
+use Rattle.bpfjobs_cli.specs.declared.commands.Endpoint.TheVariants.{Port, Socket}
+use Rattle.bpfjobs_cli.specs.declared.commands.EndpointFault.{EndpointFault}
+use Rattle.bpfjobs_cli.specs.declared.commands.EndpointFault.TheVariants.{Missing, Two, GrantsWithPort}
+use Rattle.bpfjobs_cli.specs.declared.commands.Serve.{Serve as Server}
+use Rattle.bpfjobs_cli.specs.declared.commands.ServeOptions.{ServeOptions}
 use Rattle.bpfjobs_cli.specs.declared.commands.Shown.{Shown}
 use Rattle.bpfjobs_cli.specs.declared.commands.Usage.{Usage}
 use Rattle.bpfjobs_cli.specs.declared.commands.Usage.TheVariants as usage
@@ -21,21 +26,57 @@ pub record IsNumberIn (rows : List Row) (id : Text) (low high number : ℕ) : Ty
   pub least : low ≤ number
   pub most : number ≤ high
 
+-- the same of an argument that may be missing
+abbrev pub IsMaybeNumber : List Row → Text → ℕ → ℕ → Option ℕ → Type 0
+IsMaybeNumber rows id low high None = one_of id rows ≡ None
+IsMaybeNumber rows id low high (Some number) = IsNumberIn rows id low high number
+
 -- the flag is among the words
 abbrev pub IsFlagOf : List Row → Text → Bool → Type 0
 IsFlagOf rows id given = IsTrue given ↔ (first_of id rows ≡ Some (codes "true"))
 
--- nothing is bounded, and one client is served at a time
-abbrev pub no_bounds : Bounds
-no_bounds = record { clients = 1; timeout = 0; open_jobs = 0; keep = 0; until_eof = false }
+-- the argument is among the words
+abbrev pub HasText : List Row → Text → Type 0
+HasText rows id = is_some (first_of id rows) ≡ true
 
--- what is bounded
-pub record AreBoundsOf (rows : List Row) (bounds : Bounds) : Type 0 where
-  pub clients : IsNumberIn rows (codes "clients") 1 64 bounds.clients
-  pub timeout : IsNumberIn rows (codes "timeout") 0 3600 bounds.timeout
-  pub open_jobs : IsNumberIn rows (codes "open-jobs") 0 1000000 bounds.open_jobs
-  pub keep : IsNumberIn rows (codes "keep") 0 1000000 bounds.keep
-  pub until_eof : IsFlagOf rows (codes "until-eof") bounds.until_eof
+-- the port that the words name
+abbrev pub IsPortOf : List Row → ℕ → Type 0
+IsPortOf rows port = IsNumberIn rows (codes "port") 1 65535 port
+
+-- the endpoint of a server: a port alone, or a socket and no port
+abbrev pub IsEndpointOf : List Row → Endpoint → Type 0
+IsEndpointOf rows (Port port) =
+    IsPortOf rows port × (first_of (codes "socket") rows ≡ None)
+    × (first_of (codes "grants") rows ≡ None)
+IsEndpointOf rows (Socket path grants) =
+    (one_of (codes "port") rows ≡ None)
+    × (first_of (codes "socket") rows ≡ Some (string_bytes path))
+    × (first_of (codes "grants") rows ≡ option_map string_bytes grants)
+
+-- the words name no endpoint
+abbrev pub IsEndpointFault : List Row → EndpointFault → Type 0
+IsEndpointFault rows Missing =
+    (one_of (codes "port") rows ≡ None) × (first_of (codes "socket") rows ≡ None)
+IsEndpointFault rows Two = ((port : ℕ) × IsPortOf rows port) × HasText rows (codes "socket")
+IsEndpointFault rows GrantsWithPort =
+    ((port : ℕ) × IsPortOf rows port) × (first_of (codes "socket") rows ≡ None)
+    × HasText rows (codes "grants")
+
+-- the options of a server
+pub record AreOptionsOf (rows : List Row) (options : ServeOptions) : Type 0 where
+  pub workers : IsNumberIn rows (codes "workers") 1 16 options.workers
+  pub sessions : IsNumberIn rows (codes "sessions") 1 1000000 options.sessions
+  pub clients : IsNumberIn rows (codes "clients") 1 64 options.clients
+  pub timeout : IsNumberIn rows (codes "timeout") 0 3600 options.timeout
+  pub open_jobs : IsNumberIn rows (codes "open-jobs") 0 1000000 options.open_jobs
+  pub keep : IsNumberIn rows (codes "keep") 0 1000000 options.keep
+  pub until_eof : IsFlagOf rows (codes "until-eof") options.until_eof
+  pub logs : IsFlagOf rows (codes "log") options.logs
+
+-- a server
+pub record IsServeOf (rows : List Row) (serve : Server) : Type 0 where
+  pub endpoint : IsEndpointOf rows serve.endpoint
+  pub options : AreOptionsOf rows serve.options
 
 abbrev pub IsCommandOf : Text → List Row → Command → Type 0
 IsCommandOf name rows Assemble = name ≡ codes "assemble"
@@ -45,53 +86,74 @@ IsCommandOf name rows (Verify need) =
 IsCommandOf name rows Play = name ≡ codes "play"
 IsCommandOf name rows (Run workers) =
     (name ≡ codes "run") × IsNumberIn rows (codes "workers") 1 16 workers
-IsCommandOf name rows (Serve port workers sessions) =
-    (name ≡ codes "serve") × IsNumberIn rows (codes "port") 1 65535 port
-    × IsNumberIn rows (codes "workers") 1 16 workers
-    × IsNumberIn rows (codes "sessions") 1 1000000 sessions
-    × AreBoundsOf rows no_bounds
-IsCommandOf name rows (ServeClients port workers sessions bounds) =
-    (name ≡ codes "serve") × IsNumberIn rows (codes "port") 1 65535 port
-    × IsNumberIn rows (codes "workers") 1 16 workers
-    × IsNumberIn rows (codes "sessions") 1 1000000 sessions
-    × AreBoundsOf rows bounds × (bounds ≢ no_bounds)
+IsCommandOf name rows (Serve serve) = (name ≡ codes "serve") × IsServeOf rows serve
 
--- what is to be shown beside the answer
+-- what is shown beside the answer
 pub record IsShownOf (rows : List Row) (shown : Shown) : Type 0 where
   pub traces : IsFlagOf rows (codes "trace") shown.traces
   pub trace_json : first_of (codes "trace-json") rows
       ≡ option_map (λ path. path.now) shown.trace_json
   pub tree : first_of (codes "tree") rows ≡ option_map (λ path. path.now) shown.tree
-  pub logs : IsFlagOf rows (codes "log") shown.logs
 
--- they are those of a command
-abbrev pub SaysCommand : Text → List Row → Type 0
-SaysCommand name rows = (command : Command) × IsCommandOf name rows command
+-- the words of `serve` say its options, and perhaps a port
+pub record SaysServe (rows : List Row) : Type 0 where
+  pub port : (n : Option ℕ) × IsMaybeNumber rows (codes "port") 1 65535 n
+  pub options : (o : ServeOptions) × AreOptionsOf rows o
 
--- its numbers are in range
+-- they are those of a command, but for a server's endpoint
+pub data SaysCommand (name : Text) (rows : List Row) : Type 0 where
+  says_assemble : name ≡ codes "assemble" → SaysCommand name rows
+  says_disassemble : name ≡ codes "disassemble" → SaysCommand name rows
+  says_verify : name ≡ codes "verify"
+      → ((need : ℕ) × IsNumberIn rows (codes "need") 0 4294967295 need) → SaysCommand name rows
+  says_play : name ≡ codes "play" → SaysCommand name rows
+  says_run : name ≡ codes "run"
+      → ((workers : ℕ) × IsNumberIn rows (codes "workers") 1 16 workers) → SaysCommand name rows
+  says_serve : name ≡ codes "serve" → SaysServe rows → SaysCommand name rows
+
+-- the port is in range
+abbrev pub IsEndpointInRange : Endpoint → Type 0
+IsEndpointInRange (Port port) = (1 ≤ port) × (port ≤ 65535)
+IsEndpointInRange (Socket path grants) = Unit {0}
+
+-- a server's numbers are in range
+pub record IsServeInRange (serve : Server) : Type 0 where
+  pub endpoint : IsEndpointInRange serve.endpoint
+  pub workers : (1 ≤ serve.options.workers) × (serve.options.workers ≤ 16)
+  pub sessions : (1 ≤ serve.options.sessions) × (serve.options.sessions ≤ 1000000)
+  pub clients : (1 ≤ serve.options.clients) × (serve.options.clients ≤ 64)
+  pub timeout : serve.options.timeout ≤ 3600
+  pub open_jobs : serve.options.open_jobs ≤ 1000000
+  pub keep : serve.options.keep ≤ 1000000
+
+-- a command's numbers are in range
 abbrev pub IsInRange : Command → Type 0
 IsInRange Assemble = Unit {0}
 IsInRange Disassemble = Unit {0}
 IsInRange (Verify need) = Unit {0}
 IsInRange Play = Unit {0}
 IsInRange (Run workers) = (1 ≤ workers) × (workers ≤ 16)
-IsInRange (Serve port workers sessions) =
-    (1 ≤ port) × (port ≤ 65535) × (1 ≤ workers) × (workers ≤ 16) × (1 ≤ sessions)
-    × (sessions ≤ 1000000)
-IsInRange (ServeClients port workers sessions bounds) =
-    (1 ≤ port) × (port ≤ 65535) × (1 ≤ workers) × (workers ≤ 16) × (1 ≤ sessions)
-    × (sessions ≤ 1000000) × (1 ≤ bounds.clients) × (bounds.clients ≤ 64)
-    × (bounds.timeout ≤ 3600)
+IsInRange (Serve serve) = IsServeInRange serve
 
--- Words that clap takes are refused for want of memory alone. Any others are refused for that, or
--- for a fault that clap finds in them.
+-- the options of a server are refused for want of memory, or for their endpoint
+abbrev pub IsEndpointUsage : List Row → Usage → Type 0
+IsEndpointUsage rows (usage.Refused error) = ⊥
+IsEndpointUsage rows (usage.Endpoint fault) = IsEndpointFault rows fault
+IsEndpointUsage rows usage.NoMemory = Unit {0}
+
+-- Words that clap takes are refused for want of memory, or where a server's options name no
+-- endpoint. Any others are refused for want of memory, or for a fault that clap finds in them.
 abbrev pub IsUsage : Usage → List Text → Type 0
 IsUsage (usage.Refused error) words =
     (takes bpfjobs_app words ≡ true → kind_of error ≡ OutOfMemory)
     × HasKind (fault_of bpfjobs_app words) error
+IsUsage (usage.Endpoint fault) words =
+    (fault_of bpfjobs_app words ≡ []) × (rows : List Row)
+    × (subcommand_of bpfjobs_app words ≡ Some (codes "serve", rows)) × IsEndpointFault rows fault
 IsUsage usage.NoMemory words = Unit {0}
 
 -- the words ask for help, or for the version: that is no mistake
 abbrev pub AsksHelp : Usage → Type 0
 AsksHelp (usage.Refused error) = (kind_of error ≡ DisplayHelp) ⊎ (kind_of error ≡ DisplayVersion)
+AsksHelp (usage.Endpoint fault) = ⊥
 AsksHelp usage.NoMemory = ⊥

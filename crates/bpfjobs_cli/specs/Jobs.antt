@@ -10,8 +10,8 @@ use Rattle.job_core.specs.Admission.{IsAdmittedFrom, RefusesJob, number_of, plac
 use Rattle.job_core.specs.Admitted.{AdmittedJob}
 use Rattle.job_core.specs.Answers.{AreTotals}
 use Rattle.job_core.specs.Representation.{WorldState, Plays}
-use Rattle.bpfjobs_cli.specs.declared.declined.Declined.{Declined}
-use Rattle.bpfjobs_cli.specs.declared.declined.Declined.TheVariants as declined
+use Rattle.bpfjobs_cli.specs.declared.declined.JobDeclined.{JobDeclined}
+use Rattle.bpfjobs_cli.specs.declared.declined.JobDeclined.TheVariants as declined
 use Rattle.bpfjobs_cli.specs.Printed.{Prints, refusal_reply, reply_line}
 
 -- the input says a job, with a schedule where one is wanted, and it is admitted
@@ -23,13 +23,13 @@ pub record IsOrdered (wants : Bool) (input : List ℕ) (order : AdmittedJob) (sc
   pub same_schedule : schedule ≡ object.schedule.items
 
 -- the input says no job, or one that isn't admitted
-abbrev pub IsDeclined : Bool → List ℕ → Declined → Type 0
+abbrev pub IsDeclined : Bool → List ℕ → JobDeclined → Type 0
 IsDeclined wants input (declined.Object fault) = ObjectAnswer wants (Err fault) input
 IsDeclined wants input (declined.Job fault) =
     (object : JobObject) × ObjectAnswer wants (Ok object) input
     × RefusesJob object.programs.items object.credit object.buffer.items fault
 
-abbrev pub declined_line : Declined → List ℕ
+abbrev pub declined_line : JobDeclined → List ℕ
 declined_line (declined.Object fault) = refusal_reply (code_of fault) None None
 declined_line (declined.Job fault) =
     refusal_reply (number_of fault) (place_of fault) (slot_of fault)
@@ -52,5 +52,5 @@ pub data PrintsPlay (input text : List ℕ) (status : ℕ) : Type 0 where
       → PrintsProgress plays.last text status → PrintsPlay input text status
   no_memory : (order : AdmittedJob) (schedule : List ℕ) → IsOrdered true input order schedule
       → Prints text status (refusal_reply 99 None None) 1 → PrintsPlay input text status
-  no_job : (why : Declined) → IsDeclined true input why → Prints text status (declined_line why) 1
+  no_job : (why : JobDeclined) → IsDeclined true input why → Prints text status (declined_line why) 1
       → PrintsPlay input text status

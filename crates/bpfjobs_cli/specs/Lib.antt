@@ -4,5 +4,5 @@ pub mod Printed
 pub mod Hexadecimal
 pub mod Programs
 pub mod Jobs
+pub mod Runs
 pub mod Performing
-pub mod Local

@@ -3,19 +3,19 @@ use Rattle.std.specs.Prelude.{◌≡◌, ◌≤◌, ◌<◌, ◌⊎◌, ◌-◌,
 use Rattle.streams.specs.declared.fault.StreamFault.{StreamFault}
 use Rattle.streams.specs.declared.fault.StreamFault.TheVariants.{ReadFailed, WriteFailed, NoMemory}
 use Rattle.bpfjobs_cli.specs.declared.commands.Command.{Command}
-use Rattle.bpfjobs_cli.specs.declared.commands.Command.TheVariants.{Assemble, Disassemble, Verify, Play, Run, Serve, ServeClients}
+use Rattle.bpfjobs_cli.specs.declared.commands.Command.TheVariants.{Assemble, Disassemble, Verify, Play, Run, Serve}
 use Rattle.bpfjobs_cli.specs.Jobs.{PrintsPlay}
 use Rattle.bpfjobs_cli.specs.Programs.{PrintsAssembly, PrintsListing, PrintsVerdict}
+use Rattle.bpfjobs_cli.specs.Runs.{PrintsRun}
 
--- the command needs no thread
-abbrev pub NeedsNoThread : Command → Type 0
-NeedsNoThread Assemble = Unit {0}
-NeedsNoThread Disassemble = Unit {0}
-NeedsNoThread (Verify need) = Unit {0}
-NeedsNoThread Play = Unit {0}
-NeedsNoThread (Run workers) = ⊥
-NeedsNoThread (Serve port workers sessions) = ⊥
-NeedsNoThread (ServeClients port workers sessions bounds) = ⊥
+-- the command has an answer: it is no server, and a job has 1 to 16 threads
+abbrev pub AnswersInput : Command → Type 0
+AnswersInput Assemble = Unit {0}
+AnswersInput Disassemble = Unit {0}
+AnswersInput (Verify need) = Unit {0}
+AnswersInput Play = Unit {0}
+AnswersInput (Run workers) = (1 ≤ workers) × (workers ≤ 16)
+AnswersInput (Serve serve) = ⊥
 
 -- the text and the status that a command answers to its input
 abbrev pub IsAnswer : Command → List ℕ → List ℕ → ℕ → Type 0
@@ -23,9 +23,8 @@ IsAnswer Assemble input text status = PrintsAssembly input text status
 IsAnswer Disassemble input text status = PrintsListing input text status
 IsAnswer (Verify need) input text status = PrintsVerdict need input text status
 IsAnswer Play input text status = PrintsPlay input text status
-IsAnswer (Run workers) input text status = ⊥
-IsAnswer (Serve port workers sessions) input text status = ⊥
-IsAnswer (ServeClients port workers sessions bounds) input text status = ⊥
+IsAnswer (Run workers) input text status = PrintsRun input text status
+IsAnswer (Serve serve) input text status = ⊥
 
 -- What is left where a command is given up by this. Where the reader failed, or there was no
 -- memory, nothing is written; where the writer failed all input was read, and of the answer a part

@@ -16,9 +16,14 @@ abbrev pub port_rule : Rule
 port_rule = record (new_rule (codes "port")) {
   long = Some (codes "port");
   value_names = 1;
-  required = true;
   parser = Some (vp.Signed (pos 1) (pos 65535));
 }
+
+abbrev pub socket_rule : Rule
+socket_rule = record (new_rule (codes "socket")) { long = Some (codes "socket"); value_names = 1 }
+
+abbrev pub grants_rule : Rule
+grants_rule = record (new_rule (codes "grants")) { long = Some (codes "grants"); value_names = 1 }
 
 abbrev pub workers_rule : Rule
 workers_rule = record (new_rule (codes "workers")) {
@@ -103,9 +108,10 @@ run_app = with_rule (with_rule (new_app (codes "run")) workers_rule) tree_rule
 
 abbrev pub serve_app : App
 serve_app =
-    with_rule (with_rule (with_rule (with_rule (with_rule (with_rule
-    (with_rule (with_rule (with_rule (new_app (codes "serve")) port_rule) workers_rule)
-    sessions_rule) clients_rule) timeout_rule) open_jobs_rule) keep_rule) until_eof_rule) log_rule
+    with_rule (with_rule (with_rule (with_rule (with_rule (with_rule (with_rule (with_rule
+    (with_rule (with_rule (with_rule (new_app (codes "serve")) port_rule) socket_rule)
+    grants_rule) workers_rule) sessions_rule) clients_rule) timeout_rule) open_jobs_rule)
+    keep_rule) until_eof_rule) log_rule
 
 -- the program without its commands, which tells its version
 abbrev pub named_app : App

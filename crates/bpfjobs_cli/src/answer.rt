@@ -1,14 +1,14 @@
-//! What is printed, and the status that goes with it.
+//! An answer: the text that is printed, and the status that goes with it.
 
-ghost use Rattle.std.specs.Prelude.{◌≡◌, IfOk};
+ghost use Rattle.std.specs.Prelude.{◌≡◌, IfOk, None};
 ghost use Rattle.sessions.specs.Replies.{reply_data};
-ghost use Rattle.bpfjobs_cli.specs.Printed.{Prints, refusal_line, reply_line};
+ghost use Rattle.bpfjobs_cli.specs.Printed.{Prints, refusal_line, refusal_reply, reply_line};
 
 use refusal::NoMemory;
 use sessions::{Reply, reply_text};
 use std::alloc::Global;
 
-/// What is printed, and the status: 0 answered, 1 refused.
+/// The text that is printed, and the status: 0 answered, 1 refused.
 #[derive(Drop)]
 pub struct Answer {
     pub text: Vec<u8>,
@@ -51,4 +51,17 @@ pub fn answer_reply(alloc: Global, reply: &Reply, status: u8) -> Result<Answer, 
     let mut text = reply_text(alloc, reply)?;
     text.push(b'\n')?;
     Ok(Answer { text, status })
+}
+
+/// A refusal as a reply, by its number alone.
+pub(crate) fn answer_failure(alloc: Global, code: u8) -> Result<Answer, NoMemory>
+    ensures { IfOk result
+        (λ answer. Prints answer.text.items answer.status (refusal_reply code None None) 1) }
+{
+    let refusal = Reply::Refused {
+        code,
+        program: None,
+        slot: None,
+    };
+    answer_reply(alloc, &refusal, 1)
 }

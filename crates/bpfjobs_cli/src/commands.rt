@@ -1,45 +1,51 @@
-//! What the words of a command line may say.
+//! The meaning of a command line's words: a command with its numbers, or why there is none.
 
 use clap::Error;
 use std::alloc::AllocError;
 
-/// What is to be done.
-#[derive(Clone, Copy, Debug, PartialEq, Eq)]
+/// A command, with its numbers.
+#[derive(Debug, PartialEq, Eq, Drop)]
 pub enum Command {
     /// Source text to bytes.
     Assemble,
     /// Bytes to source text.
     Disassemble,
     /// The verdict on a program that needs so many bytes of its part.
-    Verify {
-        need: u32,
-    },
+    Verify { need: u32 },
     /// A job, by its schedule.
     Play,
     /// A job, on 1 to 16 threads.
-    Run {
-        workers: u32,
-    },
-    /// Requests over TCP on a port from 1 to 65535: 1 to 1,000,000 connections, with 1 to 16
-    /// threads for each job.
-    Serve {
-        port: u32,
-        workers: u32,
-        sessions: u32,
-    },
-    /// The same within a host's bounds, from many clients at once, with 1 to 16 threads for all
-    /// jobs.
-    ServeClients {
-        port: u32,
-        workers: u32,
-        sessions: u32,
-        bounds: Bounds,
+    Run { workers: u32 },
+    /// A server of accounts and jobs.
+    Serve(Serve),
+}
+
+/// A server: where it listens, and its options.
+#[derive(Debug, PartialEq, Eq, Drop)]
+pub struct Serve {
+    pub endpoint: Endpoint,
+    pub options: ServeOptions,
+}
+
+/// The place where a server listens.
+#[derive(Debug, PartialEq, Eq, Drop)]
+pub enum Endpoint {
+    /// A port of 127.0.0.1, 1 to 65535.
+    Port(u16),
+    /// A socket in the file system. Where there is a second one, it alone takes grants.
+    Socket {
+        path: String,
+        grants: Option<String>,
     },
 }
 
-/// What a host bounds of its server.
+/// The options of a server, wherever it listens.
 #[derive(Clone, Copy, Debug, PartialEq, Eq)]
-pub struct Bounds {
+pub struct ServeOptions {
+    /// Threads that run the tasks of a job, 1 to 16.
+    pub workers: u32,
+    /// Connections that are taken until it ends, 1 to 1,000,000.
+    pub sessions: u32,
     /// Connections at once, 1 to 64.
     pub clients: u32,
     /// Seconds, 1 to 3600, after which a client is given up that keeps a read or a write waiting, or
@@ -49,68 +55,59 @@ pub struct Bounds {
     pub open_jobs: u32,
     /// Jobs, 1 to 1,000,000, of which the last ones' reports are kept. 0: all are.
     pub keep: u32,
-    /// Whether the server takes no more connections once its standard input has ended.
+    /// Whether it takes no more connections once its standard input has ended.
     pub until_eof: bool,
+    /// Whether it writes a log of its connections and jobs.
+    pub logs: bool,
 }
 
-impl Bounds {
-    ghost use Rattle.std.specs.Prelude.{◌≡◌, ◌≢◌, true, false};
-    ghost use Rattle.bpfjobs_cli.specs.Commands.{no_bounds};
-
-    /// Nothing is bounded, and one client is served at a time.
-    pub fn none() -> Bounds
-        ensures { result ≡ no_bounds }
-    {
-        Bounds {
-            clients: 1,
-            timeout: 0,
-            open_jobs: 0,
-            keep: 0,
-            until_eof: false,
-        }
-    }
-
-    /// Whether nothing is bounded, and one client is served at a time.
-    pub fn are_none(self) -> bool
-        ensures none { result ≡ true → self ≡ no_bounds }
-        ensures some { result ≡ false → self ≢ no_bounds }
-    {
-        let Bounds {
-            clients,
-            timeout,
-            open_jobs,
-            keep,
-            until_eof,
-        } = self;
-        clients == 1 && timeout == 0 && open_jobs == 0 && keep == 0 && !until_eof
-    }
-}
-
-/// What is to be shown beside a command's answer.
+/// The files and texts that are written beside a command's answer.
 #[derive(Clone, Copy, Debug, PartialEq, Eq)]
 pub struct Shown<'a> {
-    /// The steps of a job that is played are to be told.
+    /// Whether the steps of a job that is played are told.
     pub traces: bool,
     /// The path of a file that gets these steps as JSON, if the words name one.
     pub trace_json: Option<&'a str>,
     /// The path of a file that gets the tree of a job that is run, if the words name one.
     pub tree: Option<&'a str>,
-    /// A server's connections and jobs are to be told.
-    pub logs: bool,
 }
 
-/// A command, and what is to be shown beside its answer.
-#[derive(Clone, Copy, Debug, PartialEq, Eq)]
-pub struct Request<'a> {
+/// A command, and what is shown beside its answer.
+#[derive(Debug, PartialEq, Eq, Drop)]
+pub struct CommandRequest<'a> {
     pub command: Command,
     pub shown: Shown<'a>,
 }
 
-/// Why the words are no command.
+/// The reason why the options of `serve` name no endpoint.
+#[derive(Clone, Copy, Debug, PartialEq, Eq)]
+pub enum EndpointFault {
+    /// Neither a port nor a socket.
+    Missing,
+    /// A port and a socket.
+    Two,
+    /// A socket for grants beside a port.
+    GrantsWithPort,
+}
+
+impl EndpointFault {
+    // The line that tells it, without its end.
+    pub(crate) fn text(self) -> &'static str {
+        match self {
+            EndpointFault::Missing => "error: serve needs --port <PORT> or --socket <PATH>",
+            EndpointFault::Two => "error: serve takes --port or --socket, and not both",
+            EndpointFault::GrantsWithPort => "error: serve takes --grants with --socket alone",
+        }
+    }
+}
+
+/// The reason why words are no command.
 #[derive(Drop)]
 pub enum Usage {
     /// clap refuses them, or was asked for help. Its text says it.
     Refused(Error),
+    /// clap takes them, but they name no endpoint of a server.
+    Endpoint(EndpointFault),
     /// A growth was refused: 99.
     NoMemory,
 }
@@ -130,6 +127,7 @@ impl Usage {
     {
         match self {
             Usage::Refused(error) => { if error.use_stderr() { MISTAKEN } else { 0 } }
+            Usage::Endpoint(_) => MISTAKEN,
             Usage::NoMemory => MISTAKEN,
         }
     }

@@ -12,26 +12,26 @@ use std::alloc::Global;
 
 /// Why there is no job.
 #[derive(Clone, Copy, Debug, PartialEq, Eq)]
-pub enum Declined {
+pub enum JobDeclined {
     /// The input says none.
     Object(SessionFault),
     /// It isn't admitted.
     Job(AdmitFault),
 }
 
-impl Declined {
+impl JobDeclined {
     /// The refusal as a reply.
     pub fn answer(&self, alloc: Global) -> Result<Answer, NoMemory>
         ensures { IfOk result
             (λ answer. Prints answer.text.items answer.status (declined_line self.now) 1) }
     {
         let refusal = match self {
-            Declined::Object(fault) => Reply::Refused {
+            JobDeclined::Object(fault) => Reply::Refused {
                 code: fault.code(),
                 program: None,
                 slot: None,
             },
-            Declined::Job(fault) => Reply::Refused {
+            JobDeclined::Job(fault) => Reply::Refused {
                 code: fault.code(),
                 program: fault.program(),
                 slot: fault.slot(),
@@ -46,13 +46,13 @@ pub fn read_job(
     alloc: Global,
     input: &[u8],
     wants_schedule: bool,
-) -> Result<(Job, Vec<u32>), Declined>
+) -> Result<(Job, Vec<u32>), JobDeclined>
     ensures ok { IfOk result (λ r. IsOrdered wants_schedule input.now r.0 r.1.items) }
     ensures err { IfErr result (λ why. IsDeclined wants_schedule input.now why) }
 {
     let object = match job_object(alloc, input, wants_schedule) {
         Ok(object) => object,
-        Err(fault) => return Err(Declined::Object(fault)),
+        Err(fault) => return Err(JobDeclined::Object(fault)),
     };
     let JobObject {
         programs,
@@ -62,6 +62,6 @@ pub fn read_job(
     } = object;
     match admit(alloc, &programs, credit, buffer) {
         Ok(job) => Ok((job, schedule)),
-        Err(fault) => Err(Declined::Job(fault)),
+        Err(fault) => Err(JobDeclined::Job(fault)),
     }
 }

@@ -1,14 +1,17 @@
 //! A command from a source to a sink.
 
 ghost use Rattle.std.specs.Prelude.{◌≡◌, ◌≢◌, ◌<◌, ◌++◌, ℕ, List, true, false, take, length, is_err, OnOk, OnErr, IfOk, IfErr, Err};
-ghost use Rattle.bpfjobs_cli.specs.Performing.{IsAllRead, NeedsNoThread, IsAnswer, IsGivenUpBy};
+ghost use Rattle.bpfjobs_cli.specs.Performing.{AnswersInput, IsAllRead, IsAnswer, IsGivenUpBy};
 
 use crate::Command;
 use crate::answer::Answer;
 use crate::code::{answer_assemble, answer_disassemble, answer_verify};
 use crate::job::answer_play;
+use crate::run::answer_run;
 use refusal::NoMemory;
 use std::alloc::Global;
+use std::sync::Wait;
+use std::thread::Threads;
 use streams::{Sink, Source, StreamFault, write_all};
 
 // The most bytes that a read asks for.
@@ -63,9 +66,14 @@ pub fn tell<W: Sink>(writer: &mut W, answer: &Answer) -> Result<u8, StreamFault>
     }
 }
 
-/// What is answered to the input, by a command that needs no thread.
-pub fn answer_to(alloc: Global, command: Command, input: &[u8]) -> Result<Answer, NoMemory>
-    requires { NeedsNoThread command }
+// The answer of any command but `serve` to the input. A `run` waits for its threads.
+fn answer_to<T: Threads + Wait + Sync>(
+    rt: &T,
+    alloc: Global,
+    command: Command,
+    input: &[u8],
+) -> Result<Answer, NoMemory>
+    requires { AnswersInput command }
     ensures { IfOk result (λ answer. IsAnswer command input.now answer.text.items answer.status) }
 {
     match command {
@@ -73,25 +81,25 @@ pub fn answer_to(alloc: Global, command: Command, input: &[u8]) -> Result<Answer
         Command::Disassemble => answer_disassemble(alloc, input),
         Command::Verify { need } => answer_verify(alloc, need, input),
         Command::Play => answer_play(alloc, input),
-        Command::Run { .. } => unreachable!(),
-        Command::Serve { .. } => unreachable!(),
-        Command::ServeClients { .. } => unreachable!(),
+        Command::Run { workers } => answer_run(rt, alloc, workers, input),
+        Command::Serve(_) => unreachable!(),
     }
 }
 
-/// Reads the whole input, writes the answer of a command that needs no thread, and gives the
-/// status: 0 answered, 1 refused.
+/// Reads the whole input, writes the answer of any command but `serve`, and gives the status: 0
+/// answered, 1 refused. A `run` waits for its threads.
 ///
 /// 83 where the reader failed, and 99 where the input or the answer found no memory and neither end
 /// has failed: nothing is written. 84 where the writer failed, once all input was read: of the
 /// answer a beginning is written, and not all.
-pub fn perform<R: Source, W: Sink>(
+pub fn perform<T: Threads + Wait + Sync, R: Source, W: Sink>(
+    rt: &T,
     alloc: Global,
     command: Command,
     reader: &mut R,
     writer: &mut W,
 ) -> Result<u8, StreamFault>
-    requires alone { NeedsNoThread command }
+    requires answers { AnswersInput command }
     requires source { R.has_failed reader.old ≡ false }
     requires sink { W.has_failed writer.old ≡ false }
     ensures done { IfOk result (λ status. (input text : List ℕ)
@@ -111,6 +119,6 @@ pub fn perform<R: Source, W: Sink>(
         × (W.has_failed writer.new ≡ false)) }
 {
     let input = read_all(alloc, reader)?;
-    let answer = answer_to(alloc, command, &input)?;
+    let answer = answer_to(rt, alloc, command, &input)?;
     tell(writer, &answer)
 }

@@ -1,30 +1,17 @@
 //! Jobs that are played by a schedule.
 
-ghost use Rattle.std.specs.Prelude.{◌≡◌, IfOk, None};
+ghost use Rattle.std.specs.Prelude.{◌≡◌, IfOk};
 ghost use Rattle.job_core.specs.Representation.{RepresentsJob};
 ghost use Rattle.machine_model.specs.JobState as model;
-ghost use Rattle.bpfjobs_cli.specs.Printed.{Prints, refusal_reply};
+ghost use Rattle.bpfjobs_cli.specs.Printed.{Prints};
 ghost use Rattle.bpfjobs_cli.specs.Jobs.{PrintsPlay, PrintsProgress};
 
-use crate::answer::{Answer, answer_reply};
+use crate::answer::{Answer, answer_failure, answer_reply};
 use crate::declined::read_job;
 use job_core::{World, play};
 use refusal::NoMemory;
 use sessions::Reply;
 use std::alloc::Global;
-
-// There was no memory for it.
-fn out_of_memory(alloc: Global) -> Result<Answer, NoMemory>
-    ensures { IfOk result
-        (λ answer. Prints answer.text.items answer.status (refusal_reply 99 None None) 1) }
-{
-    let refusal = Reply::Refused {
-        code: 99,
-        program: None,
-        slot: None,
-    };
-    answer_reply(alloc, &refusal, 1)
-}
 
 // How far the job is.
 fn answer_world(alloc: Global, world: &World) -> Result<Answer, NoMemory>
@@ -55,6 +42,6 @@ pub fn answer_play(alloc: Global, input: &[u8]) -> Result<Answer, NoMemory>
     };
     match play(alloc, job, &schedule) {
         Ok(world) => answer_world(alloc, &world),
-        Err(NoMemory) => out_of_memory(alloc),
+        Err(NoMemory) => answer_failure(alloc, 99),
     }
 }

@@ -1,17 +1,16 @@
-//! The command line of `bpfjobs`, and its commands that need no thread: from the words and the
-//! bytes of the input to the text of the answer and the status.
+//! The command line of `bpfjobs`, and its commands that have an answer: from the words and the bytes
+//! of the input to the text of the answer and the status.
 #![tactic(auto)]
 
 mod commands;
-mod local_program;
-mod local_reading;
 mod process;
 mod program;
 mod reading;
 mod texts;
 
-pub use commands::{Bounds, Command, Request, Shown, Usage};
-pub use local_reading::{LocalServer, asks_local, local_server};
+pub use commands::{
+    Command, CommandRequest, Endpoint, EndpointFault, Serve, ServeOptions, Shown, Usage,
+};
 pub use process::{FAILED, UNREAD, print_usage, words};
 pub use reading::{command, request};
 
@@ -30,11 +29,13 @@ pub use hexadecimal::{Unread, read_hexadecimal};
 // jobs, as JSON
 mod declined;
 mod job;
+mod run;
 
-pub use declined::{Declined, read_job};
+pub use declined::{JobDeclined, read_job};
 pub use job::answer_play;
+pub use run::answer_run;
 
 // from a source to a sink
 mod ends;
 
-pub use ends::{answer_to, perform, read_all, tell};
+pub use ends::{perform, read_all, tell};

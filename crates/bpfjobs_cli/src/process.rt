@@ -1,4 +1,4 @@
-//! What the programs do with the words of their process.
+//! The words of a process, and the lines that tell why they are wrong.
 
 ghost use Rattle.std.specs.Prelude.{◌≡◌};
 ghost use Rattle.bpfjobs_cli.specs.Commands.{AsksHelp};
@@ -28,8 +28,15 @@ pub fn print_usage<R: Print + Eprint>(rt: &R, usage: Usage) -> u8
     ensures help { AsksHelp usage → result ≡ 0 }
     ensures mistake { (AsksHelp usage → ⊥) → result ≡ 2 }
 {
-    if let Usage::Refused(error) = &usage {
-        let _ = error.print(rt);
+    match &usage {
+        Usage::Refused(error) => {
+            let _ = error.print(rt);
+        }
+        Usage::Endpoint(fault) => {
+            let text = fault.text();
+            let _ = eprintln!(rt; "{text}");
+        }
+        Usage::NoMemory => {}
     }
     usage.status()
 }

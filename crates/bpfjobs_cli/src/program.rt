@@ -1,9 +1,9 @@
-//! What clap is told of the words.
+//! The definition of the command line, as clap reads it.
 
-ghost use Rattle.std.specs.Prelude.{◌≡◌, false, IfOk};
+ghost use Rattle.std.specs.Prelude.{◌≡◌, false, codes, IfOk};
 ghost use Rattle.clap.specs.Words.{app_of, new_app, rule_of};
 ghost use Rattle.clap.specs.declared.builder.command.Command.TheViews.{out-Command as fields_of};
-ghost use Rattle.bpfjobs_cli.specs.Program.{need_rule, port_rule, workers_rule, sessions_rule, clients_rule, timeout_rule, open_jobs_rule, keep_rule, until_eof_rule, log_rule, trace_rule, trace_json_rule, tree_rule, named_app, verify_app, play_app, run_app, serve_app, bpfjobs_app, with_text_commands};
+ghost use Rattle.bpfjobs_cli.specs.Program.{need_rule, port_rule, socket_rule, grants_rule, workers_rule, sessions_rule, clients_rule, timeout_rule, open_jobs_rule, keep_rule, until_eof_rule, log_rule, trace_rule, trace_json_rule, tree_rule, named_app, verify_app, play_app, run_app, serve_app, bpfjobs_app, with_text_commands};
 
 use crate::texts;
 use clap::{Arg, ArgAction, Command};
@@ -29,11 +29,30 @@ fn port<'a>(alloc: Global) -> Arg<'a>
         .long("port")
         .value_name("PORT")
         .help(texts::PORT)
-        .required(true)
         .value_parser(clap::value_parser!(u32).range(1..=65535))
 }
 
-pub(crate) fn workers<'a>(alloc: Global) -> Arg<'a>
+fn socket<'a>(alloc: Global) -> Arg<'a>
+    ensures rule { rule_of result ≡ socket_rule }
+    ensures local { result.global ≡ false }
+{
+    Arg::new(alloc, "socket")
+        .long("socket")
+        .value_name("PATH")
+        .help(texts::SOCKET)
+}
+
+fn grants<'a>(alloc: Global) -> Arg<'a>
+    ensures rule { rule_of result ≡ grants_rule }
+    ensures local { result.global ≡ false }
+{
+    Arg::new(alloc, "grants")
+        .long("grants")
+        .value_name("PATH")
+        .help(texts::GRANTS)
+}
+
+fn workers<'a>(alloc: Global) -> Arg<'a>
     ensures rule { rule_of result ≡ workers_rule }
     ensures local { result.global ≡ false }
 {
@@ -45,7 +64,7 @@ pub(crate) fn workers<'a>(alloc: Global) -> Arg<'a>
         .default_value("1")
 }
 
-pub(crate) fn sessions<'a>(alloc: Global) -> Arg<'a>
+fn sessions<'a>(alloc: Global) -> Arg<'a>
     ensures rule { rule_of result ≡ sessions_rule }
     ensures local { result.global ≡ false }
 {
@@ -57,7 +76,7 @@ pub(crate) fn sessions<'a>(alloc: Global) -> Arg<'a>
         .default_value("1")
 }
 
-pub(crate) fn clients<'a>(alloc: Global) -> Arg<'a>
+fn clients<'a>(alloc: Global) -> Arg<'a>
     ensures rule { rule_of result ≡ clients_rule }
     ensures local { result.global ≡ false }
 {
@@ -69,7 +88,7 @@ pub(crate) fn clients<'a>(alloc: Global) -> Arg<'a>
         .default_value("1")
 }
 
-pub(crate) fn timeout<'a>(alloc: Global) -> Arg<'a>
+fn timeout<'a>(alloc: Global) -> Arg<'a>
     ensures rule { rule_of result ≡ timeout_rule }
     ensures local { result.global ≡ false }
 {
@@ -81,7 +100,7 @@ pub(crate) fn timeout<'a>(alloc: Global) -> Arg<'a>
         .default_value("0")
 }
 
-pub(crate) fn open_jobs<'a>(alloc: Global) -> Arg<'a>
+fn open_jobs<'a>(alloc: Global) -> Arg<'a>
     ensures rule { rule_of result ≡ open_jobs_rule }
     ensures local { result.global ≡ false }
 {
@@ -93,7 +112,7 @@ pub(crate) fn open_jobs<'a>(alloc: Global) -> Arg<'a>
         .default_value("0")
 }
 
-pub(crate) fn keep<'a>(alloc: Global) -> Arg<'a>
+fn keep<'a>(alloc: Global) -> Arg<'a>
     ensures rule { rule_of result ≡ keep_rule }
     ensures local { result.global ≡ false }
 {
@@ -105,7 +124,7 @@ pub(crate) fn keep<'a>(alloc: Global) -> Arg<'a>
         .default_value("0")
 }
 
-pub(crate) fn until_eof<'a>(alloc: Global) -> Arg<'a>
+fn until_eof<'a>(alloc: Global) -> Arg<'a>
     ensures rule { rule_of result ≡ until_eof_rule }
     ensures local { result.global ≡ false }
 {
@@ -115,7 +134,7 @@ pub(crate) fn until_eof<'a>(alloc: Global) -> Arg<'a>
         .help(texts::UNTIL_EOF)
 }
 
-pub(crate) fn log<'a>(alloc: Global) -> Arg<'a>
+fn log<'a>(alloc: Global) -> Arg<'a>
     ensures rule { rule_of result ≡ log_rule }
     ensures local { result.global ≡ false }
 {
@@ -167,7 +186,7 @@ fn top<'a>(alloc: Global) -> Command<'a>
 }
 
 // A command that has no argument yet.
-pub(crate) fn named<'a>(alloc: Global, name: &'a str, about: &'a str, more: &'a str) -> Command<'a>
+fn named<'a>(alloc: Global, name: &'a str, about: &'a str, more: &'a str) -> Command<'a>
     ensures app { app_of result ≡ new_app name.now }
     ensures local { (fields_of result).has_globals ≡ false }
 {
@@ -199,12 +218,22 @@ fn run<'a>(alloc: Global) -> Result<Command<'a>, AllocError>
         .arg(tree(alloc))
 }
 
+// `serve` without its arguments. clap's own usage would call the port and the socket optional.
+fn serving<'a>(alloc: Global) -> Command<'a>
+    ensures app { app_of result ≡ new_app (codes "serve") }
+    ensures local { (fields_of result).has_globals ≡ false }
+{
+    named(alloc, "serve", texts::SERVE, texts::SERVE_MORE).override_usage(texts::SERVE_USAGE)
+}
+
 fn serve<'a>(alloc: Global) -> Result<Command<'a>, AllocError>
     ensures app { IfOk result (λ c. app_of c ≡ serve_app) }
     ensures local { IfOk result (λ c. (fields_of c).has_globals ≡ false) }
 {
-    named(alloc, "serve", texts::SERVE, texts::SERVE_MORE)
+    serving(alloc)
         .arg(port(alloc))?
+        .arg(socket(alloc))?
+        .arg(grants(alloc))?
         .arg(workers(alloc))?
         .arg(sessions(alloc))?
         .arg(clients(alloc))?

@@ -1,18 +1,20 @@
 //! The command that words say.
 
-ghost use Rattle.std.specs.Prelude.{◌≡◌, ℕ, map, IfOk, IfErr, Some, string_bytes, List};
-ghost use Rattle.clap.specs.Words.{Row, Text, found_of, rows_of, subcommand_of};
-ghost use Rattle.bpfjobs_cli.specs.declared.commands.Bounds.{Bounds};
+ghost use Rattle.std.specs.Prelude.{◌≡◌, ℕ, map, codes, IfOk, IfErr, Option, Some, option_map, string_bytes, List};
+ghost use Rattle.clap.specs.Words.{Row, Text, found_of, first_of, rows_of, subcommand_of};
+ghost use Rattle.bpfjobs_cli.specs.declared.commands.ServeOptions.{ServeOptions};
 ghost use Rattle.bpfjobs_cli.specs.Program.{bpfjobs_app};
-ghost use Rattle.bpfjobs_cli.specs.Commands.{AreBoundsOf, IsFlagOf, IsNumberIn, IsCommandOf, IsInRange, IsShownOf, IsUsage, SaysCommand};
+ghost use Rattle.bpfjobs_cli.specs.Commands.{AreOptionsOf, IsCommandOf, IsEndpointOf, IsEndpointUsage, IsFlagOf, IsInRange, IsMaybeNumber, IsNumberIn, IsServeOf, IsShownOf, IsUsage, SaysCommand, SaysServe};
 
-use crate::commands::{Bounds, Command, Request, Shown, Usage};
+use crate::commands::{
+    Command, CommandRequest, Endpoint, EndpointFault, Serve, ServeOptions, Shown, Usage,
+};
 use crate::program::bpfjobs;
 use clap::ArgMatches;
-use std::alloc::Global;
+use std::alloc::{AllocError, Global};
 
 // The number of an argument that has one, from low to high.
-pub(crate) fn number(matches: &ArgMatches<'_>, id: &str, low: u32, high: u32) -> u32
+fn number(matches: &ArgMatches<'_>, id: &str, low: u32, high: u32) -> u32
     requires { (n : ℕ) × IsNumberIn (rows_of (found_of matches.now)) id.now low high n }
     ensures { IsNumberIn (rows_of (found_of matches.now)) id.now low high result }
 {
@@ -23,7 +25,7 @@ pub(crate) fn number(matches: &ArgMatches<'_>, id: &str, low: u32, high: u32) ->
 }
 
 // Whether a flag stands among the words.
-pub(crate) fn flag(matches: &ArgMatches<'_>, id: &str) -> bool
+fn flag(matches: &ArgMatches<'_>, id: &str) -> bool
     ensures { IsFlagOf (rows_of (found_of matches.now)) id.now result }
 {
     match matches.get_str(id) {
@@ -32,61 +34,111 @@ pub(crate) fn flag(matches: &ArgMatches<'_>, id: &str) -> bool
     }
 }
 
-// What is bounded.
-pub(crate) fn bounds(matches: &ArgMatches<'_>) -> Bounds
-    requires { (b : Bounds) × AreBoundsOf (rows_of (found_of matches.now)) b }
-    ensures { AreBoundsOf (rows_of (found_of matches.now)) result }
+// The text of an argument, if it has one.
+fn text(alloc: Global, matches: &ArgMatches<'_>, id: &str) -> Result<Option<String>, AllocError>
+    ensures { IfOk result (λ text. first_of id.now (rows_of (found_of matches.now))
+        ≡ option_map string_bytes text) }
 {
-    Bounds {
+    match matches.get_str(id) {
+        Some(text) => Ok(Some(String::from_str(alloc, text)?)),
+        None => Ok(None),
+    }
+}
+
+// The port of a server, if the words say one.
+fn port(matches: &ArgMatches<'_>) -> Option<u32>
+    requires { (n : Option ℕ)
+        × IsMaybeNumber (rows_of (found_of matches.now)) (codes "port") 1 65535 n }
+    ensures { IsMaybeNumber (rows_of (found_of matches.now)) (codes "port") 1 65535 result }
+{
+    matches.get_one::<u32>("port")
+}
+
+// The place where a server listens: a port, or a socket.
+fn endpoint(alloc: Global, matches: &ArgMatches<'_>) -> Result<Endpoint, Usage>
+    requires { (n : Option ℕ)
+        × IsMaybeNumber (rows_of (found_of matches.now)) (codes "port") 1 65535 n }
+    ensures ok { IfOk result (λ endpoint.
+        IsEndpointOf (rows_of (found_of matches.now)) endpoint) }
+    ensures err { IfErr result (λ usage. IsEndpointUsage (rows_of (found_of matches.now)) usage) }
+{
+    let path = text(alloc, matches, "socket")?;
+    let grants = text(alloc, matches, "grants")?;
+    match port(matches) {
+        Some(port) => match path {
+            Some(_) => Err(Usage::Endpoint(EndpointFault::Two)),
+            None => match grants {
+                Some(_) => Err(Usage::Endpoint(EndpointFault::GrantsWithPort)),
+                None => Ok(Endpoint::Port(port as u16)),
+            },
+        },
+        None => match path {
+            Some(path) => Ok(Endpoint::Socket { path, grants }),
+            None => Err(Usage::Endpoint(EndpointFault::Missing)),
+        },
+    }
+}
+
+// The options of a server.
+fn options(matches: &ArgMatches<'_>) -> ServeOptions
+    requires { (o : ServeOptions) × AreOptionsOf (rows_of (found_of matches.now)) o }
+    ensures { AreOptionsOf (rows_of (found_of matches.now)) result }
+{
+    ServeOptions {
+        workers: number(matches, "workers", 1, 16),
+        sessions: number(matches, "sessions", 1, 1000000),
         clients: number(matches, "clients", 1, 64),
         timeout: number(matches, "timeout", 0, 3600),
         open_jobs: number(matches, "open-jobs", 0, 1000000),
         keep: number(matches, "keep", 0, 1000000),
         until_eof: flag(matches, "until-eof"),
+        logs: flag(matches, "log"),
     }
 }
 
-fn command_of(name: &str, matches: &ArgMatches<'_>) -> Command
+// The server that the words of `serve` say.
+fn serve_of(alloc: Global, matches: &ArgMatches<'_>) -> Result<Serve, Usage>
+    requires { SaysServe (rows_of (found_of matches.now)) }
+    ensures ok { IfOk result (λ serve. IsServeOf (rows_of (found_of matches.now)) serve) }
+    ensures err { IfErr result (λ usage. IsEndpointUsage (rows_of (found_of matches.now)) usage) }
+{
+    match endpoint(alloc, matches) {
+        Ok(endpoint) => {
+            let options = options(matches);
+            Ok(Serve { endpoint, options })
+        }
+        Err(usage) => Err(usage),
+    }
+}
+
+fn command_of(alloc: Global, name: &str, matches: &ArgMatches<'_>) -> Result<Command, Usage>
     requires { SaysCommand name.now (rows_of (found_of matches.now)) }
-    ensures named { IsCommandOf name.now (rows_of (found_of matches.now)) result }
-    ensures range { IsInRange result }
+    ensures ok { IfOk result (λ command.
+        IsCommandOf name.now (rows_of (found_of matches.now)) command) }
+    ensures err { IfErr result (λ usage. (name.now ≡ codes "serve")
+        × IsEndpointUsage (rows_of (found_of matches.now)) usage) }
 {
     match name {
-        "assemble" => Command::Assemble,
-        "disassemble" => Command::Disassemble,
+        "assemble" => Ok(Command::Assemble),
+        "disassemble" => Ok(Command::Disassemble),
         "verify" => {
             let need = number(matches, "need", 0, u32::MAX);
-            Command::Verify { need }
+            Ok(Command::Verify { need })
         }
-        "play" => Command::Play,
+        "play" => Ok(Command::Play),
         "run" => {
             let workers = number(matches, "workers", 1, 16);
-            Command::Run { workers }
+            Ok(Command::Run { workers })
         }
-        "serve" => {
-            let port = number(matches, "port", 1, 65535);
-            let workers = number(matches, "workers", 1, 16);
-            let sessions = number(matches, "sessions", 1, 1000000);
-            let bounds = bounds(matches);
-            if bounds.are_none() {
-                return Command::Serve {
-                    port,
-                    workers,
-                    sessions,
-                };
-            }
-            Command::ServeClients {
-                port,
-                workers,
-                sessions,
-                bounds,
-            }
-        }
+        "serve" => match serve_of(alloc, matches) {
+            Ok(serve) => Ok(Command::Serve(serve)),
+            Err(usage) => Err(usage),
+        },
         _ => unreachable!(),
     }
 }
 
-// What is to be shown.
+// What is shown beside the answer.
 fn shown_of<'a>(matches: &ArgMatches<'a>) -> Shown<'a>
     ensures { IsShownOf (rows_of (found_of matches.now)) result }
 {
@@ -94,14 +146,14 @@ fn shown_of<'a>(matches: &ArgMatches<'a>) -> Shown<'a>
         traces: flag(matches, "trace"),
         trace_json: matches.get_str("trace-json"),
         tree: matches.get_str("tree"),
-        logs: flag(matches, "log"),
     }
 }
 
-/// What the words ask for, of which the first is the program's name: the subcommand, its numbers and
-/// what is shown beside are those that clap's matches of the words give. Words that clap takes are
-/// refused only for want of memory.
-pub fn request<'a>(alloc: Global, words: &'a [String]) -> Result<Request<'a>, Usage>
+/// The command that the words ask for, and what is shown beside its answer. The first word is the
+/// program's name. The subcommand, its numbers and paths are those that clap's matches of the words
+/// give. Words that clap takes are refused for want of memory, and where a server's options name no
+/// endpoint.
+pub fn request<'a>(alloc: Global, words: &'a [String]) -> Result<CommandRequest<'a>, Usage>
     ensures ok { IfOk result (λ request. (name : Text) × (rows : List Row)
         × (subcommand_of bpfjobs_app (map string_bytes words.now) ≡ Some (name, rows))
         × IsCommandOf name rows request.command × IsShownOf rows request.shown) }
@@ -113,17 +165,18 @@ pub fn request<'a>(alloc: Global, words: &'a [String]) -> Result<Request<'a>, Us
         Err(error) => return Err(Usage::Refused(error)),
     };
     match matches.subcommand() {
-        Some((name, inner)) => Ok(Request {
-            command: command_of(name, inner),
-            shown: shown_of(inner),
-        }),
+        Some((name, inner)) => match command_of(alloc, name, inner) {
+            Ok(command) => Ok(CommandRequest {
+                command,
+                shown: shown_of(inner),
+            }),
+            Err(usage) => Err(usage),
+        },
         None => unreachable!(),
     }
 }
 
-/// The command that the words say, of which the first is the program's name: the subcommand and its
-/// numbers are those that clap's matches of the words give. Words that clap takes are refused only
-/// for want of memory.
+/// The command that the words say, of which the first is the program's name, as [`request`] has it.
 pub fn command(alloc: Global, words: Vec<String>) -> Result<Command, Usage>
     ensures ok { IfOk result (λ command. (name : Text) × (rows : List Row)
         × (subcommand_of bpfjobs_app (map string_bytes words.items) ≡ Some (name, rows))

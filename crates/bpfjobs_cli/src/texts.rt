@@ -1,4 +1,4 @@
-//! What `--help` tells of each command.
+//! The texts of `--help`, for each command.
 
 pub(crate) const BPFJOBS: &str =
     "Verifies eBPF programs, and runs them as trees of tasks that keep to their memory and credit";
@@ -75,37 +75,32 @@ pub(crate) const WORKERS: &str = "Threads that run the tasks of a job, 1 to 16";
 
 pub(crate) const TREE: &str = "Writes the tree of the job's tasks into a file, in the language DOT";
 
-pub(crate) const SERVE: &str = "Answers requests over TCP on 127.0.0.1";
+pub(crate) const SERVE: &str =
+    "Answers requests over TCP on 127.0.0.1, or over a socket in the file system";
+
+pub(crate) const SERVE_USAGE: &str = "bpfjobs serve <--port <PORT>|--socket <PATH>> [OPTIONS]";
 
 pub(crate) const SERVE_MORE: &str =
     "Takes connections, one after the other, with one desk of accounts and jobs.
-With any option from --clients on, it serves so many at once, and starts its threads once.
+With --socket, and with any option from --clients on, it starts its threads once, and serves as
+many connections at once as --clients says.
 Writes no output: clients send requests and get replies as frames.
-Status: 0 once so many connections have ended, 3 where one of them or the socket failed.
 
-With --socket PATH in place of --port it listens on a socket in the file system:
-`bpfjobs serve --socket PATH --help` tells more.
+With --socket PATH it listens on a Unix socket at PATH, in place of a port. Those who may write to
+PATH may connect: the umask says who they are. A socket at PATH on which nobody listens is removed
+first, and PATH is removed at the end. With --grants a grant of any other connection is answered
+by 73, and changes nothing.
+Status: 0 once so many connections have ended, 3 where one of them or a socket failed.
 
 Example:
   $ bpfjobs serve --port 7070 --sessions 1 &
   $ python3 examples/client.py 7070 grant t 100
   {\"balance\":100,\"granted\":100,\"ok\":true,\"open\":0,\"spent\":0}";
 
-pub(crate) const SERVE_LOCAL: &str = "Answers requests over a socket in the file system";
+pub(crate) const SOCKET: &str = "The path of a socket to listen on, in place of a port";
 
-pub(crate) const SERVE_LOCAL_MORE: &str =
-    "Takes connections on a Unix socket at PATH, with one desk of accounts and jobs.
-Who may write to PATH may connect: the umask says who that is. A socket at PATH on which
-nobody listens is removed first, and PATH is removed at the end.
-With --grants a grant of any other connection is answered by 73, and changes nothing.
-Status: 0 once so many connections have ended, 3 where one of them or a socket failed.
-
-Example:
-  $ bpfjobs serve --socket jobs --grants grants --sessions 1000 --clients 8 &";
-
-pub(crate) const SOCKET: &str = "The path of the socket to listen on";
-
-pub(crate) const GRANTS: &str = "The path of a second socket, which alone takes grants";
+pub(crate) const GRANTS: &str =
+    "With --socket: the path of a second socket, which alone takes grants";
 
 pub(crate) const PORT: &str = "The port to listen on, 1 to 65535";
 

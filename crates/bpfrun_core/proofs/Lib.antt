@@ -1,4 +1,3 @@
 pub mod Helpless
 pub mod WordLemmas
-pub mod RequestLemmas
 mod SourceLemmas

@@ -6,11 +6,11 @@ use Rattle.clap.specs.Kinds.{HasKind, Kinds}
 use Rattle.clap.specs.declared.error.Error.{Error}
 use Rattle.clap.specs.Faults.{fault_of, is_simple_and_free, level_fault}
 use Rattle.clap.proofs.OnLiterals.{clap_on_literals}
-use Rattle.bpfjobs_cli.specs.Commands.{IsNumberIn}
+use Rattle.bpfjobs_cli.specs.Commands.{IsMaybeNumber, IsNumberIn}
 use Rattle.bpfjobs_cli.proofs.NumberLemmas.{signed_number, unsigned_number}
 use Rattle.bpfjobs_cli.proofs.RowLemmas.{HasValue, both, default_value, maybe_value, required_value}
 use Rattle.bpfrun_core.specs.Program.{arg_rule, bpfrun_app, credit_rule, file_rule, bpfrun_need_rule}
-use Rattle.bpfrun_core.specs.Requests.{IsMaybeNumber, SaysRequest}
+use Rattle.bpfrun_core.specs.Requests.{SaysRequest}
 
 -- the rules as clap builds them
 abbrev rule : Rule → Rule
@@ -41,11 +41,11 @@ module _ (words : List Text) (has : Bool) (below : Kinds) (none : level_fault to
       ((λ same. refl), (other, (other, (other, (other, (other, (other, (other, (other, (other, (other, (other, tt)))))))))))) none refl (inl refl) refl in
       (value.0, value.2)
 
-  need : (number : Option ℕ) × IsMaybeNumber rows (codes "need") 4294967295 number
+  need : (number : Option ℕ) × IsMaybeNumber rows (codes "need") 0 4294967295 number
   need = go (maybe_value (rule bpfrun_need_rule) refl (omega arith) top (names_of (built bpfrun_app)) words has below
       (other, ((λ same. refl), (other, (other, (other, (other, (other, (other, (other, (other, (other, (other, tt)))))))))))) none)
     where
-      go : (one_of (codes "need") rows ≡ None) ⊎ HasValue (rule bpfrun_need_rule) rows → (number : Option ℕ) × IsMaybeNumber rows (codes "need") 4294967295 number
+      go : (one_of (codes "need") rows ≡ None) ⊎ HasValue (rule bpfrun_need_rule) rows → (number : Option ℕ) × IsMaybeNumber rows (codes "need") 0 4294967295 number
       go (inl e) = (None, e)
       go (inr value) =
           let number = signed_number (rule bpfrun_need_rule) 0 4294967295 rows refl value in

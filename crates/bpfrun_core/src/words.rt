@@ -2,9 +2,9 @@
 
 ghost use Rattle.std.specs.Prelude.{◌≡◌, ◌↔◌, ◌≤◌, ℕ, map, codes, IfOk, IfErr, IsTrue, Option, Some, string_bytes};
 ghost use Rattle.clap.specs.Words.{Text, first_of, found_of, matches_of, rows_of};
-ghost use Rattle.bpfjobs_cli.specs.Commands.{IsNumberIn};
+ghost use Rattle.bpfjobs_cli.specs.Commands.{IsMaybeNumber, IsNumberIn};
 ghost use Rattle.bpfrun_core.specs.Program.{bpfrun_app};
-ghost use Rattle.bpfrun_core.specs.Requests.{IsMaybeNumber, IsRequestOf, IsBpfrunUsage, SaysRequest};
+ghost use Rattle.bpfrun_core.specs.Requests.{IsRequestOf, IsBpfrunUsage, SaysRequest};
 ghost use Rattle.machine_model.specs.Limits.{max_credit};
 
 use crate::arguments::RunArguments;
@@ -29,8 +29,8 @@ fn number(matches: &ArgMatches<'_>, id: &str, high: u64) -> u64
 // How many bytes the program needs, if that is said.
 fn need(matches: &ArgMatches<'_>) -> Option<u32>
     requires { (need : Option ℕ)
-        × IsMaybeNumber (rows_of (found_of matches.now)) (codes "need") 4294967295 need }
-    ensures { IsMaybeNumber (rows_of (found_of matches.now)) (codes "need") 4294967295 result }
+        × IsMaybeNumber (rows_of (found_of matches.now)) (codes "need") 0 4294967295 need }
+    ensures { IsMaybeNumber (rows_of (found_of matches.now)) (codes "need") 0 4294967295 result }
 {
     matches.get_one::<u32>("need")
 }

@@ -15,14 +15,14 @@ use Rattle.job_core.specs.Admitted.{AdmittedJob}
 use Rattle.job_server.specs.declared.fault.ServeFault.{ServeFault}
 use Rattle.job_server.specs.declared.fault.ServeFault.TheVariants.{Socket, Connection}
 use Rattle.job_server.specs.declared.keeping_handler.KeepingHandler.{KeepingHandler}
-use Rattle.job_server.specs.declared.limited_runner.LimitedRunner.{LimitedRunner}
-use Rattle.job_server.specs.Bounded.{answers_keeping, looks_within, starts_within, takes_within}
-use Rattle.job_server.specs.declared.job_seats.StartedJob.{StartedJob}
-use Rattle.job_server.specs.Holds.{StartsBy, TellsBy, TakesBy}
-use Rattle.job_server.specs.Started.{pooled_at, pooled_count}
-use Rattle.job_server.specs.AtOnce.{EndsBy, Hosted, IsServingFrom, Pool, hosted_answers, new_host}
-use Rattle.job_server.specs.Serving.{new_desk}
-use Rattle.bpfjobs_cli.specs.declared.commands.Bounds.{Bounds}
+use Rattle.job_pools.specs.declared.limited_runner.LimitedRunner.{LimitedRunner}
+use Rattle.job_pools.specs.Bounded.{looks_within, starts_within, takes_within}
+use Rattle.job_server.specs.Kept.{answers_keeping}
+use Rattle.job_pools.specs.declared.job_seats.StartedJob.{StartedJob}
+use Rattle.job_pools.specs.Holds.{StartsBy, TellsBy, TakesBy}
+use Rattle.job_pools.specs.Started.{pooled_at, pooled_count}
+use Rattle.job_server.specs.AtOnce.{EndsBy, Hosted, IsServingFrom, Pool, hosted_answers, new_desk, new_host}
+use Rattle.job_server.specs.declared.bounds.Bounds.{Bounds}
 use Rattle.job_server.proofs.Alike.{beside, answers_alike}
 
 module _ {S T : Type 0} (g : S → T) (answers : S → Result Asked ℕ → List ℕ → S → Type 0) (answers1 : T → Result Asked ℕ → List ℕ → T → Type 0)

@@ -6,16 +6,16 @@ use Rattle.job_core.specs.Admitted.{AdmittedJob}
 use Rattle.sessions.specs.Grammar.{Asked, result}
 use Rattle.sessions.specs.Replies.{submit_data}
 use Rattle.shared_desk.specs.Histories.{Entry}
-use Rattle.job_server.specs.Started.{pooled_at, pooled_count}
-use Rattle.job_server.specs.Holds.{StartsBy, TellsBy, TakesBy}
-use Rattle.job_server.specs.Bounded.{starts_within, looks_within, takes_within}
-use Rattle.bpfjobs_cli.specs.declared.commands.Bounds.{Bounds}
+use Rattle.job_pools.specs.Started.{pooled_at, pooled_count}
+use Rattle.job_pools.specs.Holds.{StartsBy, TellsBy, TakesBy}
+use Rattle.job_pools.specs.Bounded.{starts_within, looks_within, takes_within}
+use Rattle.job_server.specs.declared.bounds.Bounds.{Bounds}
 use Rattle.job_server.specs.declared.fault.ServeFault.{ServeFault}
 use Rattle.shared_desk.specs.declared.closed.ClosedConnection.{ClosedConnection}
 use Rattle.shared_desk.specs.Closed.{AreClosed, IsServedWhole}
 use Rattle.job_server.specs.Payloads.{IsEntryOf, ComesFromPayload}
-use Rattle.job_server.specs.AtOnce.{Pool, Hosted, new_host, IsServingClients}
-use Rattle.job_server.specs.EndToEnd.{AreTaken, submit_of, none_yet, one_more, no_more, taken_at, IsSubmit, IsResultOf, reported, failed, not_over, forgotten, unknown, IsToldResult, IsResultFrame, ComesFromSubmit, IsHostHistory, AsksForJob, StaysTold, IsToldRefusal, Tells}
+use Rattle.job_server.specs.AtOnce.{Pool, Hosted, new_host, IsServing}
+use Rattle.job_server.specs.EndToEnd.{AreTaken, submit_of, none_yet, one_more, no_more, taken_at, IsSubmit, IsResultOf, reported, failed, not_over, forgotten, unknown, IsToldResult, IsResultFrame, ComesFromSubmit, IsHostHistory, AsksForJob, StaysTold, IsToldRefusal, HasReply}
 use Rattle.streams.specs.Answering.{refused}
 use Rattle.job_server.proofs.ListEnds.{get_pushed, joined_again}
 use Rattle.job_server.proofs.HistoryStands.{taken_is, history_stands, history_tells}
@@ -67,12 +67,12 @@ place_of history jobs (suc n) job taken at =
 
 -- ---- a result comes from its submit
 
-no_result : (e : Entry) (code : ℕ) → IsResultFrame e.reply → Tells e (refused code) → ⊥
+no_result : (e : Entry) (code : ℕ) → IsResultFrame e.reply → HasReply e (refused code) → ⊥
 no_result e code f tells =
     let clash : 98 ≡ 99 = sym (ap third f.frame ∙ third_of_result f.buffer f.returned f.spent f.tasks) ∙ ap third tells ∙ third_of_refused code None None in
     absurd (omega (arith, clash))
 
-by_result : (keep : ℕ) (before : List Entry) (number : ℕ) (e : Entry) (jobs : List AdmittedJob) → AreTaken before jobs → IsResultFrame e.reply → (told : Data) → IsResultOf keep jobs number told → Tells e told → ComesFromSubmit before number e
+by_result : (keep : ℕ) (before : List Entry) (number : ℕ) (e : Entry) (jobs : List AdmittedJob) → AreTaken before jobs → IsResultFrame e.reply → (told : Data) → IsResultOf keep jobs number told → HasReply e told → ComesFromSubmit before number e
 by_result keep before number e jobs taken f _ (failed job code at fails) tells = absurd (no_result e code f tells)
 by_result keep before number e jobs taken f _ (not_over job at) tells = absurd (no_result e 77 f tells)
 by_result keep before number e jobs taken f _ (forgotten job at some later) tells = absurd (no_result e 76 f tells)
@@ -111,7 +111,7 @@ host_tells bounds before after e number h asks =
 pub host_comes : (bounds : Bounds) (before after : List Entry) (e : Entry) (number : ℕ) → IsHostHistory bounds (before ++ e ∷ after) → e.query ≡ Ok (result number) → IsResultFrame e.reply → ComesFromSubmit before number e
 host_comes bounds before after e number h asks f = comes_from_submit bounds.keep before number e (host_tells bounds before after e number h asks) f
 
-pub host_refuses : (bounds : Bounds) (before after : List Entry) (e : Entry) (number code : ℕ) → IsHostHistory bounds (before ++ e ∷ after) → e.query ≡ Ok (result number) → Tells e (refused code) → code < 2 ^ 64
+pub host_refuses : (bounds : Bounds) (before after : List Entry) (e : Entry) (number code : ℕ) → IsHostHistory bounds (before ++ e ∷ after) → e.query ≡ Ok (result number) → HasReply e (refused code) → code < 2 ^ 64
     → IsToldRefusal bounds.keep before number code
 host_refuses bounds before after e number code h asks tells small = told_refusal bounds.keep before number e code (host_tells bounds before after e number h asks) tells small
 
@@ -121,7 +121,7 @@ host_stays bounds before between after e f number h asks_e asks_f =
     (λ s. s ≡ new_host bounds h.first) before between after e f number h.end h.legal asks_e asks_f
 
 pub host_rises : (bounds : Bounds) (before between after : List Entry) (e f : Entry) (m n : ℕ) → IsHostHistory bounds (before ++ e ∷ (between ++ f ∷ after)) → length (before ++ e ∷ between) < 2 ^ 64 - 1
-    → AsksForJob e.query → Tells e (submit_data m) → m < 2 ^ 64 → AsksForJob f.query → Tells f (submit_data n) → n < 2 ^ 64 → m < n
+    → AsksForJob e.query → HasReply e (submit_data m) → m < 2 ^ 64 → AsksForJob f.query → HasReply f (submit_data n) → n < 2 ^ 64 → m < n
 host_rises bounds before between after e f m n h short asks_e tells_e small_m asks_f tells_f small_n =
     let stands = history_stands (starts_within pooled_count (StartsBy pooled_at pooled_count)) (looks_within (TellsBy pooled_at pooled_count)) (takes_within (TakesBy pooled_at pooled_count))
     (job_held pooled_at pooled_count) (limited_holds pooled_at pooled_count) (λ s. s ≡ new_host bounds h.first) bounds.keep (fresh_host bounds h.first) (before ++ e ∷ (between ++ f ∷ after)) h.end h.legal in
@@ -129,18 +129,18 @@ host_rises bounds before between after e f m n h short asks_e tells_e small_m as
 
 -- ---- a server of many connections
 
-pub host_history : (bounds : Bounds) (sessions : ℕ) (may_stop : Bool) (outcome : Result (Unit {0}) ServeFault) (s : IsServingClients bounds sessions may_stop outcome) → IsHostHistory bounds s.serving.history
+pub host_history : (bounds : Bounds) (sessions : ℕ) (may_stop : Bool) (outcome : Result (Unit {0}) ServeFault) (s : IsServing bounds sessions may_stop outcome) → IsHostHistory bounds s.serving.history
 host_history bounds sessions may_stop outcome s = record { first = s.first; end = s.end; legal = s.serving.legal }
 
 each_served : (closed : List ClosedConnection) → All IsServedWhole closed → (i : ℕ) (c : ClosedConnection) → slice_get closed i ≡ Some c → IsServedWhole c
 each_served closed served i c at = subst IsServedWhole (get_or_from_slice_get closed i c c at) (served i c (slice_get_within closed i c at))
 
-pub host_entries : (bounds : Bounds) (sessions : ℕ) (may_stop : Bool) (outcome : Result (Unit {0}) ServeFault) (s : IsServingClients bounds sessions may_stop outcome) (before after : List Entry) (e : Entry) (asks : Asked)
+pub host_entries : (bounds : Bounds) (sessions : ℕ) (may_stop : Bool) (outcome : Result (Unit {0}) ServeFault) (s : IsServing bounds sessions may_stop outcome) (before after : List Entry) (e : Entry) (asks : Asked)
     → s.serving.history ≡ before ++ e ∷ after → e.query ≡ Ok asks → IsEntryOf s.serving.closed e asks
 host_entries bounds sessions may_stop outcome s before after e asks is own =
     is_entry_of s.serving.opened before after e s.serving.closed asks (subst (λ h. AreClosed s.serving.opened h s.serving.closed) is s.serving.parts) (each_served s.serving.closed s.serving.served) own
 
-pub host_payloads : (bounds : Bounds) (sessions : ℕ) (may_stop : Bool) (outcome : Result (Unit {0}) ServeFault) (s : IsServingClients bounds sessions may_stop outcome) (before after : List Entry) (e : Entry) (number : ℕ)
+pub host_payloads : (bounds : Bounds) (sessions : ℕ) (may_stop : Bool) (outcome : Result (Unit {0}) ServeFault) (s : IsServing bounds sessions may_stop outcome) (before after : List Entry) (e : Entry) (number : ℕ)
     → s.serving.history ≡ before ++ e ∷ after → e.query ≡ Ok (result number) → IsResultFrame e.reply → ComesFromPayload s.serving.closed before number e
 host_payloads bounds sessions may_stop outcome s before after e number is asks f = record {
   comes = comes;

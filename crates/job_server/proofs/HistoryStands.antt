@@ -16,11 +16,11 @@ use Rattle.sessions.specs.Grammar.{Asked, grant, account, submit, status, result
 use Rattle.sessions.specs.Replies.{reply_data, frame_or_refusal, submit_data}
 use Rattle.streams.specs.Passing.{Taken, none_yet as none_taken, one_more as one_taken, Passes}
 use Rattle.streams.specs.Answering.{Replies, Grants, GrantsNone, Settles, Submits, report_told, refused}
-use Rattle.job_server.specs.Bounded.{KeepsLast, answers_keeping}
+use Rattle.job_server.specs.Kept.{KeepsLast, answers_keeping}
 use Rattle.job_server.specs.declared.keeping_handler.KeepingHandler.{KeepingHandler}
 use Rattle.shared_desk.specs.Histories.{Entry, Replays, none_yet as nothing_replayed, one_more as one_replayed}
-use Rattle.job_server.specs.Endings.{IsEndOf}
-use Rattle.job_server.specs.EndToEnd.{AreTaken, none_yet, one_more, no_more, IsSubmit, TakesNoJob, AsksForJob, FailsBy, IsResultOf, reported, failed, not_over, forgotten, unknown, taken_at, IsToldResult, Tells}
+use Rattle.job_pools.specs.Endings.{IsEndOf}
+use Rattle.job_server.specs.EndToEnd.{AreTaken, none_yet, one_more, no_more, IsSubmit, TakesNoJob, AsksForJob, FailsBy, IsResultOf, reported, failed, not_over, forgotten, unknown, taken_at, IsToldResult, HasReply}
 use Rattle.job_server.proofs.ListEnds.{length_pushed, get_within, get_past, within_get}
 use Rattle.job_server.proofs.ReplyFrames.{is_framed}
 use Rattle.job_server.proofs.StaysOver.{is_at, reported_there}
@@ -105,7 +105,7 @@ module _ {R : Type 0} (starts : R → ℕ → AdmittedJob → Result (Unit {0}) 
       (jobs, no_more history jobs e taken no_job, subst (λ es. AllStand keep jobs es (held s)) (sym same) (all_stand keep jobs d.jobs (held r) (held s) held_same stand))
 
   after_submit : (keep : ℕ) (history : List Entry) (d : Ledger) (r : R) (e : Entry) (a : Ledger) (s : R) → (jobs : List AdmittedJob) → AreTaken history jobs → AllStand keep jobs d.jobs (held r)
-      → (name : List ℕ) (programs : List ProgramBytes) (credit : ℕ) (buffer : List ℕ) (told : Data) → e.query ≡ Ok (submit name (record { programs = map program_asked programs; credit = credit; buffer = buffer })) → Tells e told
+      → (name : List ℕ) (programs : List ProgramBytes) (credit : ℕ) (buffer : List ℕ) (told : Data) → e.query ≡ Ok (submit name (record { programs = map program_asked programs; credit = credit; buffer = buffer })) → HasReply e told
       → Submits starts d r name programs credit buffer told a s → Stands keep (history ++ e ∷ []) a s
   after_submit keep history d r e a s jobs taken stand name programs credit buffer told asks tells (inr n) =
       same_desk keep history d r e a s jobs taken stand (inr (n.fault, tells ∙ ap frame_or_refusal n.tells)) (ap (λ (l : Ledger). l.jobs) n.same) (λ m. ap (λ (x : R). held x m) n.same_runner)
@@ -167,7 +167,7 @@ module _ {R : Type 0} (starts : R → ℕ → AdmittedJob → Result (Unit {0}) 
           (λ job is. by_code code step.0 job) settles
 
   after_replies : (keep : ℕ) (history : List Entry) (d : Ledger) (r : R) (e : Entry) (a : Ledger) (s : R) → (jobs : List AdmittedJob) → AreTaken history jobs → AllStand keep jobs d.jobs (held r)
-      → (query : Result Asked ℕ) (told : Data) → e.query ≡ query → Tells e told → Replies starts looks d r query told a s → Stands keep (history ++ e ∷ []) a s
+      → (query : Result Asked ℕ) (told : Data) → e.query ≡ query → HasReply e told → Replies starts looks d r query told a s → Stands keep (history ++ e ∷ []) a s
   unfolding Replies
   after_replies keep history d r e a s jobs taken stand (Err code) told asks tells t =
       same_desk keep history d r e a s jobs taken stand (inl (subst (λ q. AsksForJob q → ⊥) (sym asks) (λ h. h))) (ap (λ (l : Ledger). l.jobs) t.1) (λ m. ap (λ (x : R). held x m) t.2)

@@ -1,9 +1,5 @@
-pub mod Keeping
-pub mod JobSteps
-pub mod Pooled
 pub mod Alike
 pub mod AtOnceAlike
-pub mod Ended
 pub mod ListEnds
 pub mod StandsFor
 pub mod HistoryStands

@@ -3,32 +3,32 @@ use Rattle.std.proofs.Common.{◌≡◌, ◌≢◌, ◌⊎◌, ℕ, Option, Some
 use Rattle.std.proofs.lemmas.Bool.{cases_eq}
 use Rattle.credit_book.specs.declared.board.Progress.{Progress}
 use Rattle.job_core.specs.Admitted.{AdmittedJob}
-use Rattle.job_server.specs.Holding.{Held}
-use Rattle.job_server.specs.Holds.{StartsBy, TellsBy, TakesBy, IsUnchangedBy, looks_by}
-use Rattle.job_server.specs.Bounded.{starts_within, looks_within, takes_within}
-use Rattle.job_server.specs.declared.limited_runner.LimitedRunner.{LimitedRunner}
+use Rattle.job_pools.specs.Holding.{HeldJob}
+use Rattle.job_pools.specs.Holds.{StartsBy, TellsBy, TakesBy, IsUnchangedBy, looks_by}
+use Rattle.job_pools.specs.Bounded.{starts_within, looks_within, takes_within}
+use Rattle.job_pools.specs.declared.limited_runner.LimitedRunner.{LimitedRunner}
 use Rattle.job_server.proofs.HistoryStands.{HoldsJobs}
 
 not_refused : (outcome : Result (Unit {0}) ℕ) (done : Unit {0}) → outcome ≡ Ok done → outcome ≡ Err 81 → ⊥
 not_refused outcome done is same = cc
 
-module _ {P : Type 0} (held_by : P → ℕ → Option Held) (count_by : P → ℕ) where
+module _ {P : Type 0} (held_by : P → ℕ → Option HeldJob) (count_by : P → ℕ) where
   -- the job that is held under a number
   abbrev pub job_held : LimitedRunner P → ℕ → Option AdmittedJob
-  job_held r n = option_map (λ (h : Held). h.job) (held_by r.runner n)
+  job_held r n = option_map (λ (h : HeldJob). h.job) (held_by r.runner n)
 
-  same_jobs : (old new : P) → IsUnchangedBy held_by count_by old new → (m : ℕ) → option_map (λ (h : Held). h.job) (held_by new m) ≡ option_map (λ (h : Held). h.job) (held_by old m)
-  same_jobs old new u m = ap (option_map (λ (h : Held). h.job)) (u.each m)
+  same_jobs : (old new : P) → IsUnchangedBy held_by count_by old new → (m : ℕ) → option_map (λ (h : HeldJob). h.job) (held_by new m) ≡ option_map (λ (h : HeldJob). h.job) (held_by old m)
+  same_jobs old new u m = ap (option_map (λ (h : HeldJob). h.job)) (u.each m)
 
-  seen_jobs : (old new : P) (n : ℕ) (told : Progress) (o : Option Held) → held_by old n ≡ o → looks_by held_by count_by old n o told new → (m : ℕ) → option_map (λ (h : Held). h.job) (held_by new m) ≡ option_map (λ (h : Held). h.job) (held_by old m)
+  seen_jobs : (old new : P) (n : ℕ) (told : Progress) (o : Option HeldJob) → held_by old n ≡ o → looks_by held_by count_by old n o told new → (m : ℕ) → option_map (λ (h : HeldJob). h.job) (held_by new m) ≡ option_map (λ (h : HeldJob). h.job) (held_by old m)
   unfolding looks_by
   seen_jobs old new n told None was looks m = same_jobs old new looks.1 m
   seen_jobs old new n told (Some held) was looks m =
       elim (cases_eq m n) [
         | inl same ↦
-            ap (λ k. option_map (λ (h : Held). h.job) (held_by new k)) same ∙ ap (option_map (λ (h : Held). h.job)) looks.changes.here ∙ ap Some looks.seen.job
-            ∙ sym (ap (option_map (λ (h : Held). h.job)) was) ∙ sym (ap (λ k. option_map (λ (h : Held). h.job) (held_by old k)) same)
-        | inr apart ↦ ap (option_map (λ (h : Held). h.job)) (looks.changes.others m apart)
+            ap (λ k. option_map (λ (h : HeldJob). h.job) (held_by new k)) same ∙ ap (option_map (λ (h : HeldJob). h.job)) looks.changes.here ∙ ap Some looks.seen.job
+            ∙ sym (ap (option_map (λ (h : HeldJob). h.job)) was) ∙ sym (ap (λ k. option_map (λ (h : HeldJob). h.job) (held_by old k)) same)
+        | inr apart ↦ ap (option_map (λ (h : HeldJob). h.job)) (looks.changes.others m apart)
       ]
 
   pub limited_holds : HoldsJobs (starts_within count_by (StartsBy held_by count_by)) (looks_within (TellsBy held_by count_by)) (takes_within (TakesBy held_by count_by)) job_held
@@ -38,9 +38,9 @@ module _ {P : Type 0} (held_by : P → ℕ → Option Held) (count_by : P → �
     looked = λ r n told s t m. seen_jobs r.runner s.runner n told (held_by r.runner n) refl t.0 m;
     taken = λ r n outcome s t. (
       t.0.held.job,
-      ap (option_map (λ (h : Held). h.job)) t.0.was,
+      ap (option_map (λ (h : HeldJob). h.job)) t.0.was,
       t.0.end,
-      λ m apart. ap (option_map (λ (h : Held). h.job)) (t.0.changes.others m apart),
+      λ m apart. ap (option_map (λ (h : HeldJob). h.job)) (t.0.changes.others m apart),
     );
     none = λ r s t m. same_jobs r.runner s.runner t.0 m;
   }
@@ -49,14 +49,14 @@ module _ {P : Type 0} (held_by : P → ℕ → Option Held) (count_by : P → �
           → (job_held s n ≡ Some job) × ((m : ℕ) → m ≢ n → job_held s m ≡ job_held r m)
       started r n job done s (inl full, limit) = absurd (not_refused (Ok done) done refl full.1)
       started r n job done s (inr starts, limit) = (
-        ap (option_map (λ (h : Held). h.job)) starts.1.changes.here ∙ ap Some starts.1.fresh.given,
-        λ m apart. ap (option_map (λ (h : Held). h.job)) (starts.1.changes.others m apart),
+        ap (option_map (λ (h : HeldJob). h.job)) starts.1.changes.here ∙ ap Some starts.1.fresh.given,
+        λ m apart. ap (option_map (λ (h : HeldJob). h.job)) (starts.1.changes.others m apart),
       )
 
       refused : (r : LimitedRunner P) (n : ℕ) (job : AdmittedJob) (code : ℕ) (s : LimitedRunner P) → starts_within count_by (StartsBy held_by count_by) r n job (Err code) s
           → ((code ≡ 81) ⊎ (code ≡ 99)) × ((m : ℕ) → job_held s m ≡ job_held r m)
       refused r n job code s (inl full, limit) = (
         inl (let same = full.1 in cc),
-        λ m. ap (λ (p : P). option_map (λ (h : Held). h.job) (held_by p m)) full.2,
+        λ m. ap (λ (p : P). option_map (λ (h : HeldJob). h.job) (held_by p m)) full.2,
       )
       refused r n job code s (inr starts, limit) = (starts.1.0, λ m. same_jobs r.runner s.runner starts.1.1 m)

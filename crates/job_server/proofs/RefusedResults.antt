@@ -14,7 +14,7 @@ use Rattle.sessions.specs.Frames.{framed}
 use Rattle.sessions.specs.Replies.{refusal_data, frame_or_refusal, longest_reply}
 use Rattle.streams.specs.Answering.{refused}
 use Rattle.shared_desk.specs.Histories.{Entry}
-use Rattle.job_server.specs.EndToEnd.{FailsBy, IsResultOf, reported, failed, not_over, forgotten, unknown, IsToldResult, IsToldRefusal, Tells, report_data}
+use Rattle.job_server.specs.EndToEnd.{FailsBy, IsResultOf, reported, failed, not_over, forgotten, unknown, IsToldResult, IsToldRefusal, HasReply, report_data}
 use Rattle.job_server.proofs.ReplyFrames.{third, third_of_result, third_of_refused, framed_cases}
 
 -- ---- the frame tells the number
@@ -73,5 +73,5 @@ module _ (keep : ℕ) (jobs : List AdmittedJob) (number code : ℕ) (small : cod
   by_result _ (unknown at) same = as_told 76 (omega arith) (unknown at) same
   by_result _ (reported job report at run) same = inr (too_long (report_data report) (third_of_result report.buffer.items report.returned report.spent report.tasks.items) same)
 
-pub told_refusal : (keep : ℕ) (before : List Entry) (number : ℕ) (e : Entry) (code : ℕ) → IsToldResult keep before number e → Tells e (refused code) → code < 2 ^ 64 → IsToldRefusal keep before number code
+pub told_refusal : (keep : ℕ) (before : List Entry) (number : ℕ) (e : Entry) (code : ℕ) → IsToldResult keep before number e → HasReply e (refused code) → code < 2 ^ 64 → IsToldRefusal keep before number code
 told_refusal keep before number e code t tells small = record { jobs = t.jobs; taken = t.taken; is_result = by_result keep t.jobs number code small t.told t.is_result (sym t.tells ∙ tells) }

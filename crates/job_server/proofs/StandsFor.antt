@@ -9,9 +9,9 @@ use Rattle.job_core.specs.Admitted.{AdmittedJob}
 use Rattle.accounts.specs.Jobs.{job_at, settled}
 use Rattle.accounts.specs.Ledgers.{Ledger, Finishes}
 use Rattle.accounts.specs.Forgetting.{ForgetsJobs}
-use Rattle.job_server.specs.Bounded.{KeepsLast}
+use Rattle.job_server.specs.Kept.{KeepsLast}
 use Rattle.streams.specs.Passing.{Notes}
-use Rattle.job_server.specs.Endings.{IsRun, IsEndOf}
+use Rattle.job_pools.specs.Endings.{IsRun, IsEndOf}
 use Rattle.job_server.specs.EndToEnd.{FailsBy}
 use Rattle.job_server.proofs.ListEnds.{get_pushed, length_pushed, get_set, length_set, get_joined, get_behind, get_same, length_same, length_joined, within_get}
 

@@ -12,14 +12,14 @@ use Rattle.job_core.specs.Admitted.{AdmittedJob}
 use Rattle.accounts.specs.Jobs.{job_at, is_open, report_of, settled}
 use Rattle.accounts.specs.Ledgers.{Ledger, Finishes, report_at, report_in}
 use Rattle.accounts.specs.Forgetting.{ForgetsJobs}
-use Rattle.job_server.specs.Bounded.{KeepsLast, answers_keeping}
+use Rattle.job_server.specs.Kept.{KeepsLast, answers_keeping}
 use Rattle.sessions.specs.Grammar.{Asked, grant, account, submit, status, result}
 use Rattle.streams.specs.Passing.{Taken, none_yet as none_taken, one_more as one_taken, Notes}
 use Rattle.streams.specs.Answering.{Replies, Grants, GrantsNone, Settles, Submits, report_told, refused}
 use Rattle.sessions.specs.Replies.{reply_data, frame_or_refusal}
 use Rattle.job_server.specs.declared.keeping_handler.KeepingHandler.{KeepingHandler}
 use Rattle.shared_desk.specs.Histories.{Entry, Replays, none_yet as nothing_replayed, one_more as one_replayed}
-use Rattle.job_server.specs.EndToEnd.{StaysTold, Tells}
+use Rattle.job_server.specs.EndToEnd.{StaysTold, HasReply}
 use Rattle.job_server.proofs.ListEnds.{get_before, get_joined, get_behind, length_same, last_same, last_of, none_pushed, joined_again}
 use Rattle.job_server.proofs.StandsFor.{job_is, job_there}
 use Rattle.job_server.proofs.ReplyFrames.{is_framed}
@@ -212,7 +212,7 @@ module _ {R : Type 0} (starts : R → ℕ → AdmittedJob → Result (Unit {0}) 
     desk : Ledger
     before : StayOver old.jobs desk.jobs
     after : StayOver desk.jobs new.jobs
-    tells : Tells e (report_told (report_at desk number))
+    tells : HasReply e (report_told (report_at desk number))
 
   told_by : (number : ℕ) (x : Ledger × KeepingHandler R) (e : Entry) (y : Ledger × KeepingHandler R) → answers_keeping starts looks takes x e.query e.reply y → e.query ≡ Ok (result number) → IsToldBy number x.0 e y.0
   told_by number x e y answers asks =
@@ -235,7 +235,7 @@ module _ {R : Type 0} (starts : R → ℕ → AdmittedJob → Result (Unit {0}) 
       let stays = stay_on by_e.desk.jobs at_e.new.0.jobs by_f.desk.jobs by_e.after (stay_on at_e.new.0.jobs at_f.old.0.jobs by_f.desk.jobs at_e.stays by_f.before) in
       by_told by_e.desk by_f.desk by_e.tells by_f.tells (result_stays by_e.desk by_f.desk number stays)
     where
-      by_told : (d g : Ledger) → Tells e (report_told (report_at d number)) → Tells f (report_told (report_at g number)) → StaysAt d g number → StaysTold e f
+      by_told : (d g : Ledger) → HasReply e (report_told (report_at d number)) → HasReply f (report_told (report_at g number)) → StaysAt d g number → StaysTold e f
       by_told d g tells_e tells_f (inl unknown) = inl (tells_e ∙ ap frame_or_refusal unknown)
       by_told d g tells_e tells_f (inr (inl not_over)) = inr (inl (tells_e ∙ ap frame_or_refusal not_over))
       by_told d g tells_e tells_f (inr (inr (inl same))) = inr (inr (inl (tells_f ∙ ap frame_or_refusal same ∙ sym tells_e)))

@@ -11,13 +11,13 @@ use Rattle.shared_desk.specs.Histories.{Entry, Replays, part_of}
 use Rattle.shared_desk.specs.Closed.{AreClosed, IsServedWhole, first_fault}
 use Rattle.job_server.specs.declared.fault.ServeFault.{ServeFault}
 use Rattle.job_server.specs.declared.fault.ServeFault.TheVariants.{Socket, Connection}
-use Rattle.job_server.specs.declared.job_seats.StartedJob.{StartedJob}
-use Rattle.job_server.specs.Holds.{StartsBy, TellsBy, TakesBy}
-use Rattle.job_server.specs.Started.{pooled_at, pooled_count}
-use Rattle.job_server.specs.Serving.{new_desk}
-use Rattle.bpfjobs_cli.specs.declared.commands.Bounds.{Bounds}
-use Rattle.job_server.specs.Bounded.{answers_keeping, looks_within, starts_within, takes_within}
-use Rattle.job_server.specs.declared.limited_runner.LimitedRunner.{LimitedRunner}
+use Rattle.job_pools.specs.declared.job_seats.StartedJob.{StartedJob}
+use Rattle.job_pools.specs.Holds.{StartsBy, TellsBy, TakesBy}
+use Rattle.job_pools.specs.Started.{pooled_at, pooled_count}
+use Rattle.job_server.specs.declared.bounds.Bounds.{Bounds}
+use Rattle.job_pools.specs.Bounded.{looks_within, starts_within, takes_within}
+use Rattle.job_server.specs.Kept.{answers_keeping}
+use Rattle.job_pools.specs.declared.limited_runner.LimitedRunner.{LimitedRunner}
 use Rattle.job_server.specs.declared.keeping_handler.KeepingHandler.{KeepingHandler}
 
 -- Why a server ends with a fault: a connection could not be taken, so that not all were opened; one
@@ -61,6 +61,10 @@ hosted_answers =
     answers_keeping (starts_within pooled_count (StartsBy pooled_at pooled_count))
     (looks_within (TellsBy pooled_at pooled_count)) (takes_within (TakesBy pooled_at pooled_count))
 
+-- a desk that nobody was granted anything on, and that has no job
+abbrev pub new_desk : Ledger
+new_desk = record { grants = []; past = []; jobs = [] }
+
 -- a new desk, and a pool with no job, within these bounds
 abbrev pub new_host : Bounds → Pool → Hosted
 new_host bounds pool = (
@@ -69,7 +73,7 @@ new_host bounds pool = (
 )
 
 -- The same, first on a new desk and with no job. Jobs run on a pool that lasts, within the bounds.
-pub record IsServingClients (bounds : Bounds) (sessions : ℕ) (may_stop : Bool)
+pub record IsServing (bounds : Bounds) (sessions : ℕ) (may_stop : Bool)
     (outcome : Result (Unit {0}) ServeFault) : Type 0 where
   pub first : Pool
   pub none : (first.0 ≡ []) × (first.1.entries ≡ [])

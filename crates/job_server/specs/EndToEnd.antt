@@ -13,8 +13,8 @@ use Rattle.sessions.specs.Grammar.{Asked, submit, result, program_asked}
 use Rattle.sessions.specs.Replies.{submit_data, result_data, frame_or_refusal}
 use Rattle.streams.specs.Answering.{refused, submit_refused}
 use Rattle.shared_desk.specs.Histories.{Entry, Replays}
-use Rattle.job_server.specs.Endings.{IsRun, IsEndOf}
-use Rattle.bpfjobs_cli.specs.declared.commands.Bounds.{Bounds}
+use Rattle.job_pools.specs.Endings.{IsRun, IsEndOf}
+use Rattle.job_server.specs.declared.bounds.Bounds.{Bounds}
 use Rattle.job_server.specs.AtOnce.{Pool, Hosted, hosted_answers, new_host}
 
 -- a history that a server within these bounds may have, from its start on
@@ -24,8 +24,8 @@ pub record IsHostHistory (bounds : Bounds) (history : List Entry) : Type 0 where
   pub legal : Replays hosted_answers (λ s. s ≡ new_host bounds first) history end
 
 -- the reply of the entry is the frame of this
-abbrev pub Tells : Entry → Data → Type 0
-Tells e told = e.reply ≡ frame_or_refusal told
+abbrev pub HasReply : Entry → Data → Type 0
+HasReply e told = e.reply ≡ frame_or_refusal told
 
 -- ---- submits
 
@@ -46,7 +46,7 @@ pub record IsSubmit (e : Entry) (number : ℕ) (job : AdmittedJob) : Type 0 wher
   pub buffer : List ℕ
   pub asks : e.query ≡ Ok (submit_of name programs credit buffer)
   pub admitted : IsAdmittedFrom programs credit buffer job
-  pub tells : Tells e (submit_data number)
+  pub tells : HasReply e (submit_data number)
 
 -- the request is one for a job
 abbrev pub AsksForJob : Result Asked ℕ → Type 0
@@ -56,7 +56,7 @@ AsksForJob other = ⊥
 -- the entry asks for no job, or is told why its job isn't taken
 abbrev pub TakesNoJob : Entry → Type 0
 TakesNoJob e =
-    (AsksForJob e.query → ⊥) ⊎ ((fault : SubmitFault) × Tells e (submit_refused fault))
+    (AsksForJob e.query → ⊥) ⊎ ((fault : SubmitFault) × HasReply e (submit_refused fault))
 
 -- The jobs that a history took, in order. The first is number 1, and each submit is told the next
 -- number.
@@ -104,7 +104,7 @@ pub record IsToldResult (keep : ℕ) (before : List Entry) (number : ℕ) (e : E
   pub jobs : List AdmittedJob
   pub taken : AreTaken before jobs
   pub told : Data
-  pub tells : Tells e told
+  pub tells : HasReply e told
   pub is_result : IsResultOf keep jobs number told
 
 -- A refusal that is told in place of a result is one of those, with its cause. Or it is 65, for a
@@ -117,8 +117,8 @@ pub record IsToldRefusal (keep : ℕ) (before : List Entry) (number code : ℕ) 
 -- Both entries ask for one result, the second later. Once the job is over, what is told of it stays
 -- the same until it is forgotten.
 abbrev pub StaysTold : Entry → Entry → Type 0
-StaysTold e f = Tells e (refused 76) ⊎ Tells e (refused 77) ⊎ (f.reply ≡ e.reply)
-    ⊎ Tells f (refused 76)
+StaysTold e f = HasReply e (refused 76) ⊎ HasReply e (refused 77) ⊎ (f.reply ≡ e.reply)
+    ⊎ HasReply f (refused 76)
 
 -- the bytes are the frame of some result
 pub record IsResultFrame (reply : List ℕ) : Type 0 where
@@ -139,4 +139,4 @@ pub record ComesFromSubmit (before : List Entry) (number : ℕ) (e : Entry) : Ty
   pub is_submit : IsSubmit asked number job
   pub report : Report
   pub run : IsRun number job report
-  pub tells : Tells e (report_data report)
+  pub tells : HasReply e (report_data report)

@@ -2,16 +2,17 @@
 
 ghost use Rattle.std.specs.Prelude.{◌≡◌, ◌≤◌, ◌<◌, ◌^◌, [], Ok, OnOk, IfErr, false, is_some};
 ghost use Rattle.job_server.specs.AtOnce.{EndsBy, IsServingFrom};
+ghost use Rattle.job_server.specs.Listening.{AreOf, AreOfFirst};
 
-use crate::entrance::Entrance;
+use crate::entrance::{Entrance, FirstListener};
 use crate::fault::ServeFault;
 use crate::listener::Listener;
-use crate::log_line::Event;
 use crate::noted_ends::{NotedReader, NotedWriter, ending_of};
-use crate::server_log::{ServerLog, millis_since};
+use crate::plan::Plan;
 use crate::stop_flag::ended_by;
 use crate::timed_reader::{TimedReader, Waiting};
 use accounts::Desk;
+use server_log::{LogEvent, ServerLog, millis_since};
 use shared_desk::{
     AllRequests, ClientSeat, NewHistory, NoGrants, Origin, SharedDesk, SharedHistory, serve_opened,
 };
@@ -28,7 +29,7 @@ use streams::{Handler, StreamFault, Tap};
 pub(crate) const NO_MEMORY: ServeFault = ServeFault::Connection(StreamFault::NoMemory);
 
 // Serves a connection that was taken, and gives its two ends.
-fn serve_taken<'s, R: Wait + Clock, H: Handler<Desk>, J: Origin<Desk, H>>(
+fn answer_connection<'s, R: Wait + Clock, H: Handler<Desk>, J: Origin<Desk, H>>(
     rt: &'s R,
     alloc: Global,
     history: &SharedHistory<J>,
@@ -58,7 +59,12 @@ fn serve_taken<'s, R: Wait + Clock, H: Handler<Desk>, J: Origin<Desk, H>>(
 
 // Takes connections and serves them, one after the other, until no more are to be taken. A log is told
 // of each.
-fn serve_turns<R: Wait + Clock, L: Listener + Drop, H: Handler<Desk>, J: Origin<Desk, H>>(
+fn take_turns<
+    R: Wait + Clock,
+    L: Listener + Drop,
+    H: Handler<Desk>,
+    J: Origin<Desk, H> + FirstListener<L>,
+>(
     rt: &R,
     alloc: Global,
     history: &SharedHistory<J>,
@@ -73,11 +79,11 @@ fn serve_turns<R: Wait + Clock, L: Listener + Drop, H: Handler<Desk>, J: Origin<
         };
         let begun = tell_opened(rt, log, connection, may_grant);
         let notes = log.is_some();
-        let (reader, writer) = serve_taken(
+        let (reader, writer) = answer_connection(
             rt, alloc, history, lock, seat, may_grant, &stream, waiting, notes,
         );
         if let Some(log) = log {
-            let closed = Event::Closed {
+            let closed = LogEvent::Closed {
                 connection,
                 requests: reader.requests(),
                 end: ending_of(&reader, &writer),
@@ -88,7 +94,7 @@ fn serve_turns<R: Wait + Clock, L: Listener + Drop, H: Handler<Desk>, J: Origin<
     }
 }
 
-// Tells a log, if there is one, of a connection that was taken. When that was, if a clock tells.
+// HasReply a log, if there is one, of a connection that was taken. When that was, if a clock tells.
 fn tell_opened<R: Wait + Clock>(
     rt: &R,
     log: Option<&ServerLog>,
@@ -97,7 +103,7 @@ fn tell_opened<R: Wait + Clock>(
 ) -> Option<Instant> {
     let log = log?;
     let by = log.door(may_grant);
-    log.tell(rt, Event::Opened { connection, by });
+    log.tell(rt, LogEvent::Opened { connection, by });
     Instant::now(rt).ok()
 }
 
@@ -137,7 +143,7 @@ fn serve_named<
     R: Threads + Wait + Clock + Sync,
     L: Listener + Send + Drop,
     H: Handler<Desk> + Send + Drop,
-    J: Origin<Desk, H> + Send + Sync,
+    J: Origin<Desk, H> + FirstListener<L> + Send + Sync,
 >(
     rt: &R,
     alloc: Global,
@@ -145,47 +151,53 @@ fn serve_named<
     listener: L,
     desk: Desk,
     handler: H,
-    clients: u32,
-    sessions: u32,
-    waiting: Waiting<'_>,
-    log: Option<&ServerLog>,
+    plan: Plan<'_>,
 ) -> (Desk, H, Result<(), ServeFault>)
     requires named { new_history ≡ J.table }
     requires begins { J.begins (desk, handler) }
+    requires listener { J.is_first listener }
     requires ready { H.ready handler }
-    ensures { IsServingFrom H.answers J.begins (result.0, result.1) sessions
-        (is_some waiting.entry.stop) result.2 }
+    ensures { (s : IsServingFrom H.answers J.begins (result.0, result.1) plan.entry.sessions
+        (is_some plan.entry.stop) result.2) × AreOfFirst L.opens L.fails J.is_first s.opened }
 {
+    let Plan {
+        workers: _,
+        sessions,
+        bounds,
+        stop,
+        log,
+    } = plan;
+    let waiting = Waiting {
+        seconds: bounds.timeout,
+        stop,
+    };
     let (history, recorder, opener) = new_history.named::<J>();
     let lock = Mutex::new(SharedDesk::new(desk, handler, recorder));
-    let entrance = Mutex::new(Entrance::new(listener, opener, waiting.stop, sessions));
+    let entrance = Mutex::new(Entrance::new(listener, opener, stop, sessions));
     let known = &history;
     let door = &entrance;
     let shared = &lock;
-    let serve = |_: usize| serve_turns(rt, alloc, known, door, shared, waiting, log);
-    let _ = thread::map_indices(rt, alloc, clients as usize, &serve);
+    let serve = |_: usize| take_turns(rt, alloc, known, door, shared, waiting, log);
+    let _ = thread::map_indices(rt, alloc, bounds.clients as usize, &serve);
     let mut shared = lock.into_inner();
     let (opened, failed, ended, mut opener) = entrance.into_inner().into_parts();
     shared.count(&history, &mut opener);
     shared.is_legal();
-    let stopped = ended_by(waiting.stop, ended);
+    let stopped = ended_by(stop, ended);
     let over = shared.over();
     let outcome = outcome_of(sessions, opened, failed, over, stopped, shared.outcome());
     let (desk, handler) = shared.into_parts();
     (desk, handler, outcome)
 }
 
-/// Serves so many connections of the listener, in so many threads at once, from this desk and this
-/// handler on, and gives both back.
+/// Serves so many connections of the listener as the plan says, in as many threads at once as its
+/// bounds say, from this desk and this handler on, and gives both back.
 ///
 /// One legal history has all answers in order, and leads to the desk and the handler. On each
 /// connection its own part of the history was asked and answered, in order, and the history has
 /// nothing else. A connection that could not be taken, or that was given up by 83, 84 or 99, counts
 /// as served. Such a fault is answered at the end: of those that were given up the one that was
 /// over first. 99 also where there was no memory for the threads.
-///
-/// Where the flag is raised, no further connection is taken, and each that was is over once all that
-/// was read of it is answered. A log, if there is one, is told of each connection.
 pub fn serve_at_once<
     R: Threads + Wait + Clock + Sync,
     L: Listener + Send + Drop,
@@ -196,28 +208,15 @@ pub fn serve_at_once<
     listener: L,
     desk: Desk,
     handler: H,
-    clients: u32,
-    sessions: u32,
-    waiting: Waiting<'_>,
-    log: Option<&ServerLog>,
+    plan: Plan<'_>,
 ) -> (Desk, H, Result<(), ServeFault>)
     requires ready { H.ready handler }
-    ensures { IsServingFrom H.answers (λ s. s ≡ (desk, handler)) (result.0, result.1) sessions
-        (is_some waiting.entry.stop) result.2 }
+    ensures { (s : IsServingFrom H.answers (λ s. s ≡ (desk, handler)) (result.0, result.1)
+        plan.entry.sessions (is_some plan.entry.stop) result.2)
+        × AreOf L.opens L.fails listener s.opened }
 {
     let Ok(new_history) = NewHistory::new(alloc) else {
         return (desk, handler, Err(NO_MEMORY));
     };
-    serve_named::<R, L, H, Brand>(
-        rt,
-        alloc,
-        new_history,
-        listener,
-        desk,
-        handler,
-        clients,
-        sessions,
-        waiting,
-        log,
-    )
+    serve_named::<R, L, H, Brand>(rt, alloc, new_history, listener, desk, handler, plan)
 }

@@ -1,16 +1,27 @@
 //! Where the threads of a server take connections.
 
-ghost use Rattle.std.specs.Prelude.{◌≡◌, ◌<◌, ◌+◌, ◌^◌, [], IfSome};
+ghost use Rattle.std.specs.Prelude.{◌≡◌, [], IfSome};
+ghost use Rattle.job_server.specs.Listening.{AreOfFirst};
 
 use crate::listener::Listener;
 use crate::stop_flag::{StopFlag, is_stopped};
 use shared_desk::{ClientSeat, HistoryId, Opener, SharedHistory};
+use std::marker::{Brand, Model};
 use std::net::TcpStream;
 
+/// Names a server by the listener that it begins with. Each call of a program picks it.
+pub(crate) trait FirstListener<L> {
+    ghost is_first: { L → Type 0 };
+}
+
+impl<L> FirstListener<L> for Brand {
+    ghost is_first = { λ _. Unit {0} };
+}
+
 /// A listener of which so many connections are still to be taken, and who opens them in the history.
-/// It lies under a lock.
+/// It lies under a lock. Contracts see it as how many it has opened.
 #[derive(Drop)]
-pub(crate) struct Entrance<'a, L: Listener, J: HistoryId> {
+pub(crate) struct Entrance<'a, L: Listener, J: HistoryId + FirstListener<L>> {
     listener: L,
     opener: Opener<J>,
     stop: Option<&'a StopFlag>,
@@ -18,11 +29,21 @@ pub(crate) struct Entrance<'a, L: Listener, J: HistoryId> {
     opened: u32,
     failed: u32,
     stopped: bool,
-    ghost few: { opened + left + failed < 2 ^ 32 },
-    ghost numbered: { opened ≡ opener },
 }
 
-impl<'a, L: Listener + Drop, J: HistoryId> Entrance<'a, L, J> {
+impl<'a, L: Listener, J: HistoryId + FirstListener<L>> Model for Entrance<'a, L, J> {
+    ghost use Rattle.std.specs.Prelude.{◌≡◌, ◌<◌, ◌+◌, ◌^◌, ℕ};
+    ghost use Rattle.job_server.specs.Listening.{HasGivenSince};
+
+    ghost Value = { ℕ };
+
+    ghost view = { λ e. e.opened };
+
+    ghost invariant = { λ e. (e.opened + e.left + e.failed < 2 ^ 32) × (e.opened ≡ e.opener)
+        × HasGivenSince L.opens L.fails J.is_first e.opened e.listener };
+}
+
+impl<'a, L: Listener + Drop, J: HistoryId + FirstListener<L>> Entrance<'a, L, J> {
     /// Nothing was taken yet. Where the flag is raised, nothing more is taken.
     pub fn new(
         listener: L,
@@ -30,7 +51,9 @@ impl<'a, L: Listener + Drop, J: HistoryId> Entrance<'a, L, J> {
         stop: Option<&'a StopFlag>,
         sessions: u32,
     ) -> Entrance<'a, L, J>
-        requires { opener ≡ 0 }
+        requires none { opener ≡ 0 }
+        requires listener { J.is_first listener }
+        ensures { result ≡ 0 }
     {
         Entrance {
             listener,
@@ -44,8 +67,8 @@ impl<'a, L: Listener + Drop, J: HistoryId> Entrance<'a, L, J> {
     }
 
     /// Takes the next connection, with its seat, whether it may grant, and its number, from 1 on;
-    /// `None` once all were taken, or the flag is raised. One that can't be taken counts, and the next one is taken. One
-    /// that comes while the flag is raised is dropped: it only wakes who waits here.
+    /// `None` once all were taken, or the flag is raised. One that can't be taken counts, and the next
+    /// one is taken. One that comes while the flag is raised is dropped: it only wakes the server.
     pub fn next(
         &mut self,
         history: &SharedHistory<J>,
@@ -77,7 +100,8 @@ impl<'a, L: Listener + Drop, J: HistoryId> Entrance<'a, L, J> {
     /// How many were taken, how many could not be taken, whether it was for the flag that no more
     /// were, and who opened them.
     pub fn into_parts(self) -> (u32, u32, bool, Opener<J>)
-        ensures { result.0 ≡ result.3 }
+        ensures opened { (result.0 ≡ self) × (result.0 ≡ result.3) }
+        ensures given { AreOfFirst L.opens L.fails J.is_first self }
     {
         let Entrance {
             opener,

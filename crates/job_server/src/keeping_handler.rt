@@ -1,6 +1,6 @@
 //! A desk that keeps the reports of its last jobs alone.
 
-ghost use Rattle.job_server.specs.Bounded.{KeepsLast};
+ghost use Rattle.job_server.specs.Kept.{KeepsLast};
 
 use accounts::Desk;
 use refusal::NoMemory;
@@ -37,7 +37,7 @@ fn keep_last(desk: &mut Desk, keep: u32)
 }
 
 impl<N: Runner> Handler<Desk> for KeepingHandler<N> {
-    ghost use Rattle.job_server.specs.Bounded.{answers_keeping};
+    ghost use Rattle.job_server.specs.Kept.{answers_keeping};
 
     ghost ready = { λ h. N.ready h.runner };
 

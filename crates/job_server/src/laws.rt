@@ -4,10 +4,10 @@ ghost use Rattle.std.specs.Prelude.{◌≡◌, ◌+◌, ◌<◌, ◌-◌, ◌^�
 ghost use Rattle.sessions.specs.Replies.{submit_data};
 ghost use Rattle.streams.specs.Answering.{refused};
 ghost use Rattle.shared_desk.specs.Histories.{Entry};
-ghost use Rattle.bpfjobs_cli.specs.declared.commands.Bounds.{Bounds};
+ghost use Rattle.job_server.specs.declared.bounds.Bounds.{Bounds};
 ghost use Rattle.job_server.specs.declared.fault.ServeFault.{ServeFault};
-ghost use Rattle.job_server.specs.AtOnce.{IsServingClients};
-ghost use Rattle.job_server.specs.EndToEnd.{AsksForJob, AsksForResult, ComesFromSubmit, IsHostHistory, IsResultFrame, IsToldRefusal, IsToldResult, StaysTold, Tells};
+ghost use Rattle.job_server.specs.AtOnce.{IsServing};
+ghost use Rattle.job_server.specs.EndToEnd.{AsksForJob, AsksForResult, ComesFromSubmit, IsHostHistory, IsResultFrame, IsToldRefusal, IsToldResult, StaysTold, HasReply};
 ghost use Rattle.job_server.specs.Payloads.{ComesFromPayload};
 
 /// A request for a result is told the result of its number. The frame of a result tells the report
@@ -23,7 +23,7 @@ pub fn results_come_from_submits()
         → IsResultFrame e.reply → ComesFromSubmit before number e }
     ensures refused { (bounds : Bounds) (before after : List Entry) (e : Entry) (number code : ℕ)
         → IsHostHistory bounds (before ++ e ∷ after) → AsksForResult number e.query
-        → Tells e (refused code) → code < 2 ^ 64 → IsToldRefusal bounds.keep before number code }
+        → HasReply e (refused code) → code < 2 ^ 64 → IsToldRefusal bounds.keep before number code }
     ensures adds_up { (before : List Entry) (number : ℕ) (e : Entry)
         (r : ComesFromSubmit before number e)
         → r.report.spent + r.report.returned ≡ r.is_submit.credit }
@@ -37,8 +37,8 @@ pub fn numbers_rise()
     ensures { (bounds : Bounds) (before between after : List Entry) (e f : Entry) (m n : ℕ)
         → IsHostHistory bounds (before ++ e ∷ (between ++ f ∷ after))
         → length (before ++ e ∷ between) < 2 ^ 64 - 1
-        → AsksForJob e.query → Tells e (submit_data m) → m < 2 ^ 64
-        → AsksForJob f.query → Tells f (submit_data n) → n < 2 ^ 64 → m < n }
+        → AsksForJob e.query → HasReply e (submit_data m) → m < 2 ^ 64
+        → AsksForJob f.query → HasReply f (submit_data n) → n < 2 ^ 64 → m < n }
 {}
 
 /// From payload to payload, at a server of many connections: a result comes from a submit, and the
@@ -46,7 +46,7 @@ pub fn numbers_rise()
 pub fn payloads_lead_to_payloads()
     ensures { (bounds : Bounds) (sessions : ℕ) (may_stop : Bool)
         (outcome : Result (Unit {0}) ServeFault)
-        (s : IsServingClients bounds sessions may_stop outcome)
+        (s : IsServing bounds sessions may_stop outcome)
         (before after : List Entry) (e : Entry) (number : ℕ)
         → s.serving.history ≡ before ++ e ∷ after → AsksForResult number e.query
         → IsResultFrame e.reply → ComesFromPayload s.serving.closed before number e }

@@ -1,26 +1,21 @@
 //! What connections come from.
 
 ghost use Rattle.std.specs.Prelude.{◌≡◌, OnOk, OnErr};
-ghost use Rattle.job_server.specs.Passages.{passage_of};
 
 use std::net::{OpenListener, TcpStream};
-use streams::{Failed, Tap};
+use streams::Failed;
 
-/// Gives connections, one after the other, and is told what went through each.
+/// Gives connections, one after the other.
 pub trait Listener {
     ghost use Rattle.std.specs.Prelude.{Bool};
-    ghost use Rattle.job_server.specs.Visits.{Passage};
 
     // Whether the connection that was taken last may grant.
     ghost grants: { Self → Bool };
 
-    // What a call may do, from a listener to the next: a connection came; none could be taken; what
-    // went through one is noted.
+    // The steps of a call, from a listener to the next: a connection came; none could be taken.
     ghost opens: { Self → Self → Type 0 };
 
     ghost fails: { Self → Self → Type 0 };
-
-    ghost notes: { Self → Passage → Self → Type 0 };
 
     /// Takes the next connection.
     fn accept(&mut self) -> Result<TcpStream, Failed>
@@ -30,10 +25,6 @@ pub trait Listener {
     /// Whether the connection that was taken last may grant.
     fn may_grant(&self) -> bool
         ensures { result ≡ grants self.now };
-
-    /// Is told of a connection that is over, by its two ends.
-    fn note(&mut self, reader: &Tap<&TcpStream>, writer: &Tap<&TcpStream>)
-        ensures { notes self.old (passage_of reader.now writer.now) self.new };
 }
 
 /// A listener of std, of whose connections nothing is known.
@@ -45,8 +36,6 @@ impl<'a, L: OpenListener<Stream = TcpStream>> Listener for &'a L {
     ghost opens = { λ _ _. Unit {0} };
 
     ghost fails = { λ _ _. Unit {0} };
-
-    ghost notes = { λ _ _ _. Unit {0} };
 
     fn accept(&mut self) -> Result<TcpStream, Failed> {
         match OpenListener::accept(*self) {
@@ -62,6 +51,4 @@ impl<'a, L: OpenListener<Stream = TcpStream>> Listener for &'a L {
     fn may_grant(&self) -> bool {
         true
     }
-
-    fn note(&mut self, _reader: &Tap<&TcpStream>, _writer: &Tap<&TcpStream>) {}
 }

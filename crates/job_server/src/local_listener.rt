@@ -16,7 +16,7 @@ use std::os::fd::OwnedFd;
 use std::os::unix::fs::FileTypeExt;
 use std::os::unix::net::{UnixListener, UnixStream};
 use std::{fs, io};
-use streams::{Failed, Tap};
+use streams::Failed;
 
 // The connection of a Unix socket as one of TCP, whose reads and writes are the same calls.
 fn as_tcp(stream: UnixStream) -> TcpStream {
@@ -69,8 +69,6 @@ impl Listener for LocalListener {
 
     ghost fails = { λ _ _. Unit {0} };
 
-    ghost notes = { λ _ _ _. Unit {0} };
-
     fn accept(&mut self) -> Result<TcpStream, Failed> {
         match self.listener.accept() {
             Ok((stream, _)) => Ok(as_tcp(stream)),
@@ -81,8 +79,6 @@ impl Listener for LocalListener {
     fn may_grant(&self) -> bool {
         true
     }
-
-    fn note(&mut self, _reader: &Tap<&TcpStream>, _writer: &Tap<&TcpStream>) {}
 }
 
 /// Two sockets: the connections of the second one alone may grant.
@@ -147,8 +143,6 @@ impl Listener for GrantsListener {
 
     ghost fails = { λ _ _. Unit {0} };
 
-    ghost notes = { λ _ _ _. Unit {0} };
-
     fn accept(&mut self) -> Result<TcpStream, Failed> {
         for _ in 0..u64::MAX {
             if let Some(stream) = waiting_at(&self.grants)? {
@@ -169,6 +163,4 @@ impl Listener for GrantsListener {
     fn may_grant(&self) -> bool {
         self.by_grants
     }
-
-    fn note(&mut self, _reader: &Tap<&TcpStream>, _writer: &Tap<&TcpStream>) {}
 }

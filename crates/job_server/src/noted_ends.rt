@@ -1,8 +1,8 @@
 //! The two ends of a connection, which note how its stream goes and ends.
 
 use crate::frame_place::FramePlace;
-use crate::log_line::Ending;
 use crate::stop_flag::{StopFlag, is_stopped};
+use server_log::ConnectionEnd;
 use std::io;
 use std::io::{ErrorKind, Read, Write};
 
@@ -15,7 +15,7 @@ pub(crate) struct NotedReader<'a, T> {
     notes: bool,
     place: FramePlace,
     requests: u64,
-    ending: Option<Ending>,
+    ending: Option<ConnectionEnd>,
 }
 
 impl<'a, T> NotedReader<'a, T> {
@@ -46,9 +46,9 @@ impl<'a, T> NotedReader<'a, T> {
     {
         if piece.is_empty() {
             self.ending = Some(if is_stopped(self.stop) {
-                Ending::Stopped
+                ConnectionEnd::Stopped
             } else {
-                Ending::Input
+                ConnectionEnd::Input
             });
             return;
         }
@@ -59,7 +59,7 @@ impl<'a, T> NotedReader<'a, T> {
         self.place = frames.place;
         self.requests = self.requests.saturating_add(frames.whole);
         if frames.too_large {
-            self.ending = Some(Ending::TooLarge);
+            self.ending = Some(ConnectionEnd::TooLarge);
         }
     }
 }
@@ -74,9 +74,9 @@ impl<T: Read> Read for NotedReader<'_, T> {
                 Ok(count) => self.note(&piece[..*count]),
                 Err(error) => {
                     self.ending = Some(if error.kind() == ErrorKind::TimedOut {
-                        Ending::ReadTimeout
+                        ConnectionEnd::ReadTimeout
                     } else {
-                        Ending::ReadCut
+                        ConnectionEnd::ReadCut
                     });
                 }
             }
@@ -89,7 +89,7 @@ impl<T: Read> Read for NotedReader<'_, T> {
 #[derive(Drop)]
 pub(crate) struct NotedWriter<W> {
     writer: W,
-    ending: Option<Ending>,
+    ending: Option<ConnectionEnd>,
 }
 
 impl<W> NotedWriter<W> {
@@ -112,14 +112,14 @@ impl<W: Write> Write for NotedWriter<W> {
     fn write(&mut self, piece: &[u8]) -> io::Result<usize> {
         let written = self.writer.write(piece);
         match &written {
-            Ok(0) => self.ending = Some(Ending::WriteCut),
+            Ok(0) => self.ending = Some(ConnectionEnd::WriteCut),
             Ok(_) => {}
             Err(error) => {
                 let waited = matches!(error.kind(), ErrorKind::WouldBlock | ErrorKind::TimedOut);
                 self.ending = Some(if waited {
-                    Ending::WriteTimeout
+                    ConnectionEnd::WriteTimeout
                 } else {
-                    Ending::WriteCut
+                    ConnectionEnd::WriteCut
                 });
             }
         }
@@ -132,10 +132,13 @@ impl<W: Write> Write for NotedWriter<W> {
 }
 
 /// How a connection ended, by its two ends. Where neither tells, there was no memory.
-pub(crate) fn ending_of<T, W>(reader: &NotedReader<'_, T>, writer: &NotedWriter<W>) -> Ending {
+pub(crate) fn ending_of<T, W>(
+    reader: &NotedReader<'_, T>,
+    writer: &NotedWriter<W>,
+) -> ConnectionEnd {
     match (writer.ending, reader.ending) {
         (Some(ending), _) => ending,
         (None, Some(ending)) => ending,
-        (None, None) => Ending::NoMemory,
+        (None, None) => ConnectionEnd::NoMemory,
     }
 }

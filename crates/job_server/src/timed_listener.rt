@@ -3,7 +3,7 @@
 use crate::listener::Listener;
 use std::net::TcpStream;
 use std::time::Duration;
-use streams::{Failed, Tap};
+use streams::Failed;
 
 /// A listener whose connections give up a read or a write that takes so many seconds; 0: none does.
 #[derive(Drop)]
@@ -30,8 +30,6 @@ impl<L: Listener> Listener for TimedListener<L> {
 
     ghost fails = { λ l m. L.fails l.listener m.listener };
 
-    ghost notes = { λ l passage m. L.notes l.listener passage m.listener };
-
     fn accept(&mut self) -> Result<TcpStream, Failed> {
         let stream = self.listener.accept()?;
         if self.seconds > 0 {
@@ -44,9 +42,5 @@ impl<L: Listener> Listener for TimedListener<L> {
 
     fn may_grant(&self) -> bool {
         self.listener.may_grant()
-    }
-
-    fn note(&mut self, reader: &Tap<&TcpStream>, writer: &Tap<&TcpStream>) {
-        self.listener.note(reader, writer);
     }
 }

@@ -3,7 +3,7 @@
 
 use crate::failing_ends::{ALWAYS, Dripping, Filling};
 use crate::stop::{ScenarioFault, holds};
-use bpfjobs_cli::Command;
+use bpfjobs_cli::{Command, perform};
 use std::alloc::Global;
 use std::sync::Wait;
 use std::thread::Threads;
@@ -77,13 +77,16 @@ fn writer(alloc: Global, step: usize, calls: u64) -> Filling {
 }
 
 /// What verdicts come to.
-pub fn verdicts(alloc: Global) -> Result<Vec<u64>, ScenarioFault> {
+pub fn verdicts<R: Threads + Wait + Sync>(
+    rt: &R,
+    alloc: Global,
+) -> Result<Vec<u64>, ScenarioFault> {
     let mut numbers = Vec::new(alloc);
     for (reads, writes) in VERDICTS {
         let mut reader = Tap::new(reader(PROGRAM, 10, reads));
         let mut writer = Tap::new(writer(alloc, 5, writes));
         let command = Command::Verify { need: 0 };
-        let answer = bpfjobs_cli::perform(alloc, command, &mut reader, &mut writer);
+        let answer = perform(rt, alloc, command, &mut reader, &mut writer);
         tell(&mut numbers, answer, &writer.into_inner().bytes, VERDICT)?;
     }
     Ok(numbers)
@@ -96,7 +99,7 @@ pub fn jobs<R: Threads + Wait + Sync>(rt: &R, alloc: Global) -> Result<Vec<u64>,
         let mut reader = Tap::new(reader(JOB, 20, reads));
         let mut writer = Tap::new(writer(alloc, 50, writes));
         let command = Command::Run { workers: 1 };
-        let answer = job_server::perform(rt, alloc, command, &mut reader, &mut writer);
+        let answer = perform(rt, alloc, command, &mut reader, &mut writer);
         tell(&mut numbers, answer, &writer.into_inner().bytes, RESULT)?;
     }
     Ok(numbers)

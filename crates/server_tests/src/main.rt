@@ -91,7 +91,7 @@ where
         "object" => wording::object(alloc),
         "texts" => hearing::written(alloc),
         "taps" => failing_ends::handed_on(alloc),
-        "verdicts" => commands::verdicts(alloc),
+        "verdicts" => commands::verdicts(&rt, alloc),
         "jobs" => commands::jobs(&rt, alloc),
         "chosen" => runners::replies(alloc),
         "passed" => runners::passed_on(alloc),

@@ -5,7 +5,7 @@ use crate::stop::{ScenarioFault, holds};
 use crate::tree::{CREDIT, job, told as told_of};
 use credit_book::{Board, Report};
 use job_core::Job;
-use job_server::{JobRequest, JobThread, PoolRunner, start_thread};
+use job_pools::{JobRequest, JobThread, PoolRunner, start_thread};
 use std::alloc::Global;
 use std::sync::Wait;
 use std::thread::Threads;

@@ -11,4 +11,4 @@ returns-in-Ok-play c =
     IfOk-weaker c.answer_world.result _ _ (λ a tells. played c.in-Ok.order.0 c.in-Ok.order.1.items c.in-Ok-play.world c.in-Ok.ensures.ok plays (tells plays.last plays.behind)) c.answer_world.ensures
 
 pub returns : goal.returns
-returns c = IfOk-weaker c.out_of_memory.result _ _ (λ a p. no_memory c.in-Ok.order.0 c.in-Ok.order.1.items c.in-Ok.ensures.ok p) c.out_of_memory.ensures
+returns c = IfOk-weaker c.answer_failure.result _ _ (λ a p. no_memory c.in-Ok.order.0 c.in-Ok.order.1.items c.in-Ok.ensures.ok p) c.answer_failure.ensures

@@ -8,5 +8,4 @@ returns c = record {
   traces = c.flag.ensures;
   trace_json = first_is (λ s. s.now) (found_of c.args.matches.now) (codes "trace-json") c.get_str.result c.get_str.ensures;
   tree = first_is (λ s. s.now) (found_of c.args.matches.now) (codes "tree") c.get_str-2.result c.get_str-2.ensures;
-  logs = c.flag-2.ensures;
 }

@@ -1,7 +1,7 @@
 use Rattle.std.proofs.Common.{◌∙◌, codes, refl, sym}
 use Rattle.clap.specs.Words.{found_of}
 use Rattle.bpfjobs_cli.proofs.NumberLemmas.{never_none}
-use Rattle.bpfrun_core.proofs.RequestLemmas.{first_is, first_some}
+use Rattle.bpfjobs_cli.proofs.FlagLemmas.{first_is, first_some}
 use Rattle.bpfrun_core.proofs.words.file.Goals as goal
 
 pub unreachable-requires : goal.unreachable-requires

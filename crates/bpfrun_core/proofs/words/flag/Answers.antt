@@ -1,6 +1,6 @@
 use Rattle.std.proofs.Common.{codes}
 use Rattle.clap.specs.Words.{found_of}
-use Rattle.bpfrun_core.proofs.RequestLemmas.{first_is, first_some, flag_none, flag_some}
+use Rattle.bpfjobs_cli.proofs.FlagLemmas.{first_is, first_some, flag_none, flag_some}
 use Rattle.bpfrun_core.proofs.words.flag.Goals as goal
 
 pub returns-in-Some : goal.returns-in-Some

@@ -2,7 +2,7 @@ use Rattle.std.proofs.Common.{rules, ◌≡◌, ℕ, codes, subst}
 use Rattle.clap.specs.Words.{found_of, rows_of}
 use Rattle.machine_model.specs.Limits.{max_credit}
 use Rattle.bpfjobs_cli.specs.Commands.{IsNumberIn}
-use Rattle.bpfrun_core.proofs.RequestLemmas.{first_is}
+use Rattle.bpfjobs_cli.proofs.FlagLemmas.{first_is}
 use Rattle.bpfrun_core.proofs.words.request_of.Goals as goal
 
 pub returns-clause-parts : goal.returns-clause-parts

@@ -8,3 +8,7 @@ ghosts-serve_named-J-HistoryId g a = record { table = a.new_history }
 -- it begins with this desk and this handler
 abbrev pub ghosts-serve_named-J-Origin : goal.ghosts-serve_named-J-Origin
 ghosts-serve_named-J-Origin g a = record { begins = λ s. s ≡ (a.desk, a.handler) }
+
+-- it begins with this listener
+abbrev pub ghosts-serve_named-J-FirstListener : goal.ghosts-serve_named-J-FirstListener
+ghosts-serve_named-J-FirstListener g a = record { is_first = λ l. l ≡ a.listener }

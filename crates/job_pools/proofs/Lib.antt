@@ -1,0 +1,3 @@
+pub mod Keeping
+pub mod JobSteps
+pub mod Pooled

@@ -1,0 +1,40 @@
+//! Pools of threads that run a server's jobs: one thread a job, or workers that last.
+#![tactic(auto)]
+
+// one job: ahead of its thread, in it, and after it
+mod ending;
+mod job_request;
+mod running;
+mod starting;
+
+pub use ending::{EndOf, JobThread};
+pub use job_request::JobRequest;
+pub use starting::start_thread;
+
+// a thread for each job
+mod keys;
+mod places;
+mod pool;
+
+pub use pool::PoolRunner;
+
+// a pool that lasts: which job was started under a number, its queues, and its workers
+mod job_register;
+mod job_seats;
+mod lasting_pool;
+mod pool_threads;
+mod queued_job;
+mod queues;
+mod watched;
+
+pub use job_register::{JobRegister, JobSeat, Keeper, NewRegister};
+pub use job_seats::{JobView, RegisterId, StartedJob};
+pub use lasting_pool::LastingPool;
+pub use pool_threads::start_workers;
+pub use queued_job::{EndedJob, QueuedJob};
+pub use queues::{Inlet, KnowsItself, OfJob, Outlet, Traffic, queue_to_many, queue_to_one};
+
+// a bound on the jobs that are held
+mod limited_runner;
+
+pub use limited_runner::{CountedRunner, LimitedRunner};

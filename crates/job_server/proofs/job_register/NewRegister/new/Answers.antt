@@ -1,5 +1,0 @@
-use Rattle.job_server.proofs.JobSteps.{begins}
-use Rattle.job_server.proofs.job_register.NewRegister.new.Goals as goal
-
-pub of_words-requires : goal.of_words-requires
-of_words-requires c = begins

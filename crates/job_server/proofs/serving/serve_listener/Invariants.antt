@@ -1,0 +1,5 @@
+use Rattle.job_server.proofs.serving_clients.serve_listener.Given as goal
+
+-- the register is the new one
+abbrev pub ghosts-serve_registered : goal.ghosts-serve_registered
+ghosts-serve_registered g a = record { table = a.new_register }

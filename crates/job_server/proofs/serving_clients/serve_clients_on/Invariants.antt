@@ -1,5 +1,0 @@
-use Rattle.job_server.proofs.serving_clients.serve_clients_on.Given as goal
-
--- the register is the new one
-abbrev pub ghosts-serve_registered : goal.ghosts-serve_registered
-ghosts-serve_registered g a = record { table = a.new_register }

@@ -1,0 +1,15 @@
+//! The bounds that a host sets for its server.
+
+/// What a host bounds of its server.
+#[derive(Clone, Copy, Debug, PartialEq, Eq)]
+pub struct Bounds {
+    /// Connections at once, 1 to 64.
+    pub clients: u32,
+    /// Seconds, 1 to 3600, after which a client is given up that keeps a read or a write waiting, or
+    /// a frame. 0: none is.
+    pub timeout: u32,
+    /// Jobs, 1 to 1,000,000, that may be open at once. 0: any number.
+    pub open_jobs: u32,
+    /// Jobs, 1 to 1,000,000, of which the last ones' reports are kept. 0: all are.
+    pub keep: u32,
+}

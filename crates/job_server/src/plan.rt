@@ -1,0 +1,22 @@
+//! A server's plan: its workers and connections, its host's bounds, its flag and its log.
+
+use crate::bounds::Bounds;
+use crate::stop_flag::StopFlag;
+use server_log::ServerLog;
+
+/// A server's plan.
+#[derive(Clone, Copy)]
+pub struct Plan<'a> {
+    /// Workers, 1 to 16, which last. A job of more than 1,000,000 credit runs on as many threads of
+    /// its own.
+    pub workers: u32,
+    /// Connections in all. One that can't be taken counts.
+    pub sessions: u32,
+    /// What its host bounds.
+    pub bounds: Bounds,
+    /// No further connection is taken once this is raised. Each that was taken is over once all that
+    /// was read of it is answered.
+    pub stop: Option<&'a StopFlag>,
+    /// The log that is told of each connection and each job. Nothing waits for it.
+    pub log: Option<&'a ServerLog>,
+}

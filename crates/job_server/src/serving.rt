@@ -1,0 +1,203 @@
+//! A server, whose jobs a pool runs that lasts.
+
+ghost use Rattle.std.specs.Prelude.{◌≡◌, ◌≤◌, ◌⊎◌, [], Err, is_some};
+ghost use Rattle.job_server.specs.AtOnce.{IsServing};
+ghost use Rattle.job_server.specs.Listening.{AreOf};
+ghost use Rattle.job_server.specs.declared.fault.ServeFault.TheVariants as fault;
+ghost use Rattle.streams.specs.declared.fault.StreamFault.TheVariants as stream;
+
+use crate::address::address_of;
+use crate::at_once::{NO_MEMORY, serve_at_once};
+use crate::fault::ServeFault;
+use crate::keeping_handler::KeepingHandler;
+use crate::listener::Listener;
+use crate::plan::Plan;
+use crate::timed_listener::TimedListener;
+use crate::timed_reader::Waiting;
+use accounts::Desk;
+use job_pools::{
+    EndedJob, Inlet, JobRegister, Keeper, LastingPool, LimitedRunner, NewRegister, Outlet,
+    QueuedJob, RegisterId, queue_to_many, queue_to_one, start_workers,
+};
+use server_log::LoggedHandler;
+use std::alloc::Global;
+use std::marker::Brand;
+use std::net::{Net, TcpListener, TcpStream};
+use std::sync::Wait;
+use std::thread;
+use std::thread::{Scope, Threads};
+use std::time::Clock;
+
+// The ends of a pool's queues, all but the log's: those that the pool holds, and those of its
+// workers.
+#[derive(Drop)]
+struct Queues<J: RegisterId> {
+    queue: Inlet<QueuedJob<J>>,
+    ended: Outlet<EndedJob<J>>,
+    jobs: Vec<Outlet<QueuedJob<J>>>,
+    endings: Inlet<EndedJob<J>>,
+}
+
+// Starts the workers, and serves the connections with a pool of them.
+fn serve_on_pool<
+    's,
+    E: 's,
+    R: Threads + Wait + Clock + Sync,
+    L: Listener + Send + Drop,
+    J: RegisterId + Send + Sync + 's,
+>(
+    rt: &'s R,
+    scope: &Scope<'s, E>,
+    alloc: Global,
+    register: &'s JobRegister<J>,
+    keeper: Keeper<J>,
+    queues: Queues<J>,
+    listener: L,
+    plan: Plan<'s>,
+) -> Result<(), ServeFault>
+    requires keeper { keeper ≡ [] }
+    requires workers { (1 ≤ plan.workers) × (plan.workers ≤ 16) }
+    ensures { (s : IsServing plan.entry.bounds plan.entry.sessions (is_some plan.entry.stop) result)
+        × AreOf L.opens L.fails listener s.serving.opened }
+{
+    let Queues {
+        queue,
+        ended,
+        jobs,
+        endings,
+    } = queues;
+    let started = start_workers(rt, scope, jobs, endings, plan.workers, plan.log);
+    let pool = LastingPool::new(rt, alloc, register, keeper, queue, ended, started > 0);
+    let bounds = plan.bounds;
+    let kept = KeepingHandler::new(LimitedRunner::new(pool, bounds.open_jobs), bounds.keep);
+    let handler = LoggedHandler::new(rt, plan.log, kept);
+    let desk = Desk::new(alloc);
+    // the pool goes at the end, and with it the workers' queue
+    let served = serve_at_once(rt, alloc, listener, desk, handler, plan);
+    served.2
+}
+
+// The same with the threads in a scope of their own.
+fn serve_in_scope<
+    R: Threads + Wait + Clock + Sync,
+    L: Listener + Send + Drop,
+    J: RegisterId + Send + Sync,
+>(
+    rt: &R,
+    alloc: Global,
+    register: &JobRegister<J>,
+    keeper: Keeper<J>,
+    queues: Queues<J>,
+    listener: L,
+    plan: Plan<'_>,
+) -> Result<(), ServeFault>
+    requires keeper { keeper ≡ [] }
+    requires workers { (1 ≤ plan.workers) × (plan.workers ≤ 16) }
+    ensures { (s : IsServing plan.entry.bounds plan.entry.sessions (is_some plan.entry.stop) result)
+        × AreOf L.opens L.fails listener s.serving.opened }
+{
+    let Plan {
+        workers,
+        sessions,
+        bounds,
+        stop,
+        log,
+    } = plan;
+    thread::scope(
+        thread::scope_env(),
+        rt,
+        |scope| -> Result<(), ServeFault>
+            requires { (1 ≤ workers) × (workers ≤ 16) × (keeper ≡ []) }
+            ensures { (s : IsServing bounds sessions (is_some stop.entry) result)
+                × AreOf L.opens L.fails listener s.serving.opened }
+        {
+            let plan = Plan {
+                workers,
+                sessions,
+                bounds,
+                stop,
+                log,
+            };
+            serve_on_pool(rt, scope, alloc, register, keeper, queues, listener, plan)
+        },
+    )
+}
+
+// `serve_listener` under a name for the register of jobs.
+fn serve_registered<
+    R: Threads + Wait + Clock + Sync,
+    L: Listener + Send + Drop,
+    J: RegisterId + Send + Sync,
+>(
+    rt: &R,
+    alloc: Global,
+    new_register: NewRegister,
+    listener: L,
+    plan: Plan<'_>,
+) -> Result<(), ServeFault>
+    requires named { new_register ≡ J.table }
+    requires workers { (1 ≤ plan.workers) × (plan.workers ≤ 16) }
+    ensures { ((s : IsServing plan.entry.bounds plan.entry.sessions (is_some plan.entry.stop) result)
+        × AreOf L.opens L.fails listener s.serving.opened)
+        ⊎ (result ≡ Err (fault.Connection stream.NoMemory)) }
+{
+    let (register, keeper) = new_register.named::<J>();
+    let Ok((queue, jobs)) = queue_to_many::<QueuedJob<J>>(alloc, plan.workers) else {
+        return Err(NO_MEMORY);
+    };
+    let Ok((endings, ended)) = queue_to_one::<EndedJob<J>>(alloc) else {
+        return Err(NO_MEMORY);
+    };
+    let queues = Queues {
+        queue,
+        ended,
+        jobs,
+        endings,
+    };
+    serve_in_scope(rt, alloc, &register, keeper, queues, listener, plan)
+}
+
+/// Serves so many connections of the listener as the plan says, in as many threads at once as its
+/// bounds say, on a new desk. Its jobs run on the plan's workers, which start once and last: a small
+/// job is run whole by one of them, a large one on as many threads. It returns once the last
+/// connection and the last job have ended, if they do.
+///
+/// While as many jobs are open as the bounds allow, a start is refused by 81. The reports of all but
+/// the last jobs are forgotten, as many as the bounds keep. A connection whose reads wait longer than
+/// they allow, between frames or within one, is given up by 83.
+///
+/// A connection that could not be taken, or that was given up by 83, 84 or 99, counts as served.
+/// Such a fault is answered at the end, as is 99 where there is no memory to begin with.
+pub fn serve_listener<R: Threads + Wait + Clock + Sync, L: Listener + Send + Drop>(
+    rt: &R,
+    alloc: Global,
+    listener: L,
+    plan: Plan<'_>,
+) -> Result<(), ServeFault>
+    requires { (1 ≤ plan.workers) × (plan.workers ≤ 16) }
+    ensures { ((s : IsServing plan.entry.bounds plan.entry.sessions (is_some plan.entry.stop) result)
+        × AreOf L.opens L.fails listener s.serving.opened)
+        ⊎ (result ≡ Err (fault.Connection stream.NoMemory)) }
+{
+    let Ok(new_register) = NewRegister::new(alloc) else {
+        return Err(NO_MEMORY);
+    };
+    serve_registered::<R, L, Brand>(rt, alloc, new_register, listener, plan)
+}
+
+/// Listens on this port of 127.0.0.1, and serves as [`serve_listener`] does. A write that takes as
+/// long as the bounds allow a read gives its connection up, by 84. It answers [`ServeFault::Socket`]
+/// where the port can't be listened on.
+pub fn serve_port<
+    R: Net<Stream = TcpStream, Listener = TcpListener> + Threads + Wait + Clock + Sync,
+>(rt: &R, alloc: Global, port: u16, plan: Plan<'_>) -> Result<(), ServeFault>
+    requires { (1 ≤ plan.workers) × (plan.workers ≤ 16) }
+    ensures { IsServing plan.entry.bounds plan.entry.sessions (is_some plan.entry.stop) result
+        ⊎ (result ≡ Err (fault.Connection stream.NoMemory)) ⊎ (result ≡ Err fault.Socket) }
+{
+    let Ok(listener) = TcpListener::bind(rt, address_of(port)) else {
+        return Err(ServeFault::Socket);
+    };
+    let timed = TimedListener::new(&listener, plan.bounds.timeout);
+    serve_listener(rt, alloc, timed, plan)
+}

@@ -1,0 +1,73 @@
+-- The lines of a server's log, as text.
+use Rattle.std.specs.Prelude.{ℕ, List, [], ◌++◌, codes, ◌==◌, if◌then◌else◌}
+use Rattle.std.specs.Fmt.{decimal}
+use Rattle.server_log.specs.declared.log_line.Door.{Door}
+use Rattle.server_log.specs.declared.log_line.Door.TheVariants.{Port, Socket, Grants}
+use Rattle.server_log.specs.declared.log_line.ConnectionEnd.{ConnectionEnd}
+use Rattle.server_log.specs.declared.log_line.ConnectionEnd.TheVariants.{Input, Stopped, TooLarge, ReadTimeout, ReadCut, WriteTimeout, WriteCut, NoMemory}
+use Rattle.server_log.specs.declared.log_line.LogEvent.{LogEvent}
+use Rattle.server_log.specs.declared.log_line.LogEvent.TheVariants.{Opened, Closed, Started, Ended, Failed, Refused}
+use Rattle.server_log.specs.declared.log_line.LogLine.{LogLine}
+
+abbrev pub door_text : Door → List ℕ
+door_text Port = codes "port"
+door_text Socket = codes "socket"
+door_text Grants = codes "grants"
+
+-- the number of the refusal, and 0 where there is none
+abbrev pub ending_code : ConnectionEnd → ℕ
+ending_code Input = 0
+ending_code Stopped = 0
+ending_code TooLarge = 71
+ending_code ReadTimeout = 83
+ending_code ReadCut = 83
+ending_code WriteTimeout = 84
+ending_code WriteCut = 84
+ending_code NoMemory = 99
+
+abbrev pub ending_text : ConnectionEnd → List ℕ
+ending_text Input = codes "input"
+ending_text Stopped = codes "stopped"
+ending_text TooLarge = codes "frame too large"
+ending_text ReadTimeout = codes "timeout"
+ending_text ReadCut = codes "cut"
+ending_text WriteTimeout = codes "timeout"
+ending_text WriteCut = codes "cut"
+ending_text NoMemory = codes "memory"
+
+-- what happened: a word of ours, and numbers
+abbrev pub event_text : LogEvent → List ℕ
+event_text (Opened connection by) =
+    codes "\"opened\",\"connection\":" ++ (decimal connection
+    ++ (codes ",\"socket\":\"" ++ (door_text by ++ codes "\"")))
+event_text (Closed connection requests end ms) =
+    codes "\"closed\",\"connection\":" ++ (decimal connection
+    ++ (codes ",\"requests\":" ++ (decimal requests
+    ++ (codes ",\"code\":" ++ (decimal (ending_code end)
+    ++ (codes ",\"end\":\"" ++ (ending_text end
+    ++ (codes "\",\"ms\":" ++ decimal ms))))))))
+event_text (Started job credit programs) =
+    codes "\"started\",\"job\":" ++ (decimal job
+    ++ (codes ",\"credit\":" ++ (decimal credit
+    ++ (codes ",\"programs\":" ++ decimal programs))))
+event_text (Ended job spent returned tasks buffer ms) =
+    codes "\"ended\",\"job\":" ++ (decimal job
+    ++ (codes ",\"spent\":" ++ (decimal spent
+    ++ (codes ",\"returned\":" ++ (decimal returned
+    ++ (codes ",\"tasks\":" ++ (decimal tasks
+    ++ (codes ",\"buffer\":" ++ (decimal buffer
+    ++ (codes ",\"ms\":" ++ decimal ms))))))))))
+event_text (Failed job code) =
+    codes "\"failed\",\"job\":" ++ (decimal job ++ (codes ",\"code\":" ++ decimal code))
+event_text (Refused code) = codes "\"refused\",\"code\":" ++ decimal code
+
+-- how many lines were lost, if any were
+abbrev pub lost_text : ℕ → List ℕ
+lost_text lost = if lost == 0 then [] else codes ",\"lost\":" ++ decimal lost
+
+-- a JSON object, and the line's end
+abbrev pub log_text : LogLine → List ℕ
+log_text line =
+    codes "{\"time\":" ++ (decimal line.time
+    ++ (codes ",\"event\":" ++ (event_text line.event
+    ++ (lost_text line.lost ++ codes "}\n"))))

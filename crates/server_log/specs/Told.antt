@@ -1,0 +1,11 @@
+-- What a log is told of a job's end.
+use Rattle.std.specs.Prelude.{ℕ, Result, Ok, Err, length}
+use Rattle.credit_book.specs.declared.book.Report.{Report}
+use Rattle.server_log.specs.declared.log_line.LogEvent.{LogEvent}
+use Rattle.server_log.specs.declared.log_line.LogEvent.TheVariants.{Ended, Failed}
+
+-- the numbers of its report, or that of its refusal
+abbrev pub event_of : ℕ → Result Report ℕ → ℕ → LogEvent
+event_of job (Ok report) ms =
+    Ended job report.spent report.returned (length report.tasks.items) (length report.buffer.items) ms
+event_of job (Err code) ms = Failed job code

@@ -1,0 +1,11 @@
+//! The log of a server: what its lines tell, and the queue from the server's threads to the log's
+//! writer.
+#![tactic(auto)]
+
+mod log_line;
+mod log_queue;
+mod logged_handler;
+
+pub use log_line::{ConnectionEnd, Door, LogEvent, LogLine};
+pub use log_queue::{LogLines, ServerLog, millis_since, open_log, write_lines};
+pub use logged_handler::LoggedHandler;

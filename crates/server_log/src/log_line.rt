@@ -1,0 +1,232 @@
+//! The lines of a server's log: numbers alone, and words of ours, as JSON.
+
+ghost use Rattle.std.specs.Prelude.{◌≡◌};
+
+use std::fmt;
+
+/// Which socket a connection came by.
+#[derive(Clone, Copy, Debug, PartialEq, Eq)]
+pub enum Door {
+    /// The port of 127.0.0.1.
+    Port,
+    /// The socket in the file system.
+    Socket,
+    /// The one for grants.
+    Grants,
+}
+
+impl fmt::Display for Door {
+    ghost use Rattle.std.specs.Prelude.{Some};
+    ghost use Rattle.server_log.specs.LogLines.{door_text};
+
+    ghost output = { λ door. Some (door_text door) };
+
+    fn fmt<W: fmt::Write>(&self, f: &mut fmt::Formatter<W>) -> fmt::Result {
+        match self {
+            Door::Port => write!(f, "port"),
+            Door::Socket => write!(f, "socket"),
+            Door::Grants => write!(f, "grants"),
+        }
+    }
+}
+
+/// How a connection ended.
+#[derive(Clone, Copy, Debug, PartialEq, Eq)]
+pub enum ConnectionEnd {
+    /// The client ended its stream.
+    Input,
+    /// The host stopped the server.
+    Stopped,
+    /// A frame was too large: 71.
+    TooLarge,
+    /// A read waited too long: 83.
+    ReadTimeout,
+    /// A read failed: 83.
+    ReadCut,
+    /// A write waited too long: 84.
+    WriteTimeout,
+    /// A write failed: 84.
+    WriteCut,
+    /// There was no memory: 99.
+    NoMemory,
+}
+
+impl ConnectionEnd {
+    ghost use Rattle.server_log.specs.LogLines.{ending_code};
+
+    /// The number of the refusal, and 0 where there is none.
+    pub fn code(self) -> u8
+        ensures { result ≡ ending_code self }
+    {
+        match self {
+            ConnectionEnd::Input => 0,
+            ConnectionEnd::Stopped => 0,
+            ConnectionEnd::TooLarge => 71,
+            ConnectionEnd::ReadTimeout => 83,
+            ConnectionEnd::ReadCut => 83,
+            ConnectionEnd::WriteTimeout => 84,
+            ConnectionEnd::WriteCut => 84,
+            ConnectionEnd::NoMemory => 99,
+        }
+    }
+}
+
+impl fmt::Display for ConnectionEnd {
+    ghost use Rattle.std.specs.Prelude.{Some};
+    ghost use Rattle.server_log.specs.LogLines.{ending_text};
+
+    ghost output = { λ ending. Some (ending_text ending) };
+
+    fn fmt<W: fmt::Write>(&self, f: &mut fmt::Formatter<W>) -> fmt::Result {
+        match self {
+            ConnectionEnd::Input => write!(f, "input"),
+            ConnectionEnd::Stopped => write!(f, "stopped"),
+            ConnectionEnd::TooLarge => write!(f, "frame too large"),
+            ConnectionEnd::ReadTimeout => write!(f, "timeout"),
+            ConnectionEnd::ReadCut => write!(f, "cut"),
+            ConnectionEnd::WriteTimeout => write!(f, "timeout"),
+            ConnectionEnd::WriteCut => write!(f, "cut"),
+            ConnectionEnd::NoMemory => write!(f, "memory"),
+        }
+    }
+}
+
+/// What happened. Connections and jobs have their numbers.
+#[derive(Clone, Copy, Debug, PartialEq, Eq)]
+pub enum LogEvent {
+    /// A connection was taken.
+    Opened {
+        connection: u32,
+        by: Door,
+    },
+    /// A connection is over, after so many requests and milliseconds.
+    Closed {
+        connection: u32,
+        requests: u64,
+        end: ConnectionEnd,
+        ms: u64,
+    },
+    /// A worker has taken a job, with its credit and so many programs.
+    Started {
+        job: u64,
+        credit: u32,
+        programs: u64,
+    },
+    /// A job was run: its credit, its tasks, the bytes of its buffer, and its milliseconds.
+    Ended {
+        job: u64,
+        spent: u32,
+        returned: u32,
+        tasks: u64,
+        buffer: u64,
+        ms: u64,
+    },
+    /// A job failed by this refusal.
+    Failed {
+        job: u64,
+        code: u8,
+    },
+    /// A job was refused before it had a number.
+    Refused {
+        code: u64,
+    },
+}
+
+impl fmt::Display for LogEvent {
+    ghost use Rattle.std.specs.Prelude.{Some};
+    ghost use Rattle.server_log.specs.LogLines.{event_text};
+
+    ghost output = { λ event. Some (event_text event) };
+
+    fn fmt<W: fmt::Write>(&self, f: &mut fmt::Formatter<W>) -> fmt::Result {
+        match *self {
+            LogEvent::Opened { connection, by } => {
+                write!(
+                    f,
+                    "\"opened\",\"connection\":{connection},\"socket\":\"{by}\""
+                )
+            }
+            LogEvent::Closed {
+                connection,
+                requests,
+                end,
+                ms,
+            } => {
+                let code = end.code();
+                write!(
+                    f,
+                    "\"closed\",\"connection\":{connection},\"requests\":{requests},\"code\":{code},\"end\":\"{end}\",\"ms\":{ms}"
+                )
+            }
+            LogEvent::Started {
+                job,
+                credit,
+                programs,
+            } => {
+                write!(
+                    f,
+                    "\"started\",\"job\":{job},\"credit\":{credit},\"programs\":{programs}"
+                )
+            }
+            LogEvent::Ended {
+                job,
+                spent,
+                returned,
+                tasks,
+                buffer,
+                ms,
+            } => {
+                write!(
+                    f,
+                    "\"ended\",\"job\":{job},\"spent\":{spent},\"returned\":{returned},\"tasks\":{tasks},\"buffer\":{buffer},\"ms\":{ms}"
+                )
+            }
+            LogEvent::Failed { job, code } => write!(f, "\"failed\",\"job\":{job},\"code\":{code}"),
+            LogEvent::Refused { code } => write!(f, "\"refused\",\"code\":{code}"),
+        }
+    }
+}
+
+// How many lines were lost ahead of one, if any were.
+#[derive(Clone, Copy)]
+struct Lost(u64);
+
+impl fmt::Display for Lost {
+    ghost use Rattle.std.specs.Prelude.{Some};
+    ghost use Rattle.server_log.specs.LogLines.{lost_text};
+
+    ghost output = { λ lost. Some (lost_text lost.0) };
+
+    fn fmt<W: fmt::Write>(&self, f: &mut fmt::Formatter<W>) -> fmt::Result {
+        if self.0 == 0 {
+            Ok(())
+        } else {
+            write!(f, ",\"lost\":{}", self.0)
+        }
+    }
+}
+
+/// A line: when it happened, in milliseconds since 1970, what happened, and how many lines ahead of it
+/// were lost.
+#[derive(Clone, Copy, Debug, PartialEq, Eq)]
+pub struct LogLine {
+    pub time: u64,
+    pub event: LogEvent,
+    pub lost: u64,
+}
+
+impl fmt::Display for LogLine {
+    ghost use Rattle.std.specs.Prelude.{Some};
+    ghost use Rattle.server_log.specs.LogLines.{log_text};
+
+    ghost output = { λ line. Some (log_text line) };
+
+    fn fmt<W: fmt::Write>(&self, f: &mut fmt::Formatter<W>) -> fmt::Result {
+        let lost = Lost(self.lost);
+        write!(
+            f,
+            "{{\"time\":{},\"event\":{}{lost}}}\n",
+            self.time, self.event
+        )
+    }
+}
