@@ -17,6 +17,7 @@ from rows import fields
 
 FOLDER = Path(programs.TOP) / "examples/clang"
 EXAMPLES = FOLDER.parent
+TUTORIAL = EXAMPLES / "tutorial"
 PAGE = Path(programs.TOP) / "docs/compiling.md"
 LEVELS = ("-O1", "-O2", "-O3")
 PROCESSORS = ("-mcpu=v1", "-mcpu=v2", "-mcpu=v3")
@@ -163,6 +164,16 @@ class Anew(unittest.TestCase):
             left, wanted = bytearray(memory), bytearray(memory)
             self.assertEqual(machine.execute(left, argument=argument).r0, kept.execute(wanted, argument=argument).r0)
             self.assertEqual(left, wanted)
+
+
+@unittest.skipUnless(FOUND == VERSION, f"the tutorial's bytes are what clang {VERSION} makes")
+class Tutorial(unittest.TestCase):
+    def test_the_bytes_are_made_anew(self):
+        sources = sorted(TUTORIAL.glob("*.c"))
+        self.assertGreater(len(sources), 3)
+        for source in sources:
+            with self.subTest(source.name):
+                self.assertEqual(compiled(source, ["-O2", "-mcpu=v3"]), source.with_suffix(".bin").read_bytes())
 
 
 # ---- the page: `name.c`, flags, need N: the verdict, and then the source

@@ -200,19 +200,38 @@ class Local(unittest.TestCase):
                 self.assertEqual(self.connect(process).stream.recv(1), b"")
                 self.assertEqual(process.wait(PATIENCE), 3)
 
-    def test_wrong_words(self):
-        """Without a path, with a port too, and without a number."""
-        for words in (["--socket"], ["--socket", self.path, "--port", "7"], ["--socket", self.path, "--clients", "65"], ["--grants", self.grants]):
-            with self.subTest(words):
-                ran = subprocess.run([BPFJOBS, "serve", *words], capture_output=True, timeout=PATIENCE, check=False)
-                self.assertEqual((ran.returncode, ran.stdout), (2, b""))
-                self.assertTrue(ran.stderr.startswith(b"error: "))
+    def refused(self, words):
+        """What is told on standard error of the words, which are wrong."""
+        ran = subprocess.run([BPFJOBS, "serve", *words], capture_output=True, text=True, timeout=PATIENCE, check=False)
+        self.assertEqual((ran.returncode, ran.stdout), (2, ""))
         self.assertEqual(os.listdir(os.path.dirname(self.path)), [])
+        return ran.stderr
+
+    def test_wrong_words(self):
+        """Without a path, with two, and without a number."""
+        for words in (["--socket"], ["--socket", self.path, "--socket", self.path], ["--socket", self.path, "--clients", "65"],
+                      ["--socket", self.path, "--port", "0"]):
+            with self.subTest(words):
+                self.assertTrue(self.refused(words).startswith("error: "))
+
+    def test_exactly_one_endpoint(self):
+        """Options that name none, or two, are told in one line."""
+        neither = "error: serve needs --port <PORT> or --socket <PATH>\n"
+        both = "error: serve takes --port or --socket, and not both\n"
+        grants = "error: serve takes --grants with --socket alone\n"
+        for words, line in (([], neither), (["--grants", self.grants], neither), (["--log", "--clients", "2"], neither),
+                            (["--socket", self.path, "--port", "7"], both), (["--port=7", f"--socket={self.path}", "--grants", self.grants], both),
+                            (["--port", "7", "--grants", self.grants], grants)):
+            with self.subTest(words):
+                self.assertEqual(self.refused(words), line)
 
     def test_help(self):
-        ran = subprocess.run([BPFJOBS, "serve", f"--socket={self.path}", "--help"], capture_output=True, timeout=PATIENCE, check=False)
-        self.assertEqual(ran.returncode, 0)
-        self.assertIn(b"--grants <PATH>", ran.stdout)
+        for words in (["--help"], [f"--socket={self.path}", "--help"], ["--port", "7", "--socket", self.path, "-h"]):
+            with self.subTest(words):
+                ran = subprocess.run([BPFJOBS, "serve", *words], capture_output=True, timeout=PATIENCE, check=False)
+                self.assertEqual((ran.returncode, ran.stderr), (0, b""))
+                for option in (b"--port <PORT>", b"--socket <PATH>", b"--grants <PATH>"):
+                    self.assertIn(option, ran.stdout)
 
 
 if __name__ == "__main__":

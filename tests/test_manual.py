@@ -1,7 +1,6 @@
 """The man pages and the completions are what docs/man/make.py makes of the programs' own --help."""
 
 import os
-import re
 import shutil
 import subprocess
 import sys
@@ -38,18 +37,12 @@ class Manual(unittest.TestCase):
             told = make.help_of(name, program)
             page = (FOLDER / f"{name}.1").read_text(encoding="utf-8")
             commands = [one.words for one in told.entries("Commands") if one.words != "help"]
-            helps = [told] + [form for command in commands for form in make.forms_of(name, program, command).values()]
+            helps = [told] + [make.help_of(name, program, command) for command in commands]
             for option in {one for part in helps for one in make.options_of(part)}:
                 with self.subTest(name=name, option=option):
                     self.assertIn(make.roff(option), page)
             for command in commands:
                 self.assertIn(f".SS {command}\n", page)
-
-    def test_the_version_is_that_of_the_library(self):
-        told = (Path(programs.TOP) / "bindings/rust/Cargo.toml").read_text(encoding="utf-8")
-        version = re.search(r'^version = "(.*)"$', told, re.MULTILINE).group(1)
-        for name, program in PROGRAMS.items():
-            self.assertEqual(programs.told(program, ["--version"]), (0, f"{name} {version}\n"))
 
     @unittest.skipUnless(shutil.which("man"), "there is no man")
     def test_the_pages_are_read_without_a_warning(self):

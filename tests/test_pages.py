@@ -9,7 +9,7 @@ TOP = os.path.dirname(os.path.dirname(os.path.abspath(__file__)))
 sys.path.insert(0, os.path.join(TOP, "docs"))
 import modules  # noqa: E402  (the script stands in the folder that was just added)
 
-QUOTE = re.compile(r"^`(crates/[^`]+)`:\n\n```\w+\n(.*?)^```$", re.MULTILINE | re.DOTALL)
+QUOTE = re.compile(r"^`((?:crates|examples)/[^`]+)`:\n\n```\w+\n(.*?)^```$", re.MULTILINE | re.DOTALL)
 
 
 def text_of(path):
@@ -26,6 +26,16 @@ class Quotes(unittest.TestCase):
             for block in quoted.strip("\n").split("\n\n"):
                 with self.subTest(path=path, block=block.split("\n")[0]):
                     self.assertIn(block, text)
+
+
+    def test_the_tutorial(self):
+        """It has each of its sources whole."""
+        quotes = dict(QUOTE.findall(text_of("examples/tutorial.md")))
+        sources = {f"examples/tutorial/{name}" for name in os.listdir(f"{TOP}/examples/tutorial") if name.endswith(".c")}
+        self.assertEqual(set(quotes), sources)
+        for path, quoted in quotes.items():
+            with self.subTest(path):
+                self.assertEqual(text_of(path), quoted)
 
 
 class Map(unittest.TestCase):

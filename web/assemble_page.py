@@ -11,6 +11,7 @@ from pathlib import Path
 
 HERE = Path(__file__).resolve().parent
 EXAMPLES = HERE.parent / "examples"
+VERSION = HERE.parent / "VERSION"
 
 
 def filled(example: dict) -> dict:
@@ -36,6 +37,7 @@ def page(module: bytes) -> str:
         "/*STEPS*/": text("steps.js"),
         "/*PAGE*/": text("page.js"),
         "/*EXAMPLES*/[]": json.dumps(examples).replace("</", "<\\/"),
+        "/*VERSION*/": VERSION.read_text(encoding="utf-8").strip(),
         "/*MODULE*/": base64.b64encode(gzip.compress(module, 9, mtime=0)).decode(),
     }
     made = text("page.html")

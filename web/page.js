@@ -421,7 +421,8 @@ async function start() {
         const body = await module_bytes();
         library = new Telgovan(await WebAssembly.compile(body));
         const imports = library.imports.length ? library.imports.map((one) => one.name).join(", ") : "nothing";
-        at("about").textContent = `The module has ${body.length.toLocaleString("en")} bytes and imports ${imports}. ` +
+        at("about").textContent = `Telgovan ${VERSION}. ` +
+            `The module has ${body.length.toLocaleString("en")} bytes and imports ${imports}. ` +
             "The page asks no network for anything: what you type stays in this page and in its address.";
     } catch (wrong) {
         tell(`This browser can't run the library, which wants WebAssembly with a memory of 64 bits: ${wrong.message}`, "bad");

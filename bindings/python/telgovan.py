@@ -43,11 +43,14 @@ _HERE = os.path.dirname(os.path.abspath(__file__))
 
 
 def _library():
-    """The shared object: of the folder that TELGOVAN_LIB names, of bindings/out, or installed."""
+    """The shared object: of the folder that TELGOVAN_LIB names, of the wheel that this module came
+    with, of bindings/out, or installed."""
     folder = os.environ.get("TELGOVAN_LIB")
-    built = os.path.join(folder or os.path.join(_HERE, "../out"), "libtelgovan.so")
-    if folder or os.path.exists(built):
-        return ctypes.CDLL(built)
+    if folder:
+        return ctypes.CDLL(os.path.join(folder, "libtelgovan.so"))
+    for place in ("telgovan.libs/libtelgovan.so.0", "../out/libtelgovan.so"):
+        if os.path.exists(os.path.join(_HERE, place)):
+            return ctypes.CDLL(os.path.join(_HERE, place))
     return ctypes.CDLL("libtelgovan.so.0")
 
 

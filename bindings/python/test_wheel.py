@@ -26,6 +26,20 @@ class Wheel(unittest.TestCase):
                 found = base64.urlsafe_b64encode(hashlib.sha256(files[path]).digest()).rstrip(b"=").decode()
                 self.assertEqual((digest, length), (f"sha256={found}", str(len(files[path]))))
 
+    def test_one_with_the_shared_object(self):
+        more = {wheel_of.LIBRARY: b"object", "licenses/LICENSE": b"text"}
+        date = (2026, 11, 27, 18, 0, 0)
+        with tempfile.TemporaryDirectory() as room, tempfile.TemporaryDirectory() as other:
+            name = wheel_of.write_wheel(room, "py3-none-linux_x86_64", more, date)
+            self.assertEqual(wheel_of.write_wheel(other, "py3-none-linux_x86_64", more, date), name)
+            self.assertEqual((Path(room) / name).read_bytes(), (Path(other) / name).read_bytes())
+            with zipfile.ZipFile(Path(room) / name) as archive:
+                told = f"telgovan-{wheel_of.stated('version')}.dist-info"
+                self.assertEqual(archive.read(wheel_of.LIBRARY), b"object")
+                self.assertEqual(archive.read(f"{told}/licenses/LICENSE"), b"text")
+                self.assertIn(b"Root-Is-Purelib: false\n", archive.read(f"{told}/WHEEL"))
+        self.assertIn(wheel_of.LIBRARY, (wheel_of.HERE / "telgovan.py").read_text(encoding="utf-8"))
+
 
 if __name__ == "__main__":
     unittest.main()

@@ -1,4 +1,5 @@
-"""Builds the wheel of the module telgovan, which is one file: pip needs nothing else for it, and no network."""
+"""Builds the wheel of the module telgovan, which is one file: pip needs nothing else for it, and no
+network. `release/build` also puts the shared object into it."""
 
 import base64
 import hashlib
@@ -8,6 +9,8 @@ from pathlib import Path
 
 HERE = Path(__file__).resolve().parent
 TAG = "py3-none-any"
+# The folder beside the module in which telgovan.py looks for the shared object.
+LIBRARY = "telgovan.libs/libtelgovan.so.0"
 
 
 def stated(name):
@@ -21,22 +24,35 @@ def recorded(path, content):
     return f"{path},sha256={digest},{len(content)}\n"
 
 
-def build_wheel(wheel_directory, config_settings=None, metadata_directory=None):
-    """Writes the wheel into the folder, and gives its name, as pip asks for it."""
+def write_wheel(folder, tag, more, date):
+    """Writes the wheel of this tag into the folder, and gives its name. `more` are further files, by
+    their paths; those of licenses/ belong to what is told of the wheel. The date is of six numbers."""
     name, version = stated("name"), stated("version")
     told = f"{name}-{version}.dist-info"
     readme = (HERE / "README.md").read_text(encoding="utf-8")
-    head = ["Metadata-Version: 2.1", f"Name: {name}", f"Version: {version}", f"Summary: {stated('description')}"]
-    head += [f"Requires-Python: {stated('requires-python')}", "Description-Content-Type: text/markdown"]
-    files = {
-        "telgovan.py": (HERE / "telgovan.py").read_bytes(),
-        f"{told}/METADATA": ("\n".join(head) + "\n\n" + readme).encode(),
-        f"{told}/WHEEL": f"Wheel-Version: 1.0\nGenerator: {name}\nRoot-Is-Purelib: true\nTag: {TAG}\n".encode(),
-    }
+    head = ["Metadata-Version: 2.1", f"Name: {name}", f"Version: {version}"]
+    head += [f"Summary: {stated('description')}", "License: MIT OR Apache-2.0"]
+    head += [f"Requires-Python: {stated('requires-python')}"]
+    head += ["Description-Content-Type: text/markdown"]
+    about = [("Wheel-Version", "1.0"), ("Generator", name)]
+    about += [("Root-Is-Purelib", str(tag == TAG).lower()), ("Tag", tag)]
+    files = {"telgovan.py": (HERE / "telgovan.py").read_bytes()}
+    for path, content in more.items():
+        files[f"{told}/{path}" if path.startswith("licenses/") else path] = content
+    files[f"{told}/METADATA"] = ("\n".join(head) + "\n\n" + readme).encode()
+    files[f"{told}/WHEEL"] = "".join(f"{key}: {text}\n" for key, text in about).encode()
     record = "".join(recorded(path, content) for path, content in files.items())
     files[f"{told}/RECORD"] = f"{record}{told}/RECORD,,\n".encode()
-    wheel = f"{name}-{version}-{TAG}.whl"
-    with zipfile.ZipFile(Path(wheel_directory) / wheel, "w", zipfile.ZIP_DEFLATED) as archive:
+    wheel = f"{name}-{version}-{tag}.whl"
+    with zipfile.ZipFile(Path(folder) / wheel, "w") as archive:
         for path, content in files.items():
-            archive.writestr(path, content)
+            entry = zipfile.ZipInfo(path, date)
+            entry.compress_type, entry.create_system = zipfile.ZIP_DEFLATED, 3
+            entry.external_attr = 0o100644 << 16
+            archive.writestr(entry, content, compresslevel=9)
     return wheel
+
+
+def build_wheel(wheel_directory, config_settings=None, metadata_directory=None):
+    """Writes the wheel of the module alone into the folder, and gives its name, as pip asks for it."""
+    return write_wheel(wheel_directory, TAG, {}, (1980, 1, 1, 0, 0, 0))

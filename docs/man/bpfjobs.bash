@@ -37,7 +37,7 @@ _bpfjobs() {
         --socket | --grants) mapfile -t COMPREPLY < <(compgen -f -- "$word"); return ;;
         --port | --workers | --sessions | --clients | --timeout | --open-jobs | --keep) return ;;
         esac
-        mapfile -t COMPREPLY < <(compgen -W "--port --workers --sessions --clients --timeout --open-jobs --keep --until-eof --log --help --socket --grants" -- "$word")
+        mapfile -t COMPREPLY < <(compgen -W "--port --socket --grants --workers --sessions --clients --timeout --open-jobs --keep --until-eof --log --help" -- "$word")
         ;;
     help) mapfile -t COMPREPLY < <(compgen -W "assemble disassemble verify play run serve" -- "$word") ;;
     esac

@@ -16,8 +16,6 @@ HERE = Path(__file__).resolve().parent
 SECTIONS = ("Commands", "Arguments", "Options")
 # values of these names are completed as files
 FILES = ("FILE", "PATH")
-# a command that has other words behind an option of this name
-FORMS = {("bpfjobs", "serve"): "--socket"}
 
 
 @dataclass
@@ -222,30 +220,11 @@ def completion(name, told, commands):
     return "\n".join(made) + "\n"
 
 
-def forms_of(name, program, command):
-    """What the program tells of a command: of each of its forms, by the words that begin it."""
-    told = {command: help_of(name, program, command)}
-    option = FORMS.get((name, command))
-    if option:
-        told[f"{command} {option}"] = help_of(name, program, command, f"{option}=PATH")
-    return told
-
-
-def merged(forms):
-    """One help with the options of all forms, each once."""
-    told = next(iter(forms.values()))
-    entries = {entry.words: entry for form in forms.values() for entry in form.entries("Options")}
-    return Help(told.about, told.usage, {**told.sections, "Options": list(entries.values())}, told.more)
-
-
 def files_of(name, program):
     """The man page and the completion of a program, by their names."""
     told = help_of(name, program)
-    names = [entry.words for entry in told.entries("Commands") if entry.words != "help"]
-    forms = {command: forms_of(name, program, command) for command in names}
-    pages = {words: form for command in names for words, form in forms[command].items()}
-    commands = {command: merged(forms[command]) for command in names}
-    return {f"{name}.1": man_page(name, told, pages), f"{name}.bash": completion(name, told, commands)}
+    commands = {one.words: help_of(name, program, one.words) for one in told.entries("Commands") if one.words != "help"}
+    return {f"{name}.1": man_page(name, told, commands), f"{name}.bash": completion(name, told, commands)}
 
 
 def main(bpfjobs, bpfrun, folder=HERE):

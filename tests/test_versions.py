@@ -1,0 +1,78 @@
+"""The file VERSION says the version, and what else tells one agrees. What C sees of the library is what
+release/abi.txt lists."""
+
+import os
+import re
+import sys
+import unittest
+
+import programs
+from programs import TOP
+
+sys.path.insert(0, os.path.join(TOP, "release"))
+import abi  # noqa: E402  (the scripts stand in the folder that was just added)
+import elf  # noqa: E402
+
+
+def text_of(path):
+    with open(os.path.join(TOP, path), encoding="utf-8") as file:
+        return file.read()
+
+
+VERSION = text_of("VERSION").strip()
+
+# a file, and what stands before and behind a version there
+TOLD = (
+    ("bindings/rust/Cargo.toml", r'^version = "(.*)"$'),
+    ("bindings/python/pyproject.toml", r'^version = "(.*)"$'),
+    ("crates/bpfjobs_cli/src/texts.rt", r'const VERSION: &str = "(.*)";$'),
+    ("crates/bpfrun_core/src/texts.rt", r'const VERSION: &str = "(.*)";$'),
+    ("tests/data/commands.txt", r"^(?:--version|-V) .* bpfjobs (\S+)$"),
+)
+# a file whose version is put in where it is installed or built, and the word that stands for it
+FILLED = (
+    ("bindings/telgovan.pc", "@VERSION@"),
+    ("bindings/telgovan.3", "@VERSION@"),
+    ("web/page.html", "/*VERSION*/"),
+)
+
+
+class Version(unittest.TestCase):
+    def test_its_form(self):
+        self.assertRegex(VERSION, r"\A(0|[1-9]\d*)\.(0|[1-9]\d*)\.(0|[1-9]\d*)\Z")
+
+    def test_each_file_that_tells_one(self):
+        for path, pattern in TOLD:
+            with self.subTest(path):
+                found = re.findall(pattern, text_of(path), re.MULTILINE)
+                self.assertEqual((set(found), len(found) > 0), ({VERSION}, True))
+
+    def test_each_file_that_is_filled(self):
+        for path, word in FILLED:
+            with self.subTest(path):
+                self.assertEqual(text_of(path).count(word), 1)
+
+    def test_the_newest_heading_of_the_changes(self):
+        heading = re.search(r"^## (.*)$", text_of("CHANGELOG.md"), re.MULTILINE).group(1)
+        self.assertRegex(heading, rf"\A{re.escape(VERSION)} \((unreleased|\d{{4}}-\d\d-\d\d)\)\Z")
+
+    def test_the_programs(self):
+        for name, program in (("bpfjobs", programs.BPFJOBS), ("bpfrun", programs.BPFRUN)):
+            with self.subTest(name):
+                self.assertEqual(programs.told(program, ["--version"]), (0, f"{name} {VERSION}\n"))
+
+
+class Abi(unittest.TestCase):
+    def test_the_list_is_what_the_header_declares(self):
+        self.assertEqual(abi.declared(text_of("include/telgovan.h")), abi.listed())
+
+    def test_the_shared_object_exports_what_is_listed(self):
+        folder = os.environ.get("TELGOVAN_LIB", os.path.join(TOP, "bindings/out"))
+        library = elf.Elf(os.path.join(folder, "libtelgovan.so"))
+        self.assertEqual(library.exports(), abi.functions(abi.listed()))
+        self.assertEqual(library.soname(), "libtelgovan.so.0")
+        self.assertLessEqual(set(library.needed()), elf.GLIBC)
+
+
+if __name__ == "__main__":
+    unittest.main()
