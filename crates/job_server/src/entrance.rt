@@ -100,8 +100,8 @@ impl<'a, L: Listener + Drop, J: HistoryId + FirstListener<L>> Entrance<'a, L, J>
     /// How many were taken, how many could not be taken, whether it was for the flag that no more
     /// were, and who opened them.
     pub fn into_parts(self) -> (u32, u32, bool, Opener<J>)
-        ensures opened { (result.0 ≡ self) × (result.0 ≡ result.3) }
-        ensures given { AreOfFirst L.opens L.fails J.is_first self }
+        ensures opened { (result.0 ≡ self.entry) × (result.0 ≡ result.3) }
+        ensures given { AreOfFirst L.opens L.fails J.is_first self.entry }
     {
         let Entrance {
             opener,
