@@ -1,5 +1,5 @@
 -- Many connections at once, over two state types.
-use Rattle.std.proofs.Common.{◌≡◌, ◌<◌, ◌≤◌, ◌-◌, ◌^◌, ◌⊎◌, ℕ, Bool, false, List, length, min, Option, Result, Ok, Err, inl, inr, sym, ap, ◌∙◌, subst, arith}
+use Rattle.std.proofs.Common.{◌≡◌, ◌<◌, ◌≤◌, ◌-◌, ◌^◌, ◌⊎◌, ℕ, Bool, false, List, length, min, Option, Result, Ok, Err, inl, inr, refl, sym, ap, ◌∙◌, arith}
 use Rattle.std.specs.Prelude.{OnOk, IfErr}
 use Rattle.std.specs.BTreeMap.{BTreeMap}
 use Rattle.sessions.specs.Grammar.{Asked}
@@ -76,19 +76,6 @@ module _ {R Q : Type 0} (f : R → Q) where
         (λ l n p m g. (looks_alike l.runner n p m.runner g.0, g.1)) (λ l x m g. (takes_alike l.runner x m.runner g.0, g.1)) (s.0, s.1.runner) query reply (h.0.0, t.1.runner) h.0.1 in
         ((h.0.0, answer, h.0.2), h.1)
 
-module _ {R : Type 0} (f : R → Pool) (starts : R → ℕ → AdmittedJob → Result (Unit {0}) ℕ → R → Type 0) (looks : R → ℕ → Progress → R → Type 0) (takes : R → Option (ℕ × Result Report ℕ) → R → Type 0)
-    (starts_alike : (r : R) (n : ℕ) (j : AdmittedJob) (x : Result (Unit {0}) ℕ) (s : R) → starts r n j x s → StartsBy pooled_at pooled_count (f r) n j x (f s))
-    (looks_alike : (r : R) (n : ℕ) (p : Progress) (s : R) → looks r n p s → TellsBy pooled_at pooled_count (f r) n p (f s))
-    (takes_alike : (r : R) (x : Option (ℕ × Result Report ℕ)) (s : R) → takes r x s → TakesBy pooled_at pooled_count (f r) x (f s)) where
-  -- the pool's own state is forgotten, but for the jobs that it was given and the boards that it watches
-  pool_serving : (desk : Ledger) (first : KeepingHandler (LimitedRunner R)) (end : Ledger × KeepingHandler (LimitedRunner R)) (sessions : ℕ) (may_stop : Bool) (outcome : Result (Unit {0}) ServeFault)
-      → IsServingFrom (answers_keeping (starts_within (λ r. pooled_count (f r)) starts) (looks_within looks) (takes_within takes)) (λ s. s ≡ (desk, first)) end sessions may_stop outcome
-      → IsServingFrom hosted_answers (λ s. s ≡ (desk, keeping f first)) (beside (keeping f) end) sessions may_stop outcome
-  pool_serving desk first end sessions may_stop outcome serving =
-      serving_alike (beside (keeping f)) _ hosted_answers
-      (keeping_alike f pooled_count (StartsBy pooled_at pooled_count) (TellsBy pooled_at pooled_count) (TakesBy pooled_at pooled_count) starts looks takes starts_alike looks_alike takes_alike)
-      (λ s. s ≡ (desk, first)) (λ s. s ≡ (desk, keeping f first)) (λ s is. ap (beside (keeping f)) is) end sessions may_stop outcome serving
-
 -- the handler is the one that was made of the pool and the bounds
 hosted_is : {R : Type 0} (f : R → Pool) (bounds : Bounds) (desk : Ledger) (h : KeepingHandler (LimitedRunner R)) (l : LimitedRunner R) (pool : R) → desk ≡ new_desk → h.runner ≡ l → h.keep ≡ bounds.keep → l.runner ≡ pool → l.limit ≡ bounds.open_jobs
     → (desk, keeping f h) ≡ new_host bounds (f pool)
@@ -104,14 +91,20 @@ module _ {R : Type 0} (f : R → Pool) (starts : R → ℕ → AdmittedJob → R
     (starts_alike : (r : R) (n : ℕ) (j : AdmittedJob) (x : Result (Unit {0}) ℕ) (s : R) → starts r n j x s → StartsBy pooled_at pooled_count (f r) n j x (f s))
     (looks_alike : (r : R) (n : ℕ) (p : Progress) (s : R) → looks r n p s → TellsBy pooled_at pooled_count (f r) n p (f s))
     (takes_alike : (r : R) (x : Option (ℕ × Result Report ℕ)) (s : R) → takes r x s → TakesBy pooled_at pooled_count (f r) x (f s)) where
+  -- the pool's own state is forgotten, but for the jobs that it was given and the boards that it watches
   pub hosted_serving : (bounds : Bounds) (desk : Ledger) (h : KeepingHandler (LimitedRunner R)) (l : LimitedRunner R) (pool : R) (end : Ledger × KeepingHandler (LimitedRunner R)) (sessions : ℕ) (may_stop : Bool) (outcome : Result (Unit {0}) ServeFault)
       → desk ≡ new_desk → h.runner ≡ l → h.keep ≡ bounds.keep → l.runner ≡ pool → l.limit ≡ bounds.open_jobs
-      → IsServingFrom (answers_keeping (starts_within (λ r. pooled_count (f r)) starts) (looks_within looks) (takes_within takes)) (λ s. s ≡ (desk, h)) end sessions may_stop outcome
-      → IsServingFrom hosted_answers (λ s. s ≡ new_host bounds (f pool)) (beside (keeping f) end) sessions may_stop outcome
-  hosted_serving bounds desk h l pool end sessions may_stop outcome is_new is_limited kept is_pool is_limit serving =
-      subst (λ (v : Hosted). IsServingFrom hosted_answers (λ s. s ≡ v) (beside (keeping f) end) sessions may_stop outcome)
-      (hosted_is f bounds desk h l pool is_new is_limited kept is_pool is_limit)
-      (pool_serving f starts looks takes starts_alike looks_alike takes_alike desk h end sessions may_stop outcome serving)
+      → (serving : IsServingFrom (answers_keeping (starts_within (λ r. pooled_count (f r)) starts) (looks_within looks) (takes_within takes)) (λ s. s ≡ (desk, h)) end sessions may_stop outcome)
+      → (hosted : IsServingFrom hosted_answers (λ s. s ≡ new_host bounds (f pool)) (beside (keeping f) end) sessions may_stop outcome) × (hosted.opened ≡ serving.opened)
+  unfolding serving_alike
+  hosted_serving bounds desk h l pool end sessions may_stop outcome is_new is_limited kept is_pool is_limit serving = (
+    serving_alike (beside (keeping f)) _ hosted_answers
+        (keeping_alike f pooled_count (StartsBy pooled_at pooled_count) (TellsBy pooled_at pooled_count) (TakesBy pooled_at pooled_count) starts looks takes starts_alike looks_alike takes_alike)
+        (λ s. s ≡ (desk, h)) (λ s. s ≡ new_host bounds (f pool))
+        (λ s is. ap (beside (keeping f)) is ∙ hosted_is f bounds desk h l pool is_new is_limited kept is_pool is_limit)
+        end sessions may_stop outcome serving,
+    refl,
+  )
 
 -- ---- what a server tells of those that are over
 

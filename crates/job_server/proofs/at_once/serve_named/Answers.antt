@@ -1,4 +1,5 @@
-use Rattle.std.proofs.Common.{refl, ap, ◌∙◌, arith}
+use Rattle.std.proofs.Common.{ap, ◌∙◌, sym, subst, arith}
+use Rattle.job_server.specs.Listening.{AreOfFirst}
 use Rattle.shared_desk.specs.Histories.{part_of}
 use Rattle.job_server.proofs.AtOnceAlike.{fault_of_all, well_of}
 use Rattle.job_server.proofs.at_once.serve_named.Goals as goal
@@ -22,8 +23,8 @@ returns g c =
         others = λ n le. ap (λ s. part_of n s.1) is ∙ c.count.ensures.others n (omega (arith, counted, le));
         parts = rw (is, counted) c.count.ensures.over;
         served = c.is_legal.ensures.served;
-        well = well_of now.2 opened c.args.sessions over _ c.ended_by-stopped.result given_up outcome over_is few c.outcome.ensures c.ended_by-stopped.ensures c.outcome_of-outcome.ensures.well;
-        fault = fault_of_all now.2 opened c.args.sessions over given_up outcome over_is few c.outcome.ensures c.outcome_of-outcome.ensures.fault;
+        well = well_of now.2 opened c.args.plan.sessions over _ c.ended_by-stopped.result given_up outcome over_is few c.outcome.ensures c.ended_by-stopped.ensures c.outcome_of-outcome.ensures.well;
+        fault = fault_of_all now.2 opened c.args.plan.sessions over given_up outcome over_is few c.outcome.ensures c.outcome_of-outcome.ensures.fault;
       },
-      c.into_parts-opened.ensures.given,
+      subst (AreOfFirst g.L.Listener.opens g.L.Listener.fails g.J.FirstListener.is_first) (sym c.into_parts-opened.ensures.opened.0) c.into_parts-opened.ensures.given,
     )

@@ -1,4 +1,4 @@
-use Rattle.job_server.proofs.serving_clients.serve_listener.Given as goal
+use Rattle.job_server.proofs.serving.serve_listener.Given as goal
 
 -- the register is the new one
 abbrev pub ghosts-serve_registered : goal.ghosts-serve_registered

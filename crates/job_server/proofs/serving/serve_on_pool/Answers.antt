@@ -1,4 +1,5 @@
-use Rattle.std.proofs.Common.{ap, ◌∙◌}
+use Rattle.std.proofs.Common.{ap, ◌∙◌, sym, subst}
+use Rattle.job_server.specs.Listening.{AreOf}
 use Rattle.job_server.proofs.Alike.{beside}
 use Rattle.job_server.proofs.AtOnceAlike.{hosted_serving, keeping}
 use Rattle.job_server.proofs.serving.serve_on_pool.Goals as goal
@@ -9,13 +10,14 @@ returns g c =
     let pool = c.new-pool.result in
     let limited = c.new.result in
     let handler = c.new-handler.result in
-    let same = c.new-handler.ensures in (
+    let same = c.new-handler.ensures in
+    let hosted = hosted_serving (λ r. (r.keeper, r.boards)) _ _ _ (λ r n j x s h. h.0) (λ r n p s h. h) (λ r x s h. h.0) c.args.plan.bounds c.new-desk.result handler limited pool (served.result.0, served.result.1) c.args.plan.sessions _ served.result.2
+    c.new-desk.ensures (ap (λ k. k.runner) same ∙ c.new-kept.ensures.0) (ap (λ k. k.keep) same ∙ c.new-kept.ensures.1) c.new.ensures.0 c.new.ensures.1 served.ensures.0 in (
       record {
         first = (pool.keeper, pool.boards);
         none = c.new-pool.ensures;
         end = (served.result.0, keeping (λ r. (r.keeper, r.boards)) served.result.1);
-        serving = hosted_serving (λ r. (r.keeper, r.boards)) _ _ _ (λ r n j x s h. h.0) (λ r n p s h. h) (λ r x s h. h.0) c.args.plan.bounds c.new-desk.result handler limited pool (served.result.0, served.result.1) c.args.plan.sessions _ served.result.2
-            c.new-desk.ensures (ap (λ k. k.runner) same ∙ c.new-kept.ensures.0) (ap (λ k. k.keep) same ∙ c.new-kept.ensures.1) c.new.ensures.0 c.new.ensures.1 served.ensures.0;
+        serving = hosted.0;
       },
-      served.ensures.1,
+      subst (AreOf g.L.Listener.opens g.L.Listener.fails c.args.listener) (sym hosted.1) served.ensures.1,
     )
