@@ -81,9 +81,8 @@ pub(crate) const SERVE: &str =
 pub(crate) const SERVE_USAGE: &str = "bpfjobs serve <--port <PORT>|--socket <PATH>> [OPTIONS]";
 
 pub(crate) const SERVE_MORE: &str =
-    "Takes connections, one after the other, with one desk of accounts and jobs.
-With --socket, and with any option from --clients on, it starts its threads once, and serves as
-many connections at once as --clients says.
+    "Takes connections, one after the other or as many at once as --clients says, with one desk of
+accounts and jobs. Jobs run on threads that start once.
 Writes no output: clients send requests and get replies as frames.
 
 With --socket PATH it listens on a Unix socket at PATH, in place of a port. Those who may write to
