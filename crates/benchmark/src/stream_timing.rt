@@ -210,21 +210,23 @@ where
     let all = grants(alloc)?;
     let listener = TcpListener::bind(&rt, SocketAddr::from((Ipv4Addr::LOCALHOST, 0)))?;
     let address = listener.local_addr()?;
-    let plan = Plan {
-        workers: 1,
-        sessions: 2,
-        bounds: Bounds {
-            clients: 1,
-            timeout: 0,
-            open_jobs: 0,
-            keep: 0,
-        },
-        stop: None,
-        log: None,
-    };
     let (served, times) = thread::join(
         &rt,
-        || serve_listener(&rt, alloc, &listener, plan),
+        || {
+            let plan = Plan {
+                workers: 1,
+                sessions: 2,
+                bounds: Bounds {
+                    clients: 1,
+                    timeout: 0,
+                    open_jobs: 0,
+                    keep: 0,
+                },
+                stop: None,
+                log: None,
+            };
+            serve_listener(&rt, alloc, &listener, plan)
+        },
         || (
             one_by_one(&rt, address, &frame),
             at_once(&rt, alloc, address, &all),
