@@ -20,45 +20,22 @@ DEFINITION = re.compile(r"^(?:(?:\w+ )*?pub |\s+(?:abbrev|unfoldable) pub |\s+pu
                         r"(?:(?:data|record) )?([^\s:(){}]+)")
 
 SAME = "one meaning, of the state or the fault that each crate has"
-LOW = "two meanings, in crates that most others stand on: renamed when such a crate changes anyway"
 HOSTS = "two meanings, and hosts name both"
 
 # Names that may stand in several crates: exactly these, and why.
 EXCEPTIONS = {
-    "Account": ("accounts credit_book", "a tenant's, by which hosts name it, and a book's: " + LOW),
-    "code_of": ("flow_graph insn_codec sessions", SAME),
-    "code_of_fault": ("assembler flow_graph insn_codec", SAME),
+    "code_of": ("flow_graph insn_codec", SAME),
+    "code_of_fault": ("flow_graph insn_codec", SAME),
     "cost_at": ("machine_model verifier", SAME),
     "end_bits": ("insn_codec machine_model", SAME),
-    "Entry": ("machine_model shared_desk", LOW),
     "fault_at": ("flow_graph insn_codec", SAME),
-    "first": ("flow_graph instruction_rules", LOW),
-    "HasOneAnswer": ("job_answer reference", "of a job on threads, and of one that is played: " + LOW),
-    "in_part": ("machine_model value_ranges", LOW),
-    "in_stack": ("machine_model value_ranges", LOW),
-    "is_register": ("insn_codec value_ranges", LOW),
     "IsAlive": ("credit_book machine_model", SAME),
     "IsComplete": ("credit_book machine_model", SAME),
-    "IsWithin": ("insn_codec instruction_rules", LOW),
-    "joined": ("task_trees value_ranges", LOW),
-    "loaded": ("machine_model value_ranges", LOW),
-    "Next": ("flow_graph interpreter", "hosts name that of flow_graph: " + LOW),
-    "number_of": ("credit_book job_core value_ranges verifier workers", LOW),
-    "place_of": ("job_core task_trees", LOW),
     "program_of": ("reference verifier", SAME),
-    "Progress": ("credit_book interpreter", "hosts name that of credit_book: " + LOW),
-    "Refused": ("credit_book interpreter", "hosts name that of credit_book: " + LOW),
-    "Request": ("reference sessions", LOW),
-    "slot_of": ("job_core verifier", LOW),
     "slot_of_fault": ("flow_graph insn_codec", SAME),
-    "slots_of": ("flow_graph insn_codec", LOW),
     "Source": ("insn_codec streams", HOSTS),
     "spent_in": ("credit_book task_trees", SAME),
-    "Standing": ("accounts credit_book", "a job's, and a task's: " + LOW),
-    "State": ("instruction_rules machine_model", LOW),
     "state_of": ("interpreter reference verifier", SAME),
-    "table_of": ("credit_book value_ranges", LOW),
-    "word_of": ("credit_book machine_model", LOW),
 }
 
 

@@ -1,7 +1,7 @@
 -- Jobs that are forgotten.
 use Rattle.std.specs.Prelude.{◌≡◌, ◌⊎◌, ◌≤◌, ℕ, List, [], ◌∷◌, ◌++◌, All, length, replicate, Bool, not, false, true, string_bytes}
 use Rattle.accounts.specs.declared.jobs.JobEntry.{JobEntry}
-use Rattle.accounts.specs.declared.jobs.Standing.TheVariants.{Failed}
+use Rattle.accounts.specs.declared.jobs.JobStanding.TheVariants.{Failed}
 use Rattle.accounts.specs.Jobs.{is_open}
 
 -- the entry of a job that is forgotten: it is nobody's, and answers 76

@@ -13,7 +13,7 @@ use Rattle.accounts.specs.declared.tenants.Sums.{Sums}
 use Rattle.accounts.specs.declared.tenants.Account.{Account}
 use Rattle.accounts.specs.declared.jobs.JobEntry.{JobEntry}
 use Rattle.credit_book.specs.declared.board.Progress.{Progress}
-use Rattle.accounts.specs.declared.jobs.Standing.TheVariants.{Open}
+use Rattle.accounts.specs.declared.jobs.JobStanding.TheVariants.{Open}
 use Rattle.credit_book.specs.declared.book.Report.{Report}
 use Rattle.accounts.specs.Accounts.{account_with}
 use Rattle.accounts.specs.Jobs.{job_at, settled, progress_of, report_of, opened_for, spent_for}

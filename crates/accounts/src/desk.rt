@@ -1,7 +1,7 @@
 //! The desk, where tenants are granted credit and give jobs.
 
 use crate::fault::{DeskFault, SubmitFault};
-use crate::jobs::{JobEntry, Jobs, Standing, settle};
+use crate::jobs::{JobEntry, JobStanding, Jobs, settle};
 use crate::tenants::{Account, Sums, account_of, add, change, sums_of};
 use credit_book::{Progress, Report};
 use job_core::{Job, ProgramBytes, admit};
@@ -127,7 +127,7 @@ impl Desk {
         let entry = JobEntry {
             tenant: String::from_str(alloc, tenant)?,
             credit,
-            standing: Standing::Open,
+            standing: JobStanding::Open,
         };
         self.jobs.add(entry)?;
         let opened = sums.opened + u64::from(credit);
@@ -185,13 +185,13 @@ impl Desk {
             return Err(DeskFault::NoJob);
         };
         match &entry.standing {
-            Standing::Open => Ok(seen),
-            Standing::Reported(report) => Ok(Progress {
+            JobStanding::Open => Ok(seen),
+            JobStanding::Reported(report) => Ok(Progress {
                 spent: report.spent,
                 returned: report.returned,
                 complete: true,
             }),
-            Standing::Failed(code) => Err(DeskFault::Failed(*code)),
+            JobStanding::Failed(code) => Err(DeskFault::Failed(*code)),
         }
     }
 
@@ -206,9 +206,9 @@ impl Desk {
             return Err(DeskFault::NoJob);
         };
         match &entry.standing {
-            Standing::Open => Err(DeskFault::NotComplete),
-            Standing::Reported(report) => Ok(report),
-            Standing::Failed(code) => Err(DeskFault::Failed(*code)),
+            JobStanding::Open => Err(DeskFault::NotComplete),
+            JobStanding::Reported(report) => Ok(report),
+            JobStanding::Failed(code) => Err(DeskFault::Failed(*code)),
         }
     }
 }

@@ -12,7 +12,7 @@ use std::marker::Model;
 
 /// How a job stands.
 #[derive(Drop)]
-pub enum Standing {
+pub enum JobStanding {
     /// It isn't over: its credit is neither spent nor back.
     Open,
     /// It came to this.
@@ -21,13 +21,13 @@ pub enum Standing {
     Failed(u8),
 }
 
-impl Standing {
+impl JobStanding {
     /// Whether the job isn't over.
     pub fn is_open(&self) -> bool
         ensures { result ≡ is_open self.now }
     {
         match self {
-            Standing::Open => true,
+            JobStanding::Open => true,
             _ => false,
         }
     }
@@ -37,7 +37,7 @@ impl Standing {
         ensures { result ≡ spent_by_job self.now }
     {
         match self {
-            Standing::Reported(report) => report.spent,
+            JobStanding::Reported(report) => report.spent,
             _ => 0,
         }
     }
@@ -48,7 +48,7 @@ impl Standing {
 pub struct JobEntry {
     pub tenant: String,
     pub credit: u32,
-    pub standing: Standing,
+    pub standing: JobStanding,
 }
 
 /// The jobs of a desk, by their numbers, of which the first is 1.
@@ -84,7 +84,7 @@ impl Jobs {
             gone: JobEntry {
                 tenant: String::new(alloc),
                 credit: 0,
-                standing: Standing::Failed(76),
+                standing: JobStanding::Failed(76),
             },
             kept: VecDeque::new(alloc),
         }
@@ -124,9 +124,9 @@ impl Jobs {
     }
 
     /// Notes how an open job stands.
-    pub fn note(&mut self, job: u64, standing: Standing)
+    pub fn note(&mut self, job: u64, standing: JobStanding)
         requires { (entry : JobEntry) × (job_at self.old job ≡ Some entry)
-            × (entry.standing ≡ Standing.Open) }
+            × (entry.standing ≡ JobStanding.Open) }
         ensures { (entry : JobEntry) → job_at self.old job ≡ Some entry
             → self.new ≡ slice_set self.old (job - 1) (record entry { standing = standing }) }
     {
@@ -159,7 +159,7 @@ fn is_first_over(jobs: &VecDeque<JobEntry>) -> bool
 }
 
 /// How a job of this credit stands once it is over.
-pub fn settle(credit: u32, outcome: Result<Report, u8>) -> Standing
+pub fn settle(credit: u32, outcome: Result<Report, u8>) -> JobStanding
     ensures settled { result ≡ settled credit outcome }
     ensures within { spent_by_job result ≤ credit }
     ensures over { is_open result ≡ false }
@@ -167,11 +167,11 @@ pub fn settle(credit: u32, outcome: Result<Report, u8>) -> Standing
     match outcome {
         Ok(report) => {
             if u64::from(report.spent) + u64::from(report.returned) == u64::from(credit) {
-                Standing::Reported(report)
+                JobStanding::Reported(report)
             } else {
-                Standing::Failed(82)
+                JobStanding::Failed(82)
             }
         }
-        Err(code) => Standing::Failed(code),
+        Err(code) => JobStanding::Failed(code),
     }
 }

@@ -1,7 +1,7 @@
 //! The refusals.
 
 ghost use Rattle.std.specs.Prelude.{◌≡◌};
-ghost use Rattle.assembler.specs.Fault.{code_of_fault, line_of};
+ghost use Rattle.assembler.specs.Fault.{code_of_text_fault, line_of};
 ghost use Rattle.assembler.specs.declared.fault.TextFault.TheVariants as fault;
 
 use std::alloc::{AllocError, AllocFailed};
@@ -33,7 +33,7 @@ pub enum TextFault {
 impl TextFault {
     /// The number of the refusal.
     pub fn code(&self) -> u8
-        ensures { result ≡ code_of_fault self.now }
+        ensures { result ≡ code_of_text_fault self.now }
     {
         match self {
             TextFault::UnknownWord(_) => 11,

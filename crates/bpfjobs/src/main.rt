@@ -5,12 +5,12 @@
 ghost use Rattle.bpfjobs_cli.specs.Commands.{IsInRange};
 ghost use Rattle.bpfjobs_cli.specs.Performing.{AnswersInput};
 
-mod beside;
+mod server_threads;
 mod serving;
 mod showing;
 
-use beside::beside_server;
 use bpfjobs_cli::{Command, CommandRequest, FAILED, UNREAD, perform, print_usage, request, words};
+use server_threads::handles_of;
 use serving::serve;
 use showing::{play_shown, run_shown};
 use std::alloc::{AllocError, Global};
@@ -70,7 +70,7 @@ fn main(rt: HostRuntime) -> ExitCode {
         Command::Serve(server) => server,
         command => return ExitCode::from(answer(&rt, alloc, command)),
     };
-    let Ok((beside, helpers)) = beside_server(alloc, &server) else {
+    let Ok((handles, helpers)) = handles_of(alloc, &server) else {
         return ExitCode::from(FAILED);
     };
     for helper in helpers {
@@ -78,7 +78,7 @@ fn main(rt: HostRuntime) -> ExitCode {
             return ExitCode::from(FAILED);
         };
     }
-    let status = serve(&rt, alloc, &server, beside.stop(), beside.log());
-    beside.close(&rt);
+    let status = serve(&rt, alloc, &server, handles.stop(), handles.log());
+    handles.close(&rt);
     ExitCode::from(status)
 }

@@ -2,11 +2,11 @@
 use Rattle.std.specs.Prelude.{◌≡◌, ◌↔◌, ℕ, List, Bool, true, IsTrue, None, Ok, Err}
 use Rattle.machine_model.specs.JobState.{JobState, IsComplete, start}
 use Rattle.sessions.specs.Answers.{ObjectAnswer}
-use Rattle.sessions.specs.Faults.{code_of}
+use Rattle.sessions.specs.Faults.{code_of_session_fault}
 use Rattle.sessions.specs.Replies.{play_data}
 use Rattle.sessions.specs.declared.request.JobObject.{JobObject}
 use Rattle.job_core.specs.declared.totals.Totals.{Totals}
-use Rattle.job_core.specs.Admission.{IsAdmittedFrom, RefusesJob, number_of, place_of, slot_of}
+use Rattle.job_core.specs.Admission.{IsAdmittedFrom, RefusesJob, code_of_admit_fault, program_of_admit_fault, slot_of_admit_fault}
 use Rattle.job_core.specs.Admitted.{AdmittedJob}
 use Rattle.job_core.specs.Answers.{AreTotals}
 use Rattle.job_core.specs.Representation.{WorldState, Plays}
@@ -30,9 +30,9 @@ IsDeclined wants input (declined.Job fault) =
     × RefusesJob object.programs.items object.credit object.buffer.items fault
 
 abbrev pub declined_line : JobDeclined → List ℕ
-declined_line (declined.Object fault) = refusal_reply (code_of fault) None None
+declined_line (declined.Object fault) = refusal_reply (code_of_session_fault fault) None None
 declined_line (declined.Job fault) =
-    refusal_reply (number_of fault) (place_of fault) (slot_of fault)
+    refusal_reply (code_of_admit_fault fault) (program_of_admit_fault fault) (slot_of_admit_fault fault)
 
 -- how far a job is
 pub record PrintsProgress (j : JobState) (text : List ℕ) (status : ℕ) : Type 0 where

@@ -8,12 +8,12 @@ use Rattle.insn_codec.specs.Fault.{code_of_fault as codec_number, slot_of_fault 
 use Rattle.insn_codec.specs.Spelling.{IsRefusal}
 use Rattle.disassembler.specs.Line.{IsListing}
 use Rattle.assembler.specs.declared.fault.TextFault.{TextFault}
-use Rattle.assembler.specs.Fault.{code_of_fault as text_number, line_of}
+use Rattle.assembler.specs.Fault.{code_of_text_fault as text_number, line_of}
 use Rattle.assembler.specs.Source.{IsAssembly, IsTextRefusal, source_lines}
 use Rattle.helpers.specs.Table.{job_table}
 use Rattle.verifier.specs.declared.refusals.Refusal.{Refusal}
 use Rattle.verifier.specs.Checked.{Checked, cost_at}
-use Rattle.verifier.specs.RefusalCodes.{number_of, slot_of}
+use Rattle.verifier.specs.RefusalCodes.{code_of_refusal, slot_of_refusal}
 use Rattle.verifier.specs.Refusals.{IsAccepted, RefusesProgram}
 use Rattle.bpfjobs_cli.specs.Hexadecimal.{IsHexadecimal, IsNoHexadecimal}
 use Rattle.bpfjobs_cli.specs.Printed.{Prints, accepted_line, refusal_line}
@@ -49,7 +49,7 @@ pub data PrintsVerdict (need : ℕ) (input text : List ℕ) (status : ℕ) : Typ
       → PrintsVerdict need input text status
   refused : (bytes : List ℕ) (refusal : Refusal) → IsHexadecimal input bytes
       → RefusesProgram need bytes job_table refusal
-      → Prints text status (refusal_line (number_of refusal) (slot_of refusal)) 1
+      → Prints text status (refusal_line (code_of_refusal refusal) (slot_of_refusal refusal)) 1
       → PrintsVerdict need input text status
   no_hexadecimal : IsNoHexadecimal input → Prints text status (refusal_line 73 None) 1
       → PrintsVerdict need input text status

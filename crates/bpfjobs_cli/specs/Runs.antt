@@ -8,7 +8,7 @@ use Rattle.sessions.specs.Replies.{result_data}
 use Rattle.workers.specs.declared.fault.PoolFault.{PoolFault}
 use Rattle.workers.specs.Final.{IsFinal}
 use Rattle.workers.specs.EndedAlone.{EndedAlone}
-use Rattle.workers.specs.PoolFaultCodes.{number_of}
+use Rattle.workers.specs.PoolFaultCodes.{code_of_pool_fault}
 use Rattle.bpfjobs_cli.specs.declared.declined.JobDeclined.{JobDeclined}
 use Rattle.bpfjobs_cli.specs.Jobs.{IsDeclined, IsOrdered, declined_line}
 use Rattle.bpfjobs_cli.specs.Printed.{Prints, refusal_reply, reply_line}
@@ -25,7 +25,7 @@ pub data PrintsRun (input text : List ℕ) (status : ℕ) : Type 0 where
       0 → PrintsRun input text status
   failed : (order : AdmittedJob) (schedule : List ℕ) (fault : PoolFault)
       → IsOrdered false input order schedule
-      → Prints text status (refusal_reply (number_of fault) None None) 1
+      → Prints text status (refusal_reply (code_of_pool_fault fault) None None) 1
       → PrintsRun input text status
   no_job : (why : JobDeclined) → IsDeclined false input why → Prints text status (declined_line why) 1
       → PrintsRun input text status

@@ -7,7 +7,7 @@ use Rattle.insn_codec.specs.declared.fault.CodecFault.{CodecFault}
 use Rattle.assembler.specs.Source.{source_lines}
 use Rattle.assembler.specs.Fault.{line_of}
 use Rattle.assembler.specs.Quoted.{line_numbered, quoted_of}
-use Rattle.verifier.specs.RefusalCodes.{slot_of}
+use Rattle.verifier.specs.RefusalCodes.{slot_of_refusal}
 use Rattle.explain.specs.declared.lines.SourceLine.{SourceLine}
 use Rattle.explain.specs.Lines.{IsIndex, numbered_text}
 use Rattle.bpfrun_core.specs.declared.fault.RunFault.{RunFault}
@@ -47,7 +47,7 @@ IsTextPlace fault.NotHexadecimal input code place = place ≡ None
 IsTextPlace (fault.Text why) input code place = IsLineOf (line_of why) (source_lines input) place
 IsTextPlace fault.MemoryTooLarge input code place = place ≡ None
 IsTextPlace (fault.Program why) input code place =
-    IsAtInsn (slot_of why) code (source_lines input) place
+    IsAtInsn (slot_of_refusal why) code (source_lines input) place
 IsTextPlace (fault.CreditLow wanted given) input code place = place ≡ None
 IsTextPlace (fault.MemoryShort wanted given) input code place = place ≡ None
 IsTextPlace fault.NoMemory input code place = place ≡ None

@@ -10,7 +10,7 @@ use Rattle.credit_book.specs.declared.event.Event.{Event}
 use Rattle.credit_book.specs.declared.event.Event.TheVariants.{Open}
 use Rattle.credit_book.specs.declared.seats.Opening.{Opening}
 use Rattle.credit_book.specs.declared.seats.View.{View}
-use Rattle.credit_book.specs.History.{word_of, IsHistoryOf, IsLegal}
+use Rattle.credit_book.specs.History.{board_word, IsHistoryOf, IsLegal}
 use Rattle.credit_book.specs.Rule.{writer, reader, opened, Fits, BoardRule, Tells, Looks}
 use Rattle.credit_book.proofs.Histories.{longer_history}
 use Rattle.credit_book.specs.Quiet.{GrowsByEnd}
@@ -55,7 +55,7 @@ module _ {S : Type 0} (o : Opening) (slots id : ℕ) (me : Me S View) (st : Step
       )
 
   -- the step of the writer that publishes a whole history
-  pub publishes : (now : List Event) (f : ℕ → ℕ) → me.0.writes ≡ true → IsLegal now → GrowsByEnd me.0.history now → f (word_of me.0.history) ≡ word_of now
+  pub publishes : (now : List Event) (f : ℕ → ℕ) → me.0.writes ≡ true → IsLegal now → GrowsByEnd me.0.history now → f (board_word me.0.history) ≡ board_word now
       → Allows (BoardRule o) slots id me 0 f (Tells now st me)
   publishes now f writes legal grows becomes s kept homes at fits =
       let longer = grown_prefix me.0.history now grows in
@@ -63,7 +63,7 @@ module _ {S : Type 0} (o : Opening) (slots id : ℕ) (me : Me S View) (st : Step
       let is : me.0.history ≡ kept.1 = mine.1 in
       let w = writer now in
       let history : IsHistoryOf o.job o.issued me.0.history = subst (IsHistoryOf o.job o.issued) (sym is) kept.2 in
-      let words : s.words ≡ word_of me.0.history ∷ [] = kept.3 ∙ ap (λ (l : List Event). word_of l ∷ []) (sym is) in (
+      let words : s.words ≡ board_word me.0.history ∷ [] = kept.3 ∙ ap (λ (l : List Event). board_word l ∷ []) (sym is) in (
         w,
         keeps,
         tt,

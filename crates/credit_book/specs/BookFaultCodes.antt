@@ -3,8 +3,8 @@ use Rattle.std.specs.Prelude.{ℕ}
 use Rattle.credit_book.specs.declared.fault.BookFault.{BookFault}
 use Rattle.credit_book.specs.declared.fault.BookFault.TheVariants.{Stranger, OverSpent, CreditLow, NoMemory}
 
-abbrev pub number_of : BookFault → ℕ
-number_of Stranger = 51
-number_of OverSpent = 52
-number_of CreditLow = 53
-number_of NoMemory = 99
+abbrev pub code_of_book_fault : BookFault → ℕ
+code_of_book_fault Stranger = 51
+code_of_book_fault OverSpent = 52
+code_of_book_fault CreditLow = 53
+code_of_book_fault NoMemory = 99

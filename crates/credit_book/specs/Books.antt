@@ -14,11 +14,11 @@ use Rattle.helpers.specs.Piece.{Piece}
 use Rattle.credit_book.specs.Boards.{Sign}
 use Rattle.credit_book.specs.Buffers.{buffer_of}
 use Rattle.credit_book.specs.Quiet.{NoEnd}
-use Rattle.credit_book.specs.History.{May, table_of, IsHistoryOf, spent_in, returned_in, word_of, standing_at, is_fresh, may_work}
+use Rattle.credit_book.specs.History.{May, table_of, IsHistoryOf, spent_in, returned_in, board_word, standing_at, is_fresh, may_work}
 
 -- the job's board, its history, the length of its buffer, and the tickets that are parked now, the
 -- first parked first
-pub record Account : Type 0 where
+pub record BookState : Type 0 where
   pub board : Sign
   pub history : List Event
   pub size : ℕ
@@ -35,7 +35,7 @@ pub record IsBook (board : Sign) (history : List Event) (standings : List Standi
 -- the history begins with what is posted, which no end follows, and the word is that of the history
 abbrev pub IsPosted : List Event → List Event → Type 0
 IsPosted posted history = (later : List Event) × (history ≡ posted ++ later) × NoEnd later
-    × (word_of history ≡ word_of posted)
+    × (board_word history ≡ board_word posted)
 
 -- the events of the calls
 abbrev pub spawn_event : ℕ → ℕ → SpawnRecord → Event
@@ -46,7 +46,7 @@ abbrev pub end_event : Outcome → Event
 end_event o = End o.number o.used o.r0 o.ran o.part.base o.part.bytes
 
 -- why an end is refused
-abbrev pub IsEndFault : Account → Outcome → BookFault → Type 0
+abbrev pub IsEndFault : BookState → Outcome → BookFault → Type 0
 IsEndFault a o Stranger =
     o.job ≡ a.board.job → ¬ (may_work (standing_at (table_of a.history) o.number).stage ≡ true)
 IsEndFault a o OverSpent = (o.job ≡ a.board.job)
@@ -56,7 +56,7 @@ IsEndFault a o CreditLow = ⊥
 IsEndFault a o NoMemory = ⊥
 
 -- why a spawn is refused; want of memory comes only where the spawn would be legal
-abbrev pub IsSpawnFault : Account → ℕ → SpawnRecord → BookFault → Type 0
+abbrev pub IsSpawnFault : BookState → ℕ → SpawnRecord → BookFault → Type 0
 IsSpawnFault a parent r Stranger =
     ¬ (may_work (standing_at (table_of a.history) parent).stage ≡ true)
 IsSpawnFault a parent r OverSpent = ⊥
@@ -76,7 +76,7 @@ ticket_of job number r = record {
   part = r.part;
 }
 
-abbrev pub IsParkFault : Account → Ticket → BookFault → Type 0
+abbrev pub IsParkFault : BookState → Ticket → BookFault → Type 0
 IsParkFault a t Stranger =
     t.job ≡ a.board.job → ¬ (is_fresh (standing_at (table_of a.history) t.number).stage ≡ true)
 IsParkFault a t OverSpent = ⊥

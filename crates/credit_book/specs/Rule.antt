@@ -8,7 +8,7 @@ use Rattle.credit_book.specs.declared.event.Event.{Event}
 use Rattle.credit_book.specs.declared.seats.Opening.{Opening}
 use Rattle.credit_book.specs.declared.seats.View.{View}
 use Rattle.credit_book.specs.declared.event.Event.TheVariants.{Open}
-use Rattle.credit_book.specs.History.{IsLegal, IsHistoryOf, word_of}
+use Rattle.credit_book.specs.History.{IsLegal, IsHistoryOf, board_word}
 use Rattle.credit_book.specs.Quiet.{GrowsByEnd}
 
 -- the writer knows the history
@@ -31,14 +31,14 @@ Fits seat history by v =
 abbrev pub BoardRule : {S : Type 0} → Opening → State S View → Type 0
 BoardRule o s =
     (seat : ℕ) × (history : List Event) × IsHistoryOf o.job o.issued history
-    × (s.words ≡ word_of history ∷ [])
+    × (s.words ≡ board_word history ∷ [])
     × ((by : ℕ) (v : View) → get_elem? s.views by ≡ some v → Fits seat history by v)
 
 -- a reader has seen a legal history that begins with what it had seen, and whose sums are the word
 abbrev pub Looks : {S : Type 0} → Step S → Me S View → ℕ → Me S View → Type 0
 Looks s v found w =
     (seen : List Event) × (w ≡ (reader seen (v.0.looks + 1), v.1)) × IsPrefix v.0.history seen
-    × IsLegal seen × (word_of seen ≡ found)
+    × IsLegal seen × (board_word seen ≡ found)
 
 -- the writer posts one end: it knows a legal history then that has grown by it
 abbrev pub Tells : {S : Type 0} → List Event → Step S → Me S View → ℕ → Me S View → Type 0

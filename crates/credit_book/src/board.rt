@@ -3,7 +3,7 @@ ghost use Rattle.std.specs.Prelude.{◌≡◌, ◌+◌, ◌*◌, ◌%◌, ◌<�
 ghost use Rattle.std.specs.Arc.{arc_value};
 ghost use mathlib.Core.List.{IsPrefix};
 ghost use Rattle.credit_book.specs.declared.event.Event.TheVariants.{Open};
-ghost use Rattle.credit_book.specs.History.{IsHistoryOf, IsComplete, table_of, spent_in, returned_in, word_of};
+ghost use Rattle.credit_book.specs.History.{IsHistoryOf, IsComplete, table_of, spent_in, returned_in, board_word};
 ghost use Rattle.machine_model.specs.Limits.{max_credit};
 
 use crate::past::Past;
@@ -246,7 +246,7 @@ impl Writer {
     pub(crate) fn publish<J: Chronicle, T>(&mut self, past: &Past, about: &T, amount: u64)
         requires legal { IsLegal J.history }
         requires grows { GrowsByEnd self.old.history J.history }
-        requires amount { word_of J.history ≡ word_of self.old.history + amount }
+        requires amount { board_word J.history ≡ board_word self.old.history + amount }
         ensures board { self.new.board ≡ self.old.board }
         ensures history { self.new.history ≡ J.history }
     {

@@ -3,7 +3,7 @@ ghost use Rattle.std.specs.Prelude.{◌≡◌, ◌+◌, ◌-◌, ◌<◌, ◌≤
 ghost use Rattle.credit_book.specs.declared.event.Stage.TheVariants.{Ended, Fresh};
 ghost use Rattle.std.specs.VecDeque.{deque_capacity, deque_len};
 ghost use Rattle.credit_book.specs.declared.event.Event.TheVariants.{Open, Park, Claim};
-ghost use Rattle.credit_book.specs.History.{IsHistoryOf, IsComplete, May, is_fresh, may_work, table_of, spent_in, returned_in, word_of};
+ghost use Rattle.credit_book.specs.History.{IsHistoryOf, IsComplete, May, is_fresh, may_work, table_of, spent_in, returned_in, board_word};
 ghost use Rattle.credit_book.specs.Tasks.{no_task, ended_task, blank_task};
 
 use crate::board::{Post, Progress, Writer};
@@ -39,10 +39,10 @@ pub struct Book {
 impl Model for Book {
     ghost use Rattle.std.specs.Prelude.{map, length, ◌≤◌};
     ghost use Rattle.std.specs.VecDeque.{deque_capacity};
-    ghost use Rattle.credit_book.specs.Books.{Account, IsBook, IsPosted};
+    ghost use Rattle.credit_book.specs.Books.{BookState, IsBook, IsPosted};
     ghost use Rattle.credit_book.specs.Buffers.{IsLeftBuffer};
 
-    ghost Value = { Account };
+    ghost Value = { BookState };
 
     ghost view = { λ b. record {
       board = b.writer.board;

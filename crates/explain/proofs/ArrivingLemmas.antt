@@ -10,7 +10,7 @@ use Rattle.machine_model.proofs.Codes.{begins_within}
 use Rattle.flow_graph.specs.Flow.{AreNext, IsFlow}
 use Rattle.flow_graph.specs.declared.graph.Next.TheVariants.{Zero, One, Two}
 use Rattle.instruction_rules.specs.declared.rule.Rule.{Rule}
-use Rattle.instruction_rules.specs.declared.state.State.{State}
+use Rattle.instruction_rules.specs.declared.state.AbsState.{AbsState}
 use Rattle.instruction_rules.specs.States.{fault, transferred}
 use Rattle.verifier.specs.InStates.{Subject, InState, Unreached, Undefined, Reached, joined_in_state, unless, out_state, if_leads_to, edge_state, joined_edges, in_state_by, in_state}
 use Rattle.verifier.proofs.Arrivals.{met_nothing, arriving_same, behind_place, joined_over_stops, arrive_is}
@@ -28,7 +28,7 @@ undefined_stays (Reached state) = refl
 
 -- ---- along the edges of one slot
 
-untaken : (i : Insn) (state : State) → transferred i Always state ≡ transferred i NotTaken state
+untaken : (i : Insn) (state : AbsState) → transferred i Always state ≡ transferred i NotTaken state
 untaken (Alu w op dst src) state = refl
 untaken (Mov w dst src) state = refl
 untaken (MovSx e dst src) state = refl
@@ -174,12 +174,12 @@ module _ (p : Subject) (order : List ℕ) (flow : IsFlow (record { code = p.code
 
 -- ---- an instruction that is visited
 
-pub passes_refused : (p : Subject) (i : Insn) (fact : Fact) (a : InState) (state : State) (rule : Rule) → a ≡ Reached state → fault p.need p.helpers i state ≡ Some rule →
+pub passes_refused : (p : Subject) (i : Insn) (fact : Fact) (a : InState) (state : AbsState) (rule : Rule) → a ≡ Reached state → fault p.need p.helpers i state ≡ Some rule →
     Undefined ≡ out_state p (Some i) fact a
 passes_refused p i fact a state rule is broken =
     sym (ap (out_state p (Some i) fact) is ∙ ap (λ (o : Option Rule). unless o (transferred i fact state)) broken)
 
-pub passes_allowed : (p : Subject) (i : Insn) (fact : Fact) (a : InState) (state next : State) → a ≡ Reached state → fault p.need p.helpers i state ≡ None →
+pub passes_allowed : (p : Subject) (i : Insn) (fact : Fact) (a : InState) (state next : AbsState) → a ≡ Reached state → fault p.need p.helpers i state ≡ None →
     next ≡ transferred i fact state → Reached next ≡ out_state p (Some i) fact a
 passes_allowed p i fact a state next is allowed e =
     ap Reached e ∙ sym (ap (out_state p (Some i) fact) is ∙ ap (λ (o : Option Rule). unless o (transferred i fact state)) allowed)

@@ -9,7 +9,7 @@ use Rattle.machine_model.proofs.Codes.{begins_within}
 use Rattle.flow_graph.specs.declared.graph.Next.TheVariants.{One, Two, Zero}
 use Rattle.flow_graph.specs.Cycles.{IsJoint}
 use Rattle.flow_graph.specs.Flow.{AreNext}
-use Rattle.flow_graph.specs.Program.{IsDecoded, code_of, slots_of}
+use Rattle.flow_graph.specs.Program.{IsDecoded, code_of, code_of_insn}
 use Rattle.flow_graph.proofs.OrderLemmas.{joint_begins}
 use Rattle.explain.specs.declared.blocks.Block.{Block}
 use Rattle.explain.specs.Blocks.{AreBegun, IsStraight, IsTiled, slots_in}
@@ -59,7 +59,7 @@ two_slots : (i : Insn) (rest : Code) (k m : ℕ) → m ≡ suc (suc k) → insn_
 two_slots i rest k m e = ap (insn_at (Some i ∷ None ∷ rest)) e
 
 -- behind the slots of one instruction are those of the others
-behind : (i : Insn) (rest : Code) (k m : ℕ) → m ≡ length (spelled i) + k → insn_at (slots_of i ++ rest) m ≡ insn_at rest k
+behind : (i : Insn) (rest : Code) (k m : ℕ) → m ≡ length (spelled i) + k → insn_at (code_of_insn i ++ rest) m ≡ insn_at rest k
 behind (Alu w op dst src) rest k m e = one_slot _ rest k m (omega (arith, e))
 behind (Mov w dst src) rest k m e = one_slot _ rest k m (omega (arith, e))
 behind (MovSx x dst src) rest k m e = one_slot _ rest k m (omega (arith, e))

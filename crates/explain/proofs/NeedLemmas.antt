@@ -12,19 +12,19 @@ use Rattle.value_ranges.specs.declared.abs.Abs.{Abs}
 use Rattle.value_ranges.specs.declared.abs.Abs.TheVariants.{Unset, Num, Stack, Part}
 use Rattle.instruction_rules.specs.declared.rule.Rule.{Rule}
 use Rattle.instruction_rules.specs.declared.rule.Rule.TheVariants.{OutOfPart}
-use Rattle.instruction_rules.specs.declared.state.State.{State}
+use Rattle.instruction_rules.specs.declared.state.AbsState.{AbsState}
 use Rattle.instruction_rules.specs.Covers.{abs_at}
-use Rattle.instruction_rules.specs.States.{access_fault, call_fault, fault, first, kind_fault, length_fault, number_arguments, number_fault, span_fault, unset_arguments}
+use Rattle.instruction_rules.specs.States.{access_fault, call_fault, fault, first_rule, kind_fault, length_fault, number_arguments, number_fault, span_fault, unset_arguments}
 use Rattle.explain.specs.Needs.{LeavesPart}
 
 -- what is broken with a smaller need: the same as with a greater one, or the part is left
 abbrev Grows : Option Rule → Option Rule → Type 0
 Grows small large = (small ≡ large) ⊎ (small ≡ Some OutOfPart)
 
-first_grows : (a b c d : Option Rule) → Grows a b → Grows c d → Grows (first a c) (first b d)
-first_grows a b c d (inr e) more = inr (ap (λ (o : Option Rule). first o c) e)
-first_grows (Some rule) b c d (inl e) more = inl (ap (λ (o : Option Rule). first o d) e)
-first_grows None b c d (inl e) more = subst (λ (o : Option Rule). Grows c (first o d)) e more
+first_grows : (a b c d : Option Rule) → Grows a b → Grows c d → Grows (first_rule a c) (first_rule b d)
+first_grows a b c d (inr e) more = inr (ap (λ (o : Option Rule). first_rule o c) e)
+first_grows (Some rule) b c d (inl e) more = inl (ap (λ (o : Option Rule). first_rule o d) e)
+first_grows None b c d (inl e) more = subst (λ (o : Option Rule). Grows c (first_rule o d)) e more
 
 by_tests : (low short long : Bool) → (long ≡ true → short ≡ true) →
     Grows (if low || short then Some OutOfPart else None) (if low || long then Some OutOfPart else None)
@@ -51,26 +51,26 @@ module _ (m n : ℕ) (le : m ≤ n) where
   span_grows pointer (Stack reach) = inl refl
   span_grows pointer (Part reach) = inl refl
 
-  kind_grows : (state : State) (helper arity : ℕ) → Grows (kind_fault m state helper arity) (kind_fault n state helper arity)
+  kind_grows : (state : AbsState) (helper arity : ℕ) → Grows (kind_fault m state helper arity) (kind_fault n state helper arity)
   kind_grows state helper arity = by (helper == 4) (helper == 5)
     where
       fills : Option Rule
-      fills = first (length_fault (abs_at state 2)) (number_fault (abs_at state 3))
+      fills = first_rule (length_fault (abs_at state 2)) (number_fault (abs_at state 3))
 
       by : (fill sum : Bool) →
-          Grows (if fill then first (span_fault m (abs_at state 1) (abs_at state 2)) fills else
-          if sum then first (span_fault m (abs_at state 1) (abs_at state 2)) (length_fault (abs_at state 2)) else number_arguments state arity)
-          (if fill then first (span_fault n (abs_at state 1) (abs_at state 2)) fills else
-          if sum then first (span_fault n (abs_at state 1) (abs_at state 2)) (length_fault (abs_at state 2)) else number_arguments state arity)
+          Grows (if fill then first_rule (span_fault m (abs_at state 1) (abs_at state 2)) fills else
+          if sum then first_rule (span_fault m (abs_at state 1) (abs_at state 2)) (length_fault (abs_at state 2)) else number_arguments state arity)
+          (if fill then first_rule (span_fault n (abs_at state 1) (abs_at state 2)) fills else
+          if sum then first_rule (span_fault n (abs_at state 1) (abs_at state 2)) (length_fault (abs_at state 2)) else number_arguments state arity)
       by true sum = first_grows _ _ _ _ (span_grows (abs_at state 1) (abs_at state 2)) (inl refl)
       by false true = first_grows _ _ _ _ (span_grows (abs_at state 1) (abs_at state 2)) (inl refl)
       by false false = inl refl
 
-  call_grows : (state : State) (helper : ℕ) (arity : Option ℕ) → Grows (call_fault m state helper arity) (call_fault n state helper arity)
+  call_grows : (state : AbsState) (helper : ℕ) (arity : Option ℕ) → Grows (call_fault m state helper arity) (call_fault n state helper arity)
   call_grows state helper None = inl refl
   call_grows state helper (Some arity) = first_grows (unset_arguments state arity) (unset_arguments state arity) _ _ (inl refl) (kind_grows state helper arity)
 
-  fault_grows : (helpers : Table) (i : Insn) (state : State) → Grows (fault m helpers i state) (fault n helpers i state)
+  fault_grows : (helpers : Table) (i : Insn) (state : AbsState) → Grows (fault m helpers i state) (fault n helpers i state)
   fault_grows helpers (Alu w op dst src) state = inl refl
   fault_grows helpers (Mov w dst src) state = inl refl
   fault_grows helpers (MovSx e dst src) state = inl refl
@@ -88,14 +88,14 @@ module _ (m n : ℕ) (le : m ≤ n) where
   fault_grows helpers (Call helper) state = call_grows state helper (arity_in helpers helper)
   fault_grows helpers Exit state = inl refl
 
-  pub leaves_less : (helpers : Table) (i : Insn) (state : State) → LeavesPart helpers i state n → LeavesPart helpers i state m
+  pub leaves_less : (helpers : Table) (i : Insn) (state : AbsState) → LeavesPart helpers i state n → LeavesPart helpers i state m
   leaves_less helpers i state leaves = elim (fault_grows helpers i state) [
     | inl same ↦ same ∙ leaves
     | inr leaves ↦ leaves
   ]
 
 -- between two needs that follow each other, of which the first leaves the part and the second not
-pub from_here : (helpers : Table) (i : Insn) (state : State) (low high : ℕ) → high ≤ low + 1 → LeavesPart helpers i state low → (LeavesPart helpers i state high → ⊥) →
+pub from_here : (helpers : Table) (i : Insn) (state : AbsState) (low high : ℕ) → high ≤ low + 1 → LeavesPart helpers i state low → (LeavesPart helpers i state high → ⊥) →
     (need : ℕ) → LeavesPart helpers i state need ↔ (need < high)
 from_here helpers i state low high near leaves not need = (
   λ l. elim (cases_lt need high) [

@@ -6,7 +6,7 @@ use Rattle.machine_model.specs.Edges.{Always, Begins, Code, IsEdge}
 use Rattle.machine_model.specs.Paths.{IsCost}
 use Rattle.flow_graph.specs.Cycles.{IsJoint}
 use Rattle.flow_graph.specs.Flow.{AreNext}
-use Rattle.instruction_rules.specs.declared.state.State.{State}
+use Rattle.instruction_rules.specs.declared.state.AbsState.{AbsState}
 use Rattle.verifier.specs.InStates.{InState, Reached, Subject, in_state}
 use Rattle.explain.specs.declared.blocks.Block.{Block}
 use Rattle.explain.specs.declared.explanation.InstructionPlace.{InstructionPlace}
@@ -21,9 +21,9 @@ pub record IsStraight (code : Code) (from to : ℕ) : Type 0 where
   pub sole : (k : ℕ) → IsJoint code k to → k ≡ from
 
 -- what is told of the registers where this arrives
-abbrev pub IsToldOf : InState → Option State → Type 0
+abbrev pub IsToldOf : InState → Option AbsState → Type 0
 IsToldOf a (Some state) = a ≡ Reached state
-IsToldOf a None = (state : State) → a ≡ Reached state → ⊥
+IsToldOf a None = (state : AbsState) → a ≡ Reached state → ⊥
 
 -- Of the instructions from the first on each leads straight to the next, up to the end, where that
 -- ceases. The cost and what is known are those ahead of the first, the edges those of the last.

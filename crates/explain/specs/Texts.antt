@@ -9,7 +9,7 @@ use Rattle.value_ranges.specs.Span.{Span}
 use Rattle.value_ranges.specs.Numbers.{Ranges}
 use Rattle.value_ranges.specs.declared.abs.Abs.{Abs}
 use Rattle.value_ranges.specs.declared.abs.Abs.TheVariants.{Unset, Num, Stack, Part}
-use Rattle.instruction_rules.specs.declared.state.State.{State}
+use Rattle.instruction_rules.specs.declared.state.AbsState.{AbsState}
 use Rattle.instruction_rules.specs.Covers.{abs_at}
 use Rattle.verifier.specs.declared.refusals.Refusal.{Refusal}
 use Rattle.verifier.specs.declared.refusals.Refusal.TheVariants.{NeedTooLarge, Codec, Flow, UnsetRead, OutOfStack, OutOfPart, BadKind, PointerRange, FramePointer, NoHelper, NoMemory}
@@ -62,7 +62,7 @@ register_line number known =
     codes "  r" ++ (decimal number ++ (codes " " ++ (known_text known ++ codes "\n")))
 
 -- a line for each register
-abbrev pub registers_text : State → List ℕ
+abbrev pub registers_text : AbsState → List ℕ
 registers_text s =
     register_line 0 (abs_at s 0) ++ (register_line 1 (abs_at s 1) ++ (register_line 2 (abs_at s 2)
     ++ (register_line 3 (abs_at s 3) ++ (register_line 4 (abs_at s 4)

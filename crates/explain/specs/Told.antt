@@ -10,7 +10,7 @@ use Rattle.verifier.specs.declared.refusals.Refusal.{Refusal}
 use Rattle.verifier.specs.declared.refusals.Refusal.TheVariants.{NeedTooLarge, Codec, Flow, UnsetRead, OutOfStack, OutOfPart, BadKind, PointerRange, FramePointer, NoHelper, NoMemory}
 use Rattle.verifier.specs.Checked.{Checked}
 use Rattle.verifier.specs.InStates.{Subject, Reached, in_state}
-use Rattle.verifier.specs.RefusalCodes.{slot_of}
+use Rattle.verifier.specs.RefusalCodes.{slot_of_refusal}
 use Rattle.verifier.specs.Refusals.{RefusesProgram, IsAccepted}
 use Rattle.explain.specs.declared.explanation.Explanation.{Explanation}
 use Rattle.explain.specs.declared.explanation.RefusalContext.{RefusalContext}
@@ -63,5 +63,5 @@ pub record IsTold (need : ℕ) (code : List ℕ) (helpers : Table) (source : Opt
     (why : Explanation) : Type 0 where
   pub refused : RefusesProgram need code helpers why.refusal
   pub lasting : why.refusal ≢ NoMemory
-  pub place : IsPlaceOf code source (slot_of why.refusal) why.place
+  pub place : IsPlaceOf code source (slot_of_refusal why.refusal) why.place
   pub known : IsKnownOf need code helpers (ruled_slot why.refusal) why.known

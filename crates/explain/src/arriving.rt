@@ -4,7 +4,7 @@
 ghost use Rattle.std.specs.Prelude.{◌≡◌, ℕ, ◌<◌, ◌≤◌, length, slice_index_or, IfOk, Some, if◌then◌else◌};
 ghost use Rattle.machine_model.specs.Edges.{NotTaken, Taken, insn_at};
 ghost use Rattle.machine_model.specs.Limits.{max_part};
-ghost use Rattle.instruction_rules.specs.declared.state.State.{State};
+ghost use Rattle.instruction_rules.specs.declared.state.AbsState.{AbsState};
 ghost use Rattle.verifier.specs.InStates.{Reached, if_leads_to, in_state, in_state_by, joined_edges, joined_in_state, out_state};
 ghost use Rattle.verifier.specs.Sources.{AreLinked};
 ghost use Rattle.explain.specs.Arriving.{AreArrivals, arriving, arriving_at, joined_from, subject_of_program};
@@ -14,7 +14,7 @@ use crate::predecessors::Predecessors;
 use flow_graph::{Graph, Next};
 use helpers::HelperTable;
 use insn_codec::Insn;
-use instruction_rules::{State, judge, transfer};
+use instruction_rules::{AbsState, judge, transfer};
 use refusal::NoMemory;
 use std::alloc::Global;
 use value_ranges::Abs;
@@ -27,7 +27,7 @@ pub(crate) enum Arrival {
     /// An instruction ahead isn't allowed.
     Undefined,
     /// This is known of the registers.
-    Reached(State),
+    Reached(AbsState),
 }
 
 /// A program, the bytes that it needs and the helpers that it may call.
@@ -178,7 +178,7 @@ fn arrive(
         (length analyzed.now.graph.now.code) }
 {
     if slot == 0 {
-        return Arrival::Reached(State::entry(analyzed.need));
+        return Arrival::Reached(AbsState::entry(analyzed.need));
     }
     join_all(analyzed, predecessors, table, slot)
 }
@@ -190,7 +190,7 @@ fn nowhere(alloc: Global, slots: u32) -> Result<Vec<Arrival>, NoMemory>
         → slice_index_or table.items s arrival.Unreached ≡ arrival.Unreached) }
 {
     // The borrow checker's part of the proof has to hear of the types.
-    let _known: Option<(State, Abs)> = None;
+    let _known: Option<(AbsState, Abs)> = None;
     let mut table = Vec::with_capacity(alloc, slots as usize)?;
     for _ in 0..slots {
         table.push(Arrival::Unreached)?;
@@ -223,10 +223,10 @@ pub(crate) fn state_at(
     alloc: Global,
     analyzed: &AnalyzedProgram<'_>,
     slot: u32,
-) -> Result<State, NoMemory>
+) -> Result<AbsState, NoMemory>
     requires need { analyzed.now.need ≤ max_part }
     requires slot { slot < length analyzed.now.graph.now.code }
-    requires arrives { (state : State)
+    requires arrives { (state : AbsState)
         × (in_state (subject_of_program analyzed.now) slot ≡ Reached state) }
     ensures { IfOk result
         (λ state. in_state (subject_of_program analyzed.now) slot ≡ Reached state) }

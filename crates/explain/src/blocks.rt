@@ -16,7 +16,7 @@ use flow_graph::{Graph, Next};
 use insn_codec::Placed;
 use refusal::NoMemory;
 use std::alloc::Global;
-use verifier::State;
+use verifier::AbsState;
 
 /// Instructions in turn, of which each but the last leads straight to the next: by its only edge,
 /// which is the only one there.
@@ -30,7 +30,7 @@ pub struct Block {
     pub cost: u32,
     /// What is known of each register ahead of it, on every way; `None` where a way there passes an
     /// instruction that isn't allowed.
-    pub known: Option<State>,
+    pub known: Option<AbsState>,
     /// The slots that its last instruction leads to, the following one first.
     pub next: Next,
 }
@@ -114,7 +114,7 @@ fn end_of(graph: &Graph, predecessors: &Predecessors, placed: &[Placed], first: 
 }
 
 /// What is known where this arrives.
-fn known_of(arrival: &Arrival) -> Option<State>
+fn known_of(arrival: &Arrival) -> Option<AbsState>
     ensures { IsToldOf (arriving arrival.now) result }
 {
     match arrival {
@@ -165,7 +165,7 @@ pub(crate) fn blocks(
         (λ blocks. AreBlocks (subject_of_program analyzed.now) placed.now blocks.items) }
 {
     // the borrow checker's part of the proof has to hear of the type
-    let _known: Option<State> = None;
+    let _known: Option<AbsState> = None;
     let costs = costs(alloc, analyzed.graph)?;
     let predecessors = Predecessors::of(alloc, analyzed.graph)?;
     let table = arrivals(alloc, analyzed, &predecessors)?;

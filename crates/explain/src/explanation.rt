@@ -9,7 +9,7 @@ use crate::rules::rule;
 use refusal::NoMemory;
 use std::alloc::Global;
 use std::fmt;
-use verifier::{Refusal, State};
+use verifier::{AbsState, Refusal};
 
 /// The instruction at a slot.
 #[derive(Drop)]
@@ -27,7 +27,7 @@ pub struct RefusalContext {
     /// The slots of a way that leads there, from slot 0 on.
     pub way: Vec<u32>,
     /// What is known of each register there, on every way.
-    pub state: State,
+    pub state: AbsState,
     /// Where it leaves the part, the needs with which it doesn't, where this is known.
     pub enough: Option<Enough>,
 }

@@ -16,7 +16,7 @@ use crate::needs::least_need;
 use flow_graph::{FlowFault, build};
 use helpers::HelperTable;
 use insn_codec::{CodecFault, Insn, decode};
-use instruction_rules::State;
+use instruction_rules::AbsState;
 use refusal::NoMemory;
 use std::alloc::Global;
 use verifier::Refusal;
@@ -43,7 +43,7 @@ pub(crate) fn known_in(
     analyzed: &AnalyzedProgram<'_>,
     insn: &Insn,
     slot: u32,
-    state: State,
+    state: AbsState,
 ) -> Result<RefusalContext, NoMemory>
     requires need { analyzed.now.need ≤ max_part }
     requires there { insn_at analyzed.now.graph.now.code slot ≡ Some insn.now }

@@ -7,7 +7,7 @@ ghost use Rattle.explain.specs.Needs.{IsEnoughOf, LeavesPart};
 
 use helpers::HelperTable;
 use insn_codec::Insn;
-use instruction_rules::{Rule, State, judge};
+use instruction_rules::{AbsState, Rule, judge};
 
 /// The greatest need of a program.
 const GREATEST_NEED: u32 = 65536;
@@ -37,7 +37,7 @@ fn is_of_part(rule: Rule) -> bool
 }
 
 /// Whether the instruction may leave the part in a program of this need.
-fn leaves_part(need: u32, helpers: &HelperTable, insn: &Insn, state: &State) -> bool
+fn leaves_part(need: u32, helpers: &HelperTable, insn: &Insn, state: &AbsState) -> bool
     ensures { IsTrue result ↔ LeavesPart helpers.now insn.now state.now need }
 {
     match judge(need, helpers, insn, state) {
@@ -52,7 +52,7 @@ pub(crate) fn least_need(
     need: u32,
     helpers: &HelperTable,
     insn: &Insn,
-    state: &State,
+    state: &AbsState,
 ) -> Option<Enough>
     requires { need ≤ max_part }
     ensures { IsEnoughOf helpers.now insn.now state.now need result }

@@ -7,7 +7,7 @@ ghost use Rattle.explain.specs.Texts.{is_any, is_narrow};
 use insn_codec::Register;
 use std::fmt;
 use value_ranges::{Abs, Numbers, Reach, SignedRange};
-use verifier::State;
+use verifier::AbsState;
 
 /// Whether some of the signed readings are ruled out.
 fn is_narrow(range: SignedRange) -> bool
@@ -133,7 +133,7 @@ impl fmt::Display for RegisterLine {
 }
 
 /// The line of a register in a state.
-fn line_of(state: &State, number: u8) -> RegisterLine
+fn line_of(state: &AbsState, number: u8) -> RegisterLine
     requires { number ≤ 10 }
     ensures number { result.0 ≡ number }
     ensures known { result.1 ≡ abs_at state.now number }
@@ -143,7 +143,7 @@ fn line_of(state: &State, number: u8) -> RegisterLine
 
 /// A line for each register.
 #[derive(Clone, Copy)]
-pub(crate) struct RegisterLines(pub(crate) State);
+pub(crate) struct RegisterLines(pub(crate) AbsState);
 
 impl fmt::Display for RegisterLines {
     ghost use Rattle.std.specs.Prelude.{Some};

@@ -5,7 +5,7 @@ use Rattle.insn_codec.specs.declared.insn.Insn.TheVariants.{Alu, Mov, MovSx, Neg
 use Rattle.insn_codec.specs.declared.insn.Placed.{Placed}
 use Rattle.insn_codec.specs.Spelling.{other_slots, spelling, spellings, IsProgram, slots_of as spelled}
 use Rattle.insn_codec.proofs.Bytes.{length-spelling}
-use Rattle.flow_graph.specs.Program.{slots_of, second_slot, code_of, IsDecoded}
+use Rattle.flow_graph.specs.Program.{code_of_insn, second_slot, code_of, IsDecoded}
 
 -- an instruction has as many slots as its spelling
 as_many : (i : Insn) → length (other_slots i) ≡ length (second_slot i)
@@ -32,8 +32,8 @@ eight (p ∷ placed) =
     let own : length (spelling p.insn) ≡ 8 * length (spelled p.insn) = length-spelling p.insn in
     let left : length (spelling p.insn ++ spellings (map (λ q. q.insn) placed)) ≡ length (spelling p.insn) + length (spellings (map (λ q. q.insn) placed)) =
     length-append (spelling p.insn) (spellings (map (λ q. q.insn) placed)) in
-    let right : length (slots_of p.insn ++ code_of placed) ≡ length (slots_of p.insn) + length (code_of placed) =
-    length-append (slots_of p.insn) (code_of placed) in
+    let right : length (code_of_insn p.insn ++ code_of placed) ≡ length (code_of_insn p.insn) + length (code_of placed) =
+    length-append (code_of_insn p.insn) (code_of placed) in
     let others : length (spellings (map (λ q. q.insn) placed)) ≡ 8 * length (code_of placed) = eight placed in
     omega arith
 

@@ -10,7 +10,7 @@ use Rattle.flow_graph.specs.declared.fault.FlowFault.TheVariants.{JumpOut, IntoW
 use Rattle.flow_graph.specs.declared.onward.Onward.{Onward}
 use Rattle.flow_graph.specs.declared.onward.Onward.TheVariants.{Steps, StepsWide, Jumps, Branches, Ends}
 use Rattle.flow_graph.specs.Onward.{onward_of}
-use Rattle.flow_graph.specs.Faults.{landing_fault, jump_fault, fall_fault, first, onward_fault, fault_of, fault_at, IsFirstFault}
+use Rattle.flow_graph.specs.Faults.{landing_fault, jump_fault, fall_fault, first_of_faults, onward_fault, fault_of, fault_at, IsFirstFault}
 use Rattle.flow_graph.specs.Refusals.{Refuses}
 
 abbrev IsAt : ℕ → FlowFault → Type 0
@@ -40,7 +40,7 @@ jump_at code slot (Some to) fault e = landing_at slot to (slice_get code to) fau
 fall_at : (code : Code) (slot to : ℕ) (fault : FlowFault) → fall_fault code slot to ≡ Some fault → IsAt slot fault
 fall_at code slot to fault e = tested (nat_lt to (length code)) slot (FallsOff slot) fault refl e
 
-pub either : (a b : Option FlowFault) (fault : FlowFault) → first a b ≡ Some fault → (a ≡ Some fault) ⊎ (b ≡ Some fault)
+pub either : (a b : Option FlowFault) (fault : FlowFault) → first_of_faults a b ≡ Some fault → (a ≡ Some fault) ⊎ (b ≡ Some fault)
 either None b fault e = inr e
 either (Some told) b fault e = inl e
 

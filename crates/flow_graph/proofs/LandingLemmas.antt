@@ -15,8 +15,8 @@ use Rattle.flow_graph.specs.declared.fault.FlowFault.TheVariants.{JumpOut, IntoW
 use Rattle.flow_graph.specs.declared.onward.Onward.{Onward}
 use Rattle.flow_graph.specs.declared.onward.Onward.TheVariants.{Steps, StepsWide, Jumps, Branches, Ends}
 use Rattle.flow_graph.specs.Onward.{onward_of}
-use Rattle.flow_graph.specs.Program.{slots_of, code_of, IsDecoded}
-use Rattle.flow_graph.specs.Faults.{landing_fault, jump_fault, fall_fault, first, onward_fault, fault_of, fault_at}
+use Rattle.flow_graph.specs.Program.{code_of_insn, code_of, IsDecoded}
+use Rattle.flow_graph.specs.Faults.{landing_fault, jump_fault, fall_fault, first_of_faults, onward_fault, fault_of, fault_at}
 use Rattle.flow_graph.specs.Landings.{JumpsBy, FallsThrough, IsOut, IsInto, JumpsOut, JumpsInto, IsLast, IsSettled}
 use Rattle.flow_graph.proofs.Onwards.{leads_on, width_of, other_slot, second_is, leads_of, first_none}
 use Rattle.flow_graph.proofs.FaultLemmas.{either}
@@ -55,9 +55,9 @@ wide_of (Jumps offset) = refl
 wide_of (Branches offset) = refl
 wide_of Ends = refl
 
-width_is : (i : Insn) (o : Onward) → onward_of i ≡ o → length (slots_of i) ≡ width_of o
+width_is : (i : Insn) (o : Onward) → onward_of i ≡ o → length (code_of_insn i) ≡ width_of o
 width_is i o e =
-    let second : length (slots_of i) ≡ length (other_slot o) + 1 = omega (arith, ap length (second_is i), ap (λ (p : Onward). length (other_slot p)) e) in
+    let second : length (code_of_insn i) ≡ length (other_slot o) + 1 = omega (arith, ap length (second_is i), ap (λ (p : Onward). length (other_slot p)) e) in
     second ∙ wide_of o
 
 -- ---- jumps
@@ -182,7 +182,7 @@ to_jump Q code slot i f StepsWide how back offset by h = absurd (how.1 offset by
 to_jump Q code slot i f (Jumps own) how back offset by h =
     back (target slot own) (subst (λ (z : ℤ). Q (target slot z)) (sym (how.1 offset by)) h)
 to_jump Q code slot i f (Branches own) how back offset by h =
-    ap (λ (j : Option FlowFault). first j (fall_fault code slot (slot + 1)))
+    ap (λ (j : Option FlowFault). first_of_faults j (fall_fault code slot (slot + 1)))
     (back (target slot own) (subst (λ (z : ℤ). Q (target slot z)) (sym (how.1 offset by)) h))
 to_jump Q code slot i f Ends how back offset by h = absurd (how.1 offset by)
 
@@ -225,14 +225,14 @@ last_of code slot i Ends e how f = absurd (cc)
 of_last : (code : Code) (slot : ℕ) (i : Insn) (o : Onward) → onward_of i ≡ o → HowOn i o → IsLast code slot i → (JumpsOut code slot i → ⊥) →
     (JumpsInto code slot i → ⊥) → onward_fault code slot o ≡ Some (FallsOff slot)
 of_last code slot i Steps e how h out into =
-    let le : length code ≤ slot + length (slots_of i) = h.1 in fall_some code slot (slot + 1) (omega (arith, width_is i Steps e))
+    let le : length code ≤ slot + length (code_of_insn i) = h.1 in fall_some code slot (slot + 1) (omega (arith, width_is i Steps e))
 of_last code slot i StepsWide e how h out into =
-    let le : length code ≤ slot + length (slots_of i) = h.1 in fall_some code slot (slot + 2) (omega (arith, width_is i StepsWide e))
+    let le : length code ≤ slot + length (code_of_insn i) = h.1 in fall_some code slot (slot + 2) (omega (arith, width_is i StepsWide e))
 of_last code slot i (Jumps offset) e how h out into = absurd (how.2 h.0)
 of_last code slot i (Branches offset) e how h out into = elim (jump_cases code slot (target slot offset)) [
   | inl none ↦
-      let le : length code ≤ slot + length (slots_of i) = h.1 in
-      ap (λ (j : Option FlowFault). first j (fall_fault code slot (slot + 1))) none
+      let le : length code ≤ slot + length (code_of_insn i) = h.1 in
+      ap (λ (j : Option FlowFault). first_of_faults j (fall_fault code slot (slot + 1))) none
       ∙ fall_some code slot (slot + 1) (omega (arith, width_is i (Branches offset) e))
   | inr bad ↦ elim bad [
     | inl o ↦ absurd (out (offset, how.0, o))
@@ -274,7 +274,7 @@ no_fault code slot i StepsWide how s leads =
 no_fault code slot i (Jumps offset) how s leads =
     jump_lands code slot (target slot offset) (s.targets offset how.0) (λ to e. s.lands Always to (leads Always ∙ e))
 no_fault code slot i (Branches offset) how s leads =
-    ap (λ (j : Option FlowFault). first j (fall_fault code slot (slot + 1)))
+    ap (λ (j : Option FlowFault). first_of_faults j (fall_fault code slot (slot + 1)))
     (jump_lands code slot (target slot offset) (s.targets offset how.0) (λ to e. s.lands Taken to (leads Taken ∙ e)))
     ∙ fall_none code slot (slot + 1) (begins_within code (slot + 1) (s.lands NotTaken (slot + 1) (leads NotTaken)))
 no_fault code slot i Ends how s leads = refl

@@ -9,7 +9,7 @@ use Rattle.flow_graph.specs.declared.onward.Onward.TheVariants.{Steps, StepsWide
 use Rattle.flow_graph.specs.declared.fault.FlowFault.{FlowFault}
 use Rattle.flow_graph.specs.Onward.{onward_of}
 use Rattle.flow_graph.specs.Program.{second_slot}
-use Rattle.flow_graph.specs.Faults.{first}
+use Rattle.flow_graph.specs.Faults.{first_of_faults}
 
 abbrev pub leads_on : Onward → ℕ → Fact → Option ℕ
 leads_on Steps slot Always = Some (slot + 1)
@@ -81,6 +81,6 @@ pub leads_of : (code : Code) (slot : ℕ) (i : Insn) (fact : Fact) → insn_at c
     leads_at code slot fact ≡ leads_on (onward_of i) slot fact
 leads_of code slot i fact e = ap (λ (o : Option Insn). option_and_then (λ j. leads j slot fact) o) e ∙ leads_is i slot fact
 
-pub first_none : (a b : Option FlowFault) → first a b ≡ None → (a ≡ None) × (b ≡ None)
+pub first_none : (a b : Option FlowFault) → first_of_faults a b ≡ None → (a ≡ None) × (b ≡ None)
 first_none None b e = (refl, e)
 first_none (Some fault) b e = absurd (cc)

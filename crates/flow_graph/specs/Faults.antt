@@ -24,9 +24,9 @@ jump_fault code slot (Some to) = landing_fault slot to (slice_get code to)
 abbrev pub fall_fault : Code → ℕ → ℕ → Option FlowFault
 fall_fault code slot to = if nat_lt to (length code) then None else Some (FallsOff slot)
 
-abbrev pub first : Option FlowFault → Option FlowFault → Option FlowFault
-first (Some fault) other = Some fault
-first None other = other
+abbrev pub first_of_faults : Option FlowFault → Option FlowFault → Option FlowFault
+first_of_faults (Some fault) other = Some fault
+first_of_faults None other = other
 
 -- the fault of lowest number that applies to an instruction which goes on in this way
 abbrev pub onward_fault : Code → ℕ → Onward → Option FlowFault
@@ -34,7 +34,7 @@ onward_fault code slot Steps = fall_fault code slot (slot + 1)
 onward_fault code slot StepsWide = fall_fault code slot (slot + 2)
 onward_fault code slot (Jumps offset) = jump_fault code slot (target slot offset)
 onward_fault code slot (Branches offset) =
-    first (jump_fault code slot (target slot offset)) (fall_fault code slot (slot + 1))
+    first_of_faults (jump_fault code slot (target slot offset)) (fall_fault code slot (slot + 1))
 onward_fault code slot Ends = None
 
 abbrev pub fault_of : Code → ℕ → Option Insn → Option FlowFault

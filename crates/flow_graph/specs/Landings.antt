@@ -3,7 +3,7 @@ use Rattle.std.specs.Prelude.{◌≡◌, ℕ, ℤ, ◌+◌, ◌≤◌, ◌<◌, 
 use Rattle.insn_codec.specs.declared.insn.Insn.{Insn}
 use Rattle.insn_codec.specs.declared.insn.Insn.TheVariants.{Jump, Jump32, JumpIf, Exit}
 use Rattle.machine_model.specs.Edges.{Code, Fact, IsEdge, Begins, target}
-use Rattle.flow_graph.specs.Program.{slots_of}
+use Rattle.flow_graph.specs.Program.{code_of_insn}
 
 -- the instruction is a jump by this offset, with a condition or without
 abbrev pub JumpsBy : Insn → ℤ → Type 0
@@ -38,7 +38,7 @@ JumpsInto code slot i = (offset : ℤ) × JumpsBy i offset × IsInto code (targe
 
 -- 24: nothing stands after an instruction that falls through
 abbrev pub IsLast : Code → ℕ → Insn → Type 0
-IsLast code slot i = FallsThrough i × (length code ≤ slot + length (slots_of i))
+IsLast code slot i = FallsThrough i × (length code ≤ slot + length (code_of_insn i))
 
 -- its target, where it jumps, isn't below slot 0, and each of its edges leads to an instruction
 pub record IsSettled (code : Code) (slot : ℕ) (i : Insn) : Type 0 where

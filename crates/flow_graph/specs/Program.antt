@@ -12,13 +12,13 @@ abbrev pub second_slot : Insn → Code
 second_slot (LoadWide dst value) = None ∷ []
 second_slot i = []
 
-abbrev pub slots_of : Insn → Code
-slots_of i = Some i ∷ second_slot i
+abbrev pub code_of_insn : Insn → Code
+code_of_insn i = Some i ∷ second_slot i
 
 -- the slots of the instructions, one after the other
 abbrev pub code_of : List Placed → Code
 code_of [] = []
-code_of (p ∷ placed) = slots_of p.insn ++ code_of placed
+code_of (p ∷ placed) = code_of_insn p.insn ++ code_of placed
 
 -- one or more instructions in turn from slot 0 on, in at most 4096 slots
 pub record IsDecoded (placed : List Placed) : Type 0 where

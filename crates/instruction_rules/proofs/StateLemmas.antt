@@ -5,7 +5,7 @@ use Rattle.value_ranges.specs.declared.abs.Abs.{Abs}
 use Rattle.value_ranges.specs.declared.abs.Abs.TheVariants.{Unset, Num, Stack, Part}
 use Rattle.value_ranges.specs.Joins.{joined}
 use Rattle.instruction_rules.specs.declared.rule.Rule.{Rule}
-use Rattle.instruction_rules.specs.declared.state.State.{State}
+use Rattle.instruction_rules.specs.declared.state.AbsState.{AbsState}
 use Rattle.instruction_rules.specs.Covers.{abs_at}
 use Rattle.instruction_rules.specs.Joining.{joined_to}
 use Rattle.instruction_rules.specs.Judged.{judged}
@@ -43,18 +43,18 @@ of_eleven P go (a ∷ b ∷ c ∷ d ∷ e ∷ f ∷ g ∷ h ∷ i ∷ []) long =
 of_eleven P go (a ∷ b ∷ c ∷ d ∷ e ∷ f ∷ g ∷ h ∷ i ∷ j ∷ []) long = absurd (omega (arith, long))
 
 -- the registers below n joined, one after the other
-abbrev pub joined_below : State → State → ℕ → State
+abbrev pub joined_below : AbsState → AbsState → ℕ → AbsState
 joined_below s t zero = s
 joined_below s t (suc n) = joined_to (joined_below s t n) t n
 
 -- eleven registers are all
-pub joined_all : (s t : State) → length s.registers ≡ 11 → joined_below s t 11 ≡ joined_state s t
+pub joined_all : (s t : AbsState) → length s.registers ≡ 11 → joined_below s t 11 ≡ joined_state s t
 joined_all s t long =
     of_eleven (λ (xs : List Abs). joined_below (record { registers = xs }) t 11 ≡ joined_state (record { registers = xs }) t)
     (λ a b c d e f g h i j k. refl) s.registers long
 
 -- a register that has changed on the other way is joined by itself
-pub joined_set : (s t : State) (r : ℕ) (a : Abs) → length t.registers ≡ 11 → r ≤ 10 →
+pub joined_set : (s t : AbsState) (r : ℕ) (a : Abs) → length t.registers ≡ 11 → r ≤ 10 →
     with_abs (joined_state s t) r (joined (abs_at s r) a) ≡ joined_state s (with_abs t r a)
 joined_set s t r a long low =
     of_eleven (λ (xs : List Abs). with_abs (joined_state s (record { registers = xs })) r (joined (abs_at s r) a)
@@ -84,7 +84,7 @@ joined_unset (Stack p) = refl
 joined_unset (Part p) = refl
 
 -- and so are the answer and the arguments of a call
-pub joined_called : (s t : State) (a : Abs) → length t.registers ≡ 11 →
+pub joined_called : (s t : AbsState) (a : Abs) → length t.registers ≡ 11 →
     called_state (joined_state s t) (joined (abs_at s 0) a) ≡ joined_state s (called_state t a)
 joined_called s t a long =
     of_eleven (λ (xs : List Abs). called_state (joined_state s (record { registers = xs })) (joined (abs_at s 0) a)
@@ -100,5 +100,5 @@ pub allowed_is : (o : Option Rule) (left found : Abs) → Ok found ≡ judged o 
 allowed_is None left found e = (refl, cc)
 allowed_is (Some other) left found e = absurd (cc)
 
-pub one_state : (o : Option State) (s t : State) → Some s ≡ o → Some t ≡ o → s ≡ t
+pub one_state : (o : Option AbsState) (s t : AbsState) → Some s ≡ o → Some t ≡ o → s ≡ t
 one_state o s t x y = cc

@@ -11,24 +11,24 @@ use Rattle.machine_model.specs.Memory.{store_bytes, load_bytes}
 use Rattle.machine_model.specs.Edges.{Fact, Taken}
 use Rattle.helpers.specs.Table.{Table, arity_in}
 use Rattle.value_ranges.specs.Span.{Span}
-use Rattle.value_ranges.specs.Words.{entry, between, single_value, any_number, loaded, greatest}
+use Rattle.value_ranges.specs.Words.{entry, between, single_value, any_number, load_range, greatest}
 use Rattle.value_ranges.specs.Joins.{joined}
 use Rattle.value_ranges.specs.Refinements.{refined_by}
 use Rattle.value_ranges.specs.Tables.{value_table}
 use Rattle.value_ranges.specs.declared.fault.PointerFault.{PointerFault}
 use Rattle.value_ranges.specs.declared.abs.Abs.{Abs}
 use Rattle.value_ranges.specs.declared.abs.Abs.TheVariants.{Unset, Num, Stack, Part}
-use Rattle.instruction_rules.specs.declared.state.State.{State}
+use Rattle.instruction_rules.specs.declared.state.AbsState.{AbsState}
 use Rattle.instruction_rules.specs.declared.rule.Rule.{Rule}
 use Rattle.instruction_rules.specs.declared.rule.Rule.TheVariants.{UnsetRead, OutOfStack, OutOfPart, BadKind, FramePointer, NoHelper}
 use Rattle.instruction_rules.specs.Rules.{pointer_rule}
 use Rattle.instruction_rules.specs.Covers.{abs_at}
 
-abbrev pub with_abs : State → ℕ → Abs → State
+abbrev pub with_abs : AbsState → ℕ → Abs → AbsState
 with_abs state to a = record { registers = slice_set state.registers to a }
 
 -- what the registers hold at a task's start
-abbrev pub entry_state : ℕ → State
+abbrev pub entry_state : ℕ → AbsState
 entry_state need = record {
   registers = entry need 0 ∷ entry need 1 ∷ entry need 2 ∷ entry need 3 ∷ entry need 4
       ∷ entry need 5
@@ -36,7 +36,7 @@ entry_state need = record {
 }
 
 -- the second operand: an imm is extended by its sign
-abbrev pub operand_at : State → Operand → Abs
+abbrev pub operand_at : AbsState → Operand → Abs
 operand_at state (Imm imm) = single_value (residue 64 imm)
 operand_at state (Reg r) = abs_at state r
 
@@ -45,7 +45,7 @@ abbrev pub of_registers : (ℕ → Abs) → List Abs
 of_registers f = f 0 ∷ f 1 ∷ f 2 ∷ f 3 ∷ f 4 ∷ f 5 ∷ f 6 ∷ f 7 ∷ f 8 ∷ f 9 ∷ f 10 ∷ []
 
 -- what is known where two ways meet
-abbrev pub joined_state : State → State → State
+abbrev pub joined_state : AbsState → AbsState → AbsState
 joined_state s t = record { registers = of_registers (λ r. joined (abs_at s r) (abs_at t r)) }
 
 -- ---- along the edges
@@ -55,7 +55,7 @@ or_unset (Ok a) = a
 or_unset (Err fault) = Unset
 
 -- after a call R0 has the answer, and the arguments are unset
-abbrev pub called_state : State → Abs → State
+abbrev pub called_state : AbsState → Abs → AbsState
 called_state state answer = record {
   registers = answer ∷ Unset ∷ Unset ∷ Unset ∷ Unset ∷ Unset ∷ drop 6 state.registers;
 }
@@ -73,16 +73,16 @@ abbrev pub is_taken : Fact → Bool
 is_taken Taken = true
 is_taken fact = false
 
-abbrev pub with_operand : State → Operand → Abs → State
+abbrev pub with_operand : AbsState → Operand → Abs → AbsState
 with_operand state (Imm imm) a = state
 with_operand state (Reg r) a = with_abs state r a
 
 -- what the fact on an edge tells of a jump's operands
-abbrev pub refined_state : State → ℕ → Operand → Abs × Abs → State
+abbrev pub refined_state : AbsState → ℕ → Operand → Abs × Abs → AbsState
 refined_state state dst src refined = with_operand (with_abs state dst refined.0) src refined.1
 
 -- what is known on the edge with this fact
-abbrev pub transferred : Insn → Fact → State → State
+abbrev pub transferred : Insn → Fact → AbsState → AbsState
 transferred (Alu w op dst src) fact state =
     with_abs state dst
     (or_unset (value_table (Alu w op dst src) (abs_at state dst) (operand_at state src)))
@@ -98,7 +98,7 @@ transferred (End order size dst) fact state =
     with_abs state dst
     (or_unset (value_table (End order size dst) (abs_at state dst) (abs_at state dst)))
 transferred (LoadWide dst value) fact state = with_abs state dst (single_value value)
-transferred (Load kind dst base offset) fact state = with_abs state dst (loaded kind)
+transferred (Load kind dst base offset) fact state = with_abs state dst (load_range kind)
 transferred (JumpIf w c dst src offset) fact state =
     refined_state state dst src (refined_by (JumpIf w c dst src offset) (is_taken fact)
     (abs_at state dst) (operand_at state src))
@@ -108,9 +108,9 @@ transferred i fact state = state
 -- ---- what an instruction has to find known
 
 -- the first of two broken rules, if there is one
-abbrev pub first : Option Rule → Option Rule → Option Rule
-first (Some rule) other = Some rule
-first None other = other
+abbrev pub first_rule : Option Rule → Option Rule → Option Rule
+first_rule (Some rule) other = Some rule
+first_rule None other = other
 
 -- the fault of a register that is read unset
 abbrev pub unset_fault : Abs → Option Rule
@@ -147,16 +147,16 @@ abbrev pub write_fault : ℕ → Option Rule
 write_fault dst = if dst == 10 then Some FramePointer else None
 
 -- the fault of an argument that is unset, of the registers from R1 on
-abbrev pub unset_arguments : State → ℕ → Option Rule
+abbrev pub unset_arguments : AbsState → ℕ → Option Rule
 unset_arguments state zero = None
 unset_arguments state (suc count) =
-    first (unset_arguments state count) (unset_fault (abs_at state (suc count)))
+    first_rule (unset_arguments state count) (unset_fault (abs_at state (suc count)))
 
 -- the fault of an argument that has no number, of the registers from R1 on
-abbrev pub number_arguments : State → ℕ → Option Rule
+abbrev pub number_arguments : AbsState → ℕ → Option Rule
 number_arguments state zero = None
 number_arguments state (suc count) =
-    first (number_arguments state count) (number_fault (abs_at state (suc count)))
+    first_rule (number_arguments state count) (number_fault (abs_at state (suc count)))
 
 -- the fault of the bytes at a pointer, of which some may lie outside where they are as many as a
 -- length tells
@@ -175,55 +175,55 @@ length_fault (Part reach) = Some BadKind
 
 -- the fault of an argument that isn't of its helper's kind: `fill` and `sum` take a pointer and a
 -- length, and `fill` a number besides; the others take numbers
-abbrev pub kind_fault : ℕ → State → ℕ → ℕ → Option Rule
+abbrev pub kind_fault : ℕ → AbsState → ℕ → ℕ → Option Rule
 kind_fault need state helper arity =
-    if helper == 4 then first (span_fault need (abs_at state 1) (abs_at state 2))
-    (first (length_fault (abs_at state 2)) (number_fault (abs_at state 3))) else
-    if helper == 5 then first (span_fault need (abs_at state 1) (abs_at state 2))
+    if helper == 4 then first_rule (span_fault need (abs_at state 1) (abs_at state 2))
+    (first_rule (length_fault (abs_at state 2)) (number_fault (abs_at state 3))) else
+    if helper == 5 then first_rule (span_fault need (abs_at state 1) (abs_at state 2))
     (length_fault (abs_at state 2)) else
     number_arguments state arity
 
 -- the fault of a call: its helper isn't in the table, or an argument is unset or of another kind
-abbrev pub call_fault : ℕ → State → ℕ → Option ℕ → Option Rule
+abbrev pub call_fault : ℕ → AbsState → ℕ → Option ℕ → Option Rule
 call_fault need state helper None = Some NoHelper
 call_fault need state helper (Some arity) =
-    first (unset_arguments state arity) (kind_fault need state helper arity)
+    first_rule (unset_arguments state arity) (kind_fault need state helper arity)
 
 -- the rule of the lowest number that the instruction breaks where the registers are so
-abbrev pub fault : ℕ → Table → Insn → State → Option Rule
+abbrev pub fault : ℕ → Table → Insn → AbsState → Option Rule
 fault need helpers (Alu w op dst src) state =
-    first (unset_fault (abs_at state dst)) (first (unset_fault (operand_at state src))
-    (first (table_fault (value_table (Alu w op dst src) (abs_at state dst) (operand_at state src)))
+    first_rule (unset_fault (abs_at state dst)) (first_rule (unset_fault (operand_at state src))
+    (first_rule (table_fault (value_table (Alu w op dst src) (abs_at state dst) (operand_at state src)))
     (write_fault dst)))
 fault need helpers (Mov w dst src) state =
-    first (unset_fault (operand_at state src))
-    (first (table_fault (value_table (Mov w dst src) (abs_at state dst) (operand_at state src)))
+    first_rule (unset_fault (operand_at state src))
+    (first_rule (table_fault (value_table (Mov w dst src) (abs_at state dst) (operand_at state src)))
     (write_fault dst))
 fault need helpers (MovSx e dst src) state =
-    first (unset_fault (abs_at state src))
-    (first (table_fault (value_table (MovSx e dst src) (abs_at state dst) (abs_at state src)))
+    first_rule (unset_fault (abs_at state src))
+    (first_rule (table_fault (value_table (MovSx e dst src) (abs_at state dst) (abs_at state src)))
     (write_fault dst))
 fault need helpers (Neg w dst) state =
-    first (unset_fault (abs_at state dst))
-    (first (table_fault (value_table (Neg w dst) (abs_at state dst) (abs_at state dst)))
+    first_rule (unset_fault (abs_at state dst))
+    (first_rule (table_fault (value_table (Neg w dst) (abs_at state dst) (abs_at state dst)))
     (write_fault dst))
 fault need helpers (End order size dst) state =
-    first (unset_fault (abs_at state dst))
-    (first (table_fault (value_table (End order size dst) (abs_at state dst) (abs_at state dst)))
+    first_rule (unset_fault (abs_at state dst))
+    (first_rule (table_fault (value_table (End order size dst) (abs_at state dst) (abs_at state dst)))
     (write_fault dst))
 fault need helpers (LoadWide dst value) state = write_fault dst
 fault need helpers (Load kind dst base offset) state =
-    first (access_fault need (abs_at state base) offset (load_bytes kind)) (write_fault dst)
+    first_rule (access_fault need (abs_at state base) offset (load_bytes kind)) (write_fault dst)
 fault need helpers (Store size base offset imm) state =
     access_fault need (abs_at state base) offset (store_bytes size)
 fault need helpers (StoreRegister size base offset src) state =
-    first (unset_fault (abs_at state base)) (first (unset_fault (abs_at state src))
-    (first (access_fault need (abs_at state base) offset (store_bytes size))
+    first_rule (unset_fault (abs_at state base)) (first_rule (unset_fault (abs_at state src))
+    (first_rule (access_fault need (abs_at state base) offset (store_bytes size))
     (number_fault (abs_at state src))))
 fault need helpers (Jump offset) state = None
 fault need helpers (Jump32 offset) state = None
 fault need helpers (JumpIf w c dst src offset) state =
-    first (unset_fault (abs_at state dst)) (first (unset_fault (operand_at state src))
-    (first (number_fault (abs_at state dst)) (number_fault (operand_at state src))))
+    first_rule (unset_fault (abs_at state dst)) (first_rule (unset_fault (operand_at state src))
+    (first_rule (number_fault (abs_at state dst)) (number_fault (operand_at state src))))
 fault need helpers (Call helper) state = call_fault need state helper (arity_in helpers helper)
 fault need helpers Exit state = number_fault (abs_at state 0)

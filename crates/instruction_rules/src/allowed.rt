@@ -6,13 +6,13 @@ ghost use Rattle.value_ranges.specs.Tables.{value_table, IsArithmetic, IsReadSet
 ghost use Rattle.helpers.specs.Table.{arity_in};
 ghost use Rattle.machine_model.specs.Memory.{store_bytes, load_bytes};
 ghost use Rattle.instruction_rules.specs.Covers.{abs_at};
-ghost use Rattle.instruction_rules.specs.States.{fault, first, unset_fault, number_fault, region_fault, access_fault, table_fault, write_fault, call_fault, or_unset, answer_range};
+ghost use Rattle.instruction_rules.specs.States.{fault, first_rule, unset_fault, number_fault, region_fault, access_fault, table_fault, write_fault, call_fault, or_unset, answer_range};
 ghost use Rattle.instruction_rules.specs.Judged.{judged, destination_left};
-ghost use Rattle.value_ranges.specs.Words.{loaded};
+ghost use Rattle.value_ranges.specs.Words.{load_range};
 
 use crate::calls::call_fault;
 use crate::rule::Rule;
-use crate::state::State;
+use crate::state::AbsState;
 use helpers::HelperTable;
 use insn_codec::{Insn, LoadKind, Register, Size};
 use machine_model::memory::{load_bytes, store_bytes};
@@ -134,7 +134,7 @@ fn compute_into(insn: &Insn, dst: Abs, src: Abs, to: Register) -> Result<Abs, Ru
     requires arithmetic { IsArithmetic insn.now }
     requires set { IsReadSet insn.now dst src }
     ensures { result
-        ≡ judged (first (table_fault (value_table insn.now dst src)) (write_fault to))
+        ≡ judged (first_rule (table_fault (value_table insn.now dst src)) (write_fault to))
         (or_unset (value_table insn.now dst src)) }
 {
     match compute(insn, dst, src) {
@@ -146,8 +146,8 @@ fn compute_into(insn: &Insn, dst: Abs, src: Abs, to: Register) -> Result<Abs, Ru
 /// What a load leaves, if it is allowed and its destination may be written.
 fn load(need: u32, base: Abs, offset: i16, kind: LoadKind, to: Register) -> Result<Abs, Rule>
     ensures { result
-        ≡ judged (first (access_fault need base offset (load_bytes kind)) (write_fault to))
-        (loaded kind) }
+        ≡ judged (first_rule (access_fault need base offset (load_bytes kind)) (write_fault to))
+        (load_range kind) }
 {
     match access_fault(need, base, offset, load_bytes(kind) as u64) {
         Some(rule) => Err(rule),
@@ -164,8 +164,9 @@ fn store(need: u32, base: Abs, offset: i16, size: Size) -> Result<Abs, Rule>
 
 /// A store of a register leaves nothing, if it is allowed.
 fn store_register(need: u32, base: Abs, offset: i16, size: Size, src: Abs) -> Result<Abs, Rule>
-    ensures { result ≡ judged (first (unset_fault base) (first (unset_fault src)
-        (first (access_fault need base offset (store_bytes size)) (number_fault src)))) Abs.Unset }
+    ensures { result ≡ judged (first_rule (unset_fault base) (first_rule (unset_fault src)
+        (first_rule (access_fault need base offset (store_bytes size)) (number_fault src))))
+        Abs.Unset }
 {
     if let Some(rule) = unset_fault(&base) {
         return Err(rule);
@@ -182,8 +183,9 @@ fn store_register(need: u32, base: Abs, offset: i16, size: Size, src: Abs) -> Re
 /// A comparison leaves nothing, if its operands both are numbers.
 fn compare(dst: Abs, src: Abs) -> Result<Abs, Rule>
     ensures { result
-        ≡ judged (first (unset_fault dst)
-        (first (unset_fault src) (first (number_fault dst) (number_fault src)))) Abs.Unset }
+        ≡ judged (first_rule (unset_fault dst)
+        (first_rule (unset_fault src) (first_rule (number_fault dst) (number_fault src))))
+        Abs.Unset }
 {
     if let Some(rule) = unset_fault(&dst) {
         return Err(rule);
@@ -203,8 +205,8 @@ fn move_into(insn: &Insn, dst: Abs, src: Abs, to: Register) -> Result<Abs, Rule>
     requires arithmetic { IsArithmetic insn.now }
     requires reads { IsSet src → IsReadSet insn.now dst src }
     ensures { result
-        ≡ judged (first (unset_fault src)
-        (first (table_fault (value_table insn.now dst src)) (write_fault to)))
+        ≡ judged (first_rule (unset_fault src)
+        (first_rule (table_fault (value_table insn.now dst src)) (write_fault to)))
         (or_unset (value_table insn.now dst src)) }
 {
     match unset_fault(&src) {
@@ -219,8 +221,8 @@ fn unary(insn: &Insn, dst: Abs, src: Abs, to: Register) -> Result<Abs, Rule>
     requires arithmetic { IsArithmetic insn.now }
     requires reads { IsSet dst → IsReadSet insn.now dst src }
     ensures { result
-        ≡ judged (first (unset_fault dst)
-        (first (table_fault (value_table insn.now dst src)) (write_fault to)))
+        ≡ judged (first_rule (unset_fault dst)
+        (first_rule (table_fault (value_table insn.now dst src)) (write_fault to)))
         (or_unset (value_table insn.now dst src)) }
 {
     match unset_fault(&dst) {
@@ -235,9 +237,9 @@ fn binary(insn: &Insn, dst: Abs, src: Abs, to: Register) -> Result<Abs, Rule>
     requires arithmetic { IsArithmetic insn.now }
     requires reads { IsSet dst → IsSet src → IsReadSet insn.now dst src }
     ensures { result
-        ≡ judged (first (unset_fault dst)
-        (first (unset_fault src)
-        (first (table_fault (value_table insn.now dst src)) (write_fault to))))
+        ≡ judged (first_rule (unset_fault dst)
+        (first_rule (unset_fault src)
+        (first_rule (table_fault (value_table insn.now dst src)) (write_fault to))))
         (or_unset (value_table insn.now dst src)) }
 {
     if let Some(rule) = unset_fault(&dst) {
@@ -264,7 +266,7 @@ fn answer_range(helper: u32) -> Abs
 }
 
 /// A call leaves its answer, if it is allowed.
-fn call(need: u32, helpers: &HelperTable, state: &State, helper: u32) -> Result<Abs, Rule>
+fn call(need: u32, helpers: &HelperTable, state: &AbsState, helper: u32) -> Result<Abs, Rule>
     ensures { result
         ≡ judged (call_fault need state.now helper (arity_in helpers.now helper))
         (answer_range helper) }
@@ -278,7 +280,7 @@ fn call(need: u32, helpers: &HelperTable, state: &State, helper: u32) -> Result<
 /// What the instruction leaves in its destination, or the rule of the lowest number that it breaks
 /// where the registers are so.
 #[inline(always)]
-pub fn judge(need: u32, helpers: &HelperTable, insn: &Insn, state: &State) -> Result<Abs, Rule>
+pub fn judge(need: u32, helpers: &HelperTable, insn: &Insn, state: &AbsState) -> Result<Abs, Rule>
     ensures { result
         ≡ judged (fault need helpers.now insn.now state.now) (destination_left insn.now state.now) }
 {

@@ -3,11 +3,11 @@
 ghost use Rattle.std.specs.Prelude.{◌≡◌, ◌+◌, ◌≤◌, ◌<◌, ℤ, pos, ◌+ℤ◌};
 ghost use Rattle.helpers.specs.Table.{arity_in};
 ghost use Rattle.instruction_rules.specs.Covers.{abs_at};
-ghost use Rattle.instruction_rules.specs.States.{first, unset_fault, number_fault, region_fault, access_fault, unset_arguments, number_arguments, span_fault, length_fault, kind_fault, call_fault};
+ghost use Rattle.instruction_rules.specs.States.{first_rule, unset_fault, number_fault, region_fault, access_fault, unset_arguments, number_arguments, span_fault, length_fault, kind_fault, call_fault};
 
 use crate::allowed::{access_fault, number_fault, unset_fault};
 use crate::rule::Rule;
-use crate::state::State;
+use crate::state::AbsState;
 use helpers::HelperTable;
 use value_ranges::Abs;
 
@@ -15,7 +15,7 @@ use value_ranges::Abs;
 const GREATEST_LENGTH: u64 = 512;
 
 /// What is known of the register of this number: nothing, where there is none.
-fn argument(state: &State, number: u32) -> Abs
+fn argument(state: &AbsState, number: u32) -> Abs
     ensures { result ≡ abs_at state.now number }
 {
     match state.registers.get(number as usize) {
@@ -25,7 +25,7 @@ fn argument(state: &State, number: u32) -> Abs
 }
 
 /// The fault of an argument that is unset, of the registers from R1 on.
-fn unset_arguments(state: &State, arity: u32) -> Option<Rule>
+fn unset_arguments(state: &AbsState, arity: u32) -> Option<Rule>
     ensures { result ≡ unset_arguments state.now arity }
 {
     for before in 0..arity {
@@ -37,7 +37,7 @@ fn unset_arguments(state: &State, arity: u32) -> Option<Rule>
 }
 
 /// The fault of an argument that has no number, of the registers from R1 on.
-fn number_arguments(state: &State, arity: u32) -> Option<Rule>
+fn number_arguments(state: &AbsState, arity: u32) -> Option<Rule>
     ensures { result ≡ number_arguments state.now arity }
 {
     for before in 0..arity {
@@ -73,7 +73,7 @@ fn length_fault(len: &Abs) -> Option<Rule>
 
 /// The fault of a pointer and a length: of what they span, or of the length.
 fn buffer_fault(need: u32, pointer: Abs, len: &Abs) -> Option<Rule>
-    ensures { result ≡ first (span_fault need pointer len.now) (length_fault len.now) }
+    ensures { result ≡ first_rule (span_fault need pointer len.now) (length_fault len.now) }
 {
     match span_fault(need, pointer, len) {
         Some(rule) => Some(rule),
@@ -82,7 +82,7 @@ fn buffer_fault(need: u32, pointer: Abs, len: &Abs) -> Option<Rule>
 }
 
 /// The fault of an argument that isn't of its helper's kind.
-fn kind_fault(need: u32, state: &State, helper: u32, arity: u32) -> Option<Rule>
+fn kind_fault(need: u32, state: &AbsState, helper: u32, arity: u32) -> Option<Rule>
     ensures { result ≡ kind_fault need state.now helper arity }
 {
     match helper {
@@ -99,7 +99,7 @@ fn kind_fault(need: u32, state: &State, helper: u32, arity: u32) -> Option<Rule>
 pub(crate) fn call_fault(
     need: u32,
     helpers: &HelperTable,
-    state: &State,
+    state: &AbsState,
     helper: u32,
 ) -> Option<Rule>
     ensures { result ≡ call_fault need state.now helper (arity_in helpers.now helper) }

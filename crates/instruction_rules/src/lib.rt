@@ -10,5 +10,5 @@ mod transfers;
 
 pub use allowed::judge;
 pub use rule::Rule;
-pub use state::State;
+pub use state::AbsState;
 pub use transfers::transfer;

@@ -12,17 +12,17 @@ use value_ranges::{Abs, entry, immediate, join_into};
 
 /// What is known of each register ahead of a slot, by its number.
 #[derive(Clone, Copy, Debug, PartialEq, Eq)]
-pub struct State {
+pub struct AbsState {
     pub(crate) registers: [Abs; 11],
 }
 
-impl State {
+impl AbsState {
     /// What is known at a task's start, in a program that needs so many bytes.
-    pub fn entry(need: u32) -> State
+    pub fn entry(need: u32) -> AbsState
         requires { need ≤ max_part }
         ensures { result ≡ entry_state need }
     {
-        State {
+        AbsState {
             registers: [
                 entry(need, Register::new(0)),
                 entry(need, Register::new(1)),
@@ -97,7 +97,7 @@ impl State {
     }
 
     /// What is known of one register where another way leads here.
-    fn join_at(&mut self, other: &State, register: Register)
+    fn join_at(&mut self, other: &AbsState, register: Register)
         ensures { self.new ≡ joined_to self.old other.now register }
     {
         let place = usize::from(register.number());
@@ -105,7 +105,7 @@ impl State {
     }
 
     /// Another way leads here.
-    pub fn join(&mut self, other: &State)
+    pub fn join(&mut self, other: &AbsState)
         ensures { self.new ≡ joined_state self.old other.now }
     {
         for number in 0u8..11 {

@@ -7,13 +7,13 @@ ghost use Rattle.instruction_rules.specs.Covers.{abs_at};
 ghost use Rattle.instruction_rules.specs.Judged.{destination_left};
 ghost use Rattle.instruction_rules.specs.States.{transferred, operand_at, refined_state};
 
-use crate::state::State;
+use crate::state::AbsState;
 use insn_codec::{Insn, Operand, Register};
 use value_ranges::{Abs, refine};
 
 /// A conditional jump tells of its operands on this edge.
 #[inline(always)]
-fn refine_operands(state: &mut State, insn: &Insn, taken: bool, dst: Register, src: &Operand)
+fn refine_operands(state: &mut AbsState, insn: &Insn, taken: bool, dst: Register, src: &Operand)
     requires { IsConditional insn.now }
     ensures { state.new ≡ refined_state state.old dst src.now
         (refined_by insn.now taken (abs_at state.old dst) (operand_at state.old src.now)) }
@@ -25,7 +25,7 @@ fn refine_operands(state: &mut State, insn: &Insn, taken: bool, dst: Register, s
 /// The transfer function of an instruction: the state becomes what is known after it, on the edge
 /// of a jump that is taken or on another edge.
 #[inline(always)]
-pub fn transfer(state: &mut State, insn: &Insn, taken: bool, left: &Abs)
+pub fn transfer(state: &mut AbsState, insn: &Insn, taken: bool, left: &Abs)
     requires { left.now ≡ destination_left insn.now state.old }
     ensures { state.new ≡ transferred insn.now (if taken then Taken else NotTaken) state.old }
 {

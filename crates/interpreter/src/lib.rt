@@ -7,13 +7,13 @@ mod arithmetic;
 mod credit;
 mod frame;
 mod helper_calls;
+mod insn_outcome;
 mod jumping;
 mod position;
-mod progress;
 mod site;
 mod spawning;
 mod stretch;
 
 pub use credit::Credit;
-pub use frame::{Frame, Next, StepOut};
+pub use frame::{ControlPoint, Frame, StepOut};
 pub use stretch::{Pause, Ran, Stretch};

@@ -2,7 +2,7 @@
 
 ghost use Rattle.std.specs.Prelude.{◌≡◌, ℕ, ◌+◌, ◌-◌, ◌≤◌, length, IsTrue, IsFalse, take, drop};
 ghost use Rattle.helpers.specs.Piece.{Piece};
-ghost use Rattle.interpreter.specs.Telling.{Took, Declined, Refused};
+ghost use Rattle.interpreter.specs.Telling.{Took, Declined, NotSpawned};
 
 use helpers::{Part, SpawnRecord, Spawner};
 use std::alloc::Global;
@@ -38,7 +38,7 @@ pub fn hand_over<S: Spawner>(
         (λ child reply. S.spawns spawner.old child reply spawner.new) }
     ensures whole { IsFalse result → part.new.bytes ≡ part.old.bytes }
     ensures refused { IsFalse result →
-        Refused (record {
+        NotSpawned (record {
           program = program;
           share = share;
           arg = arg;

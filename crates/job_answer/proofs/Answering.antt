@@ -4,7 +4,7 @@ use Rattle.std.specs.List.Sorted.{IsPermutation}
 use Rattle.std.proofs.lemmas.List.Sorted.{IsPermutation-sym, IsPermutation-trans, sum_by-IsPermutation}
 use Rattle.machine_model.specs.Machine.{Program}
 use Rattle.task_trees.specs.Eval.{Finished, root}
-use Rattle.task_trees.specs.Answer.{RootComes, joined, spent_in}
+use Rattle.task_trees.specs.Answer.{RootComes, joined_bytes, spent_in}
 use Rattle.job_answer.specs.SpawnTree.{TaskRun, finished_run, IsSpawnTree, NoneRefused}
 use Rattle.job_answer.proofs.Folding.{family_comes}
 use Rattle.job_answer.proofs.Tiling.{Tiles, eval_tiles, joined_permuted}
@@ -12,7 +12,7 @@ use Rattle.job_answer.proofs.Tiling.{Tiles, eval_tiles, joined_permuted}
 pub family_answers : (programs : List Program) (credit : ℕ) (buffer : List ℕ) (parents : List ℕ) (tasks : List TaskRun) (ended : List Finished) →
     IsSpawnTree programs credit buffer parents tasks → NoneRefused tasks → IsPermutation ended (map finished_run tasks) →
     (fs : List Finished) × RootComes programs credit buffer fs × IsPermutation (map finished_run tasks) fs
-    × (joined (length buffer) ended ≡ joined (length buffer) fs) × (spent_in ended ≡ spent_in fs)
+    × (joined_bytes (length buffer) ended ≡ joined_bytes (length buffer) fs) × (spent_in ended ≡ spent_in fs)
 family_answers programs credit buffer parents tasks ended family none order =
     let comes = family_comes programs credit buffer parents tasks family none in
     let fs = comes.0 in

@@ -2,7 +2,7 @@
 use Rattle.std.proofs.Common.{◌≡◌, ℕ, ◌+◌, List, [], ◌∷◌, ◌++◌, map, Bool, true, false, Result, refl, sym, ◌∙◌, ap, inl, inr}
 use Rattle.std.proofs.lemmas.List.{append_assoc, append-nil}
 use Rattle.helpers.specs.declared.spawner.SpawnRecord.{SpawnRecord}
-use Rattle.interpreter.specs.Telling.{Took, Refused, IsRecordOf}
+use Rattle.interpreter.specs.Telling.{Took, NotSpawned, IsRecordOf}
 use Rattle.task_run.specs.Through.{GoesThrough, if_refused}
 use Rattle.task_trees.specs.Solo.{SpawnRequest}
 use Rattle.task_register.specs.declared.seats.TaskStart.{TaskStart}
@@ -22,7 +22,7 @@ record OneBorne (base : ℕ) (old : SeatedTask) (a : List SpawnRequest) (new : S
 
 module _ {S : Type 0} (own : S → SeatedTask) (spawns : S → SpawnRecord → Result (Unit {0}) SpawnRecord → S → Type 0) (bears : AddsEachChild own spawns) (base : ℕ) where
   one_reply : (old mid : S) (a : SpawnRequest) (b : Bool) →
-      if_refused b (Took a.birth (base + a.at) (λ child reply. spawns old child reply mid)) (Refused a.birth (base + a.at) (λ child reply. spawns old child reply mid) (mid ≡ old)) →
+      if_refused b (Took a.birth (base + a.at) (λ child reply. spawns old child reply mid)) (NotSpawned a.birth (base + a.at) (λ child reply. spawns old child reply mid) (mid ≡ old)) →
       OneBorne base (own old) (if_taken b a []) (own mid)
   one_reply old mid a false told =
       let is = bears.took old mid told.0 told.2 in

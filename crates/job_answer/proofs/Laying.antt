@@ -10,7 +10,7 @@ use Rattle.machine_model.specs.Memory.{written}
 use Rattle.machine_model.specs.Machine.{Program}
 use Rattle.machine_model.proofs.Ranges.{length-written}
 use Rattle.task_trees.specs.Eval.{Finished, root}
-use Rattle.task_trees.specs.Answer.{joined, spent_in}
+use Rattle.task_trees.specs.Answer.{joined_bytes, spent_in}
 use Rattle.task_register.specs.declared.seats.TaskResult.{TaskResult}
 use Rattle.task_register.specs.declared.seats.RegisterState.{RegisterState}
 use Rattle.job_answer.specs.SpawnTree.{NoneRefused, finished_run}
@@ -38,22 +38,22 @@ turned_same done (f ∷ fs) =
     (IsPermutation-sym (fs ++ f ∷ done) (f ∷ (fs ++ done)) (IsPermutation-middle fs f done))
     (turned_same (f ∷ done) fs)
 
-long_joined : (size : ℕ) (fs : List Finished) → All (λ (f : Finished). end_of f ≤ size) fs → length (joined size fs) ≡ size
+long_joined : (size : ℕ) (fs : List Finished) → All (λ (f : Finished). end_of f ≤ size) fs → length (joined_bytes size fs) ≡ size
 long_joined size [] all = length-replicate size 0
 long_joined size (f ∷ fs) all =
     let ih = long_joined size fs (All-tail (λ (x : Finished). end_of x ≤ size) f fs all) in
     let first = All-head (λ (x : Finished). end_of x ≤ size) f fs all in
-    length-written (joined size fs) f.ending.base f.bytes (omega (arith, ih, first)) ∙ ih
+    length-written (joined_bytes size fs) f.ending.base f.bytes (omega (arith, ih, first)) ∙ ih
 
 laid_joined : (size : ℕ) (done fs : List Finished) → All (λ (f : Finished). end_of f ≤ size) done → All (λ (f : Finished). end_of f ≤ size) fs →
-    laid (joined size done) (map left_of fs) ≡ joined size (turned done fs)
+    laid (joined_bytes size done) (map left_of fs) ≡ joined_bytes size (turned done fs)
 laid_joined size done [] before all = refl
 laid_joined size done (f ∷ fs) before all =
     let first = All-head (λ (x : Finished). end_of x ≤ size) f fs all in
     let long = long_joined size done before in
-    let same_long = length-written (joined size done) f.ending.base f.bytes (omega (arith, long, first)) in
-    let whole : take (length (joined size done)) (written (joined size done) f.ending.base f.bytes) ≡ joined size (f ∷ done) =
-    take_all (length (joined size done)) (written (joined size done) f.ending.base f.bytes) (omega (arith, same_long)) in
+    let same_long = length-written (joined_bytes size done) f.ending.base f.bytes (omega (arith, long, first)) in
+    let whole : take (length (joined_bytes size done)) (written (joined_bytes size done) f.ending.base f.bytes) ≡ joined_bytes size (f ∷ done) =
+    take_all (length (joined_bytes size done)) (written (joined_bytes size done) f.ending.base f.bytes) (omega (arith, same_long)) in
     ap (λ m. laid m (map left_of fs)) whole
     ∙ laid_joined size (f ∷ done) fs (All-cons (λ (x : Finished). end_of x ≤ size) f done first before) (All-tail (λ (x : Finished). end_of x ≤ size) f fs all)
 

@@ -13,7 +13,7 @@ use Rattle.machine_model.specs.JobState.{Task, with_state, child_of, ending_of, 
 use Rattle.machine_model.proofs.Ranges.{length-written}
 use Rattle.machine_model.proofs.Splits.{Splits, splits_effect}
 use Rattle.task_trees.specs.Eval.{Finished, Comes, EvalWithin, Eval, state_with, parent_of}
-use Rattle.task_trees.specs.Answer.{joined}
+use Rattle.task_trees.specs.Answer.{joined_bytes}
 
 -- a number where the first test fails and the second holds, and 0 elsewhere
 abbrev pub if_within : Bool → Bool → ℕ → ℕ
@@ -175,12 +175,12 @@ none_there at (f ∷ fs) none =
     let later = none_there at fs (omega (arith, none, split)) in
     omega (arith, sum_by-cons (byte_in at) f fs, first, later)
 
-length-joined : (size : ℕ) (fs : List Finished) → All (λ (f : Finished). end_of f ≤ size) fs → length (joined size fs) ≡ size
+length-joined : (size : ℕ) (fs : List Finished) → All (λ (f : Finished). end_of f ≤ size) fs → length (joined_bytes size fs) ≡ size
 length-joined size [] all = length-replicate size 0
 length-joined size (f ∷ fs) all =
     let ih = length-joined size fs (All-tail (λ (x : Finished). end_of x ≤ size) f fs all) in
     let first = All-head (λ (x : Finished). end_of x ≤ size) f fs all in
-    length-written (joined size fs) f.ending.base f.bytes (omega (arith, ih, first)) ∙ ih
+    length-written (joined_bytes size fs) f.ending.base f.bytes (omega (arith, ih, first)) ∙ ih
 
 written_in : (memory : List ℕ) (base : ℕ) (bytes : List ℕ) (k : ℕ) → base + length bytes ≤ length memory → k < length bytes →
     get_or (written memory base bytes) (base + k) 0 ≡ get_or bytes k 0
@@ -210,20 +210,20 @@ written_after memory base bytes k inside =
 
 -- the byte at a place that is in one of the ranges at most
 joined_byte : (size : ℕ) (fs : List Finished) (at : ℕ) → All (λ (f : Finished). end_of f ≤ size) fs → at < size → owners at fs ≤ 1 →
-    get_or (joined size fs) at 0 ≡ sum_by (byte_in at) fs
+    get_or (joined_bytes size fs) at 0 ≡ sum_by (byte_in at) fs
 joined_byte size [] at all lt few = get_or-replicate size at 0 0 lt
 joined_byte size (f ∷ fs) at all lt few =
     let rest = All-tail (λ (x : Finished). end_of x ≤ size) f fs all in
     let long = length-joined size fs rest in
     let first = All-head (λ (x : Finished). end_of x ≤ size) f fs all in
-    let fits : f.ending.base + length f.bytes ≤ length (joined size fs) = omega (arith, long, first) in
+    let fits : f.ending.base + length f.bytes ≤ length (joined_bytes size fs) = omega (arith, long, first) in
     let split = sum_by-cons (in_piece at) f fs in
     let bytes = sum_by-cons (byte_in at) f fs in
     let ih = joined_byte size fs at rest lt (omega (arith, few, split)) in
     elim (where_is f.ending.base (end_of f) at) [
       | inl before ↦
           let out = byte_out f at (range_below f.ending.base (end_of f) at before) in
-          let same = written_before (joined size fs) f.ending.base f.bytes at fits before in
+          let same = written_before (joined_bytes size fs) f.ending.base f.bytes at fits before in
           omega (arith, same, ih, bytes, out)
       | inr more ↦ elim more [
         | inl in_it ↦
@@ -232,28 +232,28 @@ joined_byte size (f ∷ fs) at all lt few =
             let here = byte_here f at one in
             let later = none_there at fs (omega (arith, few, split, one)) in
             let start : f.ending.base + (at - f.ending.base) ≡ at = omega (arith, le) in
-            let same : get_or (joined size (f ∷ fs)) at 0 ≡ get_or f.bytes (at - f.ending.base) 0 =
-            ap (λ i. get_or (joined size (f ∷ fs)) i 0) (sym start)
-            ∙ written_in (joined size fs) f.ending.base f.bytes (at - f.ending.base) fits (omega (arith, le, within)) in
+            let same : get_or (joined_bytes size (f ∷ fs)) at 0 ≡ get_or f.bytes (at - f.ending.base) 0 =
+            ap (λ i. get_or (joined_bytes size (f ∷ fs)) i 0) (sym start)
+            ∙ written_in (joined_bytes size fs) f.ending.base f.bytes (at - f.ending.base) fits (omega (arith, le, within)) in
             omega (arith, same, bytes, here, later)
         | inr past ↦
             let out = byte_out f at (range_above f.ending.base (end_of f) at past) in
             let start : end_of f + (at - end_of f) ≡ at = omega (arith, past) in
-            let same : get_or (joined size (f ∷ fs)) at 0 ≡ get_or (joined size fs) at 0 =
-            ap (λ i. get_or (joined size (f ∷ fs)) i 0) (sym start)
-            ∙ written_after (joined size fs) f.ending.base f.bytes (at - end_of f) fits
-            ∙ ap (λ i. get_or (joined size fs) i 0) start in
+            let same : get_or (joined_bytes size (f ∷ fs)) at 0 ≡ get_or (joined_bytes size fs) at 0 =
+            ap (λ i. get_or (joined_bytes size (f ∷ fs)) i 0) (sym start)
+            ∙ written_after (joined_bytes size fs) f.ending.base f.bytes (at - end_of f) fits
+            ∙ ap (λ i. get_or (joined_bytes size fs) i 0) start in
             omega (arith, same, ih, bytes, out)
       ]
     ]
 
 -- the bytes of tasks that tile a buffer, joined in whatever order
-pub joined_permuted : (size : ℕ) (xs ys : List Finished) → IsPermutation xs ys → Tiles 0 size xs → joined size xs ≡ joined size ys
+pub joined_permuted : (size : ℕ) (xs ys : List Finished) → IsPermutation xs ys → Tiles 0 size xs → joined_bytes size xs ≡ joined_bytes size ys
 joined_permuted size xs ys same tiles =
     let others = tiles_permuted 0 size xs ys same tiles in
     let left = length-joined size xs tiles.inside in
     let right = length-joined size ys others.inside in
-    ext_get_or 0 (joined size xs) (joined size ys) (left ∙ sym right) (λ at lt.
+    ext_get_or 0 (joined_bytes size xs) (joined_bytes size ys) (left ∙ sym right) (λ at lt.
     let inside : at < size = omega (arith, lt, left) in
     let one : in_range 0 size at ≡ 1 = range_inside 0 size at (omega arith) inside in
     joined_byte size xs at tiles.inside inside (omega (arith, tiles.owned at, one))

@@ -2,7 +2,7 @@
 use Rattle.std.specs.Prelude.{◌≡◌, ◌==◌, ℕ, zero, suc, ◌+◌, List, [], ◌∷◌, ◌++◌, All, Contains, map, length, take, drop, replicate, slice_get, sum_by, Some}
 use Rattle.machine_model.specs.Memory.{written}
 use Rattle.task_trees.specs.Eval.{Finished}
-use Rattle.task_trees.specs.Answer.{RootComes, joined, spent_in}
+use Rattle.task_trees.specs.Answer.{RootComes, joined_bytes, spent_in}
 use Rattle.std.specs.List.{count_by}
 use Rattle.std.specs.List.Sorted.{IsPermutation}
 use Rattle.machine_model.specs.Machine.{State, Program, Birth}
@@ -120,5 +120,5 @@ pub record GivesAnswer (programs : List Program) (credit : ℕ) (buffer : List �
   pub fs : List Finished
   pub comes : RootComes programs credit buffer fs
   pub all : IsPermutation (map finished_run tasks) fs
-  pub buffer_is : laid_from (replicate (length buffer) 0) known.over ≡ joined (length buffer) fs
+  pub buffer_is : laid_from (replicate (length buffer) 0) known.over ≡ joined_bytes (length buffer) fs
   pub spent : sum_by (λ (o : TaskResult). o.used) known.over ≡ spent_in fs

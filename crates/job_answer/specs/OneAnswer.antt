@@ -3,7 +3,7 @@ use Rattle.std.specs.Prelude.{◌≡◌, ℕ, ◌+◌, ◌≤◌, Bool, true, fa
 use Rattle.std.specs.List.Sorted.{IsPermutation}
 use Rattle.machine_model.specs.Machine.{Program}
 use Rattle.task_trees.specs.Eval.{Finished}
-use Rattle.task_trees.specs.Answer.{RootComes, joined, spent_in}
+use Rattle.task_trees.specs.Answer.{RootComes, joined_bytes, spent_in}
 use Rattle.credit_book.specs.declared.event.TaskEnd.{TaskEnd}
 use Rattle.credit_book.specs.declared.book.Report.{Report}
 use Rattle.task_register.specs.declared.seats.TaskResult.{TaskResult}
@@ -62,4 +62,4 @@ pub record HasOneAnswer (programs : List Program) (credit : ℕ) (buffer : List 
   pub left : report.buffer.items ≡ laid (replicate (length buffer) 0) ended
   pub answer : NoneRefused tasks → (fs : List Finished) × RootComes programs credit buffer fs
       × IsPermutation (map finished_run tasks) fs
-      × (report.buffer.items ≡ joined (length buffer) fs) × (report.spent ≡ spent_in fs)
+      × (report.buffer.items ≡ joined_bytes (length buffer) fs) × (report.spent ≡ spent_in fs)

@@ -21,7 +21,7 @@ ghost use Rattle.task_register.specs.declared.seats.SeatedTask.{SeatedTask};
 ghost use Rattle.job_answer.specs.Children.{AddsEachChild, HasAdded};
 ghost use Rattle.std.specs.List.Sorted.{IsPermutation};
 ghost use Rattle.task_trees.specs.Eval.{Finished};
-ghost use Rattle.task_trees.specs.Answer.{RootComes, joined, spent_in};
+ghost use Rattle.task_trees.specs.Answer.{RootComes, joined_bytes, spent_in};
 ghost use Rattle.job_answer.specs.SpawnTree.{IsSpawnTree, LeavesCredit, NoneRefused, TaskRun, finished_run};
 
 use helpers::Spawner;
@@ -92,7 +92,7 @@ pub fn spawn_trees_answer()
         IsSpawnTree programs credit buffer parents tasks → NoneRefused tasks →
         IsPermutation ended (map finished_run tasks) → (fs : List Finished)
         × RootComes programs credit buffer fs × IsPermutation (map finished_run tasks) fs
-        × (joined (length buffer) ended ≡ joined (length buffer) fs)
+        × (joined_bytes (length buffer) ended ≡ joined_bytes (length buffer) fs)
         × (spent_in ended ≡ spent_in fs) }
 {}
 

@@ -28,7 +28,7 @@ use Rattle.credit_book.specs.declared.event.Event.TheVariants.{End}
 use Rattle.credit_book.specs.declared.event.Standing.{Standing}
 use Rattle.credit_book.specs.declared.event.Stage.TheVariants.{Fresh}
 use Rattle.credit_book.specs.declared.event.TaskEnd.{TaskEnd}
-use Rattle.credit_book.specs.Books.{Account, spawn_event}
+use Rattle.credit_book.specs.Books.{BookState, spawn_event}
 use Rattle.credit_book.specs.Buffers.{buffer_of}
 use Rattle.credit_book.specs.History.{May, may_work, standing_at, table_of, spent_in, returned_in}
 use Rattle.job_core.specs.declared.ledger.TaskLedger.{TaskLedger}
@@ -290,7 +290,7 @@ module _ (kept : WorldState) (n : ℕ) (live : Live) (p : Checked) (out : StepOu
     pub standing : standing_at (table_of new.book.history) n ≡ record { held = after.credit.held; stage = Fresh }
     pub used : after.credit.used ≤ after.credit.held
     pub booked : (h : List Event) → h ≡ new.book.history ++ End n after.credit.used word true after.part.base after.part.bytes ∷ [] → AreStandings new.lives.items h
-    pub steps : (book : Account) → book.board ≡ new.book.board → book.size ≡ new.book.size →
+    pub steps : (book : BookState) → book.board ≡ new.book.board → book.size ≡ new.book.size →
         book.history ≡ new.book.history ++ End n after.credit.used word true after.part.base after.part.bytes ∷ [] →
         Steps kept j n (stepped.Ended word) (record kept {
           entries = new.entries.items;

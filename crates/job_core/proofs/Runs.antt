@@ -9,8 +9,8 @@ use Rattle.machine_model.specs.JobState as job
 use Rattle.machine_model.specs.JobState.{JobState, Task}
 use Rattle.machine_model.proofs.Places.{set_same}
 use Rattle.verifier.specs.Checked.{Checked, program_of, cost_at}
-use Rattle.interpreter.specs.declared.frame.Next.{Next}
-use Rattle.interpreter.specs.declared.frame.Next.TheVariants.{At, Ended}
+use Rattle.interpreter.specs.declared.frame.ControlPoint.{ControlPoint}
+use Rattle.interpreter.specs.declared.frame.ControlPoint.TheVariants.{At, Ended}
 use Rattle.helpers.specs.Piece.{Piece}
 use Rattle.interpreter.specs.declared.frame.Frame.{Frame}
 use Rattle.interpreter.specs.Representation.{RepresentsTask, IsCovered, StepEffect, at_slot, out_of, slot_after, state_of}
@@ -190,7 +190,7 @@ module _ (old : WorldState) (tasks : Tasks) (numbers : List ℕ) (n : ℕ) (live
       hands_over tasks.programs.items tasks.ledger.entries.items (set tasks.ledger.lives.items n (Some live)) tasks.ledger.book.history n tasks.ledger.turn
       live.credit.held live way.behind.1.entries running.booked (set_same tasks.ledger.lives.items n (Some live) within) running.turn refl
 
-  module _ (running : IsRunning tasks n live) (next : Next) (after : Live) (ledger : TaskLedger) (base : after.part.base ≡ live.part.base) (same_number : after.program ≡ live.program)
+  module _ (running : IsRunning tasks n live) (next : ControlPoint) (after : Live) (ledger : TaskLedger) (base : after.part.base ≡ live.part.base) (same_number : after.program ≡ live.program)
       (did : (registers : Registers) → RepresentsTask code (at_slot live.frame slot) registers →
       StepEffect code (effect (program_of code) (slice_get tasks.ledger.entries.items) (state_of (at_slot live.frame slot) live.part live.credit registers))
       (out_of next) (at_slot after.frame (slot_after slot next)) after.part after.credit

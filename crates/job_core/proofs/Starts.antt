@@ -17,7 +17,7 @@ use Rattle.job_core.specs.Living.{Living}
 use Rattle.interpreter.specs.declared.credit.Credit.{Credit}
 use Rattle.credit_book.specs.declared.event.Event.TheVariants.{Open}
 use Rattle.credit_book.specs.declared.task.Ticket.{Ticket}
-use Rattle.credit_book.specs.Books.{Account, root_ticket}
+use Rattle.credit_book.specs.Books.{BookState, root_ticket}
 use Rattle.credit_book.specs.Buffers.{buffer_of}
 use Rattle.credit_book.specs.History.{table_of, spent_in, returned_in}
 use Rattle.job_core.specs.Keeping.{AreStandings}
@@ -184,7 +184,7 @@ root_entered l ticket job issued part is e1 e2 e3 e4 =
     (e3 ∙ ap (λ (t : Ticket). t.part) is) (e4 ∙ ap (λ (t : Ticket). let c : Credit = record { held = t.held; used = 0 } in c) is)
 
 -- what a world keeps once it is opened, and what its book has of the root
-pub opened : (order : AdmittedJob) (programs : List Checked) (entries : List Entry) (lives : List (Option Live)) (book : Account) (part : Piece) (ticket : Ticket) (root : Living) (none : List (Option Live)) (parents : List ℕ) (number job issued : ℕ) →
+pub opened : (order : AdmittedJob) (programs : List Checked) (entries : List Entry) (lives : List (Option Live)) (book : BookState) (part : Piece) (ticket : Ticket) (root : Living) (none : List (Option Live)) (parents : List ℕ) (number job issued : ℕ) →
     IsAdmitted order → AreEntries order.programs entries → programs ≡ order.programs →
     part.bytes ≡ order.buffer → part.base ≡ 0 → issued ≡ order.credit → book.board.issued ≡ order.credit →
     book.history ≡ Open number order.credit ∷ [] → book.size ≡ length part.bytes →

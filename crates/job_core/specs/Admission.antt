@@ -6,7 +6,7 @@ use Rattle.verifier.specs.declared.refusals.Refusal.{Refusal}
 use Rattle.verifier.specs.declared.refusals.Refusal.TheVariants as program
 use Rattle.verifier.specs.Checked.{Checked, cost_at}
 use Rattle.verifier.specs.Refusals.{IsAccepted, RefusesProgram}
-use Rattle.verifier.specs.RefusalCodes.{number_of as number_of_program, slot_of as slot_of_program}
+use Rattle.verifier.specs.RefusalCodes.{code_of_refusal as number_of_program, slot_of_refusal as slot_of_program}
 use Rattle.job_core.specs.declared.admission.ProgramBytes.{ProgramBytes}
 use Rattle.job_core.specs.declared.admission.AdmitFault.{AdmitFault}
 use Rattle.job_core.specs.declared.admission.AdmitFault.TheVariants.{NoPrograms, TooManyPrograms, TooLarge, Program, CreditLow, BufferShort, NoMemory}
@@ -91,30 +91,30 @@ RefusesJob programs credit buffer BufferShort =
 RefusesJob programs credit buffer NoMemory = IsWithinLimits programs credit buffer
 
 -- the numbers of the refusals, and the slot that one tells
-abbrev pub number_of : AdmitFault → ℕ
-number_of NoPrograms = 61
-number_of TooManyPrograms = 62
-number_of TooLarge = 65
-number_of (Program index refusal) = number_of_program refusal
-number_of CreditLow = 63
-number_of BufferShort = 64
-number_of NoMemory = 99
+abbrev pub code_of_admit_fault : AdmitFault → ℕ
+code_of_admit_fault NoPrograms = 61
+code_of_admit_fault TooManyPrograms = 62
+code_of_admit_fault TooLarge = 65
+code_of_admit_fault (Program index refusal) = number_of_program refusal
+code_of_admit_fault CreditLow = 63
+code_of_admit_fault BufferShort = 64
+code_of_admit_fault NoMemory = 99
 
-abbrev pub slot_of : AdmitFault → Option ℕ
-slot_of NoPrograms = None
-slot_of TooManyPrograms = None
-slot_of TooLarge = None
-slot_of (Program index refusal) = slot_of_program refusal
-slot_of CreditLow = None
-slot_of BufferShort = None
-slot_of NoMemory = None
+abbrev pub slot_of_admit_fault : AdmitFault → Option ℕ
+slot_of_admit_fault NoPrograms = None
+slot_of_admit_fault TooManyPrograms = None
+slot_of_admit_fault TooLarge = None
+slot_of_admit_fault (Program index refusal) = slot_of_program refusal
+slot_of_admit_fault CreditLow = None
+slot_of_admit_fault BufferShort = None
+slot_of_admit_fault NoMemory = None
 
 -- the place of the program that it tells, if it tells one
-abbrev pub place_of : AdmitFault → Option ℕ
-place_of NoPrograms = None
-place_of TooManyPrograms = None
-place_of TooLarge = None
-place_of (Program index refusal) = Some index
-place_of CreditLow = None
-place_of BufferShort = None
-place_of NoMemory = None
+abbrev pub program_of_admit_fault : AdmitFault → Option ℕ
+program_of_admit_fault NoPrograms = None
+program_of_admit_fault TooManyPrograms = None
+program_of_admit_fault TooLarge = None
+program_of_admit_fault (Program index refusal) = Some index
+program_of_admit_fault CreditLow = None
+program_of_admit_fault BufferShort = None
+program_of_admit_fault NoMemory = None

@@ -2,7 +2,7 @@
 
 ghost use Rattle.std.specs.Prelude.{◌≡◌, ◌≤◌, length, IfOk, IfErr};
 ghost use Rattle.job_core.specs.Admitted.{AreOwn};
-ghost use Rattle.job_core.specs.Admission.{AreAccepted, IsAdmittedFrom, IsProgramFault, RefusesJob, fault_of_program, number_of, place_of, slot_of};
+ghost use Rattle.job_core.specs.Admission.{AreAccepted, IsAdmittedFrom, IsProgramFault, RefusesJob, fault_of_program, code_of_admit_fault, program_of_admit_fault, slot_of_admit_fault};
 
 use crate::job::Job;
 use helpers::HelperTable;
@@ -51,7 +51,7 @@ pub enum AdmitFault {
 impl AdmitFault {
     /// The number of the refusal.
     pub fn code(&self) -> u8
-        ensures { result ≡ number_of self.now }
+        ensures { result ≡ code_of_admit_fault self.now }
     {
         match self {
             AdmitFault::NoPrograms => 61,
@@ -66,7 +66,7 @@ impl AdmitFault {
 
     /// The place of the program that it tells, if it tells one.
     pub fn program(&self) -> Option<u32>
-        ensures { result ≡ place_of self.now }
+        ensures { result ≡ program_of_admit_fault self.now }
     {
         match self {
             AdmitFault::Program(index, _) => Some(*index),
@@ -76,7 +76,7 @@ impl AdmitFault {
 
     /// The slot of the program that it tells, if it tells one.
     pub fn slot(&self) -> Option<u32>
-        ensures { result ≡ slot_of self.now }
+        ensures { result ≡ slot_of_admit_fault self.now }
     {
         match self {
             AdmitFault::Program(_, refusal) => refusal.slot(),

@@ -10,7 +10,7 @@ ghost use Rattle.job_core.specs.Living.{Living};
 
 use credit_book::Ticket;
 use helpers::{Part, Spawner};
-use interpreter::{Credit, Frame, Next, Ran};
+use interpreter::{ControlPoint, Credit, Frame, Ran};
 use refusal::NoMemory;
 use std::alloc::Global;
 use std::marker::Model;
@@ -93,7 +93,7 @@ impl Model for Live {
 }
 
 impl Live {
-    ghost use Rattle.interpreter.specs.declared.frame.Next.TheVariants as Next;
+    ghost use Rattle.interpreter.specs.declared.frame.ControlPoint.TheVariants as ControlPoint;
 
     /// The number of the task's program.
     pub fn program(&self) -> u16
@@ -164,7 +164,7 @@ impl Live {
             self.new.part self.new.credit (spawner.new ≡ spawner.old)
             (λ child reply. S.spawns spawner.old child reply spawner.new)
             (λ helper arguments answer. S.calls spawner.old helper arguments answer spawner.new)) }
-        ensures covered { (next : ℕ) → result.next ≡ Next.At next
+        ensures covered { (next : ℕ) → result.next ≡ ControlPoint.At next
             → IsCovered code.now (at_slot self.new.frame next) self.new.part self.new.credit }
         ensures base { self.new.part.base ≡ self.old.part.base }
         ensures program { self.new.program ≡ self.old.program }

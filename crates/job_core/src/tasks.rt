@@ -4,7 +4,7 @@ ghost use Rattle.std.specs.Prelude.{◌≡◌, ℕ, ◌<◌, ◌≤◌, ◌^◌,
 
 use crate::ledger::TaskLedger;
 use crate::schedule::named_ahead;
-use interpreter::Next;
+use interpreter::ControlPoint;
 use std::alloc::Global;
 use verifier::Verified;
 
@@ -51,12 +51,12 @@ impl Tasks {
         self.ledger.turn = number;
         let ran = live.run_at(alloc, code, live.slot(), 1, &mut self.ledger);
         match ran.next {
-            Next::At(next) => {
+            ControlPoint::At(next) => {
                 live.note_slot(next);
                 self.ledger.lives[number as usize] = Some(live);
                 Stepped::Went
             }
-            Next::Ended(r0) => {
+            ControlPoint::Ended(r0) => {
                 self.ledger.end(number, live, r0);
                 Stepped::Ended(r0)
             }
@@ -97,8 +97,8 @@ impl Tasks {
             let ran = live.run_at(alloc, code, slot, limit - gone, ledger);
             gone += ran.count;
             match ran.next {
-                Next::At(next) => slot = next,
-                Next::Ended(r0) => {
+                ControlPoint::At(next) => slot = next,
+                ControlPoint::Ended(r0) => {
                     ledger.end(number, live, r0);
                     return (gone, Stepped::Ended(r0));
                 }

@@ -5,7 +5,7 @@ use Rattle.std.proofs.lemmas.Bool.Decides.{nat_tests}
 use Rattle.std.specs.BTreeMap.{is_at}
 use Rattle.std.specs.Ordering.{nat_cmp}
 use Rattle.credit_book.specs.declared.board.Progress.{Progress}
-use Rattle.job_pools.specs.declared.places.Places.{Places}
+use Rattle.job_pools.specs.declared.held_jobs.HeldJobs.{HeldJobs}
 use Rattle.job_pools.specs.Holding.{HeldJob, AreKept, job_by}
 use Rattle.job_pools.specs.Holds.{held_at, count_of, SeesHeld, looks_by, TellsProgress}
 
@@ -120,6 +120,6 @@ pub is_there : (keys : ℕ → Option ℕ) (jobs : ℕ → Option HeldJob) (numb
 is_there keys jobs number key kept here = is_job (jobs key) number (kept number key here)
 
 -- what is told of a job that is held
-pub looks_held : (old : Places) (number : ℕ) (held : HeldJob) (told : Progress) (new : Places) → held_at old number ≡ Some held → SeesHeld old number held told new → TellsProgress old number told new
+pub looks_held : (old : HeldJobs) (number : ℕ) (held : HeldJob) (told : Progress) (new : HeldJobs) → held_at old number ≡ Some held → SeesHeld old number held told new → TellsProgress old number told new
 unfolding looks_by
 looks_held old number held told new was sees = subst (λ o. looks_by held_at count_of old number o told new) (sym was) sees

@@ -5,7 +5,7 @@ use Rattle.job_answer.specs.OneAnswer.{AllRan, HasOneAnswer}
 use Rattle.job_core.specs.Admitted.{AdmittedJob}
 use Rattle.verifier.specs.Checked.{program_of}
 use Rattle.workers.specs.declared.fault.PoolFault.{PoolFault}
-use Rattle.workers.specs.PoolFaultCodes.{number_of}
+use Rattle.workers.specs.PoolFaultCodes.{code_of_pool_fault}
 use Rattle.workers.specs.Final.{IsFinal}
 use Rattle.workers.specs.EndedAlone.{EndedAlone}
 
@@ -19,4 +19,4 @@ pub record IsRun (number : ℕ) (job : AdmittedJob) (report : Report) : Type 0 w
 -- such a report, or the number of a pool's refusal
 abbrev pub IsEndOf : ℕ → AdmittedJob → Result Report ℕ → Type 0
 IsEndOf number job (Ok report) = IsRun number job report
-IsEndOf number job (Err code) = (fault : PoolFault) × (code ≡ number_of fault)
+IsEndOf number job (Err code) = (fault : PoolFault) × (code ≡ code_of_pool_fault fault)

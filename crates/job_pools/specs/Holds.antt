@@ -7,7 +7,7 @@ use Rattle.slab.specs.Slab as slots
 use Rattle.credit_book.specs.declared.book.Report.{Report}
 use Rattle.job_core.specs.Admitted.{AdmittedJob}
 use Rattle.credit_book.specs.declared.board.Progress.{Progress}
-use Rattle.job_pools.specs.declared.places.Places.{Places}
+use Rattle.job_pools.specs.declared.held_jobs.HeldJobs.{HeldJobs}
 use Rattle.job_pools.specs.Endings.{IsEndOf}
 use Rattle.job_pools.specs.Holding.{HeldJob, IsFresh, IsSeen, job_by}
 
@@ -67,21 +67,21 @@ module _ {P : Type 0} (held_by : P → ℕ → Option HeldJob) (count_by : P →
 -- ---- jobs in places of their own
 
 -- the job that is held under a number
-abbrev pub held_at : Places → ℕ → Option HeldJob
+abbrev pub held_at : HeldJobs → ℕ → Option HeldJob
 held_at p n = job_by (slots.get p.jobs) (tree.get nat_cmp p.keys n)
 
 -- how many are held
-abbrev pub count_of : Places → ℕ
+abbrev pub count_of : HeldJobs → ℕ
 count_of p = btree_map_len p.keys
 
-abbrev pub SeesHeld : Places → ℕ → HeldJob → Progress → Places → Type 0
+abbrev pub SeesHeld : HeldJobs → ℕ → HeldJob → Progress → HeldJobs → Type 0
 SeesHeld old number held told new = SeesBy held_at count_of old number held told new
 
-abbrev pub Starts : Places → ℕ → AdmittedJob → Result (Unit {0}) ℕ → Places → Type 0
+abbrev pub Starts : HeldJobs → ℕ → AdmittedJob → Result (Unit {0}) ℕ → HeldJobs → Type 0
 Starts old number job result new = StartsBy held_at count_of old number job result new
 
-abbrev pub TellsProgress : Places → ℕ → Progress → Places → Type 0
+abbrev pub TellsProgress : HeldJobs → ℕ → Progress → HeldJobs → Type 0
 TellsProgress old number told new = TellsBy held_at count_of old number told new
 
-abbrev pub TakesReport : Places → Option (ℕ × Result Report ℕ) → Places → Type 0
+abbrev pub TakesReport : HeldJobs → Option (ℕ × Result Report ℕ) → HeldJobs → Type 0
 TakesReport old taken new = TakesBy held_at count_of old taken new

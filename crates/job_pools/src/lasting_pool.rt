@@ -12,7 +12,7 @@ use crate::keys::{forget, note};
 use crate::limited_runner::CountedRunner;
 use crate::queued_job::{EndedJob, QueuedJob};
 use crate::queues::{Inlet, Outlet};
-use crate::watched::{Watched, look_at};
+use crate::seen_board::{SeenBoard, look_at};
 use credit_book::{Progress, Report};
 use job_core::Job;
 use std::alloc::Global;
@@ -33,7 +33,7 @@ pub struct LastingPool<'a, R, J: RegisterId> {
     register: &'a JobRegister<J>,
     keeper: Keeper<J>,
     next: u64,
-    boards: BTreeMap<u64, Watched>,
+    boards: BTreeMap<u64, SeenBoard>,
     queue: Inlet<QueuedJob<J>>,
     ended: Outlet<EndedJob<J>>,
     has_workers: bool,
@@ -105,7 +105,7 @@ impl<R: Wait, J: RegisterId> Runner for LastingPool<'_, R, J> {
         let Ok((board, post, reader)) = job.board(alloc, number) else {
             return Err(99);
         };
-        let Ok(()) = note(&mut self.boards, number, Watched::new(board, reader)) else {
+        let Ok(()) = note(&mut self.boards, number, SeenBoard::new(board, reader)) else {
             return Err(99);
         };
         self.next = next;

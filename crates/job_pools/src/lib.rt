@@ -12,8 +12,8 @@ pub use job_request::JobRequest;
 pub use starting::start_thread;
 
 // a thread for each job
+mod held_jobs;
 mod keys;
-mod places;
 mod pool;
 
 pub use pool::PoolRunner;
@@ -25,7 +25,7 @@ mod lasting_pool;
 mod pool_threads;
 mod queued_job;
 mod queues;
-mod watched;
+mod seen_board;
 
 pub use job_register::{JobRegister, JobSeat, Keeper, NewRegister};
 pub use job_seats::{JobView, RegisterId, StartedJob};

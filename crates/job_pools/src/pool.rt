@@ -1,8 +1,8 @@
 //! A runner that runs each job in a thread of its own.
 
 use crate::ending::JobThread;
+use crate::held_jobs::HeldJobs;
 use crate::job_request::JobRequest;
-use crate::places::Places;
 use credit_book::{Progress, Report};
 use job_core::Job;
 use std::alloc::Global;
@@ -20,7 +20,7 @@ use streams::Runner;
 pub struct PoolRunner<R, F: Fn(JobRequest) -> Option<JobThread>> {
     rt: R,
     starter: F,
-    places: Places,
+    places: HeldJobs,
 }
 
 impl<R: Drop, F: Fn(JobRequest) -> Option<JobThread> + Drop> PoolRunner<R, F> {
@@ -35,7 +35,7 @@ impl<R: Drop, F: Fn(JobRequest) -> Option<JobThread> + Drop> PoolRunner<R, F> {
         PoolRunner {
             rt,
             starter,
-            places: Places::new(alloc),
+            places: HeldJobs::new(alloc),
         }
     }
 }

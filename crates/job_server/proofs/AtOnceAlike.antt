@@ -7,7 +7,7 @@ use Rattle.accounts.specs.Ledgers.{Ledger}
 use Rattle.credit_book.specs.Boards.{Sight}
 use Rattle.streams.specs.declared.fault.StreamFault.{StreamFault}
 use Rattle.shared_desk.specs.declared.closed.ClosedConnection.{ClosedConnection}
-use Rattle.shared_desk.specs.Histories.{Entry, Replays, none_yet, one_more}
+use Rattle.shared_desk.specs.Histories.{HistoryEntry, Replays, none_yet, one_more}
 use Rattle.shared_desk.specs.Closed.{first_fault}
 use Rattle.credit_book.specs.declared.book.Report.{Report}
 use Rattle.credit_book.specs.declared.board.Progress.{Progress}
@@ -28,7 +28,7 @@ use Rattle.job_server.proofs.Alike.{beside, answers_alike}
 module _ {S T : Type 0} (g : S → T) (answers : S → Result Asked ℕ → List ℕ → S → Type 0) (answers1 : T → Result Asked ℕ → List ℕ → T → Type 0)
     (alike : (s : S) (query : Result Asked ℕ) (reply : List ℕ) (t : S) → answers s query reply t → answers1 (g s) query reply (g t))
     (begins : S → Type 0) (begins1 : T → Type 0) (first : (s : S) → begins s → begins1 (g s)) where
-  replays_alike : (history : List Entry) (s : S) → Replays answers begins history s → Replays answers1 begins1 history (g s)
+  replays_alike : (history : List HistoryEntry) (s : S) → Replays answers begins history s → Replays answers1 begins1 history (g s)
   replays_alike history s (none_yet t start) = none_yet (g t) (first t start)
   replays_alike history s (one_more before t e u earlier answer) = one_more before (g t) e (g u) (replays_alike before t earlier) (alike t e.query e.reply u answer)
 

@@ -5,7 +5,7 @@ use Rattle.serde_json.specs.Data.{Data}
 use Rattle.job_core.specs.Admitted.{AdmittedJob}
 use Rattle.sessions.specs.Grammar.{Asked, result}
 use Rattle.sessions.specs.Replies.{submit_data}
-use Rattle.shared_desk.specs.Histories.{Entry}
+use Rattle.shared_desk.specs.Histories.{HistoryEntry}
 use Rattle.job_pools.specs.Started.{pooled_at, pooled_count}
 use Rattle.job_pools.specs.Holds.{StartsBy, TellsBy, TakesBy}
 use Rattle.job_pools.specs.Bounded.{starts_within, looks_within, takes_within}
@@ -28,14 +28,14 @@ use Rattle.job_server.proofs.ReplyFrames.{third, third_of_result, third_of_refus
 
 -- ---- the submit of a job
 
-record IsThere (history : List Entry) (number : ℕ) (job : AdmittedJob) : Type 0 where
-  earlier : List Entry
-  asked : Entry
-  between : List Entry
+record IsThere (history : List HistoryEntry) (number : ℕ) (job : AdmittedJob) : Type 0 where
+  earlier : List HistoryEntry
+  asked : HistoryEntry
+  between : List HistoryEntry
   is_before : history ≡ earlier ++ asked ∷ between
   is_submit : IsSubmit asked number job
 
-later : (history : List Entry) (number : ℕ) (job : AdmittedJob) (e : Entry) → IsThere history number job → IsThere (history ++ e ∷ []) number job
+later : (history : List HistoryEntry) (number : ℕ) (job : AdmittedJob) (e : HistoryEntry) → IsThere history number job → IsThere (history ++ e ∷ []) number job
 later history number job e t = record {
   earlier = t.earlier;
   asked = t.asked;
@@ -44,7 +44,7 @@ later history number job e t = record {
   is_submit = t.is_submit;
 }
 
-submitted : (history : List Entry) (jobs : List AdmittedJob) → AreTaken history jobs → (i : ℕ) (job : AdmittedJob) → slice_get jobs i ≡ Some job → IsThere history (i + 1) job
+submitted : (history : List HistoryEntry) (jobs : List AdmittedJob) → AreTaken history jobs → (i : ℕ) (job : AdmittedJob) → slice_get jobs i ≡ Some job → IsThere history (i + 1) job
 submitted _ _ none_yet i job at = cc
 submitted _ _ (no_more history jobs e before no_job) i job at = later history (i + 1) job e (submitted history jobs before i job at)
 submitted _ _ (one_more history jobs e last before is_submit) i job at = by_place (λ was. later history (i + 1) job e (submitted history jobs before i job was)) (get_pushed jobs last i job at)
@@ -59,7 +59,7 @@ submitted _ _ (one_more history jobs e last before is_submit) i job at = by_plac
       is_submit = subst (λ (t : ℕ × AdmittedJob). IsSubmit e (t.0 + 1) t.1) (λ k. (sym new.0 k, new.1 k)) is_submit;
     }
 
-place_of : (history : List Entry) (jobs : List AdmittedJob) (number : ℕ) (job : AdmittedJob) → AreTaken history jobs → taken_at jobs number ≡ Some job → IsThere history number job
+place_of : (history : List HistoryEntry) (jobs : List AdmittedJob) (number : ℕ) (job : AdmittedJob) → AreTaken history jobs → taken_at jobs number ≡ Some job → IsThere history number job
 place_of history jobs zero job taken at = let clash : None ≡ Some job = at in cc
 place_of history jobs (suc n) job taken at =
     let place : suc n - 1 + 1 ≡ suc n = omega arith in
@@ -67,12 +67,12 @@ place_of history jobs (suc n) job taken at =
 
 -- ---- a result comes from its submit
 
-no_result : (e : Entry) (code : ℕ) → IsResultFrame e.reply → HasReply e (refused code) → ⊥
+no_result : (e : HistoryEntry) (code : ℕ) → IsResultFrame e.reply → HasReply e (refused code) → ⊥
 no_result e code f tells =
     let clash : 98 ≡ 99 = sym (ap third f.frame ∙ third_of_result f.buffer f.returned f.spent f.tasks) ∙ ap third tells ∙ third_of_refused code None None in
     absurd (omega (arith, clash))
 
-by_result : (keep : ℕ) (before : List Entry) (number : ℕ) (e : Entry) (jobs : List AdmittedJob) → AreTaken before jobs → IsResultFrame e.reply → (told : Data) → IsResultOf keep jobs number told → HasReply e told → ComesFromSubmit before number e
+by_result : (keep : ℕ) (before : List HistoryEntry) (number : ℕ) (e : HistoryEntry) (jobs : List AdmittedJob) → AreTaken before jobs → IsResultFrame e.reply → (told : Data) → IsResultOf keep jobs number told → HasReply e told → ComesFromSubmit before number e
 by_result keep before number e jobs taken f _ (failed job code at fails) tells = absurd (no_result e code f tells)
 by_result keep before number e jobs taken f _ (not_over job at) tells = absurd (no_result e 77 f tells)
 by_result keep before number e jobs taken f _ (forgotten job at some later) tells = absurd (no_result e 76 f tells)
@@ -91,11 +91,11 @@ by_result keep before number e jobs taken f _ (reported job report at run) tells
       tells = tells;
     }
 
-pub comes_from_submit : (keep : ℕ) (before : List Entry) (number : ℕ) (e : Entry) → IsToldResult keep before number e → IsResultFrame e.reply → ComesFromSubmit before number e
+pub comes_from_submit : (keep : ℕ) (before : List HistoryEntry) (number : ℕ) (e : HistoryEntry) → IsToldResult keep before number e → IsResultFrame e.reply → ComesFromSubmit before number e
 comes_from_submit keep before number e t f = by_result keep before number e t.jobs t.taken f t.told t.is_result t.tells
 
 -- the report adds up to the credit that was asked
-pub adds_up : (before : List Entry) (number : ℕ) (e : Entry) (r : ComesFromSubmit before number e) → r.report.spent + r.report.returned ≡ r.is_submit.credit
+pub adds_up : (before : List HistoryEntry) (number : ℕ) (e : HistoryEntry) (r : ComesFromSubmit before number e) → r.report.spent + r.report.returned ≡ r.is_submit.credit
 adds_up before number e r = r.run.final.whole ∙ r.is_submit.admitted.same_credit
 
 -- ---- a host
@@ -103,24 +103,24 @@ adds_up before number e r = r.run.final.whole ∙ r.is_submit.admitted.same_cred
 fresh_host : (bounds : Bounds) (first : Pool) (x : Hosted) → x ≡ new_host bounds first → (x.0.jobs ≡ []) × (x.1.keep ≡ bounds.keep)
 fresh_host bounds first x is = (ap (λ (h : Hosted). h.0.jobs) is, ap (λ (h : Hosted). h.1.keep) is)
 
-pub host_tells : (bounds : Bounds) (before after : List Entry) (e : Entry) (number : ℕ) → IsHostHistory bounds (before ++ e ∷ after) → e.query ≡ Ok (result number) → IsToldResult bounds.keep before number e
+pub host_tells : (bounds : Bounds) (before after : List HistoryEntry) (e : HistoryEntry) (number : ℕ) → IsHostHistory bounds (before ++ e ∷ after) → e.query ≡ Ok (result number) → IsToldResult bounds.keep before number e
 host_tells bounds before after e number h asks =
     history_tells (starts_within pooled_count (StartsBy pooled_at pooled_count)) (looks_within (TellsBy pooled_at pooled_count)) (takes_within (TakesBy pooled_at pooled_count))
     (job_held pooled_at pooled_count) (limited_holds pooled_at pooled_count) (λ s. s ≡ new_host bounds h.first) bounds.keep (fresh_host bounds h.first) before after e number h.end h.legal asks
 
-pub host_comes : (bounds : Bounds) (before after : List Entry) (e : Entry) (number : ℕ) → IsHostHistory bounds (before ++ e ∷ after) → e.query ≡ Ok (result number) → IsResultFrame e.reply → ComesFromSubmit before number e
+pub host_comes : (bounds : Bounds) (before after : List HistoryEntry) (e : HistoryEntry) (number : ℕ) → IsHostHistory bounds (before ++ e ∷ after) → e.query ≡ Ok (result number) → IsResultFrame e.reply → ComesFromSubmit before number e
 host_comes bounds before after e number h asks f = comes_from_submit bounds.keep before number e (host_tells bounds before after e number h asks) f
 
-pub host_refuses : (bounds : Bounds) (before after : List Entry) (e : Entry) (number code : ℕ) → IsHostHistory bounds (before ++ e ∷ after) → e.query ≡ Ok (result number) → HasReply e (refused code) → code < 2 ^ 64
+pub host_refuses : (bounds : Bounds) (before after : List HistoryEntry) (e : HistoryEntry) (number code : ℕ) → IsHostHistory bounds (before ++ e ∷ after) → e.query ≡ Ok (result number) → HasReply e (refused code) → code < 2 ^ 64
     → IsToldRefusal bounds.keep before number code
 host_refuses bounds before after e number code h asks tells small = told_refusal bounds.keep before number e code (host_tells bounds before after e number h asks) tells small
 
-pub host_stays : (bounds : Bounds) (before between after : List Entry) (e f : Entry) (number : ℕ) → IsHostHistory bounds (before ++ e ∷ (between ++ f ∷ after)) → e.query ≡ Ok (result number) → f.query ≡ Ok (result number) → StaysTold e f
+pub host_stays : (bounds : Bounds) (before between after : List HistoryEntry) (e f : HistoryEntry) (number : ℕ) → IsHostHistory bounds (before ++ e ∷ (between ++ f ∷ after)) → e.query ≡ Ok (result number) → f.query ≡ Ok (result number) → StaysTold e f
 host_stays bounds before between after e f number h asks_e asks_f =
     results_stay (starts_within pooled_count (StartsBy pooled_at pooled_count)) (looks_within (TellsBy pooled_at pooled_count)) (takes_within (TakesBy pooled_at pooled_count))
     (λ s. s ≡ new_host bounds h.first) before between after e f number h.end h.legal asks_e asks_f
 
-pub host_rises : (bounds : Bounds) (before between after : List Entry) (e f : Entry) (m n : ℕ) → IsHostHistory bounds (before ++ e ∷ (between ++ f ∷ after)) → length (before ++ e ∷ between) < 2 ^ 64 - 1
+pub host_rises : (bounds : Bounds) (before between after : List HistoryEntry) (e f : HistoryEntry) (m n : ℕ) → IsHostHistory bounds (before ++ e ∷ (between ++ f ∷ after)) → length (before ++ e ∷ between) < 2 ^ 64 - 1
     → AsksForJob e.query → HasReply e (submit_data m) → m < 2 ^ 64 → AsksForJob f.query → HasReply f (submit_data n) → n < 2 ^ 64 → m < n
 host_rises bounds before between after e f m n h short asks_e tells_e small_m asks_f tells_f small_n =
     let stands = history_stands (starts_within pooled_count (StartsBy pooled_at pooled_count)) (looks_within (TellsBy pooled_at pooled_count)) (takes_within (TakesBy pooled_at pooled_count))
@@ -135,12 +135,12 @@ host_history bounds sessions may_stop outcome s = record { first = s.first; end 
 each_served : (closed : List ClosedConnection) → All IsServedWhole closed → (i : ℕ) (c : ClosedConnection) → slice_get closed i ≡ Some c → IsServedWhole c
 each_served closed served i c at = subst IsServedWhole (get_or_from_slice_get closed i c c at) (served i c (slice_get_within closed i c at))
 
-pub host_entries : (bounds : Bounds) (sessions : ℕ) (may_stop : Bool) (outcome : Result (Unit {0}) ServeFault) (s : IsServing bounds sessions may_stop outcome) (before after : List Entry) (e : Entry) (asks : Asked)
+pub host_entries : (bounds : Bounds) (sessions : ℕ) (may_stop : Bool) (outcome : Result (Unit {0}) ServeFault) (s : IsServing bounds sessions may_stop outcome) (before after : List HistoryEntry) (e : HistoryEntry) (asks : Asked)
     → s.serving.history ≡ before ++ e ∷ after → e.query ≡ Ok asks → IsEntryOf s.serving.closed e asks
 host_entries bounds sessions may_stop outcome s before after e asks is own =
     is_entry_of s.serving.opened before after e s.serving.closed asks (subst (λ h. AreClosed s.serving.opened h s.serving.closed) is s.serving.parts) (each_served s.serving.closed s.serving.served) own
 
-pub host_payloads : (bounds : Bounds) (sessions : ℕ) (may_stop : Bool) (outcome : Result (Unit {0}) ServeFault) (s : IsServing bounds sessions may_stop outcome) (before after : List Entry) (e : Entry) (number : ℕ)
+pub host_payloads : (bounds : Bounds) (sessions : ℕ) (may_stop : Bool) (outcome : Result (Unit {0}) ServeFault) (s : IsServing bounds sessions may_stop outcome) (before after : List HistoryEntry) (e : HistoryEntry) (number : ℕ)
     → s.serving.history ≡ before ++ e ∷ after → e.query ≡ Ok (result number) → IsResultFrame e.reply → ComesFromPayload s.serving.closed before number e
 host_payloads bounds sessions may_stop outcome s before after e number is asks f = record {
   comes = comes;

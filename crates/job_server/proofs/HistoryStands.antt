@@ -6,8 +6,8 @@ use Rattle.serde_json.specs.Data.{Data}
 use Rattle.credit_book.specs.declared.book.Report.{Report}
 use Rattle.credit_book.specs.declared.board.Progress.{Progress}
 use Rattle.accounts.specs.declared.jobs.JobEntry.{JobEntry}
-use Rattle.accounts.specs.declared.jobs.Standing.{Standing}
-use Rattle.accounts.specs.declared.jobs.Standing.TheVariants.{Open, Reported, Failed}
+use Rattle.accounts.specs.declared.jobs.JobStanding.{JobStanding}
+use Rattle.accounts.specs.declared.jobs.JobStanding.TheVariants.{Open, Reported, Failed}
 use Rattle.job_core.specs.Admitted.{AdmittedJob}
 use Rattle.accounts.specs.Jobs.{report_of}
 use Rattle.accounts.specs.Ledgers.{Ledger, report_at, report_in}
@@ -18,7 +18,7 @@ use Rattle.streams.specs.Passing.{Taken, none_yet as none_taken, one_more as one
 use Rattle.streams.specs.Answering.{Replies, Grants, GrantsNone, Settles, Submits, report_told, refused}
 use Rattle.job_server.specs.Kept.{KeepsLast, answers_keeping}
 use Rattle.job_server.specs.declared.keeping_handler.KeepingHandler.{KeepingHandler}
-use Rattle.shared_desk.specs.Histories.{Entry, Replays, none_yet as nothing_replayed, one_more as one_replayed}
+use Rattle.shared_desk.specs.Histories.{HistoryEntry, Replays, none_yet as nothing_replayed, one_more as one_replayed}
 use Rattle.job_pools.specs.Endings.{IsEndOf}
 use Rattle.job_server.specs.EndToEnd.{AreTaken, none_yet, one_more, no_more, IsSubmit, TakesNoJob, AsksForJob, FailsBy, IsResultOf, reported, failed, not_over, forgotten, unknown, taken_at, IsToldResult, HasReply}
 use Rattle.job_server.proofs.ListEnds.{length_pushed, get_within, get_past, within_get}
@@ -33,7 +33,7 @@ taken_is jobs number some =
     let apart : nat_eq number 0 ≡ false = grind (arith, nat_tests) in
     ap (λ (b : Bool). if◌then◌else◌ {A = Option AdmittedJob} b None (slice_get jobs (number - 1))) apart
 
-by_standing : (keep : ℕ) (jobs : List AdmittedJob) (number : ℕ) (held : Option AdmittedJob) (job : AdmittedJob) (credit : ℕ) (standing : Standing) → taken_at jobs number ≡ Some job
+by_standing : (keep : ℕ) (jobs : List AdmittedJob) (number : ℕ) (held : Option AdmittedJob) (job : AdmittedJob) (credit : ℕ) (standing : JobStanding) → taken_at jobs number ≡ Some job
     → StandsFor held keep (length jobs) number job credit standing → IsResultOf keep jobs number (report_told (report_of standing))
 by_standing keep jobs number held job credit Open at stands = not_over job at
 by_standing keep jobs number held job credit (Reported report) at stands = reported job report at stands
@@ -96,15 +96,15 @@ module _ {R : Type 0} (starts : R → ℕ → AdmittedJob → Result (Unit {0}) 
   -- ---- one request
 
   -- the history before, the jobs that were taken in it, and the desk and the runner after it
-  abbrev Stands : ℕ → List Entry → Ledger → R → Type 0
+  abbrev Stands : ℕ → List HistoryEntry → Ledger → R → Type 0
   Stands keep history d r = (jobs : List AdmittedJob) × AreTaken history jobs × AllStand keep jobs d.jobs (held r)
 
-  same_desk : (keep : ℕ) (history : List Entry) (d : Ledger) (r : R) (e : Entry) (a : Ledger) (s : R) → (jobs : List AdmittedJob) → AreTaken history jobs → AllStand keep jobs d.jobs (held r)
+  same_desk : (keep : ℕ) (history : List HistoryEntry) (d : Ledger) (r : R) (e : HistoryEntry) (a : Ledger) (s : R) → (jobs : List AdmittedJob) → AreTaken history jobs → AllStand keep jobs d.jobs (held r)
       → TakesNoJob e → a.jobs ≡ d.jobs → ((m : ℕ) → held s m ≡ held r m) → Stands keep (history ++ e ∷ []) a s
   same_desk keep history d r e a s jobs taken stand no_job same held_same =
       (jobs, no_more history jobs e taken no_job, subst (λ es. AllStand keep jobs es (held s)) (sym same) (all_stand keep jobs d.jobs (held r) (held s) held_same stand))
 
-  after_submit : (keep : ℕ) (history : List Entry) (d : Ledger) (r : R) (e : Entry) (a : Ledger) (s : R) → (jobs : List AdmittedJob) → AreTaken history jobs → AllStand keep jobs d.jobs (held r)
+  after_submit : (keep : ℕ) (history : List HistoryEntry) (d : Ledger) (r : R) (e : HistoryEntry) (a : Ledger) (s : R) → (jobs : List AdmittedJob) → AreTaken history jobs → AllStand keep jobs d.jobs (held r)
       → (name : List ℕ) (programs : List ProgramBytes) (credit : ℕ) (buffer : List ℕ) (told : Data) → e.query ≡ Ok (submit name (record { programs = map program_asked programs; credit = credit; buffer = buffer })) → HasReply e told
       → Submits starts d r name programs credit buffer told a s → Stands keep (history ++ e ∷ []) a s
   after_submit keep history d r e a s jobs taken stand name programs credit buffer told asks tells (inr n) =
@@ -166,7 +166,7 @@ module _ {R : Type 0} (starts : R → ℕ → AdmittedJob → Result (Unit {0}) 
           (λ m apart. step.1 m ∙ sym (held_other m apart))
           (λ job is. by_code code step.0 job) settles
 
-  after_replies : (keep : ℕ) (history : List Entry) (d : Ledger) (r : R) (e : Entry) (a : Ledger) (s : R) → (jobs : List AdmittedJob) → AreTaken history jobs → AllStand keep jobs d.jobs (held r)
+  after_replies : (keep : ℕ) (history : List HistoryEntry) (d : Ledger) (r : R) (e : HistoryEntry) (a : Ledger) (s : R) → (jobs : List AdmittedJob) → AreTaken history jobs → AllStand keep jobs d.jobs (held r)
       → (query : Result Asked ℕ) (told : Data) → e.query ≡ query → HasReply e told → Replies starts looks d r query told a s → Stands keep (history ++ e ∷ []) a s
   unfolding Replies
   after_replies keep history d r e a s jobs taken stand (Err code) told asks tells t =
@@ -187,7 +187,7 @@ module _ {R : Type 0} (starts : R → ℕ → AdmittedJob → Result (Unit {0}) 
   after_replies keep history d r e a s jobs taken stand (Ok (result number)) told asks tells t =
       same_desk keep history d r e a s jobs taken stand (inl (subst (λ q. AsksForJob q → ⊥) (sym asks) (λ h. h))) (ap (λ (l : Ledger). l.jobs) t.1) (λ m. ap (λ (x : R). held x m) t.2)
 
-  after_answer : (keep : ℕ) (history : List Entry) (x : Ledger × KeepingHandler R) (e : Entry) (y : Ledger × KeepingHandler R) → (x.1.keep ≡ keep) → Stands keep history x.0 x.1.runner
+  after_answer : (keep : ℕ) (history : List HistoryEntry) (x : Ledger × KeepingHandler R) (e : HistoryEntry) (y : Ledger × KeepingHandler R) → (x.1.keep ≡ keep) → Stands keep history x.0 x.1.runner
       → answers_keeping starts looks takes x e.query e.reply y → (y.1.keep ≡ keep) × Stands keep (history ++ e ∷ []) y.0 y.1.runner
   after_answer keep history x e y keeps stands answers =
       let mid = answers.0.0 in
@@ -199,7 +199,7 @@ module _ {R : Type 0} (starts : R → ℕ → AdmittedJob → Result (Unit {0}) 
       )
 
   -- the result that is told after a history
-  tells_result : (keep : ℕ) (history : List Entry) (x : Ledger × KeepingHandler R) (e : Entry) (y : Ledger × KeepingHandler R) (number : ℕ) → Stands keep history x.0 x.1.runner
+  tells_result : (keep : ℕ) (history : List HistoryEntry) (x : Ledger × KeepingHandler R) (e : HistoryEntry) (y : Ledger × KeepingHandler R) (number : ℕ) → Stands keep history x.0 x.1.runner
       → answers_keeping starts looks takes x e.query e.reply y → e.query ≡ Ok (result number) → IsToldResult keep history number e
   tells_result keep history x e y number stands answers asks =
       let a = answers.0.1 in
@@ -216,7 +216,7 @@ module _ {R : Type 0} (starts : R → ℕ → AdmittedJob → Result (Unit {0}) 
   -- ---- whole histories
 
   module _ (begins : Ledger × KeepingHandler R → Type 0) (keep : ℕ) (fresh : (x : Ledger × KeepingHandler R) → begins x → (x.0.jobs ≡ []) × (x.1.keep ≡ keep)) where
-    pub history_stands : (history : List Entry) (x : Ledger × KeepingHandler R) → Replays (answers_keeping starts looks takes) begins history x → (x.1.keep ≡ keep) × Stands keep history x.0 x.1.runner
+    pub history_stands : (history : List HistoryEntry) (x : Ledger × KeepingHandler R) → Replays (answers_keeping starts looks takes) begins history x → (x.1.keep ≡ keep) × Stands keep history x.0 x.1.runner
     history_stands history x (nothing_replayed y first) =
         ((fresh y first).1, ([], none_yet, subst (λ es. AllStand keep [] es (held y.1.runner)) (sym (fresh y first).0) (record { count = refl; each = λ i entry job at there. absurd (nothing_at i entry at) })))
       where
@@ -226,7 +226,7 @@ module _ {R : Type 0} (starts : R → ℕ → AdmittedJob → Result (Unit {0}) 
         let was = history_stands h y before in
         after_answer keep h y e z was.0 was.1 answered
 
-    pub history_tells : (before after : List Entry) (e : Entry) (number : ℕ) (end : Ledger × KeepingHandler R) → Replays (answers_keeping starts looks takes) begins (before ++ e ∷ after) end
+    pub history_tells : (before after : List HistoryEntry) (e : HistoryEntry) (number : ℕ) (end : Ledger × KeepingHandler R) → Replays (answers_keeping starts looks takes) begins (before ++ e ∷ after) end
         → e.query ≡ Ok (result number) → IsToldResult keep before number e
     history_tells before after e number end legal asks =
         let at = is_at starts looks takes begins before after e (before ++ e ∷ after) end legal refl in

@@ -8,12 +8,12 @@ use Rattle.serde_json.specs.Data.{Data}
 use Rattle.serde_json.specs.Written.{compact_text}
 use Rattle.workers.specs.declared.fault.PoolFault.{PoolFault}
 use Rattle.workers.specs.declared.fault.PoolFault.TheVariants.{NoWorker}
-use Rattle.workers.specs.PoolFaultCodes.{number_of}
+use Rattle.workers.specs.PoolFaultCodes.{code_of_pool_fault}
 use Rattle.job_core.specs.Admitted.{AdmittedJob}
 use Rattle.sessions.specs.Frames.{framed}
 use Rattle.sessions.specs.Replies.{refusal_data, frame_or_refusal, longest_reply}
 use Rattle.streams.specs.Answering.{refused}
-use Rattle.shared_desk.specs.Histories.{Entry}
+use Rattle.shared_desk.specs.Histories.{HistoryEntry}
 use Rattle.job_server.specs.EndToEnd.{FailsBy, IsResultOf, reported, failed, not_over, forgotten, unknown, IsToldResult, IsToldRefusal, HasReply, report_data}
 use Rattle.job_server.proofs.ReplyFrames.{third, third_of_result, third_of_refused, framed_cases}
 
@@ -44,7 +44,7 @@ same_code m n small_m small_n same = same_frame m n small_m small_n (sym (refuse
 
 -- ---- the numbers are small
 
-pool_code : (fault : PoolFault) → number_of fault < 2 ^ 64
+pool_code : (fault : PoolFault) → code_of_pool_fault fault < 2 ^ 64
 pool_code NoWorker = omega arith
 pool_code other = omega arith
 
@@ -73,5 +73,5 @@ module _ (keep : ℕ) (jobs : List AdmittedJob) (number code : ℕ) (small : cod
   by_result _ (unknown at) same = as_told 76 (omega arith) (unknown at) same
   by_result _ (reported job report at run) same = inr (too_long (report_data report) (third_of_result report.buffer.items report.returned report.spent report.tasks.items) same)
 
-pub told_refusal : (keep : ℕ) (before : List Entry) (number : ℕ) (e : Entry) (code : ℕ) → IsToldResult keep before number e → HasReply e (refused code) → code < 2 ^ 64 → IsToldRefusal keep before number code
+pub told_refusal : (keep : ℕ) (before : List HistoryEntry) (number : ℕ) (e : HistoryEntry) (code : ℕ) → IsToldResult keep before number e → HasReply e (refused code) → code < 2 ^ 64 → IsToldRefusal keep before number code
 told_refusal keep before number e code t tells small = record { jobs = t.jobs; taken = t.taken; is_result = by_result keep t.jobs number code small t.told t.is_result (sym t.tells ∙ tells) }

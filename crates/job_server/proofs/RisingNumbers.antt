@@ -9,7 +9,7 @@ use Rattle.job_core.specs.Admitted.{AdmittedJob}
 use Rattle.accounts.specs.Faults.{submit_code, submit_program, submit_slot}
 use Rattle.sessions.specs.Frames.{framed}
 use Rattle.sessions.specs.Replies.{submit_data, refusal_data, frame_or_refusal, longest_reply}
-use Rattle.shared_desk.specs.Histories.{Entry}
+use Rattle.shared_desk.specs.Histories.{HistoryEntry}
 use Rattle.job_server.specs.EndToEnd.{AreTaken, none_yet, one_more, no_more, IsSubmit, TakesNoJob, AsksForJob, HasReply}
 use Rattle.job_server.proofs.ListEnds.{length_pushed, last_same, last_of, none_pushed, joined_again}
 use Rattle.job_server.proofs.ReplyFrames.{third, third_of_submit, third_of_refused}
@@ -44,25 +44,25 @@ same_number m n small_m small_n same =
 -- ---- the jobs that were taken before an entry, and with it
 
 -- an entry takes a job or none, and what comes later takes no job back
-record TakesAt (before : List Entry) (e : Entry) (count : ℕ) : Type 0 where
+record TakesAt (before : List HistoryEntry) (e : HistoryEntry) (count : ℕ) : Type 0 where
   jobs : List AdmittedJob
   taken : AreTaken before jobs
   here : (TakesNoJob e) ⊎ ((job : AdmittedJob) × IsSubmit e (length jobs + 1) job × (length jobs + 1 ≤ count))
 
-grown : (before : List Entry) (e : Entry) (m n : ℕ) → m ≤ n → TakesAt before e m → TakesAt before e n
+grown : (before : List HistoryEntry) (e : HistoryEntry) (m n : ℕ) → m ≤ n → TakesAt before e m → TakesAt before e n
 grown before e m n le t = record { jobs = t.jobs; taken = t.taken; here = by_here t.here }
   where
     by_here : (TakesNoJob e) ⊎ ((job : AdmittedJob) × IsSubmit e (length t.jobs + 1) job × (length t.jobs + 1 ≤ m)) → (TakesNoJob e) ⊎ ((job : AdmittedJob) × IsSubmit e (length t.jobs + 1) job × (length t.jobs + 1 ≤ n))
     by_here (inl none) = inl none
     by_here (inr s) = let lt = s.2 in inr (s.0, s.1, omega (arith, lt, le))
 
-takes_at : (before after : List Entry) (e : Entry) (history : List Entry) (jobs : List AdmittedJob) → AreTaken history jobs → history ≡ before ++ e ∷ after → TakesAt before e (length jobs)
+takes_at : (before after : List HistoryEntry) (e : HistoryEntry) (history : List HistoryEntry) (jobs : List AdmittedJob) → AreTaken history jobs → history ≡ before ++ e ∷ after → TakesAt before e (length jobs)
 takes_at before after e _ _ none_yet is = absurd (none_pushed before after e is)
 takes_at before [] e _ _ (one_more h jobs x job taken is_submit) is =
     let same = last_same h before x e is in record {
       jobs = jobs;
       taken = subst (λ l. AreTaken l jobs) same.0 taken;
-      here = inr (job, subst (λ (y : Entry). IsSubmit y (length jobs + 1) job) same.1 is_submit, let more = length_pushed jobs job in omega (arith, more));
+      here = inr (job, subst (λ (y : HistoryEntry). IsSubmit y (length jobs + 1) job) same.1 is_submit, let more = length_pushed jobs job in omega (arith, more));
     }
 takes_at before [] e _ _ (no_more h jobs x taken no_job) is =
     let same = last_same h before x e is in
@@ -77,14 +77,14 @@ takes_at before (a ∷ after) e _ _ (no_more h jobs x taken no_job) is =
     let same = last_same h (before ++ e ∷ parted.0) x parted.1 (is ∙ ap (λ l. before ++ e ∷ l) parted.2 ∙ sym (joined_again before e parted.0 (parted.1 ∷ []))) in
     takes_at before parted.0 e h jobs taken same.0
 
-few_jobs : (history : List Entry) (jobs : List AdmittedJob) → AreTaken history jobs → length jobs ≤ length history
+few_jobs : (history : List HistoryEntry) (jobs : List AdmittedJob) → AreTaken history jobs → length jobs ≤ length history
 few_jobs _ _ none_yet = omega arith
 few_jobs _ _ (one_more h jobs x job taken is_submit) =
     let le = few_jobs h jobs taken in let a = length_pushed jobs job in let b = length_pushed h x in omega (arith, le, a, b)
 few_jobs _ _ (no_more h jobs x taken no_job) = let le = few_jobs h jobs taken in let b = length_pushed h x in omega (arith, le, b)
 
 -- the number that a submit is told is the next one
-told_next : (before : List Entry) (e : Entry) (count n : ℕ) (t : TakesAt before e count) → AsksForJob e.query → HasReply e (submit_data n) → n < 2 ^ 64 → length before < 2 ^ 64 - 1 → (n ≡ length t.jobs + 1) × (length t.jobs + 1 ≤ count)
+told_next : (before : List HistoryEntry) (e : HistoryEntry) (count n : ℕ) (t : TakesAt before e count) → AsksForJob e.query → HasReply e (submit_data n) → n < 2 ^ 64 → length before < 2 ^ 64 - 1 → (n ≡ length t.jobs + 1) × (length t.jobs + 1 ≤ count)
 told_next before e count n t asks tells small short = by_here t.here
   where
     by_here : (TakesNoJob e) ⊎ ((job : AdmittedJob) × IsSubmit e (length t.jobs + 1) job × (length t.jobs + 1 ≤ count)) → (n ≡ length t.jobs + 1) × (length t.jobs + 1 ≤ count)
@@ -98,7 +98,7 @@ told_next before e count n t asks tells small short = by_here t.here
         let lt : length t.jobs + 1 < 2 ^ 64 = omega (arith, few, short) in
         (same_number n (length t.jobs + 1) small lt (sym tells ∙ s.1.tells), s.2)
 
-pub numbers_rise : (before between after : List Entry) (e f : Entry) (jobs : List AdmittedJob) (m n : ℕ) → AreTaken (before ++ e ∷ (between ++ f ∷ after)) jobs → length (before ++ e ∷ between) < 2 ^ 64 - 1
+pub numbers_rise : (before between after : List HistoryEntry) (e f : HistoryEntry) (jobs : List AdmittedJob) (m n : ℕ) → AreTaken (before ++ e ∷ (between ++ f ∷ after)) jobs → length (before ++ e ∷ between) < 2 ^ 64 - 1
     → AsksForJob e.query → HasReply e (submit_data m) → m < 2 ^ 64 → AsksForJob f.query → HasReply f (submit_data n) → n < 2 ^ 64 → m < n
 numbers_rise before between after e f jobs m n taken short asks_e tells_e small_m asks_f tells_f small_n =
     let at_f = takes_at (before ++ e ∷ between) after f (before ++ e ∷ (between ++ f ∷ after)) jobs taken (sym (joined_again before e between (f ∷ after))) in

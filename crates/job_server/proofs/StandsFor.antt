@@ -3,8 +3,8 @@ use Rattle.std.proofs.Common.{◌≡◌, ◌≢◌, ◌⊎◌, ◌+◌, ◌-◌,
 use Rattle.std.proofs.lemmas.Bool.Decides.{nat_tests}
 use Rattle.credit_book.specs.declared.book.Report.{Report}
 use Rattle.accounts.specs.declared.jobs.JobEntry.{JobEntry}
-use Rattle.accounts.specs.declared.jobs.Standing.{Standing}
-use Rattle.accounts.specs.declared.jobs.Standing.TheVariants.{Open, Reported, Failed}
+use Rattle.accounts.specs.declared.jobs.JobStanding.{JobStanding}
+use Rattle.accounts.specs.declared.jobs.JobStanding.TheVariants.{Open, Reported, Failed}
 use Rattle.job_core.specs.Admitted.{AdmittedJob}
 use Rattle.accounts.specs.Jobs.{job_at, settled}
 use Rattle.accounts.specs.Ledgers.{Ledger, Finishes}
@@ -16,7 +16,7 @@ use Rattle.job_server.specs.EndToEnd.{FailsBy}
 use Rattle.job_server.proofs.ListEnds.{get_pushed, length_pushed, get_set, length_set, get_joined, get_behind, get_same, length_same, length_joined, within_get}
 
 -- The standing of a job of this credit says what became of the job that was taken under the number.
-abbrev pub StandsFor : Option AdmittedJob → ℕ → ℕ → ℕ → AdmittedJob → ℕ → Standing → Type 0
+abbrev pub StandsFor : Option AdmittedJob → ℕ → ℕ → ℕ → AdmittedJob → ℕ → JobStanding → Type 0
 StandsFor held keep count number job credit Open = (held ≡ Some job) × (credit ≡ job.credit)
 StandsFor held keep count number job credit (Reported report) = IsRun number job report
 StandsFor held keep count number job credit (Failed code) =
@@ -30,7 +30,7 @@ pub record AllStand (keep : ℕ) (jobs : List AdmittedJob) (entries : List JobEn
 
 -- ---- more is known, or more jobs were taken since
 
-stands_more : (a b : Option AdmittedJob) (keep c d number : ℕ) (job : AdmittedJob) (credit : ℕ) (standing : Standing) → (standing ≡ Open → b ≡ a) → c ≤ d
+stands_more : (a b : Option AdmittedJob) (keep c d number : ℕ) (job : AdmittedJob) (credit : ℕ) (standing : JobStanding) → (standing ≡ Open → b ≡ a) → c ≤ d
     → StandsFor a keep c number job credit standing → StandsFor b keep d number job credit standing
 stands_more a b keep c d number job credit Open same le was = (same refl ∙ was.0, was.1)
 stands_more a b keep c d number job credit (Reported report) same le was = was
@@ -93,7 +93,7 @@ stands_settled : (held : Option AdmittedJob) (keep count number : ℕ) (job : Ad
 stands_settled held keep count number job credit (Ok report) same ends =
     let whole = ends.final.whole in
     let adds : nat_eq (report.spent + report.returned) credit ≡ true = grind (arith, nat_tests, whole, same) in
-    subst (λ (b : Bool). StandsFor held keep count number job credit (if◌then◌else◌ {A = Standing} b (Reported report) (Failed 82))) (sym adds) ends
+    subst (λ (b : Bool). StandsFor held keep count number job credit (if◌then◌else◌ {A = JobStanding} b (Reported report) (Failed 82))) (sym adds) ends
 stands_settled held keep count number job credit (Err code) same ends = inl ends
 
 stand_changed : (keep : ℕ) (jobs : List AdmittedJob) (entries : List JobEntry) (a b : ℕ → Option AdmittedJob) (number : ℕ) (changed : JobEntry) → 1 ≤ number → AllStand keep jobs entries a
@@ -127,7 +127,7 @@ stand_finished keep jobs old a b number outcome new was others ends f =
     by_open job stands =
         let some = (job_there old.jobs number f.entry f.was).0 in
         let is : number - 1 + 1 ≡ number = omega (arith, some) in
-        let P : ℕ × Standing → Type 0 = λ p. StandsFor (a p.0) keep (length jobs) p.0 job f.entry.credit p.1 in
+        let P : ℕ × JobStanding → Type 0 = λ p. StandsFor (a p.0) keep (length jobs) p.0 job f.entry.credit p.1 in
         subst P (λ k. (is k, f.opened k)) stands
 
     ended : (job : AdmittedJob) → (a number ≡ Some job) × (f.entry.credit ≡ job.credit) → StandsFor (b number) keep (length jobs) number job f.entry.credit (settled f.entry.credit outcome)

@@ -6,8 +6,8 @@ use Rattle.credit_book.specs.declared.book.Report.{Report}
 use Rattle.credit_book.specs.declared.board.Progress.{Progress}
 use Rattle.job_core.specs.declared.admission.ProgramBytes.{ProgramBytes}
 use Rattle.accounts.specs.declared.jobs.JobEntry.{JobEntry}
-use Rattle.accounts.specs.declared.jobs.Standing.{Standing}
-use Rattle.accounts.specs.declared.jobs.Standing.TheVariants.{Open, Reported, Failed}
+use Rattle.accounts.specs.declared.jobs.JobStanding.{JobStanding}
+use Rattle.accounts.specs.declared.jobs.JobStanding.TheVariants.{Open, Reported, Failed}
 use Rattle.job_core.specs.Admitted.{AdmittedJob}
 use Rattle.accounts.specs.Jobs.{job_at, is_open, report_of, settled}
 use Rattle.accounts.specs.Ledgers.{Ledger, Finishes, report_at, report_in}
@@ -18,7 +18,7 @@ use Rattle.streams.specs.Passing.{Taken, none_yet as none_taken, one_more as one
 use Rattle.streams.specs.Answering.{Replies, Grants, GrantsNone, Settles, Submits, report_told, refused}
 use Rattle.sessions.specs.Replies.{reply_data, frame_or_refusal}
 use Rattle.job_server.specs.declared.keeping_handler.KeepingHandler.{KeepingHandler}
-use Rattle.shared_desk.specs.Histories.{Entry, Replays, none_yet as nothing_replayed, one_more as one_replayed}
+use Rattle.shared_desk.specs.Histories.{HistoryEntry, Replays, none_yet as nothing_replayed, one_more as one_replayed}
 use Rattle.job_server.specs.EndToEnd.{StaysTold, HasReply}
 use Rattle.job_server.proofs.ListEnds.{get_before, get_joined, get_behind, length_same, last_same, last_of, none_pushed, joined_again}
 use Rattle.job_server.proofs.StandsFor.{job_is, job_there}
@@ -141,15 +141,15 @@ abbrev Stays : Option JobEntry → Option JobEntry → Type 0
 Stays old new = (report_told (report_in old) ≡ refused 76) ⊎ (report_told (report_in old) ≡ refused 77)
     ⊎ (report_told (report_in new) ≡ report_told (report_in old)) ⊎ (report_told (report_in new) ≡ refused 76)
 
-by_standing : (entry : JobEntry) (new : Option JobEntry) (standing : Standing) → entry.standing ≡ standing
+by_standing : (entry : JobEntry) (new : Option JobEntry) (standing : JobStanding) → entry.standing ≡ standing
     → (is_open standing ≡ false → (x : JobEntry) × (new ≡ Some x) × ((x.standing ≡ standing) ⊎ (x.standing ≡ Failed 76))) → Stays (Some entry) new
 by_standing entry new standing is stays = by_form standing is stays
   where
-    by_stay : (st : Standing) → entry.standing ≡ st → (x : JobEntry) × (new ≡ Some x) × ((x.standing ≡ st) ⊎ (x.standing ≡ Failed 76)) → Stays (Some entry) new
+    by_stay : (st : JobStanding) → entry.standing ≡ st → (x : JobEntry) × (new ≡ Some x) × ((x.standing ≡ st) ⊎ (x.standing ≡ Failed 76)) → Stays (Some entry) new
     by_stay st is (x, there, inl same) = inr (inr (inl (ap (λ o. report_told (report_in o)) there ∙ ap (λ s. report_told (report_of s)) (same ∙ sym is))))
     by_stay st is (x, there, inr gone) = inr (inr (inr (ap (λ o. report_told (report_in o)) there ∙ ap (λ s. report_told (report_of s)) gone)))
 
-    by_form : (st : Standing) → entry.standing ≡ st → (is_open st ≡ false → (x : JobEntry) × (new ≡ Some x) × ((x.standing ≡ st) ⊎ (x.standing ≡ Failed 76))) → Stays (Some entry) new
+    by_form : (st : JobStanding) → entry.standing ≡ st → (is_open st ≡ false → (x : JobEntry) × (new ≡ Some x) × ((x.standing ≡ st) ⊎ (x.standing ≡ Failed 76))) → Stays (Some entry) new
     by_form Open is stays = inr (inl (ap (λ s. report_told (report_of s)) is))
     by_form (Failed code) is stays = by_stay (Failed code) is (stays refl)
     by_form (Reported report) is stays = by_stay (Reported report) is (stays refl)
@@ -177,14 +177,14 @@ result_stays d e (suc n) stays =
 module _ {R : Type 0} (starts : R → ℕ → AdmittedJob → Result (Unit {0}) ℕ → R → Type 0) (looks : R → ℕ → Progress → R → Type 0) (takes : R → Option (ℕ × Result Report ℕ) → R → Type 0)
     (begins : Ledger × KeepingHandler R → Type 0) where
   -- the states about an entry, and what stays from there to the end
-  pub record IsAt (before : List Entry) (e : Entry) (end : Ledger × KeepingHandler R) : Type 0 where
+  pub record IsAt (before : List HistoryEntry) (e : HistoryEntry) (end : Ledger × KeepingHandler R) : Type 0 where
     pub old : Ledger × KeepingHandler R
     pub new : Ledger × KeepingHandler R
     pub legal : Replays (answers_keeping starts looks takes) begins before old
     pub answered : answers_keeping starts looks takes old e.query e.reply new
     pub stays : StayOver new.0.jobs end.0.jobs
 
-  pub is_at : (before after : List Entry) (e : Entry) (history : List Entry) (end : Ledger × KeepingHandler R) → Replays (answers_keeping starts looks takes) begins history end → history ≡ before ++ e ∷ after → IsAt before e end
+  pub is_at : (before after : List HistoryEntry) (e : HistoryEntry) (history : List HistoryEntry) (end : Ledger × KeepingHandler R) → Replays (answers_keeping starts looks takes) begins history end → history ≡ before ++ e ∷ after → IsAt before e end
   is_at before after e history end (nothing_replayed s first) is = absurd (none_pushed before after e is)
   is_at before [] e history end (one_replayed h s x t legal answered) is =
       let same = last_same h before x e is in
@@ -192,7 +192,7 @@ module _ {R : Type 0} (starts : R → ℕ → AdmittedJob → Result (Unit {0}) 
         old = s;
         new = t;
         legal = subst (λ l. Replays (answers_keeping starts looks takes) begins l s) same.0 legal;
-        answered = subst (λ (y : Entry). answers_keeping starts looks takes s y.query y.reply t) same.1 answered;
+        answered = subst (λ (y : HistoryEntry). answers_keeping starts looks takes s y.query y.reply t) same.1 answered;
         stays = stay_same t.0.jobs t.0.jobs refl;
       }
   is_at before (a ∷ after) e history end (one_replayed h s x t legal answered) is =
@@ -208,13 +208,13 @@ module _ {R : Type 0} (starts : R → ℕ → AdmittedJob → Result (Unit {0}) 
       }
 
   -- the desk by which a result is told
-  record IsToldBy (number : ℕ) (old : Ledger) (e : Entry) (new : Ledger) : Type 0 where
+  record IsToldBy (number : ℕ) (old : Ledger) (e : HistoryEntry) (new : Ledger) : Type 0 where
     desk : Ledger
     before : StayOver old.jobs desk.jobs
     after : StayOver desk.jobs new.jobs
     tells : HasReply e (report_told (report_at desk number))
 
-  told_by : (number : ℕ) (x : Ledger × KeepingHandler R) (e : Entry) (y : Ledger × KeepingHandler R) → answers_keeping starts looks takes x e.query e.reply y → e.query ≡ Ok (result number) → IsToldBy number x.0 e y.0
+  told_by : (number : ℕ) (x : Ledger × KeepingHandler R) (e : HistoryEntry) (y : Ledger × KeepingHandler R) → answers_keeping starts looks takes x e.query e.reply y → e.query ≡ Ok (result number) → IsToldBy number x.0 e y.0
   told_by number x e y answers asks =
       let a = answers.0.1 in
       let is = reported_there starts looks takes a.mid a.rest number (reply_data a.told) answers.0.0 y.1.runner e.query asks a.replies in
@@ -225,7 +225,7 @@ module _ {R : Type 0} (starts : R → ℕ → AdmittedJob → Result (Unit {0}) 
         tells = a.frame ∙ is_framed a.told ∙ ap frame_or_refusal is;
       }
 
-  pub results_stay : (before between after : List Entry) (e f : Entry) (number : ℕ) (end : Ledger × KeepingHandler R) → Replays (answers_keeping starts looks takes) begins (before ++ e ∷ (between ++ f ∷ after)) end
+  pub results_stay : (before between after : List HistoryEntry) (e f : HistoryEntry) (number : ℕ) (end : Ledger × KeepingHandler R) → Replays (answers_keeping starts looks takes) begins (before ++ e ∷ (between ++ f ∷ after)) end
       → e.query ≡ Ok (result number) → f.query ≡ Ok (result number) → StaysTold e f
   results_stay before between after e f number end legal asks_e asks_f =
       let at_f = is_at (before ++ e ∷ between) after f (before ++ e ∷ (between ++ f ∷ after)) end legal (sym (joined_again before e between (f ∷ after))) in

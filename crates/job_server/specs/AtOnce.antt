@@ -7,7 +7,7 @@ use Rattle.accounts.specs.Ledgers.{Ledger}
 use Rattle.std.specs.BTreeMap.{BTreeMap}
 use Rattle.credit_book.specs.Boards.{Sight}
 use Rattle.shared_desk.specs.declared.closed.ClosedConnection.{ClosedConnection}
-use Rattle.shared_desk.specs.Histories.{Entry, Replays, part_of}
+use Rattle.shared_desk.specs.Histories.{HistoryEntry, Replays, part_of}
 use Rattle.shared_desk.specs.Closed.{AreClosed, IsServedWhole, first_fault}
 use Rattle.job_server.specs.declared.fault.ServeFault.{ServeFault}
 use Rattle.job_server.specs.declared.fault.ServeFault.TheVariants.{Socket, Connection}
@@ -37,7 +37,7 @@ EndsBy opened sessions over given_up (Connection fault) =
 pub record IsServingFrom {S : Type 0} (answers : S → Result Asked ℕ → List ℕ → S → Type 0)
     (begins : S → Type 0) (end : S) (sessions : ℕ) (may_stop : Bool)
     (outcome : Result (Unit {0}) ServeFault) : Type 0 where
-  pub history : List Entry
+  pub history : List HistoryEntry
   pub opened : ℕ
   pub closed : List ClosedConnection
   pub legal : Replays answers begins history end

@@ -12,19 +12,19 @@ use Rattle.sessions.specs.Frames.{framed}
 use Rattle.sessions.specs.Grammar.{Asked, submit, result, program_asked}
 use Rattle.sessions.specs.Replies.{submit_data, result_data, frame_or_refusal}
 use Rattle.streams.specs.Answering.{refused, submit_refused}
-use Rattle.shared_desk.specs.Histories.{Entry, Replays}
+use Rattle.shared_desk.specs.Histories.{HistoryEntry, Replays}
 use Rattle.job_pools.specs.Endings.{IsRun, IsEndOf}
 use Rattle.job_server.specs.declared.bounds.Bounds.{Bounds}
 use Rattle.job_server.specs.AtOnce.{Pool, Hosted, hosted_answers, new_host}
 
 -- a history that a server within these bounds may have, from its start on
-pub record IsHostHistory (bounds : Bounds) (history : List Entry) : Type 0 where
+pub record IsHostHistory (bounds : Bounds) (history : List HistoryEntry) : Type 0 where
   pub first : Pool
   pub end : Hosted
   pub legal : Replays hosted_answers (λ s. s ≡ new_host bounds first) history end
 
 -- the reply of the entry is the frame of this
-abbrev pub HasReply : Entry → Data → Type 0
+abbrev pub HasReply : HistoryEntry → Data → Type 0
 HasReply e told = e.reply ≡ frame_or_refusal told
 
 -- ---- submits
@@ -39,7 +39,7 @@ submit_of name programs credit buffer = submit name (record {
 
 -- The entry asks for a job. Its programs, credit and buffer are admitted as this one, and it is
 -- told this number.
-pub record IsSubmit (e : Entry) (number : ℕ) (job : AdmittedJob) : Type 0 where
+pub record IsSubmit (e : HistoryEntry) (number : ℕ) (job : AdmittedJob) : Type 0 where
   pub name : List ℕ
   pub programs : List ProgramBytes
   pub credit : ℕ
@@ -54,18 +54,20 @@ AsksForJob (Ok (submit name order)) = Unit {0}
 AsksForJob other = ⊥
 
 -- the entry asks for no job, or is told why its job isn't taken
-abbrev pub TakesNoJob : Entry → Type 0
+abbrev pub TakesNoJob : HistoryEntry → Type 0
 TakesNoJob e =
     (AsksForJob e.query → ⊥) ⊎ ((fault : SubmitFault) × HasReply e (submit_refused fault))
 
 -- The jobs that a history took, in order. The first is number 1, and each submit is told the next
 -- number.
-pub data AreTaken : List Entry → List AdmittedJob → Type 0 where
+pub data AreTaken : List HistoryEntry → List AdmittedJob → Type 0 where
   none_yet : AreTaken [] []
-  one_more : (history : List Entry) (jobs : List AdmittedJob) (e : Entry) (job : AdmittedJob)
+  one_more : (history : List HistoryEntry) (jobs : List AdmittedJob) (e : HistoryEntry)
+      (job : AdmittedJob)
       → AreTaken history jobs → IsSubmit e (length jobs + 1) job
       → AreTaken (history ++ e ∷ []) (jobs ++ job ∷ [])
-  no_more : (history : List Entry) (jobs : List AdmittedJob) (e : Entry) → AreTaken history jobs
+  no_more : (history : List HistoryEntry) (jobs : List AdmittedJob) (e : HistoryEntry)
+      → AreTaken history jobs
       → TakesNoJob e → AreTaken (history ++ e ∷ []) jobs
 
 -- the job of a number
@@ -100,7 +102,8 @@ pub data IsResultOf (keep : ℕ) (jobs : List AdmittedJob) (number : ℕ) : Data
   unknown : taken_at jobs number ≡ None → IsResultOf keep jobs number (refused 76)
 
 -- The entry is told the result of the number, after the jobs that were taken before it.
-pub record IsToldResult (keep : ℕ) (before : List Entry) (number : ℕ) (e : Entry) : Type 0 where
+pub record IsToldResult (keep : ℕ) (before : List HistoryEntry) (number : ℕ) (e : HistoryEntry) :
+    Type 0 where
   pub jobs : List AdmittedJob
   pub taken : AreTaken before jobs
   pub told : Data
@@ -109,14 +112,14 @@ pub record IsToldResult (keep : ℕ) (before : List Entry) (number : ℕ) (e : E
 
 -- A refusal that is told in place of a result is one of those, with its cause. Or it is 65, for a
 -- report that no frame holds.
-pub record IsToldRefusal (keep : ℕ) (before : List Entry) (number code : ℕ) : Type 0 where
+pub record IsToldRefusal (keep : ℕ) (before : List HistoryEntry) (number code : ℕ) : Type 0 where
   pub jobs : List AdmittedJob
   pub taken : AreTaken before jobs
   pub is_result : IsResultOf keep jobs number (refused code) ⊎ (code ≡ 65)
 
 -- Both entries ask for one result, the second later. Once the job is over, what is told of it stays
 -- the same until it is forgotten.
-abbrev pub StaysTold : Entry → Entry → Type 0
+abbrev pub StaysTold : HistoryEntry → HistoryEntry → Type 0
 StaysTold e f = HasReply e (refused 76) ⊎ HasReply e (refused 77) ⊎ (f.reply ≡ e.reply)
     ⊎ HasReply f (refused 76)
 
@@ -130,10 +133,11 @@ pub record IsResultFrame (reply : List ℕ) : Type 0 where
 
 -- Before the entry a job was asked for, and its submit was told this number. The entry is told the
 -- report of a run of this very job.
-pub record ComesFromSubmit (before : List Entry) (number : ℕ) (e : Entry) : Type 0 where
-  pub earlier : List Entry
-  pub asked : Entry
-  pub between : List Entry
+pub record ComesFromSubmit (before : List HistoryEntry) (number : ℕ) (e : HistoryEntry) :
+    Type 0 where
+  pub earlier : List HistoryEntry
+  pub asked : HistoryEntry
+  pub between : List HistoryEntry
   pub is_before : before ≡ earlier ++ asked ∷ between
   pub job : AdmittedJob
   pub is_submit : IsSubmit asked number job

@@ -4,7 +4,7 @@ use mathlib.Core.List.{IsPrefix}
 use Rattle.sessions.specs.Frames.{front, whole}
 use Rattle.sessions.specs.Grammar.{Asked, result}
 use Rattle.sessions.specs.Answers.{Hears}
-use Rattle.shared_desk.specs.Histories.{Entry, replies_of}
+use Rattle.shared_desk.specs.Histories.{HistoryEntry, replies_of}
 use Rattle.shared_desk.specs.declared.closed.ClosedConnection.{ClosedConnection}
 use Rattle.job_server.specs.EndToEnd.{ComesFromSubmit, submit_of}
 
@@ -17,9 +17,9 @@ pub data IsPayloadAt (payload : List ℕ) : ℕ → List ℕ → Type 0 where
 -- The connection's part has this entry behind so many others. The frame that came behind as many
 -- has a payload that asks this. Unless the connection was given up, the entry's reply was written
 -- behind those of the entries ahead.
-pub record WentThrough (c : ClosedConnection) (e : Entry) (asks : Asked) : Type 0 where
-  pub ahead : List Entry
-  pub behind : List Entry
+pub record WentThrough (c : ClosedConnection) (e : HistoryEntry) (asks : Asked) : Type 0 where
+  pub ahead : List HistoryEntry
+  pub behind : List HistoryEntry
   pub is_part : c.part ≡ ahead ++ e ∷ behind
   pub payload : List ℕ
   pub came : IsPayloadAt payload (length ahead) c.read
@@ -27,14 +27,14 @@ pub record WentThrough (c : ClosedConnection) (e : Entry) (asks : Asked) : Type 
   pub written : OnOk c.outcome (IsPrefix (replies_of ahead ++ e.reply) c.written)
 
 -- if the entry's connection is over, the entry went through it
-abbrev pub IsEntryOf : List ClosedConnection → Entry → Asked → Type 0
+abbrev pub IsEntryOf : List ClosedConnection → HistoryEntry → Asked → Type 0
 IsEntryOf closed e asks = (i : ℕ) (c : ClosedConnection) → slice_get closed i ≡ Some c
     → c.connection ≡ e.connection → WentThrough c e asks
 
 -- The result comes from a submit before it, and the payloads and replies of both went through their
 -- connections.
-pub record ComesFromPayload (closed : List ClosedConnection) (before : List Entry) (number : ℕ)
-    (e : Entry) : Type 0 where
+pub record ComesFromPayload (closed : List ClosedConnection) (before : List HistoryEntry)
+    (number : ℕ) (e : HistoryEntry) : Type 0 where
   pub comes : ComesFromSubmit before number e
   pub submitted : IsEntryOf closed comes.asked (submit_of comes.is_submit.name
       comes.is_submit.programs comes.is_submit.credit comes.is_submit.buffer)

@@ -3,7 +3,7 @@
 ghost use Rattle.std.specs.Prelude.{◌≡◌, ◌+◌, ◌<◌, ◌-◌, ◌^◌, ℕ, Bool, List, ◌∷◌, ◌++◌, length, Result};
 ghost use Rattle.sessions.specs.Replies.{submit_data};
 ghost use Rattle.streams.specs.Answering.{refused};
-ghost use Rattle.shared_desk.specs.Histories.{Entry};
+ghost use Rattle.shared_desk.specs.Histories.{HistoryEntry};
 ghost use Rattle.job_server.specs.declared.bounds.Bounds.{Bounds};
 ghost use Rattle.job_server.specs.declared.fault.ServeFault.{ServeFault};
 ghost use Rattle.job_server.specs.AtOnce.{IsServing};
@@ -15,26 +15,31 @@ ghost use Rattle.job_server.specs.Payloads.{ComesFromPayload};
 /// adds up to the credit of that submit. Once a job is over, what is told of it stays the same
 /// until it is forgotten.
 pub fn results_come_from_submits()
-    ensures told { (bounds : Bounds) (before after : List Entry) (e : Entry) (number : ℕ)
+    ensures told { (bounds : Bounds) (before after : List HistoryEntry) (e : HistoryEntry)
+        (number : ℕ)
         → IsHostHistory bounds (before ++ e ∷ after) → AsksForResult number e.query
         → IsToldResult bounds.keep before number e }
-    ensures submitted { (bounds : Bounds) (before after : List Entry) (e : Entry) (number : ℕ)
+    ensures submitted { (bounds : Bounds) (before after : List HistoryEntry) (e : HistoryEntry)
+        (number : ℕ)
         → IsHostHistory bounds (before ++ e ∷ after) → AsksForResult number e.query
         → IsResultFrame e.reply → ComesFromSubmit before number e }
-    ensures refused { (bounds : Bounds) (before after : List Entry) (e : Entry) (number code : ℕ)
+    ensures refused { (bounds : Bounds) (before after : List HistoryEntry) (e : HistoryEntry)
+        (number code : ℕ)
         → IsHostHistory bounds (before ++ e ∷ after) → AsksForResult number e.query
         → HasReply e (refused code) → code < 2 ^ 64 → IsToldRefusal bounds.keep before number code }
-    ensures adds_up { (before : List Entry) (number : ℕ) (e : Entry)
+    ensures adds_up { (before : List HistoryEntry) (number : ℕ) (e : HistoryEntry)
         (r : ComesFromSubmit before number e)
         → r.report.spent + r.report.returned ≡ r.is_submit.credit }
-    ensures stays { (bounds : Bounds) (before between after : List Entry) (e f : Entry) (number : ℕ)
+    ensures stays { (bounds : Bounds) (before between after : List HistoryEntry)
+        (e f : HistoryEntry) (number : ℕ)
         → IsHostHistory bounds (before ++ e ∷ (between ++ f ∷ after))
         → AsksForResult number e.query → AsksForResult number f.query → StaysTold e f }
 {}
 
 /// A submit is told a greater number than each submit before it. So no two are told the same.
 pub fn numbers_rise()
-    ensures { (bounds : Bounds) (before between after : List Entry) (e f : Entry) (m n : ℕ)
+    ensures { (bounds : Bounds) (before between after : List HistoryEntry) (e f : HistoryEntry)
+        (m n : ℕ)
         → IsHostHistory bounds (before ++ e ∷ (between ++ f ∷ after))
         → length (before ++ e ∷ between) < 2 ^ 64 - 1
         → AsksForJob e.query → HasReply e (submit_data m) → m < 2 ^ 64
@@ -47,7 +52,7 @@ pub fn payloads_lead_to_payloads()
     ensures { (bounds : Bounds) (sessions : ℕ) (may_stop : Bool)
         (outcome : Result (Unit {0}) ServeFault)
         (s : IsServing bounds sessions may_stop outcome)
-        (before after : List Entry) (e : Entry) (number : ℕ)
+        (before after : List HistoryEntry) (e : HistoryEntry) (number : ℕ)
         → s.serving.history ≡ before ++ e ∷ after → AsksForResult number e.query
         → IsResultFrame e.reply → ComesFromPayload s.serving.closed before number e }
 {}

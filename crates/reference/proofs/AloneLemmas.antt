@@ -4,7 +4,7 @@ use Rattle.machine_model.specs.declared.program.Entry.{Entry}
 use Rattle.machine_model.specs.Machine.{State, Program, Effect, Continues, Ends, Spawns, Calls, Traps, Birth, Trap, answered, effect}
 use Rattle.machine_model.specs.JobState.{entries_of}
 use Rattle.machine_model.specs.Alone.{MayAnswer, EndsWithin, Follows, no_entries}
-use Rattle.reference.specs.Records.{FarOn, FarWithin, GoesFar, HasOneAnswer, NeverEnds, Stays, StaysFor}
+use Rattle.reference.specs.Records.{FarOn, FarWithin, GoesFar, IsDeterministic, NeverEnds, Stays, StaysFor}
 use Rattle.machine_model.proofs.Splits.{Births, births_effect}
 use Rattle.machine_model.proofs.Tables.{effect_same}
 
@@ -83,7 +83,7 @@ module _ (p : Program) (may : MayAnswer) (n : ℕ) (first : State) (m k : ℕ) (
 pub stays_at_last : (p : Program) (may : MayAnswer) (n : ℕ) (first : State) (m : ℕ) (s : State) → m ≡ 0 → Leads p may n first m s → StaysFor p may n first
 stays_at_last p may n first m s none leads = leads.stays (subst (λ (i : ℕ). StaysFor p may i s) (sym none) tt)
 
-apart : (may : MayAnswer) → HasOneAnswer may → (A B : State → Type 0) → ((s : State) → A s → B s → ⊥) → (r0 : ℕ) (last : State) (e : Effect) →
+apart : (may : MayAnswer) → IsDeterministic may → (A B : State → Type 0) → ((s : State) → A s → B s → ⊥) → (r0 : ℕ) (last : State) (e : Effect) →
     Stays may A e → Follows may B r0 last e → ⊥
 apart may one A B each r0 last (Continues next) a b = each next a b
 apart may one A B each r0 last (Ends word state) a b = a
@@ -93,7 +93,7 @@ apart may one A B each r0 last (Calls helper arguments caller) a b =
 apart may one A B each r0 last (Traps trap) a b = b
 
 -- a task that stays with some answers doesn't end with others, where there are none
-pub never_ends : (p : Program) (may : MayAnswer) → HasOneAnswer may → (n : ℕ) (s : State) → StaysFor p may n s → NeverEnds p may n s
+pub never_ends : (p : Program) (may : MayAnswer) → IsDeterministic may → (n : ℕ) (s : State) → StaysFor p may n s → NeverEnds p may n s
 never_ends p may one zero s stays = λ r0 last ends. ends
 never_ends p may one (suc n) s stays = λ r0 last ends.
     apart may one (StaysFor p may n) (EndsWithin p may r0 last n) (λ next a b. never_ends p may one n next a r0 last b) r0 last

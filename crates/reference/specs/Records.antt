@@ -11,7 +11,7 @@ use Rattle.reference.specs.declared.records.Running.{Running}
 use Rattle.reference.specs.declared.records.Child.{Child}
 use Rattle.reference.specs.declared.records.Place.{Place}
 use Rattle.reference.specs.declared.records.Place.TheVariants as place
-use Rattle.reference.specs.declared.records.Request.{Request}
+use Rattle.reference.specs.declared.records.SpawnArguments.{SpawnArguments}
 use Rattle.reference.specs.declared.records.StepOutcome.{StepOutcome}
 use Rattle.reference.specs.declared.records.StepOutcome.TheVariants as outcome
 use Rattle.reference.specs.declared.records.LiveTask.{LiveTask}
@@ -122,7 +122,7 @@ placing stack part (Ok (place.Part at)) = part at
 placing stack part (Err cause) = Traps (trap_of cause)
 
 -- what a spawn asks for, or why nothing can be asked
-abbrev pub asking : (ℕ → ℕ → ℕ → ℕ → Effect) → Result Request TrapCause → Effect
+abbrev pub asking : (ℕ → ℕ → ℕ → ℕ → Effect) → Result SpawnArguments TrapCause → Effect
 asking go (Ok r) = go r.program r.share r.cut r.arg
 asking go (Err cause) = Traps (trap_of cause)
 
@@ -215,8 +215,8 @@ StaysFor p may zero s = Unit {0}
 StaysFor p may (suc n) s = Stays may (StaysFor p may n) (effect p no_entries s)
 
 -- a helper gives the same answer to the same arguments
-abbrev pub HasOneAnswer : MayAnswer → Type 0
-HasOneAnswer may = (helper : ℕ) (arguments : List ℕ) (a b : ℕ) → may helper arguments a
+abbrev pub IsDeterministic : MayAnswer → Type 0
+IsDeterministic may = (helper : ℕ) (arguments : List ℕ) (a b : ℕ) → may helper arguments a
     → may helper arguments b → a ≡ b
 
 -- the task doesn't end within so many steps, whatever is answered

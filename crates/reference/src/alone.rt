@@ -3,7 +3,7 @@
 ghost use Rattle.std.specs.Prelude.{◌≡◌, ◌≤◌, ℕ, None, Some, Ok, Err, IfOk};
 ghost use Rattle.machine_model.specs.Alone.{EndsWithin, alone};
 ghost use Rattle.machine_model.specs.Machine.{answered};
-ghost use Rattle.reference.specs.Records.{FarWithin, HasOneAnswer, NeverEnds, StaysFor, program_of, state_of};
+ghost use Rattle.reference.specs.Records.{FarWithin, IsDeterministic, NeverEnds, StaysFor, program_of, state_of};
 ghost use Rattle.reference.specs.declared.records.Running.{Running};
 ghost use Rattle.reference.specs.declared.records.Unanswered.{Unanswered};
 ghost use Rattle.reference.specs.declared.records.Unanswered.TheVariants as unanswered;
@@ -70,7 +70,7 @@ pub fn run_alone<F: Fn(u32, [u64; 5]) -> u64>(
         (λ id arguments answer. F.post helper.now id arguments answer) steps
         (alone credit part.items) }
     ensures never { result ≡ Ok None
-        → HasOneAnswer (λ id arguments answer. F.post helper.now id arguments answer) →
+        → IsDeterministic (λ id arguments answer. F.post helper.now id arguments answer) →
         NeverEnds (program_of program.now)
         (λ id arguments answer. F.post helper.now id arguments answer) steps
         (alone credit part.items) }

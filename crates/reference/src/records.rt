@@ -113,7 +113,7 @@ pub enum Place {
 
 /// What a task asks of a spawn, by its registers.
 #[derive(Clone, Copy)]
-pub struct Request {
+pub struct SpawnArguments {
     pub program: u64,
     pub share: u64,
     pub cut: u64,

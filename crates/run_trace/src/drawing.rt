@@ -8,7 +8,7 @@ use flow_graph::Next;
 use insn_codec::Register;
 use std::fmt;
 use value_ranges::Abs;
-use verifier::State;
+use verifier::AbsState;
 
 /// Ends a line of a box, at its left.
 const END: &str = "<br align=\"left\"/>";
@@ -62,7 +62,7 @@ fn is_step(way: &[u32], from: u32, to: u32) -> bool
 
 /// A line for each register that is set.
 #[derive(Clone, Copy)]
-struct StateLines(Option<State>);
+struct StateLines(Option<AbsState>);
 
 impl fmt::Display for StateLines {
     fn fmt<W: fmt::Write>(&self, f: &mut fmt::Formatter<W>) -> fmt::Result {

@@ -24,11 +24,11 @@ pub enum SessionFault {
 }
 
 impl SessionFault {
-    ghost use Rattle.sessions.specs.Faults.{code_of};
+    ghost use Rattle.sessions.specs.Faults.{code_of_session_fault};
 
     /// The number of the refusal.
     pub fn code(self) -> u8
-        ensures { result ≡ code_of self }
+        ensures { result ≡ code_of_session_fault self }
     {
         match self {
             SessionFault::FrameTooLarge => 71,

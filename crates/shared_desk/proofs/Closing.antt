@@ -3,12 +3,12 @@ use Rattle.std.proofs.Common.{◌≡◌, ◌-◌, ◌^◌, ◌+◌, ℕ, zero, s
 use Rattle.std.specs.Prelude.{All, MatchResult}
 use Rattle.streams.specs.declared.fault.StreamFault.{StreamFault}
 use Rattle.shared_desk.specs.declared.closed.ClosedConnection.{ClosedConnection}
-use Rattle.shared_desk.specs.Histories.{Entry}
+use Rattle.shared_desk.specs.Histories.{HistoryEntry}
 use Rattle.shared_desk.specs.ClientViews.{ClientView}
 use Rattle.shared_desk.specs.Parts.{IsWritten, IsWrittenUpTo, NamesTheEnd, IsServedClient}
 use Rattle.shared_desk.specs.Closed.{IsServedWhole, closed_of, first_fault, earlier_fault}
 
-pub closed_is : (found c : ClosedConnection) (h : List Entry) (cs : List ClosedConnection) (now : List Entry × List ClosedConnection) → found ≡ c → now ≡ (h, found ∷ cs) → now ≡ (h, c ∷ cs)
+pub closed_is : (found c : ClosedConnection) (h : List HistoryEntry) (cs : List ClosedConnection) (now : List HistoryEntry × List ClosedConnection) → found ≡ c → now ≡ (h, found ∷ cs) → now ≡ (h, c ∷ cs)
 closed_is found c h cs now is more = more ∙ ap (λ (x : ClosedConnection). (h, x ∷ cs)) is
 
 -- what is known of those that are over
@@ -38,11 +38,11 @@ pub served_from_nothing : {R W : Type 0} (may : Bool) (read : R → List ℕ) (o
     → IsServedClient may read over read_failed written write_failed v w outcome → v.1.part ≡ [] → read v.0.0 ≡ [] → written v.0.1 ≡ []
     → IsServedWhole (closed_of may read over read_failed written write_failed w.1 w.0.0 w.0.1 outcome)
 served_from_nothing may read over read_failed written write_failed v w outcome served no_part nothing_read nothing_written =
-    let part : served.0 ≡ w.1.part = sym (served.1.more ∙ ap (λ (l : List Entry). l ++ served.0) no_part) in
+    let part : served.0 ≡ w.1.part = sym (served.1.more ∙ ap (λ (l : List HistoryEntry). l ++ served.0) no_part) in
     let bytes : served.2.bytes ≡ read w.0.0 = sym (served.2.came ∙ ap (λ (l : List ℕ). l ++ served.2.bytes) nothing_read) in
     subst Whole (λ i. (part i, (bytes i, nothing_written i))) served.2.replies
   where
-    Whole : List Entry × (List ℕ × List ℕ) → Type 0
+    Whole : List HistoryEntry × (List ℕ × List ℕ) → Type 0
     Whole z = MatchResult outcome
         (λ number. IsWritten may z.0 z.1.0 z.1.1 (over w.0.0 ≡ true) number (written w.0.1) × (read_failed w.0.0 ≡ false) × (write_failed w.0.1 ≡ false))
         (λ fault. IsWrittenUpTo may fault z.0 z.1.0 z.1.1 (written w.0.1) × NamesTheEnd fault (read_failed w.0.0) (write_failed w.0.1))

@@ -6,36 +6,36 @@ use Rattle.refusal.specs.declared.NoMemory.{NoMemory}
 use Rattle.sessions.specs.Grammar.{Asked}
 use Rattle.sessions.specs.declared.request.Request.{Request}
 use Rattle.streams.specs.Hearing.{query_of}
-use Rattle.shared_desk.specs.Histories.{Entry, Replays, none_yet, one_more, part_of}
+use Rattle.shared_desk.specs.Histories.{HistoryEntry, Replays, none_yet, one_more, part_of}
 use Rattle.shared_desk.specs.ClientViews.{ClientView}
 use Rattle.shared_desk.specs.Answered.{IsSharedAnswer, Records, entry_for}
 
 module _ {S : Type 0} (answers : S → Result Asked ℕ → List ℕ → S → Type 0) (begins : S → Type 0) where
   -- an empty history leads to where it begins
-  pub replays_none : (history : List Entry) (s : S) → history ≡ [] → begins s → Replays answers begins history s
-  replays_none history s empty start = subst (λ (l : List Entry). Replays answers begins l s) (sym empty) (none_yet s start)
+  pub replays_none : (history : List HistoryEntry) (s : S) → history ≡ [] → begins s → Replays answers begins history s
+  replays_none history s empty start = subst (λ (l : List HistoryEntry). Replays answers begins l s) (sym empty) (none_yet s start)
 
   -- there is an entry of what the handler answered
   pub has_entry : (s : S) (request : Result Request ℕ) (t : S) (n : ℕ) (reply : Result (Vec ℕ Global) NoMemory)
       → IfOk reply (λ r. answers s (query_of request) r.items t) → OnErr reply ((bytes : List ℕ) × answers s (query_of request) bytes t)
-      → (e : Entry) × Records answers s request t reply e × (e.connection ≡ n)
+      → (e : HistoryEntry) × Records answers s request t reply e × (e.connection ≡ n)
   has_entry s request t n (Ok r) ok err = (record { connection = n; query = query_of request; reply = r.items }, record { asked = refl; answered = ok; told = refl }, refl)
   has_entry s request t n (Err e) ok err = (record { connection = n; query = query_of request; reply = err.0 }, record { asked = refl; answered = err.1; told = tt }, refl)
 
-  pub same_entry : (s0 s : S) (r0 r : Result Request ℕ) (t : S) (reply : Result (Vec ℕ Global) NoMemory) (e : Entry) → s0 ≡ s → r0 ≡ r → Records answers s0 r0 t reply e → Records answers s r t reply e
+  pub same_entry : (s0 s : S) (r0 r : Result Request ℕ) (t : S) (reply : Result (Vec ℕ Global) NoMemory) (e : HistoryEntry) → s0 ≡ s → r0 ≡ r → Records answers s0 r0 t reply e → Records answers s r t reply e
   same_entry s0 s r0 r t reply e p q is = subst (λ (z : S × Result Request ℕ). Records answers z.0 z.1 t reply e) (λ i. (p i, q i)) is
 
   -- the history with it is legal
-  pub replays_on : (history : List Entry) (s : S) (request : Result Request ℕ) (t : S) (reply : Result (Vec ℕ Global) NoMemory) (e : Entry) (now : List Entry)
+  pub replays_on : (history : List HistoryEntry) (s : S) (request : Result Request ℕ) (t : S) (reply : Result (Vec ℕ Global) NoMemory) (e : HistoryEntry) (now : List HistoryEntry)
       → Replays answers begins history s → Records answers s request t reply e → now ≡ history ++ e ∷ [] → Replays answers begins now t
   replays_on history s request t reply e now replays is longer =
-      subst (λ (l : List Entry). Replays answers begins l t) (sym longer) (one_more history s e t replays is.answered)
+      subst (λ (l : List HistoryEntry). Replays answers begins l t) (sym longer) (one_more history s e t replays is.answered)
 
   -- an entry is this connection's, of this question
-  entry_is : (v : ClientView) (request : Result Request ℕ) (e : Entry) → e.connection ≡ v.number → e.query ≡ query_of request → e ≡ entry_for v (query_of request) e.reply
+  entry_is : (v : ClientView) (request : Result Request ℕ) (e : HistoryEntry) → e.connection ≡ v.number → e.query ≡ query_of request → e ≡ entry_for v (query_of request) e.reply
   entry_is v request e whose asked = λ i. record { connection = whose i; query = asked i; reply = e.reply }
 
-  pub shared_answer : (v w : ClientView) (history : List Entry) (s : S) (request : Result Request ℕ) (t : S) (reply : Result (Vec ℕ Global) NoMemory) (e : Entry)
+  pub shared_answer : (v w : ClientView) (history : List HistoryEntry) (s : S) (request : Result Request ℕ) (t : S) (reply : Result (Vec ℕ Global) NoMemory) (e : HistoryEntry)
       → Replays answers begins history s → Records answers s request t reply e → e.connection ≡ v.number → IsPrefix v.seen history
       → w.number ≡ v.number → w.seen ≡ history ++ e ∷ [] → w.part ≡ v.part ++ e ∷ [] → part_of v.number (history ++ e ∷ []) ≡ v.part ++ e ∷ []
       → IsSharedAnswer answers begins v (query_of request) e.reply w
@@ -44,23 +44,23 @@ module _ {S : Type 0} (answers : S → Result Asked ℕ → List ℕ → S → T
       record {
         between = prefix.0;
         before = s;
-        legal = subst (λ (l : List Entry). Replays answers begins l s) (sym prefix.1) replays;
+        legal = subst (λ (l : List HistoryEntry). Replays answers begins l s) (sym prefix.1) replays;
         after = t;
         answered = subst (λ (q : Result Asked ℕ). answers s q e.reply t) is.asked is.answered;
         number = number;
-        seen = seen ∙ (ap (λ (l : List Entry). l ++ e ∷ []) (sym prefix.1) ∙ ap (λ (x : Entry). (v.seen ++ prefix.0) ++ x ∷ []) same);
-        more = part ∙ ap (λ (x : Entry). v.part ++ x ∷ []) same;
+        seen = seen ∙ (ap (λ (l : List HistoryEntry). l ++ e ∷ []) (sym prefix.1) ∙ ap (λ (x : HistoryEntry). (v.seen ++ prefix.0) ++ x ∷ []) same);
+        more = part ∙ ap (λ (x : HistoryEntry). v.part ++ x ∷ []) same;
         own = ap (part_of v.number) seen ∙ (own ∙ sym part);
       }
 
-  pub answer_ok : (v w : ClientView) (s : S) (request : Result Request ℕ) (t : S) (reply : Result (Vec ℕ Global) NoMemory) (e : Entry)
+  pub answer_ok : (v w : ClientView) (s : S) (request : Result Request ℕ) (t : S) (reply : Result (Vec ℕ Global) NoMemory) (e : HistoryEntry)
       → Records answers s request t reply e → IsSharedAnswer answers begins v (query_of request) e.reply w
       → IfOk reply (λ r. answers s (query_of request) r.items t × IsSharedAnswer answers begins v (query_of request) r.items w)
   answer_ok v w s request t (Ok r) e is shared =
       subst (λ (z : Result Asked ℕ × List ℕ). answers s z.0 z.1 t × IsSharedAnswer answers begins v (query_of request) z.1 w) (λ i. (is.asked i, is.told i)) (is.answered, shared)
   answer_ok v w s request t (Err x) e is shared = tt
 
-  pub answer_err : (v w : ClientView) (s : S) (request : Result Request ℕ) (t : S) (reply : Result (Vec ℕ Global) NoMemory) (e : Entry)
+  pub answer_err : (v w : ClientView) (s : S) (request : Result Request ℕ) (t : S) (reply : Result (Vec ℕ Global) NoMemory) (e : HistoryEntry)
       → Records answers s request t reply e → IsSharedAnswer answers begins v (query_of request) e.reply w
       → OnErr reply ((bytes : List ℕ) × answers s (query_of request) bytes t × IsSharedAnswer answers begins v (query_of request) bytes w)
   answer_err v w s request t (Ok r) e is shared = tt
@@ -71,7 +71,7 @@ module _ {S : Type 0} (answers : S → Result Asked ℕ → List ℕ → S → T
   pub legal_seen : (v : ClientView) (query : Result Asked ℕ) (reply : List ℕ) (w : ClientView) → IsSharedAnswer answers begins v query reply w → (s : S) × Replays answers begins w.seen s
   legal_seen v query reply w answer = (
     answer.after,
-    subst (λ (l : List Entry). Replays answers begins l answer.after) (sym answer.seen)
+    subst (λ (l : List HistoryEntry). Replays answers begins l answer.after) (sym answer.seen)
         (one_more (v.seen ++ answer.between) answer.before (entry_for v query reply) answer.after answer.legal answer.answered),
   )
 

@@ -5,7 +5,7 @@ use Rattle.std.specs.List.{AllZip}
 use Rattle.refusal.specs.declared.NoMemory.{NoMemory}
 use Rattle.streams.specs.declared.fault.StreamFault.{StreamFault}
 use Rattle.shared_desk.specs.declared.serving.ServedEnds.{ServedEnds}
-use Rattle.shared_desk.specs.Histories.{Entry, part_of}
+use Rattle.shared_desk.specs.Histories.{HistoryEntry, part_of}
 use Rattle.shared_desk.specs.ClientViews.{ClientView}
 use Rattle.shared_desk.specs.Parts.{IsServedPart}
 use Rattle.shared_desk.specs.Together.{NoneHasFailed, AreOpened, AreServedParts}
@@ -59,12 +59,12 @@ zip_at R (a ∷ as1) (b ∷ bs) zero d e all lt = all.0
 zip_at R (a ∷ as1) (b ∷ bs) (suc i) d e all lt = zip_at R as1 bs i d e all.1 (omega (arith, lt))
 
 -- no entry is of a connection, where there is none
-pub none_of : (history : List Entry) → history ≡ [] → (n : ℕ) → part_of n history ≡ []
+pub none_of : (history : List HistoryEntry) → history ≡ [] → (n : ℕ) → part_of n history ≡ []
 none_of history empty n = ap (part_of n) empty
 
 module _ {R W : Type 0} (read : R → List ℕ) (over read_failed : R → Bool) (written : W → List ℕ) (write_failed : W → Bool) where
   -- served connections, without their seats
-  pub parts_of_ends : {C : Type 0} (history : List Entry) (ends : List (R × W)) (opened : List ((R × W) × ClientView)) (served : List C) (result : Result (Vec (ServedEnds R W) Global) NoMemory)
+  pub parts_of_ends : {C : Type 0} (history : List HistoryEntry) (ends : List (R × W)) (opened : List ((R × W) × ClientView)) (served : List C) (result : Result (Vec (ServedEnds R W) Global) NoMemory)
       (reader : C → R) (writer : C → W) (outcome : C → Result ℕ StreamFault) (make : ServedEnds R W → C)
       → AreOpened 0 ends opened → length served ≡ length opened
       → ((i : ℕ) (d : (R × W) × ClientView) (c : C) → i < length opened → IsServedPart true read over read_failed written write_failed (slice_index_or opened i d).0 (part_of i history) (reader (slice_index_or served i c), writer (slice_index_or served i c)) (outcome (slice_index_or served i c)))

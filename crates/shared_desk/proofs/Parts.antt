@@ -4,7 +4,7 @@ use Rattle.std.proofs.lemmas.Bool.Decides.{nat_tests}
 use mathlib.Core.Option.{some, some-ne-none, some-injective}
 use mathlib.Core.List.{IsPrefix}
 use lib.ListN.{get_elem?}
-use Rattle.shared_desk.specs.Histories.{Entry}
+use Rattle.shared_desk.specs.Histories.{HistoryEntry}
 use Rattle.shared_desk.specs.declared.seats.DeskView.{DeskView}
 use Rattle.shared_desk.specs.Histories.{put_if, part_of}
 
@@ -19,21 +19,21 @@ prefix_trans xs ys zs p q = (p.0 ++ q.0, sym (append_assoc xs p.0 q.0) ∙ (ap (
 pub prefix_more : {A : Type 0} (xs ys zs : List A) → IsPrefix xs ys → IsPrefix xs (ys ++ zs)
 prefix_more xs ys zs p = (p.0 ++ zs, sym (append_assoc xs p.0 zs) ∙ ap (λ w. w ++ zs) p.1)
 
-put_front : (b : Bool) (x : Entry) (more less rest : List Entry) → more ≡ less ++ rest → put_if b x more ≡ put_if b x less ++ rest
+put_front : (b : Bool) (x : HistoryEntry) (more less rest : List HistoryEntry) → more ≡ less ++ rest → put_if b x more ≡ put_if b x less ++ rest
 put_front true x more less rest is = ap (λ l. x ∷ l) is
 put_front false x more less rest is = is
 
-put_same : (b : Bool) (x : Entry) (more less : List Entry) → more ≡ less → put_if b x more ≡ put_if b x less
+put_same : (b : Bool) (x : HistoryEntry) (more less : List HistoryEntry) → more ≡ less → put_if b x more ≡ put_if b x less
 put_same b x more less is = ap (put_if b x) is
 
 -- one's own answer is one more
-pub part_own : (n : ℕ) (history : List Entry) (e : Entry) → e.connection ≡ n → part_of n (history ++ e ∷ []) ≡ part_of n history ++ e ∷ []
+pub part_own : (n : ℕ) (history : List HistoryEntry) (e : HistoryEntry) → e.connection ≡ n → part_of n (history ++ e ∷ []) ≡ part_of n history ++ e ∷ []
 part_own n [] e is =
     let t : (e.connection == n) ≡ true = grind (arith, nat_tests) in ap (λ b. put_if b e []) t
 part_own n (x ∷ xs) e is = put_front (x.connection == n) x _ _ (e ∷ []) (part_own n xs e is)
 
 -- another's is none
-pub part_other : (n : ℕ) (history : List Entry) (e : Entry) → e.connection ≢ n → part_of n (history ++ e ∷ []) ≡ part_of n history
+pub part_other : (n : ℕ) (history : List HistoryEntry) (e : HistoryEntry) → e.connection ≢ n → part_of n (history ++ e ∷ []) ≡ part_of n history
 part_other n [] e differs =
     let t : (e.connection == n) ≡ false = grind (arith, nat_tests) in ap (λ b. put_if b e []) t
 part_other n (x ∷ xs) e differs = put_same (x.connection == n) x _ _ (part_other n xs e differs)

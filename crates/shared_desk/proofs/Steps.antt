@@ -6,7 +6,7 @@ use mathlib.Core.List.{IsPrefix}
 use lib.ListN.{get_elem?}
 use Rattle.atomic_table.specs.Table.{State, Me, Step, keeps, Allows, Splits, Joins}
 use Rattle.atomic_table.proofs.Lists.{at_set, set_again}
-use Rattle.shared_desk.specs.Histories.{Entry}
+use Rattle.shared_desk.specs.Histories.{HistoryEntry}
 use Rattle.shared_desk.specs.declared.closed.ClosedConnection.{ClosedConnection}
 use Rattle.shared_desk.specs.Closed.{AreClosed, is_among}
 use Rattle.shared_desk.specs.declared.seats.DeskView.{DeskView}
@@ -22,7 +22,7 @@ abbrev pub Ruling : State (Unit {0}) DeskView → Type 0
 Ruling s = IsShared s.views
 
 -- one view changes
-fits_set : (seat door : ℕ) (place : ℕ → ℕ) (opened : ℕ) (history : List Entry) (closed : List ClosedConnection) (views : List DeskView) (by : ℕ) (w : DeskView) → ((j : ℕ) (u : DeskView) → j ≢ by → get_elem? views j ≡ some u → FitsHistory seat door place opened history closed j u) → FitsHistory seat door place opened history closed by w
+fits_set : (seat door : ℕ) (place : ℕ → ℕ) (opened : ℕ) (history : List HistoryEntry) (closed : List ClosedConnection) (views : List DeskView) (by : ℕ) (w : DeskView) → ((j : ℕ) (u : DeskView) → j ≢ by → get_elem? views j ≡ some u → FitsHistory seat door place opened history closed j u) → FitsHistory seat door place opened history closed by w
     → (j : ℕ) (u : DeskView) → get_elem? (set views by w) j ≡ some u → FitsHistory seat door place opened history closed j u
 fits_set seat door place opened history closed views by w others mine j u e =
     ⊎_elim
@@ -31,7 +31,7 @@ fits_set seat door place opened history closed views by w others mine j u e =
     (at_set views by j w u e)
 
 -- and a new one comes behind
-fits_end : (seat door : ℕ) (place : ℕ → ℕ) (opened : ℕ) (history : List Entry) (closed : List ClosedConnection) (views : List DeskView) (w : DeskView) → ((j : ℕ) (u : DeskView) → get_elem? views j ≡ some u → FitsHistory seat door place opened history closed j u) → FitsHistory seat door place opened history closed (length views) w
+fits_end : (seat door : ℕ) (place : ℕ → ℕ) (opened : ℕ) (history : List HistoryEntry) (closed : List ClosedConnection) (views : List DeskView) (w : DeskView) → ((j : ℕ) (u : DeskView) → get_elem? views j ≡ some u → FitsHistory seat door place opened history closed j u) → FitsHistory seat door place opened history closed (length views) w
     → (j : ℕ) (u : DeskView) → get_elem? (views ++ w ∷ []) j ≡ some u → FitsHistory seat door place opened history closed j u
 fits_end seat door place opened history closed views w others mine j u e =
     ⊎_elim
@@ -40,11 +40,11 @@ fits_end seat door place opened history closed views w others mine j u e =
     (at_end views w u j e)
 
 -- a view that knows nothing fits anywhere
-nobody_fits : (seat door : ℕ) (place : ℕ → ℕ) (opened : ℕ) (history : List Entry) (closed : List ClosedConnection) (by : ℕ) → FitsHistory seat door place opened history closed by empty_desk_view
+nobody_fits : (seat door : ℕ) (place : ℕ → ℕ) (opened : ℕ) (history : List HistoryEntry) (closed : List ClosedConnection) (by : ℕ) → FitsHistory seat door place opened history closed by empty_desk_view
 nobody_fits seat door place opened history closed by = record { recording = λ e. absurd (off e); opening = λ e. absurd (off e); serving = λ e. absurd (off e) }
 
 -- one who doesn't keep fits wherever the recorder sits
-fits_moved : (seat now door : ℕ) (place : ℕ → ℕ) (opened : ℕ) (history : List Entry) (closed : List ClosedConnection) (by : ℕ) (v : DeskView) → by ≢ seat → FitsHistory seat door place opened history closed by v → FitsHistory now door place opened history closed by v
+fits_moved : (seat now door : ℕ) (place : ℕ → ℕ) (opened : ℕ) (history : List HistoryEntry) (closed : List ClosedConnection) (by : ℕ) (v : DeskView) → by ≢ seat → FitsHistory seat door place opened history closed by v → FitsHistory now door place opened history closed by v
 fits_moved seat now door place opened history closed by v apart f = record { recording = λ k. absurd (apart (f.recording k).0); opening = f.opening; serving = f.serving }
 
 same_number : (m n : ℕ) → m ≡ n → (m == n) ≡ true
@@ -65,18 +65,18 @@ among_none : (n : ℕ) (c : ClosedConnection) (cs : List ClosedConnection) → n
 among_none n c cs differs apart = ap (λ (b : Bool). if b then true else is_among n cs) (other_number n c.connection differs) ∙ apart
 
 -- another connection's answer changes no part of those that are over
-closed_longer : (opened : ℕ) (history : List Entry) (e : Entry) (cs : List ClosedConnection) → is_among e.connection cs ≡ false → AreClosed opened history cs → AreClosed opened (history ++ e ∷ []) cs
+closed_longer : (opened : ℕ) (history : List HistoryEntry) (e : HistoryEntry) (cs : List ClosedConnection) → is_among e.connection cs ≡ false → AreClosed opened history cs → AreClosed opened (history ++ e ∷ []) cs
 closed_longer opened history e [] apart all = tt
 closed_longer opened history e (c ∷ cs) apart all =
     let others = among_rest e.connection c cs apart in
     (all.0, part_other c.connection history e others.0 ∙ all.1, all.2, closed_longer opened history e cs others.1 all.3)
 
-closed_wider : (opened : ℕ) (history : List Entry) (cs : List ClosedConnection) → AreClosed opened history cs → AreClosed (opened + 1) history cs
+closed_wider : (opened : ℕ) (history : List HistoryEntry) (cs : List ClosedConnection) → AreClosed opened history cs → AreClosed (opened + 1) history cs
 closed_wider opened history [] all = tt
 closed_wider opened history (c ∷ cs) all = ((let below = all.0 in omega arith), all.1, all.2, closed_wider opened history cs all.3)
 
 -- who was not opened isn't over
-none_among : (opened n : ℕ) (history : List Entry) (cs : List ClosedConnection) → opened ≤ n → AreClosed opened history cs → is_among n cs ≡ false
+none_among : (opened n : ℕ) (history : List HistoryEntry) (cs : List ClosedConnection) → opened ≤ n → AreClosed opened history cs → is_among n cs ≡ false
 none_among opened n history [] le all = refl
 none_among opened n history (c ∷ cs) le all =
     among_none n c cs (λ same. let below = all.0 in absurd (omega (arith, same, le, below))) (none_among opened n history cs le all.3)
@@ -204,12 +204,12 @@ opens id v gate alone s kept at =
 
 module _ (slots id : ℕ) (me : Me (Unit {0}) DeskView) (st : Step (Unit {0})) where
   -- an answer is added to the connection that is the recorder too
-  pub adds : (may : Entry → Type 0) (e : Entry) → me.0.is_recorder ≡ true → me.0.is_client ≡ true → may e → e.connection ≡ me.0.number → Allows Ruling slots id me 0 (λ n. n) (AddsEntry may st me)
+  pub adds : (may : HistoryEntry → Type 0) (e : HistoryEntry) → me.0.is_recorder ≡ true → me.0.is_client ≡ true → may e → e.connection ≡ me.0.number → Allows Ruling slots id me 0 (λ n. n) (AddsEntry may st me)
   adds may e keep serve allowed whose s kept homes at fits =
       let mine = kept.each id me.0 at in
       let known = mine.recording keep in
       let own = mine.serving serve in
-      let now : List Entry = me.0.history ++ e ∷ [] in
+      let now : List HistoryEntry = me.0.history ++ e ∷ [] in
       let w = with_recorder (client me.0.number now (me.0.part ++ e ∷ [])) (recorder now me.0.closed) in
       let longer : now ≡ kept.history ++ e ∷ [] = ap (λ l. l ++ e ∷ []) known.1 in
       let part : part_of me.0.number now ≡ me.0.part ++ e ∷ [] =
@@ -234,7 +234,7 @@ module _ (slots id : ℕ) (me : Me (Unit {0}) DeskView) (st : Step (Unit {0})) w
                     (t.0, t.1, ap (part_of u.number) longer ∙ (part_other u.number kept.history e differs ∙ t.2), subst (IsPrefix u.seen) (sym longer) (prefix_more u.seen kept.history (e ∷ []) t.3), t.4);
               })
               (record { recording = λ k. (known.0, refl, known.2); opening = λ k. absurd (off k); serving = λ srv. (own.0, own.1, part, prefix_self now, own.4) });
-          ended = subst (λ (l : List Entry). AreClosed kept.opened l kept.closed) (sym longer)
+          ended = subst (λ (l : List HistoryEntry). AreClosed kept.opened l kept.closed) (sym longer)
               (closed_longer kept.opened kept.history e kept.closed (ap (λ (n : ℕ). is_among n kept.closed) whose ∙ own.4) kept.ended);
           others = λ n le. let below = own.1 in
               let differs : e.connection ≢ n = λ same. absurd (omega (arith, sym same ∙ whose, below, le)) in
@@ -262,7 +262,7 @@ module _ (slots id : ℕ) (me : Me (Unit {0}) DeskView) (st : Step (Unit {0})) w
           closed = kept.closed;
           each = fits_set kept.recorder_at kept.opener_at kept.seat_of kept.opened kept.history kept.closed s.views id w
               (λ j u apart e. kept.each j u e)
-              (record { recording = λ k. known; opening = λ k. absurd (off k); serving = λ srv. (own.0, own.1, own.2, subst (λ (l : List Entry). IsPrefix l kept.history) (sym known.1) (prefix_self kept.history), own.4) });
+              (record { recording = λ k. known; opening = λ k. absurd (off k); serving = λ srv. (own.0, own.1, own.2, subst (λ (l : List HistoryEntry). IsPrefix l kept.history) (sym known.1) (prefix_self kept.history), own.4) });
           ended = kept.ended;
           others = kept.others;
         },
@@ -292,7 +292,7 @@ module _ (slots id : ℕ) (me : Me (Unit {0}) DeskView) (st : Step (Unit {0})) w
         (
           refl,
           (λ n le. ap (part_of n) known.1 ∙ kept.others n (let o = all.1 in omega arith)),
-          subst (λ (z : ℕ × (List Entry × List ClosedConnection)). AreClosed z.0 z.1.0 z.1.1) (λ i. (sym all.1 i, (sym known.1 i, sym known.2 i))) kept.ended,
+          subst (λ (z : ℕ × (List HistoryEntry × List ClosedConnection)). AreClosed z.0 z.1.0 z.1.1) (λ i. (sym all.1 i, (sym known.1 i, sym known.2 i))) kept.ended,
         ),
       )
 

@@ -9,7 +9,7 @@ use Rattle.streams.specs.declared.fault.StreamFault.{StreamFault}
 use Rattle.streams.specs.declared.fault.StreamFault.TheVariants.{ReadFailed, WriteFailed, NoMemory}
 use Rattle.streams.specs.Serves.{Serves, none_yet, one_more}
 use Rattle.streams.specs.Stops.{EndsWith, IsDue, IsPartWritten, IsServed, IsReadOut, IsCutOff, IsStarved, IsStoppedBy, between, ahead_of_reply}
-use Rattle.shared_desk.specs.Histories.{Entry, queries_of, replies_of, part_of}
+use Rattle.shared_desk.specs.Histories.{HistoryEntry, queries_of, replies_of, part_of}
 use Rattle.shared_desk.specs.ClientViews.{ClientView, Extends}
 use Rattle.shared_desk.specs.Grants.{admitted}
 use Rattle.shared_desk.specs.Answered.{IsSharedAnswer, entry_for}
@@ -18,25 +18,25 @@ use Rattle.shared_desk.proofs.Parts.{prefix_self, prefix_trans}
 
 -- ---- parts that are joined
 
-pub queries_append : (xs ys : List Entry) → queries_of (xs ++ ys) ≡ queries_of xs ++ queries_of ys
+pub queries_append : (xs ys : List HistoryEntry) → queries_of (xs ++ ys) ≡ queries_of xs ++ queries_of ys
 queries_append [] ys = refl
 queries_append (x ∷ xs) ys = ap (λ (l : List (Result Asked ℕ)). x.query ∷ l) (queries_append xs ys)
 
-pub replies_append : (xs ys : List Entry) → replies_of (xs ++ ys) ≡ replies_of xs ++ replies_of ys
+pub replies_append : (xs ys : List HistoryEntry) → replies_of (xs ++ ys) ≡ replies_of xs ++ replies_of ys
 replies_append [] ys = refl
 replies_append (x ∷ xs) ys = ap (λ (l : List ℕ). x.reply ++ l) (replies_append xs ys) ∙ sym (append_assoc x.reply (replies_of xs) (replies_of ys))
 
-replies_one : (xs : List Entry) (e : Entry) → replies_of (xs ++ e ∷ []) ≡ replies_of xs ++ e.reply
+replies_one : (xs : List HistoryEntry) (e : HistoryEntry) → replies_of (xs ++ e ∷ []) ≡ replies_of xs ++ e.reply
 replies_one xs e = replies_append xs (e ∷ []) ∙ ap (λ (l : List ℕ). replies_of xs ++ l) (append-nil e.reply)
 
 extends_none : (v : ClientView) → Extends v [] v
 extends_none v = record { number = refl; seen = prefix_self v.seen; more = sym (append-nil v.part) }
 
-extends_on : (v m w : ClientView) (first second : List Entry) → Extends v first m → Extends m second w → Extends v (first ++ second) w
+extends_on : (v m w : ClientView) (first second : List HistoryEntry) → Extends v first m → Extends m second w → Extends v (first ++ second) w
 extends_on v m w first second a b = record {
   number = b.number ∙ a.number;
   seen = prefix_trans v.seen m.seen w.seen a.seen b.seen;
-  more = b.more ∙ (ap (λ (l : List Entry). l ++ second) a.more ∙ append_assoc v.part first second);
+  more = b.more ∙ (ap (λ (l : List HistoryEntry). l ++ second) a.more ∙ append_assoc v.part first second);
 }
 
 -- ---- frames that ask, one after the other
@@ -63,7 +63,7 @@ asks_also may bytes p q left is asked = subst (λ (l : List (Result Asked ℕ)).
 
 -- frames that are answered one after the other, by the entries of the answers
 record Entries (may : Bool) (v : ClientView) (bytes before : List ℕ) (count : ℕ) (w : ClientView) (left out : List ℕ) : Type 0 where
-  pub part : List Entry
+  pub part : List HistoryEntry
   pub extends : Extends v part w
   pub asked : Asks may bytes (queries_of part) left
   pub counts : length part ≡ count
@@ -98,7 +98,7 @@ module _ {S : Type 0} (may : Bool) (answers : S → Result Asked ℕ → List �
   -- ---- a stream that ends, in each way
 
   written_of : (start : Unit {0} × ClientView) (bytes before : List ℕ) (over : Type 0) (end : Unit {0} × ClientView) (number : ℕ) (after : List ℕ)
-      → IsServed shared start bytes before over end number after → (part : List Entry) × Extends start.1 part end.1 × IsWritten may part bytes before over number after
+      → IsServed shared start bytes before over end number after → (part : List HistoryEntry) × Extends start.1 part end.1 × IsWritten may part bytes before over number after
   written_of start bytes before over end number after st =
       let r = entries start bytes before st.count end st.left st.out st.frames in (
         r.part,
@@ -113,13 +113,13 @@ module _ {S : Type 0} (may : Bool) (answers : S → Result Asked ℕ → List �
       )
 
   read_out_of : (start : Unit {0} × ClientView) (bytes before : List ℕ) (end : Unit {0} × ClientView) (after : List ℕ)
-      → IsReadOut shared start bytes before end after → (part : List Entry) × Extends start.1 part end.1 × IsWrittenToTheFault may part bytes before after
+      → IsReadOut shared start bytes before end after → (part : List HistoryEntry) × Extends start.1 part end.1 × IsWrittenToTheFault may part bytes before after
   read_out_of start bytes before end after st =
       let r = entries start bytes before st.count end st.left after st.frames in
       (r.part, r.extends, record { left = st.left; asked = r.asked; waits = st.waits; written = r.written })
 
   cut_off_of : (start : Unit {0} × ClientView) (bytes before : List ℕ) (end : Unit {0} × ClientView) (after : List ℕ)
-      → IsCutOff shared start bytes before end after → (part : List Entry) × Extends start.1 part end.1 × IsWrittenInPart may part bytes before after
+      → IsCutOff shared start bytes before end after → (part : List HistoryEntry) × Extends start.1 part end.1 × IsWrittenInPart may part bytes before after
   cut_off_of start bytes before end after st =
       let stop = st.stop in
       let r = entries start st.early before st.count st.state st.left st.out st.frames in
@@ -148,7 +148,7 @@ module _ {S : Type 0} (may : Bool) (answers : S → Result Asked ℕ → List �
       )
 
   starved_of : (start : Unit {0} × ClientView) (bytes before : List ℕ) (end : Unit {0} × ClientView) (after : List ℕ)
-      → IsStarved shared start bytes before end after → (part : List Entry) × Extends start.1 part end.1 × IsWrittenButOne may part bytes before after
+      → IsStarved shared start bytes before end after → (part : List HistoryEntry) × Extends start.1 part end.1 × IsWrittenButOne may part bytes before after
   starved_of start bytes before end after (between count s left out served) =
       let r = entries start bytes before count s left out served in (
         r.part,
@@ -180,7 +180,7 @@ module _ {S : Type 0} (may : Bool) (answers : S → Result Asked ℕ → List �
       )
 
   given_up_of : (fault : StreamFault) (start : Unit {0} × ClientView) (bytes before : List ℕ) (end : Unit {0} × ClientView) (after : List ℕ)
-      → IsStoppedBy fault shared start bytes before end after → (part : List Entry) × Extends start.1 part end.1 × IsWrittenUpTo may fault part bytes before after
+      → IsStoppedBy fault shared start bytes before end after → (part : List HistoryEntry) × Extends start.1 part end.1 × IsWrittenUpTo may fault part bytes before after
   given_up_of ReadFailed start bytes before end after st = read_out_of start bytes before end after st
   given_up_of WriteFailed start bytes before end after st = cut_off_of start bytes before end after st
   given_up_of NoMemory start bytes before end after st = starved_of start bytes before end after st
@@ -207,9 +207,9 @@ module _ {S : Type 0} (may : Bool) (answers : S → Result Asked ℕ → List �
       named NoMemory o is by_reader by_writer by_memory = by_memory is
 
 -- a connection that began with no part, by its part of a whole history
-pub served_whole_part : {R W : Type 0} (may : Bool) (read : R → List ℕ) (over read_failed : R → Bool) (written : W → List ℕ) (write_failed : W → Bool) (v w : (R × W) × ClientView) (outcome : Result ℕ StreamFault) (i : ℕ) (history : List Entry)
+pub served_whole_part : {R W : Type 0} (may : Bool) (read : R → List ℕ) (over read_failed : R → Bool) (written : W → List ℕ) (write_failed : W → Bool) (v w : (R × W) × ClientView) (outcome : Result ℕ StreamFault) (i : ℕ) (history : List HistoryEntry)
     → IsServedClient may read over read_failed written write_failed v w outcome → v.1.number ≡ i → v.1.part ≡ [] → part_of w.1.number history ≡ w.1.part → IsServedPart may read over read_failed written write_failed v.0 (part_of i history) w.0 outcome
 served_whole_part may read over read_failed written write_failed v w outcome i history served number none own =
     let more = served.1 in
-    let is : part_of i history ≡ served.0 = ap (λ (n : ℕ). part_of n history) (sym (more.number ∙ number)) ∙ (own ∙ (more.more ∙ ap (λ (l : List Entry). l ++ served.0) none)) in
-    subst (λ (p : List Entry). IsServedPart may read over read_failed written write_failed v.0 p w.0 outcome) (sym is) served.2
+    let is : part_of i history ≡ served.0 = ap (λ (n : ℕ). part_of n history) (sym (more.number ∙ number)) ∙ (own ∙ (more.more ∙ ap (λ (l : List HistoryEntry). l ++ served.0) none)) in
+    subst (λ (p : List HistoryEntry). IsServedPart may read over read_failed written write_failed v.0 p w.0 outcome) (sym is) served.2

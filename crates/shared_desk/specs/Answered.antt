@@ -5,11 +5,11 @@ use Rattle.refusal.specs.declared.NoMemory.{NoMemory}
 use Rattle.sessions.specs.Grammar.{Asked}
 use Rattle.sessions.specs.declared.request.Request.{Request}
 use Rattle.streams.specs.Hearing.{query_of}
-use Rattle.shared_desk.specs.Histories.{Entry, Replays, part_of}
+use Rattle.shared_desk.specs.Histories.{HistoryEntry, Replays, part_of}
 use Rattle.shared_desk.specs.ClientViews.{ClientView}
 
 -- this answer, to this connection
-abbrev pub entry_for : ClientView → Result Asked ℕ → List ℕ → Entry
+abbrev pub entry_for : ClientView → Result Asked ℕ → List ℕ → HistoryEntry
 entry_for v query reply = record { connection = v.number; query = query; reply = reply }
 
 -- The reply is the one that the plain handler gives at some point of a legal history. That history
@@ -18,7 +18,7 @@ entry_for v query reply = record { connection = v.number; query = query; reply =
 pub record IsSharedAnswer {S : Type 0} (answers : S → Result Asked ℕ → List ℕ → S → Type 0)
     (begins : S → Type 0) (v : ClientView) (query : Result Asked ℕ) (reply : List ℕ)
     (w : ClientView) : Type 0 where
-  pub between : List Entry
+  pub between : List HistoryEntry
   pub before : S
   pub legal : Replays answers begins (v.seen ++ between) before
   pub after : S
@@ -30,7 +30,7 @@ pub record IsSharedAnswer {S : Type 0} (answers : S → Result Asked ℕ → Lis
 
 -- an entry of what the handler answered: what was asked, and the reply, as far as it found memory
 pub record Records {S : Type 0} (answers : S → Result Asked ℕ → List ℕ → S → Type 0) (before : S)
-    (request : Result Request ℕ) (after : S) (reply : Result (Vec ℕ Global) NoMemory) (e : Entry) :
+    (request : Result Request ℕ) (after : S) (reply : Result (Vec ℕ Global) NoMemory) (e : HistoryEntry) :
     Type 0 where
   pub asked : e.query ≡ query_of request
   pub answered : answers before e.query e.reply after

@@ -2,7 +2,7 @@
 use Rattle.std.specs.Prelude.{◌≡◌, ◌<◌, ◌==◌, ℕ, List, [], ◌∷◌, Bool, true, false, if◌then◌else◌, Result, Ok, Err, MatchResult}
 use Rattle.streams.specs.declared.fault.StreamFault.{StreamFault}
 use Rattle.shared_desk.specs.declared.closed.ClosedConnection.{ClosedConnection}
-use Rattle.shared_desk.specs.Histories.{Entry, part_of}
+use Rattle.shared_desk.specs.Histories.{HistoryEntry, part_of}
 use Rattle.shared_desk.specs.ClientViews.{ClientView}
 use Rattle.shared_desk.specs.Parts.{IsWritten, IsWrittenUpTo, NamesTheEnd}
 
@@ -12,7 +12,7 @@ is_among n [] = false
 is_among n (c ∷ cs) = if n == c.connection then true else is_among n cs
 
 -- Each was opened, is there once, and has its part of the history.
-abbrev pub AreClosed : ℕ → List Entry → List ClosedConnection → Type 0
+abbrev pub AreClosed : ℕ → List HistoryEntry → List ClosedConnection → Type 0
 AreClosed opened history [] = Unit {0}
 AreClosed opened history (c ∷ cs) =
     (c.connection < opened) × (part_of c.connection history ≡ c.part)

@@ -4,7 +4,7 @@ use Rattle.sessions.specs.Grammar.{Asked}
 
 -- an answer: to which connection, what was asked, or the number of the refusal of a request that
 -- can't be read, and the reply
-pub record Entry : Type 0 where
+pub record HistoryEntry : Type 0 where
   pub connection : ℕ
   pub query : Result Asked ℕ
   pub reply : List ℕ
@@ -12,28 +12,28 @@ pub record Entry : Type 0 where
 -- A history is legal and leads to a state: from a state that it may begin with, each reply is the
 -- one that the plain handler gives there.
 pub data Replays {S : Type 0} (answers : S → Result Asked ℕ → List ℕ → S → Type 0) (begins : S
-    → Type 0) : List Entry → S → Type 0 where
+    → Type 0) : List HistoryEntry → S → Type 0 where
   none_yet : (s : S) → begins s → Replays answers begins [] s
-  one_more : (history : List Entry) (s : S) (e : Entry) (t : S)
+  one_more : (history : List HistoryEntry) (s : S) (e : HistoryEntry) (t : S)
       → Replays answers begins history s → answers s e.query e.reply t
       → Replays answers begins (history ++ e ∷ []) t
 
 -- an entry ahead of others, where the test says so
-abbrev pub put_if : Bool → Entry → List Entry → List Entry
+abbrev pub put_if : Bool → HistoryEntry → List HistoryEntry → List HistoryEntry
 put_if true e es = e ∷ es
 put_if false e es = es
 
 -- one connection's part of a history, in order
-abbrev pub part_of : ℕ → List Entry → List Entry
+abbrev pub part_of : ℕ → List HistoryEntry → List HistoryEntry
 part_of n [] = []
 part_of n (e ∷ es) = put_if (e.connection == n) e (part_of n es)
 
 -- what was asked
-abbrev pub queries_of : List Entry → List (Result Asked ℕ)
+abbrev pub queries_of : List HistoryEntry → List (Result Asked ℕ)
 queries_of [] = []
 queries_of (e ∷ es) = e.query ∷ queries_of es
 
 -- the bytes of the replies, one after the other
-abbrev pub replies_of : List Entry → List ℕ
+abbrev pub replies_of : List HistoryEntry → List ℕ
 replies_of [] = []
 replies_of (e ∷ es) = e.reply ++ replies_of es

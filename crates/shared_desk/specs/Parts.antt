@@ -6,7 +6,7 @@ use Rattle.sessions.specs.Answers.{Hears}
 use Rattle.streams.specs.Stops.{EndsWith, StopsAt, IsDue, IsPartWritten}
 use Rattle.streams.specs.declared.fault.StreamFault.{StreamFault}
 use Rattle.streams.specs.declared.fault.StreamFault.TheVariants.{ReadFailed, WriteFailed, NoMemory}
-use Rattle.shared_desk.specs.Histories.{Entry, queries_of, replies_of}
+use Rattle.shared_desk.specs.Histories.{HistoryEntry, queries_of, replies_of}
 use Rattle.shared_desk.specs.ClientViews.{ClientView, Extends}
 use Rattle.shared_desk.specs.Grants.{admitted}
 
@@ -20,7 +20,7 @@ Asks may_grant bytes (query ∷ queries) left =
 
 -- Nothing failed: every frame of the bytes is asked in the part, and what was written are the
 -- replies of the part, in order, with one 71 behind them, where a length over the limit came.
-pub record IsWritten (may_grant : Bool) (part : List Entry) (bytes before : List ℕ) (over : Type 0) (number : ℕ)
+pub record IsWritten (may_grant : Bool) (part : List HistoryEntry) (bytes before : List ℕ) (over : Type 0) (number : ℕ)
     (after : List ℕ) : Type 0 where
   pub left : List ℕ
   pub asked : Asks may_grant bytes (queries_of part) left
@@ -30,7 +30,8 @@ pub record IsWritten (may_grant : Bool) (part : List Entry) (bytes before : List
 
 -- The reader failed: every frame that is whole in the bytes is asked in the part, and what was
 -- written are the whole replies of the part.
-pub record IsWrittenToTheFault (may_grant : Bool) (part : List Entry) (bytes before after : List ℕ) : Type 0 where
+pub record IsWrittenToTheFault (may_grant : Bool) (part : List HistoryEntry)
+    (bytes before after : List ℕ) : Type 0 where
   pub left : List ℕ
   pub asked : Asks may_grant bytes (queries_of part) left
   pub waits : front left ≡ partial
@@ -39,13 +40,13 @@ pub record IsWrittenToTheFault (may_grant : Bool) (part : List Entry) (bytes bef
 -- The writer failed. The part begins with what was asked before the last piece came, of at most
 -- 4,096 bytes, and those replies are written. Of what is due to the rest of the part, with the last
 -- 71, a beginning is written, and not all.
-pub record IsWrittenInPart (may_grant : Bool) (part : List Entry) (bytes before after : List ℕ) : Type 0 where
+pub record IsWrittenInPart (may_grant : Bool) (part : List HistoryEntry) (bytes before after : List ℕ) : Type 0 where
   pub early : List ℕ
   pub piece : List ℕ
   pub came : bytes ≡ early ++ piece
   pub short : length piece ≤ 4096
-  pub first : List Entry
-  pub rest : List Entry
+  pub first : List HistoryEntry
+  pub rest : List HistoryEntry
   pub both : part ≡ first ++ rest
   pub waiting : List ℕ
   pub asked_early : Asks may_grant early (queries_of first) waiting
@@ -58,9 +59,9 @@ pub record IsWrittenInPart (may_grant : Bool) (part : List Entry) (bytes before 
 
 -- There was no memory. What was written are whole replies, of all of the part or of all but its
 -- last entry: that request was carried out, and nothing of its reply is written.
-pub record IsWrittenButOne (may_grant : Bool) (part : List Entry) (bytes before after : List ℕ) : Type 0 where
-  pub first : List Entry
-  pub unwritten : List Entry
+pub record IsWrittenButOne (may_grant : Bool) (part : List HistoryEntry) (bytes before after : List ℕ) : Type 0 where
+  pub first : List HistoryEntry
+  pub unwritten : List HistoryEntry
   pub both : part ≡ first ++ unwritten
   pub one_at_most : length unwritten ≤ 1
   pub left : List ℕ
@@ -68,7 +69,7 @@ pub record IsWrittenButOne (may_grant : Bool) (part : List Entry) (bytes before 
   pub written : after ≡ before ++ replies_of first
 
 -- what was written of a part, where the stream was given up by this
-abbrev pub IsWrittenUpTo : Bool → StreamFault → List Entry → List ℕ → List ℕ → List ℕ → Type 0
+abbrev pub IsWrittenUpTo : Bool → StreamFault → List HistoryEntry → List ℕ → List ℕ → List ℕ → Type 0
 IsWrittenUpTo may_grant ReadFailed part bytes before after =
     IsWrittenToTheFault may_grant part bytes before after
 IsWrittenUpTo may_grant WriteFailed part bytes before after =
@@ -89,7 +90,7 @@ module _ {R W : Type 0} (may_grant : Bool) (read : R → List ℕ) (over read_fa
     (written : W → List ℕ) (write_failed : W → Bool) where
   -- Between two states of a connection's ends, what came asks this part of the history, and what
   -- was written are its replies.
-  pub record IsServedPart (v : R × W) (part : List Entry) (w : R × W)
+  pub record IsServedPart (v : R × W) (part : List HistoryEntry) (w : R × W)
       (outcome : Result ℕ StreamFault) : Type 0 where
     pub bytes : List ℕ
     pub came : read w.0 ≡ read v.0 ++ bytes
@@ -103,4 +104,4 @@ module _ {R W : Type 0} (may_grant : Bool) (read : R → List ℕ) (over read_fa
   abbrev pub IsServedClient : (R × W) × ClientView → (R × W) × ClientView → Result ℕ StreamFault
       → Type 0
   IsServedClient v w outcome =
-      (part : List Entry) × Extends v.1 part w.1 × IsServedPart v.0 part w.0 outcome
+      (part : List HistoryEntry) × Extends v.1 part w.1 × IsServedPart v.0 part w.0 outcome

@@ -7,7 +7,7 @@ use Rattle.atomic_table.specs.Table.{Me, Step}
 use Rattle.atomic_table.specs.Seated.{TableId}
 use Rattle.shared_desk.specs.declared.seats.DeskView.{DeskView}
 use Rattle.shared_desk.specs.declared.closed.ClosedConnection.{ClosedConnection}
-use Rattle.shared_desk.specs.Histories.{Entry, part_of}
+use Rattle.shared_desk.specs.Histories.{HistoryEntry, part_of}
 use Rattle.shared_desk.specs.Closed.{AreClosed, is_among}
 
 -- the name of no table
@@ -39,7 +39,7 @@ empty_desk_view = record {
 }
 
 -- the recorder, who knows the whole history, and which connections are over
-abbrev pub recorder : List Entry → List ClosedConnection → DeskView
+abbrev pub recorder : List HistoryEntry → List ClosedConnection → DeskView
 recorder history closed =
     record empty_desk_view { is_recorder = true; history = history; closed = closed }
 
@@ -52,7 +52,7 @@ abbrev pub founder : DeskView
 founder = record empty_desk_view { is_opener = true; is_recorder = true }
 
 -- a connection
-abbrev pub client : ℕ → List Entry → List Entry → DeskView
+abbrev pub client : ℕ → List HistoryEntry → List HistoryEntry → DeskView
 client n seen part =
     record empty_desk_view { is_client = true; number = n; seen = seen; part = part }
 
@@ -79,7 +79,7 @@ new_client_view v = client v.opened [] []
 
 -- what the view at a seat says is so
 pub record FitsHistory (recorder_at opener_at : ℕ) (seat_of : ℕ → ℕ) (opened : ℕ)
-    (history : List Entry)
+    (history : List HistoryEntry)
     (closed : List ClosedConnection) (seat : ℕ) (v : DeskView) : Type 0 where
   pub recording : v.is_recorder ≡ true → (seat ≡ recorder_at) × (v.history ≡ history)
       × (v.closed ≡ closed)
@@ -96,7 +96,7 @@ pub record IsShared (views : List DeskView) : Type 0 where
   pub opener_at : ℕ
   pub seat_of : ℕ → ℕ
   pub opened : ℕ
-  pub history : List Entry
+  pub history : List HistoryEntry
   pub closed : List ClosedConnection
   pub each : (seat : ℕ) (v : DeskView) → get_elem? views seat ≡ some v
       → FitsHistory recorder_at opener_at seat_of opened history closed seat v
@@ -106,10 +106,10 @@ pub record IsShared (views : List DeskView) : Type 0 where
 -- ---- the steps
 
 -- a connection, as the recorder, adds an entry of its own
-abbrev pub AddsEntry : {S : Type 0} → (Entry → Type 0) → Step S → Me S DeskView → ℕ → Me S DeskView
+abbrev pub AddsEntry : {S : Type 0} → (HistoryEntry → Type 0) → Step S → Me S DeskView → ℕ → Me S DeskView
     → Type 0
 AddsEntry allows s v found w =
-    (e : Entry) × allows e × (e.connection ≡ v.0.number) × IsPrefix v.0.seen v.0.history
+    (e : HistoryEntry) × allows e × (e.connection ≡ v.0.number) × IsPrefix v.0.seen v.0.history
     × (part_of v.0.number (v.0.history ++ e ∷ []) ≡ v.0.part ++ e ∷ [])
     × (w ≡ (
       with_recorder (client v.0.number (v.0.history ++ e ∷ []) (v.0.part ++ e ∷ []))

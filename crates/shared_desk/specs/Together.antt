@@ -4,7 +4,7 @@ use Rattle.std.specs.declared.alloc.Global.{Global}
 use Rattle.refusal.specs.declared.NoMemory.{NoMemory}
 use Rattle.sessions.specs.Grammar.{Asked}
 use Rattle.shared_desk.specs.declared.serving.ServedEnds.{ServedEnds}
-use Rattle.shared_desk.specs.Histories.{Entry, Replays, part_of}
+use Rattle.shared_desk.specs.Histories.{HistoryEntry, Replays, part_of}
 use Rattle.shared_desk.specs.ClientViews.{ClientView}
 use Rattle.shared_desk.specs.Parts.{IsServedPart}
 
@@ -26,7 +26,7 @@ AreOpened n (e ∷ es) (c ∷ cs) =
 module _ {R W : Type 0} (read : R → List ℕ) (over read_failed : R → Bool) (written : W → List ℕ)
     (write_failed : W → Bool) where
   -- each connection, by its number, is served by its part of the history
-  abbrev pub AreServedParts : List Entry → List (R × W) → List (ServedEnds R W) → Type 0
+  abbrev pub AreServedParts : List HistoryEntry → List (R × W) → List (ServedEnds R W) → Type 0
   AreServedParts history ends served =
       (length served ≡ length ends) × ((i : ℕ) (d : R × W) (e : ServedEnds R W) → i < length ends
       → IsServedPart true read over read_failed written write_failed (slice_index_or ends i d)
@@ -38,7 +38,7 @@ module _ {R W : Type 0} (read : R → List ℕ) (over read_failed : R → Bool) 
   pub record AreServedTogether {S : Type 0} (answers : S → Result Asked ℕ → List ℕ → S → Type 0)
       (begins : S → Type 0) (ends : List (R × W)) (end : S)
       (result : Result (Vec (ServedEnds R W) Global) NoMemory) : Type 0 where
-    pub history : List Entry
+    pub history : List HistoryEntry
     pub legal : Replays answers begins history end
     pub others : (n : ℕ) → length ends ≤ n → part_of n history ≡ []
     pub parts : IfOk result (λ served. AreServedParts history ends served.items)

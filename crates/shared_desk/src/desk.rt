@@ -33,9 +33,9 @@ impl<D, H: Handler<D>, J: Origin<D, H>> Model for SharedDesk<D, H, J> {
     ghost use Rattle.std.specs.Prelude.{◌≡◌, ◌-◌, ◌^◌, List, All, length, min};
     ghost use Rattle.shared_desk.specs.declared.closed.ClosedConnection.{ClosedConnection};
     ghost use Rattle.shared_desk.specs.Closed.{IsServedWhole, first_fault};
-    ghost use Rattle.shared_desk.specs.Histories.{Entry, Replays};
+    ghost use Rattle.shared_desk.specs.Histories.{HistoryEntry, Replays};
 
-    ghost Value = { (D × H) × List Entry × List ClosedConnection };
+    ghost Value = { (D × H) × List HistoryEntry × List ClosedConnection };
 
     ghost view = { λ s. ((s.desk, s.handler), s.recorder.0, s.recorder.1) };
 

@@ -15,9 +15,9 @@ pub struct LogEntry {
 
 impl Model for LogEntry {
     ghost use Rattle.streams.specs.Hearing.{query_of};
-    ghost use Rattle.shared_desk.specs.Histories.{Entry};
+    ghost use Rattle.shared_desk.specs.Histories.{HistoryEntry};
 
-    ghost Value = { Entry };
+    ghost Value = { HistoryEntry };
 
     ghost view = { λ e. record {
       connection = e.connection;
@@ -123,9 +123,9 @@ impl Split<DeskView> for Opens {
 
 /// Says which entry a step may add. Each call picks it.
 pub trait EntryRule {
-    ghost use Rattle.shared_desk.specs.Histories.{Entry};
+    ghost use Rattle.shared_desk.specs.Histories.{HistoryEntry};
 
-    ghost allows: { Entry → Type 0 };
+    ghost allows: { HistoryEntry → Type 0 };
 }
 
 impl EntryRule for Brand {

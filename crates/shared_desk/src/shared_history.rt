@@ -2,7 +2,7 @@
 
 ghost use Rattle.std.specs.Prelude.{◌≡◌, ◌+◌, ◌≤◌, [], ◌∷◌, ◌++◌, ℕ};
 ghost use mathlib.Core.List.{IsPrefix};
-ghost use Rattle.shared_desk.specs.Histories.{Entry, part_of};
+ghost use Rattle.shared_desk.specs.Histories.{HistoryEntry, part_of};
 ghost use Rattle.shared_desk.specs.Closed.{AreClosed};
 ghost use Rattle.shared_desk.specs.declared.closed.ClosedConnection.{ClosedConnection};
 
@@ -92,10 +92,10 @@ pub struct Recorder<J: HistoryId> {
 impl<J: HistoryId> Model for Recorder<J> {
     ghost use Rattle.std.specs.Prelude.{◌≡◌, [], List};
     ghost use Rattle.shared_desk.specs.Rule.{recorder};
-    ghost use Rattle.shared_desk.specs.Histories.{Entry};
+    ghost use Rattle.shared_desk.specs.Histories.{HistoryEntry};
     ghost use Rattle.shared_desk.specs.declared.closed.ClosedConnection.{ClosedConnection};
 
-    ghost Value = { List Entry × List ClosedConnection };
+    ghost Value = { List HistoryEntry × List ClosedConnection };
 
     ghost view = { λ r. (r.seat.me.0.history, r.seat.me.0.closed) };
 
@@ -180,8 +180,8 @@ impl<J: HistoryId> SharedHistory<J> {
         handler: &H,
         reply: &Result<Vec<u8>, NoMemory>,
     )
-        requires { (e : Entry) × E.allows e × (e.connection ≡ seat.old.number) }
-        ensures { (e : Entry) × E.allows e × (e.connection ≡ seat.old.number)
+        requires { (e : HistoryEntry) × E.allows e × (e.connection ≡ seat.old.number) }
+        ensures { (e : HistoryEntry) × E.allows e × (e.connection ≡ seat.old.number)
             × IsPrefix seat.old.seen recorder.old.0
             × (recorder.new ≡ (recorder.old.0 ++ e ∷ [], recorder.old.1))
             × (seat.new.number ≡ seat.old.number)

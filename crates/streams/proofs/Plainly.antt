@@ -9,8 +9,8 @@ use Rattle.credit_book.specs.declared.board.Progress.{Progress}
 use Rattle.job_core.specs.declared.admission.ProgramBytes.{ProgramBytes}
 use Rattle.job_core.specs.Admitted.{AdmittedJob}
 use Rattle.accounts.specs.declared.jobs.JobEntry.{JobEntry}
-use Rattle.accounts.specs.declared.jobs.Standing.{Standing}
-use Rattle.accounts.specs.declared.jobs.Standing.TheVariants.{Open, Reported, Failed}
+use Rattle.accounts.specs.declared.jobs.JobStanding.{JobStanding}
+use Rattle.accounts.specs.declared.jobs.JobStanding.TheVariants.{Open, Reported, Failed}
 use Rattle.accounts.specs.Jobs.{job_at}
 use Rattle.accounts.specs.Ledgers.{Ledger, Finishes, progress_at}
 use Rattle.sessions.specs.Frames.{Front, HasNoFrame, front, frames_of, partial, too_large, whole}
@@ -33,7 +33,7 @@ use Rattle.streams.specs.LedgerReplies.{AreNoted, BeginsReplies, TakesAndPlays, 
 
 -- ---- each report can be noted
 
-finishing : (desk : Ledger) (number : ℕ) (report : Report) (entry : JobEntry) → job_at desk.jobs number ≡ Some entry → (s : Standing) → entry.standing ≡ s → (next : Ledger) × Notes desk number (Ok report) next
+finishing : (desk : Ledger) (number : ℕ) (report : Report) (entry : JobEntry) → job_at desk.jobs number ≡ Some entry → (s : JobStanding) → entry.standing ≡ s → (next : Ledger) × Notes desk number (Ok report) next
 finishing desk number report entry there Open is =
     let next : Ledger = record { grants = desk.grants; past = desk.past; jobs = _ } in
     (next, inl (record { entry = entry; was = there; opened = is; jobs = record { grants = λ q. refl; past = λ q. refl; jobs = refl } }))

@@ -12,7 +12,7 @@ use Rattle.accounts.specs.declared.fault.DeskFault.{DeskFault}
 use Rattle.accounts.specs.declared.fault.SubmitFault.{SubmitFault}
 use Rattle.accounts.specs.declared.tenants.Account.{Account}
 use Rattle.accounts.specs.declared.jobs.JobEntry.{JobEntry}
-use Rattle.accounts.specs.declared.jobs.Standing.TheVariants.{Open}
+use Rattle.accounts.specs.declared.jobs.JobStanding.TheVariants.{Open}
 use Rattle.accounts.specs.Jobs.{job_at}
 use Rattle.accounts.specs.Faults.{desk_code, submit_code, submit_program, submit_slot}
 use Rattle.accounts.specs.Ledgers.{Ledger, granted_to, most_granted, GrantsMore, RefusesGrant, Takes, RefusesSubmit, Finishes, account_at, progress_at, report_at}

@@ -11,7 +11,7 @@ use Rattle.interpreter.specs.declared.credit.Credit.{Credit}
 use Rattle.interpreter.specs.declared.frame.StepOut.TheVariants.{Went, Ended}
 use Rattle.interpreter.specs.Representation.{RepresentsTask, StepEffect, state_of}
 use Rattle.interpreter.specs.Stretch.{ContinuesFor, spent_on}
-use Rattle.interpreter.specs.Telling.{Took, Refused}
+use Rattle.interpreter.specs.Telling.{Took, NotSpawned}
 use Rattle.task_trees.specs.Solo.{SpawnRequest, Solo}
 use Rattle.task_run.specs.Through.{Replied, GoesThrough, RunsAlone}
 use Rattle.task_trees.proofs.SoloParts.{LeadsFrom, leads_start, leads_goes, leads_taken, leads_refused, leads_end}
@@ -99,7 +99,7 @@ module _ {S : Type 0} (spawns : S → SpawnRecord → Result (Unit {0}) SpawnRec
             way = subst (LeadsFrom (program_of c) entries start (way.asked ++ a ∷ [])) done.0.0
                 (leads_refused (program_of c) entries start way.asked before way.way birth taken refused is);
             went = through_push old mid new way.asked a way.went
-                (subst (λ (b : ℕ). Refused birth (b + length taken.part) (λ child reply. spawns mid child reply new) (new ≡ mid)) same done.1);
+                (subst (λ (b : ℕ). NotSpawned birth (b + length taken.part) (λ child reply. spawns mid child reply new) (new ≡ mid)) same done.1);
           }
     ]
     went_on (Calls helper arguments caller) is own did = absurd own

@@ -2,7 +2,7 @@
 use Rattle.std.specs.Prelude.{◌≡◌, ℕ, ◌+◌, List, [], ◌∷◌, Result, Bool, true, false}
 use Rattle.machine_model.specs.Machine.{State, Program, Entries}
 use Rattle.helpers.specs.declared.spawner.SpawnRecord.{SpawnRecord}
-use Rattle.interpreter.specs.Telling.{Took, Refused}
+use Rattle.interpreter.specs.Telling.{Took, NotSpawned}
 use Rattle.task_trees.specs.Solo.{SpawnRequest, Solo}
 
 abbrev pub if_refused : Bool → Type 0 → Type 0 → Type 0
@@ -16,7 +16,7 @@ module _ {S : Type 0} (spawns : S → SpawnRecord → Result (Unit {0}) SpawnRec
   abbrev pub Replied : S → SpawnRequest → S → Type 0
   Replied old a new =
       if_refused a.refused (Took a.birth (base + a.at) (λ child reply. spawns old child reply new))
-      (Refused a.birth (base + a.at) (λ child reply. spawns old child reply new) (new ≡ old))
+      (NotSpawned a.birth (base + a.at) (λ child reply. spawns old child reply new) (new ≡ old))
 
   -- the spawner replied to each of these spawns, in order, and nothing else was asked of it
   abbrev pub GoesThrough : S → List SpawnRequest → S → Type 0

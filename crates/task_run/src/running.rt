@@ -10,7 +10,7 @@ ghost use Rattle.task_run.specs.Through.{GoesThrough, RunsAlone};
 
 use crate::observing::RunObserver;
 use helpers::{Part, Spawner};
-use interpreter::{Credit, Frame, Next};
+use interpreter::{ControlPoint, Credit, Frame};
 use std::alloc::Global;
 use verifier::Verified;
 
@@ -50,8 +50,8 @@ pub fn run_to_end<S: Spawner, L: RunObserver>(
         let ran = frame.run_at(alloc, code, slot, STRETCH, part, credit, spawner);
         observer.pause();
         match ran.next {
-            Next::At(next) => slot = next,
-            Next::Ended(r0) => return r0,
+            ControlPoint::At(next) => slot = next,
+            ControlPoint::Ended(r0) => return r0,
         }
     }
 }

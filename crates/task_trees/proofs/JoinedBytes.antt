@@ -6,7 +6,7 @@ use Rattle.std.proofs.lemmas.List.Elements.{All-head, All-tail, Contains-append_
 use Rattle.std.proofs.lemmas.Bool.Decides.{nat_tests}
 use Rattle.machine_model.specs.Memory.{written}
 use Rattle.task_trees.specs.Eval.{Finished}
-use Rattle.task_trees.specs.Answer.{joined}
+use Rattle.task_trees.specs.Answer.{joined_bytes}
 use Rattle.machine_model.proofs.Ranges.{length-written}
 
 -- a task's bytes are those of the buffer at its base
@@ -19,13 +19,13 @@ pub record IsIn (f : Finished) (at : ℕ) : Type 0 where
   pub low : f.ending.base ≤ at
   pub high : at < f.ending.base + length f.bytes
 
-length-joined : (buffer : List ℕ) (fs : List Finished) → All (IsPiece buffer) fs → length (joined (length buffer) fs) ≡ length buffer
+length-joined : (buffer : List ℕ) (fs : List Finished) → All (IsPiece buffer) fs → length (joined_bytes (length buffer) fs) ≡ length buffer
 length-joined buffer [] all = length-replicate (length buffer) 0
 length-joined buffer (f ∷ fs) all =
     let ih = length-joined buffer fs (All-tail (IsPiece buffer) f fs all) in
     let piece = All-head (IsPiece buffer) f fs all in
     let inside = piece.inside in
-    length-written (joined (length buffer) fs) f.ending.base f.bytes (omega (arith, ih, inside)) ∙ ih
+    length-written (joined_bytes (length buffer) fs) f.ending.base f.bytes (omega (arith, ih, inside)) ∙ ih
 
 written_in : (memory : List ℕ) (base : ℕ) (bytes : List ℕ) (k : ℕ) → base + length bytes ≤ length memory → k < length bytes →
     get_or (written memory base bytes) (base + k) 0 ≡ get_or bytes k 0
@@ -74,47 +74,47 @@ covers (g ∷ gs) f at c is =
 module _ (buffer : List ℕ) where
   -- one more piece: the place is below it, in it or past it
   module _ (f : Finished) (fs : List Finished) (at : ℕ) (all : All (IsPiece buffer) (f ∷ fs)) (c : Covers (f ∷ fs) at)
-      (later : Covers fs at → get_or (joined (length buffer) fs) at 0 ≡ get_or buffer at 0) where
-    fits : f.ending.base + length f.bytes ≤ length (joined (length buffer) fs)
+      (later : Covers fs at → get_or (joined_bytes (length buffer) fs) at 0 ≡ get_or buffer at 0) where
+    fits : f.ending.base + length f.bytes ≤ length (joined_bytes (length buffer) fs)
     fits =
         let long = length-joined buffer fs (All-tail (IsPiece buffer) f fs all) in
         let inside = (All-head (IsPiece buffer) f fs all).inside in omega (arith, long, inside)
 
     above : (t : Bool) → nat_lt at (f.ending.base + length f.bytes) ≡ t → f.ending.base ≤ at →
-        get_or (joined (length buffer) (f ∷ fs)) at 0 ≡ get_or buffer at 0
+        get_or (joined_bytes (length buffer) (f ∷ fs)) at 0 ≡ get_or buffer at 0
     above true t le =
         let lt : at < f.ending.base + length f.bytes = grind (arith, nat_tests) in
         let piece = All-head (IsPiece buffer) f fs all in
         let split : at ≡ f.ending.base + (at - f.ending.base) = omega (arith, le) in
         let in_bytes : at - f.ending.base < length f.bytes = omega (arith, le, lt) in
-        ap (λ (i : ℕ). get_or (joined (length buffer) (f ∷ fs)) i 0) split
-        ∙ written_in (joined (length buffer) fs) f.ending.base f.bytes (at - f.ending.base) fits in_bytes
+        ap (λ (i : ℕ). get_or (joined_bytes (length buffer) (f ∷ fs)) i 0) split
+        ∙ written_in (joined_bytes (length buffer) fs) f.ending.base f.bytes (at - f.ending.base) fits in_bytes
         ∙ piece.bytes (at - f.ending.base) in_bytes
         ∙ ap (λ (i : ℕ). get_or buffer i 0) (sym split)
     above false t le =
         let past : f.ending.base + length f.bytes ≤ at = grind (arith, nat_tests) in
         let split : at ≡ f.ending.base + length f.bytes + (at - (f.ending.base + length f.bytes)) = omega (arith, past) in
-        ap (λ (i : ℕ). get_or (joined (length buffer) (f ∷ fs)) i 0) split
-        ∙ written_after (joined (length buffer) fs) f.ending.base f.bytes (at - (f.ending.base + length f.bytes)) fits
-        ∙ ap (λ (i : ℕ). get_or (joined (length buffer) fs) i 0) (sym split)
+        ap (λ (i : ℕ). get_or (joined_bytes (length buffer) (f ∷ fs)) i 0) split
+        ∙ written_after (joined_bytes (length buffer) fs) f.ending.base f.bytes (at - (f.ending.base + length f.bytes)) fits
+        ∙ ap (λ (i : ℕ). get_or (joined_bytes (length buffer) fs) i 0) (sym split)
         ∙ later (elim c [ inl i ↦ let high = i.high in absurd (omega (arith, high, past)) | inr there ↦ there ])
 
-    below : (t : Bool) → nat_lt at f.ending.base ≡ t → get_or (joined (length buffer) (f ∷ fs)) at 0 ≡ get_or buffer at 0
+    below : (t : Bool) → nat_lt at f.ending.base ≡ t → get_or (joined_bytes (length buffer) (f ∷ fs)) at 0 ≡ get_or buffer at 0
     below true t =
         let lt : at < f.ending.base = grind (arith, nat_tests) in
-        written_before (joined (length buffer) fs) f.ending.base f.bytes at fits lt
+        written_before (joined_bytes (length buffer) fs) f.ending.base f.bytes at fits lt
         ∙ later (elim c [ inl i ↦ let low = i.low in absurd (omega (arith, low, lt)) | inr there ↦ there ])
     below false t =
         let le : f.ending.base ≤ at = grind (arith, nat_tests) in
         above (nat_lt at (f.ending.base + length f.bytes)) refl le
 
-  joined_at : (fs : List Finished) (at : ℕ) → All (IsPiece buffer) fs → Covers fs at → get_or (joined (length buffer) fs) at 0 ≡ get_or buffer at 0
+  joined_at : (fs : List Finished) (at : ℕ) → All (IsPiece buffer) fs → Covers fs at → get_or (joined_bytes (length buffer) fs) at 0 ≡ get_or buffer at 0
   joined_at [] at all c = absurd c
   joined_at (f ∷ fs) at all c =
       below f fs at all c (λ d. joined_at fs at (All-tail (IsPiece buffer) f fs all) d) (nat_lt at f.ending.base) refl
 
   -- where each byte of the buffer is in one of their ranges, the tasks' bytes joined are the buffer
   pub joined_is : (fs : List Finished) → All (IsPiece buffer) fs → ((at : ℕ) → at < length buffer → Covers fs at) →
-      buffer ≡ joined (length buffer) fs
+      buffer ≡ joined_bytes (length buffer) fs
   joined_is fs all each =
-      ext_get_or 0 buffer (joined (length buffer) fs) (sym (length-joined buffer fs all)) (λ at lt. sym (joined_at fs at all (each at lt)))
+      ext_get_or 0 buffer (joined_bytes (length buffer) fs) (sym (length-joined buffer fs all)) (λ at lt. sym (joined_at fs at all (each at lt)))

@@ -10,7 +10,7 @@ use Rattle.std.proofs.lemmas.List.Sums.{sum_by-cons}
 use Rattle.machine_model.specs.Machine.{Program}
 use Rattle.machine_model.specs.JobState.{JobState, Task, Member, Live, Ended, Ending, Move, start, step, run, base_of, size_of, spent_by, AreTiles, IsComplete}
 use Rattle.task_trees.specs.Eval.{Finished, Eval, MembersCome, JobComes, root}
-use Rattle.task_trees.specs.Answer.{RootComes, NoRefusals, ended_in, joined, spent_in, HasAnswer}
+use Rattle.task_trees.specs.Answer.{RootComes, NoRefusals, ended_in, joined_bytes, spent_in, HasAnswer}
 use Rattle.machine_model.proofs.Tiles.{tiles_step}
 use Rattle.task_trees.proofs.TreeSteps.{kept_step}
 use Rattle.task_trees.proofs.EvalLemmas.{eval_once}
@@ -127,7 +127,7 @@ pub answers : (size : ℕ) (j : JobState) (fs : List Finished) → length j.buff
     IsPermutation (ended_in j.buffer j.tasks) fs → HasAnswer size j fs
 answers size j fs long tiles over same = record {
   long = long;
-  buffer = subst (λ (n : ℕ). j.buffer ≡ joined n fs) long (joined_is j.buffer fs
+  buffer = subst (λ (n : ℕ). j.buffer ≡ joined_bytes n fs) long (joined_is j.buffer fs
       (All-permutation (IsPiece j.buffer) (ended_in j.buffer j.tasks) fs same (pieces j.buffer j.tasks tiles.inside))
       (λ at lt. let o = tiles.owned at lt in
       let f = owned_by j.buffer j.tasks at o.number o.member over (tiles.inside o.number o.member o.there) o.there o.low o.high in
@@ -235,7 +235,7 @@ runs_agree programs credit buffer moves others last other is refused over is' re
     let a = one_answer programs credit buffer moves last is refused over in
     let b = one_answer programs credit buffer others other is' refused' over' in
     let same : a.0 ≡ b.0 = eval_once programs (root credit buffer) buffer a.0 b.0 a.1 b.1 in (
-      a.2.buffer ∙ ap (joined (length buffer)) same ∙ sym b.2.buffer,
+      a.2.buffer ∙ ap (joined_bytes (length buffer)) same ∙ sym b.2.buffer,
       a.2.spent ∙ ap spent_in same ∙ sym b.2.spent,
       IsPermutation-trans (ended_in last.buffer last.tasks) a.0 (ended_in other.buffer other.tasks) a.2.tasks
           (subst (λ (l : List Finished). IsPermutation l (ended_in other.buffer other.tasks)) (sym same)

@@ -14,9 +14,9 @@ ended_in buffer (Ended e ∷ ms) =
     record { ending = e; bytes = take e.size (drop e.base buffer) } ∷ ended_in buffer ms
 
 -- the bytes that these tasks left, each at its base, in a buffer of this length
-abbrev pub joined : ℕ → List Finished → List ℕ
-joined size [] = replicate size 0
-joined size (f ∷ fs) = written (joined size fs) f.ending.base f.bytes
+abbrev pub joined_bytes : ℕ → List Finished → List ℕ
+joined_bytes size [] = replicate size 0
+joined_bytes size (f ∷ fs) = written (joined_bytes size fs) f.ending.base f.bytes
 
 -- the credit that they used, as one sum
 abbrev pub spent_in : List Finished → ℕ
@@ -40,7 +40,7 @@ pub record HasEndedAt (j : JobState) (place : List ℕ) (r0 : ℕ) : Type 0 wher
 -- The job's buffer, which has so many bytes, the credit that its ended tasks spent and their R0s by
 -- place are those of the finished tasks; and these are its ended tasks, each once, in some order.
 pub record HasAnswer (size : ℕ) (j : JobState) (fs : List Finished) : Type 0 where
-  pub buffer : j.buffer ≡ joined size fs
+  pub buffer : j.buffer ≡ joined_bytes size fs
   pub long : length j.buffer ≡ size
   pub spent : sum_by spent_by j.tasks ≡ spent_in fs
   pub r0s : (place : List ℕ) (r0 : ℕ) → HasEndedAt j place r0 ↔ EndsAt fs place r0

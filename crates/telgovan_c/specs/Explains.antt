@@ -2,7 +2,7 @@
 use Rattle.std.specs.Prelude.{◌≡◌, ℕ, ◌<◌, ◌≤◌, List, ◌++◌, length, drop, true, false, Option, Some, None}
 use Rattle.helpers.specs.Table.{job_table}
 use Rattle.verifier.specs.Checked.{Checked}
-use Rattle.verifier.specs.RefusalCodes.{number_of, slot_of}
+use Rattle.verifier.specs.RefusalCodes.{code_of_refusal, slot_of_refusal}
 use Rattle.verifier.specs.Refusals.{IsAccepted}
 use Rattle.explain.specs.declared.explanation.Explanation.{Explanation}
 use Rattle.explain.specs.Texts.{IsTextOf}
@@ -32,7 +32,7 @@ pub data IsExplained (need : ℕ) (code source old new : List ℕ) (told : Writt
   refused : (text : Option (List ℕ)) → IsSourceText source text → (why : Explanation)
       → IsTold need code job_table text why → (words : List ℕ) → IsTextOf why words
       → FillsRoom words old new
-      → told ≡ explained_as (length words) (number_of why.refusal) (slot_of why.refusal)
+      → told ≡ explained_as (length words) (code_of_refusal why.refusal) (slot_of_refusal why.refusal)
       → IsExplained need code source old new told
   no_memory : new ≡ old → told ≡ explained_as 0 99 None
       → IsExplained need code source old new told

@@ -2,7 +2,7 @@
 use Rattle.std.specs.Prelude.{◌≡◌, ℕ, ◌<◌, ◌≤◌, List, ◌++◌, length, drop, Option, Some, None}
 use Rattle.helpers.specs.Table.{job_table}
 use Rattle.verifier.specs.declared.refusals.Refusal.{Refusal}
-use Rattle.verifier.specs.RefusalCodes.{number_of, slot_of}
+use Rattle.verifier.specs.RefusalCodes.{code_of_refusal, slot_of_refusal}
 use Rattle.verifier.specs.Refusals.{RefusesProgram}
 use Rattle.explain.specs.declared.explanation.Explanation.{Explanation}
 use Rattle.explain.specs.declared.picture.Picture.{Picture}
@@ -15,7 +15,7 @@ use Rattle.telgovan_c.specs.Texts.{IsSourceText, refused_text}
 -- a drawing of so many bytes, of a program that is accepted or refused so
 abbrev pub drawn_as : ℕ → Option Explanation → Written
 drawn_as size None = explained_as size 0 None
-drawn_as size (Some why) = explained_as size (number_of why.refusal) (slot_of why.refusal)
+drawn_as size (Some why) = explained_as size (code_of_refusal why.refusal) (slot_of_refusal why.refusal)
 
 -- The drawing stands at the beginning of the room, if it fits, and nothing else of it changes. Then
 -- the verdict is told with it.
@@ -35,6 +35,6 @@ pub data IsGraphDrawn (need : ℕ) (code source old new : List ℕ) (told : Writ
       → IsGraphDrawn need code source old new told
   refused : (refusal : Refusal) → RefusesProgram need code job_table refusal
       → ruled_slot refusal ≡ None → new ≡ old
-      → told ≡ refused_text (number_of refusal) (slot_of refusal)
+      → told ≡ refused_text (code_of_refusal refusal) (slot_of_refusal refusal)
       → IsGraphDrawn need code source old new told
   no_memory : new ≡ old → told ≡ refused_text 99 None → IsGraphDrawn need code source old new told

@@ -6,7 +6,7 @@ use Rattle.credit_book.specs.declared.event.TaskEnd.{TaskEnd}
 use Rattle.job_core.specs.declared.admission.ProgramBytes.{ProgramBytes}
 use Rattle.job_core.specs.declared.admission.AdmitFault.{AdmitFault}
 use Rattle.job_core.specs.declared.admission.AdmitFault.TheVariants.{NoPrograms, TooManyPrograms, TooLarge, Program, CreditLow, BufferShort, NoMemory}
-use Rattle.job_core.specs.Admission.{IsAdmittedFrom, RefusesJob, number_of, place_of, slot_of}
+use Rattle.job_core.specs.Admission.{IsAdmittedFrom, RefusesJob, code_of_admit_fault, program_of_admit_fault, slot_of_admit_fault}
 use Rattle.job_core.specs.Admitted.{AdmittedJob}
 use Rattle.job_core.specs.PlaysLowest.{IsPlayed}
 use Rattle.telgovan_c.specs.declared.jobs.JobReport.{JobReport}
@@ -17,13 +17,13 @@ use Rattle.telgovan_c.specs.declared.jobs.ReportedTask.{ReportedTask}
 abbrev pub refused_report : AdmitFault → JobReport
 refused_report fault = record {
   tasks = 0;
-  status = number_of fault;
+  status = code_of_admit_fault fault;
   spent = 0;
   returned = 0;
-  program = unwrap_or (place_of fault) 0;
-  slot = unwrap_or (slot_of fault) 0;
-  has_program = is_some (place_of fault);
-  has_slot = is_some (slot_of fault);
+  program = unwrap_or (program_of_admit_fault fault) 0;
+  slot = unwrap_or (slot_of_admit_fault fault) 0;
+  has_program = is_some (program_of_admit_fault fault);
+  has_slot = is_some (slot_of_admit_fault fault);
 }
 
 -- the code has no such piece

@@ -4,7 +4,7 @@ use Rattle.machine_model.specs.Limits.{max_credit, max_part}
 use Rattle.helpers.specs.Table.{job_table}
 use Rattle.verifier.specs.declared.refusals.Refusal.{Refusal}
 use Rattle.verifier.specs.Checked.{Checked}
-use Rattle.verifier.specs.RefusalCodes.{number_of}
+use Rattle.verifier.specs.RefusalCodes.{code_of_refusal}
 use Rattle.verifier.specs.Refusals.{IsAccepted, RefusesProgram}
 use Rattle.run_trace.specs.Traces.{unanswered}
 use Rattle.virtual_machine.specs.declared.vm_fault.VmFault.{VmFault}
@@ -81,5 +81,5 @@ pub data IsSingle (need : ℕ) (code : List ℕ) (argument credit : ℕ) (old ne
       → IsRunOutcome program argument credit old new told
       → IsSingle need code argument credit old new told
   refused : (refusal : Refusal) → RefusesProgram need code job_table refusal
-      → told ≡ refused_run (number_of refusal) → new ≡ old
+      → told ≡ refused_run (code_of_refusal refusal) → new ≡ old
       → IsSingle need code argument credit old new told

@@ -7,7 +7,7 @@ use Rattle.insn_codec.specs.Fault.{code_of_fault as codec_number, slot_of_fault 
 use Rattle.insn_codec.specs.Spelling.{IsRefusal}
 use Rattle.disassembler.specs.Line.{IsListing}
 use Rattle.assembler.specs.declared.fault.TextFault.{TextFault}
-use Rattle.assembler.specs.Fault.{code_of_fault as text_number, line_of}
+use Rattle.assembler.specs.Fault.{code_of_text_fault as text_number, line_of}
 use Rattle.assembler.specs.Source.{IsAssembly, IsTextRefusal, source_lines}
 use Rattle.telgovan_c.specs.declared.texts.Written.{Written}
 

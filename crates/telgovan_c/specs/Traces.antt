@@ -4,7 +4,7 @@ use Rattle.machine_model.specs.Limits.{max_credit, max_part}
 use Rattle.helpers.specs.Table.{job_table}
 use Rattle.verifier.specs.declared.refusals.Refusal.{Refusal}
 use Rattle.verifier.specs.Checked.{Checked}
-use Rattle.verifier.specs.RefusalCodes.{number_of, slot_of}
+use Rattle.verifier.specs.RefusalCodes.{code_of_refusal, slot_of_refusal}
 use Rattle.verifier.specs.Refusals.{IsAccepted, RefusesProgram}
 use Rattle.virtual_machine.specs.declared.vm_fault.VmFault.{VmFault}
 use Rattle.virtual_machine.specs.Executes.{ExecutesOn, IsUnrunnable}
@@ -58,5 +58,5 @@ pub data IsTraceTold (need : ℕ) (code source : List ℕ) (argument credit : �
       → IsProgramTraced program code source argument credit memory old new told
       → IsTraceTold need code source argument credit memory old new told
   refused : (refusal : Refusal) → RefusesProgram need code job_table refusal → new ≡ old
-      → told ≡ refused_text (number_of refusal) (slot_of refusal)
+      → told ≡ refused_text (code_of_refusal refusal) (slot_of_refusal refusal)
       → IsTraceTold need code source argument credit memory old new told

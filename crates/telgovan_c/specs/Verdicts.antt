@@ -3,7 +3,7 @@ use Rattle.std.specs.Prelude.{◌≡◌, ℕ, List, true, false, Option, Some, N
 use Rattle.helpers.specs.Table.{job_table}
 use Rattle.verifier.specs.declared.refusals.Refusal.{Refusal}
 use Rattle.verifier.specs.Checked.{Checked, cost_at}
-use Rattle.verifier.specs.RefusalCodes.{number_of, slot_of}
+use Rattle.verifier.specs.RefusalCodes.{code_of_refusal, slot_of_refusal}
 use Rattle.verifier.specs.Refusals.{IsAccepted, RefusesProgram}
 use Rattle.telgovan_c.specs.declared.verdicts.Verdict.{Verdict}
 
@@ -17,7 +17,7 @@ refused_at number None = record { status = number; cost = 0; slot = 0; has_slot 
 refused_at number (Some slot) = record { status = number; cost = 0; slot = slot; has_slot = true }
 
 abbrev pub refused_verdict : Refusal → Verdict
-refused_verdict refusal = refused_at (number_of refusal) (slot_of refusal)
+refused_verdict refusal = refused_at (code_of_refusal refusal) (slot_of_refusal refusal)
 
 -- the verdict on these bytes, as a program of this need that calls the helpers of a job
 pub data IsVerdict (need : ℕ) (code : List ℕ) (verdict : Verdict) : Type 0 where

@@ -1,7 +1,7 @@
 //! Why a program is refused, as text.
 
 ghost use Rattle.std.specs.Prelude.{◌≡◌, length, None};
-ghost use Rattle.verifier.specs.RefusalCodes.{number_of, slot_of};
+ghost use Rattle.verifier.specs.RefusalCodes.{code_of_refusal, slot_of_refusal};
 ghost use Rattle.telgovan_c.specs.Explains.{IsExplained, FillsRoom, explained_as};
 
 use crate::texts::{Written, source_in};
@@ -36,8 +36,8 @@ fn without_text(status: u32) -> Written
 
 /// What is told of a refusal whose text has so many bytes.
 pub(crate) fn with_text(text: &[u8], refusal: &Refusal) -> Written
-    ensures { result
-        ≡ explained_as (length text.now) (number_of refusal.now) (slot_of refusal.now) }
+    ensures { result ≡ explained_as (length text.now) (code_of_refusal refusal.now)
+        (slot_of_refusal refusal.now) }
 {
     let slot = refusal.slot();
     Written {

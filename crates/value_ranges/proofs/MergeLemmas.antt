@@ -8,7 +8,7 @@ use Rattle.value_ranges.specs.Covers.{Covers, CoversBoth}
 use Rattle.value_ranges.specs.Interval.{Interval, Within}
 use Rattle.value_ranges.specs.Joins.{joined, hull, span_hull, ranges_hull}
 use Rattle.value_ranges.specs.Numbers.{Ranges, ranges, spanned, Among, some_span, some_tidied}
-use Rattle.value_ranges.specs.Refinements.{refined_by, CoversEdge, relation_of, signed_relation_of, tells, narrowed, narrowed_pair, signed_narrowed, unless_empty, signed_pair, both, tidied_both, with_unsigned, with_signed, refined_ranges, refined_pair, is_whole, is_other, is_register, compared}
+use Rattle.value_ranges.specs.Refinements.{refined_by, CoversEdge, relation_of, signed_relation_of, tells, narrowed, narrowed_pair, signed_narrowed, unless_empty, signed_pair, both, tidied_both, with_unsigned, with_signed, refined_ranges, refined_pair, is_whole, is_other, is_register_operand, compared}
 use Rattle.value_ranges.specs.Span.{Span, Between}
 use Rattle.machine_model.specs.Value.{Value}
 use Rattle.machine_model.specs.Value as value
@@ -238,7 +238,7 @@ low_bits : (w : Width) (y : ℕ) → y < 2 ^ 64 → y % 2 ^ bits_of w < 2 ^ 64
 low_bits W32 y q = omega arith
 low_bits W64 y q = omega arith
 
-jump : (w : Width) (t : Condition) (d : ℕ) (s : Operand) (taken : Bool) (a b : Ranges) (x y : ℕ) → x < 2 ^ 64 → y < 2 ^ 64 → Among a x → Among b y → holds t (bits_of w) (x % 2 ^ bits_of w) (y % 2 ^ bits_of w) ≡ taken → BothCover (if is_other d s && is_whole w a (compared s w b) then refined_pair (is_register s) a b (refined_ranges (relation_of t taken) (signed_relation_of w t taken) a (compared s w b)) else (Num a, Num b)) x y
+jump : (w : Width) (t : Condition) (d : ℕ) (s : Operand) (taken : Bool) (a b : Ranges) (x y : ℕ) → x < 2 ^ 64 → y < 2 ^ 64 → Among a x → Among b y → holds t (bits_of w) (x % 2 ^ bits_of w) (y % 2 ^ bits_of w) ≡ taken → BothCover (if is_other d s && is_whole w a (compared s w b) then refined_pair (is_register_operand s) a b (refined_ranges (relation_of t taken) (signed_relation_of w t taken) a (compared s w b)) else (Num a, Num b)) x y
 jump w t d (operand.Reg s) taken a b x y p q h k g =
     unless_whole (is_other d (operand.Reg s) && is_whole w a b) _ a b x y p q
     (λ e.

@@ -31,11 +31,11 @@ use Rattle.value_ranges.proofs.PointerLemmas.{HasPosition, after, onto}
 abbrev HasValue : Option Value → Abs → Type 0
 HasValue o r = (z : Value) × (o ≡ Some z) × Covers r z
 
-on_stack : (r : Result Span PointerFault) (o : Option ℤ) → IfOk r (HasPosition o) → IfOk (table.in_stack r) (HasValue (outcome.in_stack o))
+on_stack : (r : Result Span PointerFault) (o : Option ℤ) → IfOk r (HasPosition o) → IfOk (table.stack_pointers r) (HasValue (outcome.in_stack o))
 on_stack (Ok q) o h = rw h.1 (value.Stack h.0, refl, h.2)
 on_stack (Err e) o h = tt
 
-on_part : (r : Result Span PointerFault) (o : Option ℤ) → IfOk r (HasPosition o) → IfOk (table.in_part r) (HasValue (outcome.in_part o))
+on_part : (r : Result Span PointerFault) (o : Option ℤ) → IfOk r (HasPosition o) → IfOk (table.part_pointers r) (HasValue (outcome.in_part o))
 on_part (Ok q) o h = rw h.1 (value.Part h.0, refl, h.2)
 on_part (Err e) o h = tt
 

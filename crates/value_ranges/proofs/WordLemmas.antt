@@ -3,7 +3,7 @@ use Rattle.std.proofs.Common.{◌≡◌, ℕ, pos, Bool, true, false, if◌then�
 use Rattle.std.specs.Prelude.{◌==◌}
 use Rattle.value_ranges.proofs.CoverLemmas.{between_alone, covers_any, covers_between}
 use Rattle.value_ranges.specs.Covers.{Covers}
-use Rattle.value_ranges.specs.Words.{CoversEntry, CoversLoads, any_number, entry, loaded}
+use Rattle.value_ranges.specs.Words.{CoversEntry, CoversLoads, any_number, entry, load_range}
 use Rattle.value_ranges.specs.declared.abs.Abs.{Abs}
 use Rattle.machine_model.specs.Operators.{extended, signed}
 use Rattle.machine_model.specs.Value.{Value}
@@ -15,7 +15,7 @@ use Rattle.insn_codec.specs.declared.insn.LoadKind.TheVariants as kind
 extension : (w x : ℕ) → Covers any_number (value.Num (extended w 64 x))
 extension w x = covers_any (extended w 64 x) (residue-lt 64 (signed w (x % 2 ^ w)))
 
-pub covers_loaded : (k : LoadKind) → CoversLoads k (loaded k)
+pub covers_loaded : (k : LoadKind) → CoversLoads k (load_range k)
 covers_loaded kind.Byte x h = covers_between 0 255 x (omega arith) (omega arith) (omega arith)
 covers_loaded kind.Half x h = covers_between 0 65535 x (omega arith) (omega arith) (omega arith)
 covers_loaded kind.Word x h = covers_between 0 (2 ^ 32 - 1) x (omega arith) (omega arith) (omega arith)
@@ -24,7 +24,7 @@ covers_loaded kind.SignedByte x h = extension 8 x
 covers_loaded kind.SignedHalf x h = extension 16 x
 covers_loaded kind.SignedWord x h = extension 32 x
 
-pub loaded_covers : (k : LoadKind) (r : Abs) → r ≡ loaded k → CoversLoads k r
+pub loaded_covers : (k : LoadKind) (r : Abs) → r ≡ load_range k → CoversLoads k r
 loaded_covers k r e = rw e (covers_loaded k)
 
 choice : (t : Bool) (a b : Abs) (v w : Value) → Covers a v → Covers b w → Covers (if t then a else b) (if t then v else w)

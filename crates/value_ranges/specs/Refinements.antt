@@ -126,9 +126,9 @@ abbrev pub is_other : ℕ → Operand → Bool
 is_other d (operand.Reg s) = not (d == s)
 is_other d (operand.Imm z) = true
 
-abbrev pub is_register : Operand → Bool
-is_register (operand.Reg s) = true
-is_register (operand.Imm z) = false
+abbrev pub is_register_operand : Operand → Bool
+is_register_operand (operand.Reg s) = true
+is_register_operand (operand.Imm z) = false
 
 -- what the jump compares the first operand with: an immediate is one number of the width
 abbrev pub compared : Operand → Width → Ranges → Ranges
@@ -156,7 +156,7 @@ refined_pair source a b (Some r) = (Num r.0, Num (if source then r.1 else b))
 abbrev pub refined_by : Insn → Bool → Abs → Abs → Abs × Abs
 refined_by (JumpIf w t d s o) taken (Num a) (Num b) =
     if is_other d s && is_whole w a (compared s w b)
-    then refined_pair (is_register s) a b
+    then refined_pair (is_register_operand s) a b
     (refined_ranges (relation_of t taken) (signed_relation_of w t taken) a (compared s w b))
     else (Num a, Num b)
 refined_by i taken a b = (a, b)

@@ -17,7 +17,7 @@ use Rattle.insn_codec.specs.declared.insn.ByteOrder.TheVariants.{Little}
 use Rattle.insn_codec.specs.declared.insn.EndSize.{EndSize}
 use Rattle.insn_codec.specs.declared.insn.Insn.{Insn}
 use Rattle.insn_codec.specs.declared.insn.Insn.TheVariants.{Alu, Mov, MovSx, Neg, End}
-use Rattle.value_ranges.specs.PointerFaultCodes.{number_of}
+use Rattle.value_ranges.specs.PointerFaultCodes.{code_of_pointer_fault}
 use Rattle.value_ranges.specs.declared.fault.PointerFault.{PointerFault}
 use Rattle.value_ranges.specs.declared.fault.PointerFault.TheVariants.{NoResult, TooFar}
 use Rattle.value_ranges.specs.declared.abs.Abs.{Abs}
@@ -45,13 +45,13 @@ abbrev pub positions_onto : Width → AluOp → Ranges → Span → Result Span 
 positions_onto W64 Add n p = moved_up p n.signed
 positions_onto w op n p = Err NoResult
 
-abbrev pub in_stack : Result Span PointerFault → Result Abs PointerFault
-in_stack (Ok p) = Ok (Stack p)
-in_stack (Err e) = Err e
+abbrev pub stack_pointers : Result Span PointerFault → Result Abs PointerFault
+stack_pointers (Ok p) = Ok (Stack p)
+stack_pointers (Err e) = Err e
 
-abbrev pub in_part : Result Span PointerFault → Result Abs PointerFault
-in_part (Ok p) = Ok (Part p)
-in_part (Err e) = Err e
+abbrev pub part_pointers : Result Span PointerFault → Result Abs PointerFault
+part_pointers (Ok p) = Ok (Part p)
+part_pointers (Err e) = Err e
 
 abbrev pub number_range : Width → AluOp → Interval → Interval → Interval
 number_range w op a b = range_of op (bits_of w) (cut (bits_of w) a) (cut (bits_of w) b)
@@ -64,10 +64,10 @@ number_ranges w op a b =
 
 abbrev pub alu_table : Width → AluOp → Abs → Abs → Result Abs PointerFault
 alu_table w op (Num a) (Num b) = Ok (Num (number_ranges w op a b))
-alu_table w op (Stack p) (Num b) = in_stack (positions_after w op p b)
-alu_table w op (Part p) (Num b) = in_part (positions_after w op p b)
-alu_table w op (Num a) (Stack p) = in_stack (positions_onto w op a p)
-alu_table w op (Num a) (Part p) = in_part (positions_onto w op a p)
+alu_table w op (Stack p) (Num b) = stack_pointers (positions_after w op p b)
+alu_table w op (Part p) (Num b) = part_pointers (positions_after w op p b)
+alu_table w op (Num a) (Stack p) = stack_pointers (positions_onto w op a p)
+alu_table w op (Num a) (Part p) = part_pointers (positions_onto w op a p)
 alu_table w op _ _ = Err NoResult
 
 abbrev pub move_table : Width → Abs → Result Abs PointerFault
@@ -101,11 +101,11 @@ value_table i a b = Err NoResult
 
 abbrev pub with_number : Result Abs PointerFault → Result Abs ℕ
 with_number (Ok a) = Ok a
-with_number (Err fault) = Err (number_of fault)
+with_number (Err fault) = Err (code_of_pointer_fault fault)
 
 -- the same, with the refusal's number
-abbrev pub table_of : Insn → Abs → Abs → Result Abs ℕ
-table_of i a b = with_number (value_table i a b)
+abbrev pub coded_value_table : Insn → Abs → Abs → Result Abs ℕ
+coded_value_table i a b = with_number (value_table i a b)
 
 abbrev pub IsArithmetic : Insn → Type 0
 IsArithmetic (Alu w op d s) = Unit {0}

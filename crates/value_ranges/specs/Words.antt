@@ -30,11 +30,11 @@ abbrev pub greatest : Ranges → ℕ
 greatest n = n.unsigned.hi
 
 -- what a load gives
-abbrev pub loaded : LoadKind → Abs
-loaded kind.Byte = between 0 255
-loaded kind.Half = between 0 65535
-loaded kind.Word = between 0 (2 ^ 32 - 1)
-loaded k = any_number
+abbrev pub load_range : LoadKind → Abs
+load_range kind.Byte = between 0 255
+load_range kind.Half = between 0 65535
+load_range kind.Word = between 0 (2 ^ 32 - 1)
+load_range k = any_number
 
 -- whatever bytes are loaded, r covers what is made of their number
 abbrev pub CoversLoads : LoadKind → Abs → Type 0

@@ -2,7 +2,7 @@
 
 ghost use Rattle.std.specs.Prelude.{◌≡◌, IfOk};
 ghost use Rattle.value_ranges.specs.Covers.{CoversOutcomes};
-ghost use Rattle.value_ranges.specs.Tables.{IsArithmetic, IsReadSet, alu_table, in_part, in_stack, move_table, number_ranges, table_of, value_table};
+ghost use Rattle.value_ranges.specs.Tables.{IsArithmetic, IsReadSet, alu_table, part_pointers, stack_pointers, move_table, number_ranges, coded_value_table, value_table};
 
 use crate::abs::{Abs, Reach};
 use crate::fault::PointerFault;
@@ -15,7 +15,7 @@ use insn_codec::{AluOp, Insn, Width};
 
 /// What is known of a pointer into the stack.
 fn in_stack(p: Result<Reach, PointerFault>) -> Result<Abs, PointerFault>
-    ensures { result ≡ in_stack p }
+    ensures { result ≡ stack_pointers p }
 {
     match p {
         Ok(p) => Ok(Abs::Stack(p)),
@@ -25,7 +25,7 @@ fn in_stack(p: Result<Reach, PointerFault>) -> Result<Abs, PointerFault>
 
 /// What is known of a pointer into the part.
 fn in_part(p: Result<Reach, PointerFault>) -> Result<Abs, PointerFault>
-    ensures { result ≡ in_part p }
+    ensures { result ≡ part_pointers p }
 {
     match p {
         Ok(p) => Ok(Abs::Part(p)),
@@ -132,7 +132,7 @@ pub fn compute(insn: &Insn, dst: Abs, src: Abs) -> Result<Abs, PointerFault>
 pub fn alu(insn: &Insn, dst: Abs, src: Abs) -> Result<Abs, u8>
     requires arithmetic { IsArithmetic insn.now }
     requires set { IsReadSet insn.now dst src }
-    ensures table { result ≡ table_of insn.now dst src }
+    ensures table { result ≡ coded_value_table insn.now dst src }
     ensures covered { IfOk result (CoversOutcomes insn.now dst src) }
 {
     match compute(insn, dst, src) {

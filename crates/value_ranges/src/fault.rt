@@ -1,7 +1,7 @@
 //! Why arithmetic on abstract values is refused.
 
 ghost use Rattle.std.specs.Prelude.{◌≡◌};
-ghost use Rattle.value_ranges.specs.PointerFaultCodes.{number_of};
+ghost use Rattle.value_ranges.specs.PointerFaultCodes.{code_of_pointer_fault};
 
 /// Why an arithmetic instruction or a move has no result.
 #[derive(Clone, Copy, Debug, PartialEq, Eq, Hash)]
@@ -15,7 +15,7 @@ pub enum PointerFault {
 impl PointerFault {
     /// The number of the refusal.
     pub fn code(self) -> u8
-        ensures { result ≡ number_of self }
+        ensures { result ≡ code_of_pointer_fault self }
     {
         match self {
             PointerFault::NoResult => 34,

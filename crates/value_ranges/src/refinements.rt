@@ -3,7 +3,7 @@
 ghost use Rattle.std.specs.Prelude.{pos, ◌≡◌, ◌+ℤ◌, ◌-ℤ◌};
 ghost use Rattle.value_ranges.specs.Interval.{interval};
 ghost use Rattle.value_ranges.specs.Numbers.{some_span};
-ghost use Rattle.value_ranges.specs.Refinements.{CoversEdge, IsConditional, compared, is_other, is_register, is_whole, narrowed_pair, refined_by, refined_pair, refined_ranges, relation_of, at_least, at_most, both, signed_narrowed, signed_pair, signed_relation_of, tidied_both, unless_empty, with_signed, with_unsigned, without};
+ghost use Rattle.value_ranges.specs.Refinements.{CoversEdge, IsConditional, compared, is_other, is_register_operand, is_whole, narrowed_pair, refined_by, refined_pair, refined_ranges, relation_of, at_least, at_most, both, signed_narrowed, signed_pair, signed_relation_of, tidied_both, unless_empty, with_signed, with_unsigned, without};
 
 use crate::abs::Abs;
 use crate::numbers::{Numbers, meet, tidied};
@@ -245,7 +245,7 @@ fn refined_ranges(
 }
 
 fn is_register(operand: &Operand) -> bool
-    ensures { result ≡ is_register operand.now }
+    ensures { result ≡ is_register_operand operand.now }
 {
     match operand {
         Operand::Reg(_) => true,

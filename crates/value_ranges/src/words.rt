@@ -5,7 +5,7 @@ ghost use Rattle.machine_model.specs.Operators.{residue};
 ghost use Rattle.machine_model.specs.Value.{Num};
 ghost use Rattle.value_ranges.specs.Covers.{Covers};
 ghost use Rattle.value_ranges.specs.Tables.{IsSet, is_set};
-ghost use Rattle.value_ranges.specs.Words.{CoversEntry, CoversLoads, any_number, between, entry, loaded, single_value};
+ghost use Rattle.value_ranges.specs.Words.{CoversEntry, CoversLoads, any_number, between, entry, load_range, single_value};
 ghost use Rattle.machine_model.specs.Limits.{max_part};
 
 use crate::abs::{Abs, Reach};
@@ -62,7 +62,7 @@ pub fn immediate(value: i32) -> Abs
 /// What a load gives.
 #[tactic(auto, using(crate::proofs::WordLemmas::loaded_covers))]
 pub fn loaded(kind: LoadKind) -> Abs
-    ensures table { result ≡ loaded kind }
+    ensures table { result ≡ load_range kind }
     ensures covered { CoversLoads kind result }
 {
     match kind {

@@ -1,6 +1,6 @@
 -- The in-state of one slot, where the analysis of an allowed program has come to its place.
 use Rattle.std.proofs.Common.{◌≡◌, ℕ, suc, ◌≤◌, ◌<◌, ◌≢◌, List, [], ◌∷◌, zero, length, Some, None, Option, ap, sym, ◌∙◌, arith, refl, inl, inr, slice_index, slice_index_or, subst}
-use Rattle.instruction_rules.specs.declared.state.State.{State}
+use Rattle.instruction_rules.specs.declared.state.AbsState.{AbsState}
 use Rattle.instruction_rules.specs.States.{fault}
 use Rattle.flow_graph.specs.Flow.{IsFlow}
 use Rattle.verifier.specs.declared.states.Fault.{Fault}
@@ -12,12 +12,12 @@ use Rattle.verifier.proofs.Options.{none_some}
 use Rattle.verifier.proofs.Comings.{passed_not_blocked, among_before}
 use Rattle.verifier.proofs.Examining.{stays_out, all_come, all_among, begun_or_not, second_arrives, arrived_long}
 
-state_back : (o : Option State) → state_of (in_state_of o) ≡ o
+state_back : (o : Option AbsState) → state_of (in_state_of o) ≡ o
 state_back None = refl
 state_back (Some state) = refl
 
 -- nothing ahead has a fault, so all has come to the slot at the place
-pub in_state_here : (p : Subject) (order : List ℕ) (n s : ℕ) (links : Links) (states : List (Option State)) → IsFlow (record { code = p.code; order = order }) →
+pub in_state_here : (p : Subject) (order : List ℕ) (n s : ℕ) (links : Links) (states : List (Option AbsState)) → IsFlow (record { code = p.code; order = order }) →
     AreInStates p (in_state p) → s ≡ slice_index order n → n < length order → HasPropagated p order n links states → IsFirst p order n None →
     ((q : ℕ) → slice_index_or links.first (slice_index order n) None ≡ Some q → slice_index_or states q None ≡ None) →
     slice_index_or states s None ≡ state_of (in_state p s)
@@ -50,7 +50,7 @@ nothing_arrives p order n s f solves all within none = elim (begun_or_not p.code
 ]
 
 -- past the end no state is known
-past : (states : List (Option State)) (s : ℕ) → length states ≤ s → slice_index_or states s None ≡ None
+past : (states : List (Option AbsState)) (s : ℕ) → length states ≤ s → slice_index_or states s None ≡ None
 past [] s le = refl
 past (o ∷ states) zero le = absurd (omega (arith, le))
 past (o ∷ states) (suc s) le = let less : length states ≤ s = omega (arith, le) in past states s less

@@ -10,7 +10,7 @@ use Rattle.flow_graph.specs.Flow.{AreNext, IsOrder}
 use Rattle.flow_graph.specs.declared.graph.Next.{Next}
 use Rattle.flow_graph.specs.declared.graph.Next.TheVariants.{Zero, One, Two}
 use Rattle.instruction_rules.specs.declared.rule.Rule.{Rule}
-use Rattle.instruction_rules.specs.declared.state.State.{State}
+use Rattle.instruction_rules.specs.declared.state.AbsState.{AbsState}
 use Rattle.instruction_rules.specs.States.{transferred, fault}
 use Rattle.verifier.specs.InStates.{Subject, InState, Undefined, Reached, joined_in_state, if_leads_to, out_state, joined_edges, AreInStates, in_state}
 use Rattle.verifier.specs.Verdict.{in_state_of}
@@ -22,43 +22,43 @@ use Rattle.verifier.proofs.Pulling.{sent_is, pulled_on, pulled_allowed, joint_wi
 
 -- ---- what is there of a slot
 
-one_arrived : (a : InState) (s t : State) → a ≡ Reached s → a ≡ Reached t → s ≡ t
+one_arrived : (a : InState) (s t : AbsState) → a ≡ Reached s → a ≡ Reached t → s ≡ t
 one_arrived a s t x y = cc
 
-not_undefined : (a : InState) (s : State) → a ≡ Reached s → a ≡ Undefined → ⊥
+not_undefined : (a : InState) (s : AbsState) → a ≡ Reached s → a ≡ Undefined → ⊥
 not_undefined a s x y = cc
 
 -- what is passed isn't blocked
-pub passed_not_blocked : (p : Subject) (s : ℕ) (state : State) → IsVisited p s state → IsBlocked p s → ⊥
+pub passed_not_blocked : (p : Subject) (s : ℕ) (state : AbsState) → IsVisited p s state → IsBlocked p s → ⊥
 passed_not_blocked p s state h blocked =
     not_undefined (out_state p (insn_at p.code s) Always (in_state p s)) (transferred h.insn Always state)
     (sent_is p (insn_at p.code s) (in_state p s) h.insn Always state h.there h.arrives h.allowed) (blocked Always)
 
 -- one state is passed
-pub one_passed : (p : Subject) (s : ℕ) (a b : State) → IsVisited p s a → IsVisited p s b → a ≡ b
+pub one_passed : (p : Subject) (s : ℕ) (a b : AbsState) → IsVisited p s a → IsVisited p s b → a ≡ b
 one_passed p s a b x y = one_arrived (in_state p s) a b x.arrives y.arrives
 
 -- where a state is there, it is the one that is passed
-pub sent_there : (p : Subject) (firsts : List (Option ℕ)) (s : ℕ) (o : Option State) (state : State) → o ≡ Some state → IsProcessed p firsts s o → IsVisited p s state
+pub sent_there : (p : Subject) (firsts : List (Option ℕ)) (s : ℕ) (o : Option AbsState) (state : AbsState) → o ≡ Some state → IsProcessed p firsts s o → IsVisited p s state
 sent_there p firsts s o state e (inl (blocked, none)) = absurd (none_some o state none e)
 sent_there p firsts s o state e (inr (in_states, h, inl there)) =
-    subst (λ (t : State). IsVisited p s t) (one_some o in_states state there e) h
+    subst (λ (t : AbsState). IsVisited p s t) (one_some o in_states state there e) h
 sent_there p firsts s o state e (inr (in_states, h, inr (none, taken))) = absurd (none_some o state none e)
 
-sent_on : (p : Subject) (firsts later : List (Option ℕ)) (s : ℕ) (x y : Option State) → y ≡ x → (HasPropagatedAll p firsts s → HasPropagatedAll p later s) →
+sent_on : (p : Subject) (firsts later : List (Option ℕ)) (s : ℕ) (x y : Option AbsState) → y ≡ x → (HasPropagatedAll p firsts s → HasPropagatedAll p later s) →
     IsProcessed p firsts s x → IsProcessed p later s y
 sent_on p firsts later s x y same on (inl (blocked, none)) = inl (blocked, same ∙ none)
 sent_on p firsts later s x y same on (inr (in_states, h, inl there)) = inr (in_states, h, inl (same ∙ there))
 sent_on p firsts later s x y same on (inr (in_states, h, inr (none, taken))) = inr (in_states, h, inr (same ∙ none, on taken))
 
 -- a state that isn't needed further may go
-sent_away : (p : Subject) (firsts : List (Option ℕ)) (s : ℕ) (x y : Option State) → y ≡ None → HasPropagatedAll p firsts s →
+sent_away : (p : Subject) (firsts : List (Option ℕ)) (s : ℕ) (x y : Option AbsState) → y ≡ None → HasPropagatedAll p firsts s →
     IsProcessed p firsts s x → IsProcessed p firsts s y
 sent_away p firsts s x y gone taken (inl (blocked, none)) = inl (blocked, gone)
 sent_away p firsts s x y gone taken (inr (in_states, h, stored)) = inr (in_states, h, inr (gone, taken))
 
-pulled_same : (p : Subject) (s : ℕ) (x y : Option State) (f g : Option ℕ) → y ≡ x → g ≡ f → IsPartlyJoined p s x f → IsPartlyJoined p s y g
-pulled_same p s x y f g a b h = subst (λ (u : Option State). IsPartlyJoined p s u g) (sym a) (subst (λ (v : Option ℕ). IsPartlyJoined p s x v) (sym b) h)
+pulled_same : (p : Subject) (s : ℕ) (x y : Option AbsState) (f g : Option ℕ) → y ≡ x → g ≡ f → IsPartlyJoined p s x f → IsPartlyJoined p s y g
+pulled_same p s x y f g a b h = subst (λ (u : Option AbsState). IsPartlyJoined p s u g) (sym a) (subst (λ (v : Option ℕ). IsPartlyJoined p s x v) (sym b) h)
 
 taken_on : (p : Subject) (firsts later : List (Option ℕ)) (s m : ℕ) →
     ((k : ℕ) → k ≢ m → slice_index_or later k None ≡ slice_index_or firsts k None) →
@@ -73,7 +73,7 @@ taken_on p firsts later s m others on taken to joint = elim (cases_eq to m) [
 -- ---- steps that leave the place
 
 -- more has come to a slot
-come_on : (p : Subject) (order : List ℕ) (n m : ℕ) (old new : Links) (states later : List (Option State)) → HasPropagated p order n old states →
+come_on : (p : Subject) (order : List ℕ) (n m : ℕ) (old new : Links) (states later : List (Option AbsState)) → HasPropagated p order n old states →
     IsLinked p.code new → length later ≡ length states → (IsAmong order n m → ⊥) →
     ((s : ℕ) → s ≢ m → slice_index_or later s None ≡ slice_index_or states s None) →
     ((s : ℕ) → s ≢ m → slice_index_or new.first s None ≡ slice_index_or old.first s None) →
@@ -94,7 +94,7 @@ come_on p order n m old new states later h linked long none others firsts pulled
 }
 
 -- a state has gone that isn't needed further
-pub come_away : (p : Subject) (order : List ℕ) (n s : ℕ) (links : Links) (states later : List (Option State)) →
+pub come_away : (p : Subject) (order : List ℕ) (n s : ℕ) (links : Links) (states later : List (Option AbsState)) →
     HasPropagated p order n links states → IsAmong order n s → length later ≡ length states →
     ((k : ℕ) → k ≢ s → slice_index_or later k None ≡ slice_index_or states k None) → slice_index_or later s None ≡ None →
     HasPropagatedAll p links.first s → HasPropagated p order n links later
@@ -141,13 +141,13 @@ past_here : (code : Code) (from to : ℕ) (f : Option ℕ) → IsNextSource code
 past_here code from to None next = tt
 past_here code from to (Some q) next = let after : suc from ≤ q = next.0 in let lt : from < q = after in lt
 
-pub pulled_from : (p : Subject) (s : ℕ) (state : Option State) (o : Option ℕ) (q : ℕ) → o ≡ Some q → IsPartlyJoined p s state o →
+pub pulled_from : (p : Subject) (s : ℕ) (state : Option AbsState) (o : Option ℕ) (q : ℕ) → o ≡ Some q → IsPartlyJoined p s state o →
     IsJoint p.code q s × (in_state_of state ≡ joined_edges p (in_state p) s q)
 pulled_from p s state o q e h = subst (λ (r : Option ℕ). IsPartlyJoined p s state r) e h
 
 -- What a slot passes on has come to another, and its state has gone, unless another slot is still to take it.
-pub come_delivered : (p : Subject) (order : List ℕ) (n from to : ℕ) (old new : Links) (states later : List (Option State)) (next : Next) (i : Insn)
-    (state : State) (keep : Bool) → AreInStates p (in_state p) → 0 < to → to < length p.code → from ≢ to →
+pub come_delivered : (p : Subject) (order : List ℕ) (n from to : ℕ) (old new : Links) (states later : List (Option AbsState)) (next : Next) (i : Insn)
+    (state : AbsState) (keep : Bool) → AreInStates p (in_state p) → 0 < to → to < length p.code → from ≢ to →
     HasPropagated p order n old states → IsAmong order n from → (IsAmong order n to → ⊥) → insn_at p.code from ≡ Some i →
     slice_index_or states from None ≡ Some state → IsJoint p.code from to → AreNext p.code from next → slice_index_or old.first to None ≡ Some from →
     length later ≡ length states →
@@ -198,7 +198,7 @@ come_delivered p order n from to old new states later next i state keep solves m
     on k past = past_next p.code from to k (slice_index_or old.first to None) (slice_index_or new.first to None) first next_new past
 
     -- with the state that goes still there
-    middle : List (Option State)
+    middle : List (Option AbsState)
     middle = slice_set states to (slice_index_or later to None)
 
     middle_to : slice_index_or middle to None ≡ slice_index_or later to None
@@ -211,7 +211,7 @@ come_delivered p order n from to old new states later next i state keep solves m
     come_middle : HasPropagated p order n new middle
     come_middle =
         come_on p order n to old new states middle h linked (length-set states to (slice_index_or later to None)) none middle_other firsts
-        (subst (λ (u : Option State). IsPartlyJoined p to u (slice_index_or new.first to None)) (sym middle_to) pulled) on
+        (subst (λ (u : Option AbsState). IsPartlyJoined p to u (slice_index_or new.first to None)) (sym middle_to) pulled) on
 
     all_taken : ((s : ℕ) → IsJoint p.code from s → s ≢ to → IsPast (slice_index_or old.first s None) from) → HasPropagatedAll p new.first from
     all_taken past s j = elim (cases_eq s to) [
@@ -288,7 +288,7 @@ among_before order n s m ne = elim (cases_lt m.place n) [
 ]
 
 -- an instruction has been examined
-come_examined : (p : Subject) (order : List ℕ) (n : ℕ) (links : Links) (states later : List (Option State)) → n < length order →
+come_examined : (p : Subject) (order : List ℕ) (n : ℕ) (links : Links) (states later : List (Option AbsState)) → n < length order →
     HasPropagated p order n links states → length later ≡ length states →
     ((s : ℕ) → s ≢ slice_index order n → slice_index_or later s None ≡ slice_index_or states s None) →
     IsProcessed p links.first (slice_index order n) (slice_index_or later (slice_index order n) None) → HasPropagated p order (suc n) links later
@@ -307,14 +307,14 @@ come_examined p order n links states later lt h long others out_state = record {
 }
 
 -- it is passed
-pub come_passed : (p : Subject) (order : List ℕ) (n : ℕ) (links : Links) (states : List (Option State)) (state : State) → n < length order →
+pub come_passed : (p : Subject) (order : List ℕ) (n : ℕ) (links : Links) (states : List (Option AbsState)) (state : AbsState) → n < length order →
     HasPropagated p order n links states → IsVisited p (slice_index order n) state → slice_index_or states (slice_index order n) None ≡ Some state →
     HasPropagated p order (suc n) links states
 come_passed p order n links states state lt h transferred there =
     come_examined p order n links states states lt h refl (λ s ne. refl) (inr (state, transferred, inl there))
 
 -- what it passes on is undefined
-pub come_blocked : (p : Subject) (order : List ℕ) (n : ℕ) (links : Links) (states later : List (Option State)) → n < length order →
+pub come_blocked : (p : Subject) (order : List ℕ) (n : ℕ) (links : Links) (states later : List (Option AbsState)) → n < length order →
     HasPropagated p order n links states → length later ≡ length states →
     ((s : ℕ) → s ≢ slice_index order n → slice_index_or later s None ≡ slice_index_or states s None) →
     slice_index_or later (slice_index order n) None ≡ None → IsBlocked p (slice_index order n) → HasPropagated p order (suc n) links later

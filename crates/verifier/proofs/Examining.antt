@@ -13,7 +13,7 @@ use Rattle.flow_graph.specs.Cycles.{IsJoint}
 use Rattle.flow_graph.specs.Flow.{IsJoined, IsOrder, IsFlow}
 use Rattle.flow_graph.proofs.OrderLemmas.{joint_begins}
 use Rattle.instruction_rules.specs.declared.rule.Rule.{Rule}
-use Rattle.instruction_rules.specs.declared.state.State.{State}
+use Rattle.instruction_rules.specs.declared.state.AbsState.{AbsState}
 use Rattle.verifier.specs.declared.states.Fault.{Fault}
 use Rattle.instruction_rules.specs.States.{fault, transferred, entry_state}
 use Rattle.verifier.specs.InStates.{Subject, InState, Unreached, Undefined, Reached, out_state, unless, edge_state, AreInStates, in_state, state_of, in_states}
@@ -34,10 +34,10 @@ below_nothing Unreached h = refl
 below_nothing Undefined h = absurd h
 below_nothing (Reached state) h = absurd h
 
-comes_not : (state : State) → Reached state ≡ Unreached → ⊥
+comes_not : (state : AbsState) → Reached state ≡ Unreached → ⊥
 comes_not state e = cc
 
-unless_something : (o : Option Rule) (state : State) → unless o state ≡ Unreached → ⊥
+unless_something : (o : Option Rule) (state : AbsState) → unless o state ≡ Unreached → ⊥
 unless_something None state e = cc
 unless_something (Some rule) state e = cc
 
@@ -77,7 +77,7 @@ first_none : (code : Code) (order : List ℕ) (o : Option ℕ) → IsFlow (recor
 first_none code order None f next = refl
 first_none code order (Some q) f next = absurd (no_edge_back code order q next.1.0 f next.1.1)
 
-pub come_start : (p : Subject) (order : List ℕ) (links : Links) (states : List (Option State)) → IsFlow (record { code = p.code; order = order }) →
+pub come_start : (p : Subject) (order : List ℕ) (links : Links) (states : List (Option AbsState)) → IsFlow (record { code = p.code; order = order }) →
     AreInStates p (in_state p) → AreLinked p.code links 0 → length states ≡ length p.code → slice_index_or states 0 None ≡ Some (entry_state p.need) →
     ((s : ℕ) → 0 < s → s < length p.code → slice_index_or states s None ≡ None) → HasPropagated p order 0 links states
 come_start p order links states f solves linked long first others = record {
@@ -106,7 +106,7 @@ past_itself (Some r) q e past =
     let same : r ≡ q = cc in
     let lt : q < r = past in omega (arith, same, lt)
 
-source_blocked : (p : Subject) (firsts : List (Option ℕ)) (q s : ℕ) (o : Option State) → IsJoint p.code q s → slice_index_or firsts s None ≡ Some q →
+source_blocked : (p : Subject) (firsts : List (Option ℕ)) (q s : ℕ) (o : Option AbsState) → IsJoint p.code q s → slice_index_or firsts s None ≡ Some q →
     o ≡ None → IsProcessed p firsts q o → IsBlocked p q
 source_blocked p firsts q s o joint first gone (inl (blocked, none)) = blocked
 source_blocked p firsts q s o joint first gone (inr (state, h, inl there)) = absurd (none_some o state gone there)
@@ -114,7 +114,7 @@ source_blocked p firsts q s o joint first gone (inr (state, h, inr (none, taken)
     absurd (past_itself (slice_index_or firsts s None) q first (taken s joint))
 
 -- the slot that comes next leads there from a place ahead
-pub comes_next : (p : Subject) (order : List ℕ) (n s q : ℕ) (links : Links) (states : List (Option State)) → IsFlow (record { code = p.code; order = order }) →
+pub comes_next : (p : Subject) (order : List ℕ) (n s q : ℕ) (links : Links) (states : List (Option AbsState)) → IsFlow (record { code = p.code; order = order }) →
     n < length order → s ≡ slice_index order n → HasPropagated p order n links states → slice_index_or links.first s None ≡ Some q →
     IsJoint p.code q s × IsAmong order n q × (IsAmong order n s → ⊥)
 comes_next p order n s q links states f lt at h first =
@@ -124,7 +124,7 @@ comes_next p order n s q links states f lt at h first =
     (from.0, joint_among p order n q f.order lt (subst (λ (k : ℕ). IsJoint p.code q k) at from.0), away)
 
 -- what comes next hasn't come, so it is blocked
-pub stays_out : (p : Subject) (order : List ℕ) (n s q : ℕ) (links : Links) (states : List (Option State)) → IsFlow (record { code = p.code; order = order }) →
+pub stays_out : (p : Subject) (order : List ℕ) (n s q : ℕ) (links : Links) (states : List (Option AbsState)) → IsFlow (record { code = p.code; order = order }) →
     AreInStates p (in_state p) → s ≡ slice_index order n → n < length order → HasPropagated p order n links states → slice_index_or links.first s None ≡ Some q →
     slice_index_or states q None ≡ None →
     (in_state p s ≡ Undefined) × ((k : ℕ) × IsAmong order n k × IsBlocked p k)
@@ -136,21 +136,21 @@ stays_out p order n s q links states f solves at lt h first gone =
       (q, next.1, blocked),
     )
 
-all_pulled : (p : Subject) (s : ℕ) (state : Option State) (o : Option ℕ) → o ≡ None → IsPartlyJoined p s state o → in_state_of state ≡ in_state p s
+all_pulled : (p : Subject) (s : ℕ) (state : Option AbsState) (o : Option ℕ) → o ≡ None → IsPartlyJoined p s state o → in_state_of state ≡ in_state p s
 all_pulled p s state o e h = subst (λ (r : Option ℕ). IsPartlyJoined p s state r) e h
 
 -- all has come
-pub all_come : (p : Subject) (order : List ℕ) (n s : ℕ) (links : Links) (states : List (Option State)) → IsOrder p.code order → s ≡ slice_index order n →
+pub all_come : (p : Subject) (order : List ℕ) (n s : ℕ) (links : Links) (states : List (Option AbsState)) → IsOrder p.code order → s ≡ slice_index order n →
     n < length order → HasPropagated p order n links states → slice_index_or links.first s None ≡ None → in_state_of (slice_index_or states s None) ≡ in_state p s
 all_come p order n s links states f at lt h none =
     let within = subst (λ (k : ℕ). k < length p.code) (sym at) (begins_within p.code (slice_index order n) (f.begins n lt)) in
     let away : IsAmong order n s → ⊥ = λ m. not_among p.code order n f lt (subst (λ (k : ℕ). IsAmong order n k) at m) in
     all_pulled p s (slice_index_or states s None) (slice_index_or links.first s None) none (h.pulled s within away)
 
-pub comes_there : (a : InState) (o : Option State) (state : State) → o ≡ Some state → in_state_of o ≡ a → a ≡ Reached state
+pub comes_there : (a : InState) (o : Option AbsState) (state : AbsState) → o ≡ Some state → in_state_of o ≡ a → a ≡ Reached state
 comes_there a o state e is = sym is ∙ ap in_state_of e
 
-pub nothing_there : (a : InState) (o : Option State) → o ≡ None → in_state_of o ≡ a → a ≡ Unreached
+pub nothing_there : (a : InState) (o : Option AbsState) → o ≡ None → in_state_of o ≡ a → a ≡ Unreached
 nothing_there a o e is = sym is ∙ ap in_state_of e
 
 sent_undefined : (p : Subject) (o : Option Insn) (fact : Fact) → out_state p o fact Undefined ≡ Undefined
@@ -167,33 +167,33 @@ blocked_at_fault p s rule h fact =
     ∙ ap (λ (o : Option Rule). unless o (transferred h.insn fact h.state)) h.applies)
 
 -- what arrives isn't two things
-pub never : (a : InState) (state : State) → a ≡ Undefined → a ≡ Reached state → ⊥
+pub never : (a : InState) (state : AbsState) → a ≡ Undefined → a ≡ Reached state → ⊥
 never a state p q = cc
 
-nothing_not : (a : InState) (state : State) → a ≡ Unreached → a ≡ Reached state → ⊥
+nothing_not : (a : InState) (state : AbsState) → a ≡ Unreached → a ≡ Reached state → ⊥
 nothing_not a state p q = cc
 
-one_arrived : (a : InState) (s t : State) → a ≡ Reached s → a ≡ Reached t → s ≡ t
+one_arrived : (a : InState) (s t : AbsState) → a ≡ Reached s → a ≡ Reached t → s ≡ t
 one_arrived a s t x y = cc
 
 -- an instruction that is passed is allowed
-allowed_passed : (p : Subject) (s : ℕ) (state : State) → IsVisited p s state → IsAllowedAt p s
+allowed_passed : (p : Subject) (s : ℕ) (state : AbsState) → IsVisited p s state → IsAllowedAt p s
 allowed_passed p s state h i other there arrives =
     subst (λ (j : Insn). fault p.need p.helpers j other ≡ None) (one_some (insn_at p.code s) h.insn i h.there there)
-    (subst (λ (t : State). fault p.need p.helpers h.insn t ≡ None) (one_arrived (in_state p s) state other h.arrives arrives) h.allowed)
+    (subst (λ (t : AbsState). fault p.need p.helpers h.insn t ≡ None) (one_arrived (in_state p s) state other h.arrives arrives) h.allowed)
 
 allowed_found : (p : Subject) (order : List ℕ) (n s : ℕ) → IsVisitResult p order n s None → IsAllowedAt p s
 allowed_found p order n s (inl (state, h)) = allowed_passed p s state h
 allowed_found p order n s (inr (undefined, h)) = λ i state there arrives. absurd (never (in_state p s) state undefined arrives)
 
-passed_found : (p : Subject) (order : List ℕ) (n s : ℕ) → ((k : ℕ) → IsAmong order n k → (state : State) × IsVisited p k state) →
-    IsVisitResult p order n s None → (state : State) × IsVisited p s state
+passed_found : (p : Subject) (order : List ℕ) (n s : ℕ) → ((k : ℕ) → IsAmong order n k → (state : AbsState) × IsVisited p k state) →
+    IsVisitResult p order n s None → (state : AbsState) × IsVisited p s state
 passed_found p order n s told (inl h) = h
 passed_found p order n s told (inr (undefined, (k, among, blocked))) =
     let h = told k among in absurd (passed_not_blocked p k h.0 h.1 blocked)
 
 -- the slot's state goes, where what it passes on is undefined
-pub come_cleared : (p : Subject) (order : List ℕ) (n s : ℕ) (links : Links) (states : List (Option State)) → s ≡ slice_index order n → n < length order →
+pub come_cleared : (p : Subject) (order : List ℕ) (n s : ℕ) (links : Links) (states : List (Option AbsState)) → s ≡ slice_index order n → n < length order →
     s < length states → HasPropagated p order n links states → IsBlocked p s → HasPropagated p order (suc n) links (slice_set states s None)
 come_cleared p order n s links states at lt room h blocked =
     come_blocked p order n links states (slice_set states s None) lt h (length-set states s None)
@@ -207,7 +207,7 @@ come_cleared p order n s links states at lt room h blocked =
 pub first_same : (p : Subject) (order : List ℕ) (n : ℕ) (first : Option Fault) → IsFirst p order n first → IsVisitResult p order n (slice_index order n) None →
     IsFirst p order (suc n) first
 first_same p order n None told found = λ s m. elim (cases_eq s (slice_index order n)) [
-  | inl e ↦ subst (λ (k : ℕ). (state : State) × IsVisited p k state) (sym e) (passed_found p order n (slice_index order n) told found)
+  | inl e ↦ subst (λ (k : ℕ). (state : AbsState) × IsVisited p k state) (sym e) (passed_found p order n (slice_index order n) told found)
   | inr ne ↦ told s (among_before order n s m ne)
 ]
 first_same p order n (Some f) told found = (

@@ -20,7 +20,7 @@ use Rattle.flow_graph.specs.Program.{code_of}
 use Rattle.flow_graph.specs.Refusals.{Refuses as RefusesFlow}
 use Rattle.flow_graph.proofs.OneRefusal.{one_refusal as one_flow}
 use Rattle.helpers.specs.Table.{Table}
-use Rattle.instruction_rules.specs.declared.state.State.{State}
+use Rattle.instruction_rules.specs.declared.state.AbsState.{AbsState}
 use Rattle.verifier.specs.declared.refusals.Refusal.{Refusal}
 use Rattle.verifier.specs.declared.refusals.Refusal.TheVariants.{NeedTooLarge, Codec, Flow, UnsetRead, OutOfStack, OutOfPart, BadKind, PointerRange, FramePointer, NoHelper, NoMemory}
 use Rattle.instruction_rules.specs.declared.rule.Rule.{Rule}
@@ -95,7 +95,7 @@ not_flow code flow.NoMemory h r = r
 
 -- ---- the first fault of the states
 
-one_arrival : (a : InState) (s t : State) → a ≡ Reached s → a ≡ Reached t → s ≡ t
+one_arrival : (a : InState) (s t : AbsState) → a ≡ Reached s → a ≡ Reached t → s ≡ t
 one_arrival a s t x y = cc
 
 one_rule : (o : Option Rule) (m n : Rule) → o ≡ Some m → o ≡ Some n → m ≡ n
@@ -112,7 +112,7 @@ same_rule p slot m n x y =
     let insn : x.insn ≡ y.insn = one_some (insn_at p.code slot) x.insn y.insn x.there y.there in
     let state : x.state ≡ y.state = one_arrival (in_state p slot) x.state y.state x.arrives y.arrives in
     one_rule (fault p.need p.helpers y.insn y.state) m n
-    (subst (λ (s : State). fault p.need p.helpers y.insn s ≡ Some m) state (subst (λ (i : Insn). fault p.need p.helpers i x.state ≡ Some m) insn x.applies)) y.applies
+    (subst (λ (s : AbsState). fault p.need p.helpers y.insn s ≡ Some m) state (subst (λ (i : Insn). fault p.need p.helpers i x.state ≡ Some m) insn x.applies)) y.applies
 
 one_first : (p : Subject) (s : ℕ) (m : Rule) (t : ℕ) (n : Rule) → IsFirstFaulty p s m → IsFirstFaulty p t n → (s ≡ t) × (m ≡ n)
 one_first p s m t n x y = elim (cases_lt s t) [

@@ -8,7 +8,7 @@ use Rattle.machine_model.proofs.Codes.{begins_within}
 use Rattle.flow_graph.specs.Cycles.{IsJoint}
 use Rattle.flow_graph.proofs.OrderLemmas.{joint_begins}
 use Rattle.instruction_rules.specs.declared.rule.Rule.{Rule}
-use Rattle.instruction_rules.specs.declared.state.State.{State}
+use Rattle.instruction_rules.specs.declared.state.AbsState.{AbsState}
 use Rattle.instruction_rules.specs.States.{transferred, fault}
 use Rattle.verifier.specs.InStates.{Subject, InState, Unreached, Undefined, Reached, joined_in_state, unless, out_state, if_leads_to, edge_state, joined_edges, AreInStates, in_state}
 use Rattle.verifier.specs.Verdict.{in_state_of}
@@ -18,14 +18,14 @@ use Rattle.verifier.proofs.Arrivals.{joined_over_stops}
 
 -- ---- what passes an edge
 
-pub sent_is : (p : Subject) (o : Option Insn) (a : InState) (i : Insn) (fact : Fact) (state : State) → o ≡ Some i → a ≡ Reached state →
+pub sent_is : (p : Subject) (o : Option Insn) (a : InState) (i : Insn) (fact : Fact) (state : AbsState) → o ≡ Some i → a ≡ Reached state →
     fault p.need p.helpers i state ≡ None → out_state p o fact a ≡ Reached (transferred i fact state)
 sent_is p o a i fact state x y z =
     ap (λ (q : Option Insn). out_state p q fact a) x
     ∙ (ap (λ (b : InState). out_state p (Some i) fact b) y
     ∙ ap (λ (n : Option Rule). unless n (transferred i fact state)) z)
 
-pub over_is : (p : Subject) (a : ℕ → InState) (s k : ℕ) (i : Insn) (fact : Fact) (state : State) → insn_at p.code k ≡ Some i →
+pub over_is : (p : Subject) (a : ℕ → InState) (s k : ℕ) (i : Insn) (fact : Fact) (state : AbsState) → insn_at p.code k ≡ Some i →
     a k ≡ Reached state → fault p.need p.helpers i state ≡ None →
     if_leads_to (leads_at p.code k fact) s (Reached (transferred i fact state)) ≡ edge_state p a s k fact
 over_is p a s k i fact state x y z =
@@ -88,7 +88,7 @@ arrives_joined p zero h more lt = absurd (omega arith)
 arrives_joined p (suc s) h more lt = h (suc s) lt
 
 -- up to the next slot that leads there nothing more comes
-pub pulled_on : (p : Subject) (s n : ℕ) (state : Option State) (o : Option ℕ) → AreInStates p (in_state p) → 0 < s → s < length p.code →
+pub pulled_on : (p : Subject) (s n : ℕ) (state : Option AbsState) (o : Option ℕ) → AreInStates p (in_state p) → 0 < s → s < length p.code →
     IsNextSource p.code s n o → n ≤ length p.code → in_state_of state ≡ joined_edges p (in_state p) s n → IsPartlyJoined p s state o
 pulled_on p s n state None solves more within none le e =
     e ∙ (sym (joined_over_stops p (in_state p) s n (length p.code - n) (length p.code) (omega arith)
@@ -104,7 +104,7 @@ through : (v : InState) {x y z p q r : InState} → x ≡ p → y ≡ q → z �
 through v f g h = cc
 
 -- an instruction that is allowed has passed on what it leaves
-pub pulled_allowed : (p : Subject) (s k : ℕ) (i : Insn) (in_states : State) (old new : Option State) → insn_at p.code k ≡ Some i →
+pub pulled_allowed : (p : Subject) (s k : ℕ) (i : Insn) (in_states : AbsState) (old new : Option AbsState) → insn_at p.code k ≡ Some i →
     in_state p k ≡ Reached in_states → fault p.need p.helpers i in_states ≡ None → in_state_of old ≡ joined_edges p (in_state p) s k →
     in_state_of new ≡ joined_in_state (joined_in_state (joined_in_state (in_state_of old) (if_leads_to (leads_at p.code k Always) s (Reached (transferred i Always in_states))))
     (if_leads_to (leads_at p.code k NotTaken) s (Reached (transferred i NotTaken in_states))))

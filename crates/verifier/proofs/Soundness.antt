@@ -11,15 +11,15 @@ use Rattle.value_ranges.specs.declared.abs.Abs.TheVariants.{Unset}
 use Rattle.value_ranges.specs.Covers.{Covers}
 use Rattle.value_ranges.specs.Joins.{joined}
 use Rattle.value_ranges.proofs.MergeLemmas.{joined_covers}
-use Rattle.instruction_rules.specs.declared.state.State.{State}
-use Rattle.instruction_rules.specs.Covers.{abs_at, IsWithin}
+use Rattle.instruction_rules.specs.declared.state.AbsState.{AbsState}
+use Rattle.instruction_rules.specs.Covers.{abs_at, IsSubsumed}
 use Rattle.instruction_rules.specs.States.{entry_state, transferred, fault, of_registers, joined_state}
 use Rattle.verifier.specs.InStates.{Subject, InState, Unreached, Undefined, Reached, joined_in_state, edge_state, joined_edges, in_state}
 use Rattle.verifier.specs.Verdict.{IsTable, in_state_of}
 use Rattle.verifier.proofs.Arrivals.{arrive_is, no_edge_back}
 use Rattle.verifier.proofs.Pulling.{over_is, landed_at}
 
-abbrev pub state_in : List (Option State) → ℕ → Option State
+abbrev pub state_in : List (Option AbsState) → ℕ → Option AbsState
 state_in states slot = slice_index_or states slot None
 
 -- a list of registers has what it was made of, and nothing behind them
@@ -41,13 +41,13 @@ covers_there : (o a : Abs) (v : Value) → (o ≡ a) ⊎ (o ≡ Unset) → Cover
 covers_there o a v (inl e) h = subst (λ (x : Abs). Covers x v) (sym e) h
 covers_there o a v (inr e) h = subst (λ (x : Abs). Covers x v) (sym e) tt
 
-within_left : (s t : State) → IsWithin s (joined_state s t)
+within_left : (s t : AbsState) → IsSubsumed s (joined_state s t)
 within_left s t r v h =
     covers_there (abs_at (joined_state s t) r) (joined (abs_at s r) (abs_at t r)) v
     (of_register (λ r. joined (abs_at s r) (abs_at t r)) r)
     (joined_covers (abs_at s r) (abs_at t r) (joined (abs_at s r) (abs_at t r)) refl v (inl h))
 
-within_right : (s t : State) → IsWithin t (joined_state s t)
+within_right : (s t : AbsState) → IsSubsumed t (joined_state s t)
 within_right s t r v h =
     covers_there (abs_at (joined_state s t) r) (joined (abs_at s r) (abs_at t r)) v
     (of_register (λ r. joined (abs_at s r) (abs_at t r)) r)
@@ -57,7 +57,7 @@ within_right s t r v h =
 abbrev pub Below : InState → InState → Type 0
 Below Unreached b = Unit {0}
 Below a Undefined = Unit {0}
-Below (Reached s) (Reached t) = IsWithin s t
+Below (Reached s) (Reached t) = IsSubsumed s t
 Below _ _ = ⊥
 
 below_self : (a : InState) → Below a a
@@ -126,14 +126,14 @@ over_below subject a s p (suc n) fact lt = elim (cases_lt p n) [
 ]
 
 -- a state that is below an arrival of the table
-found : (inner : State) (o : Option State) → Below (Reached inner) (in_state_of o) → (outer : State) × (o ≡ Some outer) × IsWithin inner outer
+found : (inner : AbsState) (o : Option AbsState) → Below (Reached inner) (in_state_of o) → (outer : AbsState) × (o ≡ Some outer) × IsSubsumed inner outer
 found inner None h = absurd h
 found inner (Some outer) h = (outer, refl, h)
 
-pub edge_covered : (subject : Subject) (order : List ℕ) (states : List (Option State)) (p s : ℕ) (i : Insn) (state : State) (fact : Fact) →
+pub edge_covered : (subject : Subject) (order : List ℕ) (states : List (Option AbsState)) (p s : ℕ) (i : Insn) (state : AbsState) (fact : Fact) →
     IsFlow (record { code = subject.code; order = order }) → IsTable subject states → p < length subject.code → insn_at subject.code p ≡ Some i →
     in_state subject p ≡ Reached state → fault subject.need subject.helpers i state ≡ None →
-    IsEdge subject.code p fact s → (outer : State) × (state_in states s ≡ Some outer) × IsWithin (transferred i fact state) outer
+    IsEdge subject.code p fact s → (outer : AbsState) × (state_in states s ≡ Some outer) × IsSubsumed (transferred i fact state) outer
 edge_covered subject order states p zero i state fact f t lt x y z edge = absurd (no_edge_back subject.code order p fact f edge)
 edge_covered subject order states p (suc s) i state fact f t lt x y z edge =
     let l = f.joined.lands p fact (suc s) edge in
@@ -148,15 +148,15 @@ edge_covered subject order states p (suc s) i state fact f t lt x y z edge =
     (over_below subject (in_state subject) (suc s) p (length subject.code) fact lt)))
 
 -- what the table says of the entry and of each edge
-pub record IsSoundTable (subject : Subject) (states : List (Option State)) : Type 0 where
-  pub entry : (outer : State) × (state_in states 0 ≡ Some outer) × IsWithin (entry_state subject.need) outer
-  pub allowed : (slot : ℕ) (i : Insn) (state : State) → insn_at subject.code slot ≡ Some i → state_in states slot ≡ Some state →
+pub record IsSoundTable (subject : Subject) (states : List (Option AbsState)) : Type 0 where
+  pub entry : (outer : AbsState) × (state_in states 0 ≡ Some outer) × IsSubsumed (entry_state subject.need) outer
+  pub allowed : (slot : ℕ) (i : Insn) (state : AbsState) → insn_at subject.code slot ≡ Some i → state_in states slot ≡ Some state →
       fault subject.need subject.helpers i state ≡ None
-  pub covered : (slot : ℕ) (i : Insn) (state : State) → insn_at subject.code slot ≡ Some i → state_in states slot ≡ Some state →
+  pub covered : (slot : ℕ) (i : Insn) (state : AbsState) → insn_at subject.code slot ≡ Some i → state_in states slot ≡ Some state →
       (fact : Fact) (next : ℕ) → IsEdge subject.code slot fact next →
-      (outer : State) × (state_in states next ≡ Some outer) × IsWithin (transferred i fact state) outer
+      (outer : AbsState) × (state_in states next ≡ Some outer) × IsSubsumed (transferred i fact state) outer
 
-pub sound_of : (subject : Subject) (order : List ℕ) (states : List (Option State)) → IsFlow (record { code = subject.code; order = order }) →
+pub sound_of : (subject : Subject) (order : List ℕ) (states : List (Option AbsState)) → IsFlow (record { code = subject.code; order = order }) →
     IsTable subject states → IsSoundTable subject states
 sound_of subject order states f t = record {
   entry = (
@@ -170,12 +170,12 @@ sound_of subject order states f t = record {
       (t.allowed p i state x (arrives p i state x y)) edge;
 }
   where
-    first_of_all : (o : Option State) → in_state_of o ≡ Reached (entry_state subject.need) → o ≡ Some (entry_state subject.need)
+    first_of_all : (o : Option AbsState) → in_state_of o ≡ Reached (entry_state subject.need) → o ≡ Some (entry_state subject.need)
     first_of_all None e = absurd (cc)
     first_of_all (Some state) e = cc
 
     inside : (p : ℕ) (i : Insn) → insn_at subject.code p ≡ Some i → p < length subject.code
     inside p i x = begins_within subject.code p (i, x)
 
-    arrives : (p : ℕ) (i : Insn) (state : State) → insn_at subject.code p ≡ Some i → state_in states p ≡ Some state → in_state subject p ≡ Reached state
+    arrives : (p : ℕ) (i : Insn) (state : AbsState) → insn_at subject.code p ≡ Some i → state_in states p ≡ Some state → in_state subject p ≡ Reached state
     arrives p i state x y = sym (t.each p (inside p i x)) ∙ ap in_state_of y

@@ -8,8 +8,8 @@ use Rattle.machine_model.specs.Paths.{AreCosts}
 use Rattle.machine_model.specs.Machine.{Program}
 use Rattle.flow_graph.specs.Faults.{fault_at}
 use Rattle.helpers.specs.Table.{Table, IsHelperTable, arity_in}
-use Rattle.instruction_rules.specs.declared.state.State.{State}
-use Rattle.instruction_rules.specs.Covers.{IsWithin}
+use Rattle.instruction_rules.specs.declared.state.AbsState.{AbsState}
+use Rattle.instruction_rules.specs.Covers.{IsSubsumed}
 use Rattle.instruction_rules.specs.States.{entry_state, transferred, fault}
 use Rattle.verifier.specs.InStates.{Subject, in_states}
 
@@ -19,7 +19,7 @@ pub record Checked : Type 0 where
   pub need : ℕ
   pub helpers : Table
   pub code : Code
-  pub states : List (Option State)
+  pub states : List (Option AbsState)
   pub costs : List ℕ
 
 abbrev pub program_of : Checked → Program
@@ -30,7 +30,7 @@ program_of p = record {
   registered = arity_in p.helpers;
 }
 
-abbrev pub state_at : Checked → ℕ → Option State
+abbrev pub state_at : Checked → ℕ → Option AbsState
 state_at p slot = slice_index_or p.states slot None
 
 abbrev pub cost_at : Checked → ℕ → ℕ
@@ -38,10 +38,10 @@ cost_at p slot = slice_index p.costs slot
 
 -- The instruction is allowed where the registers are so, and what it leaves is covered at the end
 -- of each edge, which leads to an instruction.
-pub record IsSoundAt (p : Checked) (slot : ℕ) (i : Insn) (state : State) : Type 0 where
+pub record IsSoundAt (p : Checked) (slot : ℕ) (i : Insn) (state : AbsState) : Type 0 where
   pub allowed : fault p.need p.helpers i state ≡ None
   pub covered : (fact : Fact) (next : ℕ) → IsEdge p.code slot fact next →
-      (outer : State) × (state_at p next ≡ Some outer) × IsWithin (transferred i fact state) outer
+      (outer : AbsState) × (state_at p next ≡ Some outer) × IsSubsumed (transferred i fact state) outer
   pub lands : (fact : Fact) (next : ℕ) → IsEdge p.code slot fact next → Begins p.code next
   pub faultless : fault_at p.code slot ≡ None
 
@@ -50,8 +50,8 @@ pub record IsVerified (p : Checked) : Type 0 where
   pub need : p.need ≤ max_part
   pub starts : Begins p.code 0
   pub few : length p.code ≤ max_slots
-  pub entry : (outer : State) × (state_at p 0 ≡ Some outer) × IsWithin (entry_state p.need) outer
-  pub each : (slot : ℕ) (i : Insn) (state : State) → insn_at p.code slot ≡ Some i
+  pub entry : (outer : AbsState) × (state_at p 0 ≡ Some outer) × IsSubsumed (entry_state p.need) outer
+  pub each : (slot : ℕ) (i : Insn) (state : AbsState) → insn_at p.code slot ≡ Some i
       → state_at p slot ≡ Some state → IsSoundAt p slot i state
   pub costs : AreCosts p.code p.costs
   pub known : IsHelperTable p.helpers

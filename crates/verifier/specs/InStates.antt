@@ -4,7 +4,7 @@ use Rattle.std.specs.List.{range_with_len}
 use Rattle.insn_codec.specs.declared.insn.Insn.{Insn}
 use Rattle.machine_model.specs.Edges.{Code, Fact, Always, NotTaken, Taken, insn_at, leads_at}
 use Rattle.helpers.specs.Table.{Table}
-use Rattle.instruction_rules.specs.declared.state.State.{State}
+use Rattle.instruction_rules.specs.declared.state.AbsState.{AbsState}
 use Rattle.instruction_rules.specs.declared.rule.Rule.{Rule}
 use Rattle.instruction_rules.specs.States.{entry_state, transferred, fault, joined_state}
 
@@ -19,7 +19,7 @@ pub record Subject : Type 0 where
 pub data InState : Type 0 where
   Unreached : InState
   Undefined : InState
-  Reached : (state : State) → InState
+  Reached : (state : AbsState) → InState
 
 -- the join of what comes in two ways
 abbrev pub joined_in_state : InState → InState → InState
@@ -28,7 +28,7 @@ joined_in_state a Unreached = a
 joined_in_state (Reached s) (Reached t) = Reached (joined_state s t)
 joined_in_state a b = Undefined
 
-abbrev pub unless : Option Rule → State → InState
+abbrev pub unless : Option Rule → AbsState → InState
 unless None state = Reached state
 unless (Some rule) state = Undefined
 
@@ -74,11 +74,11 @@ in_state_within p (suc n) s = in_state_by p (in_state_within p n) s (length p.co
 unfoldable pub in_state : Subject → ℕ → InState
 in_state p s = in_state_within p (length p.code) s
 
-abbrev pub state_of : InState → Option State
+abbrev pub state_of : InState → Option AbsState
 state_of Unreached = None
 state_of Undefined = None
 state_of (Reached state) = Some state
 
 -- the state that arrives at each slot
-unfoldable pub in_states : Subject → List (Option State)
+unfoldable pub in_states : Subject → List (Option AbsState)
 in_states p = map (λ s. state_of (in_state p s)) (range_with_len 0 (length p.code))

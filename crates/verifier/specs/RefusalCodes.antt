@@ -12,32 +12,32 @@ use Rattle.instruction_rules.specs.Rules.{number_of_rule}
 use Rattle.verifier.specs.declared.refusals.Refusal.{Refusal}
 use Rattle.verifier.specs.declared.refusals.Refusal.TheVariants.{NeedTooLarge, Codec, Flow, UnsetRead, OutOfStack, OutOfPart, BadKind, PointerRange, FramePointer, NoHelper, NoMemory}
 
-abbrev pub number_of : Refusal → ℕ
-number_of NeedTooLarge = 38
-number_of (Codec fault) = number_of_codec fault
-number_of (Flow fault) = number_of_flow fault
-number_of (UnsetRead slot) = number_of_rule rule.UnsetRead
-number_of (OutOfStack slot) = number_of_rule rule.OutOfStack
-number_of (OutOfPart slot) = number_of_rule rule.OutOfPart
-number_of (BadKind slot) = number_of_rule rule.BadKind
-number_of (PointerRange slot) = number_of_rule rule.PointerRange
-number_of (FramePointer slot) = number_of_rule rule.FramePointer
-number_of (NoHelper slot) = number_of_rule rule.NoHelper
-number_of NoMemory = 99
+abbrev pub code_of_refusal : Refusal → ℕ
+code_of_refusal NeedTooLarge = 38
+code_of_refusal (Codec fault) = number_of_codec fault
+code_of_refusal (Flow fault) = number_of_flow fault
+code_of_refusal (UnsetRead slot) = number_of_rule rule.UnsetRead
+code_of_refusal (OutOfStack slot) = number_of_rule rule.OutOfStack
+code_of_refusal (OutOfPart slot) = number_of_rule rule.OutOfPart
+code_of_refusal (BadKind slot) = number_of_rule rule.BadKind
+code_of_refusal (PointerRange slot) = number_of_rule rule.PointerRange
+code_of_refusal (FramePointer slot) = number_of_rule rule.FramePointer
+code_of_refusal (NoHelper slot) = number_of_rule rule.NoHelper
+code_of_refusal NoMemory = 99
 
 -- the slot that a refusal tells
-abbrev pub slot_of : Refusal → Option ℕ
-slot_of NeedTooLarge = None
-slot_of (Codec fault) = codec_slot fault
-slot_of (Flow fault) = flow_slot fault
-slot_of (UnsetRead slot) = Some slot
-slot_of (OutOfStack slot) = Some slot
-slot_of (OutOfPart slot) = Some slot
-slot_of (BadKind slot) = Some slot
-slot_of (PointerRange slot) = Some slot
-slot_of (FramePointer slot) = Some slot
-slot_of (NoHelper slot) = Some slot
-slot_of NoMemory = None
+abbrev pub slot_of_refusal : Refusal → Option ℕ
+slot_of_refusal NeedTooLarge = None
+slot_of_refusal (Codec fault) = codec_slot fault
+slot_of_refusal (Flow fault) = flow_slot fault
+slot_of_refusal (UnsetRead slot) = Some slot
+slot_of_refusal (OutOfStack slot) = Some slot
+slot_of_refusal (OutOfPart slot) = Some slot
+slot_of_refusal (BadKind slot) = Some slot
+slot_of_refusal (PointerRange slot) = Some slot
+slot_of_refusal (FramePointer slot) = Some slot
+slot_of_refusal (NoHelper slot) = Some slot
+slot_of_refusal NoMemory = None
 
 -- the refusal of a program whose bytes the decoder refuses
 abbrev pub from_codec : CodecFault → Refusal

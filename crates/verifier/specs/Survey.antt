@@ -4,7 +4,7 @@ use Rattle.insn_codec.specs.declared.insn.Insn.{Insn}
 use Rattle.machine_model.specs.Edges.{Begins, insn_at}
 use Rattle.predecoding.specs.declared.region.Region.{Region}
 use Rattle.predecoding.specs.declared.region.Region.TheVariants.{Stack}
-use Rattle.instruction_rules.specs.declared.state.State.{State}
+use Rattle.instruction_rules.specs.declared.state.AbsState.{AbsState}
 use Rattle.verifier.specs.declared.states.Found.{Found}
 use Rattle.verifier.specs.declared.states.Survey.{Survey}
 use Rattle.verifier.specs.InStates.{Subject, Reached, in_state, in_states}
@@ -21,7 +21,7 @@ subject_of survey = record {
 
 -- the region is that of the access at the slot, if there is one
 abbrev pub IsRegionThere : Subject → ℕ → Region → Type 0
-IsRegionThere p slot region = (i : Insn) (state : State) (there : Region)
+IsRegionThere p slot region = (i : Insn) (state : AbsState) (there : Region)
     → insn_at p.code slot ≡ Some i → in_state p slot ≡ Reached state →
     accessed i state ≡ Some there → region ≡ there
 

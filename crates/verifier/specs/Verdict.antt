@@ -2,7 +2,7 @@
 use Rattle.std.specs.Prelude.{◌≡◌, ℕ, ◌<◌, List, length, slice_index_or, Option, Some, None}
 use Rattle.insn_codec.specs.declared.insn.Insn.{Insn}
 use Rattle.machine_model.specs.Edges.{insn_at}
-use Rattle.instruction_rules.specs.declared.state.State.{State}
+use Rattle.instruction_rules.specs.declared.state.AbsState.{AbsState}
 use Rattle.instruction_rules.specs.declared.rule.Rule.{Rule}
 use Rattle.instruction_rules.specs.declared.rule.Rule.TheVariants as rule
 use Rattle.instruction_rules.specs.States.{fault}
@@ -12,7 +12,7 @@ use Rattle.verifier.specs.InStates.{Subject, InState, Unreached, Reached, in_sta
 
 -- where a state arrives at the slot, its instruction is allowed
 abbrev pub IsAllowedAt : Subject → ℕ → Type 0
-IsAllowedAt p slot = (i : Insn) (state : State) → insn_at p.code slot ≡ Some i
+IsAllowedAt p slot = (i : Insn) (state : AbsState) → insn_at p.code slot ≡ Some i
     → in_state p slot ≡ Reached state →
     fault p.need p.helpers i state ≡ None
 
@@ -20,7 +20,7 @@ IsAllowedAt p slot = (i : Insn) (state : State) → insn_at p.code slot ≡ Some
 -- breaks there
 pub record IsFaulty (p : Subject) (slot : ℕ) (rule : Rule) : Type 0 where
   pub insn : Insn
-  pub state : State
+  pub state : AbsState
   pub there : insn_at p.code slot ≡ Some insn
   pub arrives : in_state p slot ≡ Reached state
   pub applies : fault p.need p.helpers insn state ≡ Some rule
@@ -30,12 +30,12 @@ pub record IsFirstFaulty (p : Subject) (slot : ℕ) (rule : Rule) : Type 0 where
   pub faulty : IsFaulty p slot rule
   pub least : (s : ℕ) → s < slot → IsAllowedAt p s
 
-abbrev pub in_state_of : Option State → InState
+abbrev pub in_state_of : Option AbsState → InState
 in_state_of None = Unreached
 in_state_of (Some state) = Reached state
 
 -- the table has what arrives at each slot, and each instruction is allowed there
-pub record IsTable (p : Subject) (states : List (Option State)) : Type 0 where
+pub record IsTable (p : Subject) (states : List (Option AbsState)) : Type 0 where
   pub slots : length states ≡ length p.code
   pub each : (s : ℕ) → s < length p.code → in_state_of (slice_index_or states s None) ≡ in_state p s
   pub allowed : (s : ℕ) → IsAllowedAt p s

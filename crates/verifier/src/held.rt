@@ -7,7 +7,7 @@ ghost use Rattle.instruction_rules.specs.Judged.{destination_left};
 ghost use Rattle.instruction_rules.specs.States.{joined_state, transferred};
 
 use insn_codec::Insn;
-use instruction_rules::{State, transfer};
+use instruction_rules::{AbsState, transfer};
 use refusal::NoMemory;
 use std::alloc::Global;
 use std::marker::Model;
@@ -16,20 +16,20 @@ use value_ranges::Abs;
 /// A state that is handed on from slot to slot, in a box.
 #[derive(Drop)]
 pub(crate) struct Held {
-    state: Box<State>,
+    state: Box<AbsState>,
 }
 
 impl Model for Held {
-    ghost use Rattle.instruction_rules.specs.declared.state.State.{State};
+    ghost use Rattle.instruction_rules.specs.declared.state.AbsState.{AbsState};
 
-    ghost Value = { State };
+    ghost Value = { AbsState };
 
     ghost view = { λ h. h.state.value };
 }
 
 impl Held {
     /// The state, in memory of its own.
-    pub(crate) fn new(alloc: Global, state: &State) -> Result<Held, NoMemory>
+    pub(crate) fn new(alloc: Global, state: &AbsState) -> Result<Held, NoMemory>
         ensures { IfOk result (λ held. held ≡ state.now) }
     {
         Ok(Held {
@@ -38,7 +38,7 @@ impl Held {
     }
 
     /// The state.
-    pub(crate) fn get(&self) -> &State
+    pub(crate) fn get(&self) -> &AbsState
         ensures { result.now ≡ self.now }
     {
         &self.state
@@ -83,7 +83,7 @@ impl Boxes {
     }
 
     /// A copy of the state, in a box of its own.
-    pub(crate) fn copy(&mut self, state: &State) -> Result<Held, NoMemory>
+    pub(crate) fn copy(&mut self, state: &AbsState) -> Result<Held, NoMemory>
         ensures { IfOk result (λ held. held ≡ state.now) }
     {
         match self.free.take() {

@@ -9,13 +9,13 @@ ghost use Rattle.verifier.specs.Verdict.{IsAllowedAt};
 use crate::held::{Boxes, Held};
 use crate::sources::Sources;
 use crate::states::{Survey, places, propagate_waiting, slot_at, visit};
-use instruction_rules::State;
+use instruction_rules::AbsState;
 use predecoding::Region;
 use refusal::NoMemory;
 use std::alloc::Global;
 
 /// A copy of the state at the slot, if there is one.
-fn state_in(states: &[Option<Held>], slot: u32) -> Option<State>
+fn state_in(states: &[Option<Held>], slot: u32) -> Option<AbsState>
     requires { slot < length states.now }
     ensures { result ≡ slice_index_or states.now slot None }
 {
@@ -31,7 +31,7 @@ pub(crate) fn in_state_at(
     alloc: Global,
     survey: &Survey<'_>,
     slot: u32,
-) -> Result<Option<State>, NoMemory>
+) -> Result<Option<AbsState>, NoMemory>
     requires need { survey.now.need ≤ max_part }
     requires slot { slot < length survey.now.graph.now.code }
     requires allowed { (s : ℕ) → IsAllowedAt (subject_of survey.now) s }

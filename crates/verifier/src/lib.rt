@@ -11,7 +11,7 @@ mod states;
 mod verification;
 mod verified;
 
-pub use instruction_rules::{Rule, State};
+pub use instruction_rules::{AbsState, Rule};
 pub use laws::{in_states_are_joined, in_states_are_unique, nothing_refused, one_refusal};
 pub use refusals::Refusal;
 pub use verification::verify;

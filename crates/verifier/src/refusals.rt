@@ -2,7 +2,7 @@
 
 ghost use Rattle.std.specs.Prelude.{◌≡◌, Some};
 ghost use Rattle.verifier.specs.InStates.{Subject};
-ghost use Rattle.verifier.specs.RefusalCodes.{number_of, refusal_at, slot_of};
+ghost use Rattle.verifier.specs.RefusalCodes.{code_of_refusal, refusal_at, slot_of_refusal};
 ghost use Rattle.instruction_rules.specs.Rules.{number_of_rule};
 ghost use Rattle.verifier.specs.Verdict.{IsFirstFaulty, RefusesStates};
 
@@ -54,7 +54,7 @@ pub enum Refusal {
 impl Refusal {
     /// The number of the refusal.
     pub fn code(&self) -> u8
-        ensures { result ≡ number_of self.now }
+        ensures { result ≡ code_of_refusal self.now }
     {
         match self {
             Refusal::NeedTooLarge => 38,
@@ -73,7 +73,7 @@ impl Refusal {
 
     /// The slot that it tells, if it tells one.
     pub fn slot(&self) -> Option<u32>
-        ensures { result ≡ slot_of self.now }
+        ensures { result ≡ slot_of_refusal self.now }
     {
         match self {
             Refusal::Codec(fault) => fault.slot(),
@@ -93,8 +93,8 @@ impl Refusal {
     pub(crate) fn at(slot: u32, rule: Rule) -> Refusal
         ensures first { (p : Subject) → IsFirstFaulty p slot rule → RefusesStates p result }
         ensures refusal { result ≡ refusal_at slot rule }
-        ensures number { number_of result ≡ number_of_rule rule }
-        ensures slot { slot_of result ≡ Some slot }
+        ensures number { code_of_refusal result ≡ number_of_rule rule }
+        ensures slot { slot_of_refusal result ≡ Some slot }
     {
         match rule {
             Rule::UnsetRead => Refusal::UnsetRead(slot),

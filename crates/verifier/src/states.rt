@@ -6,7 +6,7 @@ ghost use Rattle.machine_model.specs.Edges.{Begins, insn_at, leads_at, Always, N
 ghost use Rattle.predecoding.specs.declared.region.Region.TheVariants.{Stack};
 ghost use Rattle.flow_graph.specs.Cycles.{IsJoint};
 ghost use Rattle.flow_graph.specs.Flow.{AreNext};
-ghost use Rattle.instruction_rules.specs.declared.state.State.{State};
+ghost use Rattle.instruction_rules.specs.declared.state.AbsState.{AbsState};
 ghost use Rattle.instruction_rules.specs.States.{entry_state, transferred};
 ghost use Rattle.instruction_rules.specs.Judged.{destination_left};
 ghost use Rattle.verifier.specs.InStates.{in_state, joined_in_state, if_leads_to, Reached};
@@ -24,7 +24,7 @@ use crate::sources::Sources;
 use flow_graph::{Graph, Next};
 use helpers::HelperTable;
 use insn_codec::Insn;
-use instruction_rules::{Rule, State, judge};
+use instruction_rules::{AbsState, Rule, judge};
 use predecoding::Region;
 use refusal::NoMemory;
 use std::alloc::Global;
@@ -88,14 +88,15 @@ fn propagate_edge(
     requires other { visited.now.from ≢ to }
     requires from { visited.now.from < length states.old }
     requires to { to < length states.old }
-    requires left { (state : State) → Some state ≡ slice_index_or states.old visited.now.from None
+    requires left { (state : AbsState)
+        → Some state ≡ slice_index_or states.old visited.now.from None
         → visited.now.left ≡ destination_left visited.now.insn.now state }
     ensures slots { OnOk result (length states.new ≡ length states.old) }
     ensures others { OnOk result ((s : ℕ) → s ≢ to → s ≢ visited.now.from
         → slice_index_or states.new s None ≡ slice_index_or states.old s None) }
     ensures from { OnOk result (slice_index_or states.new visited.now.from None
         ≡ if keep then slice_index_or states.old visited.now.from None else None) }
-    ensures joined { OnOk result ((state : State)
+    ensures joined { OnOk result ((state : AbsState)
         → Some state ≡ slice_index_or states.old visited.now.from None →
         in_state_of (slice_index_or states.new to None)
         ≡ joined_in_state (in_state_of (slice_index_or states.old to None))
@@ -125,14 +126,15 @@ fn propagate_edges(
     requires slots { length states.old ≡ length graph.now.code }
     requires from { visited.now.from < length states.old }
     requires to { to < length states.old }
-    requires left { (state : State) → Some state ≡ slice_index_or states.old visited.now.from None
+    requires left { (state : AbsState)
+        → Some state ≡ slice_index_or states.old visited.now.from None
         → visited.now.left ≡ destination_left visited.now.insn.now state }
     ensures slots { OnOk result (length states.new ≡ length states.old) }
     ensures others { OnOk result ((s : ℕ) → s ≢ to → s ≢ visited.now.from
         → slice_index_or states.new s None ≡ slice_index_or states.old s None) }
     ensures from { OnOk result (slice_index_or states.new visited.now.from None
         ≡ if keep then slice_index_or states.old visited.now.from None else None) }
-    ensures joined { OnOk result ((state : State)
+    ensures joined { OnOk result ((state : AbsState)
         → Some state ≡ slice_index_or states.old visited.now.from None →
         in_state_of (slice_index_or states.new to None)
         ≡ joined_in_state (joined_in_state
@@ -176,11 +178,12 @@ fn propagate_to(
     requires linked { IsLinked graph.now.code sources.old }
     requires slots { length states.old ≡ length graph.now.code }
     requires first { slice_index_or sources.old.first to None ≡ Some visited.now.from }
-    requires left { (state : State) → Some state ≡ slice_index_or states.old visited.now.from None
+    requires left { (state : AbsState)
+        → Some state ≡ slice_index_or states.old visited.now.from None
         → visited.now.left ≡ destination_left visited.now.insn.now state }
     ensures linked { OnOk result (IsLinked graph.now.code sources.new) }
     ensures slots { OnOk result (length states.new ≡ length states.old) }
-    ensures from { OnOk result ((state : State)
+    ensures from { OnOk result ((state : AbsState)
         → Some state ≡ slice_index_or states.new visited.now.from None
         → Some state ≡ slice_index_or states.old visited.now.from None) }
     ensures firsts { OnOk result ((s : ℕ) → s ≢ to
@@ -188,7 +191,7 @@ fn propagate_to(
     ensures first { OnOk result
         (IsNextSource graph.now.code to (suc visited.now.from)
         (slice_index_or sources.new.first to None)) }
-    ensures propagated { OnOk result ((need : ℕ) (helpers : Table) (n : ℕ) (state : State) →
+    ensures propagated { OnOk result ((need : ℕ) (helpers : Table) (n : ℕ) (state : AbsState) →
         HasPropagated (record { need = need; helpers = helpers; code = graph.now.code }) graph.now.order n
         sources.old states.old →
         IsAmong graph.now.order n visited.now.from → (IsAmong graph.now.order n to → ⊥) →
@@ -218,7 +221,7 @@ pub(crate) fn slot_at(graph: &Graph, place: usize) -> u32
 }
 
 /// The visit of an instruction with this in-state.
-fn visit_again<'a>(survey: &Survey<'a>, from: u32, state: &State) -> Visited<'a>
+fn visit_again<'a>(survey: &Survey<'a>, from: u32, state: &AbsState) -> Visited<'a>
     requires { IsVisited (subject_of survey.now) from state.now }
     ensures from { result.from ≡ from }
     ensures insn { insn_at survey.now.graph.now.code from ≡ Some result.insn.now }
@@ -288,11 +291,12 @@ fn propagate_in_turn(
     requires joint { IsJoint graph.now.code visited.now.from to }
     requires linked { IsLinked graph.now.code sources.old }
     requires slots { length states.old ≡ length graph.now.code }
-    requires left { (state : State) → Some state ≡ slice_index_or states.old visited.now.from None
+    requires left { (state : AbsState)
+        → Some state ≡ slice_index_or states.old visited.now.from None
         → visited.now.left ≡ destination_left visited.now.insn.now state }
     ensures linked { OnOk result (IsLinked graph.now.code sources.new) }
     ensures slots { OnOk result (length states.new ≡ length states.old) }
-    ensures from { OnOk result ((state : State)
+    ensures from { OnOk result ((state : AbsState)
         → Some state ≡ slice_index_or states.new visited.now.from None
         → Some state ≡ slice_index_or states.old visited.now.from None) }
     ensures propagated { OnOk result ((need : ℕ) (helpers : Table) (n : ℕ) →
@@ -328,7 +332,8 @@ fn propagate(
     requires insn { insn_at graph.now.code visited.now.from ≡ Some visited.now.insn.now }
     requires linked { IsLinked graph.now.code sources.old }
     requires slots { length states.old ≡ length graph.now.code }
-    requires left { (state : State) → Some state ≡ slice_index_or states.old visited.now.from None
+    requires left { (state : AbsState)
+        → Some state ≡ slice_index_or states.old visited.now.from None
         → visited.now.left ≡ destination_left visited.now.insn.now state }
     ensures propagated { OnOk result ((need : ℕ) (helpers : Table) (n : ℕ) →
         HasPropagated (record { need = need; helpers = helpers; code = graph.now.code }) graph.now.order
@@ -437,7 +442,7 @@ pub(crate) fn places(alloc: Global, need: u32, slots: u32) -> Result<Vec<Option<
         → slice_index_or states.items s None ≡ None) }
 {
     let mut states = Vec::with_capacity(alloc, slots as usize)?;
-    states.push_reserved(Some(Held::new(alloc, &State::entry(need))?));
+    states.push_reserved(Some(Held::new(alloc, &AbsState::entry(need))?));
     for slot in 1..slots {
         prove!(slot > 0);
         states.push_reserved(None);

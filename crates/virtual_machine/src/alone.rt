@@ -8,7 +8,7 @@ ghost use Rattle.machine_model.specs.Limits.{max_part, max_credit};
 
 use crate::executed::Executed;
 use crate::functions::Functions;
-use interpreter::{Credit, Frame, Next};
+use interpreter::{ControlPoint, Credit, Frame};
 use verifier::Verified;
 
 /// Runs a program alone on these bytes, with this argument, from its entry to its end.
@@ -40,8 +40,8 @@ pub fn run_alone(
     loop {
         let ran = frame.run_on(code, slot, usize::MAX, bytes, &mut credit, functions);
         match ran.next {
-            Next::At(next) => slot = next,
-            Next::Ended(r0) => {
+            ControlPoint::At(next) => slot = next,
+            ControlPoint::Ended(r0) => {
                 return Executed {
                     r0,
                     used: credit.used,

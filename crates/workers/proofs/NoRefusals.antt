@@ -15,7 +15,7 @@ use Rattle.credit_book.specs.declared.fault.BookFault.{BookFault}
 use Rattle.credit_book.specs.declared.fault.BookFault.TheVariants.{Stranger, OverSpent, CreditLow, NoMemory}
 use Rattle.credit_book.specs.declared.task.Outcome.{Outcome}
 use Rattle.credit_book.specs.declared.task.Ticket.{Ticket}
-use Rattle.credit_book.specs.Books.{Account, IsEndFault, IsParkFault, end_event, spawn_event}
+use Rattle.credit_book.specs.Books.{BookState, IsEndFault, IsParkFault, end_event, spawn_event}
 use Rattle.credit_book.specs.History.{IsHistoryOf, is_alive, is_fresh, may_work, standing_at, table_of, without_first}
 use Rattle.credit_book.proofs.Histories.{table_of-push}
 use Rattle.credit_book.proofs.Sound.{at_end, bit, parked, sound_of, times}
@@ -67,7 +67,7 @@ just_spawned h h' parent r is =
     ∙ at_end (λ (s : Standing). is_fresh s.stage ≡ true) (set ss parent left) (length ss) (record { held = r.share; stage = Fresh }) ended_standing
     (omega (arith, long)) (λ lt. absurd (omega (arith, lt, long))) (λ _. refl)
 
-pub parks : (a : Account) (t : Ticket) (fault : BookFault) → t.job ≡ a.board.job → IsJustSpawned a t.number → IsParkFault a t fault → ⊥
+pub parks : (a : BookState) (t : Ticket) (fault : BookFault) → t.job ≡ a.board.job → IsJustSpawned a t.number → IsParkFault a t fault → ⊥
 parks a t Stranger job fresh why = why job fresh
 parks a t OverSpent job fresh why = why
 parks a t CreditLow job fresh why = why
@@ -126,7 +126,7 @@ module _ (job issued : ℕ) (h : List Event) (known : RegisterState) (ts : List 
       let children = ap shares open_now.task.children in
       omega (arith, balanced, children, paid)
 
-pub ends : (a : Account) (o : Outcome) (fault : BookFault) → o.job ≡ a.board.job → may_work (standing_at (table_of a.history) o.number).stage ≡ true →
+pub ends : (a : BookState) (o : Outcome) (fault : BookFault) → o.job ≡ a.board.job → may_work (standing_at (table_of a.history) o.number).stage ≡ true →
     o.used ≤ (standing_at (table_of a.history) o.number).held → IsEndFault a o fault → ⊥
 ends a o Stranger job works affords why = why job works
 ends a o OverSpent job works affords why = let less = why.2 in omega (arith, less, affords)

@@ -3,7 +3,7 @@ use Rattle.std.specs.Prelude.{◌≡◌, ◌⊎◌, ℕ, List, [], ◌∷◌, �
 use Rattle.helpers.specs.declared.spawner.SpawnRecord.{SpawnRecord}
 use Rattle.credit_book.specs.declared.task.Outcome.{Outcome}
 use Rattle.credit_book.specs.declared.task.Ticket.{Ticket}
-use Rattle.credit_book.specs.Books.{Account, spawn_event, ticket_of}
+use Rattle.credit_book.specs.Books.{BookState, spawn_event, ticket_of}
 use Rattle.credit_book.specs.History.{table_of}
 use Rattle.lanes.specs.Plain.{ticket_data}
 use Rattle.lanes.specs.Sharing.{IsIdle, IsTaken, Moved, Puts}
@@ -29,16 +29,16 @@ pub record IsHanded (old : Moved) (child : SpawnRecord) (new : Moved) : Type 0 w
 
 -- into the worker's own lane, and the desk is as it was; or it is parked at the desk, and the lanes
 -- are as they were
-abbrev pub IsKeptBeside : Moved → Account → Ticket → Moved → Account → Type 0
+abbrev pub IsKeptBeside : Moved → BookState → Ticket → Moved → BookState → Type 0
 IsKeptBeside lanes desk ticket lanes_after desk_after =
     (Puts ticket_data lanes (ticket ∷ []) lanes_after × (desk_after ≡ desk))
     ⊎ ((lanes_after ≡ lanes) × IsParked desk ticket desk_after)
 
 -- The book at the desk has this child, whose parent is the task whose turn it is. Its ticket is
 -- kept.
-pub record IsHandedAt (turn : ℕ) (child : SpawnRecord) (lanes : Moved) (desk : Account)
-    (lanes_after : Moved) (desk_after : Account) : Type 0 where
-  pub spawned : Account
+pub record IsHandedAt (turn : ℕ) (child : SpawnRecord) (lanes : Moved) (desk : BookState)
+    (lanes_after : Moved) (desk_after : BookState) : Type 0 where
+  pub spawned : BookState
   pub waiting : spawned.waiting ≡ desk.waiting
   pub event : HasMore desk
       (spawn_event turn (length (table_of desk.history).standings) child) spawned

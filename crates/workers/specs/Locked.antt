@@ -1,7 +1,7 @@
 -- What lies under a job's lock.
 use Rattle.std.specs.Prelude.{◌≡◌, ℕ, List, [], ◌∷◌, map, true}
 use Rattle.credit_book.specs.declared.task.Ticket.{Ticket}
-use Rattle.credit_book.specs.Books.{Account}
+use Rattle.credit_book.specs.Books.{BookState}
 use Rattle.credit_book.specs.History.{is_fresh, standing_at, table_of}
 use Rattle.task_register.specs.declared.seats.SeatedTask.{SeatedTask}
 use Rattle.task_register.specs.Handing.{IsSeatOf}
@@ -14,9 +14,9 @@ AreSeats job (t ∷ ts) [] = ⊥
 AreSeats job (t ∷ ts) (s ∷ ss) = IsSeatOf t s × (t.job ≡ job) × AreSeats job ts ss
 
 -- the tickets that wait are those of the tasks that are parked, in the order of parking
-abbrev pub AreQueued : Account → Type 0
+abbrev pub AreQueued : BookState → Type 0
 AreQueued book = (table_of book.history).queue ≡ map (λ t. t.number) book.waiting
 
 -- the task of this number was just spawned: its ticket was not parked yet
-abbrev pub IsJustSpawned : Account → ℕ → Type 0
+abbrev pub IsJustSpawned : BookState → ℕ → Type 0
 IsJustSpawned book number = is_fresh (standing_at (table_of book.history) number).stage ≡ true

@@ -1,7 +1,7 @@
 //! Why a job gave no report.
 
 ghost use Rattle.std.specs.Prelude.{◌≡◌};
-ghost use Rattle.workers.specs.PoolFaultCodes.{number_of};
+ghost use Rattle.workers.specs.PoolFaultCodes.{code_of_pool_fault};
 
 use credit_book::Unopened;
 use refusal::NoMemory;
@@ -25,7 +25,7 @@ pub enum PoolFault {
 impl PoolFault {
     /// The number of the refusal.
     pub fn code(&self) -> u8
-        ensures { result ≡ number_of self.now }
+        ensures { result ≡ code_of_pool_fault self.now }
     {
         match self {
             PoolFault::NoWorker => 81,

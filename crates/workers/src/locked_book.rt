@@ -30,11 +30,11 @@ pub(crate) struct LockedBook<J: JobId> {
 
 impl<J: JobId> Model for LockedBook<J> {
     ghost use Rattle.std.specs.Prelude.{◌≡◌, length};
-    ghost use Rattle.credit_book.specs.Books.{Account};
+    ghost use Rattle.credit_book.specs.Books.{BookState};
     ghost use Rattle.job_answer.specs.Agreement.{RegisterAgrees};
     ghost use Rattle.workers.specs.Locked.{AreQueued, AreSeats};
 
-    ghost Value = { Account };
+    ghost Value = { BookState };
 
     ghost view = { λ d. d.book };
 

@@ -179,7 +179,7 @@ pub(crate) struct Worker<'a, 'b, R, J: GatedJob> {
 
 impl<'a, 'b, R: Wait, J: GatedJob + 'static> Worker<'a, 'b, R, J> {
     ghost use Rattle.std.specs.Prelude.{◌⊎◌, ◌<◌, ◌^◌, ℕ, [], reverse, IfErr, IfOk, None, Some};
-    ghost use Rattle.credit_book.specs.Books.{Account};
+    ghost use Rattle.credit_book.specs.Books.{BookState};
     ghost use Rattle.workers.specs.Locked.{IsJustSpawned};
     ghost use Rattle.credit_book.specs.declared.task.Ticket.{Ticket};
     ghost use Rattle.workers.specs.AtDesk.{AreTasksEnded, IsTaskEnded};
@@ -331,7 +331,7 @@ impl<'a, 'b, R: Wait, J: GatedJob + 'static> Worker<'a, 'b, R, J> {
     fn tell_with(&mut self, desk: &mut LockedBook<J>, outcome: SeatedOutcome<J>)
         ensures same { (self.new.shared ≡ self.old.shared) × (self.new.lanes ≡ self.old.lanes)
             × (self.new.turn ≡ self.old.turn) }
-        ensures ended { (between : Account)
+        ensures ended { (between : BookState)
             × AreTasksEnded desk.old (reverse self.old.ended.items) between
             × IsTaskEnded between outcome desk.new }
         ensures all { self.new.ended.items ≡ [] }

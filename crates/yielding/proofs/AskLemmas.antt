@@ -9,7 +9,7 @@ use Rattle.helpers.specs.Piece.{Piece}
 use Rattle.helpers.specs.Table.{arity_in}
 use Rattle.instruction_rules.specs.Covers.{abs_at}
 use Rattle.instruction_rules.specs.States.{call_fault, kind_fault, number_arguments, unset_arguments}
-use Rattle.instruction_rules.specs.declared.state.State as abstract
+use Rattle.instruction_rules.specs.declared.state.AbsState as abstract
 use Rattle.verifier.specs.Checked.{Checked, program_of}
 use Rattle.interpreter.specs.declared.frame.Frame.{Frame}
 use Rattle.interpreter.specs.declared.credit.Credit.{Credit}

@@ -9,7 +9,7 @@ use Rattle.helpers.specs.Piece.{Piece}
 use Rattle.helpers.specs.Table.{arity_in}
 use Rattle.verifier.specs.Checked.{Checked, program_of}
 use Rattle.interpreter.specs.declared.frame.Frame.{Frame}
-use Rattle.interpreter.specs.declared.frame.Next.TheVariants as onto
+use Rattle.interpreter.specs.declared.frame.ControlPoint.TheVariants as onto
 use Rattle.interpreter.specs.declared.credit.Credit.{Credit}
 use Rattle.interpreter.specs.declared.stretch.Pause.{Pause}
 use Rattle.interpreter.specs.declared.stretch.Pause.TheVariants as pause

@@ -10,8 +10,8 @@ use Rattle.helpers.specs.Piece.{Piece}
 use Rattle.helpers.specs.declared.spawner.SpawnRecord.{SpawnRecord}
 use Rattle.verifier.specs.Checked.{Checked, program_of}
 use Rattle.interpreter.specs.declared.frame.Frame.{Frame}
-use Rattle.interpreter.specs.declared.frame.Next.{Next}
-use Rattle.interpreter.specs.declared.frame.Next.TheVariants as onto
+use Rattle.interpreter.specs.declared.frame.ControlPoint.{ControlPoint}
+use Rattle.interpreter.specs.declared.frame.ControlPoint.TheVariants as onto
 use Rattle.interpreter.specs.declared.frame.StepOut.TheVariants.{Went, Ended}
 use Rattle.interpreter.specs.declared.credit.Credit.{Credit}
 use Rattle.interpreter.specs.Representation.{AtInsn, RepresentsState, RepresentsTask, StepEffect, lent, out_of, state_of}
@@ -41,13 +41,13 @@ module _ (p : Checked) (f : Frame) (part : Piece) (credit : Credit) (f' : Frame)
     ended_with word (Calls helper arguments caller) did = absurd did
     ended_with word (Traps trap) did = absurd did
 
-    steps_by : (next : Next) (held : ℕ) (e : Effect) → IsOwn e → Births no_entries held e →
+    steps_by : (next : ControlPoint) (held : ℕ) (e : Effect) → IsOwn e → Births no_entries held e →
         StepEffect p e (out_of next) f' (lent bytes') credit' silent told called → StepsTo p e next f' bytes' credit'
     steps_by (onto.At slot) held e own births did = went_to slot held e own births did
     steps_by (onto.Ended word) held e own births did = ended_with word e did
 
     -- an instruction that the task runs by itself
-    pub stepped : (next : Next) → RunsByItself p f part credit →
+    pub stepped : (next : ControlPoint) → RunsByItself p f part credit →
         ((registers : Registers) → RepresentsTask p f registers →
         StepEffect p (effect (program_of p) no_entries (state_of f part credit registers)) (out_of next) f' (lent bytes') credit' silent told called) →
         (s : State) → RepresentsState p f part credit s → StepsTo p (effect (program_of p) no_entries s) next f' bytes' credit'

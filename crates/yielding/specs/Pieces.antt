@@ -4,8 +4,8 @@ use Rattle.machine_model.specs.Machine.{State, Effect, Continues, Ends}
 use Rattle.helpers.specs.Piece.{Piece}
 use Rattle.verifier.specs.Checked.{Checked, program_of}
 use Rattle.interpreter.specs.declared.frame.Frame.{Frame}
-use Rattle.interpreter.specs.declared.frame.Next.{Next}
-use Rattle.interpreter.specs.declared.frame.Next.TheVariants as onto
+use Rattle.interpreter.specs.declared.frame.ControlPoint.{ControlPoint}
+use Rattle.interpreter.specs.declared.frame.ControlPoint.TheVariants as onto
 use Rattle.interpreter.specs.declared.credit.Credit.{Credit}
 use Rattle.interpreter.specs.Representation.{IsCovered, RepresentsState, lent}
 use Rattle.yielding.specs.declared.event.PieceEnd.{PieceEnd}
@@ -14,7 +14,7 @@ use Rattle.yielding.specs.Leading.{IsAnswered, IsPieceRun}
 use Rattle.yielding.specs.Standing.{IsAsking}
 
 -- what one instruction leads to that asks nothing of the host
-abbrev pub StepsTo : Checked → Effect → Next → Frame → List ℕ → Credit → Type 0
+abbrev pub StepsTo : Checked → Effect → ControlPoint → Frame → List ℕ → Credit → Type 0
 StepsTo p effect (onto.At slot) frame bytes credit =
     (next : State) × (effect ≡ Continues next) × RepresentsState p frame (lent bytes) credit next
 StepsTo p effect (onto.Ended r0) frame bytes credit =

@@ -5,7 +5,7 @@ ghost use Rattle.helpers.specs.Table.{arity_in};
 ghost use Rattle.machine_model.specs.Machine.{State, effect};
 ghost use Rattle.machine_model.specs.Alone.{no_entries};
 ghost use Rattle.verifier.specs.Checked.{program_of};
-ghost use Rattle.interpreter.specs.declared.frame.Next.TheVariants as Next;
+ghost use Rattle.interpreter.specs.declared.frame.ControlPoint.TheVariants as ControlPoint;
 ghost use Rattle.interpreter.specs.Operands.{arguments_of};
 ghost use Rattle.interpreter.specs.Representation.{IsCovered, RepresentsState, at_slot, lent, slot_after};
 ghost use Rattle.yielding.specs.Leading.{IsAnswered};
@@ -16,7 +16,7 @@ ghost use Rattle.yielding.specs.Pieces.{GoesPiece, MayResume, RunsPiece, StepsTo
 use crate::answer::CallAnswer;
 use crate::event::{PieceEnd, Question};
 use crate::stops::{Stop, stop_of};
-use interpreter::{Credit, Frame, Next, Stretch};
+use interpreter::{ControlPoint, Credit, Frame, Stretch};
 use verifier::Verified;
 
 /// A piece that has ended: the slot of the next instruction, and why it ended.
@@ -49,13 +49,13 @@ fn step(
     slot: u32,
     credit: &mut Credit,
     memory: &mut [u8],
-) -> Next
+) -> ControlPoint
     requires { RunsByItself code.now (at_slot frame.old slot) (lent memory.old) credit.old }
     ensures steps { (s : State)
         → RepresentsState code.now (at_slot frame.old slot) (lent memory.old) credit.old s
         → StepsTo code.now (effect (program_of code.now) no_entries s) result
         (at_slot frame.new (slot_after slot result)) memory.new credit.new }
-    ensures covered { (next : ℕ) → result ≡ Next.At next
+    ensures covered { (next : ℕ) → result ≡ ControlPoint.At next
         → IsCovered code.now (at_slot frame.new next) (lent memory.new) credit.new }
     ensures len { length memory.new ≡ length memory.old }
     ensures spends { credit.old.used < credit.new.used }
@@ -88,8 +88,8 @@ fn answer_call(
     let mut given = CallAnswer { word: answer };
     let ran = frame.run_on(code, slot, 1, memory, credit, &mut given);
     match ran.next {
-        Next::At(next) => next,
-        Next::Ended(_) => unreachable!(),
+        ControlPoint::At(next) => next,
+        ControlPoint::Ended(_) => unreachable!(),
     }
 }
 
@@ -163,11 +163,11 @@ fn run_piece(
                 };
             }
             Stop::ByItself => match step(code, frame, at, credit, memory) {
-                Next::At(next) => {
+                ControlPoint::At(next) => {
                     slot = next;
                     left -= 1;
                 }
-                Next::Ended(r0) => {
+                ControlPoint::Ended(r0) => {
                     return EndedPiece {
                         slot: at,
                         event: PieceEnd::Ended(r0),

@@ -1,6 +1,6 @@
 use Rattle.std.proofs.Common.{◌≡◌, ◌+◌, ◌-◌, ◌++◌, ◌∷◌, [], ◌∙◌, ℕ, List, Option, ap, arith, replicate, Some, None}
 use Rattle.std.proofs.lemmas.List.{replicate_more}
-use Rattle.instruction_rules.specs.declared.state.State.{State}
+use Rattle.instruction_rules.specs.declared.state.AbsState.{AbsState}
 use Rattle.instruction_rules.specs.States.{entry_state}
 use Rattle.verifier.proofs.states.places.Goals as goal
 
@@ -10,8 +10,8 @@ loop-slot-preserved c =
     record {
       items =
           c.push_reserved-in-loop-slot.ensures.items
-          ∙ (ap (λ (xs : List (Option State)). xs ++ None ∷ []) c.loop-slot.invariant.items
-          ∙ ap (λ (xs : List (Option State)). Some (entry_state c.args.need) ∷ xs)
-          (replicate_more {X = Option State} (c.loop-slot.slot - 1) None ∙ ap (λ (k : ℕ). replicate {A = Option State} k None) same));
+          ∙ (ap (λ (xs : List (Option AbsState)). xs ++ None ∷ []) c.loop-slot.invariant.items
+          ∙ ap (λ (xs : List (Option AbsState)). Some (entry_state c.args.need) ∷ xs)
+          (replicate_more {X = Option AbsState} (c.loop-slot.slot - 1) None ∙ ap (λ (k : ℕ). replicate {A = Option AbsState} k None) same));
       room = omega (arith, c.loop-slot.invariant.room, c.push_reserved-in-loop-slot.ensures.capacity);
     }

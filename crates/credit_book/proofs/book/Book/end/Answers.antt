@@ -1,7 +1,7 @@
 use Rattle.std.proofs.Common.{ℕ, ◌-◌, ◌≤◌, sym, ap, ◌∙◌, subst, arith, eq-eqb, eqb-true, ◌++◌, ◌∷◌, [], length-set}
 use Rattle.std.specs.VecDeque.{deque_capacity}
 use Rattle.credit_book.specs.Boards.{Sign}
-use Rattle.credit_book.specs.Books.{Account, end_event}
+use Rattle.credit_book.specs.Books.{BookState, end_event}
 use Rattle.credit_book.proofs.Books.{gone, Read, read, end_legal, posted_end, posted-all, end_within_tasks, end_fits, issued_small, end_amount, end_book_as, book_complete, on_board}
 use Rattle.credit_book.proofs.BufferLemmas.{collected-end, length-collected}
 use Rattle.credit_book.proofs.book.Book.end.Goals as goal
@@ -54,11 +54,11 @@ invariant_of-self c = (
 
 pub returns-clause-done : goal.returns-clause-done
 returns-clause-done c = (
-  c.publish.ensures.board ∙ ap (λ (a : Account). a.board) c.self.view_is,
-  length-collected _ _ c.args.outcome c.copy_within.ensures ∙ ap (λ (a : Account). a.size) c.self.view_is,
-  ap (λ (a : Account). a.waiting) c.self.view_is,
-  c.if-outcome-opening.false ∙ (c.opening-opening.ensures.same.0 ∙ ap (λ (a : Account). a.board.job) c.self.view_is),
-  c.add.ensures ∙ ap (λ (a : Account). a.history ++ end_event c.args.outcome ∷ []) c.self.view_is,
+  c.publish.ensures.board ∙ ap (λ (a : BookState). a.board) c.self.view_is,
+  length-collected _ _ c.args.outcome c.copy_within.ensures ∙ ap (λ (a : BookState). a.size) c.self.view_is,
+  ap (λ (a : BookState). a.waiting) c.self.view_is,
+  c.if-outcome-opening.false ∙ (c.opening-opening.ensures.same.0 ∙ ap (λ (a : BookState). a.board.job) c.self.view_is),
+  c.add.ensures ∙ ap (λ (a : BookState). a.history ++ end_event c.args.outcome ∷ []) c.self.view_is,
 )
 
 pub returns-clause-legal : goal.returns-clause-legal

@@ -3,7 +3,7 @@ use Rattle.credit_book.specs.declared.event.Event.TheVariants.{Park}
 use Rattle.credit_book.specs.declared.event.Stage.TheVariants.{Parked}
 use Rattle.credit_book.specs.declared.event.Standing.{Standing}
 use Rattle.credit_book.specs.declared.task.Ticket.{Ticket}
-use Rattle.credit_book.specs.Books.{Account}
+use Rattle.credit_book.specs.Books.{BookState}
 use Rattle.credit_book.specs.History.{is_fresh}
 use Rattle.credit_book.proofs.Books.{gone, quiet_word, posted-quiet, quiet_book, park_becomes, sound_book, numbers-push, length-numbers}
 use Rattle.credit_book.proofs.Sound.{parked_lt}
@@ -33,11 +33,11 @@ invariant_of-self c =
 
 pub returns-clause-done : goal.returns-clause-done
 returns-clause-done c = (
-  ap (λ (a : Account). a.board) c.self.view_is,
-  ap (λ (a : Account). a.size) c.self.view_is,
-  c.push_back_reserved.ensures.items ∙ ap (λ (a : Account). a.waiting ++ c.args.ticket ∷ []) c.self.view_is,
-  c.if-ticket-opening.false ∙ (c.opening-opening.ensures.same.0 ∙ ap (λ (a : Account). a.board.job) c.self.view_is),
-  c.add.ensures ∙ ap (λ (a : Account). a.history ++ Park c.args.ticket.number ∷ []) c.self.view_is,
+  ap (λ (a : BookState). a.board) c.self.view_is,
+  ap (λ (a : BookState). a.size) c.self.view_is,
+  c.push_back_reserved.ensures.items ∙ ap (λ (a : BookState). a.waiting ++ c.args.ticket ∷ []) c.self.view_is,
+  c.if-ticket-opening.false ∙ (c.opening-opening.ensures.same.0 ∙ ap (λ (a : BookState). a.board.job) c.self.view_is),
+  c.add.ensures ∙ ap (λ (a : BookState). a.history ++ Park c.args.ticket.number ∷ []) c.self.view_is,
 )
 
 pub returns-clause-legal : goal.returns-clause-legal

@@ -3,7 +3,7 @@ use Rattle.credit_book.specs.declared.event.Event.TheVariants.{Spawn}
 use Rattle.credit_book.specs.declared.event.Stage.TheVariants.{Fresh}
 use Rattle.credit_book.specs.declared.event.Standing.{Standing}
 use Rattle.credit_book.specs.declared.task.Ticket.{Ticket}
-use Rattle.credit_book.specs.Books.{Account, spawn_event, ticket_of}
+use Rattle.credit_book.specs.Books.{BookState, spawn_event, ticket_of}
 use Rattle.credit_book.specs.History.{table_of}
 use Rattle.credit_book.proofs.Books.{gone, spawned, child_small, tasks_number, same_book, not_failed, posted-quiet}
 use Rattle.credit_book.proofs.BufferLemmas.{collected-quiet}
@@ -48,14 +48,14 @@ invariant_of-self-2 c =
 pub returns-clause-done : goal.returns-clause-done
 returns-clause-done c =
     let number : c.len-child.result ≡ length (table_of c.args.self.now.history).standings =
-    (let t = tasks_number _ _ _ _ _ _ _ c.self.invariant.0 c.args.self.now.history (ap (λ (a : Account). a.history) c.self.view_is) in
+    (let t = tasks_number _ _ _ _ _ _ _ c.self.invariant.0 c.args.self.now.history (ap (λ (a : BookState). a.history) c.self.view_is) in
     let len = c.len-child.ensures in let l = ap length c.reserve_task.ensures.items.0 in omega arith) in (
-      ap (λ (a : Account). a.board) c.self.view_is,
-      ap (λ (a : Account). a.size) c.self.view_is,
-      c.reserve_task.ensures.items.2 ∙ ap (λ (a : Account). a.waiting) c.self.view_is,
-      (let job = c.opening-opening.ensures.same.0 ∙ ap (λ (a : Account). a.board.job) c.self.view_is in
+      ap (λ (a : BookState). a.board) c.self.view_is,
+      ap (λ (a : BookState). a.size) c.self.view_is,
+      c.reserve_task.ensures.items.2 ∙ ap (λ (a : BookState). a.waiting) c.self.view_is,
+      (let job = c.opening-opening.ensures.same.0 ∙ ap (λ (a : BookState). a.board.job) c.self.view_is in
           let f : ℕ × ℕ → Ticket = λ x. ticket_of x.0 x.1 c.args.asked in ap f (λ i. (job i, number i))),
-      c.add.ensures ∙ (ap (λ (a : Account). a.history ++ spawn_event c.args.parent c.len-child.result c.args.asked ∷ []) c.self.view_is ∙ ap (λ (n : ℕ). c.args.self.now.history ++ spawn_event c.args.parent n c.args.asked ∷ []) number),
+      c.add.ensures ∙ (ap (λ (a : BookState). a.history ++ spawn_event c.args.parent c.len-child.result c.args.asked ∷ []) c.self.view_is ∙ ap (λ (n : ℕ). c.args.self.now.history ++ spawn_event c.args.parent n c.args.asked ∷ []) number),
     )
 
 pub returns-clause-legal : goal.returns-clause-legal

@@ -1,6 +1,6 @@
 use Rattle.std.proofs.Common.{◌≡◌, List, ◌∷◌, refl, sym, ap, ◌∙◌, subst}
 use Rattle.shared_desk.specs.declared.closed.ClosedConnection.{ClosedConnection}
-use Rattle.shared_desk.specs.Histories.{Entry, Replays}
+use Rattle.shared_desk.specs.Histories.{HistoryEntry, Replays}
 use Rattle.shared_desk.specs.Closed.{closed_of}
 use Rattle.shared_desk.proofs.Closing.{closed_is, told_more}
 use Rattle.shared_desk.proofs.desk.SharedDesk.close.Goals as goal
@@ -17,7 +17,7 @@ invariant_of-self g c =
     let now : c.close.new.recorder ≡ (before.0, over ∷ before.1) = closed_is n.0 over before.0 before.1 c.close.new.recorder n.1 n.2 in
     let told = told_more over before.1 c.close.new.recorder.1 c.self.inside.over c.saturating_add-self-inside.result c.self.inside.outcome c.earlier_fault-self-inside.result (ap (λ r. r.1) now) (known.2, known.3, known.4) c.requires.served c.saturating_add-self-inside.ensures c.earlier_fault-self-inside.ensures in (
       known.0,
-      subst (λ (l : List Entry). Replays g.H.Handler.answers g.J.Origin.begins l (c.self.inside.desk, c.self.inside.handler)) (sym (ap (λ r. r.0) now)) known.1,
+      subst (λ (l : List HistoryEntry). Replays g.H.Handler.answers g.J.Origin.begins l (c.self.inside.desk, c.self.inside.handler)) (sym (ap (λ r. r.0) now)) known.1,
       told.0,
       told.1,
       told.2,

@@ -1,6 +1,6 @@
 use Rattle.std.proofs.Common.{refl, sym, subst}
 use Rattle.credit_book.specs.Boards.{Sign}
-use Rattle.credit_book.specs.Books.{Account, IsReport}
+use Rattle.credit_book.specs.Books.{BookState, IsReport}
 use Rattle.credit_book.specs.History.{IsHistoryOf, IsComplete, table_of}
 use Rattle.workers.proofs.Endings.{final_of}
 use Rattle.workers.proofs.locked_book.LockedBook.close.Goals as goal
@@ -25,12 +25,12 @@ returns-in-Ok g c =
         first = c.look.ensures.root;
         each = c.look.ensures.runs;
       };
-      own = subst (λ (d : Account). IsReport d.size d.history c.in-Ok.report) c.self.view_is c.in-Ok.ensures.report;
+      own = subst (λ (d : BookState). IsReport d.size d.history c.in-Ok.report) c.self.view_is c.in-Ok.ensures.report;
       back = tt;
       alive = tt;
     }
 
 pub returns-in-Err-clause-alive : goal.returns-in-Err-clause-alive
 returns-in-Err-clause-alive g c = λ complete.
-    let done : IsComplete (table_of c.self.inside.book.history) = subst (λ (d : Account). IsComplete (table_of d.history)) (sym c.self.view_is) complete in
+    let done : IsComplete (table_of c.self.inside.book.history) = subst (λ (d : BookState). IsComplete (table_of d.history)) (sym c.self.view_is) complete in
     absurd (let both = c.in-Err.ensures.variant.1 done in cc)

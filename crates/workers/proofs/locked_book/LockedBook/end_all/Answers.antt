@@ -2,7 +2,7 @@ use Rattle.std.proofs.Common.{◌≡◌, refl, reverse, ap, sym, subst, ◌∙�
 use Rattle.std.proofs.lemmas.List.{nil_from_length, reverse-append}
 use Rattle.credit_book.specs.declared.task.Outcome.{Outcome}
 use Rattle.workers.specs.AtDesk.{AreTasksEnded}
-use Rattle.credit_book.specs.Books.{Account}
+use Rattle.credit_book.specs.Books.{BookState}
 use Rattle.workers.proofs.locked_book.LockedBook.end_all.Goals as goal
 
 pub loop-outcome-init : goal.loop-outcome-init
@@ -18,7 +18,7 @@ loop-outcome-preserved g c = λ last h.
     (sym (turned c.loop-outcome.outcomes.items c.pop.new.self.items c.in-Some.outcome c.in-Some.ensures.items))
     (c.end.new.self, c.end.ensures, h))
 
-nothing_left : (l : List Outcome) (d : Account) → l ≡ [] → AreTasksEnded d (reverse l) d
+nothing_left : (l : List Outcome) (d : BookState) → l ≡ [] → AreTasksEnded d (reverse l) d
 nothing_left l d e = subst (λ (k : List Outcome). AreTasksEnded d (reverse k) d) (sym e) refl
 
 pub returns-clause-ended : goal.returns-clause-ended

@@ -4,7 +4,7 @@ use Rattle.std.specs.Ordering.{nat_cmp}
 use Rattle.slab.specs.Slab as slots
 use Rattle.job_pools.specs.Holding.{job_by}
 use Rattle.job_pools.proofs.Keeping.{kept_changed, others_changed, found_at, is_there, looks_held}
-use Rattle.job_pools.proofs.places.Places.look.Goals as goal
+use Rattle.job_pools.proofs.held_jobs.HeldJobs.look.Goals as goal
 
 pub look_at-requires : goal.look_at-requires
 look_at-requires c =

@@ -2,7 +2,7 @@ use Rattle.std.proofs.Common.{rules, sym}
 use Rattle.std.proofs.lemmas.Map.Iter.{btree_map_turn}
 use Rattle.std.specs.Map.Iter.{deref_pair}
 use Rattle.std.specs.Cmp.{nat_cmp_total}
-use Rattle.job_pools.proofs.places.finished.Goals as goal
+use Rattle.job_pools.proofs.held_jobs.finished.Goals as goal
 
 pub returns-then-is_done : goal.returns-then-is_done
 returns-then-is_done g c =

@@ -70,7 +70,7 @@ impl Helper {
 
 /// The flag and the log of a server, if it has them.
 #[derive(Drop)]
-pub struct Beside {
+pub struct ServerHandles {
     stop: Option<Arc<StopFlag, Global>>,
     log: Option<ServerLog>,
 }
@@ -101,9 +101,9 @@ fn log_of(alloc: Global, endpoint: &Endpoint) -> Result<(ServerLog, LogLines), N
 }
 
 /// The flag and the log that a server's options ask for, and what their threads do.
-pub fn beside_server(alloc: Global, server: &Serve) -> Result<(Beside, Vec<Helper>), NoMemory> {
+pub fn handles_of(alloc: Global, server: &Serve) -> Result<(ServerHandles, Vec<Helper>), NoMemory> {
     let mut helpers = Vec::new(alloc);
-    let mut beside = Beside {
+    let mut handles = ServerHandles {
         stop: None,
         log: None,
     };
@@ -112,17 +112,17 @@ pub fn beside_server(alloc: Global, server: &Serve) -> Result<(Beside, Vec<Helpe
         let stop = Arc::new(alloc, StopFlag::new())?;
         let theirs = Arc::try_clone(&stop)?;
         helpers.push(Helper::Stops(place, theirs))?;
-        beside.stop = Some(stop);
+        handles.stop = Some(stop);
     }
     if server.options.logs {
         let (log, lines) = log_of(alloc, &server.endpoint)?;
         helpers.push(Helper::Writes(lines))?;
-        beside.log = Some(log);
+        handles.log = Some(log);
     }
-    Ok((beside, helpers))
+    Ok((handles, helpers))
 }
 
-impl Beside {
+impl ServerHandles {
     /// The flag by which it is stopped.
     pub fn stop(&self) -> Option<&StopFlag> {
         match &self.stop {
@@ -138,7 +138,7 @@ impl Beside {
 
     /// Waits for the last lines of the log.
     pub fn close<R: Wait + Clock>(self, rt: &R) {
-        let Beside { stop: _, log } = self;
+        let ServerHandles { stop: _, log } = self;
         if let Some(log) = log {
             log.close(rt);
         }

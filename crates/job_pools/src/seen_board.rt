@@ -12,12 +12,12 @@ use std::sync::Arc;
 
 /// A board and its reader. Contracts see it as what was seen.
 #[derive(Drop)]
-pub(crate) struct Watched {
+pub(crate) struct SeenBoard {
     board: Arc<Board>,
     reader: Reader,
 }
 
-impl Model for Watched {
+impl Model for SeenBoard {
     ghost use Rattle.std.specs.Prelude.{◌≡◌};
     ghost use Rattle.std.specs.Arc.{arc_value};
     ghost use Rattle.credit_book.specs.Boards.{Sight};
@@ -29,17 +29,17 @@ impl Model for Watched {
     ghost invariant = { λ w. w.reader.board ≡ arc_value w.board };
 }
 
-impl Watched {
+impl SeenBoard {
     ghost use Rattle.std.specs.Prelude.{◌≡◌};
     ghost use Rattle.std.specs.Arc.{arc_value};
     ghost use Rattle.job_pools.specs.Started.{IsLook};
 
     /// A board of which this reader has seen something.
-    pub fn new(board: Arc<Board>, reader: Reader) -> Watched
+    pub fn new(board: Arc<Board>, reader: Reader) -> SeenBoard
         requires { reader.board ≡ arc_value board }
         ensures { result ≡ reader }
     {
-        Watched { board, reader }
+        SeenBoard { board, reader }
     }
 
     /// What the board tells now.
@@ -52,7 +52,7 @@ impl Watched {
 }
 
 /// What the board of this number tells now.
-pub(crate) fn look_at(boards: &mut BTreeMap<u64, Watched>, number: u64) -> Option<Progress>
+pub(crate) fn look_at(boards: &mut BTreeMap<u64, SeenBoard>, number: u64) -> Option<Progress>
     ensures some { IfSome result (λ told. (old : _) × (new : _)
         × (tree.get nat_cmp boards.old number ≡ Some old) × IsLook old told new
         × (tree.get nat_cmp boards.new number ≡ Some new)) }

@@ -5,7 +5,7 @@ use Rattle.slab.specs.Slab as slots
 use Rattle.job_pools.specs.Endings.{IsEndOf}
 use Rattle.job_pools.specs.Holding.{AreKept, job_by}
 use Rattle.job_pools.proofs.Keeping.{kept_removed, others_removed, found_at, numbered}
-use Rattle.job_pools.proofs.places.Places.take.Goals as goal
+use Rattle.job_pools.proofs.held_jobs.HeldJobs.take.Goals as goal
 
 pub invariant_of-self-2 : goal.invariant_of-self-2
 invariant_of-self-2 g c =

@@ -4,7 +4,7 @@ use Rattle.std.specs.Ordering.{nat_cmp}
 use Rattle.slab.specs.Slab as slots
 use Rattle.job_pools.specs.Holding.{AreKept, job_by}
 use Rattle.job_pools.proofs.Keeping.{kept_same, kept_added, others_added, found_at}
-use Rattle.job_pools.proofs.places.Places.start.Goals as goal
+use Rattle.job_pools.proofs.held_jobs.HeldJobs.start.Goals as goal
 
 pub invariant_of-self-in-Ok-begin : goal.invariant_of-self-in-Ok-begin
 invariant_of-self-in-Ok-begin g c =

@@ -1,6 +1,6 @@
 use Rattle.std.proofs.Common.{◌≡◌, ap, ◌∙◌, arith, length, ℕ}
 use Rattle.instruction_rules.proofs.StateLemmas.{joined_below, joined_all}
-use Rattle.instruction_rules.proofs.state.State.join.Goals as goal
+use Rattle.instruction_rules.proofs.state.AbsState.join.Goals as goal
 
 pub returns : goal.returns
 returns c =

@@ -22,7 +22,7 @@ use std::thread::Threads;
 /// The jobs that were started and not yet taken, each with a place of its own, and their places by
 /// number.
 #[derive(Drop)]
-pub(crate) struct Places {
+pub(crate) struct HeldJobs {
     jobs: Slab<RunningJob>,
     keys: BTreeMap<u64, usize>,
     ghost kept: { AreKept (tree.get nat_cmp keys) (slots.get jobs) } by { Prim.hlevel props },
@@ -59,17 +59,17 @@ fn finished<R: Wait>(
     None
 }
 
-impl Places {
+impl HeldJobs {
     ghost use Rattle.std.specs.Prelude.{◌≡◌, ℕ, None};
     ghost use Rattle.job_pools.specs.Holds.{held_at, count_of, Starts, TellsProgress, TakesReport};
     ghost use Rattle.job_pools.specs.Starting.{StartsOwn};
 
-    /// Places that nothing has.
-    pub fn new(alloc: Global) -> Places
+    /// No jobs are held yet.
+    pub fn new(alloc: Global) -> HeldJobs
         ensures none { (n : ℕ) → held_at result n ≡ None }
         ensures count { count_of result ≡ 0 }
     {
-        Places {
+        HeldJobs {
             jobs: Slab::new(alloc),
             keys: BTreeMap::new(alloc),
         }
@@ -140,7 +140,7 @@ impl Places {
 
     /// Waits for the threads of all jobs.
     pub fn join_all<R: Threads>(self, rt: &R) {
-        let Places { mut jobs, keys: _ } = self;
+        let HeldJobs { mut jobs, keys: _ } = self;
         for running in jobs.drain() {
             let _ = running.join(rt);
         }
