@@ -2,8 +2,10 @@
 
 ghost use Rattle.std.specs.Prelude.{◌≤◌};
 
-use bpfjobs_cli::{Answer, FAILED, Shown, answer_play, answer_run, read_all, tell};
-use job_views::{step_lines, step_objects, steps_of, tree_in, tree_text};
+use bpfjobs_cli::{
+    Answer, FAILED, Shown, answer_play, answer_run, read_all, step_lines, step_objects, steps_of,
+    tell, tree_in, tree_text,
+};
 use refusal::NoMemory;
 use run_trace::JobStep;
 use std::rt::Files;

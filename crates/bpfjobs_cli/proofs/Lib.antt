@@ -5,3 +5,5 @@ pub mod FlagLemmas
 pub mod RowLemmas
 pub mod SubcommandLemmas
 pub mod GivenUp
+pub mod Spelling
+pub mod Telling

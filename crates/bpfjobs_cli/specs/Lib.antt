@@ -6,3 +6,5 @@ pub mod Programs
 pub mod Jobs
 pub mod Runs
 pub mod Performing
+pub mod Shown
+pub mod Lines

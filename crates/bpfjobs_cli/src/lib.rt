@@ -1,5 +1,6 @@
 //! The command line of `bpfjobs`, and its commands that have an answer: from the words and the bytes
-//! of the input to the text of the answer and the status.
+//! of the input to the text of the answer and the status. And what is shown of a job beside its
+//! answer: its steps along its schedule, and the tree of its tasks.
 #![tactic(auto)]
 
 mod commands;
@@ -34,6 +35,16 @@ mod run;
 pub use declined::{JobDeclined, read_job};
 pub use job::answer_play;
 pub use run::answer_run;
+
+// what is shown of a job: the job that the input says, as the definitions have it, its steps and its
+// tree, and these as text
+mod requested_job;
+mod view_texts;
+mod views;
+
+pub use requested_job::{RequestedJob, read_requested_job};
+pub use view_texts::{step_lines, step_objects, tree_text};
+pub use views::{steps_of, tree_in};
 
 // from a source to a sink
 mod ends;

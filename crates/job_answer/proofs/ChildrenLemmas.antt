@@ -3,7 +3,7 @@ use Rattle.std.proofs.Common.{◌≡◌, ℕ, ◌+◌, List, [], ◌∷◌, ◌+
 use Rattle.std.proofs.lemmas.List.{append_assoc, append-nil}
 use Rattle.helpers.specs.declared.spawner.SpawnRecord.{SpawnRecord}
 use Rattle.interpreter.specs.Telling.{Took, NotSpawned, IsRecordOf}
-use Rattle.task_run.specs.Through.{GoesThrough, if_refused}
+use Rattle.virtual_machine.specs.Through.{GoesThrough, if_refused}
 use Rattle.task_trees.specs.Solo.{SpawnRequest}
 use Rattle.task_register.specs.declared.seats.TaskStart.{TaskStart}
 use Rattle.task_register.specs.declared.seats.SeatedTask.{SeatedTask}

@@ -16,7 +16,7 @@ ghost use Rattle.job_answer.specs.Closing.{ClosesJob};
 ghost use Rattle.job_answer.specs.OneAnswer.{AllRan, HasOneAnswer, IsPaidFor, RunsOrNot};
 ghost use Rattle.credit_book.specs.declared.book.Report.{Report as ReportOf};
 ghost use Rattle.task_trees.specs.Solo.{Solo, SpawnRequest};
-ghost use Rattle.task_run.specs.Through.{GoesThrough};
+ghost use Rattle.virtual_machine.specs.Through.{GoesThrough};
 ghost use Rattle.task_register.specs.declared.seats.SeatedTask.{SeatedTask};
 ghost use Rattle.job_answer.specs.Children.{AddsEachChild, HasAdded};
 ghost use Rattle.std.specs.List.Sorted.{IsPermutation};

@@ -6,7 +6,7 @@ ghost use Rattle.interpreter.specs.Representation.{zeroed};
 use crate::stop::{ScenarioFault, holds};
 use interpreter::Frame;
 use std::alloc::Global;
-use task_run::Frames;
+use virtual_machine::Frames;
 
 /// How many frames are asked for in each job: more than an arena holds between two resets.
 const FRAMES: u64 = 20;

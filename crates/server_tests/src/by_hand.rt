@@ -10,8 +10,8 @@ use credit_book::{Board, Book, Outcome, Refused, Report, Ticket};
 use helpers::{Entry, Part, SpawnRecord, Spawner};
 use job_core::Job;
 use std::alloc::Global;
-use task_run::Frames;
 use verifier::Verified;
+use virtual_machine::Frames;
 use workers::{OpenGate, entry_in, unrun, work_one};
 
 /// The programs of a job.

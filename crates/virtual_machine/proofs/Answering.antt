@@ -5,7 +5,7 @@ use Rattle.virtual_machine.specs.declared.functions.Functions.{Functions}
 use Rattle.virtual_machine.specs.declared.registered.Registered.{Registered}
 use Rattle.virtual_machine.specs.Functions.{HaveFunctions, function_of, may_answer, call_answers}
 use Rattle.virtual_machine.proofs.Asking.{has_function}
-use Rattle.virtual_machine.proofs.Running.{AreAnswers}
+use Rattle.virtual_machine.proofs.AloneLemmas.{AreAnswers}
 
 -- the function that there is answers
 there_called : {X : Type 0} {g : _} (functions : List (Option (Registered X g))) (helper : ℕ) (arguments : List ℕ) (answer : ℕ) →

@@ -1,4 +1,6 @@
 pub mod Asking
-pub mod Running
+pub mod AloneLemmas
 pub mod Answering
 pub mod Places
+pub mod OwnTable
+pub mod SoloRunning

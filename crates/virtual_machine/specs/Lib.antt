@@ -3,3 +3,5 @@ pub mod VmFaultCodes
 pub mod Executes
 pub mod Holding
 pub mod Registering
+pub mod Fresh
+pub mod Through

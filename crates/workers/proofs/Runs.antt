@@ -13,7 +13,7 @@ use Rattle.interpreter.proofs.Enters.{behind_entry, covered_entry}
 use Rattle.credit_book.specs.declared.task.Outcome.{Outcome}
 use Rattle.credit_book.specs.declared.task.Ticket.{Ticket}
 use Rattle.task_trees.specs.Solo.{SpawnRequest, entering}
-use Rattle.task_run.specs.Through.{RunsAlone}
+use Rattle.virtual_machine.specs.Through.{RunsAlone}
 use Rattle.workers.specs.Outcomes.{IsOutcome, IsRunBy, IsRunOf, IsUnrun, Suffices, by_ran}
 
 module _ (c : Checked) (ticket : Ticket) (verified : IsVerified c) (suffices : Suffices c ticket) (small : length ticket.part.bytes ≤ 65536)

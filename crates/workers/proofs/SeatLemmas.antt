@@ -8,7 +8,7 @@ use Rattle.verifier.specs.Checked.{Checked, program_of}
 use Rattle.credit_book.specs.declared.task.Outcome.{Outcome}
 use Rattle.credit_book.specs.declared.task.Ticket.{Ticket}
 use Rattle.task_trees.specs.Solo.{SpawnRequest}
-use Rattle.task_run.specs.Through.{GoesThrough}
+use Rattle.virtual_machine.specs.Through.{GoesThrough}
 use Rattle.task_register.specs.declared.seats.TaskStart.{TaskStart}
 use Rattle.task_register.specs.declared.seats.SeatedTask.{SeatedTask}
 use Rattle.task_register.specs.declared.seats.TaskResult.{TaskResult}

@@ -6,7 +6,7 @@ use Rattle.verifier.specs.Checked.{Checked, program_of}
 use Rattle.credit_book.specs.declared.task.Ticket.{Ticket}
 use Rattle.credit_book.specs.declared.task.Outcome.{Outcome}
 use Rattle.task_trees.specs.Solo.{SpawnRequest, IsGiven, entering}
-use Rattle.task_run.specs.Through.{RunsAlone}
+use Rattle.virtual_machine.specs.Through.{RunsAlone}
 
 -- the ticket's task wasn't run
 pub record IsUnrun (ticket : Ticket) (outcome : Outcome) : Type 0 where

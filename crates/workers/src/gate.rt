@@ -2,7 +2,7 @@
 
 use std::marker::Brand;
 use task_register::JobId;
-use task_run::RunObserver;
+use virtual_machine::RunObserver;
 
 /// Is told of each task ahead of its first step and past its last one, by the worker that runs it.
 pub trait Gate {

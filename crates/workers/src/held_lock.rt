@@ -3,7 +3,7 @@
 use crate::worker::AtDesk;
 use std::cell::RefCell;
 use task_register::JobId;
-use task_run::RunObserver;
+use virtual_machine::RunObserver;
 
 /// The lock, held, and whether the task has spawned since the last stretch of it ended.
 #[derive(Drop)]

@@ -24,8 +24,8 @@ use std::sync::Wait;
 use std::thread;
 use std::thread::{Scope, Threads};
 use task_register::{JobId, NewTaskRegister};
-use task_run::Frames;
 use verifier::Verified;
+use virtual_machine::Frames;
 
 /// A worker while it has no thread: its view of how far the job is, and its lanes.
 #[derive(Drop)]

@@ -7,7 +7,7 @@ ghost use Rattle.verifier.specs.Checked.{program_of, IsVerified};
 ghost use Rattle.job_core.specs.Admitted.{AreOwn};
 ghost use Rattle.interpreter.specs.Representation.{zeroed};
 ghost use Rattle.interpreter.specs.Children.{MayHandOver};
-ghost use Rattle.task_run.specs.Through.{GoesThrough};
+ghost use Rattle.virtual_machine.specs.Through.{GoesThrough};
 ghost use Rattle.workers.specs.Heard.{HasHeard};
 ghost use Rattle.workers.specs.Outcomes.{IsOutcome, IsRunBy, Suffices};
 
@@ -18,8 +18,8 @@ use helpers::{Entry, Spawner};
 use interpreter::{Credit, Frame};
 use machine_model::MAX_CREDIT;
 use std::alloc::Global;
-use task_run::{Frames, Nobody, RunObserver, run_to_end};
 use verifier::Verified;
+use virtual_machine::{Frames, Nobody, RunObserver, run_to_end};
 
 /// What a spawn has to know of the program of this number, if the list has it. The call asks for at
 /// most 65,536 programs.

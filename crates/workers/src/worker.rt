@@ -16,8 +16,8 @@ use std::alloc::Global;
 use std::marker::Model;
 use std::sync::{Mutex, MutexGuard, Wait};
 use std::{hint, thread};
-use task_run::Frames;
 use verifier::Verified;
+use virtual_machine::Frames;
 
 /// How many outcomes a worker holds back at least, so that the book is told of many at once.
 const FEW_HELD_BACK: usize = 16;

@@ -15,7 +15,7 @@ use Rattle.interpreter.specs.declared.frame.Frame.{Frame}
 use Rattle.interpreter.specs.declared.credit.Credit.{Credit}
 use Rattle.interpreter.specs.Representation.{AtInsn, state_of}
 use Rattle.interpreter.proofs.Steps.{affords_price, effect_at}
-use Rattle.task_run.proofs.OwnTable.{own_table}
+use Rattle.virtual_machine.proofs.OwnTable.{own_table}
 use Rattle.yielding.specs.Stops.{RunsByItself}
 
 -- the program without the host's helpers

@@ -2,7 +2,7 @@ use Rattle.std.proofs.Common.{◌∙◌, refl, ap, arith}
 use Rattle.interpreter.specs.declared.frame.Frame.{Frame}
 use Rattle.interpreter.specs.Representation.{at_slot, lent}
 use Rattle.virtual_machine.specs.Functions.{call_answers}
-use Rattle.virtual_machine.proofs.Running.{enters, goes_far, goes_on, ends}
+use Rattle.virtual_machine.proofs.AloneLemmas.{enters, goes_far, goes_on, ends}
 use Rattle.virtual_machine.proofs.Answering.{are_answers}
 use Rattle.virtual_machine.proofs.alone.run_alone.Goals as goal
 

@@ -2,7 +2,7 @@ use Rattle.std.proofs.Common.{◌≡◌, ◌-◌}
 use Rattle.task_trees.specs.Solo.{entering}
 use Rattle.virtual_machine.specs.Functions.{call_answers}
 use Rattle.interpreter.specs.Representation.{at_slot, lent}
-use Rattle.virtual_machine.proofs.Running.{IsUnderWay}
+use Rattle.virtual_machine.proofs.AloneLemmas.{IsUnderWay}
 use Rattle.virtual_machine.proofs.alone.run_alone.Given as goal
 
 abbrev pub invariant-loop-next : goal.invariant-loop-next

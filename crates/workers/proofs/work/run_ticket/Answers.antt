@@ -2,7 +2,7 @@ use Rattle.std.proofs.Common.{◌≡◌, ◌∙◌, ◌≤◌, ◌<◌, ◌^◌,
 use Rattle.helpers.specs.Piece.{Piece}
 use Rattle.interpreter.specs.Representation.{entry_frame}
 use Rattle.interpreter.specs.declared.credit.Credit.{Credit}
-use Rattle.task_run.specs.Through.{GoesThrough}
+use Rattle.virtual_machine.specs.Through.{GoesThrough}
 use Rattle.workers.proofs.Runs.{covered_of, alone_of}
 use Rattle.workers.proofs.work.run_ticket.Goals as goal
 

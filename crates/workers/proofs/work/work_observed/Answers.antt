@@ -1,5 +1,5 @@
 use Rattle.std.proofs.Common.{rules, refl, ap, ◌∙◌}
-use Rattle.task_run.specs.Through.{GoesThrough}
+use Rattle.virtual_machine.specs.Through.{GoesThrough}
 use Rattle.workers.proofs.Runs.{outcome_of, read_at}
 use Rattle.workers.proofs.work.work_observed.Goals as goal
 

@@ -1,0 +1,6 @@
+use Rattle.std.proofs.Common.{◌≡◌, string_bytes, take}
+use Rattle.bpfjobs_cli.specs.Lines.{job_object_lines}
+use Rattle.bpfjobs_cli.proofs.view_texts.step_objects.Given as goal
+
+abbrev pub invariant-loop-step : goal.invariant-loop-step
+invariant-loop-step l = string_bytes l.text ≡ job_object_lines (take l.step-index l.steps)

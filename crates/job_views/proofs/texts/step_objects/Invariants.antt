@@ -1,6 +1,0 @@
-use Rattle.std.proofs.Common.{◌≡◌, string_bytes, take}
-use Rattle.job_views.specs.Lines.{job_object_lines}
-use Rattle.job_views.proofs.texts.step_objects.Given as goal
-
-abbrev pub invariant-loop-step : goal.invariant-loop-step
-invariant-loop-step l = string_bytes l.text ≡ job_object_lines (take l.step-index l.steps)
