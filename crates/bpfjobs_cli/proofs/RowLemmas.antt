@@ -118,7 +118,7 @@ module _ (a : Rule) where
 
   values_fit : (id : Text) (how : Reading) (s : ValueSource) (values : List Text) (rows : List Row) → Fit rows
       → (bytes_eq id a.id ≡ true → (how ≡ reading_by a) × (values_pass a values ≡ true) × (0 < length values)) →
-        Fit (with_values id how s values rows)
+      Fit (with_values id how s values rows)
   values_fit id how s values rows f g =
       let more : (r : Row) → bytes_eq r.id id ≡ true → FitsRow r → Fit (more_values s values r) = λ r e h. (
         λ here.
@@ -139,7 +139,7 @@ module _ (a : Rule) where
       (bytes_eq id a.id ≡ true → ⊥) → Fit (with_count id how s n rows)
   count_fits id how s n rows f other =
       let more : (r : Row) → bytes_eq r.id id ≡ true → FitsRow r → Fit (new_count s n r) =
-        λ r e h. (λ here. absurd (other (same_id r id e here)), tt) in
+      λ r e h. (λ here. absurd (other (same_id r id e here)), tt) in
       at_fits id (new_count s n) (record {
         id = id;
         values = count_text n ∷ [];
@@ -153,17 +153,17 @@ module _ (a : Rule) where
   other_as : (x : ArgAction) (id : Text) (how : Reading) (values : List Text) (rows : List Row) →
       (bytes_eq id a.id ≡ true → ⊥) → Fit rows → Fit (used_as x id how values rows)
   other_as action.Set id how values rows other f =
-    values_fit id how CommandLine values (without id rows) (without_fits id rows f) (λ here. absurd (other here))
+      values_fit id how CommandLine values (without id rows) (without_fits id rows f) (λ here. absurd (other here))
   other_as action.SetTrue id how values rows other f =
-    values_fit id how CommandLine values (without id rows) (without_fits id rows f) (λ here. absurd (other here))
+      values_fit id how CommandLine values (without id rows) (without_fits id rows f) (λ here. absurd (other here))
   other_as action.SetFalse id how values rows other f =
-    values_fit id how CommandLine values (without id rows) (without_fits id rows f) (λ here. absurd (other here))
+      values_fit id how CommandLine values (without id rows) (without_fits id rows f) (λ here. absurd (other here))
   other_as action.Append id how values rows other f =
-    values_fit id how CommandLine values rows f (λ here. absurd (other here))
+      values_fit id how CommandLine values rows f (λ here. absurd (other here))
   other_as action.Count id how [] rows other f =
-    count_fits id how CommandLine (min (count_of id rows + 1) 255) (without id rows) (without_fits id rows f) other
+      count_fits id how CommandLine (min (count_of id rows + 1) 255) (without id rows) (without_fits id rows f) other
   other_as action.Count id how (v ∷ vs) rows other f =
-    values_fit id how CommandLine (v ∷ vs) (without id rows) (without_fits id rows f) (λ here. absurd (other here))
+      values_fit id how CommandLine (v ∷ vs) (without id rows) (without_fits id rows f) (λ here. absurd (other here))
   other_as action.Help id how values rows other f = f
   other_as action.HelpShort id how values rows other f = f
   other_as action.HelpLong id how values rows other f = f
@@ -174,9 +174,9 @@ module _ (a : Rule) where
       → Fit (used_as x a.id (reading_by a) values rows)
   set_as action.Set again values rows is none there f =
       let passed = passes_from a.ignore_case (parser_of_value a.parser) values
-        (none_of (repeat_fault again a.id rows) (values_fault a values) none).1 in
+      (none_of (repeat_fault again a.id rows) (values_fault a values) none).1 in
       values_fit a.id (reading_by a) CommandLine values (without a.id rows) (without_fits a.id rows f)
-        (λ here. (refl, passed, there))
+      (λ here. (refl, passed, there))
   set_as action.SetTrue again values rows is none there f = absurd cc
   set_as action.SetFalse again values rows is none there f = absurd cc
   set_as action.Append again values rows is none there f = absurd cc
@@ -199,7 +199,7 @@ module _ (a : Rule) where
     own_fits again (v ∷ vs) rows none f =
         let n : ℕ = length (v ∷ vs) in
         let parts = none_of (range_kinds (unwrap_or_range a.range).start_inclusive (most_values a) n)
-          (action_fault (action_of a) again a (v ∷ vs) rows) none in
+        (action_fault (action_of a) again a (v ∷ vs) rows) none in
         set_as (action_of a) again (v ∷ vs) rows sets parts.1 (omega arith) f
 
     used_fits : (again : Bool) (x : Rule) (values : List Text) (rows : List Row) → IsOnly x →
@@ -208,9 +208,9 @@ module _ (a : Rule) where
       where
         go : (b : Bool) → bytes_eq x.id a.id ≡ b → Fit (used x values rows)
         go true e = subst (λ (y : Rule). use_fault again y values rows ≡ [] → Fit (used y values rows)) (sym (only e))
-          (λ h. own_fits again values rows h f) none
+            (λ h. own_fits again values rows h f) none
         go false e = other_as (action_of x) x.id (reading_by x) (values_or_missing x values) rows
-          (λ here. true≢false (sym here ∙ e)) f
+            (λ here. true≢false (sym here ∙ e)) f
 
     abbrev Only : List Rule → Type 0
     Only = Each IsOnly
@@ -225,10 +225,10 @@ module _ (a : Rule) where
 
     settled_by : (c : List Rule) (again : Bool) (p : Option (Text × List Text)) (rows : List Row) → Only c
         → option_map_or (λ q. option_map_or (λ x. use_fault again x q.1 rows) (arg_by_id c q.0) []) p [] ≡ [] →
-          Fit rows → Fit (settled_rows c p rows)
+        Fit rows → Fit (settled_rows c p rows)
     settled_by c again None rows only none f = f
     settled_by c again (Some p) rows only none f =
-      used_by again (arg_by_id c p.0) p.1 rows (find_on IsOnly (λ x. bytes_eq x.id p.0) c only) none f
+        used_by again (arg_by_id c p.0) p.1 rows (find_on IsOnly (λ x. bytes_eq x.id p.0) c only) none f
 
     pub settled_fits : (c : List Rule) (again : Bool) (h : Held) → Only c → settle_fault c again h ≡ [] → Fit h.rows →
         Fit (settled c h).rows
@@ -267,7 +267,7 @@ module _ (a : Rule) where
       short_fits : (o : Option Rule) (rest : Text) (h : Held) (after : Held → Held × Outcome) (faults : Held → Kinds) →
           On IsOnly o
           → ((g : Held) → faults g ≡ [] → Fit g.rows → Fit (after g).0.rows) →
-            short_fault c again o rest h faults ≡ [] → Fit h.rows → Fit (short_met c o rest h after).0.rows
+          short_fault c again o rest h faults ≡ [] → Fit h.rows → Fit (short_met c o rest h after).0.rows
       short_fits None rest h after faults own rec none f = f
       short_fits (Some x) rest h after faults own rec none f = go (takes_values x) none
         where
@@ -287,13 +287,13 @@ module _ (a : Rule) where
           (after : Text → ℕ → Outcome → Held → Held × Outcome) (faults : Text → ℕ → Held → Kinds)
           → ((t : Text) (s : ℕ) (u : Outcome) (g : Held) → faults t s g ≡ [] → Fit g.rows → Fit (after t s u g).0.rows)
           → bundle_step_fault c again o flags skip h faults ≡ [] → Fit h.rows →
-            Fit (bundle_step c o flags skip so_far h after).0.rows
+          Fit (bundle_step c o flags skip so_far h after).0.rows
       bundle_fit None flags skip so_far h after faults rec none f = f
       bundle_fit (Some x) flags zero so_far h after faults rec none f =
           let rest = drop (length (encode_utf8 x)) flags in
           short_fits (arg_by_short c x) rest h (after rest 0 done) (faults rest 0) (by_short x) (λ g e k. rec rest 0 done g e k) none f
       bundle_fit (Some x) flags (suc skip) so_far h after faults rec none f =
-        rec (drop (length (encode_utf8 x)) flags) skip so_far h none f
+          rec (drop (length (encode_utf8 x)) flags) skip so_far h none f
 
       bundles_fit : (k : ℕ) (flags : Text) (skip : ℕ) (so_far : Outcome) (h : Held) →
           flags_fault c again k flags skip h ≡ [] → Fit h.rows → Fit (bundle_met c k flags skip so_far h).0.rows
@@ -301,7 +301,7 @@ module _ (a : Rule) where
       bundles_fit zero flags skip so_far h none f = f
       bundles_fit (suc k) flags skip so_far h none f =
           bundle_fit (slice_get (chars flags) 0) flags skip so_far h (bundle_met c k) (flags_fault c again k)
-            (λ t s u g e r. bundles_fit k t s u g e r) none f
+          (λ t s u g e r. bundles_fit k t s u g e r) none f
 
       plain_fits : (waiting : Waiting) (word : Text) (h : Held) → Fit h.rows → Fit (plain_word c waiting word h).0.rows
       plain_fits (option id) word h f = go (arg_by_id c id)
@@ -326,7 +326,7 @@ module _ (a : Rule) where
       short_word_fits waiting word (Some flags) h none f =
           let met = bundle c flags h in
           after_fits waiting word met.0 met.1
-            (bundles_fit (length flags) flags h.skip plain (record h { skip = 0 }) none f)
+          (bundles_fit (length flags) flags h.skip plain (record h { skip = 0 }) none f)
 
       flag_word_fits : (waiting : Waiting) (word : Text) (o : Option (Text × Option Text)) (h : Held) →
           flag_word_fault c again o word h ≡ [] → Fit h.rows
@@ -353,7 +353,7 @@ module _ (a : Rule) where
           → Fit (word_met s.rules names is_trailing waiting position word h).0.rows
       word_fits true waiting position word h none f = f
       word_fits false waiting position word h none f =
-        other_fits (subcommand_met names waiting word) waiting position word h none f
+          other_fits (subcommand_met names waiting word) waiting position word h none f
 
       positional_fits : (x : Rule) (word : Text) (h : Held) → positional_fault s.rules s.args_override_self x h ≡ [] →
           Fit h.rows → Fit (positional_held s.rules x word h).rows
@@ -380,13 +380,13 @@ module _ (a : Rule) where
       stop_fits : (o : Option (Text × List Text)) (w : Walk) (word : Text)
           → cond (is_some o) [] (or_else (word_fault s names w.is_trailing w.waiting word w.held)
           (step_fault s w.position (word_met s.rules names w.is_trailing w.waiting w.position word w.held).0
-            (word_met s.rules names w.is_trailing w.waiting w.position word w.held).1)) ≡ []
+          (word_met s.rules names w.is_trailing w.waiting w.position word w.held).1)) ≡ []
           → Fit w.held.rows → Fit (walked_from s.rules names o w word).held.rows
       stop_fits (Some p) w word none f = f
       stop_fits None w word none f =
           let met = word_met s.rules names w.is_trailing w.waiting w.position word w.held in
           let parts = none_of (word_fault s names w.is_trailing w.waiting word w.held)
-            (step_fault s w.position met.0 met.1) none in
+          (step_fault s w.position met.0 met.1) none in
           step_fits met.1 word w met.0 parts.1 (word_fits w.is_trailing w.waiting w.position word w.held parts.0 f)
 
       turn_fits : (w : Walk) (word : Text) → turn_fault s names w word ≡ [] → Fit w.held.rows →
@@ -400,7 +400,7 @@ module _ (a : Rule) where
       walk_fits w [] none f = f
       walk_fits w (word ∷ rest) none f =
           let parts = none_of (turn_fault s names w word)
-            (walk_fault s names (walked s.rules names w word) rest) none in
+          (walk_fault s names (walked s.rules names w word) rest) none in
           walk_fits (walked s.rules names w word) rest parts.1 (turn_fits w word parts.0 f)
 
     -- ---- after the walk
@@ -413,10 +413,13 @@ module _ (a : Rule) where
         let some : is_empty (v ∷ vs) ≡ false = ne_eqb _ _ (λ e. omega (arith, e)) in
         let fault : given_default_fault x (v ∷ vs) ≡ [] = rw some at none in
         let passed = passes_from x.ignore_case (parser_of_value x.parser) (v ∷ vs)
-          (none_of (request_kinds (action_of x)) (values_fault x (v ∷ vs)) fault).1 in
+        (none_of (request_kinds (action_of x)) (values_fault x (v ∷ vs)) fault).1 in
         values_fit x.id (reading_by x) DefaultValue (v ∷ vs) rows f
-        (λ here. (ap reading_by (own here), subst (λ (y : Rule). values_pass y (v ∷ vs) ≡ true) (own here) passed,
-          omega arith))
+        (λ here. (
+          ap reading_by (own here),
+          subst (λ (y : Rule). values_pass y (v ∷ vs) ≡ true) (own here) passed,
+          omega arith,
+        ))
 
     default_fits : (rows : List Row) (x : Rule) → IsOnly x → default_fault rows x ≡ [] → Fit rows →
         Fit (with_default rows x)
@@ -447,14 +450,14 @@ module _ (a : Rule) where
         let defaults_well = none_of (defaults_fault (settled s.rules end).rows s.rules) _ settled_well.1 in
         defaults_fit (settled s.rules end).rows s.rules only defaults_well.0
         (settled_fits s.rules s.args_override_self end only settled_well.0
-          (walk_fits s names only (walk_from nothing_held) words walked_well.0 tt))
+        (walk_fits s names only (walk_from nothing_held) words walked_well.0 tt))
 
   -- ---- what the getters read
 
   -- the argument has a value, which passed its parser
   abbrev pub HasValue : List Row → Type 0
   HasValue rows = (t : Text) × (one_of a.id rows ≡ Some (read_as (reading_by a) t)) × (first_of a.id rows ≡ Some t)
-    × (value_passes a t ≡ true)
+      × (value_passes a t ≡ true)
 
   found_fits : (rows : List Row) → Fit rows → On IsRow (find (λ r. bytes_eq r.id a.id) rows)
   found_fits [] f = tt
@@ -467,14 +470,14 @@ module _ (a : Rule) where
 
   row_read : (how : Reading) (vs : List Text) → how ≡ reading_by a → values_pass a vs ≡ true → 0 < length vs
       → (t : Text) × (option_map (read_as how) (slice_get vs 0) ≡ Some (read_as (reading_by a) t))
-        × (slice_get vs 0 ≡ Some t) × (value_passes a t ≡ true)
+      × (slice_get vs 0 ≡ Some t) × (value_passes a t ≡ true)
   row_read how [] is passed there = absurd (omega arith)
   row_read how (v ∷ vs) is passed there =
-    (v, ap (λ h. Some (read_as h v)) is, refl, (both (value_passes a v) (values_pass a vs) passed).0)
+      (v, ap (λ h. Some (read_as h v)) is, refl, (both (value_passes a v) (values_pass a vs) passed).0)
 
   read_at : (o : Option Row) → On IsRow o → is_some o ≡ true
       → (t : Text) × (option_and_then row_text o ≡ Some (read_as (reading_by a) t))
-        × (option_and_then (λ r. slice_get r.values 0) o ≡ Some t) × (value_passes a t ≡ true)
+      × (option_and_then (λ r. slice_get r.values 0) o ≡ Some t) × (value_passes a t ≡ true)
   read_at None is there = absurd (true≢false (sym there))
   read_at (Some r) is there = row_read r.reading r.values is.0 is.1 is.2
 
@@ -528,8 +531,8 @@ required_there s rows has a none needed among required =
     let missing = (no_kinds _ _ _ none).1 in
     let any : list_any (λ x. x.required && not (is_given x.id rows)) s.rules ≡ false = rw needed at missing in
     given_there a.id rows
-      (required_test a.required (is_given a.id rows)
-      (none_passes (λ x. x.required && not (is_given x.id rows)) a s.rules any among) required)
+    (required_test a.required (is_given a.id rows)
+    (none_passes (λ x. x.required && not (is_given x.id rows)) a s.rules any among) required)
 
 row_there : (id : Text) (rows : List Row) → has_row id rows ≡ true → is_some (find (λ r. bytes_eq r.id id) rows) ≡ true
 row_there id [] e = absurd (true≢false (sym e))
@@ -546,12 +549,12 @@ default_keeps : (id other : Text) (how : Reading) (values : List Text) (rows : L
     has_row id (with_values other how DefaultValue values rows) ≡ true
 default_keeps id other how values [] e = absurd (true≢false (sym e))
 default_keeps id other how values (r ∷ rs) e =
-  go (bytes_eq r.id other) (bytes_eq r.id id) refl e (λ h. default_keeps id other how values rs h)
+    go (bytes_eq r.id other) (bytes_eq r.id id) refl e (λ h. default_keeps id other how values rs h)
   where
     go : (b c : Bool) → bytes_eq r.id id ≡ c → (c || has_row id rs) ≡ true →
         (has_row id rs ≡ true → has_row id (with_values other how DefaultValue values rs) ≡ true)
         → has_row id (cond b (more_values DefaultValue values r ++ rs)
-          (r ∷ with_values other how DefaultValue values rs)) ≡ true
+        (r ∷ with_values other how DefaultValue values rs)) ≡ true
     go true c is h rest = rw is h
     go false true is h rest = rw is refl
     go false false is h rest = rw is (rest h)
@@ -564,7 +567,7 @@ default_adds id how values (r ∷ rs) = go (bytes_eq r.id id) refl (default_adds
   where
     go : (b : Bool) → bytes_eq r.id id ≡ b → has_row id (with_values id how DefaultValue values rs) ≡ true
         → has_row id (cond b (more_values DefaultValue values r ++ rs) (r ∷ with_values id how DefaultValue values rs))
-          ≡ true
+        ≡ true
     go true is rest = rw is refl
     go false is rest = rw is rest
 
@@ -596,7 +599,7 @@ defaults_there : (rows : List Row) (c : List Rule) (a : Rule) → Among a c → 
 defaults_there rows [] a among there = absurd among
 defaults_there rows (x ∷ xs) a (inl is) there =
     rows_kept a.id (with_default rows x) xs (subst (λ (y : Rule). has_row a.id (with_default rows y) ≡ true) (sym is)
-      (row_made rows a there))
+    (row_made rows a there))
 defaults_there rows (x ∷ xs) a (inr rest) there = defaults_there (with_default rows x) xs a rest there
 
 -- an argument with a default has a row
@@ -604,7 +607,7 @@ pub default_there : (s : Shape) (names : Names) (words : List Text) (a : Rule) �
     → is_some (find (λ r. bytes_eq r.id a.id) (rows_after s.rules names words)) ≡ true
 default_there s names words a among there =
     row_there a.id (rows_after s.rules names words)
-      (defaults_there (settled s.rules (walk s.rules names nothing_held words).held).rows s.rules a among there)
+    (defaults_there (settled s.rules (walk s.rules names nothing_held words).held).rows s.rules a among there)
 
 -- the last checks of a level that doesn't fail
 pub level_checks : (s : Shape) (names : Names) (words : List Text) (has : Bool) (below : Kinds) →
@@ -627,7 +630,7 @@ module _ (a : Rule) (sets : action_of a ≡ action.Set) (wants : 1 ≤ (unwrap_o
   pub required_value : (s.subcommand_negates_reqs && has) ≡ false → Among a s.rules → a.required ≡ true →
       HasValue a (rows_after s.rules names words)
   required_value needed among required =
-    value_of a _ fits (required_there s _ has a (level_checks s names words has below none) needed among required)
+      value_of a _ fits (required_there s _ has a (level_checks s names words has below none) needed among required)
 
   -- and so has one with a default
   pub default_value : Among a s.rules → 0 < length a.defaults → HasValue a (rows_after s.rules names words)

@@ -90,9 +90,9 @@ end_set : (ss : List Standing) (m : ℕ) → m < length ss → is_alive (get_or 
     as_one (m == n) + alive_at (set ss m ended_standing) n ≡ alive_at ss n
 end_set ss m lt alive n =
     at_set (λ (x : Standing). as_one (m == n) + as_one (is_alive x.stage)
-      ≡ alive_at ss n) ss m n ended_standing ended_standing lt
+    ≡ alive_at ss n) ss m n ended_standing ended_standing lt
     (λ e. let one = one_if m n (sym e) in let here : alive_at ss n ≡ 1 = ap (λ k. alive_at ss k) e ∙ ap as_one alive in
-      omega (arith, one, here))
+    omega (arith, one, here))
     (λ ne. let other = zero_if m n (λ e. ne (sym e)) in omega (arith, other))
 
 suc_same : (a b : ℕ) → as_one (suc a == suc b) ≡ as_one (a == b)
@@ -102,7 +102,7 @@ suc_same a b = by_test (a == b) refl
     by_test true t = let e : a ≡ b = grind (arith, nat_tests) in one_if (suc a) (suc b) (ap suc e) ∙ sym (one_if a b e)
     by_test false t =
         let ne : a ≢ b =
-          λ e. let one = one_if a b e in let none : as_one (a == b) ≡ 0 = ap as_one t in omega (arith, one, none) in
+        λ e. let one = one_if a b e in let none : as_one (a == b) ≡ 0 = ap as_one t in omega (arith, one, none) in
         zero_if (suc a) (suc b) (λ e. ne (omega (arith, e))) ∙ sym (zero_if a b ne)
 
 push_alive : (ss : List Standing) (s : Standing) → is_alive s.stage ≡ true → (n : ℕ) →
@@ -110,9 +110,9 @@ push_alive : (ss : List Standing) (s : Standing) → is_alive s.stage ≡ true �
 push_alive [] s alive zero = ap as_one alive
 push_alive [] s alive (suc n) = let other = zero_if 0 (suc n) (λ e. omega (arith, e)) in omega (arith, other)
 push_alive (x ∷ xs) s alive zero = let other = zero_if (suc (length xs)) 0 (λ e. omega (arith, e)) in
-  omega (arith, other)
+    omega (arith, other)
 push_alive (x ∷ xs) s alive (suc n) =
-  push_alive xs s alive n ∙ ap (λ k. alive_at xs n + k) (sym (suc_same (length xs) n))
+    push_alive xs s alive n ∙ ap (λ k. alive_at xs n + k) (sym (suc_same (length xs) n))
 
 -- ---- a spawn
 
@@ -125,7 +125,7 @@ module _ (known : RegisterState) (t : TaskTable) (agrees : AgreesWith known t) w
       ≡ count_by (λ (k : ℕ). k == n) (numbers_to (length known.starts)) + as_one (length known.starts == n)
   counts_more n b =
       let long : length (known.starts ++ b ∷ []) ≡ suc (length known.starts) =
-        length-append known.starts (b ∷ []) ∙ omega arith in
+      length-append known.starts (b ∷ []) ∙ omega arith in
       ap (λ m. count_by (λ (k : ℕ). k == n) (numbers_to m)) long
       ∙ sum_by-append (λ k. as_one (k == n)) (numbers_to (length known.starts)) (length known.starts ∷ [])
       ∙ omega (arith, sum_by-cons (λ k. as_one (k == n)) (length known.starts) [])
@@ -133,38 +133,46 @@ module _ (known : RegisterState) (t : TaskTable) (agrees : AgreesWith known t) w
   pub agrees_spawn : (parent child program share arg base len : ℕ) (b : TaskStart) →
       May t (Spawn parent child program share arg base len) →
       b.parent ≡ parent → b.program ≡ program → b.share ≡ share → b.arg ≡ arg →
-        AgreesWith (with_start known b) (after t (Spawn parent child program share arg base len))
+      AgreesWith (with_start known b) (after t (Spawn parent child program share arg base len))
   agrees_spawn parent child program share arg base len b may by p s a =
       let inside : parent < length t.standings =
-        within t.standings parent (alive_from-work (standing_at t parent).stage may.0) in
+      within t.standings parent (alive_from-work (standing_at t parent).stage may.0) in
       let number : child ≡ length known.starts = may.1 ∙ agrees.paired in
       let left : Standing =
-        record { held = (standing_at t parent).held - share; stage = (standing_at t parent).stage } in
+      record { held = (standing_at t parent).held - share; stage = (standing_at t parent).stage } in
       let new : Standing = record { held = share; stage = Fresh } in
       let births_long : length (known.starts ++ b ∷ []) ≡ suc (length known.starts) =
-        length-append known.starts (b ∷ []) ∙ omega arith in
+      length-append known.starts (b ∷ []) ∙ omega arith in
       record {
         long = length-append t.tasks (new_task child program arg share ∷ [])
-          ∙ (let l = agrees.long in omega (arith, l, births_long));
+            ∙ (let l = agrees.long in omega (arith, l, births_long));
         paired = length-append (set t.standings parent left) (new ∷ [])
-          ∙ (let l = agrees.paired in let m = length-set t.standings parent left in omega (arith, l, m, births_long));
+            ∙ (let l = agrees.paired in let m = length-set t.standings parent left in omega (arith, l, m, births_long));
         told = λ n c there. elim (end_cases known.starts b c n there) [
           | inl was ↦ let old =
-            agrees.told n c was in (old.0, longer t.tasks (new_task child program arg share) old.0 n old.1, old.2)
+              agrees.told n c was in (old.0, longer t.tasks (new_task child program arg share) old.0 n old.1, old.2)
           | inr is ↦
               let at : child ≡ n = number ∙ sym is.0 in
               let place : length t.tasks ≡ n = agrees.long ∙ sym is.0 in
               let here : slice_get (t.tasks ++ new_task child program arg share ∷ []) n ≡ Some
-                (new_task n program arg share) =
+              (new_task n program arg share) =
               ap (slice_get (t.tasks ++ new_task child program arg share ∷ [])) (sym place) ∙ last_is t.tasks
-                (new_task child program arg share)
-              ∙ ap (λ k. Some (new_task k program arg share)) at in
-              (new_task n program arg share, here, subst (λ x. ReportsStart n x (new_task n program arg share)) is.1
-                (tells_new n program arg share b p a s))
+              (new_task child program arg share)
+              ∙ ap (λ k. Some (new_task k program arg share)) at in (
+                new_task n program arg share,
+                here,
+                subst (λ x. ReportsStart n x (new_task n program arg share)) is.1
+                    (tells_new n program arg share b p a s),
+              )
         ];
         ended = λ k o there. let e = agrees.ended k o there in
-            record { end = e.end; there = longer t.tasks (new_task child program arg share) e.end o.own.number e.there;
-              spent = e.spent; r0 = e.r0; ran = e.ran };
+            record {
+              end = e.end;
+              there = longer t.tasks (new_task child program arg share) e.end o.own.number e.there;
+              spent = e.spent;
+              r0 = e.r0;
+              ran = e.ran;
+            };
         counted = λ n.
             let old = agrees.counted n in
             let more = counts_more n b in
@@ -173,7 +181,7 @@ module _ (known : RegisterState) (t : TaskTable) (agrees : AgreesWith known t) w
             let long_set = length-set t.standings parent left in
             let paired = agrees.paired in
             let same : as_one (length (set t.standings parent left) == n) ≡ as_one (length known.starts == n) =
-              ap (λ m. as_one (m == n)) (long_set ∙ paired) in
+            ap (λ m. as_one (m == n)) (long_set ∙ paired) in
             omega (arith, old, more, pushed, kept, same);
         balanced = λ n c there.
             let paired = agrees.paired in
@@ -183,30 +191,30 @@ module _ (known : RegisterState) (t : TaskTable) (agrees : AgreesWith known t) w
             let task : TaskEnd = new_task child program arg share in
             let both : length t.tasks ≡ length t.standings = omega (arith, long, paired) in
             subst (λ k. Balances c.share (shares (children_in n (known.starts ++ b ∷ [])))
-              (get_or (set t.standings parent
-              (record { held = (standing_at t parent).held - k; stage = (standing_at t parent).stage })
-              ++ record { held = k; stage = Fresh } ∷ []) n ended_standing) (get_or (t.tasks ++ task ∷ []) n no_end)) s
+            (get_or (set t.standings parent
+            (record { held = (standing_at t parent).held - k; stage = (standing_at t parent).stage })
+            ++ record { held = k; stage = Fresh } ∷ []) n ended_standing) (get_or (t.tasks ++ task ∷ []) n no_end)) s
             (elim (end_cases known.starts b c n there) [
               | inl was ↦ balance_older t.standings t.tasks both known.starts paired b parent task inside by alive less
-                n c.share
+                  n c.share
                   (slice_get_within known.starts n c was) (agrees.balanced n c was)
               | inr is ↦ subst
-                (λ x. Balances x.share (shares (children_in n (known.starts ++ b ∷ [])))
-                (get_or (set t.standings parent
-                (record { held = (standing_at t parent).held - b.share; stage = (standing_at t parent).stage })
-                ++ record { held = b.share; stage = Fresh } ∷ []) n ended_standing)
-                (get_or (t.tasks ++ task ∷ []) n no_end)) is.1
+                  (λ x. Balances x.share (shares (children_in n (known.starts ++ b ∷ [])))
+                  (get_or (set t.standings parent
+                  (record { held = (standing_at t parent).held - b.share; stage = (standing_at t parent).stage })
+                  ++ record { held = b.share; stage = Fresh } ∷ []) n ended_standing)
+                  (get_or (t.tasks ++ task ∷ []) n no_end)) is.1
                   (balance_newest t.standings t.tasks both known.starts paired b parent task inside by alive less n is.0
-                    agrees.older (get_or (t.tasks ++ task ∷ []) n no_end))
+                  agrees.older (get_or (t.tasks ++ task ∷ []) n no_end))
             ]);
         older = λ k c there.
             let some : 0 < length known.starts = (let paired = agrees.paired in omega (arith, inside, paired)) in
             elim (end_cases (drop 1 known.starts) b c k (ap (λ l. slice_get l k) (sym (born_longer known.starts b some))
-              ∙ there)) [
+            ∙ there)) [
               | inl was ↦ let lt = agrees.older k c was in omega (arith, lt, births_long)
               | inr is ↦ let same : b.parent ≡ c.parent =
-                ap (λ (x : TaskStart). x.parent) is.1 in let paired =
-                agrees.paired in omega (arith, same, by, inside, paired, births_long)
+                  ap (λ (x : TaskStart). x.parent) is.1 in let paired =
+                  agrees.paired in omega (arith, same, by, inside, paired, births_long)
             ];
       }
 
@@ -214,8 +222,11 @@ module _ (known : RegisterState) (t : TaskTable) (agrees : AgreesWith known t) w
 
   moved : (n : ℕ) (stage : Stage) → is_alive (standing_at t n).stage ≡ true → is_alive stage ≡ true → (q : List ℕ) →
       AgreesWith known
-        (record { standings = set t.standings n (record { held = (standing_at t n).held; stage = stage });
-        tasks = t.tasks; queue = q })
+      (record {
+        standings = set t.standings n (record { held = (standing_at t n).held; stage = stage });
+        tasks = t.tasks;
+        queue = q;
+      })
   moved n stage was is q =
       let inside : n < length t.standings = within t.standings n was in
       let s : Standing = record { held = (standing_at t n).held; stage = stage } in
@@ -225,10 +236,10 @@ module _ (known : RegisterState) (t : TaskTable) (agrees : AgreesWith known t) w
         told = agrees.told;
         ended = agrees.ended;
         counted = λ m. let old = agrees.counted m in let kept = keep_set t.standings n s inside (is ∙ sym was) m in
-          omega (arith, old, kept);
+            omega (arith, old, kept);
         balanced = λ m b there. let long = agrees.long in let paired = agrees.paired in
             balance_moved t.standings t.tasks (omega (arith, long, paired)) n m b.share
-              (shares (children_in m known.starts)) stage inside was is (agrees.balanced m b there);
+            (shares (children_in m known.starts)) stage inside was is (agrees.balanced m b there);
         older = agrees.older;
       }
 
@@ -237,8 +248,11 @@ module _ (known : RegisterState) (t : TaskTable) (agrees : AgreesWith known t) w
 
   pub agrees_claim : (n : ℕ) (q : List ℕ) → is_alive (standing_at t n).stage ≡ true →
       AgreesWith known
-        (record { standings = set t.standings n (record { held = (standing_at t n).held; stage = Claimed });
-        tasks = t.tasks; queue = q })
+      (record {
+        standings = set t.standings n (record { held = (standing_at t n).held; stage = Claimed });
+        tasks = t.tasks;
+        queue = q;
+      })
   agrees_claim n q alive = moved n Claimed alive refl q
 
   -- ---- an end
@@ -252,11 +266,11 @@ module _ (known : RegisterState) (t : TaskTable) (agrees : AgreesWith known t) w
       let long = agrees.long in
       let paired = agrees.paired in
       let new : TaskEnd =
-        record (task_at t n) { spent = o.used; rest = (standing_at t n).held - o.used; r0 = o.r0; ran = o.ran } in
+      record (task_at t n) { spent = o.used; rest = (standing_at t n).held - o.used; r0 = o.r0; ran = o.ran } in
       let counted_more : (m : ℕ) → count_by (λ (x : TaskResult). x.own.number == m) (known.over ++ o ∷ [])
-        ≡ count_by (λ (x : TaskResult). x.own.number == m) known.over + as_one (n == m) =
+      ≡ count_by (λ (x : TaskResult). x.own.number == m) known.over + as_one (n == m) =
       λ m. sum_by-append (λ (x : TaskResult). as_one (x.own.number == m)) known.over (o ∷ [])
-        ∙ omega (arith, sum_by-cons (λ (x : TaskResult). as_one (x.own.number == m)) o []) in
+      ∙ omega (arith, sum_by-cons (λ (x : TaskResult). as_one (x.own.number == m)) o []) in
       record {
         long = length-set t.tasks n new ∙ long;
         paired = length-set t.standings n ended_standing ∙ paired;
@@ -265,8 +279,8 @@ module _ (known : RegisterState) (t : TaskTable) (agrees : AgreesWith known t) w
             (λ e.
             let same : task_at t n ≡ old.0 = ap (λ k. task_at t k) e ∙ get_or_from_slice_get t.tasks m old.0 _ old.1 in
             let at : slice_get (set t.tasks n new) m ≡ Some new =
-              ap (slice_get (set t.tasks n new)) (sym e) ∙ set_here t.tasks n new
-              (omega (arith, inside, long, paired)) in
+            ap (slice_get (set t.tasks n new)) (sym e) ∙ set_here t.tasks n new
+            (omega (arith, inside, long, paired)) in
             let tells = old.2 in (
               new,
               at,
@@ -283,11 +297,21 @@ module _ (known : RegisterState) (t : TaskTable) (agrees : AgreesWith known t) w
           | inl was ↦
               let e = agrees.ended k p was in
               let apart : p.own.number ≢ n = λ same. twice k p was same alive in
-              record { end = e.end; there = set_else t.tasks n p.own.number new e.end apart e.there; spent = e.spent;
-                r0 = e.r0; ran = e.ran }
+              record {
+                end = e.end;
+                there = set_else t.tasks n p.own.number new e.end apart e.there;
+                spent = e.spent;
+                r0 = e.r0;
+                ran = e.ran;
+              }
           | inr is ↦ subst (λ x. EndsSo (set t.tasks n new) x) is.1
-              (record { end = new; there = set_here t.tasks n new (omega (arith, inside, long, paired)); spent = refl;
-                r0 = refl; ran = refl })
+              (record {
+                end = new;
+                there = set_here t.tasks n new (omega (arith, inside, long, paired));
+                spent = refl;
+                r0 = refl;
+                ran = refl;
+              })
         ];
         counted = λ m.
             let old = agrees.counted m in
@@ -296,7 +320,7 @@ module _ (known : RegisterState) (t : TaskTable) (agrees : AgreesWith known t) w
             omega (arith, old, more, less);
         balanced = λ m b there.
             balance_ended t.standings t.tasks (omega (arith, long, paired)) n m b.share
-              (shares (children_in m known.starts)) o.used new inside alive may.1 refl refl
+            (shares (children_in m known.starts)) o.used new inside alive may.1 refl refl
             (agrees.balanced m b there);
         older = agrees.older;
       }
@@ -337,7 +361,7 @@ module _ (known : RegisterState) (t : TaskTable) (agrees : AgreesWith known t) w
     where
       by_stage : (b : Bool) → is_alive (standing_at t n).stage ≡ b →
           count_by (λ (o : TaskResult). o.own.number == n) known.over ≡ count_by (λ (k : ℕ). k == n)
-            (numbers_to (length known.starts))
+          (numbers_to (length known.starts))
       by_stage true e = absurd (complete n e)
       by_stage false e =
           let counted = agrees.counted n in
@@ -360,13 +384,13 @@ module _ (known : RegisterState) (history : List Event) (desk : RegisterAgrees k
   quiet e known' same still agrees = record {
     table = subst (AgreesWith known') (sym (table_of-push history e)) agrees;
     left = λ size. buffer_from-push (replicate size 0) history e ∙ still (buffer_of size history) ∙ desk.left size
-      ∙ ap (laid_from (replicate size 0)) (sym same);
+        ∙ ap (laid_from (replicate size 0)) (sym same);
   }
 
   pub desk_spawn : (parent child program share arg base len : ℕ) (b : TaskStart) →
       May (table_of history) (Spawn parent child program share arg base len) →
       b.parent ≡ parent → b.program ≡ program → b.share ≡ share → b.arg ≡ arg →
-        RegisterAgrees (with_start known b) (history ++ Spawn parent child program share arg base len ∷ [])
+      RegisterAgrees (with_start known b) (history ++ Spawn parent child program share arg base len ∷ [])
   desk_spawn parent child program share arg base len b may by p s a =
       quiet (Spawn parent child program share arg base len) (with_start known b) refl (λ buffer. refl)
       (agrees_spawn known (table_of history) desk.table parent child program share arg base len b may by p s a)
@@ -377,7 +401,7 @@ module _ (known : RegisterState) (history : List Event) (desk : RegisterAgrees k
   pub desk_claim : (n : ℕ) → is_alive (standing_at (table_of history) n).stage ≡ true →
       RegisterAgrees known (history ++ Claim n ∷ [])
   desk_claim n alive =
-    quiet (Claim n) known refl (λ buffer. refl) (agrees_claim known (table_of history) desk.table n _ alive)
+      quiet (Claim n) known refl (λ buffer. refl) (agrees_claim known (table_of history) desk.table n _ alive)
 
   pub desk_end : (o : TaskResult) → May (table_of history) (End o.own.number o.used o.r0 o.ran o.base o.bytes) →
       RegisterAgrees (with_end known o) (history ++ End o.own.number o.used o.r0 o.ran o.base o.bytes ∷ [])
@@ -385,7 +409,7 @@ module _ (known : RegisterState) (history : List Event) (desk : RegisterAgrees k
       let e : Event = End o.own.number o.used o.r0 o.ran o.base o.bytes in
       record {
         table = subst (AgreesWith (with_end known o)) (sym (table_of-push history e))
-          (agrees_end known (table_of history) desk.table o may);
+            (agrees_end known (table_of history) desk.table o may);
         left = λ size. buffer_from-push (replicate size 0) history e
             ∙ ap (λ (m : List ℕ). take (length m) (written m o.base o.bytes)) (desk.left size)
             ∙ sym (laid_push (replicate size 0) known.over o);

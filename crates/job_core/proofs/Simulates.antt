@@ -58,7 +58,7 @@ going kept lives ends = keeping kept lives ends kept.collected kept.spent kept.r
 -- the bytes of a range stay where another range is written
 pub range-written : (buffer : List ℕ) (base : ℕ) (bytes : List ℕ) (low size : ℕ) → base + length bytes ≤ length buffer →
     ((base + length bytes ≤ low) ⊎ (low + size ≤ base)) →
-      take size (drop low (written buffer base bytes)) ≡ take size (drop low buffer)
+    take size (drop low (written buffer base bytes)) ≡ take size (drop low buffer)
 range-written buffer base bytes low size fits apart = elim apart [
   | inl above ↦ ap (take size) (written_above buffer base bytes low fits above)
   | inr below ↦ written_below buffer base bytes low size fits below
@@ -83,8 +83,14 @@ member_stays kept lives ends collected spent returned buffer buffer' n (job.Live
   program = is.program;
   is = record {
     program = is.is.program;
-    state = ap (λ part. let s : State = record { slot = t.slot; registers = t.registers; stack = t.stack; part = part;
-      held = t.held; used = t.used } in s) same ∙ is.is.state;
+    state = ap (λ part. let s : State = record {
+      slot = t.slot;
+      registers = t.registers;
+      stack = t.stack;
+      part = part;
+      held = t.held;
+      used = t.used;
+    } in s) same ∙ is.is.state;
     base = is.is.base;
     size = is.is.size;
     behind = is.is.behind;
@@ -98,7 +104,7 @@ member_stays kept lives ends collected spent returned buffer buffer' n (job.Ende
 end_set : (tasks : List Member) (ends : List TaskEnd) (n : ℕ) (old new : Member) (entry : TaskEnd) →
     slice_get tasks n ≡ Some old →
     length ends ≡ length tasks → entry ≡ end_of n new →
-      ((k : ℕ) (m : Member) → slice_get tasks k ≡ Some m → slice_get ends k ≡ Some (end_of k m)) →
+    ((k : ℕ) (m : Member) → slice_get tasks k ≡ Some m → slice_get ends k ≡ Some (end_of k m)) →
     (k : ℕ) (m : Member) → slice_get (set tasks n new) k ≡ Some m → slice_get (set ends n entry) k ≡ Some (end_of k m)
 end_set tasks ends n old new entry here long is each k m =
     let lt : n < length tasks = slice_get_within tasks n old here in
@@ -122,7 +128,7 @@ end_push : (tasks : List Member) (ends : List TaskEnd) (new : Member) (entry : T
     entry ≡ end_of (length tasks) new →
     ((k : ℕ) (m : Member) → slice_get tasks k ≡ Some m → slice_get ends k ≡ Some (end_of k m)) →
     (k : ℕ) (m : Member) → slice_get (tasks ++ new ∷ []) k ≡ Some m →
-        slice_get (ends ++ entry ∷ []) k ≡ Some (end_of k m)
+    slice_get (ends ++ entry ∷ []) k ≡ Some (end_of k m)
 end_push tasks ends new entry long is each k m e =
     elim (pushed tasks k new m e) [
       | inl old ↦ push_old ends k entry (end_of k m) (each k m old)
@@ -154,8 +160,14 @@ goes_kept kept j n t s p live old tiles here size program_is program base is beh
     let after : WorldState = going kept (set kept.lives n (Some live)) kept.ends in
     let own : IsTaskOf p (written j.buffer t.base s.part) live (with_state t s) = record {
       program = program;
-      state = ap (λ part. let u : State = record { slot = s.slot; registers = s.registers; stack = s.stack; part = part;
-        held = s.held; used = s.used } in u)
+      state = ap (λ part. let u : State = record {
+        slot = s.slot;
+        registers = s.registers;
+        stack = s.stack;
+        part = part;
+        held = s.held;
+        used = s.used;
+      } in u)
           (written_same j.buffer t.base s.part fits) ∙ is;
       base = base;
       size = ap (λ (u : State). length u.part) is;
@@ -166,15 +178,20 @@ goes_kept kept j n t s p live old tiles here size program_is program base is beh
       lives = length-set kept.lives n (Some live) ∙ old.lives ∙ sym (length-set j.tasks n new);
       ends = old.ends ∙ sym (length-set j.tasks n new);
       each = λ k m. by_number (λ k. slice_get (set j.tasks n new) k ≡ Some m →
-        IsMemberOf after (written j.buffer t.base s.part) k m) n k
+          IsMemberOf after (written j.buffer t.base s.part) k m) n k
           (λ e. subst (λ (x : Member). IsMemberOf after (written j.buffer t.base s.part) n x)
           (one_member (set j.tasks n new) n new m (set_same j.tasks n new long) e)
-          (record { live = live; there = set_same kept.lives n (Some live) within; checked = p; program = program_is;
-            is = own }))
+          (record {
+            live = live;
+            there = set_same kept.lives n (Some live) within;
+            checked = p;
+            program = program_is;
+            is = own;
+          }))
           (λ ne e.
           let there : slice_get j.tasks k ≡ Some m = sym (set_other j.tasks n k new ne) ∙ e in
           member_stays kept (set kept.lives n (Some live)) kept.ends kept.collected kept.spent kept.returned j.buffer
-            (written j.buffer t.base s.part) k m
+          (written j.buffer t.base s.part) k m
           (λ x f. set_other kept.lives n k (Some live) ne ∙ f)
           (range-written j.buffer t.base s.part (base_of m) (size_of m) fits
           (let x = tiles.apart n k (job.Live t) m (λ same. ne (sym same)) here there in rw size x)) refl
@@ -201,11 +218,11 @@ ended_end n t credit r0 = record {
 ends_kept : (kept : WorldState) (j : JobState) (n : ℕ) (t : Task) (s : State) (r0 : ℕ) (part : Piece)
     (credit : Credit) → RepresentsTasks kept j →
     AreTiles j.tasks (length j.buffer) → length kept.collected ≡ length j.buffer →
-      slice_get j.tasks n ≡ Some (job.Live t) →
+    slice_get j.tasks n ≡ Some (job.Live t) →
     t.base ≡ part.base → t.size ≡ length part.bytes → take t.size (drop t.base j.buffer) ≡ part.bytes →
     credit.used ≡ s.used → credit.held ≡ s.held →
     RepresentsTasks (keeping kept (set kept.lives n None) (set kept.ends n (ended_end n t credit r0))
-      (written kept.collected part.base part.bytes)
+    (written kept.collected part.base part.bytes)
     (kept.spent + credit.used) (kept.returned + (credit.held - credit.used)))
     (record { buffer = j.buffer; tasks = set j.tasks n (job.Ended (job.ending_of t s r0)) })
 ends_kept kept j n t s r0 part credit old tiles whole here base size bytes used held =
@@ -224,21 +241,37 @@ ends_kept kept j n t s r0 part credit old tiles whole here base size bytes used 
     bytes ∙ sym (written_same kept.collected part.base part.bytes fits)
     ∙ ap (λ i. take i (drop part.base collected)) (sym size) ∙ ap (λ i. take t.size (drop i collected)) (sym base) in
     let entry_is : entry ≡ end_of n new =
-    ap (λ u. let x : TaskEnd = record { number = n; program = t.program; arg = t.arg; given = t.given; spent = u;
-      rest = credit.held - u; r0 = r0; ran = true } in x) used
-    ∙ ap (λ h. let x : TaskEnd = record { number = n; program = t.program; arg = t.arg; given = t.given; spent = s.used;
-      rest = h - s.used; r0 = r0; ran = true } in x) held in
+    ap (λ u. let x : TaskEnd = record {
+      number = n;
+      program = t.program;
+      arg = t.arg;
+      given = t.given;
+      spent = u;
+      rest = credit.held - u;
+      r0 = r0;
+      ran = true;
+    } in x) used
+    ∙ ap (λ h. let x : TaskEnd = record {
+      number = n;
+      program = t.program;
+      arg = t.arg;
+      given = t.given;
+      spent = s.used;
+      rest = h - s.used;
+      r0 = r0;
+      ran = true;
+    } in x) held in
     record {
       lives = length-set kept.lives n None ∙ old.lives ∙ sym (length-set j.tasks n new);
       ends = length-set kept.ends n entry ∙ old.ends ∙ sym (length-set j.tasks n new);
       each = λ k m. by_number (λ k. slice_get (set j.tasks n new) k ≡ Some m → IsMemberOf after j.buffer k m) n k
           (λ f. subst (λ (x : Member). IsMemberOf after j.buffer n x)
-            (one_member (set j.tasks n new) n new m (set_same j.tasks n new long) f)
+          (one_member (set j.tasks n new) n new m (set_same j.tasks n new long) f)
           (record { gone = set_same kept.lives n None within; bytes = own }))
           (λ ne f.
           let there : slice_get j.tasks k ≡ Some m = sym (set_other j.tasks n k new ne) ∙ f in
           member_stays kept (set kept.lives n None)
-            (set kept.ends n entry) collected spent returned j.buffer j.buffer k m
+          (set kept.ends n entry) collected spent returned j.buffer j.buffer k m
           (λ x g. set_other kept.lives n k None ne ∙ g) refl
           (range-written kept.collected part.base part.bytes (base_of m) (size_of m) fits
           (let x = tiles.apart n k (job.Live t) m (λ same. ne (sym same)) here there in rw (size, base) at x))
@@ -260,7 +293,7 @@ first_part : (buffer : List ℕ) (base size : ℕ) (a b : List ℕ) → a ++ b �
     take (length a) (drop base buffer) ≡ a
 first_part buffer base size a b e long =
     sym (take-take (length a) size (drop base buffer) (omega (arith, long))) ∙ ap (take (length a)) (sym e)
-      ∙ take-append_seam a b
+    ∙ take-append_seam a b
 
 second_part : (buffer : List ℕ) (base size : ℕ) (a b : List ℕ) → a ++ b ≡ take size (drop base buffer) →
     length a + length b ≡ size →
@@ -277,7 +310,7 @@ child_kept : (kept : WorldState) (j : JobState) (t : Task) (taken : State) (birt
     IsRecordOf child birth base → base ≡ t.base + length taken.part →
     taken.part ++ birth.bytes ≡ take t.size (drop t.base j.buffer) → length taken.part + length birth.bytes ≡ t.size →
     IsVerified p → p.need ≤ length birth.bytes → length birth.bytes ≤ 65536 → cost_at p 0 ≤ birth.share →
-      birth.share ≤ 2147483647 →
+    birth.share ≤ 2147483647 →
     child.arg < 2 ^ 64 → IsTaskOf p j.buffer (live_of child) (child_of t taken birth)
 child_kept kept j t taken birth child base p is at splits long v need small cost limit fits =
     let bytes : length child.part.bytes ≡ length birth.bytes = ap length is.bytes in
@@ -285,23 +318,35 @@ child_kept kept j t taken birth child base p is at splits long v need small cost
     record {
       program = sym is.program;
       state =
-          ap (λ part. let s : State = record { slot = 0; registers = entry_registers (length birth.bytes) birth.arg;
-            stack = replicate 512 0; part = part; held = birth.share; used = 0 } in s)
+          ap (λ part. let s : State = record {
+            slot = 0;
+            registers = entry_registers (length birth.bytes) birth.arg;
+            stack = replicate 512 0;
+            part = part;
+            held = birth.share;
+            used = 0;
+          } in s)
           (second_part j.buffer t.base t.size taken.part birth.bytes splits long ∙ sym is.bytes)
-          ∙ ap (λ held. let s : State = record { slot = 0; registers = entry_registers (length birth.bytes) birth.arg;
-            stack = replicate 512 0; part = child.part.bytes; held = held; used = 0 } in s)
+          ∙ ap (λ held. let s : State = record {
+            slot = 0;
+            registers = entry_registers (length birth.bytes) birth.arg;
+            stack = replicate 512 0;
+            part = child.part.bytes;
+            held = held;
+            used = 0;
+          } in s)
           (sym share);
       base = sym (is.starts ∙ at);
       size = sym bytes;
       behind =
           subst (λ (arg : ℕ). RepresentsTask p (entry_frame (length child.part.bytes) child.arg)
-            (entry_registers (length birth.bytes) arg)) is.arg
+          (entry_registers (length birth.bytes) arg)) is.arg
           (subst (λ (size : ℕ). RepresentsTask p (entry_frame (length child.part.bytes) child.arg)
-            (entry_registers size child.arg)) bytes
+          (entry_registers size child.arg)) bytes
           (behind_entry p (length child.part.bytes) child.arg v (omega (arith, bytes, need))
-            (omega (arith, bytes, small)) fits));
+          (omega (arith, bytes, small)) fits));
       covered = covered_entry p child.part child.share child.arg v (omega (arith, bytes, need))
-        (omega (arith, bytes, small))
+          (omega (arith, bytes, small))
           (omega (arith, share, cost)) (omega (arith, share, limit)) fits;
     }
 
@@ -336,13 +381,13 @@ spawns_kept kept j n t parent child live small p q entry old here same_end entry
     record {
       live = small;
       there = subst (λ (k : ℕ). slice_get (lives ++ Some small ∷ []) k ≡ Some (Some small)) count
-        (push_new lives (Some small));
+          (push_new lives (Some small));
       checked = q;
       program = program';
       is = is';
     } in
     let sums : (f : Member → ℕ) (a : ℕ) → a ≡ sum_by f j.tasks → f (job.Live t) ≡ f (job.Live parent) →
-      f (job.Live child) ≡ 0 →
+    f (job.Live child) ≡ 0 →
     a ≡ sum_by f (tasks ++ job.Live child ∷ []) =
     λ f a sum same none. omega (
       arith,
@@ -355,9 +400,9 @@ spawns_kept kept j n t parent child live small p q entry old here same_end entry
     ) in
     record {
       lives = length-append lives (Some small ∷ []) ∙ ap (λ k. k + 1) count
-        ∙ sym (length-append tasks (job.Live child ∷ []));
+          ∙ sym (length-append tasks (job.Live child ∷ []));
       ends = length-append kept.ends (entry ∷ []) ∙ ap (λ k. k + 1) count'
-        ∙ sym (length-append tasks (job.Live child ∷ []));
+          ∙ sym (length-append tasks (job.Live child ∷ []));
       each = λ k m e. elim (pushed tasks k (job.Live child) m e) [
         | inr last ↦ subst (λ (i : ℕ). IsMemberOf new j.buffer i m) (sym last.0)
             (subst (λ (x : Member). IsMemberOf new j.buffer (length tasks) x) (sym last.1) child_is)
@@ -367,12 +412,12 @@ spawns_kept kept j n t parent child live small p q entry old here same_end entry
             (λ ne g.
             let there : slice_get j.tasks k ≡ Some m = sym (set_other j.tasks n k (job.Live parent) ne) ∙ g in
             member_stays kept
-              (lives ++ Some small ∷ []) ends kept.collected kept.spent kept.returned j.buffer j.buffer k m
+            (lives ++ Some small ∷ []) ends kept.collected kept.spent kept.returned j.buffer j.buffer k m
             (λ x h. push_old lives k (Some small) x (set_other kept.lives n k (Some live) ne ∙ h)) refl refl
-              (old.each k m there)) f
+            (old.each k m there)) f
       ];
       each_end = end_push tasks kept.ends (job.Live child) entry count'
-        (entry_is ∙ ap (λ i. end_of i (job.Live child)) (sym size))
+          (entry_is ∙ ap (λ i. end_of i (job.Live child)) (sym size))
           (end_kept j.tasks kept.ends n (job.Live t) (job.Live parent) here same_end old.each_end);
       spent = sums spent_by kept.spent old.spent refl refl;
       returned = sums returned_by kept.returned old.returned refl refl;
@@ -395,7 +440,7 @@ some_within (x ∷ xs) (suc n) lt = some_within xs n (omega arith)
 live_member : (kept : WorldState) (j : JobState) (n : ℕ) (live : Live) (m : Member) →
     slice_get kept.lives n ≡ Some (Some live) →
     slice_get j.tasks n ≡ Some m → AreEntries kept.programs kept.entries → IsMemberOf kept j.buffer n m →
-      IsLiveAt kept j n live
+    IsLiveAt kept j n live
 live_member kept j n live (job.Live t) e there entries is =
     let same : is.live ≡ live = cc (sym is.there ∙ e) in
     subst (λ (x : Live). IsLiveAt kept j n x) same
@@ -429,7 +474,7 @@ pub entry_program : (programs : List Checked) (number : ℕ) (entry : Entry) →
     (q : Checked) × (slice_get programs number ≡ Some q) × (entry ≡ entry_of (program_of q))
 entry_program programs number entry e =
     program_some (slice_get programs number) entry
-      (ap (option_map entry_of) (sym (slice_get-map program_of programs number)) ∙ e)
+    (ap (option_map entry_of) (sym (slice_get-map program_of programs number)) ∙ e)
 
 map_twice : (o : Option Checked) →
     option_map (λ (p : Checked). entry_of (program_of p)) o ≡ option_map entry_of (option_map program_of o)
@@ -448,14 +493,14 @@ kept_same : (kept : WorldState) (lives lives' : List (Option Live)) (ends ends' 
     RepresentsTasks (going kept lives ends) k → RepresentsTasks (going kept lives' ends') k
 kept_same kept lives lives' ends ends' k e f are =
     subst (λ ls. RepresentsTasks (going kept ls ends') k) (sym e)
-      (subst (λ es. RepresentsTasks (going kept lives es) k) (sym f) are)
+    (subst (λ es. RepresentsTasks (going kept lives es) k) (sym f) are)
 
 -- the parents say nothing of how the tasks are kept
 member_with : (kept : WorldState) (parents : List ℕ) (buffer : List ℕ) (n : ℕ) (m : Member) →
     IsMemberOf kept buffer n m →
     IsMemberOf (record kept { parents = parents }) buffer n m
 member_with kept parents buffer n (job.Live t) is =
-  record { live = is.live; there = is.there; checked = is.checked; program = is.program; is = is.is }
+    record { live = is.live; there = is.there; checked = is.checked; program = is.program; is = is.is }
 member_with kept parents buffer n (job.Ended e) is = record { gone = is.gone; bytes = is.bytes }
 
 with_parents : (kept : WorldState) (parents : List ℕ) (k : JobState) → RepresentsTasks kept k →
@@ -473,13 +518,13 @@ with_parents kept parents k are = record {
 abbrev Grown : ℕ → List (Option Live) → List ℕ → List (Option Live) → List ℕ → Type 0
 Grown n lives parents lives' parents' =
     ((parents' ≡ parents) × (length lives' ≡ length lives))
-      ⊎ ((parents' ≡ parents ++ n ∷ []) × (length lives' ≡ suc (length lives)))
+    ⊎ ((parents' ≡ parents ++ n ∷ []) × (length lives' ≡ suc (length lives)))
 
 module _ (kept : WorldState) (j : JobState) (n : ℕ) (live : Live) (behind : RepresentsJob kept j)
     (at : IsLiveAt kept j n live)
     (frame : Frame) (part : Piece) (credit : Credit) (base : part.base ≡ live.part.base)
     (lives : List (Option Live)) (ends : List TaskEnd) (parents : List ℕ) (silent : Type 0)
-        (told : SpawnRecord → Result (Unit {0}) SpawnRecord → Type 0)
+    (told : SpawnRecord → Result (Unit {0}) SpawnRecord → Type 0)
     (quiet : silent → (lives ≡ set kept.lives n None) × (ends ≡ kept.ends) × (parents ≡ kept.parents))
     (heard : (child : SpawnRecord) (reply : Result (Unit {0}) SpawnRecord) → told child reply →
     Adds n (set kept.lives n None) kept.ends kept.parents child reply lives ends parents) where
@@ -514,7 +559,7 @@ module _ (kept : WorldState) (j : JobState) (n : ℕ) (live : Live) (behind : Re
   spawned : (birth : Birth) (taken : State) (child : SpawnRecord) →
       taken.part ++ birth.bytes ≡ take at.task.size (drop at.task.base j.buffer) →
       ((entry : Entry) × (entries_of (map program_of kept.programs) birth.program ≡ Some entry)
-          × (entry.cost ≤ birth.share)
+      × (entry.cost ≤ birth.share)
       × (entry.need ≤ length birth.bytes) × (birth.share ≤ at.task.held)) →
       RepresentsState at.checked frame part credit taken → IsCovered at.checked frame part credit →
       IsRecordOf child birth (part.base + length taken.part) →
@@ -524,14 +569,14 @@ module _ (kept : WorldState) (j : JobState) (n : ℕ) (live : Live) (behind : Re
       (record {
         buffer = j.buffer;
         tasks = set j.tasks n (job.Live (record (with_state at.task taken) { children = suc at.task.children }))
-          ++ job.Live (child_of at.task taken birth) ∷ [];
+            ++ job.Live (child_of at.task taken birth) ∷ [];
       })
   spawned birth taken child splits births stands covered is adds =
       let t : Task = at.task in
       let parent : Task = record (with_state t taken) { children = suc t.children } in
       let long : length taken.part + length birth.bytes ≡ t.size =
       sym (length-append taken.part birth.bytes) ∙ ap length splits ∙ part_long j.buffer t
-        (behind.tiles.inside n (job.Live t) at.there) in
+      (behind.tiles.inside n (job.Live t) at.there) in
       let q = entry_program kept.programs birth.program births.0 births.1 in
       let program : slice_get kept.programs child.program ≡ Some q.0 = ap (slice_get kept.programs) is.program ∙ q.1 in
       let cost : births.0.cost ≡ cost_at q.0 0 = ap (λ (x : Entry). x.cost) q.2 in
@@ -542,11 +587,17 @@ module _ (kept : WorldState) (j : JobState) (n : ℕ) (live : Live) (behind : Re
       let b : part.base + length taken.part ≡ t.base + length taken.part = omega (arith, base, at.is.base) in
       let child_is = child_kept kept j t taken birth child (part.base + length taken.part) q.0 is b splits long
       (behind.entries.verified birth.program q.0 q.1) (omega (arith, need, births.3)) small
-        (omega (arith, cost, births.2)) limit adds.0 in
+      (omega (arith, cost, births.2)) limit adds.0 in
       let parent_is : IsTaskOf at.checked j.buffer after parent = record {
         program = at.is.program;
-        state = ap (λ bytes. let u : State = record { slot = taken.slot; registers = taken.registers;
-          stack = taken.stack; part = bytes; held = taken.held; used = taken.used } in u)
+        state = ap (λ bytes. let u : State = record {
+          slot = taken.slot;
+          registers = taken.registers;
+          stack = taken.stack;
+          part = bytes;
+          held = taken.held;
+          used = taken.used;
+        } in u)
             (first_part j.buffer t.base t.size taken.part birth.bytes splits long) ∙ stands.0;
         base = at.is.base ∙ sym base;
         size = ap (λ (u : State). length u.part) stands.0;
@@ -556,24 +607,48 @@ module _ (kept : WorldState) (j : JobState) (n : ℕ) (live : Live) (behind : Re
       let is_lives : set lives n (Some after) ≡ set kept.lives n (Some after) ++ Some (live_of child) ∷ [] =
       ap (λ ls. set ls n (Some after)) adds.1
       ∙ set-append_left (set kept.lives n None) (Some (live_of child) ∷ []) n (Some after)
-        (omega (arith, within, length-set kept.lives n None))
+      (omega (arith, within, length-set kept.lives n None))
       ∙ ap (λ ls. ls ++ Some (live_of child) ∷ []) (set_twice kept.lives n None (Some after)) in
       let number : length (set kept.lives n None) ≡ length j.tasks =
-        length-set kept.lives n None ∙ behind.kept_are.lives in
+      length-set kept.lives n None ∙ behind.kept_are.lives in
       let entry : TaskEnd = entered (length (set kept.lives n None)) child in
       let entry_is : entry ≡ end_of (length j.tasks) (job.Live (child_of t taken birth)) =
       ap (λ i. entered i child) number
-      ∙ ap (λ i. let x : TaskEnd = record { number = length j.tasks; program = i; arg = child.arg; given = child.share;
-        spent = 0; rest = 0; r0 = 0; ran = false } in x) is.program
-      ∙ ap (λ i. let x : TaskEnd = record { number = length j.tasks; program = birth.program; arg = i;
-        given = child.share; spent = 0; rest = 0; r0 = 0; ran = false } in x) is.arg
-      ∙ ap (λ i. let x : TaskEnd = record { number = length j.tasks; program = birth.program; arg = birth.arg;
-        given = i; spent = 0; rest = 0; r0 = 0; ran = false } in x) is.share in
+      ∙ ap (λ i. let x : TaskEnd = record {
+        number = length j.tasks;
+        program = i;
+        arg = child.arg;
+        given = child.share;
+        spent = 0;
+        rest = 0;
+        r0 = 0;
+        ran = false;
+      } in x) is.program
+      ∙ ap (λ i. let x : TaskEnd = record {
+        number = length j.tasks;
+        program = birth.program;
+        arg = i;
+        given = child.share;
+        spent = 0;
+        rest = 0;
+        r0 = 0;
+        ran = false;
+      } in x) is.arg
+      ∙ ap (λ i. let x : TaskEnd = record {
+        number = length j.tasks;
+        program = birth.program;
+        arg = birth.arg;
+        given = i;
+        spent = 0;
+        rest = 0;
+        r0 = 0;
+        ran = false;
+      } in x) is.share in
       kept_same kept (set kept.lives n (Some after) ++ Some (live_of child) ∷ []) (set lives n (Some after))
-        (kept.ends ++ entry ∷ []) ends _
+      (kept.ends ++ entry ∷ []) ends _
       is_lives adds.2
       (spawns_kept kept j n t parent (child_of t taken birth) after
-        (live_of child) at.checked q.0 entry behind.kept_are at.there refl entry_is
+      (live_of child) at.checked q.0 entry behind.kept_are at.there refl entry_is
       at.program parent_is program child_is)
 
   same_length : lives ≡ set kept.lives n None → length lives ≡ length kept.lives
@@ -586,10 +661,13 @@ module _ (kept : WorldState) (j : JobState) (n : ℕ) (live : Live) (behind : Re
 
   grown_heard : (child : SpawnRecord) (reply : Result (Unit {0}) SpawnRecord) →
       Adds n (set kept.lives n None) kept.ends kept.parents child reply lives ends parents →
-        Grown n kept.lives kept.parents lives parents
+      Grown n kept.lives kept.parents lives parents
   grown_heard child (Ok done) adds =
-      inr (adds.3, ap length adds.1 ∙ length-append (set kept.lives n None) (Some (live_of child) ∷ [])
-        ∙ omega (arith, length-set kept.lives n None))
+      inr (
+        adds.3,
+        ap length adds.1 ∙ length-append (set kept.lives n None) (Some (live_of child) ∷ [])
+            ∙ omega (arith, length-set kept.lives n None),
+      )
   grown_heard child (Err back) adds = grown_none adds
 
   -- what is kept represents the job after the effect
@@ -597,14 +675,14 @@ module _ (kept : WorldState) (j : JobState) (n : ℕ) (live : Live) (behind : Re
       Births (entries_of (map program_of kept.programs)) at.task.held e → IsCovered at.checked frame part credit →
       StepEffect at.checked e Went frame part credit silent told nobody →
       (refuses : Bool) × (k : JobState) × (applied j n at.task refuses e ≡ Some k) × RepresentsTasks
-          (going kept (set lives n (Some after)) ends) k × IsAlive k n
+      (going kept (set lives n (Some after)) ends) k × IsAlive k n
       × Grown n kept.lives kept.parents lives parents
   went (Continues s) splits births covered d = (
     false,
     goes_on j n at.task s,
     refl,
     goes s (splits ∙ part_long j.buffer at.task (behind.tiles.inside n (job.Live at.task) at.there)) d.0 covered
-      (quiet d.1),
+        (quiet d.1),
     (with_state at.task s, set_same j.tasks n (job.Live (with_state at.task s)) tasks_within),
     grown_none (quiet d.1),
   )
@@ -633,8 +711,11 @@ module _ (kept : WorldState) (j : JobState) (n : ℕ) (live : Live) (behind : Re
           goes refused size r.0 covered
               (elim r.1 [ inl back ↦ heard back.0 (Err back.0) back.2 | inr silence ↦ quiet silence ]),
           (with_state at.task refused, set_same j.tasks n (job.Live (with_state at.task refused)) tasks_within),
-          elim r.1 [ inl back ↦ grown_none (heard back.0 (Err back.0) back.2) | inr silence ↦
-            grown_none (quiet silence) ],
+          elim r.1 [
+            | inl back ↦ grown_none (heard back.0 (Err back.0) back.2)
+            | inr silence ↦
+                grown_none (quiet silence)
+          ],
         )
       ]
   went (Calls helper arguments s) splits births covered d = absurd d.2
@@ -643,7 +724,7 @@ module _ (kept : WorldState) (j : JobState) (n : ℕ) (live : Live) (behind : Re
   -- what is kept where the task has ended with this R0
   abbrev ended_kept : ℕ → WorldState
   ended_kept word =
-    keeping kept lives (set ends n (ended_end n at.task credit word)) (written kept.collected part.base part.bytes)
+      keeping kept lives (set ends n (ended_end n at.task credit word)) (written kept.collected part.base part.bytes)
       (kept.spent + credit.used) (kept.returned + (credit.held - credit.used))
 
   -- the same where the task ends
@@ -667,22 +748,22 @@ module _ (kept : WorldState) (j : JobState) (n : ℕ) (live : Live) (behind : Re
       let size : t.size ≡ length part.bytes =
       sym (part_long j.buffer t (behind.tiles.inside n (job.Live t) at.there)) ∙ ap length (sym splits ∙ bytes) in
       let are = ends_kept kept j n t s r0 part credit behind.kept_are behind.tiles behind.size at.there
-        (at.is.base ∙ sym base) size
+      (at.is.base ∙ sym base) size
       (sym splits ∙ bytes) (sym used) (sym held) in
       let lives_are : set kept.lives n None ≡ lives = sym same.0 in
       let ends_are : set kept.ends n (ended_end n t credit r0) ≡ set ends n (ended_end n t credit word) =
       ap (λ es. set es n (ended_end n t credit r0)) (sym same.1) ∙ ap (λ w. set ends n (ended_end n t credit w))
-        (sym d.0) in (
+      (sym d.0) in (
         record { buffer = j.buffer; tasks = set j.tasks n (job.Ended x) },
         refl,
         subst (λ ls. RepresentsTasks
-          (keeping kept ls (set ends n (ended_end n t credit word)) (written kept.collected part.base part.bytes)
+            (keeping kept ls (set ends n (ended_end n t credit word)) (written kept.collected part.base part.bytes)
             (kept.spent + credit.used) (kept.returned + (credit.held - credit.used)))
-              (record { buffer = j.buffer; tasks = set j.tasks n (job.Ended x) })) lives_are
+            (record { buffer = j.buffer; tasks = set j.tasks n (job.Ended x) })) lives_are
             (subst (λ es. RepresentsTasks
-              (keeping kept (set kept.lives n None) es (written kept.collected part.base part.bytes)
+            (keeping kept (set kept.lives n None) es (written kept.collected part.base part.bytes)
             (kept.spent + credit.used) (kept.returned + (credit.held - credit.used)))
-              (record { buffer = j.buffer; tasks = set j.tasks n (job.Ended x) })) ends_are are),
+            (record { buffer = j.buffer; tasks = set j.tasks n (job.Ended x) })) ends_are are),
         omega (arith, keeps.0, used, held),
         (x, set_same j.tasks n (job.Ended x) tasks_within, sym d.0),
         omega (arith, size),
@@ -693,14 +774,14 @@ module _ (kept : WorldState) (j : JobState) (n : ℕ) (live : Live) (behind : Re
   -- the effect on the task makes the job's step
   stepped_job : (refuses : Bool) (k : JobState) →
       applied j n at.task refuses (effect (program_of at.checked) (entries_of (map program_of kept.programs))
-        (state_in j.buffer at.task)) ≡ Some k →
+      (state_in j.buffer at.task)) ≡ Some k →
       step (map program_of kept.programs) j n refuses ≡ Some k
   stepped_job refuses k is =
       ap (member_step (map program_of kept.programs) j n refuses) at.there
       ∙ ap (task_step (map program_of kept.programs) j n at.task refuses)
       (slice_get-map program_of kept.programs at.task.program
       ∙ ap (λ number. option_map program_of (slice_get kept.programs number)) at.is.program
-        ∙ ap (option_map program_of) at.program)
+      ∙ ap (option_map program_of) at.program)
       ∙ is
 
   -- the parents tell the places of the tasks after the step
@@ -723,15 +804,15 @@ module _ (kept : WorldState) (j : JobState) (n : ℕ) (live : Live) (behind : Re
   kept_behind : (refuses : Bool) (k : JobState) (new : WorldState) →
       step (map program_of kept.programs) j n refuses ≡ Some k →
       new.programs ≡ kept.programs → new.entries ≡ kept.entries → length new.collected ≡ length kept.collected →
-        new.issued ≡ kept.issued →
+      new.issued ≡ kept.issued →
       length new.lives ≡ length lives → Grown n kept.lives kept.parents lives new.parents → RepresentsTasks new k →
-        RepresentsJob new k
+      RepresentsJob new k
   kept_behind refuses k new is programs entries size issued long grown are =
       let tiles = tiles_step (map program_of kept.programs) j k n refuses is behind.tiles in
       let credit = keeps_member (map program_of kept.programs) j n refuses (slice_get j.tasks n) k refl is in
       record {
         entries = subst (λ ps. AreEntries ps new.entries) (sym programs)
-          (subst (λ es. AreEntries kept.programs es) (sym entries) behind.entries);
+            (subst (λ es. AreEntries kept.programs es) (sym entries) behind.entries);
         kept_are = are;
         tiles = subst (λ (count : ℕ). AreTiles k.tasks count) (sym tiles.1) tiles.0;
         parents = parents_after refuses k new is (sym long ∙ are.lives) grown;
@@ -745,21 +826,21 @@ module _ (kept : WorldState) (j : JobState) (n : ℕ) (live : Live) (behind : Re
       ((i : ℕ) → known i ≡ slice_get kept.entries i) →
       ((registers : Registers) → RepresentsTask p live.frame registers →
       StepEffect p (effect (program_of p) known
-        (state_of live.frame live.part live.credit registers)) out frame part credit silent told nobody) →
+      (state_of live.frame live.part live.credit registers)) out frame part credit silent told nobody) →
       StepEffect at.checked (effect (program_of at.checked) (entries_of (map program_of kept.programs))
-        (state_in j.buffer at.task)) out frame part credit silent told nobody
+      (state_in j.buffer at.task)) out frame part credit silent told nobody
   did_here p known out same entries did =
       let registers : Registers = at.task.registers in
       let first = did registers
-        (subst (λ (q : Checked). RepresentsTask q live.frame registers) (sym same) at.is.behind) in
+      (subst (λ (q : Checked). RepresentsTask q live.frame registers) (sym same) at.is.behind) in
       let second = subst
-        (λ (q : Checked). StepEffect q
-        (effect (program_of q) known
-        (state_of live.frame live.part live.credit registers)) out frame part credit silent told nobody) same first in
+      (λ (q : Checked). StepEffect q
+      (effect (program_of q) known
+      (state_of live.frame live.part live.credit registers)) out frame part credit silent told nobody) same first in
       subst (λ (e : Effect). StepEffect at.checked e out frame part credit silent told nobody)
       (effect_same (program_of at.checked) known (entries_of (map program_of kept.programs))
       (λ i. entries i ∙ entries_same kept.programs kept.entries behind.entries i)
-        (state_of live.frame live.part live.credit registers)
+      (state_of live.frame live.part live.credit registers)
       ∙ ap (effect (program_of at.checked) (entries_of (map program_of kept.programs))) (sym at.is.state))
       second
 
@@ -777,13 +858,13 @@ module _ (kept : WorldState) (j : JobState) (n : ℕ) (live : Live) (behind : Re
       new ≡ kept.entries → IsCovered p frame part credit →
       ((registers : Registers) → RepresentsTask p live.frame registers →
       StepEffect p (effect (program_of p) known
-        (state_of live.frame live.part live.credit registers)) Went frame part credit silent told nobody) →
+      (state_of live.frame live.part live.credit registers)) Went frame part credit silent told nobody) →
       Steps kept j n stepped.Went (with_both (going kept (set lives n (Some after)) ends) new)
   steps_went p known new same entries still covered did =
       let e : Effect =
-        effect (program_of at.checked) (entries_of (map program_of kept.programs)) (state_in j.buffer at.task) in
+      effect (program_of at.checked) (entries_of (map program_of kept.programs)) (state_in j.buffer at.task) in
       let w = went e (splits_effect (program_of at.checked) (entries_of (map program_of kept.programs))
-        (state_in j.buffer at.task))
+      (state_in j.buffer at.task))
       (births_effect (program_of at.checked) (entries_of (map program_of kept.programs)) (state_in j.buffer at.task))
       (subst (λ (q : Checked). IsCovered q frame part credit) same covered) (did_here p known Went same entries did) in
       let is = stepped_job w.0 w.1 w.2 in
@@ -793,7 +874,7 @@ module _ (kept : WorldState) (j : JobState) (n : ℕ) (live : Live) (behind : Re
         is,
         kept_behind w.0 w.1 (with_both next new) is refl still refl refl (length-set lives n (Some after)) w.5
             (with_parents (with_entries next new) parents w.1
-              (subst (λ es. RepresentsTasks (with_entries next es) w.1) (sym still) w.3)),
+            (subst (λ es. RepresentsTasks (with_entries next es) w.1) (sym still) w.3)),
         ((at.task, at.there), w.4),
       )
 
@@ -802,14 +883,14 @@ module _ (kept : WorldState) (j : JobState) (n : ℕ) (live : Live) (behind : Re
       new ≡ kept.entries →
       ((registers : Registers) → RepresentsTask p live.frame registers →
       StepEffect p (effect (program_of p) known (state_of live.frame live.part live.credit registers))
-        (Ended word) frame part credit silent told nobody) →
+      (Ended word) frame part credit silent told nobody) →
       (credit.used ≤ credit.held) × Steps kept j n (stepped.Ended word) (with_both (ended_kept word) new)
       × (part.base + length part.bytes ≤ length kept.collected) × (ends ≡ kept.ends)
   steps_ended p known new word same entries still did =
       let e : Effect =
-        effect (program_of at.checked) (entries_of (map program_of kept.programs)) (state_in j.buffer at.task) in
+      effect (program_of at.checked) (entries_of (map program_of kept.programs)) (state_in j.buffer at.task) in
       let w = ended e word (splits_effect (program_of at.checked) (entries_of (map program_of kept.programs))
-        (state_in j.buffer at.task))
+      (state_in j.buffer at.task))
       (keeps_effect (program_of at.checked) (entries_of (map program_of kept.programs)) (state_in j.buffer at.task))
       (did_here p known (Ended word) same entries did) in
       let is = stepped_job false w.0 w.1 in
@@ -820,7 +901,7 @@ module _ (kept : WorldState) (j : JobState) (n : ℕ) (live : Live) (behind : Re
           w.0,
           is,
           kept_behind false w.0 (with_both (ended_kept word) new) is refl still
-            (length-written kept.collected part.base part.bytes fits) refl refl w.7
+              (length-written kept.collected part.base part.bytes fits) refl refl w.7
               (with_parents (with_entries (ended_kept word) new) parents w.0
               (subst (λ es. RepresentsTasks (with_entries (ended_kept word) es) w.0) (sym still) w.2)),
           ((at.task, at.there), w.4),
@@ -846,8 +927,11 @@ skipped kept j n behind e = (
   j,
   skipped_member kept j n (slice_get j.tasks n) e refl (behind.kept_are.each n),
   behind,
-  (λ alive. let is = behind.kept_are.each n (job.Live alive.0) alive.1 in
-    let clash : Some None ≡ Some (Some is.live) = sym e ∙ is.there in cc, refl),
+  (
+    λ alive. let is = behind.kept_are.each n (job.Live alive.0) alive.1 in
+        let clash : Some None ≡ Some (Some is.live) = sym e ∙ is.there in cc,
+    refl,
+  ),
 )
 
 unknown_member : (programs : List Program) (j : JobState) (n : ℕ) (m : Option Member) → slice_get j.tasks n ≡ m →
@@ -863,8 +947,11 @@ unknown kept j n behind le = (
   false,
   j,
   unknown_member (map program_of kept.programs) j n (slice_get j.tasks n) refl
-    (omega (arith, le, behind.kept_are.lives)),
+      (omega (arith, le, behind.kept_are.lives)),
   behind,
-  (λ alive. let lt = slice_get_within j.tasks n (job.Live alive.0) alive.1 in
-    absurd (omega (arith, lt, le, behind.kept_are.lives)), refl),
+  (
+    λ alive. let lt = slice_get_within j.tasks n (job.Live alive.0) alive.1 in
+        absurd (omega (arith, lt, le, behind.kept_are.lives)),
+    refl,
+  ),
 )

@@ -110,7 +110,7 @@ module _ (starts : List TaskStart) (b : TaskStart) where
   pub children_longer : (n : ℕ) → 0 < length starts →
       children_in n (starts ++ b ∷ []) ≡ children_in n starts ++ filter (λ x. x.parent == n) (b ∷ [])
   children_longer n lt =
-    ap (filter (λ x. x.parent == n)) (born_longer lt) ∙ filter-append (λ x. x.parent == n) (drop 1 starts) (b ∷ [])
+      ap (filter (λ x. x.parent == n)) (born_longer lt) ∙ filter-append (λ x. x.parent == n) (drop 1 starts) (b ∷ [])
 
   pub one_child : (n : ℕ) (t : Bool) → (b.parent == n) ≡ t → b.parent ≡ n →
       filter (λ x. x.parent == n) (b ∷ []) ≡ b ∷ []
@@ -127,7 +127,7 @@ module _ (starts : List TaskStart) (b : TaskStart) where
       record {
         birth = longer_there starts b o.birth o.number t.birth;
         children = children_longer o.number (omega (arith, lt)) ∙ ap (λ l. children_in o.number starts ++ l)
-          (no_child o.number (b.parent == o.number) refl ne)
+            (no_child o.number (b.parent == o.number) refl ne)
             ∙ append-nil (children_in o.number starts) ∙ t.children;
       }
 
@@ -137,7 +137,7 @@ module _ (starts : List TaskStart) (b : TaskStart) where
       record {
         birth = longer_there starts b o.birth o.number t.birth;
         children = children_longer o.number (omega (arith, lt)) ∙ ap (λ l. children_in o.number starts ++ l)
-          (one_child o.number (b.parent == o.number) refl e)
+            (one_child o.number (b.parent == o.number) refl e)
             ∙ ap (λ l. l ++ b ∷ []) t.children;
       }
 
@@ -148,7 +148,7 @@ filter_none number (x ∷ xs) ne =
     let later = filter_none number xs (λ n y there. ne (suc n) y there) in
     filter-append (λ y. y.parent == number) (x ∷ []) xs
     ∙ ap (λ l. l ++ filter (λ y. y.parent == number) xs) (no_child [] x number (x.parent == number) refl (ne 0 x refl))
-      ∙ later
+    ∙ later
 
 -- a task that was just started has no child
 child_begins : (starts : List TaskStart) (b : TaskStart) → AreOlder starts →
@@ -160,10 +160,10 @@ child_begins (x ∷ xs) b older lt = record {
   children = filter_none (suc (length xs)) (xs ++ b ∷ []) (λ n y there.
       elim (end_there xs b y n there) [
         | inl was ↦ λ e. let le =
-          older n y was in let below = slice_get_within xs n y was in omega (arith, le, below, e)
+            older n y was in let below = slice_get_within xs n y was in omega (arith, le, below, e)
         | inr is ↦ λ e. let less =
-          lt (omega arith) in let same : b.parent ≡ y.parent =
-          ap (λ (z : TaskStart). z.parent) is in omega (arith, less, same, e)
+            lt (omega arith) in let same : b.parent ≡ y.parent =
+            ap (λ (z : TaskStart). z.parent) is in omega (arith, less, same, e)
       ]);
 }
 
@@ -174,8 +174,8 @@ older_longer (x ∷ xs) b older lt k c there =
     elim (end_cases xs b c k there) [
       | inl was ↦ older k c was
       | inr is ↦ let less =
-        lt (omega arith) in let at = is.0 in let same : b.parent ≡ c.parent = ap (λ (z : TaskStart). z.parent) is.1 in
-        omega (arith, less, at, same)
+          lt (omega arith) in let at = is.0 in let same : b.parent ≡ c.parent = ap (λ (z : TaskStart). z.parent) is.1 in
+          omega (arith, less, at, same)
     ]
   where
     end_cases : (l : List TaskStart) (a c : TaskStart) (k : ℕ) → slice_get (l ++ a ∷ []) k ≡ Some c →
@@ -266,29 +266,31 @@ leaves_child id v has s kept at =
       known = kept.known;
       at = now;
       each = end_each (λ j u. FitsTaskRegister kept.keeper_at kept.known now j u) (set s.views id (without_child v))
-        (only_child v)
+          (only_child v)
           (set_each (λ j u. FitsTaskRegister kept.keeper_at kept.known now j u) s.views id (without_child v)
           (λ j u ne e. fits_still kept.keeper_at kept.known kept.at m (place_of_task new) j u (kept.each j u e)
           (λ x. omega (arith, here, x)) (λ x. ne (omega (arith, here, x))) (λ x. omega (arith, here, x)))
           (record {
             keeping = mine.keeping;
             sitting = λ e. here_still kept.known.starts kept.at m (place_of_task new) (place_of_task id) v.task
-              (mine.sitting e) (λ x. omega (arith, here, x));
+                (mine.sitting e) (λ x. omega (arith, here, x));
             bearing = λ e. absurd (off e);
             waiting = λ n o there. here_still kept.known.starts kept.at m (place_of_task new) (place_waiting id) o
-              (mine.waiting n o there) (λ x. omega (arith, here, x));
+                (mine.waiting n o there) (λ x. omega (arith, here, x));
             apart = mine.apart;
           }))
           (record {
             keeping = λ e. absurd (off e);
-            sitting = λ e. record { is_task = (mine.bearing has).is_task;
-              here = changed_there kept.at m (place_of_task new) };
+            sitting = λ e. record {
+              is_task = (mine.bearing has).is_task;
+              here = changed_there kept.at m (place_of_task new);
+            };
             bearing = λ e. absurd (off e);
             waiting = λ n o there. absurd (nothing n o there);
             apart = λ i n a b there. absurd (nothing i a there);
           });
       ended = λ k o there. here_still kept.known.starts kept.at m (place_of_task new) 0 o.own (kept.ended k o there)
-        (λ x. omega (arith, here, x));
+          (λ x. omega (arith, here, x));
       older = kept.older;
     }
 
@@ -305,7 +307,7 @@ leaves_task id v has s kept at =
       known = kept.known;
       at = now;
       each = end_each (λ j u. FitsTaskRegister kept.keeper_at kept.known now j u) (set s.views id (without_task v))
-        (only_task v)
+          (only_task v)
           (set_each (λ j u. FitsTaskRegister kept.keeper_at kept.known now j u) s.views id (without_task v)
           (λ j u ne e. fits_still kept.keeper_at kept.known kept.at m (place_of_task new) j u (kept.each j u e)
           (λ x. ne (omega (arith, here, x))) (λ x. omega (arith, here, x)) (λ x. omega (arith, here, x)))
@@ -313,21 +315,23 @@ leaves_task id v has s kept at =
             keeping = mine.keeping;
             sitting = λ e. absurd (off e);
             bearing = λ e. here_still kept.known.starts kept.at m (place_of_task new) (place_beside id) v.child
-              (mine.bearing e) (λ x. omega (arith, here, x));
+                (mine.bearing e) (λ x. omega (arith, here, x));
             waiting = λ n o there. here_still kept.known.starts kept.at m (place_of_task new) (place_waiting id) o
-              (mine.waiting n o there) (λ x. omega (arith, here, x));
+                (mine.waiting n o there) (λ x. omega (arith, here, x));
             apart = mine.apart;
           }))
           (record {
             keeping = λ e. absurd (off e);
-            sitting = λ e. record { is_task = (mine.sitting has).is_task;
-              here = changed_there kept.at m (place_of_task new) };
+            sitting = λ e. record {
+              is_task = (mine.sitting has).is_task;
+              here = changed_there kept.at m (place_of_task new);
+            };
             bearing = λ e. absurd (off e);
             waiting = λ n o there. absurd (nothing n o there);
             apart = λ i n a b there. absurd (nothing i a there);
           });
       ended = λ k o there. here_still kept.known.starts kept.at m (place_of_task new) 0 o.own (kept.ended k o there)
-        (λ x. omega (arith, here, x));
+          (λ x. omega (arith, here, x));
       older = kept.older;
     }
 
@@ -337,8 +341,8 @@ pub takes : (id : ℕ) (v : TaskView) (other : ℕ) (w : TaskView) → w.is_task
 takes id v other w has s kept at apart there =
     let was : get_elem? s.views other ≡ some w =
     ⊎_elim (λ (t : (other ≡ id) × (with_task v w ≡ w)). absurd (apart t.0))
-      (λ (t : (other ≢ id) × (get_elem? s.views other ≡ some w)). t.1)
-      (at_set s.views id other (with_task v w) w there) in
+    (λ (t : (other ≢ id) × (get_elem? s.views other ≡ some w)). t.1)
+    (at_set s.views id other (with_task v w) w there) in
     let theirs = kept.each other w was in
     let mine = kept.each id v at in
     let m : ℕ = w.task.number in
@@ -349,23 +353,25 @@ takes id v other w has s kept at apart there =
       known = kept.known;
       at = now;
       each = set_each (λ j u. FitsTaskRegister kept.keeper_at kept.known now j u)
-        (set s.views id (with_task v w)) other empty_task_view
+          (set s.views id (with_task v w)) other empty_task_view
           (λ j u away e. by_two s v w j u id other kept.keeper_at kept.known now e away
           (λ differs found. fits_still kept.keeper_at kept.known kept.at m (place_of_task id) j u (kept.each j u found)
           (λ x. away (omega (arith, here, x))) (λ x. omega (arith, here, x)) (λ x. omega (arith, here, x)))
           (record {
             keeping = mine.keeping;
-            sitting = λ e. record { is_task = (theirs.sitting has).is_task;
-              here = changed_there kept.at m (place_of_task id) };
+            sitting = λ e. record {
+              is_task = (theirs.sitting has).is_task;
+              here = changed_there kept.at m (place_of_task id);
+            };
             bearing = λ e. here_still kept.known.starts kept.at m (place_of_task id) (place_beside id) v.child
-              (mine.bearing e) (λ x. omega (arith, here, x));
+                (mine.bearing e) (λ x. omega (arith, here, x));
             waiting = λ n o there. here_still kept.known.starts kept.at m (place_of_task id) (place_waiting id) o
-              (mine.waiting n o there) (λ x. omega (arith, here, x));
+                (mine.waiting n o there) (λ x. omega (arith, here, x));
             apart = mine.apart;
           }))
           (nobody_fits kept.keeper_at kept.known now other);
       ended = λ k o there. here_still kept.known.starts kept.at m (place_of_task id) 0 o.own (kept.ended k o there)
-        (λ x. omega (arith, here, x));
+          (λ x. omega (arith, here, x));
       older = kept.older;
     }
   where
@@ -373,11 +379,11 @@ takes id v other w has s kept at apart there =
         (known : RegisterState) (now : ℕ → ℕ) →
         get_elem? (set s.views id (with_task v w)) j ≡ some u → j ≢ other →
         (j ≢ id → get_elem? s.views j ≡ some u → FitsTaskRegister k known now j u) →
-          FitsTaskRegister k known now id (with_task v w) → FitsTaskRegister k known now j u
+        FitsTaskRegister k known now id (with_task v w) → FitsTaskRegister k known now j u
     by_two s v w j u id other k known now e away others mine =
         ⊎_elim
         (λ (x : (j ≡ id) × (with_task v w ≡ u)). subst (λ (y : ℕ × TaskView). FitsTaskRegister k known now y.0 y.1)
-          (λ i. (sym x.0 i, x.1 i)) mine)
+        (λ i. (sym x.0 i, x.1 i)) mine)
         (λ (x : (j ≢ id) × (get_elem? s.views j ≡ some u)). others x.0 x.1)
         (at_set s.views id j (with_task v w) u e)
 
@@ -399,26 +405,26 @@ pub keeps_task : (id : ℕ) (v : TaskView) (other : ℕ) (w : TaskView) → w.is
 keeps_task id v other w has s kept at apart there =
     let was : get_elem? s.views other ≡ some w =
     ⊎_elim (λ (t : (other ≡ id) × (with_waiting v w ≡ w)). absurd (apart t.0))
-      (λ (t : (other ≢ id) × (get_elem? s.views other ≡ some w)). t.1)
-      (at_set s.views id other (with_waiting v w) w there) in
+    (λ (t : (other ≢ id) × (get_elem? s.views other ≡ some w)). t.1)
+    (at_set s.views id other (with_waiting v w) w there) in
     let theirs = kept.each other w was in
     let mine = kept.each id v at in
     let m : ℕ = w.task.number in
     let here = (theirs.sitting has).here in
     let now : ℕ → ℕ = changed kept.at m (place_waiting id) in
     let waits : (k : ℕ) (o : SeatedTask) → (slice_get v.waiting k ≡ Some o)
-      ⊎ ((k ≡ length v.waiting) × (w.task ≡ o)) → IsHere kept.known.starts now (place_waiting id) o =
+    ⊎ ((k ≡ length v.waiting) × (w.task ≡ o)) → IsHere kept.known.starts now (place_waiting id) o =
     λ k o which. elim which [
       | inl old ↦ here_still kept.known.starts kept.at m (place_waiting id) (place_waiting id) o (mine.waiting k o old)
-        (λ x. omega (arith, here, x))
+          (λ x. omega (arith, here, x))
       | inr is ↦ subst (λ (x : SeatedTask). IsHere kept.known.starts now (place_waiting id) x) is.1
           (record { is_task = (theirs.sitting has).is_task; here = changed_there kept.at m (place_waiting id) })
     ] in
     let other_number : (k : ℕ) (o : SeatedTask) → slice_get v.waiting k ≡ Some o → o.number ≡ m → ⊥ =
     λ k o old same. (let stands = (mine.waiting k o old).here in let at_m : kept.at m ≡ place_waiting id = ap kept.at
-      (sym same) ∙ stands in omega (arith, here, at_m)) in
+    (sym same) ∙ stands in omega (arith, here, at_m)) in
     let two : (j k : ℕ) (a b : SeatedTask) → (slice_get v.waiting j ≡ Some a)
-      ⊎ ((j ≡ length v.waiting) × (w.task ≡ a)) →
+    ⊎ ((j ≡ length v.waiting) × (w.task ≡ a)) →
     (slice_get v.waiting k ≡ Some b) ⊎ ((k ≡ length v.waiting) × (w.task ≡ b)) → a.number ≡ b.number → j ≡ k =
     λ j k a b first second same. elim first [
       | inl x ↦ elim second [
@@ -435,22 +441,22 @@ keeps_task id v other w has s kept at apart there =
       known = kept.known;
       at = now;
       each = set_each (λ j u. FitsTaskRegister kept.keeper_at kept.known now j u)
-        (set s.views id (with_waiting v w)) other empty_task_view
+          (set s.views id (with_waiting v w)) other empty_task_view
           (λ j u away e. by_keeper s v w j u id other kept.keeper_at kept.known now e away
           (λ differs found. fits_still kept.keeper_at kept.known kept.at m (place_waiting id) j u (kept.each j u found)
           (λ x. away (omega (arith, here, x))) (λ x. omega (arith, here, x)) (λ x. omega (arith, here, x)))
           (record {
             keeping = mine.keeping;
             sitting = λ e. here_still kept.known.starts kept.at m (place_waiting id) (place_of_task id) v.task
-              (mine.sitting e) (λ x. apart (omega (arith, here, x)));
+                (mine.sitting e) (λ x. apart (omega (arith, here, x)));
             bearing = λ e. here_still kept.known.starts kept.at m (place_waiting id) (place_beside id) v.child
-              (mine.bearing e) (λ x. omega (arith, here, x));
+                (mine.bearing e) (λ x. omega (arith, here, x));
             waiting = λ k o there. waits k o (end_split v.waiting w.task o k there);
             apart = λ j k a b x y. two j k a b (end_split v.waiting w.task a j x) (end_split v.waiting w.task b k y);
           }))
           (nobody_fits kept.keeper_at kept.known now other);
       ended = λ k o there. here_still kept.known.starts kept.at m (place_waiting id) 0 o.own (kept.ended k o there)
-        (λ x. omega (arith, here, x));
+          (λ x. omega (arith, here, x));
       older = kept.older;
     }
   where
@@ -458,11 +464,11 @@ keeps_task id v other w has s kept at apart there =
         (known : RegisterState) (now : ℕ → ℕ) →
         get_elem? (set s.views id (with_waiting v w)) j ≡ some u → j ≢ other →
         (j ≢ id → get_elem? s.views j ≡ some u → FitsTaskRegister k known now j u) →
-          FitsTaskRegister k known now id (with_waiting v w) → FitsTaskRegister k known now j u
+        FitsTaskRegister k known now id (with_waiting v w) → FitsTaskRegister k known now j u
     by_keeper s v w j u id other k known now e away others mine =
         ⊎_elim
         (λ (x : (j ≡ id) × (with_waiting v w ≡ u)). subst (λ (y : ℕ × TaskView). FitsTaskRegister k known now y.0 y.1)
-          (λ i. (sym x.0 i, x.1 i)) mine)
+        (λ i. (sym x.0 i, x.1 i)) mine)
         (λ (x : (j ≢ id) × (get_elem? s.views j ≡ some u)). others x.0 x.1)
         (at_set s.views id j (with_waiting v w) u e)
 
@@ -487,34 +493,34 @@ leaves_first id v more s kept at =
     let here = waits.here in
     let now : ℕ → ℕ = changed kept.at m (place_of_task new) in
     let behind : (k : ℕ) (o : SeatedTask) → slice_get (drop 1 v.waiting) k ≡ Some o → IsHere kept.known.starts now
-      (place_waiting id) o =
+    (place_waiting id) o =
     λ k o there.
     let stands = mine.waiting (suc k) o (rest_there v.waiting k o there) in
     record {
       is_task = stands.is_task;
       here = changed_other kept.at m (place_of_task new) o.number
           (λ e. let same = mine.apart (suc k) 0 o first (rest_there v.waiting k o there)
-            (first_there v.waiting more) e in omega (arith, same)) ∙ stands.here;
+          (first_there v.waiting more) e in omega (arith, same)) ∙ stands.here;
     } in
     record {
       keeper_at = kept.keeper_at;
       known = kept.known;
       at = now;
       each = end_each (λ j u. FitsTaskRegister kept.keeper_at kept.known now j u)
-        (set s.views id (without_first_waiting v)) (only_first v)
+          (set s.views id (without_first_waiting v)) (only_first v)
           (set_each (λ j u. FitsTaskRegister kept.keeper_at kept.known now j u) s.views id (without_first_waiting v)
           (λ j u ne e. fits_still kept.keeper_at kept.known kept.at m (place_of_task new) j u (kept.each j u e)
           (λ x. omega (arith, here, x)) (λ x. omega (arith, here, x)) (λ x. ne (omega (arith, here, x))))
           (record {
             keeping = mine.keeping;
             sitting = λ e. here_still kept.known.starts kept.at m (place_of_task new) (place_of_task id) v.task
-              (mine.sitting e) (λ x. omega (arith, here, x));
+                (mine.sitting e) (λ x. omega (arith, here, x));
             bearing = λ e. here_still kept.known.starts kept.at m (place_of_task new) (place_beside id) v.child
-              (mine.bearing e) (λ x. omega (arith, here, x));
+                (mine.bearing e) (λ x. omega (arith, here, x));
             waiting = behind;
             apart = λ j k a b x y same.
                 let next = mine.apart (suc j) (suc k) a b (rest_there v.waiting j a x)
-                  (rest_there v.waiting k b y) same in omega (arith, next);
+                (rest_there v.waiting k b y) same in omega (arith, next);
           }))
           (record {
             keeping = λ e. absurd (off e);
@@ -524,7 +530,7 @@ leaves_first id v more s kept at =
             apart = λ i n a b there. absurd (nothing i a there);
           });
       ended = λ k o there. here_still kept.known.starts kept.at m (place_of_task new) 0 o.own (kept.ended k o there)
-        (λ x. omega (arith, here, x));
+          (λ x. omega (arith, here, x));
       older = kept.older;
     }
 
@@ -545,12 +551,12 @@ module _ (slots id : ℕ) (me : Me (Unit {0}) TaskView) (st : Step (Unit {0})) w
       let own : SeatedTask = fresh_task (length me.0.known.starts) b in
       let w : TaskView = record me.0 { known = with_start me.0.known b; has_child = true; child = own } in
       let long : length me.0.known.starts ≡ length kept.known.starts =
-        ap (λ (k : RegisterState). length k.starts) known.1 in
+      ap (λ (k : RegisterState). length k.starts) known.1 in
       let places : ℕ → ℕ = changed kept.at (length me.0.known.starts) (place_beside id) in
       let begun : IsTask now.starts own =
       subst (λ n. IsTask now.starts (fresh_task n b)) (sym long)
       (child_begins kept.known.starts b kept.older (λ lt. let zero_long = ap (λ (l : List TaskStart). length l) empty in
-        absurd (omega (arith, lt, zero_long)))) in (
+      absurd (omega (arith, lt, zero_long)))) in (
         w,
         keeps,
         tt,
@@ -570,15 +576,18 @@ module _ (slots id : ℕ) (me : Me (Unit {0}) TaskView) (st : Step (Unit {0})) w
               (record {
                 keeping = λ k. (known.0, ap (λ (x : RegisterState). with_start x b) known.1);
                 sitting = λ x. absurd (none_at_all kept.known.starts me.0.task empty (mine.sitting x).is_task);
-                bearing = λ x. record { is_task = begun; here = changed_there kept.at (length me.0.known.starts)
-                  (place_beside id) };
+                bearing = λ x. record {
+                  is_task = begun;
+                  here = changed_there kept.at (length me.0.known.starts)
+                      (place_beside id);
+                };
                 waiting = λ n o there. absurd (none_at_all kept.known.starts o empty (mine.waiting n o there).is_task);
                 apart = mine.apart;
               });
           ended = λ k o there. absurd (none_at_all kept.known.starts o.own empty (kept.ended k o there).is_task);
           older = older_longer kept.known.starts b kept.older
-            (λ lt. let zero_long = ap (λ (l : List TaskStart). length l) empty in
-            absurd (omega (arith, lt, zero_long)));
+              (λ lt. let zero_long = ap (λ (l : List TaskStart). length l) empty in
+              absurd (omega (arith, lt, zero_long)));
         },
         (b, allowed, refl),
       )
@@ -593,17 +602,21 @@ module _ (slots id : ℕ) (me : Me (Unit {0}) TaskView) (st : Step (Unit {0})) w
       let own_task = mine.sitting has in
       let now : RegisterState = with_start kept.known b in
       let w : TaskView =
-        record me.0 { known = with_start me.0.known b; task = with_one_more me.0.task b; has_child = true;
-        child = fresh_task (length me.0.known.starts) b } in
+      record me.0 {
+        known = with_start me.0.known b;
+        task = with_one_more me.0.task b;
+        has_child = true;
+        child = fresh_task (length me.0.known.starts) b;
+      } in
       let long : length me.0.known.starts ≡ length kept.known.starts =
-        ap (λ (k : RegisterState). length k.starts) known.1 in
+      ap (λ (k : RegisterState). length k.starts) known.1 in
       let n : ℕ = length me.0.known.starts in
       let places : ℕ → ℕ = changed kept.at n (place_beside id) in
       let inside = slice_get_within kept.known.starts me.0.task.number me.0.task.birth own_task.is_task.birth in
       let less : b.parent < length kept.known.starts = omega (arith, parent, inside) in
       let begun : IsTask now.starts (fresh_task n b) =
       subst (λ i. IsTask now.starts (fresh_task i b)) (sym long)
-        (child_begins kept.known.starts b kept.older (λ lt. less)) in (
+      (child_begins kept.known.starts b kept.older (λ lt. less)) in (
         w,
         keeps,
         tt,
@@ -616,11 +629,11 @@ module _ (slots id : ℕ) (me : Me (Unit {0}) TaskView) (st : Step (Unit {0})) w
               record {
                 keeping = λ k. absurd (ne ((f.keeping k).0 ∙ sym known.0));
                 sitting = λ x. other_task kept.known.starts kept.at b me.0.task.number n id
-                  (place_of_task j) u.task long parent own_task.here (f.sitting x) (λ y. ne (omega (arith, y)));
+                    (place_of_task j) u.task long parent own_task.here (f.sitting x) (λ y. ne (omega (arith, y)));
                 bearing = λ x. other_task kept.known.starts kept.at b me.0.task.number n id
-                  (place_beside j) u.child long parent own_task.here (f.bearing x) (λ y. omega (arith, y));
+                    (place_beside j) u.child long parent own_task.here (f.bearing x) (λ y. omega (arith, y));
                 waiting = λ i o there. other_task kept.known.starts kept.at b me.0.task.number n id
-                  (place_waiting j) o long parent own_task.here (f.waiting i o there) (λ y. omega (arith, y));
+                    (place_waiting j) o long parent own_task.here (f.waiting i o there) (λ y. omega (arith, y));
                 apart = f.apart;
               })
               (record {
@@ -628,15 +641,15 @@ module _ (slots id : ℕ) (me : Me (Unit {0}) TaskView) (st : Step (Unit {0})) w
                 sitting = λ x. record {
                   is_task = task_bears kept.known.starts b me.0.task own_task.is_task parent;
                   here = changed_other kept.at n (place_beside id) me.0.task.number
-                    (λ e. omega (arith, e, long, inside)) ∙ own_task.here;
+                      (λ e. omega (arith, e, long, inside)) ∙ own_task.here;
                 };
                 bearing = λ x. record { is_task = begun; here = changed_there kept.at n (place_beside id) };
                 waiting = λ i o there. other_task kept.known.starts kept.at b me.0.task.number n id
-                  (place_waiting id) o long parent own_task.here (mine.waiting i o there) (λ y. omega (arith, y));
+                    (place_waiting id) o long parent own_task.here (mine.waiting i o there) (λ y. omega (arith, y));
                 apart = mine.apart;
               });
           ended = λ k o there. other_task kept.known.starts kept.at b me.0.task.number n id 0 o.own long parent
-            own_task.here (kept.ended k o there) (λ y. omega (arith, y));
+              own_task.here (kept.ended k o there) (λ y. omega (arith, y));
           older = older_longer kept.known.starts b kept.older (λ lt. less);
         },
         (b, allowed, refl),
@@ -645,7 +658,7 @@ module _ (slots id : ℕ) (me : Me (Unit {0}) TaskView) (st : Step (Unit {0})) w
       other_task : (starts : List TaskStart) (places : ℕ → ℕ) (b : TaskStart) (p n seat place : ℕ) (o : SeatedTask) →
           n ≡ length starts → b.parent ≡ p → places p ≡ place_of_task seat →
           IsHere starts places place o → (place ≡ place_of_task seat → ⊥) →
-            IsHere (starts ++ b ∷ []) (changed places n (place_beside seat)) place o
+          IsHere (starts ++ b ∷ []) (changed places n (place_beside seat)) place o
       other_task starts places b p n seat place o long parent here h away =
           let inside = slice_get_within starts o.number o.birth h.is_task.birth in
           record {
@@ -678,27 +691,27 @@ module _ (slots id : ℕ) (me : Me (Unit {0}) TaskView) (st : Step (Unit {0})) w
               record {
                 keeping = λ k. absurd (ne ((f.keeping k).0 ∙ sym known.0));
                 sitting = λ x. here_still kept.known.starts kept.at m 0 (place_of_task j) u.task (f.sitting x)
-                  (λ y. ne (omega (arith, here, y)));
+                    (λ y. ne (omega (arith, here, y)));
                 bearing = λ x. here_still kept.known.starts kept.at m 0 (place_beside j) u.child (f.bearing x)
-                  (λ y. omega (arith, here, y));
+                    (λ y. omega (arith, here, y));
                 waiting = λ n q there. here_still kept.known.starts kept.at m 0 (place_waiting j) q
-                  (f.waiting n q there) (λ y. omega (arith, here, y));
+                    (f.waiting n q there) (λ y. omega (arith, here, y));
                 apart = f.apart;
               })
               (record {
                 keeping = λ k. (known.0, ap (λ (x : RegisterState). with_end x o) known.1);
                 sitting = λ x. absurd (off x);
                 bearing = λ x. here_still kept.known.starts kept.at m 0 (place_beside id) me.0.child (mine.bearing x)
-                  (λ y. omega (arith, here, y));
+                    (λ y. omega (arith, here, y));
                 waiting = λ n q there. here_still kept.known.starts kept.at m 0 (place_waiting id) q
-                  (mine.waiting n q there) (λ y. omega (arith, here, y));
+                    (mine.waiting n q there) (λ y. omega (arith, here, y));
                 apart = mine.apart;
               });
           ended = λ k p there. elim (end_there kept.known.over o p k there) [
             | inl was ↦ here_still kept.known.starts kept.at m 0 0 p.own (kept.ended k p was)
-              (λ y. omega (arith, here, y))
+                (λ y. omega (arith, here, y))
             | inr same ↦ subst (λ (x : SeatedTask). IsHere kept.known.starts places 0 x)
-              (sym is ∙ ap (λ (x : TaskResult). x.own) same)
+                (sym is ∙ ap (λ (x : TaskResult). x.own) same)
                 (record { is_task = own_task.is_task; here = changed_there kept.at m 0 })
           ];
           older = kept.older;
@@ -711,7 +724,7 @@ module _ (slots id : ℕ) (me : Me (Unit {0}) TaskView) (st : Step (Unit {0})) w
             task = subst (λ (k : RegisterState). IsTask k.starts me.0.task) (sym known.1) own_task.is_task;
             not_over = λ k p there e.
                 let stands = (kept.ended k p (ap (λ (x : RegisterState). slice_get x.over k) (sym known.1)
-                  ∙ there)).here in
+                ∙ there)).here in
                 let there_too = ap kept.at (sym e) ∙ stands in
                 omega (arith, here, there_too);
             not_waiting = λ k q there e.
@@ -736,12 +749,15 @@ module _ (slots id : ℕ) (me : Me (Unit {0}) TaskView) (st : Step (Unit {0})) w
           known = kept.known;
           at = kept.at;
           each = λ j u e. kept.each j u
-            (subst (λ (l : List TaskView). get_elem? l j ≡ some u) (set_again s.views id me.0 at) e);
+              (subst (λ (l : List TaskView). get_elem? l j ≡ some u) (set_again s.views id me.0 at) e);
           ended = kept.ended;
           older = kept.older;
         },
-        (refl, subst (λ (k : RegisterState). AllKnown k) (sym known.1)
-          (record { tasks = λ k o there. (kept.ended k o there).is_task; older = kept.older })),
+        (
+          refl,
+          subst (λ (k : RegisterState). AllKnown k) (sym known.1)
+              (record { tasks = λ k o there. (kept.ended k o there).is_task; older = kept.older }),
+        ),
       )
 
 -- the first, and those behind it

@@ -52,7 +52,7 @@ sent_on : (p : Subject) (firsts later : List (Option ℕ)) (s : ℕ) (x y : Opti
 sent_on p firsts later s x y same on (inl (blocked, none)) = inl (blocked, same ∙ none)
 sent_on p firsts later s x y same on (inr (in_states, h, inl there)) = inr (in_states, h, inl (same ∙ there))
 sent_on p firsts later s x y same on (inr (in_states, h, inr (none, taken))) =
-  inr (in_states, h, inr (same ∙ none, on taken))
+    inr (in_states, h, inr (same ∙ none, on taken))
 
 -- a state that isn't needed further may go
 sent_away : (p : Subject) (firsts : List (Option ℕ)) (s : ℕ) (x y : Option AbsState) → y ≡ None →
@@ -64,13 +64,13 @@ sent_away p firsts s x y gone taken (inr (in_states, h, stored)) = inr (in_state
 pulled_same : (p : Subject) (s : ℕ) (x y : Option AbsState) (f g : Option ℕ) → y ≡ x → g ≡ f → IsPartlyJoined p s x f →
     IsPartlyJoined p s y g
 pulled_same p s x y f g a b h =
-  subst (λ (u : Option AbsState). IsPartlyJoined p s u g) (sym a)
-  (subst (λ (v : Option ℕ). IsPartlyJoined p s x v) (sym b) h)
+    subst (λ (u : Option AbsState). IsPartlyJoined p s u g) (sym a)
+    (subst (λ (v : Option ℕ). IsPartlyJoined p s x v) (sym b) h)
 
 taken_on : (p : Subject) (firsts later : List (Option ℕ)) (s m : ℕ) →
     ((k : ℕ) → k ≢ m → slice_index_or later k None ≡ slice_index_or firsts k None) →
     ((k : ℕ) → IsPast (slice_index_or firsts m None) k → IsPast (slice_index_or later m None) k) →
-        HasPropagatedAll p firsts s → HasPropagatedAll p later s
+    HasPropagatedAll p firsts s → HasPropagatedAll p later s
 taken_on p firsts later s m others on taken to joint = elim (cases_eq to m) [
   | inl e ↦
       subst (λ (k : ℕ). IsPast (slice_index_or later k None) s) (sym e)
@@ -88,15 +88,15 @@ come_on : (p : Subject) (order : List ℕ) (n m : ℕ) (old new : Links) (states
     ((s : ℕ) → s ≢ m → slice_index_or new.first s None ≡ slice_index_or old.first s None) →
     IsPartlyJoined p m (slice_index_or later m None) (slice_index_or new.first m None) →
     ((k : ℕ) → IsPast (slice_index_or old.first m None) k → IsPast (slice_index_or new.first m None) k) →
-        HasPropagated p order n new later
+    HasPropagated p order n new later
 come_on p order n m old new states later h linked long none others firsts pulled on = record {
   linked = linked;
   slots = long ∙ h.slots;
   pulled = λ s within not_yet. elim (cases_eq s m) [
     | inl e ↦ subst (λ (k : ℕ). IsPartlyJoined p k (slice_index_or later k None) (slice_index_or new.first k None))
-      (sym e) pulled
+        (sym e) pulled
     | inr ne ↦ pulled_same p s (slice_index_or states s None) (slice_index_or later s None)
-      (slice_index_or old.first s None) (slice_index_or new.first s None)
+        (slice_index_or old.first s None) (slice_index_or new.first s None)
         (others s ne) (firsts s ne) (h.pulled s within not_yet)
   ];
   out_state = λ s among.
@@ -109,7 +109,7 @@ come_on p order n m old new states later h linked long none others firsts pulled
 pub come_away : (p : Subject) (order : List ℕ) (n s : ℕ) (links : Links) (states later : List (Option AbsState)) →
     HasPropagated p order n links states → IsAmong order n s → length later ≡ length states →
     ((k : ℕ) → k ≢ s → slice_index_or later k None ≡ slice_index_or states k None) →
-        slice_index_or later s None ≡ None →
+    slice_index_or later s None ≡ None →
     HasPropagatedAll p links.first s → HasPropagated p order n links later
 come_away p order n s links states later h among long others gone taken = record {
   linked = h.linked;
@@ -117,14 +117,14 @@ come_away p order n s links states later h among long others gone taken = record
   pulled = λ k within not_yet.
       let ne : k ≢ s = λ e. not_yet (subst (λ (x : ℕ). IsAmong order n x) (sym e) among) in
       pulled_same p k (slice_index_or states k None) (slice_index_or later k None) (slice_index_or links.first k None)
-        (slice_index_or links.first k None)
+      (slice_index_or links.first k None)
       (others k ne) refl (h.pulled k within not_yet);
   out_state = λ k at. elim (cases_eq k s) [
     | inl e ↦ subst (λ (x : ℕ). IsProcessed p links.first x (slice_index_or later x None)) (sym e)
         (sent_away p links.first s (slice_index_or states s None) (slice_index_or later s None) gone taken
-          (h.out_state s among))
+        (h.out_state s among))
     | inr ne ↦ sent_on p links.first links.first k (slice_index_or states k None) (slice_index_or later k None)
-      (others k ne) (λ t. t) (h.out_state k at)
+        (others k ne) (λ t. t) (h.out_state k at)
   ];
 }
 
@@ -145,7 +145,7 @@ linked_noted code old new to o h first following taken edges = record {
   counts = ap length edges ∙ h.counts;
   after = λ k s next are joint.
       subst (λ (l : Option ℕ). IsNextSource code s (suc k) l) (sym (link_same old new next k s following taken))
-        (h.after k s next are joint);
+      (h.after k s next are joint);
   counted = λ s within. ap (λ (l : List ℕ). slice_index_or l s 0) edges ∙ h.counted s within;
 }
 
@@ -171,19 +171,19 @@ pub come_delivered : (p : Subject) (order : List ℕ) (n from to : ℕ) (old new
     (states later : List (Option AbsState)) (next : Next) (i : Insn)
     (state : AbsState) (keep : Bool) → AreInStates p (in_state p) → 0 < to → to < length p.code → from ≢ to →
     HasPropagated p order n old states → IsAmong order n from → (IsAmong order n to → ⊥) →
-      insn_at p.code from ≡ Some i →
+    insn_at p.code from ≡ Some i →
     slice_index_or states from None ≡ Some state → IsJoint p.code from to → AreNext p.code from next →
-      slice_index_or old.first to None ≡ Some from →
+    slice_index_or old.first to None ≡ Some from →
     length later ≡ length states →
     ((s : ℕ) → s ≢ to → s ≢ from → slice_index_or later s None ≡ slice_index_or states s None) →
     slice_index_or later from None ≡ (if keep then slice_index_or states from None else None) →
     in_state_of (slice_index_or later to None) ≡ joined_in_state
-      (joined_in_state (joined_in_state (in_state_of (slice_index_or states to None))
+    (joined_in_state (joined_in_state (in_state_of (slice_index_or states to None))
     (if_leads_to (leads_at p.code from Always) to (Reached (transferred i Always state))))
     (if_leads_to (leads_at p.code from NotTaken) to (Reached (transferred i NotTaken state))))
     (if_leads_to (leads_at p.code from Taken) to (Reached (transferred i Taken state))) →
     new.first ≡ slice_set old.first to (link_of old next from to) → new.following ≡ old.following →
-      new.taken ≡ old.taken → new.edges ≡ old.edges →
+    new.taken ≡ old.taken → new.edges ≡ old.edges →
     (keep ≡ false → (s : ℕ) → IsJoint p.code from s → s ≢ to → IsPast (slice_index_or old.first s None) from) →
     HasPropagated p order n new later
 come_delivered p order n from to old new states later next i state keep solves more within apart h among none insn there joint are first long others gone
@@ -197,15 +197,15 @@ come_delivered p order n from to old new states later next i state keep solves m
 
     first_new : slice_index_or new.first to None ≡ link_of old next from to
     first_new = ap (λ (l : List (Option ℕ)). slice_index_or l to None) note ∙ get_or-set_same old.first to
-      (link_of old next from to) None room
+        (link_of old next from to) None room
 
     next_new : IsNextSource p.code to (suc from) (slice_index_or new.first to None)
     next_new = subst (λ (o : Option ℕ). IsNextSource p.code to (suc from) o) (sym first_new)
-      (h.linked.after from to next are joint)
+        (h.linked.after from to next are joint)
 
     firsts : (s : ℕ) → s ≢ to → slice_index_or new.first s None ≡ slice_index_or old.first s None
     firsts s ne = ap (λ (l : List (Option ℕ)). slice_index_or l s None) note ∙ get_or-set_other old.first to s
-      (link_of old next from to) None ne
+        (link_of old next from to) None ne
 
     in_states : IsVisited p from state
     in_states = sent_there p old.first from (slice_index_or states from None) state there (h.out_state from among)
@@ -213,24 +213,24 @@ come_delivered p order n from to old new states later next i state keep solves m
     before : IsJoint p.code from to
         × (in_state_of (slice_index_or states to None) ≡ joined_edges p (in_state p) to from)
     before = pulled_from p to (slice_index_or states to None) (slice_index_or old.first to None) from first
-      (h.pulled to within none)
+        (h.pulled to within none)
 
     pulled : IsPartlyJoined p to (slice_index_or later to None) (slice_index_or new.first to None)
     pulled =
         let le : suc from ≤ length p.code = joint_within p to from joint in
         pulled_on p to (suc from) (slice_index_or later to None)
-          (slice_index_or new.first to None) solves more within next_new le
+        (slice_index_or new.first to None) solves more within next_new le
         (pulled_allowed p to from i state (slice_index_or states to None)
-          (slice_index_or later to None) insn in_states.arrives
+        (slice_index_or later to None) insn in_states.arrives
         (subst (λ (j : Insn). fault_of j ≡ None)
-          (one_some (insn_at p.code from) in_states.insn i in_states.there insn) in_states.allowed) before.1 met_is)
+        (one_some (insn_at p.code from) in_states.insn i in_states.there insn) in_states.allowed) before.1 met_is)
       where
         fault_of : Insn → Option Rule
         fault_of j = fault p.need p.helpers j state
 
     on : (k : ℕ) → IsPast (slice_index_or old.first to None) k → IsPast (slice_index_or new.first to None) k
     on k past = past_next p.code from to k (slice_index_or old.first to None)
-      (slice_index_or new.first to None) first next_new past
+        (slice_index_or new.first to None) first next_new past
 
     -- with the state that goes still there
     middle : List (Option AbsState)
@@ -239,7 +239,7 @@ come_delivered p order n from to old new states later next i state keep solves m
     middle_to : slice_index_or middle to None ≡ slice_index_or later to None
     middle_to =
         let lt : to < length states =
-          omega (arith, within, h.slots) in get_or-set_same states to (slice_index_or later to None) None lt
+        omega (arith, within, h.slots) in get_or-set_same states to (slice_index_or later to None) None lt
 
     middle_other : (s : ℕ) → s ≢ to → slice_index_or middle s None ≡ slice_index_or states s None
     middle_other s ne = get_or-set_other states to s (slice_index_or later to None) None ne
@@ -247,15 +247,15 @@ come_delivered p order n from to old new states later next i state keep solves m
     come_middle : HasPropagated p order n new middle
     come_middle =
         come_on p order n to old new states middle h linked
-          (length-set states to (slice_index_or later to None)) none middle_other firsts
+        (length-set states to (slice_index_or later to None)) none middle_other firsts
         (subst (λ (u : Option AbsState). IsPartlyJoined p to u (slice_index_or new.first to None))
-          (sym middle_to) pulled) on
+        (sym middle_to) pulled) on
 
     all_taken : ((s : ℕ) → IsJoint p.code from s → s ≢ to → IsPast (slice_index_or old.first s None) from) →
         HasPropagatedAll p new.first from
     all_taken past s j = elim (cases_eq s to) [
       | inl e ↦ subst (λ (k : ℕ). IsPast (slice_index_or new.first k None) from) (sym e)
-        (past_here p.code from to (slice_index_or new.first to None) next_new)
+          (past_here p.code from to (slice_index_or new.first to None) next_new)
       | inr ne ↦ subst (λ (o : Option ℕ). IsPast o from) (sym (firsts s ne)) (past s j ne)
     ]
 
@@ -311,7 +311,7 @@ among_more order n s m =
 
 pub among_here : (order : List ℕ) (n : ℕ) → n < length order → IsAmong order (suc n) (slice_index order n)
 among_here order n lt =
-  let more : n < suc n = omega arith in record { place = n; below = more; within = lt; there = refl }
+    let more : n < suc n = omega arith in record { place = n; below = more; within = lt; there = refl }
 
 -- the slot at the place, and what it leads to
 pub among_at : (order : List ℕ) (n s : ℕ) → n < length order → slice_index order n ≡ s → IsAmong order (suc n) s
@@ -321,7 +321,7 @@ pub later_at : (code : Code) (order : List ℕ) (n s to : ℕ) → IsOrder code 
     slice_index order n ≡ s → IsJoint code s to →
     IsAmong order (suc n) to → ⊥
 later_at code order n s to f lt at joint =
-  joint_later code order n to f lt (subst (λ (k : ℕ). IsJoint code k to) (sym at) joint)
+    joint_later code order n to f lt (subst (λ (k : ℕ). IsJoint code k to) (sym at) joint)
 
 -- one at the first places is at the last of them, or ahead
 pub among_before : (order : List ℕ) (n s : ℕ) → IsAmong order (suc n) s → s ≢ slice_index order n → IsAmong order n s
@@ -339,20 +339,20 @@ come_examined : (p : Subject) (order : List ℕ) (n : ℕ) (links : Links) (stat
     HasPropagated p order n links states → length later ≡ length states →
     ((s : ℕ) → s ≢ slice_index order n → slice_index_or later s None ≡ slice_index_or states s None) →
     IsProcessed p links.first (slice_index order n) (slice_index_or later (slice_index order n) None) →
-      HasPropagated p order (suc n) links later
+    HasPropagated p order (suc n) links later
 come_examined p order n links states later lt h long others out_state = record {
   linked = h.linked;
   slots = long ∙ h.slots;
   pulled = λ s within not_yet.
       let ne : s ≢ slice_index order n =
-        λ e. not_yet (subst (λ (k : ℕ). IsAmong order (suc n) k) (sym e) (among_here order n lt)) in
+      λ e. not_yet (subst (λ (k : ℕ). IsAmong order (suc n) k) (sym e) (among_here order n lt)) in
       pulled_same p s (slice_index_or states s None) (slice_index_or later s None) (slice_index_or links.first s None)
-        (slice_index_or links.first s None)
+      (slice_index_or links.first s None)
       (others s ne) refl (h.pulled s within (λ m. not_yet (among_more order n s m)));
   out_state = λ s among. elim (cases_eq s (slice_index order n)) [
     | inl e ↦ subst (λ (k : ℕ). IsProcessed p links.first k (slice_index_or later k None)) (sym e) out_state
     | inr ne ↦ sent_on p links.first links.first s (slice_index_or states s None) (slice_index_or later s None)
-      (others s ne) (λ t. t)
+        (others s ne) (λ t. t)
         (h.out_state s (among_before order n s among ne))
   ];
 }
@@ -361,7 +361,7 @@ come_examined p order n links states later lt h long others out_state = record {
 pub come_passed : (p : Subject) (order : List ℕ) (n : ℕ) (links : Links) (states : List (Option AbsState))
     (state : AbsState) → n < length order →
     HasPropagated p order n links states → IsVisited p (slice_index order n) state →
-      slice_index_or states (slice_index order n) None ≡ Some state →
+    slice_index_or states (slice_index order n) None ≡ Some state →
     HasPropagated p order (suc n) links states
 come_passed p order n links states state lt h transferred there =
     come_examined p order n links states states lt h refl (λ s ne. refl) (inr (state, transferred, inl there))
@@ -372,6 +372,6 @@ pub come_blocked : (p : Subject) (order : List ℕ) (n : ℕ) (links : Links) (s
     HasPropagated p order n links states → length later ≡ length states →
     ((s : ℕ) → s ≢ slice_index order n → slice_index_or later s None ≡ slice_index_or states s None) →
     slice_index_or later (slice_index order n) None ≡ None → IsBlocked p (slice_index order n) →
-      HasPropagated p order (suc n) links later
+    HasPropagated p order (suc n) links later
 come_blocked p order n links states later lt h long others gone blocked =
-  come_examined p order n links states later lt h long others (inl (blocked, gone))
+    come_examined p order n links states later lt h long others (inl (blocked, gone))
