@@ -38,4 +38,4 @@ pub use run::answer_run;
 // from a source to a sink
 mod ends;
 
-pub use ends::{perform, read_all, tell};
+pub use ends::{perform, perform_alone, read_all, tell};
