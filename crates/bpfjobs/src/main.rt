@@ -3,13 +3,16 @@
 #![tactic(auto)]
 
 ghost use Rattle.bpfjobs_cli.specs.Commands.{IsInRange};
-ghost use Rattle.bpfjobs_cli.specs.Performing.{AnswersInput};
+ghost use Rattle.bpfjobs_cli.specs.Performing.{NeedsNoThread};
+ghost use Rattle.std.specs.Prelude.{◌≤◌};
 
 mod server_threads;
 mod serving;
 mod showing;
 
-use bpfjobs_cli::{Command, CommandRequest, FAILED, UNREAD, perform, print_usage, request, words};
+use bpfjobs_cli::{
+    Command, CommandRequest, FAILED, UNREAD, perform, perform_alone, print_usage, request, words,
+};
 use server_threads::handles_of;
 use serving::serve;
 use showing::{play_shown, run_shown};
@@ -21,15 +24,32 @@ use std::thread::Threads;
 use std::{io, thread};
 use streams::Tap;
 
-// Reads the input, prints the answer of any command but `serve`, and gives the status.
-fn answer<R>(rt: &R, alloc: Global, command: Command) -> u8
-where
-    R: Input + Print + Threads + Wait + Sync,
-    requires { AnswersInput command }
+// Reads the input, prints the answer of a command that needs no thread, and gives the status. It
+// returns if the input and the output do.
+fn answer<R: Input + Print>(rt: &R, alloc: Global, command: Command) -> u8
+    requires { NeedsNoThread command }
 {
     let mut reader = Tap::new(rt.reader());
     let mut writer = Tap::new(io::writer(rt));
-    match perform(rt, alloc, command, &mut reader, &mut writer) {
+    match perform_alone(alloc, command, &mut reader, &mut writer) {
+        Ok(status) => status,
+        Err(_) => FAILED,
+    }
+}
+
+// The same for a job that so many threads run, for which it waits.
+fn run<R: Input + Print + Threads + Wait + Sync>(rt: &R, alloc: Global, workers: u32) -> u8
+    requires { (1 ≤ workers) × (workers ≤ 16) }
+{
+    let mut reader = Tap::new(rt.reader());
+    let mut writer = Tap::new(io::writer(rt));
+    match perform(
+        rt,
+        alloc,
+        Command::Run { workers },
+        &mut reader,
+        &mut writer,
+    ) {
         Ok(status) => status,
         Err(_) => FAILED,
     }
@@ -68,6 +88,7 @@ fn main(rt: HostRuntime) -> ExitCode {
     }
     let server = match request.command {
         Command::Serve(server) => server,
+        Command::Run { workers } => return ExitCode::from(run(&rt, alloc, workers)),
         command => return ExitCode::from(answer(&rt, alloc, command)),
     };
     let Ok((handles, helpers)) = handles_of(alloc, &server) else {

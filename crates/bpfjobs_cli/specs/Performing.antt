@@ -8,6 +8,15 @@ use Rattle.bpfjobs_cli.specs.Jobs.{PrintsPlay}
 use Rattle.bpfjobs_cli.specs.Programs.{PrintsAssembly, PrintsListing, PrintsVerdict}
 use Rattle.bpfjobs_cli.specs.Runs.{PrintsRun}
 
+-- the command needs no thread
+abbrev pub NeedsNoThread : Command → Type 0
+NeedsNoThread Assemble = Unit {0}
+NeedsNoThread Disassemble = Unit {0}
+NeedsNoThread (Verify need) = Unit {0}
+NeedsNoThread Play = Unit {0}
+NeedsNoThread (Run workers) = ⊥
+NeedsNoThread (Serve serve) = ⊥
+
 -- the command has an answer: it is no server, and a job has 1 to 16 threads
 abbrev pub AnswersInput : Command → Type 0
 AnswersInput Assemble = Unit {0}

@@ -1,7 +1,7 @@
 //! A command from a source to a sink.
 
 ghost use Rattle.std.specs.Prelude.{◌≡◌, ◌≢◌, ◌<◌, ◌++◌, ℕ, List, true, false, take, length, is_err, OnOk, OnErr, IfOk, IfErr, Err};
-ghost use Rattle.bpfjobs_cli.specs.Performing.{AnswersInput, IsAllRead, IsAnswer, IsGivenUpBy};
+ghost use Rattle.bpfjobs_cli.specs.Performing.{AnswersInput, IsAllRead, IsAnswer, IsGivenUpBy, NeedsNoThread};
 
 use crate::Command;
 use crate::answer::Answer;
@@ -66,14 +66,9 @@ pub fn tell<W: Sink>(writer: &mut W, answer: &Answer) -> Result<u8, StreamFault>
     }
 }
 
-// The answer of any command but `serve` to the input. A `run` waits for its threads.
-fn answer_to<T: Threads + Wait + Sync>(
-    rt: &T,
-    alloc: Global,
-    command: Command,
-    input: &[u8],
-) -> Result<Answer, NoMemory>
-    requires { AnswersInput command }
+// What is answered to the input, by a command that needs no thread.
+fn answer_to(alloc: Global, command: Command, input: &[u8]) -> Result<Answer, NoMemory>
+    requires { NeedsNoThread command }
     ensures { IfOk result (λ answer. IsAnswer command input.now answer.text.items answer.status) }
 {
     match command {
@@ -81,17 +76,50 @@ fn answer_to<T: Threads + Wait + Sync>(
         Command::Disassemble => answer_disassemble(alloc, input),
         Command::Verify { need } => answer_verify(alloc, need, input),
         Command::Play => answer_play(alloc, input),
-        Command::Run { workers } => answer_run(rt, alloc, workers, input),
+        Command::Run { .. } => unreachable!(),
         Command::Serve(_) => unreachable!(),
     }
 }
 
-/// Reads the whole input, writes the answer of any command but `serve`, and gives the status: 0
-/// answered, 1 refused. A `run` waits for its threads.
+/// Reads the whole input, writes the answer of a command that needs no thread, and gives the
+/// status: 0 answered, 1 refused. It returns if its ends do.
 ///
 /// 83 where the reader failed, and 99 where the input or the answer found no memory and neither end
 /// has failed: nothing is written. 84 where the writer failed, once all input was read: of the
 /// answer a beginning is written, and not all.
+pub fn perform_alone<R: Source, W: Sink>(
+    alloc: Global,
+    command: Command,
+    reader: &mut R,
+    writer: &mut W,
+) -> Result<u8, StreamFault>
+    requires alone { NeedsNoThread command }
+    requires source { R.has_failed reader.old ≡ false }
+    requires sink { W.has_failed writer.old ≡ false }
+    ensures done { IfOk result (λ status. (input text : List ℕ)
+        × (R.transcript reader.new ≡ R.transcript reader.old ++ input)
+        × IsAllRead (R.is_over reader.new ≡ true) input
+        × IsAnswer command input text status
+        × (W.transcript writer.new ≡ W.transcript writer.old ++ text)) }
+    ensures stopped { IfErr result (λ fault. (input : List ℕ)
+        × (R.transcript reader.new ≡ R.transcript reader.old ++ input)
+        × IsGivenUpBy fault (IsAnswer command input) (IsAllRead (R.is_over reader.new ≡ true) input)
+        (W.transcript writer.old) (W.transcript writer.new)) }
+    ensures read_failed { result ≡ Err StreamFault.ReadFailed → R.has_failed reader.new ≡ true }
+    ensures write_failed { result ≡ Err StreamFault.WriteFailed → W.has_failed writer.new ≡ true }
+    ensures no_memory { result ≡ Err StreamFault.NoMemory → (R.has_failed reader.new ≡ false)
+        × (W.has_failed writer.new ≡ false) }
+    ensures well { OnOk result ((R.has_failed reader.new ≡ false)
+        × (W.has_failed writer.new ≡ false)) }
+{
+    let input = read_all(alloc, reader)?;
+    let answer = answer_to(alloc, command, &input)?;
+    tell(writer, &answer)
+}
+
+/// Reads the whole input, writes the answer of any command but `serve`, and gives the status: 0
+/// answered, 1 refused. A `run` waits for its threads, so that of this call it isn't proved that it
+/// returns; of `perform_alone`, which all others go to, it is. The faults are the same.
 pub fn perform<T: Threads + Wait + Sync, R: Source, W: Sink>(
     rt: &T,
     alloc: Global,
@@ -118,7 +146,13 @@ pub fn perform<T: Threads + Wait + Sync, R: Source, W: Sink>(
     ensures well { OnOk result ((R.has_failed reader.new ≡ false)
         × (W.has_failed writer.new ≡ false)) }
 {
-    let input = read_all(alloc, reader)?;
-    let answer = answer_to(rt, alloc, command, &input)?;
-    tell(writer, &answer)
+    match command {
+        Command::Run { workers } => {
+            let input = read_all(alloc, reader)?;
+            let answer = answer_run(rt, alloc, workers, &input)?;
+            tell(writer, &answer)
+        }
+        Command::Serve(_) => unreachable!(),
+        alone => perform_alone(alloc, alone, reader, writer),
+    }
 }

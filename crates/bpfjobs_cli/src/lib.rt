@@ -49,4 +49,4 @@ pub use views::{steps_of, tree_in};
 // from a source to a sink
 mod ends;
 
-pub use ends::{perform, read_all, tell};
+pub use ends::{perform, perform_alone, read_all, tell};
