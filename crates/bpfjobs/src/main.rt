@@ -43,7 +43,13 @@ fn run<R: Input + Print + Threads + Wait + Sync>(rt: &R, alloc: Global, workers:
 {
     let mut reader = Tap::new(rt.reader());
     let mut writer = Tap::new(io::writer(rt));
-    match perform(rt, alloc, Command::Run { workers }, &mut reader, &mut writer) {
+    match perform(
+        rt,
+        alloc,
+        Command::Run { workers },
+        &mut reader,
+        &mut writer,
+    ) {
         Ok(status) => status,
         Err(_) => FAILED,
     }

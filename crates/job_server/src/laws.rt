@@ -16,20 +16,20 @@ ghost use Rattle.job_server.specs.Payloads.{ComesFromPayload};
 /// until it is forgotten.
 pub fn results_come_from_submits()
     ensures told { (bounds : Bounds) (before after : List Entry) (e : Entry) (number : ℕ)
-        → IsHostHistory bounds (before ++ e ∷ after) → AsksForResult number e.query
+        → IsHostHistory bounds (before ++ e ∷ after) → AsksForResult number e.query.asked
         → IsToldResult bounds.keep before number e }
     ensures submitted { (bounds : Bounds) (before after : List Entry) (e : Entry) (number : ℕ)
-        → IsHostHistory bounds (before ++ e ∷ after) → AsksForResult number e.query
+        → IsHostHistory bounds (before ++ e ∷ after) → AsksForResult number e.query.asked
         → IsResultFrame e.reply → ComesFromSubmit before number e }
     ensures refused { (bounds : Bounds) (before after : List Entry) (e : Entry) (number code : ℕ)
-        → IsHostHistory bounds (before ++ e ∷ after) → AsksForResult number e.query
+        → IsHostHistory bounds (before ++ e ∷ after) → AsksForResult number e.query.asked
         → HasReply e (refused code) → code < 2 ^ 64 → IsToldRefusal bounds.keep before number code }
     ensures adds_up { (before : List Entry) (number : ℕ) (e : Entry)
         (r : ComesFromSubmit before number e)
         → r.report.spent + r.report.returned ≡ r.is_submit.credit }
     ensures stays { (bounds : Bounds) (before between after : List Entry) (e f : Entry) (number : ℕ)
         → IsHostHistory bounds (before ++ e ∷ (between ++ f ∷ after))
-        → AsksForResult number e.query → AsksForResult number f.query → StaysTold e f }
+        → AsksForResult number e.query.asked → AsksForResult number f.query.asked → StaysTold e f }
 {}
 
 /// A submit is told a greater number than each submit before it. So no two are told the same.
@@ -37,8 +37,8 @@ pub fn numbers_rise()
     ensures { (bounds : Bounds) (before between after : List Entry) (e f : Entry) (m n : ℕ)
         → IsHostHistory bounds (before ++ e ∷ (between ++ f ∷ after))
         → length (before ++ e ∷ between) < 2 ^ 64 - 1
-        → AsksForJob e.query → HasReply e (submit_data m) → m < 2 ^ 64
-        → AsksForJob f.query → HasReply f (submit_data n) → n < 2 ^ 64 → m < n }
+        → AsksForJob e.query.asked → HasReply e (submit_data m) → m < 2 ^ 64
+        → AsksForJob f.query.asked → HasReply f (submit_data n) → n < 2 ^ 64 → m < n }
 {}
 
 /// From payload to payload, at a server of many connections: a result comes from a submit, and the
@@ -48,6 +48,6 @@ pub fn payloads_lead_to_payloads()
         (outcome : Result (Unit {0}) ServeFault)
         (s : IsServing bounds sessions may_stop outcome)
         (before after : List Entry) (e : Entry) (number : ℕ)
-        → s.serving.history ≡ before ++ e ∷ after → AsksForResult number e.query
+        → s.serving.history ≡ before ++ e ∷ after → AsksForResult number e.query.asked
         → IsResultFrame e.reply → ComesFromPayload s.serving.closed before number e }
 {}
