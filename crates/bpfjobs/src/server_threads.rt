@@ -3,7 +3,7 @@
 use bpfjobs_cli::{Endpoint, Serve};
 use job_server::{StopFlag, address_of};
 use refusal::NoMemory;
-use server_log::{Door, LogLines, ServerLog, open_log, write_lines};
+use server_log::{LogLines, ServerLog, open_log, write_lines};
 use std::alloc::Global;
 use std::io::Read;
 use std::net::{Net, TcpStream};
@@ -85,21 +85,6 @@ fn place_of(alloc: Global, endpoint: &Endpoint) -> Result<ListenAddress, NoMemor
     }
 }
 
-// The log of a server at this endpoint, and the lines that come to it.
-fn log_of(alloc: Global, endpoint: &Endpoint) -> Result<(ServerLog, LogLines), NoMemory> {
-    match endpoint {
-        Endpoint::Port(_) => open_log(alloc, Door::Port, Door::Port),
-        Endpoint::Socket { path: _, grants } => {
-            let granting = if grants.is_some() {
-                Door::Grants
-            } else {
-                Door::Socket
-            };
-            open_log(alloc, granting, Door::Socket)
-        }
-    }
-}
-
 /// The flag and the log that a server's options ask for, and what their threads do.
 pub fn handles_of(alloc: Global, server: &Serve) -> Result<(ServerHandles, Vec<Helper>), NoMemory> {
     let mut helpers = Vec::new(alloc);
@@ -115,7 +100,7 @@ pub fn handles_of(alloc: Global, server: &Serve) -> Result<(ServerHandles, Vec<H
         handles.stop = Some(stop);
     }
     if server.options.logs {
-        let (log, lines) = log_of(alloc, &server.endpoint)?;
+        let (log, lines) = open_log(alloc)?;
         helpers.push(Helper::Writes(lines))?;
         handles.log = Some(log);
     }

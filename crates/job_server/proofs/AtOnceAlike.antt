@@ -7,7 +7,7 @@ use Rattle.accounts.specs.Ledgers.{Ledger}
 use Rattle.credit_book.specs.Boards.{Sight}
 use Rattle.streams.specs.declared.fault.StreamFault.{StreamFault}
 use Rattle.shared_desk.specs.declared.closed.ClosedConnection.{ClosedConnection}
-use Rattle.shared_desk.specs.Histories.{HistoryEntry, Replays, none_yet, one_more}
+use Rattle.shared_desk.specs.Histories.{HistoryEntry, Query, Replays, by_any_passage, none_yet, one_more}
 use Rattle.shared_desk.specs.Closed.{first_fault}
 use Rattle.credit_book.specs.declared.book.Report.{Report}
 use Rattle.credit_book.specs.declared.board.Progress.{Progress}
@@ -25,8 +25,8 @@ use Rattle.job_server.specs.AtOnce.{EndsBy, Hosted, IsServingFrom, Pool, hosted_
 use Rattle.job_server.specs.declared.bounds.Bounds.{Bounds}
 use Rattle.job_server.proofs.Alike.{beside, answers_alike}
 
-module _ {S T : Type 0} (g : S → T) (answers : S → Result Asked ℕ → List ℕ → S → Type 0) (answers1 : T → Result Asked ℕ → List ℕ → T → Type 0)
-    (alike : (s : S) (query : Result Asked ℕ) (reply : List ℕ) (t : S) → answers s query reply t → answers1 (g s) query reply (g t))
+module _ {S T : Type 0} (g : S → T) (answers : S → Query → List ℕ → S → Type 0) (answers1 : T → Query → List ℕ → T → Type 0)
+    (alike : (s : S) (asked : Query) (reply : List ℕ) (t : S) → answers s asked reply t → answers1 (g s) asked reply (g t))
     (begins : S → Type 0) (begins1 : T → Type 0) (first : (s : S) → begins s → begins1 (g s)) where
   replays_alike : (history : List HistoryEntry) (s : S) → Replays answers begins history s → Replays answers1 begins1 history (g s)
   replays_alike history s (none_yet t start) = none_yet (g t) (first t start)
@@ -94,15 +94,16 @@ module _ {R : Type 0} (f : R → Pool) (starts : R → ℕ → AdmittedJob → R
   -- the pool's own state is forgotten, but for the jobs that it was given and the boards that it watches
   pub hosted_serving : (bounds : Bounds) (desk : Ledger) (h : KeepingHandler (LimitedRunner R)) (l : LimitedRunner R) (pool : R) (end : Ledger × KeepingHandler (LimitedRunner R)) (sessions : ℕ) (may_stop : Bool) (outcome : Result (Unit {0}) ServeFault)
       → desk ≡ new_desk → h.runner ≡ l → h.keep ≡ bounds.keep → l.runner ≡ pool → l.limit ≡ bounds.open_jobs
-      → (serving : IsServingFrom (answers_keeping (starts_within (λ r. pooled_count (f r)) starts) (looks_within looks) (takes_within takes)) (λ s. s ≡ (desk, h)) end sessions may_stop outcome)
-      → (hosted : IsServingFrom hosted_answers (λ s. s ≡ new_host bounds (f pool)) (beside (keeping f) end) sessions may_stop outcome) × (hosted.opened ≡ serving.opened)
+      → (serving : IsServingFrom (by_any_passage (answers_keeping (starts_within (λ r. pooled_count (f r)) starts) (looks_within looks) (takes_within takes))) (λ s. s ≡ (desk, h)) end sessions may_stop outcome)
+      → (hosted : IsServingFrom (by_any_passage hosted_answers) (λ s. s ≡ new_host bounds (f pool)) (beside (keeping f) end) sessions may_stop outcome) × (hosted.opened ≡ serving.opened) × (hosted.closed ≡ serving.closed)
   unfolding serving_alike
   hosted_serving bounds desk h l pool end sessions may_stop outcome is_new is_limited kept is_pool is_limit serving = (
-    serving_alike (beside (keeping f)) _ hosted_answers
-        (keeping_alike f pooled_count (StartsBy pooled_at pooled_count) (TellsBy pooled_at pooled_count) (TakesBy pooled_at pooled_count) starts looks takes starts_alike looks_alike takes_alike)
+    serving_alike (beside (keeping f)) _ (by_any_passage hosted_answers)
+        (λ s q reply t. keeping_alike f pooled_count (StartsBy pooled_at pooled_count) (TellsBy pooled_at pooled_count) (TakesBy pooled_at pooled_count) starts looks takes starts_alike looks_alike takes_alike s q.asked reply t)
         (λ s. s ≡ (desk, h)) (λ s. s ≡ new_host bounds (f pool))
         (λ s is. ap (beside (keeping f)) is ∙ hosted_is f bounds desk h l pool is_new is_limited kept is_pool is_limit)
         end sessions may_stop outcome serving,
+    refl,
     refl,
   )
 

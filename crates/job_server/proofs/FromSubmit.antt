@@ -103,25 +103,25 @@ adds_up before number e r = r.run.final.whole ∙ r.is_submit.admitted.same_cred
 fresh_host : (bounds : Bounds) (first : Pool) (x : Hosted) → x ≡ new_host bounds first → (x.0.jobs ≡ []) × (x.1.keep ≡ bounds.keep)
 fresh_host bounds first x is = (ap (λ (h : Hosted). h.0.jobs) is, ap (λ (h : Hosted). h.1.keep) is)
 
-pub host_tells : (bounds : Bounds) (before after : List HistoryEntry) (e : HistoryEntry) (number : ℕ) → IsHostHistory bounds (before ++ e ∷ after) → e.query ≡ Ok (result number) → IsToldResult bounds.keep before number e
+pub host_tells : (bounds : Bounds) (before after : List HistoryEntry) (e : HistoryEntry) (number : ℕ) → IsHostHistory bounds (before ++ e ∷ after) → e.query.asked ≡ Ok (result number) → IsToldResult bounds.keep before number e
 host_tells bounds before after e number h asks =
     history_tells (starts_within pooled_count (StartsBy pooled_at pooled_count)) (looks_within (TellsBy pooled_at pooled_count)) (takes_within (TakesBy pooled_at pooled_count))
     (job_held pooled_at pooled_count) (limited_holds pooled_at pooled_count) (λ s. s ≡ new_host bounds h.first) bounds.keep (fresh_host bounds h.first) before after e number h.end h.legal asks
 
-pub host_comes : (bounds : Bounds) (before after : List HistoryEntry) (e : HistoryEntry) (number : ℕ) → IsHostHistory bounds (before ++ e ∷ after) → e.query ≡ Ok (result number) → IsResultFrame e.reply → ComesFromSubmit before number e
+pub host_comes : (bounds : Bounds) (before after : List HistoryEntry) (e : HistoryEntry) (number : ℕ) → IsHostHistory bounds (before ++ e ∷ after) → e.query.asked ≡ Ok (result number) → IsResultFrame e.reply → ComesFromSubmit before number e
 host_comes bounds before after e number h asks f = comes_from_submit bounds.keep before number e (host_tells bounds before after e number h asks) f
 
-pub host_refuses : (bounds : Bounds) (before after : List HistoryEntry) (e : HistoryEntry) (number code : ℕ) → IsHostHistory bounds (before ++ e ∷ after) → e.query ≡ Ok (result number) → HasReply e (refused code) → code < 2 ^ 64
+pub host_refuses : (bounds : Bounds) (before after : List HistoryEntry) (e : HistoryEntry) (number code : ℕ) → IsHostHistory bounds (before ++ e ∷ after) → e.query.asked ≡ Ok (result number) → HasReply e (refused code) → code < 2 ^ 64
     → IsToldRefusal bounds.keep before number code
 host_refuses bounds before after e number code h asks tells small = told_refusal bounds.keep before number e code (host_tells bounds before after e number h asks) tells small
 
-pub host_stays : (bounds : Bounds) (before between after : List HistoryEntry) (e f : HistoryEntry) (number : ℕ) → IsHostHistory bounds (before ++ e ∷ (between ++ f ∷ after)) → e.query ≡ Ok (result number) → f.query ≡ Ok (result number) → StaysTold e f
+pub host_stays : (bounds : Bounds) (before between after : List HistoryEntry) (e f : HistoryEntry) (number : ℕ) → IsHostHistory bounds (before ++ e ∷ (between ++ f ∷ after)) → e.query.asked ≡ Ok (result number) → f.query.asked ≡ Ok (result number) → StaysTold e f
 host_stays bounds before between after e f number h asks_e asks_f =
     results_stay (starts_within pooled_count (StartsBy pooled_at pooled_count)) (looks_within (TellsBy pooled_at pooled_count)) (takes_within (TakesBy pooled_at pooled_count))
     (λ s. s ≡ new_host bounds h.first) before between after e f number h.end h.legal asks_e asks_f
 
 pub host_rises : (bounds : Bounds) (before between after : List HistoryEntry) (e f : HistoryEntry) (m n : ℕ) → IsHostHistory bounds (before ++ e ∷ (between ++ f ∷ after)) → length (before ++ e ∷ between) < 2 ^ 64 - 1
-    → AsksForJob e.query → HasReply e (submit_data m) → m < 2 ^ 64 → AsksForJob f.query → HasReply f (submit_data n) → n < 2 ^ 64 → m < n
+    → AsksForJob e.query.asked → HasReply e (submit_data m) → m < 2 ^ 64 → AsksForJob f.query.asked → HasReply f (submit_data n) → n < 2 ^ 64 → m < n
 host_rises bounds before between after e f m n h short asks_e tells_e small_m asks_f tells_f small_n =
     let stands = history_stands (starts_within pooled_count (StartsBy pooled_at pooled_count)) (looks_within (TellsBy pooled_at pooled_count)) (takes_within (TakesBy pooled_at pooled_count))
     (job_held pooled_at pooled_count) (limited_holds pooled_at pooled_count) (λ s. s ≡ new_host bounds h.first) bounds.keep (fresh_host bounds h.first) (before ++ e ∷ (between ++ f ∷ after)) h.end h.legal in
@@ -136,12 +136,12 @@ each_served : (closed : List ClosedConnection) → All IsServedWhole closed → 
 each_served closed served i c at = subst IsServedWhole (get_or_from_slice_get closed i c c at) (served i c (slice_get_within closed i c at))
 
 pub host_entries : (bounds : Bounds) (sessions : ℕ) (may_stop : Bool) (outcome : Result (Unit {0}) ServeFault) (s : IsServing bounds sessions may_stop outcome) (before after : List HistoryEntry) (e : HistoryEntry) (asks : Asked)
-    → s.serving.history ≡ before ++ e ∷ after → e.query ≡ Ok asks → IsEntryOf s.serving.closed e asks
+    → s.serving.history ≡ before ++ e ∷ after → e.query.asked ≡ Ok asks → IsEntryOf s.serving.closed e asks
 host_entries bounds sessions may_stop outcome s before after e asks is own =
     is_entry_of s.serving.opened before after e s.serving.closed asks (subst (λ h. AreClosed s.serving.opened h s.serving.closed) is s.serving.parts) (each_served s.serving.closed s.serving.served) own
 
 pub host_payloads : (bounds : Bounds) (sessions : ℕ) (may_stop : Bool) (outcome : Result (Unit {0}) ServeFault) (s : IsServing bounds sessions may_stop outcome) (before after : List HistoryEntry) (e : HistoryEntry) (number : ℕ)
-    → s.serving.history ≡ before ++ e ∷ after → e.query ≡ Ok (result number) → IsResultFrame e.reply → ComesFromPayload s.serving.closed before number e
+    → s.serving.history ≡ before ++ e ∷ after → e.query.asked ≡ Ok (result number) → IsResultFrame e.reply → ComesFromPayload s.serving.closed before number e
 host_payloads bounds sessions may_stop outcome s before after e number is asks f = record {
   comes = comes;
   submitted = host_entries bounds sessions may_stop outcome s comes.earlier (comes.between ++ e ∷ after) comes.asked

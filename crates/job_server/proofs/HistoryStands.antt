@@ -18,7 +18,7 @@ use Rattle.streams.specs.Passing.{Taken, none_yet as none_taken, one_more as one
 use Rattle.streams.specs.Answering.{Replies, Grants, GrantsNone, Settles, Submits, report_told, refused}
 use Rattle.job_server.specs.Kept.{KeepsLast, answers_keeping}
 use Rattle.job_server.specs.declared.keeping_handler.KeepingHandler.{KeepingHandler}
-use Rattle.shared_desk.specs.Histories.{HistoryEntry, Replays, none_yet as nothing_replayed, one_more as one_replayed}
+use Rattle.shared_desk.specs.Histories.{HistoryEntry, Replays, by_any_passage, none_yet as nothing_replayed, one_more as one_replayed}
 use Rattle.job_pools.specs.Endings.{IsEndOf}
 use Rattle.job_server.specs.EndToEnd.{AreTaken, none_yet, one_more, no_more, IsSubmit, TakesNoJob, AsksForJob, FailsBy, IsResultOf, reported, failed, not_over, forgotten, unknown, taken_at, IsToldResult, HasReply}
 use Rattle.job_server.proofs.ListEnds.{length_pushed, get_within, get_past, within_get}
@@ -105,7 +105,7 @@ module _ {R : Type 0} (starts : R → ℕ → AdmittedJob → Result (Unit {0}) 
       (jobs, no_more history jobs e taken no_job, subst (λ es. AllStand keep jobs es (held s)) (sym same) (all_stand keep jobs d.jobs (held r) (held s) held_same stand))
 
   after_submit : (keep : ℕ) (history : List HistoryEntry) (d : Ledger) (r : R) (e : HistoryEntry) (a : Ledger) (s : R) → (jobs : List AdmittedJob) → AreTaken history jobs → AllStand keep jobs d.jobs (held r)
-      → (name : List ℕ) (programs : List ProgramBytes) (credit : ℕ) (buffer : List ℕ) (told : Data) → e.query ≡ Ok (submit name (record { programs = map program_asked programs; credit = credit; buffer = buffer })) → HasReply e told
+      → (name : List ℕ) (programs : List ProgramBytes) (credit : ℕ) (buffer : List ℕ) (told : Data) → e.query.asked ≡ Ok (submit name (record { programs = map program_asked programs; credit = credit; buffer = buffer })) → HasReply e told
       → Submits starts d r name programs credit buffer told a s → Stands keep (history ++ e ∷ []) a s
   after_submit keep history d r e a s jobs taken stand name programs credit buffer told asks tells (inr n) =
       same_desk keep history d r e a s jobs taken stand (inr (n.fault, tells ∙ ap frame_or_refusal n.tells)) (ap (λ (l : Ledger). l.jobs) n.same) (λ m. ap (λ (x : R). held x m) n.same_runner)
@@ -167,7 +167,7 @@ module _ {R : Type 0} (starts : R → ℕ → AdmittedJob → Result (Unit {0}) 
           (λ job is. by_code code step.0 job) settles
 
   after_replies : (keep : ℕ) (history : List HistoryEntry) (d : Ledger) (r : R) (e : HistoryEntry) (a : Ledger) (s : R) → (jobs : List AdmittedJob) → AreTaken history jobs → AllStand keep jobs d.jobs (held r)
-      → (query : Result Asked ℕ) (told : Data) → e.query ≡ query → HasReply e told → Replies starts looks d r query told a s → Stands keep (history ++ e ∷ []) a s
+      → (query : Result Asked ℕ) (told : Data) → e.query.asked ≡ query → HasReply e told → Replies starts looks d r query told a s → Stands keep (history ++ e ∷ []) a s
   unfolding Replies
   after_replies keep history d r e a s jobs taken stand (Err code) told asks tells t =
       same_desk keep history d r e a s jobs taken stand (inl (subst (λ q. AsksForJob q → ⊥) (sym asks) (λ h. h))) (ap (λ (l : Ledger). l.jobs) t.1) (λ m. ap (λ (x : R). held x m) t.2)
@@ -188,23 +188,23 @@ module _ {R : Type 0} (starts : R → ℕ → AdmittedJob → Result (Unit {0}) 
       same_desk keep history d r e a s jobs taken stand (inl (subst (λ q. AsksForJob q → ⊥) (sym asks) (λ h. h))) (ap (λ (l : Ledger). l.jobs) t.1) (λ m. ap (λ (x : R). held x m) t.2)
 
   after_answer : (keep : ℕ) (history : List HistoryEntry) (x : Ledger × KeepingHandler R) (e : HistoryEntry) (y : Ledger × KeepingHandler R) → (x.1.keep ≡ keep) → Stands keep history x.0 x.1.runner
-      → answers_keeping starts looks takes x e.query e.reply y → (y.1.keep ≡ keep) × Stands keep (history ++ e ∷ []) y.0 y.1.runner
+      → answers_keeping starts looks takes x e.query.asked e.reply y → (y.1.keep ≡ keep) × Stands keep (history ++ e ∷ []) y.0 y.1.runner
   after_answer keep history x e y keeps stands answers =
       let mid = answers.0.0 in
       let a = answers.0.1 in
       let passed = after_passes keep stands.0 x.0 x.1.runner a.mid a.rest stands.2 a.passed in
-      let done = after_replies keep history a.mid a.rest e mid y.1.runner stands.0 stands.1 passed e.query (reply_data a.told) refl (a.frame ∙ is_framed a.told) a.replies in (
+      let done = after_replies keep history a.mid a.rest e mid y.1.runner stands.0 stands.1 passed e.query.asked (reply_data a.told) refl (a.frame ∙ is_framed a.told) a.replies in (
         answers.1 ∙ keeps,
         (done.0, done.1, stand_kept keep done.0 mid y.0 (held y.1.runner) done.2 (subst (λ (k : ℕ). KeepsLast k mid y.0) keeps answers.0.2)),
       )
 
   -- the result that is told after a history
   tells_result : (keep : ℕ) (history : List HistoryEntry) (x : Ledger × KeepingHandler R) (e : HistoryEntry) (y : Ledger × KeepingHandler R) (number : ℕ) → Stands keep history x.0 x.1.runner
-      → answers_keeping starts looks takes x e.query e.reply y → e.query ≡ Ok (result number) → IsToldResult keep history number e
+      → answers_keeping starts looks takes x e.query.asked e.reply y → e.query.asked ≡ Ok (result number) → IsToldResult keep history number e
   tells_result keep history x e y number stands answers asks =
       let a = answers.0.1 in
       let passed = after_passes keep stands.0 x.0 x.1.runner a.mid a.rest stands.2 a.passed in
-      let is = reported_there starts looks takes a.mid a.rest number (reply_data a.told) answers.0.0 y.1.runner e.query asks a.replies in
+      let is = reported_there starts looks takes a.mid a.rest number (reply_data a.told) answers.0.0 y.1.runner e.query.asked asks a.replies in
       record {
         jobs = stands.0;
         taken = stands.1;
@@ -216,7 +216,7 @@ module _ {R : Type 0} (starts : R → ℕ → AdmittedJob → Result (Unit {0}) 
   -- ---- whole histories
 
   module _ (begins : Ledger × KeepingHandler R → Type 0) (keep : ℕ) (fresh : (x : Ledger × KeepingHandler R) → begins x → (x.0.jobs ≡ []) × (x.1.keep ≡ keep)) where
-    pub history_stands : (history : List HistoryEntry) (x : Ledger × KeepingHandler R) → Replays (answers_keeping starts looks takes) begins history x → (x.1.keep ≡ keep) × Stands keep history x.0 x.1.runner
+    pub history_stands : (history : List HistoryEntry) (x : Ledger × KeepingHandler R) → Replays (by_any_passage (answers_keeping starts looks takes)) begins history x → (x.1.keep ≡ keep) × Stands keep history x.0 x.1.runner
     history_stands history x (nothing_replayed y first) =
         ((fresh y first).1, ([], none_yet, subst (λ es. AllStand keep [] es (held y.1.runner)) (sym (fresh y first).0) (record { count = refl; each = λ i entry job at there. absurd (nothing_at i entry at) })))
       where
@@ -226,8 +226,8 @@ module _ {R : Type 0} (starts : R → ℕ → AdmittedJob → Result (Unit {0}) 
         let was = history_stands h y before in
         after_answer keep h y e z was.0 was.1 answered
 
-    pub history_tells : (before after : List HistoryEntry) (e : HistoryEntry) (number : ℕ) (end : Ledger × KeepingHandler R) → Replays (answers_keeping starts looks takes) begins (before ++ e ∷ after) end
-        → e.query ≡ Ok (result number) → IsToldResult keep before number e
+    pub history_tells : (before after : List HistoryEntry) (e : HistoryEntry) (number : ℕ) (end : Ledger × KeepingHandler R) → Replays (by_any_passage (answers_keeping starts looks takes)) begins (before ++ e ∷ after) end
+        → e.query.asked ≡ Ok (result number) → IsToldResult keep before number e
     history_tells before after e number end legal asks =
         let at = is_at starts looks takes begins before after e (before ++ e ∷ after) end legal refl in
         tells_result keep before at.old e at.new number (history_stands before at.old at.legal).1 at.answered asks

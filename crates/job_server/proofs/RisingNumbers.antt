@@ -84,7 +84,7 @@ few_jobs _ _ (one_more h jobs x job taken is_submit) =
 few_jobs _ _ (no_more h jobs x taken no_job) = let le = few_jobs h jobs taken in let b = length_pushed h x in omega (arith, le, b)
 
 -- the number that a submit is told is the next one
-told_next : (before : List HistoryEntry) (e : HistoryEntry) (count n : ℕ) (t : TakesAt before e count) → AsksForJob e.query → HasReply e (submit_data n) → n < 2 ^ 64 → length before < 2 ^ 64 - 1 → (n ≡ length t.jobs + 1) × (length t.jobs + 1 ≤ count)
+told_next : (before : List HistoryEntry) (e : HistoryEntry) (count n : ℕ) (t : TakesAt before e count) → AsksForJob e.query.asked → HasReply e (submit_data n) → n < 2 ^ 64 → length before < 2 ^ 64 - 1 → (n ≡ length t.jobs + 1) × (length t.jobs + 1 ≤ count)
 told_next before e count n t asks tells small short = by_here t.here
   where
     by_here : (TakesNoJob e) ⊎ ((job : AdmittedJob) × IsSubmit e (length t.jobs + 1) job × (length t.jobs + 1 ≤ count)) → (n ≡ length t.jobs + 1) × (length t.jobs + 1 ≤ count)
@@ -99,7 +99,7 @@ told_next before e count n t asks tells small short = by_here t.here
         (same_number n (length t.jobs + 1) small lt (sym tells ∙ s.1.tells), s.2)
 
 pub numbers_rise : (before between after : List HistoryEntry) (e f : HistoryEntry) (jobs : List AdmittedJob) (m n : ℕ) → AreTaken (before ++ e ∷ (between ++ f ∷ after)) jobs → length (before ++ e ∷ between) < 2 ^ 64 - 1
-    → AsksForJob e.query → HasReply e (submit_data m) → m < 2 ^ 64 → AsksForJob f.query → HasReply f (submit_data n) → n < 2 ^ 64 → m < n
+    → AsksForJob e.query.asked → HasReply e (submit_data m) → m < 2 ^ 64 → AsksForJob f.query.asked → HasReply f (submit_data n) → n < 2 ^ 64 → m < n
 numbers_rise before between after e f jobs m n taken short asks_e tells_e small_m asks_f tells_f small_n =
     let at_f = takes_at (before ++ e ∷ between) after f (before ++ e ∷ (between ++ f ∷ after)) jobs taken (sym (joined_again before e between (f ∷ after))) in
     let at_e = takes_at before between e (before ++ e ∷ between) at_f.jobs at_f.taken refl in

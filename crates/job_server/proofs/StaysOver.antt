@@ -18,7 +18,7 @@ use Rattle.streams.specs.Passing.{Taken, none_yet as none_taken, one_more as one
 use Rattle.streams.specs.Answering.{Replies, Grants, GrantsNone, Settles, Submits, report_told, refused}
 use Rattle.sessions.specs.Replies.{reply_data, frame_or_refusal}
 use Rattle.job_server.specs.declared.keeping_handler.KeepingHandler.{KeepingHandler}
-use Rattle.shared_desk.specs.Histories.{HistoryEntry, Replays, none_yet as nothing_replayed, one_more as one_replayed}
+use Rattle.shared_desk.specs.Histories.{HistoryEntry, Replays, by_any_passage, none_yet as nothing_replayed, one_more as one_replayed}
 use Rattle.job_server.specs.EndToEnd.{StaysTold, HasReply}
 use Rattle.job_server.proofs.ListEnds.{get_before, get_joined, get_behind, length_same, last_same, last_of, none_pushed, joined_again}
 use Rattle.job_server.proofs.StandsFor.{job_is, job_there}
@@ -180,19 +180,19 @@ module _ {R : Type 0} (starts : R → ℕ → AdmittedJob → Result (Unit {0}) 
   pub record IsAt (before : List HistoryEntry) (e : HistoryEntry) (end : Ledger × KeepingHandler R) : Type 0 where
     pub old : Ledger × KeepingHandler R
     pub new : Ledger × KeepingHandler R
-    pub legal : Replays (answers_keeping starts looks takes) begins before old
-    pub answered : answers_keeping starts looks takes old e.query e.reply new
+    pub legal : Replays (by_any_passage (answers_keeping starts looks takes)) begins before old
+    pub answered : answers_keeping starts looks takes old e.query.asked e.reply new
     pub stays : StayOver new.0.jobs end.0.jobs
 
-  pub is_at : (before after : List HistoryEntry) (e : HistoryEntry) (history : List HistoryEntry) (end : Ledger × KeepingHandler R) → Replays (answers_keeping starts looks takes) begins history end → history ≡ before ++ e ∷ after → IsAt before e end
+  pub is_at : (before after : List HistoryEntry) (e : HistoryEntry) (history : List HistoryEntry) (end : Ledger × KeepingHandler R) → Replays (by_any_passage (answers_keeping starts looks takes)) begins history end → history ≡ before ++ e ∷ after → IsAt before e end
   is_at before after e history end (nothing_replayed s first) is = absurd (none_pushed before after e is)
   is_at before [] e history end (one_replayed h s x t legal answered) is =
       let same = last_same h before x e is in
       record {
         old = s;
         new = t;
-        legal = subst (λ l. Replays (answers_keeping starts looks takes) begins l s) same.0 legal;
-        answered = subst (λ (y : HistoryEntry). answers_keeping starts looks takes s y.query y.reply t) same.1 answered;
+        legal = subst (λ l. Replays (by_any_passage (answers_keeping starts looks takes)) begins l s) same.0 legal;
+        answered = subst (λ (y : HistoryEntry). answers_keeping starts looks takes s y.query.asked y.reply t) same.1 answered;
         stays = stay_same t.0.jobs t.0.jobs refl;
       }
   is_at before (a ∷ after) e history end (one_replayed h s x t legal answered) is =
@@ -204,7 +204,7 @@ module _ {R : Type 0} (starts : R → ℕ → AdmittedJob → Result (Unit {0}) 
         new = early.new;
         legal = early.legal;
         answered = early.answered;
-        stays = stay_on early.new.0.jobs s.0.jobs t.0.jobs early.stays (stay_answered starts looks takes s x.query x.reply t answered);
+        stays = stay_on early.new.0.jobs s.0.jobs t.0.jobs early.stays (stay_answered starts looks takes s x.query.asked x.reply t answered);
       }
 
   -- the desk by which a result is told
@@ -214,19 +214,19 @@ module _ {R : Type 0} (starts : R → ℕ → AdmittedJob → Result (Unit {0}) 
     after : StayOver desk.jobs new.jobs
     tells : HasReply e (report_told (report_at desk number))
 
-  told_by : (number : ℕ) (x : Ledger × KeepingHandler R) (e : HistoryEntry) (y : Ledger × KeepingHandler R) → answers_keeping starts looks takes x e.query e.reply y → e.query ≡ Ok (result number) → IsToldBy number x.0 e y.0
+  told_by : (number : ℕ) (x : Ledger × KeepingHandler R) (e : HistoryEntry) (y : Ledger × KeepingHandler R) → answers_keeping starts looks takes x e.query.asked e.reply y → e.query.asked ≡ Ok (result number) → IsToldBy number x.0 e y.0
   told_by number x e y answers asks =
       let a = answers.0.1 in
-      let is = reported_there starts looks takes a.mid a.rest number (reply_data a.told) answers.0.0 y.1.runner e.query asks a.replies in
+      let is = reported_there starts looks takes a.mid a.rest number (reply_data a.told) answers.0.0 y.1.runner e.query.asked asks a.replies in
       record {
         desk = a.mid;
         before = stay_taken starts looks takes x.0 x.1.runner a.mid a.passed.last a.passed.taken;
-        after = stay_on a.mid.jobs answers.0.0.jobs y.0.jobs (stay_replied starts looks takes a.mid a.rest e.query (reply_data a.told) answers.0.0 y.1.runner a.replies) (stay_kept x.1.keep answers.0.0 y.0 answers.0.2);
+        after = stay_on a.mid.jobs answers.0.0.jobs y.0.jobs (stay_replied starts looks takes a.mid a.rest e.query.asked (reply_data a.told) answers.0.0 y.1.runner a.replies) (stay_kept x.1.keep answers.0.0 y.0 answers.0.2);
         tells = a.frame ∙ is_framed a.told ∙ ap frame_or_refusal is;
       }
 
-  pub results_stay : (before between after : List HistoryEntry) (e f : HistoryEntry) (number : ℕ) (end : Ledger × KeepingHandler R) → Replays (answers_keeping starts looks takes) begins (before ++ e ∷ (between ++ f ∷ after)) end
-      → e.query ≡ Ok (result number) → f.query ≡ Ok (result number) → StaysTold e f
+  pub results_stay : (before between after : List HistoryEntry) (e f : HistoryEntry) (number : ℕ) (end : Ledger × KeepingHandler R) → Replays (by_any_passage (answers_keeping starts looks takes)) begins (before ++ e ∷ (between ++ f ∷ after)) end
+      → e.query.asked ≡ Ok (result number) → f.query.asked ≡ Ok (result number) → StaysTold e f
   results_stay before between after e f number end legal asks_e asks_f =
       let at_f = is_at (before ++ e ∷ between) after f (before ++ e ∷ (between ++ f ∷ after)) end legal (sym (joined_again before e between (f ∷ after))) in
       let at_e = is_at before between e (before ++ e ∷ between) at_f.old at_f.legal refl in

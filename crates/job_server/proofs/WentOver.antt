@@ -11,9 +11,10 @@ use Rattle.streams.specs.declared.fault.StreamFault.{StreamFault}
 use Rattle.streams.specs.declared.fault.StreamFault.TheVariants.{ReadFailed, WriteFailed, NoMemory}
 use Rattle.streams.specs.Stops.{EndsWith, too_large_reply}
 use Rattle.shared_desk.specs.Grants.{admitted}
-use Rattle.shared_desk.specs.Histories.{HistoryEntry, part_of, put_if, queries_of, replies_of}
+use Rattle.shared_desk.specs.Histories.{HistoryEntry, Query, part_of, put_if, queries_of, replies_of}
 use Rattle.shared_desk.specs.Parts.{Asks, IsWritten, IsWrittenUpTo, NamesTheEnd}
 use Rattle.shared_desk.specs.declared.closed.ClosedConnection.{ClosedConnection}
+use Rattle.shared_desk.specs.declared.passage.Passage.{Passage}
 use Rattle.shared_desk.specs.Closed.{AreClosed, IsServedWhole}
 use Rattle.job_server.specs.Payloads.{IsPayloadAt, first, later, IsEntryOf}
 
@@ -54,14 +55,14 @@ record Came (bytes : List ℕ) (number : ℕ) (asks : Asked) : Type 0 where
 length_cons : {X : Type 0} (x : X) (xs : List X) → length xs + 1 ≡ length (x ∷ xs)
 length_cons x xs = omega arith
 
-came_in : (may : Bool) (ahead behind : List HistoryEntry) (e : HistoryEntry) (asks : Asked) (bytes left : List ℕ) → Asks may bytes (queries_of (ahead ++ e ∷ behind)) left → e.query ≡ Ok asks → Came bytes (length ahead) asks
+came_in : (may : Passage) (ahead behind : List HistoryEntry) (e : HistoryEntry) (asks : Asked) (bytes left : List ℕ) → Asks may bytes (queries_of (ahead ++ e ∷ behind)) left → e.query.asked ≡ Ok asks → Came bytes (length ahead) asks
 came_in may [] behind e asks bytes left (payload, rest, heard, cut, hears, is, others) own =
-    record { payload = payload; came = first bytes rest cut; hears = subst (Hears payload) (heard_as may heard asks (sym own ∙ is)) hears }
+    record { payload = payload; came = first bytes rest cut; hears = subst (Hears payload) (heard_as may.may_grant heard asks (sym own ∙ ap (λ (q : Query). q.asked) is)) hears }
 came_in may (x ∷ ahead) behind e asks bytes left (payload, rest, heard, cut, hears, is, others) own =
     let t = came_in may ahead behind e asks rest left others own in
     record { payload = t.payload; came = subst (λ (n : ℕ). IsPayloadAt t.payload n bytes) (length_cons x ahead) (later (length ahead) bytes payload rest cut t.came); hears = t.hears }
 
-came_on : (may : Bool) (part : List HistoryEntry) (e : HistoryEntry) (asks : Asked) (bytes left : List ℕ) → (t : IsIn e part) → Asks may bytes (queries_of part) left → e.query ≡ Ok asks → Came bytes (length t.before) asks
+came_on : (may : Passage) (part : List HistoryEntry) (e : HistoryEntry) (asks : Asked) (bytes left : List ℕ) → (t : IsIn e part) → Asks may bytes (queries_of part) left → e.query.asked ≡ Ok asks → Came bytes (length t.before) asks
 came_on may part e asks bytes left t all own = came_in may t.before t.after e asks bytes left (subst (λ p. Asks may bytes (queries_of p) left) t.is all) own
 
 -- ---- the replies that were written
@@ -79,19 +80,19 @@ ends_with bytes out written too_large t ends = subst (IsPrefix bytes) (sym ends)
 
 -- ---- connections that are over
 
-went_through : (c : ClosedConnection) (e : HistoryEntry) (asks : Asked) (outcome : Result ℕ StreamFault) → (t : IsIn e c.part) → e.query ≡ Ok asks
+went_through : (c : ClosedConnection) (e : HistoryEntry) (asks : Asked) (outcome : Result ℕ StreamFault) → (t : IsIn e c.part) → e.query.asked ≡ Ok asks
     → MatchResult outcome
-    (λ number. IsWritten c.may_grant c.part c.read [] (c.is_over ≡ true) number c.written × (c.read_failed ≡ false) × (c.write_failed ≡ false))
-    (λ fault. IsWrittenUpTo c.may_grant fault c.part c.read [] c.written × NamesTheEnd fault c.read_failed c.write_failed)
+    (λ number. IsWritten c.passage c.part c.read [] (c.is_over ≡ true) number c.written × (c.read_failed ≡ false) × (c.write_failed ≡ false))
+    (λ fault. IsWrittenUpTo c.passage fault c.part c.read [] c.written × NamesTheEnd fault c.read_failed c.write_failed)
     → Came c.read (length t.before) asks × OnOk outcome (IsPrefix (replies_of t.before ++ e.reply) c.written)
 went_through c e asks (Ok number) t own served =
     let w = served.0 in (
-      came_on c.may_grant c.part e asks c.read w.left t w.asked own,
+      came_on c.passage c.part e asks c.read w.left t w.asked own,
       ends_with (replies_of t.before ++ e.reply) (replies_of c.part) c.written (front w.left) (subst (λ p. IsPrefix (replies_of t.before ++ e.reply) (replies_of p)) (sym t.is) (reply_in t.before t.after e)) w.last,
     )
-went_through c e asks (Err ReadFailed) t own served = let w = served.0 in (came_on c.may_grant c.part e asks c.read w.left t w.asked own, tt)
-went_through c e asks (Err WriteFailed) t own served = let w = served.0 in (came_on c.may_grant c.part e asks c.read w.left t w.asked own, tt)
-went_through c e asks (Err NoMemory) t own served = let w = served.0 in (came_on c.may_grant c.part e asks c.read w.left t w.asked own, tt)
+went_through c e asks (Err ReadFailed) t own served = let w = served.0 in (came_on c.passage c.part e asks c.read w.left t w.asked own, tt)
+went_through c e asks (Err WriteFailed) t own served = let w = served.0 in (came_on c.passage c.part e asks c.read w.left t w.asked own, tt)
+went_through c e asks (Err NoMemory) t own served = let w = served.0 in (came_on c.passage c.part e asks c.read w.left t w.asked own, tt)
 
 part_closed : (opened : ℕ) (history : List HistoryEntry) (closed : List ClosedConnection) → AreClosed opened history closed → (i : ℕ) (c : ClosedConnection) → slice_get closed i ≡ Some c → part_of c.connection history ≡ c.part
 part_closed opened history [] are i c at = cc
@@ -99,7 +100,7 @@ part_closed opened history (x ∷ closed) are zero c at = let same : x ≡ c = c
 part_closed opened history (x ∷ closed) are (suc i) c at = part_closed opened history closed are.3 i c at
 
 pub is_entry_of : (opened : ℕ) (before after : List HistoryEntry) (e : HistoryEntry) (closed : List ClosedConnection) (asks : Asked) → AreClosed opened (before ++ e ∷ after) closed → ((i : ℕ) (c : ClosedConnection) → slice_get closed i ≡ Some c → IsServedWhole c)
-    → e.query ≡ Ok asks → IsEntryOf closed e asks
+    → e.query.asked ≡ Ok asks → IsEntryOf closed e asks
 is_entry_of opened before after e closed asks are served own i c at same =
     let part = part_closed opened (before ++ e ∷ after) closed are i c at in
     let there : IsIn e c.part = subst (IsIn e) part (in_part c.connection before after e (sym same)) in

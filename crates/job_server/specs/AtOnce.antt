@@ -7,7 +7,7 @@ use Rattle.accounts.specs.Ledgers.{Ledger}
 use Rattle.std.specs.BTreeMap.{BTreeMap}
 use Rattle.credit_book.specs.Boards.{Sight}
 use Rattle.shared_desk.specs.declared.closed.ClosedConnection.{ClosedConnection}
-use Rattle.shared_desk.specs.Histories.{HistoryEntry, Replays, part_of}
+use Rattle.shared_desk.specs.Histories.{HistoryEntry, Query, Replays, by_any_passage, part_of}
 use Rattle.shared_desk.specs.Closed.{AreClosed, IsServedWhole, first_fault}
 use Rattle.job_server.specs.declared.fault.ServeFault.{ServeFault}
 use Rattle.job_server.specs.declared.fault.ServeFault.TheVariants.{Socket, Connection}
@@ -34,7 +34,7 @@ EndsBy opened sessions over given_up (Connection fault) =
 -- Of each that is over, what came asks its own part, and what was written are the replies of that
 -- part, in order. Where all went well, all that were opened are over; and all were opened, unless a
 -- host may stop the server.
-pub record IsServingFrom {S : Type 0} (answers : S → Result Asked ℕ → List ℕ → S → Type 0)
+pub record IsServingFrom {S : Type 0} (answers : S → Query → List ℕ → S → Type 0)
     (begins : S → Type 0) (end : S) (sessions : ℕ) (may_stop : Bool)
     (outcome : Result (Unit {0}) ServeFault) : Type 0 where
   pub history : List HistoryEntry
@@ -78,5 +78,5 @@ pub record IsServing (bounds : Bounds) (sessions : ℕ) (may_stop : Bool)
   pub first : Pool
   pub none : (first.0 ≡ []) × (first.1.entries ≡ [])
   pub end : Hosted
-  pub serving : IsServingFrom hosted_answers (λ s. s ≡ new_host bounds first) end sessions may_stop
-      outcome
+  pub serving : IsServingFrom (by_any_passage hosted_answers) (λ s. s ≡ new_host bounds first) end
+      sessions may_stop outcome

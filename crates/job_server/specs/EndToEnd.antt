@@ -12,7 +12,7 @@ use Rattle.sessions.specs.Frames.{framed}
 use Rattle.sessions.specs.Grammar.{Asked, submit, result, program_asked}
 use Rattle.sessions.specs.Replies.{submit_data, result_data, frame_or_refusal}
 use Rattle.streams.specs.Answering.{refused, submit_refused}
-use Rattle.shared_desk.specs.Histories.{HistoryEntry, Replays}
+use Rattle.shared_desk.specs.Histories.{HistoryEntry, Replays, by_any_passage}
 use Rattle.job_pools.specs.Endings.{IsRun, IsEndOf}
 use Rattle.job_server.specs.declared.bounds.Bounds.{Bounds}
 use Rattle.job_server.specs.AtOnce.{Pool, Hosted, hosted_answers, new_host}
@@ -21,7 +21,7 @@ use Rattle.job_server.specs.AtOnce.{Pool, Hosted, hosted_answers, new_host}
 pub record IsHostHistory (bounds : Bounds) (history : List HistoryEntry) : Type 0 where
   pub first : Pool
   pub end : Hosted
-  pub legal : Replays hosted_answers (λ s. s ≡ new_host bounds first) history end
+  pub legal : Replays (by_any_passage hosted_answers) (λ s. s ≡ new_host bounds first) history end
 
 -- the reply of the entry is the frame of this
 abbrev pub HasReply : HistoryEntry → Data → Type 0
@@ -44,7 +44,7 @@ pub record IsSubmit (e : HistoryEntry) (number : ℕ) (job : AdmittedJob) : Type
   pub programs : List ProgramBytes
   pub credit : ℕ
   pub buffer : List ℕ
-  pub asks : e.query ≡ Ok (submit_of name programs credit buffer)
+  pub asks : e.query.asked ≡ Ok (submit_of name programs credit buffer)
   pub admitted : IsAdmittedFrom programs credit buffer job
   pub tells : HasReply e (submit_data number)
 
@@ -56,7 +56,7 @@ AsksForJob other = ⊥
 -- the entry asks for no job, or is told why its job isn't taken
 abbrev pub TakesNoJob : HistoryEntry → Type 0
 TakesNoJob e =
-    (AsksForJob e.query → ⊥) ⊎ ((fault : SubmitFault) × HasReply e (submit_refused fault))
+    (AsksForJob e.query.asked → ⊥) ⊎ ((fault : SubmitFault) × HasReply e (submit_refused fault))
 
 -- The jobs that a history took, in order. The first is number 1, and each submit is told the next
 -- number.

@@ -1,5 +1,6 @@
 -- The connections of a listener.
-use Rattle.std.specs.Prelude.{◌+◌, ℕ}
+use Rattle.std.specs.Prelude.{◌≡◌, ◌+◌, ℕ}
+use Rattle.shared_desk.specs.declared.passage.Passage.{Passage}
 
 -- From its first state on a listener gave so many connections that were served. Between them it may
 -- have given others, which a server that was stopped let go, and some tries were in vain.
@@ -30,3 +31,11 @@ pub record AreOfFirst {L : Type 0} (opens fails : L → L → Type 0) (begins : 
     (opened : ℕ) : Type 0 where
   pub last : L
   pub given : HasGivenSince opens fails begins opened last
+
+-- a listener gave a connection by this passage
+pub record CameBy {L : Type 0} (opens : L → L → Type 0) (passage_of : L → Passage)
+    (passage : Passage) : Type 0 where
+  pub before : L
+  pub after : L
+  pub given : opens before after
+  pub is : passage ≡ passage_of after

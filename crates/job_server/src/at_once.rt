@@ -1,8 +1,9 @@
 //! Many connections at once, with one desk and one handler.
 
-ghost use Rattle.std.specs.Prelude.{◌≡◌, ◌≤◌, ◌<◌, ◌^◌, [], Ok, OnOk, IfErr, false, is_some};
+ghost use Rattle.std.specs.Prelude.{◌≡◌, ◌≤◌, ◌<◌, ◌^◌, [], All, Ok, OnOk, IfErr, false, is_some};
 ghost use Rattle.job_server.specs.AtOnce.{EndsBy, IsServingFrom};
-ghost use Rattle.job_server.specs.Listening.{AreOf, AreOfFirst};
+ghost use Rattle.job_server.specs.Listening.{AreOf, AreOfFirst, CameBy};
+ghost use Rattle.shared_desk.specs.declared.passage.Passage.{Passage};
 
 use crate::entrance::{Entrance, FirstListener};
 use crate::fault::ServeFault;
@@ -11,10 +12,9 @@ use crate::noted_ends::{NotedReader, NotedWriter, ending_of};
 use crate::plan::Plan;
 use crate::stop_flag::ended_by;
 use crate::timed_reader::{TimedReader, Waiting};
-use accounts::Desk;
 use server_log::{LogEvent, ServerLog, millis_since};
 use shared_desk::{
-    AllRequests, ClientSeat, NewHistory, NoGrants, Origin, SharedDesk, SharedHistory, serve_opened,
+    ClientSeat, NewHistory, Origin, Passage, SharedDesk, SharedHandler, SharedHistory, serve_opened,
 };
 use std::alloc::Global;
 use std::marker::Brand;
@@ -23,19 +23,19 @@ use std::sync::{Mutex, Wait};
 use std::thread;
 use std::thread::Threads;
 use std::time::{Clock, Instant};
-use streams::{Handler, StreamFault, Tap};
+use streams::{StreamFault, Tap};
 
 /// The fault where there is no memory.
 pub(crate) const NO_MEMORY: ServeFault = ServeFault::Connection(StreamFault::NoMemory);
 
 // Serves a connection that was taken, and gives its two ends.
-fn answer_connection<'s, R: Wait + Clock, H: Handler<Desk>, J: Origin<Desk, H>>(
+fn answer_connection<'s, R: Wait + Clock, D, H: SharedHandler<D>, J: Origin<D, H>>(
     rt: &'s R,
     alloc: Global,
     history: &SharedHistory<J>,
-    lock: &Mutex<SharedDesk<Desk, H, J>>,
+    lock: &Mutex<SharedDesk<D, H, J>>,
     seat: ClientSeat<J>,
-    may_grant: bool,
+    passage: Passage,
     stream: &'s TcpStream,
     waiting: Waiting<'s>,
     notes: bool,
@@ -44,16 +44,21 @@ fn answer_connection<'s, R: Wait + Clock, H: Handler<Desk>, J: Origin<Desk, H>>(
     NotedWriter<&'s TcpStream>,
 )
     requires fresh { seat.part ≡ [] }
+    requires comes { J.comes passage }
 {
     let timed = TimedReader::new(rt, stream, waiting);
     let mut reader = Tap::new(NotedReader::new(timed, waiting.stop, notes));
     let mut writer = Tap::new(NotedWriter::new(stream));
-    let (from, to) = (&mut reader, &mut writer);
-    if may_grant {
-        serve_opened(rt, alloc, history, lock, seat, &AllRequests, from, to);
-    } else {
-        serve_opened(rt, alloc, history, lock, seat, &NoGrants, from, to);
-    }
+    serve_opened(
+        rt,
+        alloc,
+        history,
+        lock,
+        seat,
+        passage,
+        &mut reader,
+        &mut writer,
+    );
     (reader.into_inner(), writer.into_inner())
 }
 
@@ -62,25 +67,26 @@ fn answer_connection<'s, R: Wait + Clock, H: Handler<Desk>, J: Origin<Desk, H>>(
 fn take_turns<
     R: Wait + Clock,
     L: Listener + Drop,
-    H: Handler<Desk>,
-    J: Origin<Desk, H> + FirstListener<L>,
+    D,
+    H: SharedHandler<D>,
+    J: Origin<D, H> + FirstListener<L>,
 >(
     rt: &R,
     alloc: Global,
     history: &SharedHistory<J>,
     entrance: &Mutex<Entrance<'_, L, J>>,
-    lock: &Mutex<SharedDesk<Desk, H, J>>,
+    lock: &Mutex<SharedDesk<D, H, J>>,
     waiting: Waiting<'_>,
     log: Option<&ServerLog>,
 ) {
     for _ in rt.forever() {
-        let Some((stream, seat, may_grant, connection)) = entrance.lock(rt).next(history) else {
+        let Some((stream, seat, passage, connection)) = entrance.lock(rt).next(history) else {
             return;
         };
-        let begun = tell_opened(rt, log, connection, may_grant);
+        let begun = tell_opened(rt, log, connection, passage);
         let notes = log.is_some();
         let (reader, writer) = answer_connection(
-            rt, alloc, history, lock, seat, may_grant, &stream, waiting, notes,
+            rt, alloc, history, lock, seat, passage, &stream, waiting, notes,
         );
         if let Some(log) = log {
             let closed = LogEvent::Closed {
@@ -94,15 +100,15 @@ fn take_turns<
     }
 }
 
-// HasReply a log, if there is one, of a connection that was taken. When that was, if a clock tells.
+// Tells a log, if there is one, of a connection that was taken. When that was, if a clock tells.
 fn tell_opened<R: Wait + Clock>(
     rt: &R,
     log: Option<&ServerLog>,
     connection: u32,
-    may_grant: bool,
+    passage: Passage,
 ) -> Option<Instant> {
     let log = log?;
-    let by = log.door(may_grant);
+    let by = passage.door;
     log.tell(rt, LogEvent::Opened { connection, by });
     Instant::now(rt).ok()
 }
@@ -142,23 +148,26 @@ fn outcome_of(
 fn serve_named<
     R: Threads + Wait + Clock + Sync,
     L: Listener + Send + Drop,
-    H: Handler<Desk> + Send + Drop,
-    J: Origin<Desk, H> + FirstListener<L> + Send + Sync,
+    D: Send + Drop,
+    H: SharedHandler<D> + Send + Drop,
+    J: Origin<D, H> + FirstListener<L> + Send + Sync,
 >(
     rt: &R,
     alloc: Global,
     new_history: NewHistory,
     listener: L,
-    desk: Desk,
+    desk: D,
     handler: H,
     plan: Plan<'_>,
-) -> (Desk, H, Result<(), ServeFault>)
+) -> (D, H, Result<(), ServeFault>)
     requires named { new_history ≡ J.table }
     requires begins { J.begins (desk, handler) }
     requires listener { J.is_first listener }
+    requires comes { (p : Passage) → CameBy L.opens L.passage p → J.comes p }
     requires ready { H.ready handler }
     ensures { (s : IsServingFrom H.answers J.begins (result.0, result.1) plan.entry.sessions
-        (is_some plan.entry.stop) result.2) × AreOfFirst L.opens L.fails J.is_first s.opened }
+        (is_some plan.entry.stop) result.2) × AreOfFirst L.opens L.fails J.is_first s.opened
+        × All (λ c. J.comes c.passage) s.closed }
 {
     let Plan {
         workers: _,
@@ -201,22 +210,24 @@ fn serve_named<
 pub fn serve_at_once<
     R: Threads + Wait + Clock + Sync,
     L: Listener + Send + Drop,
-    H: Handler<Desk> + Send + Drop,
+    D: Send + Drop,
+    H: SharedHandler<D> + Send + Drop,
 >(
     rt: &R,
     alloc: Global,
     listener: L,
-    desk: Desk,
+    desk: D,
     handler: H,
     plan: Plan<'_>,
-) -> (Desk, H, Result<(), ServeFault>)
+) -> (D, H, Result<(), ServeFault>)
     requires ready { H.ready handler }
     ensures { (s : IsServingFrom H.answers (λ s. s ≡ (desk, handler)) (result.0, result.1)
         plan.entry.sessions (is_some plan.entry.stop) result.2)
-        × AreOf L.opens L.fails listener s.opened }
+        × AreOf L.opens L.fails listener s.opened
+        × All (λ c. CameBy L.opens L.passage c.passage) s.closed }
 {
     let Ok(new_history) = NewHistory::new(alloc) else {
         return (desk, handler, Err(NO_MEMORY));
     };
-    serve_named::<R, L, H, Brand>(rt, alloc, new_history, listener, desk, handler, plan)
+    serve_named::<R, L, D, H, Brand>(rt, alloc, new_history, listener, desk, handler, plan)
 }

@@ -1,11 +1,12 @@
 //! Where the threads of a server take connections.
 
 ghost use Rattle.std.specs.Prelude.{◌≡◌, [], IfSome};
-ghost use Rattle.job_server.specs.Listening.{AreOfFirst};
+ghost use Rattle.job_server.specs.Listening.{AreOfFirst, CameBy};
+ghost use Rattle.shared_desk.specs.declared.passage.Passage.{Passage};
 
 use crate::listener::Listener;
 use crate::stop_flag::{StopFlag, is_stopped};
-use shared_desk::{ClientSeat, HistoryId, Opener, SharedHistory};
+use shared_desk::{ClientSeat, HistoryId, Opener, Passage, SharedHistory};
 use std::marker::{Brand, Model};
 use std::net::TcpStream;
 
@@ -33,14 +34,16 @@ pub(crate) struct Entrance<'a, L: Listener, J: HistoryId + FirstListener<L>> {
 
 impl<'a, L: Listener, J: HistoryId + FirstListener<L>> Model for Entrance<'a, L, J> {
     ghost use Rattle.std.specs.Prelude.{◌≡◌, ◌<◌, ◌+◌, ◌^◌, ℕ};
-    ghost use Rattle.job_server.specs.Listening.{HasGivenSince};
+    ghost use Rattle.job_server.specs.Listening.{CameBy, HasGivenSince};
+    ghost use Rattle.shared_desk.specs.declared.passage.Passage.{Passage};
 
     ghost Value = { ℕ };
 
     ghost view = { λ e. e.opened };
 
     ghost invariant = { λ e. (e.opened + e.left + e.failed < 2 ^ 32) × (e.opened ≡ e.opener)
-        × HasGivenSince L.opens L.fails J.is_first e.opened e.listener };
+        × HasGivenSince L.opens L.fails J.is_first e.opened e.listener
+        × ((p : Passage) → CameBy L.opens L.passage p → J.comes p) };
 }
 
 impl<'a, L: Listener + Drop, J: HistoryId + FirstListener<L>> Entrance<'a, L, J> {
@@ -53,6 +56,7 @@ impl<'a, L: Listener + Drop, J: HistoryId + FirstListener<L>> Entrance<'a, L, J>
     ) -> Entrance<'a, L, J>
         requires none { opener ≡ 0 }
         requires listener { J.is_first listener }
+        requires comes { (p : Passage) → CameBy L.opens L.passage p → J.comes p }
         ensures { result ≡ 0 }
     {
         Entrance {
@@ -66,14 +70,16 @@ impl<'a, L: Listener + Drop, J: HistoryId + FirstListener<L>> Entrance<'a, L, J>
         }
     }
 
-    /// Takes the next connection, with its seat, whether it may grant, and its number, from 1 on;
-    /// `None` once all were taken, or the flag is raised. One that can't be taken counts, and the next
-    /// one is taken. One that comes while the flag is raised is dropped: it only wakes the server.
+    /// Takes the next connection, with its seat, the passage that the listener gave it by, and its
+    /// number, from 1 on; `None` once all were taken, or the flag is raised. One that can't be taken
+    /// counts, and the next one is taken. One that comes while the flag is raised is dropped: it only
+    /// wakes the server.
     pub fn next(
         &mut self,
         history: &SharedHistory<J>,
-    ) -> Option<(TcpStream, ClientSeat<J>, bool, u32)>
-        ensures { IfSome result (λ taken. taken.1.part ≡ []) }
+    ) -> Option<(TcpStream, ClientSeat<J>, Passage, u32)>
+        ensures fresh { IfSome result (λ taken. taken.1.part ≡ []) }
+        ensures passage { IfSome result (λ taken. J.comes taken.2) }
     {
         'taking: while self.left > 0 {
             if is_stopped(self.stop) {
@@ -89,7 +95,7 @@ impl<'a, L: Listener + Drop, J: HistoryId + FirstListener<L>> Entrance<'a, L, J>
                     }
                     self.opened += 1;
                     let seat = history.open(&mut self.opener);
-                    return Some((stream, seat, self.listener.may_grant(), self.opened));
+                    return Some((stream, seat, self.listener.passage(), self.opened));
                 }
                 Err(_) => self.failed += 1,
             }

@@ -17,33 +17,33 @@ ghost use Rattle.job_server.specs.Payloads.{ComesFromPayload};
 pub fn results_come_from_submits()
     ensures told { (bounds : Bounds) (before after : List HistoryEntry) (e : HistoryEntry)
         (number : ℕ)
-        → IsHostHistory bounds (before ++ e ∷ after) → AsksForResult number e.query
+        → IsHostHistory bounds (before ++ e ∷ after) → AsksForResult number e.query.asked
         → IsToldResult bounds.keep before number e }
     ensures submitted { (bounds : Bounds) (before after : List HistoryEntry) (e : HistoryEntry)
         (number : ℕ)
-        → IsHostHistory bounds (before ++ e ∷ after) → AsksForResult number e.query
+        → IsHostHistory bounds (before ++ e ∷ after) → AsksForResult number e.query.asked
         → IsResultFrame e.reply → ComesFromSubmit before number e }
     ensures refused { (bounds : Bounds) (before after : List HistoryEntry) (e : HistoryEntry)
         (number code : ℕ)
-        → IsHostHistory bounds (before ++ e ∷ after) → AsksForResult number e.query
+        → IsHostHistory bounds (before ++ e ∷ after) → AsksForResult number e.query.asked
         → HasReply e (refused code) → code < 2 ^ 64 → IsToldRefusal bounds.keep before number code }
     ensures adds_up { (before : List HistoryEntry) (number : ℕ) (e : HistoryEntry)
         (r : ComesFromSubmit before number e)
         → r.report.spent + r.report.returned ≡ r.is_submit.credit }
-    ensures stays { (bounds : Bounds) (before between after : List HistoryEntry)
-        (e f : HistoryEntry) (number : ℕ)
+    ensures stays { (bounds : Bounds) (before between after : List HistoryEntry) (e f : HistoryEntry)
+        (number : ℕ)
         → IsHostHistory bounds (before ++ e ∷ (between ++ f ∷ after))
-        → AsksForResult number e.query → AsksForResult number f.query → StaysTold e f }
+        → AsksForResult number e.query.asked → AsksForResult number f.query.asked
+        → StaysTold e f }
 {}
 
 /// A submit is told a greater number than each submit before it. So no two are told the same.
 pub fn numbers_rise()
-    ensures { (bounds : Bounds) (before between after : List HistoryEntry) (e f : HistoryEntry)
-        (m n : ℕ)
+    ensures { (bounds : Bounds) (before between after : List HistoryEntry) (e f : HistoryEntry) (m n : ℕ)
         → IsHostHistory bounds (before ++ e ∷ (between ++ f ∷ after))
         → length (before ++ e ∷ between) < 2 ^ 64 - 1
-        → AsksForJob e.query → HasReply e (submit_data m) → m < 2 ^ 64
-        → AsksForJob f.query → HasReply f (submit_data n) → n < 2 ^ 64 → m < n }
+        → AsksForJob e.query.asked → HasReply e (submit_data m) → m < 2 ^ 64
+        → AsksForJob f.query.asked → HasReply f (submit_data n) → n < 2 ^ 64 → m < n }
 {}
 
 /// From payload to payload, at a server of many connections: a result comes from a submit, and the
@@ -53,6 +53,6 @@ pub fn payloads_lead_to_payloads()
         (outcome : Result (Unit {0}) ServeFault)
         (s : IsServing bounds sessions may_stop outcome)
         (before after : List HistoryEntry) (e : HistoryEntry) (number : ℕ)
-        → s.serving.history ≡ before ++ e ∷ after → AsksForResult number e.query
+        → s.serving.history ≡ before ++ e ∷ after → AsksForResult number e.query.asked
         → IsResultFrame e.reply → ComesFromPayload s.serving.closed before number e }
 {}

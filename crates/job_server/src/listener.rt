@@ -2,15 +2,16 @@
 
 ghost use Rattle.std.specs.Prelude.{◌≡◌, OnOk, OnErr};
 
+use shared_desk::{Door, Passage};
 use std::net::{OpenListener, TcpStream};
 use streams::Failed;
 
 /// Gives connections, one after the other.
 pub trait Listener {
-    ghost use Rattle.std.specs.Prelude.{Bool};
+    ghost use Rattle.shared_desk.specs.declared.passage.Passage.{Passage};
 
-    // Whether the connection that was taken last may grant.
-    ghost grants: { Self → Bool };
+    // By which passage the connection came that was taken last.
+    ghost passage: { Self → Passage };
 
     // The steps of a call, from a listener to the next: a connection came; none could be taken.
     ghost opens: { Self → Self → Type 0 };
@@ -22,16 +23,16 @@ pub trait Listener {
         ensures opens { OnOk result (opens self.old self.new) }
         ensures fails { OnErr result (fails self.old self.new) };
 
-    /// Whether the connection that was taken last may grant.
-    fn may_grant(&self) -> bool
-        ensures { result ≡ grants self.now };
+    /// By which passage the connection came that was taken last.
+    fn passage(&self) -> Passage
+        ensures { result ≡ passage self.now };
 }
 
 /// A listener of std, of whose connections nothing is known.
 impl<'a, L: OpenListener<Stream = TcpStream>> Listener for &'a L {
-    ghost use Rattle.std.specs.Prelude.{true};
+    ghost use Rattle.shared_desk.specs.Grants.{by_port};
 
-    ghost grants = { λ _. true };
+    ghost passage = { λ _. by_port };
 
     ghost opens = { λ _ _. Unit {0} };
 
@@ -48,7 +49,10 @@ impl<'a, L: OpenListener<Stream = TcpStream>> Listener for &'a L {
         }
     }
 
-    fn may_grant(&self) -> bool {
-        true
+    fn passage(&self) -> Passage {
+        Passage {
+            door: Door::Port,
+            may_grant: true,
+        }
     }
 }

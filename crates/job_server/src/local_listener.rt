@@ -8,6 +8,7 @@ use crate::listener::Listener;
 use mio::event::Events;
 use mio::net::UnixListener as PolledListener;
 use mio::{Interest, Poll, Token};
+use shared_desk::{Door, Passage};
 use std::alloc::Global;
 use std::fs::Files;
 use std::io::ErrorKind;
@@ -62,8 +63,9 @@ impl LocalListener {
 
 impl Listener for LocalListener {
     ghost use Rattle.std.specs.Prelude.{true};
+    ghost use Rattle.shared_desk.specs.declared.door.Door.TheVariants.{Socket};
 
-    ghost grants = { λ _. true };
+    ghost passage = { λ _. record { door = Socket; may_grant = true } };
 
     ghost opens = { λ _ _. Unit {0} };
 
@@ -76,8 +78,11 @@ impl Listener for LocalListener {
         }
     }
 
-    fn may_grant(&self) -> bool {
-        true
+    fn passage(&self) -> Passage {
+        Passage {
+            door: Door::Socket,
+            may_grant: true,
+        }
     }
 }
 
@@ -137,7 +142,11 @@ impl GrantsListener {
 }
 
 impl Listener for GrantsListener {
-    ghost grants = { λ l. l.by_grants };
+    ghost use Rattle.std.specs.Prelude.{if◌then◌else◌};
+    ghost use Rattle.shared_desk.specs.declared.door.Door.TheVariants.{Grants, Socket};
+
+    ghost passage = { λ l.
+        record { door = if l.by_grants then Grants else Socket; may_grant = l.by_grants } };
 
     ghost opens = { λ _ _. Unit {0} };
 
@@ -160,7 +169,15 @@ impl Listener for GrantsListener {
         Err(Failed)
     }
 
-    fn may_grant(&self) -> bool {
-        self.by_grants
+    fn passage(&self) -> Passage {
+        let door = if self.by_grants {
+            Door::Grants
+        } else {
+            Door::Socket
+        };
+        Passage {
+            door,
+            may_grant: self.by_grants,
+        }
     }
 }

@@ -1,8 +1,8 @@
 //! A server, whose jobs a pool runs that lasts.
 
-ghost use Rattle.std.specs.Prelude.{◌≡◌, ◌≤◌, ◌⊎◌, [], Err, is_some};
+ghost use Rattle.std.specs.Prelude.{◌≡◌, ◌≤◌, ◌⊎◌, [], All, Err, is_some};
 ghost use Rattle.job_server.specs.AtOnce.{IsServing};
-ghost use Rattle.job_server.specs.Listening.{AreOf};
+ghost use Rattle.job_server.specs.Listening.{AreOf, CameBy};
 ghost use Rattle.job_server.specs.declared.fault.ServeFault.TheVariants as fault;
 ghost use Rattle.streams.specs.declared.fault.StreamFault.TheVariants as stream;
 
@@ -58,7 +58,8 @@ fn serve_on_pool<
     requires keeper { keeper ≡ [] }
     requires workers { (1 ≤ plan.workers) × (plan.workers ≤ 16) }
     ensures { (s : IsServing plan.entry.bounds plan.entry.sessions (is_some plan.entry.stop) result)
-        × AreOf L.opens L.fails listener s.serving.opened }
+        × AreOf L.opens L.fails listener s.serving.opened
+        × All (λ c. CameBy L.opens L.passage c.passage) s.serving.closed }
 {
     let Queues {
         queue,
@@ -94,7 +95,8 @@ fn serve_in_scope<
     requires keeper { keeper ≡ [] }
     requires workers { (1 ≤ plan.workers) × (plan.workers ≤ 16) }
     ensures { (s : IsServing plan.entry.bounds plan.entry.sessions (is_some plan.entry.stop) result)
-        × AreOf L.opens L.fails listener s.serving.opened }
+        × AreOf L.opens L.fails listener s.serving.opened
+        × All (λ c. CameBy L.opens L.passage c.passage) s.serving.closed }
 {
     let Plan {
         workers,
@@ -109,7 +111,8 @@ fn serve_in_scope<
         |scope| -> Result<(), ServeFault>
             requires { (1 ≤ workers) × (workers ≤ 16) × (keeper ≡ []) }
             ensures { (s : IsServing bounds sessions (is_some stop.entry) result)
-                × AreOf L.opens L.fails listener s.serving.opened }
+                × AreOf L.opens L.fails listener s.serving.opened
+                × All (λ c. CameBy L.opens L.passage c.passage) s.serving.closed }
         {
             let plan = Plan {
                 workers,
@@ -138,7 +141,8 @@ fn serve_registered<
     requires named { new_register ≡ J.table }
     requires workers { (1 ≤ plan.workers) × (plan.workers ≤ 16) }
     ensures { ((s : IsServing plan.entry.bounds plan.entry.sessions (is_some plan.entry.stop) result)
-        × AreOf L.opens L.fails listener s.serving.opened)
+        × AreOf L.opens L.fails listener s.serving.opened
+        × All (λ c. CameBy L.opens L.passage c.passage) s.serving.closed)
         ⊎ (result ≡ Err (fault.Connection stream.NoMemory)) }
 {
     let (register, keeper) = new_register.named::<J>();
@@ -176,7 +180,8 @@ pub fn serve_listener<R: Threads + Wait + Clock + Sync, L: Listener + Send + Dro
 ) -> Result<(), ServeFault>
     requires { (1 ≤ plan.workers) × (plan.workers ≤ 16) }
     ensures { ((s : IsServing plan.entry.bounds plan.entry.sessions (is_some plan.entry.stop) result)
-        × AreOf L.opens L.fails listener s.serving.opened)
+        × AreOf L.opens L.fails listener s.serving.opened
+        × All (λ c. CameBy L.opens L.passage c.passage) s.serving.closed)
         ⊎ (result ≡ Err (fault.Connection stream.NoMemory)) }
 {
     let Ok(new_register) = NewRegister::new(alloc) else {

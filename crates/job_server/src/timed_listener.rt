@@ -1,6 +1,7 @@
 //! A listener whose connections wait no longer than a host allows.
 
 use crate::listener::Listener;
+use shared_desk::Passage;
 use std::net::TcpStream;
 use std::time::Duration;
 use streams::Failed;
@@ -24,7 +25,7 @@ impl<L: Listener + Drop> TimedListener<L> {
 }
 
 impl<L: Listener> Listener for TimedListener<L> {
-    ghost grants = { λ l. L.grants l.listener };
+    ghost passage = { λ l. L.passage l.listener };
 
     ghost opens = { λ l m. L.opens l.listener m.listener };
 
@@ -40,7 +41,7 @@ impl<L: Listener> Listener for TimedListener<L> {
         Ok(stream)
     }
 
-    fn may_grant(&self) -> bool {
-        self.listener.may_grant()
+    fn passage(&self) -> Passage {
+        self.listener.passage()
     }
 }

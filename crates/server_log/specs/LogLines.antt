@@ -1,18 +1,12 @@
 -- The lines of a server's log, as text.
 use Rattle.std.specs.Prelude.{ℕ, List, [], ◌++◌, codes, ◌==◌, if◌then◌else◌}
 use Rattle.std.specs.Fmt.{decimal}
-use Rattle.server_log.specs.declared.log_line.Door.{Door}
-use Rattle.server_log.specs.declared.log_line.Door.TheVariants.{Port, Socket, Grants}
+use Rattle.shared_desk.specs.Doors.{door_text}
 use Rattle.server_log.specs.declared.log_line.ConnectionEnd.{ConnectionEnd}
 use Rattle.server_log.specs.declared.log_line.ConnectionEnd.TheVariants.{Input, Stopped, TooLarge, ReadTimeout, ReadCut, WriteTimeout, WriteCut, NoMemory}
 use Rattle.server_log.specs.declared.log_line.LogEvent.{LogEvent}
 use Rattle.server_log.specs.declared.log_line.LogEvent.TheVariants.{Opened, Closed, Started, Ended, Failed, Refused}
 use Rattle.server_log.specs.declared.log_line.LogLine.{LogLine}
-
-abbrev pub door_text : Door → List ℕ
-door_text Port = codes "port"
-door_text Socket = codes "socket"
-door_text Grants = codes "grants"
 
 -- the number of the refusal, and 0 where there is none
 abbrev pub ending_code : ConnectionEnd → ℕ

@@ -6,6 +6,6 @@ mod log_line;
 mod log_queue;
 mod logged_handler;
 
-pub use log_line::{ConnectionEnd, Door, LogEvent, LogLine};
+pub use log_line::{ConnectionEnd, LogEvent, LogLine};
 pub use log_queue::{LogLines, ServerLog, millis_since, open_log, write_lines};
 pub use logged_handler::LoggedHandler;

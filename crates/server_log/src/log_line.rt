@@ -2,33 +2,8 @@
 
 ghost use Rattle.std.specs.Prelude.{◌≡◌};
 
+use shared_desk::Door;
 use std::fmt;
-
-/// Which socket a connection came by.
-#[derive(Clone, Copy, Debug, PartialEq, Eq)]
-pub enum Door {
-    /// The port of 127.0.0.1.
-    Port,
-    /// The socket in the file system.
-    Socket,
-    /// The one for grants.
-    Grants,
-}
-
-impl fmt::Display for Door {
-    ghost use Rattle.std.specs.Prelude.{Some};
-    ghost use Rattle.server_log.specs.LogLines.{door_text};
-
-    ghost output = { λ door. Some (door_text door) };
-
-    fn fmt<W: fmt::Write>(&self, f: &mut fmt::Formatter<W>) -> fmt::Result {
-        match self {
-            Door::Port => write!(f, "port"),
-            Door::Socket => write!(f, "socket"),
-            Door::Grants => write!(f, "grants"),
-        }
-    }
-}
 
 /// How a connection ended.
 #[derive(Clone, Copy, Debug, PartialEq, Eq)]

@@ -1,6 +1,6 @@
 //! The log of a server: lines that wait for who writes them, and nobody who waits for that.
 
-use crate::log_line::{Door, LogEvent, LogLine};
+use crate::log_line::{LogEvent, LogLine};
 use crossbeam_channel::{Receiver, Sender, bounded};
 use refusal::NoMemory;
 use std::alloc::Global;
@@ -50,8 +50,6 @@ pub struct ServerLog {
     queue: Sender<LogLine, Global>,
     losses: Arc<Losses, Global>,
     written: Receiver<(), Global>,
-    granting: Door,
-    others: Door,
 }
 
 /// The lines of a log, for who writes them.
@@ -62,12 +60,8 @@ pub struct LogLines {
     written: Sender<(), Global>,
 }
 
-/// A log, and its lines. Connections that may grant come by the one socket, others by the other.
-pub fn open_log(
-    alloc: Global,
-    granting: Door,
-    others: Door,
-) -> Result<(ServerLog, LogLines), NoMemory> {
+/// A log, and its lines.
+pub fn open_log(alloc: Global) -> Result<(ServerLog, LogLines), NoMemory> {
     let (queue, lines) = bounded(alloc, ROOM)?;
     let (written, is_written) = bounded(alloc, 1)?;
     let losses = Arc::new(
@@ -81,8 +75,6 @@ pub fn open_log(
         queue,
         losses,
         written: is_written,
-        granting,
-        others,
     };
     let lines = LogLines {
         queue: lines,
@@ -123,15 +115,6 @@ impl ServerLog {
         };
         if self.queue.try_send(rt, line).is_err() {
             self.losses.add(line.lost.saturating_add(1));
-        }
-    }
-
-    /// The socket that a connection came by.
-    pub fn door(&self, may_grant: bool) -> Door {
-        if may_grant {
-            self.granting
-        } else {
-            self.others
         }
     }
 

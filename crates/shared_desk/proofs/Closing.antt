@@ -3,6 +3,7 @@ use Rattle.std.proofs.Common.{◌≡◌, ◌-◌, ◌^◌, ◌+◌, ℕ, zero, s
 use Rattle.std.specs.Prelude.{All, MatchResult}
 use Rattle.streams.specs.declared.fault.StreamFault.{StreamFault}
 use Rattle.shared_desk.specs.declared.closed.ClosedConnection.{ClosedConnection}
+use Rattle.shared_desk.specs.declared.passage.Passage.{Passage}
 use Rattle.shared_desk.specs.Histories.{HistoryEntry}
 use Rattle.shared_desk.specs.ClientViews.{ClientView}
 use Rattle.shared_desk.specs.Parts.{IsWritten, IsWrittenUpTo, NamesTheEnd, IsServedClient}
@@ -24,17 +25,17 @@ counted k old number was is = grind arith
 pub told_none : AreTold [] 0 (Ok tt)
 told_none = ((λ k d lt. absurd (omega (arith, lt))), refl, refl)
 
-all_more : (c : ClosedConnection) (cs : List ClosedConnection) → IsServedWhole c → All IsServedWhole cs → All IsServedWhole (c ∷ cs)
-all_more c cs one all zero d lt = one
-all_more c cs one all (suc k) d lt = all k d (omega (arith, lt))
+all_more : (P : ClosedConnection → Type 0) (c : ClosedConnection) (cs : List ClosedConnection) → P c → All P cs → All P (c ∷ cs)
+all_more P c cs one all zero d lt = one
+all_more P c cs one all (suc k) d lt = all k d (omega (arith, lt))
 
 pub told_more : (c : ClosedConnection) (cs now : List ClosedConnection) (old count : ℕ) (before outcome : Result (Unit {0}) StreamFault) → now ≡ c ∷ cs → AreTold cs old before → IsServedWhole c
     → count ≡ min (old + 1) (2 ^ 64 - 1) → outcome ≡ earlier_fault before c.outcome → AreTold now count outcome
 told_more c cs now old count before outcome is told served number later =
-    told_of (c ∷ cs) now count outcome is (all_more c cs served told.0, counted (length cs) old count told.1 number, later ∙ ap (λ (o : Result (Unit {0}) StreamFault). earlier_fault o c.outcome) told.2)
+    told_of (c ∷ cs) now count outcome is (all_more IsServedWhole c cs served told.0, counted (length cs) old count told.1 number, later ∙ ap (λ (o : Result (Unit {0}) StreamFault). earlier_fault o c.outcome) told.2)
 
 -- a connection that was served from its beginning on, of which nothing was asked before
-pub served_from_nothing : {R W : Type 0} (may : Bool) (read : R → List ℕ) (over read_failed : R → Bool) (written : W → List ℕ) (write_failed : W → Bool) (v w : (R × W) × ClientView) (outcome : Result ℕ StreamFault)
+pub served_from_nothing : {R W : Type 0} (may : Passage) (read : R → List ℕ) (over read_failed : R → Bool) (written : W → List ℕ) (write_failed : W → Bool) (v w : (R × W) × ClientView) (outcome : Result ℕ StreamFault)
     → IsServedClient may read over read_failed written write_failed v w outcome → v.1.part ≡ [] → read v.0.0 ≡ [] → written v.0.1 ≡ []
     → IsServedWhole (closed_of may read over read_failed written write_failed w.1 w.0.0 w.0.1 outcome)
 served_from_nothing may read over read_failed written write_failed v w outcome served no_part nothing_read nothing_written =
@@ -46,3 +47,18 @@ served_from_nothing may read over read_failed written write_failed v w outcome s
     Whole z = MatchResult outcome
         (λ number. IsWritten may z.0 z.1.0 z.1.1 (over w.0.0 ≡ true) number (written w.0.1) × (read_failed w.0.0 ≡ false) × (write_failed w.0.1 ≡ false))
         (λ fault. IsWrittenUpTo may fault z.0 z.1.0 z.1.1 (written w.0.1) × NamesTheEnd fault (read_failed w.0.0) (write_failed w.0.1))
+
+-- ---- by which passages they came
+
+module _ (comes : Passage → Type 0) where
+  abbrev pub Came : List ClosedConnection → Type 0
+  Came cs = All (λ c. comes c.passage) cs
+
+  pub none_came : (now : List ClosedConnection) → now ≡ [] → Came now
+  none_came now is = subst Came (sym is) (λ k d lt. absurd (omega (arith, lt)))
+
+  pub still_came : (cs now : List ClosedConnection) → now ≡ cs → Came cs → Came now
+  still_came cs now is came = subst Came (sym is) came
+
+  pub one_came : (c : ClosedConnection) (cs now : List ClosedConnection) → now ≡ c ∷ cs → comes c.passage → Came cs → Came now
+  one_came c cs now is one came = subst Came (sym is) (all_more (λ c. comes c.passage) c cs one came)

@@ -7,6 +7,7 @@ use Rattle.streams.specs.declared.fault.StreamFault.{StreamFault}
 use Rattle.shared_desk.specs.declared.serving.ServedEnds.{ServedEnds}
 use Rattle.shared_desk.specs.Histories.{HistoryEntry, part_of}
 use Rattle.shared_desk.specs.ClientViews.{ClientView}
+use Rattle.shared_desk.specs.Grants.{by_port}
 use Rattle.shared_desk.specs.Parts.{IsServedPart}
 use Rattle.shared_desk.specs.Together.{NoneHasFailed, AreOpened, AreServedParts}
 
@@ -67,7 +68,7 @@ module _ {R W : Type 0} (read : R → List ℕ) (over read_failed : R → Bool) 
   pub parts_of_ends : {C : Type 0} (history : List HistoryEntry) (ends : List (R × W)) (opened : List ((R × W) × ClientView)) (served : List C) (result : Result (Vec (ServedEnds R W) Global) NoMemory)
       (reader : C → R) (writer : C → W) (outcome : C → Result ℕ StreamFault) (make : ServedEnds R W → C)
       → AreOpened 0 ends opened → length served ≡ length opened
-      → ((i : ℕ) (d : (R × W) × ClientView) (c : C) → i < length opened → IsServedPart true read over read_failed written write_failed (slice_index_or opened i d).0 (part_of i history) (reader (slice_index_or served i c), writer (slice_index_or served i c)) (outcome (slice_index_or served i c)))
+      → ((i : ℕ) (d : (R × W) × ClientView) (c : C) → i < length opened → IsServedPart by_port read over read_failed written write_failed (slice_index_or opened i d).0 (part_of i history) (reader (slice_index_or served i c), writer (slice_index_or served i c)) (outcome (slice_index_or served i c)))
       → IfOk result (λ all. AllZip (λ c e. (e.reader ≡ reader c) × (e.writer ≡ writer c) × (e.outcome ≡ outcome c)) served all.items)
       → IfOk result (λ all. AreServedParts read over read_failed written write_failed history ends all.items)
   parts_of_ends history ends opened served (Err fault) reader writer outcome make are same each zip = tt
@@ -81,10 +82,10 @@ module _ {R W : Type 0} (read : R → List ℕ) (over read_failed : R → Bool) 
       agrees c e = (e.reader ≡ reader c) × (e.writer ≡ writer c) × (e.outcome ≡ outcome c)
 
       at : (i : ℕ) (d : R × W) (e : ServedEnds R W) → i < length ends → i < length opened
-          → IsServedPart true read over read_failed written write_failed (slice_index_or ends i d) (part_of i history) ((slice_index_or all.items i e).reader, (slice_index_or all.items i e).writer) (slice_index_or all.items i e).outcome
+          → IsServedPart by_port read over read_failed written write_failed (slice_index_or ends i d) (part_of i history) ((slice_index_or all.items i e).reader, (slice_index_or all.items i e).writer) (slice_index_or all.items i e).outcome
       at i d e lt below =
           let unseen : (R × W) × ClientView = (d, record { number = 0; seen = []; part = [] }) in
           let there = opened_at 0 ends opened i unseen d are lt in
           let agree = zip_at agrees served all.items i (make e) e zip (omega (arith, same, below)) in
-          let P : (R × W) × ((R × W) × Result ℕ StreamFault) → Type 0 = λ z. IsServedPart true read over read_failed written write_failed z.0 (part_of i history) z.1.0 z.1.1 in
+          let P : (R × W) × ((R × W) × Result ℕ StreamFault) → Type 0 = λ z. IsServedPart by_port read over read_failed written write_failed z.0 (part_of i history) z.1.0 z.1.1 in
           subst P (λ k. (there.0 k, ((sym agree.0 k, sym agree.1 k), sym agree.2 k))) (each i unseen (make e) below)

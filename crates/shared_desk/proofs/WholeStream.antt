@@ -9,9 +9,10 @@ use Rattle.streams.specs.declared.fault.StreamFault.{StreamFault}
 use Rattle.streams.specs.declared.fault.StreamFault.TheVariants.{ReadFailed, WriteFailed, NoMemory}
 use Rattle.streams.specs.Serves.{Serves, none_yet, one_more}
 use Rattle.streams.specs.Stops.{EndsWith, IsDue, IsPartWritten, IsServed, IsReadOut, IsCutOff, IsStarved, IsStoppedBy, between, ahead_of_reply}
-use Rattle.shared_desk.specs.Histories.{HistoryEntry, queries_of, replies_of, part_of}
+use Rattle.shared_desk.specs.declared.passage.Passage.{Passage}
+use Rattle.shared_desk.specs.Histories.{HistoryEntry, Query, queries_of, replies_of, part_of}
 use Rattle.shared_desk.specs.ClientViews.{ClientView, Extends}
-use Rattle.shared_desk.specs.Grants.{admitted}
+use Rattle.shared_desk.specs.Grants.{admitted_by}
 use Rattle.shared_desk.specs.Answered.{IsSharedAnswer, entry_for}
 use Rattle.shared_desk.specs.Parts.{Asks, IsWritten, IsWrittenToTheFault, IsWrittenInPart, IsWrittenButOne, IsWrittenUpTo, NamesTheEnd, IsServedPart, IsServedClient}
 use Rattle.shared_desk.proofs.Parts.{prefix_self, prefix_trans}
@@ -20,7 +21,7 @@ use Rattle.shared_desk.proofs.Parts.{prefix_self, prefix_trans}
 
 pub queries_append : (xs ys : List HistoryEntry) → queries_of (xs ++ ys) ≡ queries_of xs ++ queries_of ys
 queries_append [] ys = refl
-queries_append (x ∷ xs) ys = ap (λ (l : List (Result Asked ℕ)). x.query ∷ l) (queries_append xs ys)
+queries_append (x ∷ xs) ys = ap (λ (l : List Query). x.query ∷ l) (queries_append xs ys)
 
 pub replies_append : (xs ys : List HistoryEntry) → replies_of (xs ++ ys) ≡ replies_of xs ++ replies_of ys
 replies_append [] ys = refl
@@ -41,39 +42,39 @@ extends_on v m w first second a b = record {
 
 -- ---- frames that ask, one after the other
 
-asks_one : (may : Bool) (bytes : List ℕ) (queries : List (Result Asked ℕ)) (left payload rest : List ℕ) (query : Result Asked ℕ) → Asks may bytes queries left → front left ≡ whole payload rest
-    → Hears payload query → Asks may bytes (queries ++ admitted may query ∷ []) rest
+asks_one : (may : Passage) (bytes : List ℕ) (queries : List Query) (left payload rest : List ℕ) (query : Result Asked ℕ) → Asks may bytes queries left → front left ≡ whole payload rest
+    → Hears payload query → Asks may bytes (queries ++ admitted_by may query ∷ []) rest
 asks_one may bytes [] left payload rest query asked first heard = (payload, rest, query, ap front (sym asked) ∙ first, heard, refl, refl)
 asks_one may bytes (q ∷ qs) left payload rest query asked first heard =
     (asked.0, asked.1, asked.2, asked.3, asked.4, asked.5, asks_one may asked.1 qs left payload rest query asked.6 first heard)
 
 -- more bytes change nothing
-asks_more : (may : Bool) (bytes more : List ℕ) (queries : List (Result Asked ℕ)) (left : List ℕ) → Asks may bytes queries left → Asks may (bytes ++ more) queries (left ++ more)
+asks_more : (may : Passage) (bytes more : List ℕ) (queries : List Query) (left : List ℕ) → Asks may bytes queries left → Asks may (bytes ++ more) queries (left ++ more)
 asks_more may bytes more [] left asked = ap (λ (l : List ℕ). l ++ more) asked
 asks_more may bytes more (q ∷ qs) left asked =
     (asked.0, asked.1 ++ more, asked.2, front_stable bytes more asked.0 asked.1 asked.3, asked.4, asked.5, asks_more may asked.1 more qs left asked.6)
 
-asks_on : (may : Bool) (bytes : List ℕ) (first : List (Result Asked ℕ)) (mid : List ℕ) (second : List (Result Asked ℕ)) (left : List ℕ) → Asks may bytes first mid → Asks may mid second left
+asks_on : (may : Passage) (bytes : List ℕ) (first : List Query) (mid : List ℕ) (second : List Query) (left : List ℕ) → Asks may bytes first mid → Asks may mid second left
     → Asks may bytes (first ++ second) left
 asks_on may bytes [] mid second left asked later = subst (λ (b : List ℕ). Asks may b second left) asked later
 asks_on may bytes (q ∷ qs) mid second left asked later = (asked.0, asked.1, asked.2, asked.3, asked.4, asked.5, asks_on may asked.1 qs mid second left asked.6 later)
 
-asks_also : (may : Bool) (bytes : List ℕ) (p q : List (Result Asked ℕ)) (left : List ℕ) → p ≡ q → Asks may bytes p left → Asks may bytes q left
-asks_also may bytes p q left is asked = subst (λ (l : List (Result Asked ℕ)). Asks may bytes l left) is asked
+asks_also : (may : Passage) (bytes : List ℕ) (p q : List Query) (left : List ℕ) → p ≡ q → Asks may bytes p left → Asks may bytes q left
+asks_also may bytes p q left is asked = subst (λ (l : List Query). Asks may bytes l left) is asked
 
 -- frames that are answered one after the other, by the entries of the answers
-record Entries (may : Bool) (v : ClientView) (bytes before : List ℕ) (count : ℕ) (w : ClientView) (left out : List ℕ) : Type 0 where
+record Entries (may : Passage) (v : ClientView) (bytes before : List ℕ) (count : ℕ) (w : ClientView) (left out : List ℕ) : Type 0 where
   pub part : List HistoryEntry
   pub extends : Extends v part w
   pub asked : Asks may bytes (queries_of part) left
   pub counts : length part ≡ count
   pub written : out ≡ before ++ replies_of part
 
-module _ {S : Type 0} (may : Bool) (answers : S → Result Asked ℕ → List ℕ → S → Type 0) (begins : S → Type 0) where
+module _ {S : Type 0} (may : Passage) (answers : S → Query → List ℕ → S → Type 0) (begins : S → Type 0) where
   abbrev pub shared : Unit {0} × ClientView → Result Asked ℕ → List ℕ → Unit {0} × ClientView → Type 0
-  shared s query reply t = IsSharedAnswer answers begins s.1 (admitted may query) reply t.1
+  shared s query reply t = IsSharedAnswer answers begins s.1 (admitted_by may query) reply t.1
 
-  extends_one : (v : ClientView) (query : Result Asked ℕ) (reply : List ℕ) (w : ClientView) → IsSharedAnswer answers begins v query reply w → Extends v (entry_for v query reply ∷ []) w
+  extends_one : (v : ClientView) (query : Query) (reply : List ℕ) (w : ClientView) → IsSharedAnswer answers begins v query reply w → Extends v (entry_for v query reply ∷ []) w
   extends_one v query reply w answer = record {
     number = answer.number;
     seen = (answer.between ++ entry_for v query reply ∷ [], sym (append_assoc v.seen answer.between (entry_for v query reply ∷ [])) ∙ sym answer.seen);
@@ -86,10 +87,10 @@ module _ {S : Type 0} (may : Bool) (answers : S → Result Asked ℕ → List �
       record { part = []; extends = extends_none start.1; asked = refl; counts = refl; written = sym (append-nil before) }
   entries start bytes before count end left out (one_more count1 s left1 out1 payload rest reply query t served first heard answer) =
       let r = entries start bytes before count1 s left1 out1 served in
-      let e = entry_for s.1 (admitted may query) reply in
+      let e = entry_for s.1 (admitted_by may query) reply in
       record {
         part = r.part ++ e ∷ [];
-        extends = extends_on start.1 s.1 t.1 r.part (e ∷ []) r.extends (extends_one s.1 (admitted may query) reply t.1 answer);
+        extends = extends_on start.1 s.1 t.1 r.part (e ∷ []) r.extends (extends_one s.1 (admitted_by may query) reply t.1 answer);
         asked = asks_also may bytes _ _ rest (sym (queries_append r.part (e ∷ []))) (asks_one may bytes (queries_of r.part) left1 payload rest query r.asked first heard);
         counts = let grown : length (r.part ++ e ∷ []) ≡ length r.part + 1 = length-append r.part (e ∷ []) in let was = r.counts in omega arith;
         written = ap (λ (l : List ℕ). l ++ reply) r.written ∙ (append_assoc before (replies_of r.part) reply ∙ ap (λ (l : List ℕ). before ++ l) (sym (replies_one r.part e)));
@@ -165,9 +166,9 @@ module _ {S : Type 0} (may : Bool) (answers : S → Result Asked ℕ → List �
       )
   starved_of start bytes before end after (ahead_of_reply count s left out payload rest reply query t served first heard answer) =
       let r = entries start bytes before count s left out served in
-      let e = entry_for s.1 (admitted may query) reply in (
+      let e = entry_for s.1 (admitted_by may query) reply in (
         r.part ++ e ∷ [],
-        extends_on start.1 s.1 t.1 r.part (e ∷ []) r.extends (extends_one s.1 (admitted may query) reply t.1 answer),
+        extends_on start.1 s.1 t.1 r.part (e ∷ []) r.extends (extends_one s.1 (admitted_by may query) reply t.1 answer),
         record {
           first = r.part;
           unwritten = e ∷ [];
@@ -207,7 +208,7 @@ module _ {S : Type 0} (may : Bool) (answers : S → Result Asked ℕ → List �
       named NoMemory o is by_reader by_writer by_memory = by_memory is
 
 -- a connection that began with no part, by its part of a whole history
-pub served_whole_part : {R W : Type 0} (may : Bool) (read : R → List ℕ) (over read_failed : R → Bool) (written : W → List ℕ) (write_failed : W → Bool) (v w : (R × W) × ClientView) (outcome : Result ℕ StreamFault) (i : ℕ) (history : List HistoryEntry)
+pub served_whole_part : {R W : Type 0} (may : Passage) (read : R → List ℕ) (over read_failed : R → Bool) (written : W → List ℕ) (write_failed : W → Bool) (v w : (R × W) × ClientView) (outcome : Result ℕ StreamFault) (i : ℕ) (history : List HistoryEntry)
     → IsServedClient may read over read_failed written write_failed v w outcome → v.1.number ≡ i → v.1.part ≡ [] → part_of w.1.number history ≡ w.1.part → IsServedPart may read over read_failed written write_failed v.0 (part_of i history) w.0 outcome
 served_whole_part may read over read_failed written write_failed v w outcome i history served number none own =
     let more = served.1 in

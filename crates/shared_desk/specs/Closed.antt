@@ -2,6 +2,7 @@
 use Rattle.std.specs.Prelude.{◌≡◌, ◌<◌, ◌==◌, ℕ, List, [], ◌∷◌, Bool, true, false, if◌then◌else◌, Result, Ok, Err, MatchResult}
 use Rattle.streams.specs.declared.fault.StreamFault.{StreamFault}
 use Rattle.shared_desk.specs.declared.closed.ClosedConnection.{ClosedConnection}
+use Rattle.shared_desk.specs.declared.passage.Passage.{Passage}
 use Rattle.shared_desk.specs.Histories.{HistoryEntry, part_of}
 use Rattle.shared_desk.specs.ClientViews.{ClientView}
 use Rattle.shared_desk.specs.Parts.{IsWritten, IsWrittenUpTo, NamesTheEnd}
@@ -18,14 +19,14 @@ AreClosed opened history (c ∷ cs) =
     (c.connection < opened) × (part_of c.connection history ≡ c.part)
     × (is_among c.connection cs ≡ false) × AreClosed opened history cs
 
--- What came asks the connection's part, where a grant is no request of one that may make none. What
+-- What came asks the connection's part by its passage. What
 -- was written are the replies of that part, in order; or it was given up by a fault.
 abbrev pub IsServedWhole : ClosedConnection → Type 0
 IsServedWhole c =
     MatchResult c.outcome
-    (λ number. IsWritten c.may_grant c.part c.read [] (c.is_over ≡ true) number c.written
+    (λ number. IsWritten c.passage c.part c.read [] (c.is_over ≡ true) number c.written
     × (c.read_failed ≡ false) × (c.write_failed ≡ false))
-    (λ fault. IsWrittenUpTo c.may_grant fault c.part c.read [] c.written
+    (λ fault. IsWrittenUpTo c.passage fault c.part c.read [] c.written
     × NamesTheEnd fault c.read_failed c.write_failed)
 
 -- the fault that was there first, if there is one
@@ -41,11 +42,11 @@ first_fault [] = Ok tt
 first_fault (c ∷ cs) = earlier_fault (first_fault cs) c.outcome
 
 -- what is known of a connection, with its two ends, once it is over
-abbrev pub closed_of : {R W : Type 0} → Bool → (R → List ℕ) → (R → Bool) → (R → Bool)
+abbrev pub closed_of : {R W : Type 0} → Passage → (R → List ℕ) → (R → Bool) → (R → Bool)
     → (W → List ℕ) → (W → Bool) → ClientView → R → W → Result ℕ StreamFault → ClosedConnection
-closed_of may_grant read over read_failed written write_failed v r w outcome = record {
+closed_of passage read over read_failed written write_failed v r w outcome = record {
   connection = v.number;
-  may_grant = may_grant;
+  passage = passage;
   part = v.part;
   read = read r;
   is_over = over r;

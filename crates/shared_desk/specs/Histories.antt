@@ -1,17 +1,28 @@
 -- Histories of what many connections asked, with the replies.
 use Rattle.std.specs.Prelude.{ℕ, ◌==◌, Bool, true, false, List, [], ◌∷◌, ◌++◌, Result}
 use Rattle.sessions.specs.Grammar.{Asked}
+use Rattle.shared_desk.specs.declared.passage.Passage.{Passage}
 
--- an answer: to which connection, what was asked, or the number of the refusal of a request that
--- can't be read, and the reply
+-- what was asked, or the number of the refusal of a request that can't be read, and by which
+-- passage
+pub record Query : Type 0 where
+  pub passage : Passage
+  pub asked : Result Asked ℕ
+
+-- the answers of a handler to which all passages are alike
+abbrev pub by_any_passage : {S : Type 0} → (S → Result Asked ℕ → List ℕ → S → Type 0) → S → Query
+    → List ℕ → S → Type 0
+by_any_passage answers s query reply t = answers s query.asked reply t
+
+-- an answer: to which connection, what was asked, and the reply
 pub record HistoryEntry : Type 0 where
   pub connection : ℕ
-  pub query : Result Asked ℕ
+  pub query : Query
   pub reply : List ℕ
 
 -- A history is legal and leads to a state: from a state that it may begin with, each reply is the
 -- one that the plain handler gives there.
-pub data Replays {S : Type 0} (answers : S → Result Asked ℕ → List ℕ → S → Type 0) (begins : S
+pub data Replays {S : Type 0} (answers : S → Query → List ℕ → S → Type 0) (begins : S
     → Type 0) : List HistoryEntry → S → Type 0 where
   none_yet : (s : S) → begins s → Replays answers begins [] s
   one_more : (history : List HistoryEntry) (s : S) (e : HistoryEntry) (t : S)
@@ -29,7 +40,7 @@ part_of n [] = []
 part_of n (e ∷ es) = put_if (e.connection == n) e (part_of n es)
 
 -- what was asked
-abbrev pub queries_of : List HistoryEntry → List (Result Asked ℕ)
+abbrev pub queries_of : List HistoryEntry → List Query
 queries_of [] = []
 queries_of (e ∷ es) = e.query ∷ queries_of es
 

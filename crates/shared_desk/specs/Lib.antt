@@ -1,5 +1,6 @@
-pub mod Grants
+pub mod Doors
 pub mod Histories
+pub mod Grants
 pub mod ClientViews
 pub mod Rule
 pub mod Answered

@@ -6,41 +6,43 @@ use Rattle.sessions.specs.Answers.{Hears}
 use Rattle.streams.specs.Stops.{EndsWith, StopsAt, IsDue, IsPartWritten}
 use Rattle.streams.specs.declared.fault.StreamFault.{StreamFault}
 use Rattle.streams.specs.declared.fault.StreamFault.TheVariants.{ReadFailed, WriteFailed, NoMemory}
-use Rattle.shared_desk.specs.Histories.{HistoryEntry, queries_of, replies_of}
+use Rattle.shared_desk.specs.declared.passage.Passage.{Passage}
+use Rattle.shared_desk.specs.Histories.{HistoryEntry, Query, queries_of, replies_of}
 use Rattle.shared_desk.specs.ClientViews.{ClientView, Extends}
-use Rattle.shared_desk.specs.Grants.{admitted}
+use Rattle.shared_desk.specs.Grants.{admitted_by}
 
--- The first frames of the bytes ask this, one after the other, of a connection that may grant or
--- not; and these bytes are left.
-abbrev pub Asks : Bool → List ℕ → List (Result Asked ℕ) → List ℕ → Type 0
-Asks may_grant bytes [] left = left ≡ bytes
-Asks may_grant bytes (query ∷ queries) left =
+-- The first frames of the bytes ask this, one after the other, by a passage; and these bytes are
+-- left.
+abbrev pub Asks : Passage → List ℕ → List Query → List ℕ → Type 0
+Asks passage bytes [] left = left ≡ bytes
+Asks passage bytes (query ∷ queries) left =
     (payload rest : List ℕ) × (heard : Result Asked ℕ) × (front bytes ≡ whole payload rest)
-    × Hears payload heard × (query ≡ admitted may_grant heard) × Asks may_grant rest queries left
+    × Hears payload heard × (query ≡ admitted_by passage heard) × Asks passage rest queries left
 
 -- Nothing failed: every frame of the bytes is asked in the part, and what was written are the
 -- replies of the part, in order, with one 71 behind them, where a length over the limit came.
-pub record IsWritten (may_grant : Bool) (part : List HistoryEntry) (bytes before : List ℕ) (over : Type 0) (number : ℕ)
-    (after : List ℕ) : Type 0 where
+pub record IsWritten (passage : Passage) (part : List HistoryEntry) (bytes before : List ℕ)
+    (over : Type 0) (number : ℕ) (after : List ℕ) : Type 0 where
   pub left : List ℕ
-  pub asked : Asks may_grant bytes (queries_of part) left
+  pub asked : Asks passage bytes (queries_of part) left
   pub counts : number ≡ min (length part) (2 ^ 64 - 1)
   pub last : EndsWith (front left) (before ++ replies_of part) after
   pub stops : StopsAt (front left) over bytes
 
 -- The reader failed: every frame that is whole in the bytes is asked in the part, and what was
 -- written are the whole replies of the part.
-pub record IsWrittenToTheFault (may_grant : Bool) (part : List HistoryEntry)
+pub record IsWrittenToTheFault (passage : Passage) (part : List HistoryEntry)
     (bytes before after : List ℕ) : Type 0 where
   pub left : List ℕ
-  pub asked : Asks may_grant bytes (queries_of part) left
+  pub asked : Asks passage bytes (queries_of part) left
   pub waits : front left ≡ partial
   pub written : after ≡ before ++ replies_of part
 
 -- The writer failed. The part begins with what was asked before the last piece came, of at most
 -- 4,096 bytes, and those replies are written. Of what is due to the rest of the part, with the last
 -- 71, a beginning is written, and not all.
-pub record IsWrittenInPart (may_grant : Bool) (part : List HistoryEntry) (bytes before after : List ℕ) : Type 0 where
+pub record IsWrittenInPart (passage : Passage) (part : List HistoryEntry)
+    (bytes before after : List ℕ) : Type 0 where
   pub early : List ℕ
   pub piece : List ℕ
   pub came : bytes ≡ early ++ piece
@@ -49,33 +51,34 @@ pub record IsWrittenInPart (may_grant : Bool) (part : List HistoryEntry) (bytes 
   pub rest : List HistoryEntry
   pub both : part ≡ first ++ rest
   pub waiting : List ℕ
-  pub asked_early : Asks may_grant early (queries_of first) waiting
+  pub asked_early : Asks passage early (queries_of first) waiting
   pub waits : front waiting ≡ partial
   pub left : List ℕ
-  pub asked : Asks may_grant bytes (queries_of part) left
+  pub asked : Asks passage bytes (queries_of part) left
   pub due : List ℕ
   pub is_due : IsDue (front left) (before ++ replies_of part) due
   pub cut : IsPartWritten (before ++ replies_of first) due after
 
 -- There was no memory. What was written are whole replies, of all of the part or of all but its
 -- last entry: that request was carried out, and nothing of its reply is written.
-pub record IsWrittenButOne (may_grant : Bool) (part : List HistoryEntry) (bytes before after : List ℕ) : Type 0 where
+pub record IsWrittenButOne (passage : Passage) (part : List HistoryEntry)
+    (bytes before after : List ℕ) : Type 0 where
   pub first : List HistoryEntry
   pub unwritten : List HistoryEntry
   pub both : part ≡ first ++ unwritten
   pub one_at_most : length unwritten ≤ 1
   pub left : List ℕ
-  pub asked : Asks may_grant bytes (queries_of part) left
+  pub asked : Asks passage bytes (queries_of part) left
   pub written : after ≡ before ++ replies_of first
 
 -- what was written of a part, where the stream was given up by this
-abbrev pub IsWrittenUpTo : Bool → StreamFault → List HistoryEntry → List ℕ → List ℕ → List ℕ → Type 0
-IsWrittenUpTo may_grant ReadFailed part bytes before after =
-    IsWrittenToTheFault may_grant part bytes before after
-IsWrittenUpTo may_grant WriteFailed part bytes before after =
-    IsWrittenInPart may_grant part bytes before after
-IsWrittenUpTo may_grant NoMemory part bytes before after =
-    IsWrittenButOne may_grant part bytes before after
+abbrev pub IsWrittenUpTo : Passage → StreamFault → List HistoryEntry → List ℕ → List ℕ → List ℕ → Type 0
+IsWrittenUpTo passage ReadFailed part bytes before after =
+    IsWrittenToTheFault passage part bytes before after
+IsWrittenUpTo passage WriteFailed part bytes before after =
+    IsWrittenInPart passage part bytes before after
+IsWrittenUpTo passage NoMemory part bytes before after =
+    IsWrittenButOne passage part bytes before after
 
 -- the fault names the end that failed, or neither did
 abbrev pub NamesTheEnd : StreamFault → Bool → Bool → Type 0
@@ -84,9 +87,9 @@ NamesTheEnd WriteFailed reader_failed writer_failed = writer_failed ≡ true
 NamesTheEnd NoMemory reader_failed writer_failed =
     (reader_failed ≡ false) × (writer_failed ≡ false)
 
--- of a connection that may grant or not, what contracts see of its two ends: what was read, whether
+-- of a connection by a passage, what contracts see of its two ends: what was read, whether
 -- that was all and whether a read failed; what was written, and whether a write failed
-module _ {R W : Type 0} (may_grant : Bool) (read : R → List ℕ) (over read_failed : R → Bool)
+module _ {R W : Type 0} (passage : Passage) (read : R → List ℕ) (over read_failed : R → Bool)
     (written : W → List ℕ) (write_failed : W → Bool) where
   -- Between two states of a connection's ends, what came asks this part of the history, and what
   -- was written are its replies.
@@ -95,9 +98,9 @@ module _ {R W : Type 0} (may_grant : Bool) (read : R → List ℕ) (over read_fa
     pub bytes : List ℕ
     pub came : read w.0 ≡ read v.0 ++ bytes
     pub replies : MatchResult outcome
-        (λ number. IsWritten may_grant part bytes (written v.1) (over w.0 ≡ true) number (written w.1)
+        (λ number. IsWritten passage part bytes (written v.1) (over w.0 ≡ true) number (written w.1)
         × (read_failed w.0 ≡ false) × (write_failed w.1 ≡ false))
-        (λ fault. IsWrittenUpTo may_grant fault part bytes (written v.1) (written w.1)
+        (λ fault. IsWrittenUpTo passage fault part bytes (written v.1) (written w.1)
         × NamesTheEnd fault (read_failed w.0) (write_failed w.1))
 
   -- the connection's part is longer by what is served between these states of its ends

@@ -2,10 +2,10 @@
 use Rattle.std.specs.Prelude.{◌≡◌, ℕ, ◌+◌, ◌<◌, ◌≤◌, List, [], ◌∷◌, length, slice_index_or, Bool, true, false, Result, IfOk, Vec}
 use Rattle.std.specs.declared.alloc.Global.{Global}
 use Rattle.refusal.specs.declared.NoMemory.{NoMemory}
-use Rattle.sessions.specs.Grammar.{Asked}
 use Rattle.shared_desk.specs.declared.serving.ServedEnds.{ServedEnds}
-use Rattle.shared_desk.specs.Histories.{HistoryEntry, Replays, part_of}
+use Rattle.shared_desk.specs.Histories.{HistoryEntry, Query, Replays, part_of}
 use Rattle.shared_desk.specs.ClientViews.{ClientView}
+use Rattle.shared_desk.specs.Grants.{by_port}
 use Rattle.shared_desk.specs.Parts.{IsServedPart}
 
 -- none of these ends has failed
@@ -29,13 +29,13 @@ module _ {R W : Type 0} (read : R → List ℕ) (over read_failed : R → Bool) 
   abbrev pub AreServedParts : List HistoryEntry → List (R × W) → List (ServedEnds R W) → Type 0
   AreServedParts history ends served =
       (length served ≡ length ends) × ((i : ℕ) (d : R × W) (e : ServedEnds R W) → i < length ends
-      → IsServedPart true read over read_failed written write_failed (slice_index_or ends i d)
+      → IsServedPart by_port read over read_failed written write_failed (slice_index_or ends i d)
       (part_of i history) ((slice_index_or served i e).reader, (slice_index_or served i e).writer)
       (slice_index_or served i e).outcome)
 
   -- One legal history leads to the end. It is the parts of these connections and nothing else, and
   -- each part is served between the ends of its connection.
-  pub record AreServedTogether {S : Type 0} (answers : S → Result Asked ℕ → List ℕ → S → Type 0)
+  pub record AreServedTogether {S : Type 0} (answers : S → Query → List ℕ → S → Type 0)
       (begins : S → Type 0) (ends : List (R × W)) (end : S)
       (result : Result (Vec (ServedEnds R W) Global) NoMemory) : Type 0 where
     pub history : List HistoryEntry

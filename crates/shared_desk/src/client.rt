@@ -5,28 +5,30 @@ ghost use Rattle.shared_desk.specs.Histories.{Replays, part_of};
 ghost use Rattle.shared_desk.specs.Parts.{IsServedClient};
 
 use crate::desk::SharedDesk;
-use crate::request_filter::RequestFilter;
+use crate::passage::{Passage, PassageId};
 use crate::seats::Origin;
+use crate::shared_handler::SharedHandler;
 use crate::shared_history::{ClientSeat, SharedHistory};
 use refusal::NoMemory;
 use sessions::Request;
 use std::alloc::Global;
-use std::marker::{Model, PhantomData};
+use std::marker::{Brand, Model, PhantomData};
 use std::sync::{Mutex, Wait};
 use streams::{Handler, Sink, Source, StreamFault, serve_stream};
 
-/// Answers one connection's requests at the shared desk, each under the lock, where they pass the
-/// filter. Contracts see it as what the connection knows of the history.
+/// Answers one connection's requests at the shared desk, each under the lock, as far as its passage
+/// lets them come there. Contracts see it as what the connection knows of the history.
 #[derive(Drop)]
-pub struct Client<'a, R, D, H: Handler<D>, J: Origin<D, H>, G: RequestFilter> {
+pub struct Client<'a, R, D, H: SharedHandler<D>, J: Origin<D, H>, G: PassageId> {
     rt: &'a R,
     history: &'a SharedHistory<J>,
     lock: &'a Mutex<SharedDesk<D, H, J>>,
     seat: ClientSeat<J>,
+    passage: Passage,
     of: PhantomData<G>,
 }
 
-impl<'a, R, D, H: Handler<D>, J: Origin<D, H>, G: RequestFilter> Model
+impl<'a, R, D, H: SharedHandler<D>, J: Origin<D, H>, G: PassageId> Model
     for Client<'a, R, D, H, J, G> {
     ghost use Rattle.std.specs.Prelude.{◌≡◌};
     ghost use Rattle.shared_desk.specs.ClientViews.{ClientView};
@@ -37,17 +39,19 @@ impl<'a, R, D, H: Handler<D>, J: Origin<D, H>, G: RequestFilter> Model
     ghost view = { λ c. c.seat };
 
     ghost invariant = { λ c. ((s : D × H) × Replays H.answers J.begins c.seat.seen s)
-        × (part_of c.seat.number c.seat.seen ≡ c.seat.part) };
+        × (part_of c.seat.number c.seat.seen ≡ c.seat.part) × (c.passage ≡ G.passage) };
 }
 
-impl<'a, R, D, H: Handler<D>, J: Origin<D, H>, G: RequestFilter> Client<'a, R, D, H, J, G> {
+impl<'a, R, D, H: SharedHandler<D>, J: Origin<D, H>, G: PassageId> Client<'a, R, D, H, J, G> {
     /// A connection that has seen a legal history.
     pub fn of(
         rt: &'a R,
         history: &'a SharedHistory<J>,
         lock: &'a Mutex<SharedDesk<D, H, J>>,
         seat: ClientSeat<J>,
+        passage: Passage,
     ) -> Client<'a, R, D, H, J, G>
+        requires passage { passage ≡ G.passage }
         requires legal { (s : D × H) × Replays H.answers J.begins seat.seen s }
         requires own { part_of seat.number seat.seen ≡ seat.part }
         ensures { result ≡ seat }
@@ -57,6 +61,7 @@ impl<'a, R, D, H: Handler<D>, J: Origin<D, H>, G: RequestFilter> Client<'a, R, D
             history,
             lock,
             seat,
+            passage,
             of: PhantomData,
         }
     }
@@ -72,30 +77,32 @@ impl<'a, R, D, H: Handler<D>, J: Origin<D, H>, G: RequestFilter> Client<'a, R, D
     }
 }
 
-impl<'a, R: Wait, D, H: Handler<D>, J: Origin<D, H>, G: RequestFilter> Client<'a, R, D, H, J, G> {
+impl<'a, R: Wait, D, H: SharedHandler<D>, J: Origin<D, H>, G: PassageId> Client<'a, R, D, H, J, G> {
     /// A connection that was opened. It sees all that was answered so far.
     pub fn new(
         rt: &'a R,
         history: &'a SharedHistory<J>,
         lock: &'a Mutex<SharedDesk<D, H, J>>,
         mut seat: ClientSeat<J>,
+        passage: Passage,
     ) -> Client<'a, R, D, H, J, G>
+        requires { passage ≡ G.passage }
         ensures { (result.number ≡ seat.number) × (result.part ≡ seat.part) }
     {
         lock.lock(rt).look(history, &mut seat);
-        Client::of(rt, history, lock, seat)
+        Client::of(rt, history, lock, seat, passage)
     }
 }
 
-impl<R: Wait, D, H: Handler<D>, J: Origin<D, H>, G: RequestFilter> Handler<()>
+impl<R: Wait, D, H: SharedHandler<D>, J: Origin<D, H>, G: PassageId> Handler<()>
     for Client<'_, R, D, H, J, G> {
     ghost use Rattle.shared_desk.specs.Answered.{IsSharedAnswer};
-    ghost use Rattle.shared_desk.specs.Grants.{admitted};
+    ghost use Rattle.shared_desk.specs.Grants.{admitted_by};
 
     ghost ready = { λ _. Unit {0} };
 
     ghost answers = { λ s query reply t.
-        IsSharedAnswer H.answers J.begins s.1 (admitted G.may_grant query) reply t.1 };
+        IsSharedAnswer H.answers J.begins s.1 (admitted_by G.passage query) reply t.1 };
 
     fn answer(
         &mut self,
@@ -103,15 +110,14 @@ impl<R: Wait, D, H: Handler<D>, J: Origin<D, H>, G: RequestFilter> Handler<()>
         _desk: &mut (),
         request: Result<Request, u8>,
     ) -> Result<Vec<u8>, NoMemory> {
-        let admitted = G::admit(request);
-        self.lock
-            .lock(self.rt)
-            .answer(self.history, &mut self.seat, alloc, admitted)
+        let admitted = self.passage.admit(request);
+        self.lock.lock(self.rt).answer(self.history, &mut self.seat, alloc, self.passage, admitted)
     }
 }
 
-/// Serves a connection's stream, as `serve_stream` does. What came and passes the filter asks the
-/// connection's own part of the history, and what was written are the replies of that part, in order.
+/// Serves a connection's stream, as `serve_stream` does. What came asks the connection's own part of
+/// the history, as far as its passage lets it come there, and what was written are the replies of that
+/// part, in order.
 ///
 /// 83 where the reader failed: all replies of the part are written. 84 where the writer failed: a
 /// beginning of them. 99 where there was no memory, and neither failed: all of them, or all but the
@@ -121,9 +127,9 @@ pub fn serve_client<
     W: Sink,
     R: Wait,
     D,
-    H: Handler<D>,
+    H: SharedHandler<D>,
     J: Origin<D, H>,
-    G: RequestFilter,
+    G: PassageId,
 >(
     alloc: Global,
     reader: &mut S,
@@ -132,7 +138,7 @@ pub fn serve_client<
 ) -> Result<u64, StreamFault>
     requires source { S.has_failed reader.old ≡ false }
     requires sink { W.has_failed writer.old ≡ false }
-    ensures served { IsServedClient G.may_grant S.transcript S.is_over S.has_failed W.transcript
+    ensures served { IsServedClient G.passage S.transcript S.is_over S.has_failed W.transcript
         W.has_failed ((reader.old, writer.old), client.old) ((reader.new, writer.new), client.new) result }
     ensures legal { (s : D × H) × Replays H.answers J.begins client.new.seen s }
     ensures own { part_of client.new.number client.new.seen ≡ client.new.part }
@@ -142,33 +148,48 @@ pub fn serve_client<
     served
 }
 
-/// Serves a connection that was opened, of which nothing came and nothing was written yet, through
-/// its filter, and closes it: the history then has its part, and what went through its ends.
-pub fn serve_opened<
-    G: RequestFilter,
-    S: Source,
-    W: Sink,
-    R: Wait,
-    D,
-    H: Handler<D>,
-    J: Origin<D, H>,
->(
+// `serve_opened` under a name for the passage.
+fn serve_passed<G: PassageId, S: Source, W: Sink, R: Wait, D, H: SharedHandler<D>, J: Origin<D, H>>(
     rt: &R,
     alloc: Global,
     history: &SharedHistory<J>,
     lock: &Mutex<SharedDesk<D, H, J>>,
     seat: ClientSeat<J>,
-    filter: &G,
+    passage: Passage,
     reader: &mut S,
     writer: &mut W,
 )
+    requires passage { passage ≡ G.passage }
+    requires comes { J.comes passage }
     requires source { (S.has_failed reader.old ≡ false) × (S.transcript reader.old ≡ []) }
     requires sink { (W.has_failed writer.old ≡ false) × (W.transcript writer.old ≡ []) }
     requires fresh { seat.part ≡ [] }
 {
-    let mut client: Client<'_, R, D, H, J, G> = Client::new(rt, history, lock, seat);
+    let mut client: Client<'_, R, D, H, J, G> = Client::new(rt, history, lock, seat, passage);
     let outcome = serve_client(alloc, reader, writer, &mut client);
     let seat = client.into_seat();
     lock.lock(rt)
-        .close(history, seat, filter, reader, writer, &outcome);
+        .close(history, seat, passage, reader, writer, &outcome);
+}
+
+/// Serves a connection that was opened, of which nothing came and nothing was written yet, by its
+/// passage, and closes it: the history then has its part, and what went through its ends.
+pub fn serve_opened<S: Source, W: Sink, R: Wait, D, H: SharedHandler<D>, J: Origin<D, H>>(
+    rt: &R,
+    alloc: Global,
+    history: &SharedHistory<J>,
+    lock: &Mutex<SharedDesk<D, H, J>>,
+    seat: ClientSeat<J>,
+    passage: Passage,
+    reader: &mut S,
+    writer: &mut W,
+)
+    requires comes { J.comes passage }
+    requires source { (S.has_failed reader.old ≡ false) × (S.transcript reader.old ≡ []) }
+    requires sink { (W.has_failed writer.old ≡ false) × (W.transcript writer.old ≡ []) }
+    requires fresh { seat.part ≡ [] }
+{
+    serve_passed::<Brand, S, W, R, D, H, J>(
+        rt, alloc, history, lock, seat, passage, reader, writer,
+    );
 }

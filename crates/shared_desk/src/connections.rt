@@ -3,11 +3,14 @@
 ghost use Rattle.std.specs.Prelude.{◌≡◌, ◌<◌, ◌≤◌, ◌+◌, [], true, false, ℕ, IfOk, length, vec_len, slice_index_or};
 ghost use Rattle.shared_desk.specs.Histories.{Replays, part_of};
 ghost use Rattle.shared_desk.specs.Parts.{IsServedClient, IsServedPart};
+ghost use Rattle.shared_desk.specs.Grants.{by_port};
 
 use crate::client::{Client, serve_client};
 use crate::desk::SharedDesk;
-use crate::request_filter::AllRequests;
+use crate::door::Door;
+use crate::passage::{Passage, PassageId};
 use crate::seats::{HistoryId, Origin};
+use crate::shared_handler::SharedHandler;
 use crate::shared_history::{ClientSeat, Opener, SharedHistory};
 use refusal::NoMemory;
 use std::alloc::Global;
@@ -15,19 +18,34 @@ use std::marker::{Model, PhantomData};
 use std::sync::{Mutex, Wait};
 use std::thread;
 use std::thread::Threads;
-use streams::{Handler, Sink, Source, StreamFault};
+use streams::{Sink, Source, StreamFault};
+
+// The passage of each connection here: all of its requests come to the desk.
+const BY_PORT: Passage = Passage {
+    door: Door::Port,
+    may_grant: true,
+};
+
+struct ByPort;
+
+impl PassageId for ByPort {
+    ghost use Rattle.shared_desk.specs.Grants.{by_port};
+
+    ghost passage = { by_port };
+}
 
 /// A connection that was opened: its two ends, of which neither has failed, and its seat. Contracts
 /// see it as the ends and what the seat knows.
 #[derive(Drop)]
-pub struct Connection<S: Source, W: Sink, D, H: Handler<D>, J: Origin<D, H>> {
+pub struct Connection<S: Source, W: Sink, D, H: SharedHandler<D>, J: Origin<D, H>> {
     reader: S,
     writer: W,
     seat: ClientSeat<J>,
     of: PhantomData<(D, H)>,
 }
 
-impl<S: Source, W: Sink, D, H: Handler<D>, J: Origin<D, H>> Model for Connection<S, W, D, H, J> {
+impl<S: Source, W: Sink, D, H: SharedHandler<D>, J: Origin<D, H>> Model
+    for Connection<S, W, D, H, J> {
     ghost use Rattle.std.specs.Prelude.{◌≡◌, false};
     ghost use Rattle.shared_desk.specs.ClientViews.{ClientView};
     ghost use Rattle.shared_desk.specs.Histories.{Replays, part_of};
@@ -50,7 +68,7 @@ pub struct ServedConnection<S, W, J: HistoryId> {
     pub outcome: Result<u64, StreamFault>,
 }
 
-impl<S: Source, W: Sink, D, H: Handler<D>, J: Origin<D, H>> Connection<S, W, D, H, J> {
+impl<S: Source, W: Sink, D, H: SharedHandler<D>, J: Origin<D, H>> Connection<S, W, D, H, J> {
     /// Opens a connection with these ends. It sees all that was answered so far.
     pub fn open(
         history: &SharedHistory<J>,
@@ -78,14 +96,14 @@ impl<S: Source, W: Sink, D, H: Handler<D>, J: Origin<D, H>> Connection<S, W, D, 
 }
 
 /// Serves one connection.
-pub fn serve_connection<S: Source, W: Sink, R: Wait, D, H: Handler<D>, J: Origin<D, H>>(
+pub fn serve_connection<S: Source, W: Sink, R: Wait, D, H: SharedHandler<D>, J: Origin<D, H>>(
     rt: &R,
     alloc: Global,
     history: &SharedHistory<J>,
     lock: &Mutex<SharedDesk<D, H, J>>,
     connection: Connection<S, W, D, H, J>,
 ) -> ServedConnection<S, W, J>
-    ensures { IsServedClient true S.transcript S.is_over S.has_failed W.transcript W.has_failed
+    ensures { IsServedClient by_port S.transcript S.is_over S.has_failed W.transcript W.has_failed
         connection ((result.reader, result.writer), result.seat) result.outcome }
 {
     let Connection {
@@ -94,7 +112,7 @@ pub fn serve_connection<S: Source, W: Sink, R: Wait, D, H: Handler<D>, J: Origin
         seat,
         of: _,
     } = connection;
-    let mut client: Client<'_, R, D, H, J, AllRequests> = Client::of(rt, history, lock, seat);
+    let mut client: Client<'_, R, D, H, J, ByPort> = Client::of(rt, history, lock, seat, BY_PORT);
     let outcome = serve_client(alloc, &mut reader, &mut writer, &mut client);
     let seat = client.into_seat();
     ServedConnection {
@@ -106,7 +124,7 @@ pub fn serve_connection<S: Source, W: Sink, R: Wait, D, H: Handler<D>, J: Origin
 }
 
 // Compares what each connection knows with the whole history.
-fn compare_all<S, W, D, H: Handler<D>, J: Origin<D, H>>(
+fn compare_all<S, W, D, H: SharedHandler<D>, J: Origin<D, H>>(
     history: &SharedHistory<J>,
     desk: &mut SharedDesk<D, H, J>,
     served: &mut Vec<ServedConnection<S, W, J>>,
@@ -135,7 +153,7 @@ pub fn serve_all<
     W: Sink + Send + Drop,
     R: Threads + Wait + Sync,
     D: Send + Drop,
-    H: Handler<D> + Send + Drop,
+    H: SharedHandler<D> + Send + Drop,
     J: Origin<D, H> + Send + Sync,
 >(
     rt: &R,
@@ -156,7 +174,7 @@ pub fn serve_all<
     ensures others { (n : ℕ) → vec_len connections ≤ n → part_of n result.0.1 ≡ [] }
     ensures count { IfOk result.1 (λ served. vec_len served ≡ vec_len connections) }
     ensures parts { IfOk result.1 (λ served. (i : ℕ) (d : _) (e : _) → i < vec_len connections
-        → IsServedPart true S.transcript S.is_over S.has_failed W.transcript W.has_failed
+        → IsServedPart by_port S.transcript S.is_over S.has_failed W.transcript W.has_failed
         (slice_index_or connections.items i d).0 (part_of i result.0.1)
         ((slice_index_or served.items i e).reader, (slice_index_or served.items i e).writer)
         (slice_index_or served.items i e).outcome) }
@@ -164,7 +182,7 @@ pub fn serve_all<
     let lock = Mutex::new(shared);
     let shared = &lock;
     let serve = |connection: Connection<S, W, D, H, J>| -> ServedConnection<S, W, J>
-        ensures { IsServedClient true S.transcript S.is_over S.has_failed W.transcript
+        ensures { IsServedClient by_port S.transcript S.is_over S.has_failed W.transcript
             W.has_failed connection ((result.reader, result.writer), result.seat) result.outcome }
     { serve_connection(rt, alloc, history, shared, connection) };
     let answered = thread::map_vec(rt, connections, &serve);

@@ -2,26 +2,26 @@
 
 ghost use Rattle.std.specs.Prelude.{◌≡◌, ◌≤◌, ◌-◌, ◌^◌, [], ◌∷◌, ℕ, List, All, Ok, length, min, IfOk, OnErr};
 ghost use mathlib.Core.List.{IsPrefix};
-ghost use Rattle.streams.specs.Hearing.{query_of};
 ghost use Rattle.shared_desk.specs.Histories.{Replays, part_of};
-ghost use Rattle.shared_desk.specs.Answered.{IsSharedAnswer};
+ghost use Rattle.shared_desk.specs.Answered.{IsSharedAnswer, query_by};
 ghost use Rattle.shared_desk.specs.Closed as closed;
 
-use crate::request_filter::RequestFilter;
+use crate::passage::Passage;
 use crate::seats::Origin;
+use crate::shared_handler::SharedHandler;
 use crate::shared_history::{ClientSeat, Opener, Recorder, SharedHistory};
 use refusal::NoMemory;
 use sessions::Request;
 use std::alloc::Global;
 use std::marker::{Brand, Model};
 use std::snapshot::Snapshot;
-use streams::{Handler, Sink, Source, StreamFault};
+use streams::{Sink, Source, StreamFault};
 
 /// A desk and its handler, with the history that leads to them, and the connections that are over.
 /// Contracts see it as the two, the history, and these connections, of which the last one stands
 /// first.
 #[derive(Drop)]
-pub struct SharedDesk<D, H: Handler<D>, J: Origin<D, H>> {
+pub struct SharedDesk<D, H: SharedHandler<D>, J: Origin<D, H>> {
     desk: D,
     handler: H,
     recorder: Recorder<J>,
@@ -29,7 +29,7 @@ pub struct SharedDesk<D, H: Handler<D>, J: Origin<D, H>> {
     outcome: Result<(), StreamFault>,
 }
 
-impl<D, H: Handler<D>, J: Origin<D, H>> Model for SharedDesk<D, H, J> {
+impl<D, H: SharedHandler<D>, J: Origin<D, H>> Model for SharedDesk<D, H, J> {
     ghost use Rattle.std.specs.Prelude.{◌≡◌, ◌-◌, ◌^◌, List, All, length, min};
     ghost use Rattle.shared_desk.specs.declared.closed.ClosedConnection.{ClosedConnection};
     ghost use Rattle.shared_desk.specs.Closed.{IsServedWhole, first_fault};
@@ -42,7 +42,7 @@ impl<D, H: Handler<D>, J: Origin<D, H>> Model for SharedDesk<D, H, J> {
     ghost invariant = { λ s. H.ready s.handler
         × Replays H.answers J.begins s.recorder.0 (s.desk, s.handler)
         × All IsServedWhole s.recorder.1 × (s.over ≡ min (length s.recorder.1) (2 ^ 64 - 1))
-        × (s.outcome ≡ first_fault s.recorder.1) };
+        × (s.outcome ≡ first_fault s.recorder.1) × All (λ c. J.comes c.passage) s.recorder.1 };
 }
 
 // The fault that was there first.
@@ -61,7 +61,7 @@ fn earlier_fault(
     }
 }
 
-impl<D, H: Handler<D>, J: Origin<D, H>> SharedDesk<D, H, J> {
+impl<D, H: SharedHandler<D>, J: Origin<D, H>> SharedDesk<D, H, J> {
     /// A desk and a handler of which nothing was asked.
     pub fn new(desk: D, handler: H, recorder: Recorder<J>) -> SharedDesk<D, H, J>
         requires ready { H.ready handler }
@@ -90,31 +90,38 @@ impl<D, H: Handler<D>, J: Origin<D, H>> SharedDesk<D, H, J> {
         history.look(seat, &mut self.recorder);
     }
 
-    /// Answers a request of a connection as the handler does, and adds that to the history. Where
-    /// the reply finds no memory, the request was still carried out, and the history has it.
+    /// Answers a request of a connection, by its passage, as the handler does, and adds that to the
+    /// history. Where the reply finds no memory, the request was still carried out, and the history
+    /// has it.
     pub fn answer(
         &mut self,
         history: &SharedHistory<J>,
         seat: &mut ClientSeat<J>,
         alloc: Global,
+        passage: Passage,
         request: Result<Request, u8>,
     ) -> Result<Vec<u8>, NoMemory>
         ensures ok { IfOk result (λ reply.
-            H.answers self.old.0 (query_of request) reply.items self.new.0
-            × IsSharedAnswer H.answers J.begins seat.old (query_of request) reply.items seat.new) }
+            H.answers self.old.0 (query_by passage request) reply.items self.new.0
+            × IsSharedAnswer H.answers J.begins seat.old (query_by passage request) reply.items
+            seat.new) }
         ensures err { OnErr result ((reply : List ℕ)
-            × H.answers self.old.0 (query_of request) reply self.new.0
-            × IsSharedAnswer H.answers J.begins seat.old (query_of request) reply seat.new) }
+            × H.answers self.old.0 (query_by passage request) reply self.new.0
+            × IsSharedAnswer H.answers J.begins seat.old (query_by passage request) reply
+            seat.new) }
         ensures history { self.new.1 ≡ seat.new.seen }
         ensures over { self.new.2 ≡ self.old.2 }
     {
         let asked = Snapshot::of(&request);
         let desk_before = Snapshot::of(&self.desk);
         let handler_before = Snapshot::of(&self.handler);
-        let reply = self.handler.answer(alloc, &mut self.desk, request);
+        let reply = self
+            .handler
+            .answer_by(alloc, &mut self.desk, passage, request);
         history.add::<Brand, D, H>(
             seat,
             &mut self.recorder,
+            passage,
             &asked,
             &desk_before,
             &handler_before,
@@ -125,24 +132,24 @@ impl<D, H: Handler<D>, J: Origin<D, H>> SharedDesk<D, H, J> {
         reply
     }
 
-    /// A connection is over: its filter, its seat, its two ends, and how its stream ended.
-    pub fn close<G: RequestFilter, S: Source, W: Sink>(
+    /// A connection is over: its passage, its seat, its two ends, and how its stream ended.
+    pub fn close<S: Source, W: Sink>(
         &mut self,
         history: &SharedHistory<J>,
         seat: ClientSeat<J>,
-        filter: &G,
+        passage: Passage,
         reader: &S,
         writer: &W,
         outcome: &Result<u64, StreamFault>,
     )
-        requires served { closed.IsServedWhole (closed.closed_of G.may_grant S.transcript S.is_over
+        requires comes { J.comes passage }
+        requires served { closed.IsServedWhole (closed.closed_of passage S.transcript S.is_over
             S.has_failed W.transcript W.has_failed seat reader.now writer.now outcome.now) }
         ensures same { (self.new.0 ≡ self.old.0) × (self.new.1 ≡ self.old.1) }
-        ensures over { self.new.2 ≡ closed.closed_of G.may_grant S.transcript S.is_over S.has_failed
+        ensures over { self.new.2 ≡ closed.closed_of passage S.transcript S.is_over S.has_failed
             W.transcript W.has_failed seat reader.now writer.now outcome.now ∷ self.old.2 }
     {
-        let _ = filter;
-        history.close::<Brand, S, W>(seat, &mut self.recorder, reader, writer, outcome);
+        history.close::<Brand, S, W>(seat, &mut self.recorder, passage, reader, writer, outcome);
         self.outcome = earlier_fault(self.outcome, outcome);
         self.over = self.over.saturating_add(1);
     }
@@ -180,10 +187,11 @@ impl<D, H: Handler<D>, J: Origin<D, H>> SharedDesk<D, H, J> {
     }
 
     /// The history is legal, and leads to the desk and the handler. Each connection that is over was
-    /// served by its part. (For proofs alone.)
+    /// served by its part, and came by a passage of this history. (For proofs alone.)
     pub fn is_legal(&self)
         ensures legal { Replays H.answers J.begins self.now.1 self.now.0 }
         ensures served { All closed.IsServedWhole self.now.2 }
+        ensures came { All (λ c. J.comes c.passage) self.now.2 }
     {
         let _ = &self.desk;
     }

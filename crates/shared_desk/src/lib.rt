@@ -17,11 +17,15 @@ pub use shared_history::{ClientSeat, NewHistory, Opener, Recorder, SharedHistory
 // what lies under the lock, and one connection's way to it
 mod client;
 mod desk;
-mod request_filter;
+mod door;
+mod passage;
+mod shared_handler;
 
 pub use client::{Client, serve_client, serve_opened};
 pub use desk::SharedDesk;
-pub use request_filter::{AllRequests, NoGrants, RequestFilter};
+pub use door::Door;
+pub use passage::{Passage, PassageId};
+pub use shared_handler::SharedHandler;
 
 // many connections at once
 mod connections;

@@ -1,27 +1,30 @@
 //! What each seat knows of the history, and the kinds of step.
 
 use crate::closed::ClosedConnection;
+use crate::passage::Passage;
 use atomic_table::{Join, Play, Split, TableRule};
 use sessions::Request;
 use std::collections::LinkedList;
 use std::marker::{Brand, Model, PhantomData};
 
-/// An entry of the history: a connection, what it asked, and the reply. No value of it is made.
+/// An entry of the history: a connection, what it asked by which passage, and the reply. No value of
+/// it is made.
 pub struct LogEntry {
     pub connection: u64,
+    pub passage: Passage,
     pub request: Result<Request, u8>,
     pub reply: LinkedList<u8>,
 }
 
 impl Model for LogEntry {
-    ghost use Rattle.streams.specs.Hearing.{query_of};
+    ghost use Rattle.shared_desk.specs.Answered.{query_by};
     ghost use Rattle.shared_desk.specs.Histories.{HistoryEntry};
 
     ghost Value = { HistoryEntry };
 
     ghost view = { λ e. record {
       connection = e.connection;
-      query = query_of e.request;
+      query = query_by e.passage e.request;
       reply = e.reply;
     } };
 }
@@ -44,17 +47,23 @@ pub struct DeskView {
     pub closed: LinkedList<ClosedConnection>,
 }
 
-/// Names one history, by its table. Each call of a program picks it.
+/// Names one history, by its table, and says by which passages its connections come. Each call of a
+/// program picks it.
 pub trait HistoryId {
     ghost use Rattle.atomic_table.specs.Seated.{TableId};
+    ghost use Rattle.shared_desk.specs.declared.passage.Passage.{Passage};
 
     ghost table: { TableId };
+
+    ghost comes: { Passage → Type 0 };
 }
 
 impl HistoryId for Brand {
     ghost use Rattle.shared_desk.specs.Rule.{no_history_table};
 
     ghost table = { no_history_table };
+
+    ghost comes = { λ _. Unit {0} };
 }
 
 /// Says what the desk and the handler may be at the start of the history.

@@ -7,13 +7,14 @@ ghost use Rattle.shared_desk.specs.Together.{AreOpened, AreServedTogether, NoneH
 use crate::connections::{Connection, ServedConnection, serve_all};
 use crate::desk::SharedDesk;
 use crate::seats::{HistoryId, Origin};
+use crate::shared_handler::SharedHandler;
 use crate::shared_history::{NewHistory, Opener, SharedHistory};
 use refusal::NoMemory;
 use std::alloc::Global;
 use std::marker::Brand;
 use std::sync::Wait;
 use std::thread::Threads;
-use streams::{Handler, Sink, Source, StreamFault};
+use streams::{Sink, Source, StreamFault};
 
 /// The ends of a connection that was served, or given up, and how its stream ended.
 #[derive(Drop)]
@@ -24,7 +25,7 @@ pub struct ServedEnds<S, W> {
 }
 
 // Opens a connection for each pair of ends.
-fn open_all<S: Source + Drop, W: Sink + Drop, D, H: Handler<D>, J: Origin<D, H>>(
+fn open_all<S: Source + Drop, W: Sink + Drop, D, H: SharedHandler<D>, J: Origin<D, H>>(
     alloc: Global,
     history: &SharedHistory<J>,
     opener: &mut Opener<J>,
@@ -77,7 +78,7 @@ fn serve_named<
     W: Sink + Send + Drop,
     R: Threads + Wait + Sync,
     D: Send + Drop,
-    H: Handler<D> + Send + Drop,
+    H: SharedHandler<D> + Send + Drop,
     J: Origin<D, H> + Send + Sync,
 >(
     rt: &R,
@@ -123,7 +124,7 @@ pub fn serve_clients<
     W: Sink + Send + Drop,
     R: Threads + Wait + Sync,
     D: Send + Drop,
-    H: Handler<D> + Send + Drop,
+    H: SharedHandler<D> + Send + Drop,
 >(
     rt: &R,
     alloc: Global,

@@ -6,6 +6,7 @@ ghost use Rattle.shared_desk.specs.Histories.{HistoryEntry, part_of};
 ghost use Rattle.shared_desk.specs.Closed.{AreClosed};
 ghost use Rattle.shared_desk.specs.declared.closed.ClosedConnection.{ClosedConnection};
 
+use crate::passage::Passage;
 use crate::seats::{
     Closes, ClosingRule, Compares, Counts, DeskView, EntryRule, HistoryId, LeavesRecorder,
     LogsEntry, OneHistory, Opens, SeesHistory, Spares, TakesRecorder,
@@ -173,6 +174,7 @@ impl<J: HistoryId> SharedHistory<J> {
         &self,
         seat: &mut ClientSeat<J>,
         recorder: &mut Recorder<J>,
+        passage: Passage,
         request: &Snapshot<Result<Request, u8>>,
         desk_before: &Snapshot<D>,
         handler_before: &Snapshot<H>,
@@ -189,6 +191,7 @@ impl<J: HistoryId> SharedHistory<J> {
             × (seat.new.part ≡ seat.old.part ++ e ∷ [])
             × (part_of seat.old.number (recorder.old.0 ++ e ∷ []) ≡ seat.old.part ++ e ∷ []) }
     {
+        let _ = passage;
         let _ = request;
         let _ = desk_before;
         let _ = handler_before;
@@ -253,6 +256,7 @@ impl<J: HistoryId> SharedHistory<J> {
         &self,
         seat: ClientSeat<J>,
         recorder: &mut Recorder<J>,
+        passage: Passage,
         reader: &S,
         writer: &W,
         outcome: &Result<u64, StreamFault>,
@@ -262,6 +266,7 @@ impl<J: HistoryId> SharedHistory<J> {
         ensures { (c : ClosedConnection) × E.closes c
             × (recorder.new ≡ (recorder.old.0, c ∷ recorder.old.1)) }
     {
+        let _ = passage;
         let _ = reader;
         let _ = writer;
         let _ = outcome;

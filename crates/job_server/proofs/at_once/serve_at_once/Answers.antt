@@ -17,6 +17,7 @@ returns-in_default g c = (
     fault = inr (refl, inr (inr refl));
   },
   record { last = c.args.listener; given = nothing_yet },
+  λ k d lt. absurd (omega (arith, lt)),
 )
 
 pub returns : goal.returns
@@ -28,4 +29,5 @@ returns g c =
         last = of.last;
         given = rw (← since.begun) since.given;
       },
+      c.serve_named.ensures.2,
     )

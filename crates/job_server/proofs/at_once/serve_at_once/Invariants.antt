@@ -1,9 +1,10 @@
 use Rattle.std.proofs.Common.{◌≡◌}
+use Rattle.job_server.specs.Listening.{CameBy}
 use Rattle.job_server.proofs.at_once.serve_at_once.Given as goal
 
--- the history is the new one
+-- the history is the new one, of connections that the listener gave
 abbrev pub ghosts-serve_named-J-HistoryId : goal.ghosts-serve_named-J-HistoryId
-ghosts-serve_named-J-HistoryId g a = record { table = a.new_history }
+ghosts-serve_named-J-HistoryId g a = record { table = a.new_history; comes = CameBy g.L.Listener.opens g.L.Listener.passage }
 
 -- it begins with this desk and this handler
 abbrev pub ghosts-serve_named-J-Origin : goal.ghosts-serve_named-J-Origin

@@ -27,4 +27,5 @@ returns g c =
         fault = fault_of_all now.2 opened c.args.plan.sessions over given_up outcome over_is few c.outcome.ensures c.outcome_of-outcome.ensures.fault;
       },
       subst (AreOfFirst g.L.Listener.opens g.L.Listener.fails g.J.FirstListener.is_first) (sym c.into_parts-opened.ensures.opened.0) c.into_parts-opened.ensures.given,
+      c.is_legal.ensures.came,
     )

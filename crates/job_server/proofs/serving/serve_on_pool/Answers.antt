@@ -1,5 +1,6 @@
 use Rattle.std.proofs.Common.{ap, ◌∙◌, sym, subst}
-use Rattle.job_server.specs.Listening.{AreOf}
+use Rattle.std.specs.Prelude.{All}
+use Rattle.job_server.specs.Listening.{AreOf, CameBy}
 use Rattle.job_server.proofs.Alike.{beside}
 use Rattle.job_server.proofs.AtOnceAlike.{hosted_serving, keeping}
 use Rattle.job_server.proofs.serving.serve_on_pool.Goals as goal
@@ -20,4 +21,5 @@ returns g c =
         serving = hosted.0;
       },
       subst (AreOf g.L.Listener.opens g.L.Listener.fails c.args.listener) (sym hosted.1) served.ensures.1,
+      subst (All (λ c. CameBy g.L.Listener.opens g.L.Listener.passage c.passage)) (sym hosted.2) served.ensures.2,
     )

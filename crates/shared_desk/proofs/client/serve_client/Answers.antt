@@ -6,7 +6,7 @@ use Rattle.shared_desk.proofs.client.serve_client.Goals as goal
 
 pub returns-clause-served : goal.returns-clause-served
 returns-clause-served g c =
-    served_client g.G.RequestFilter.may_grant g.H.Handler.answers g.J.Origin.begins g.S.Source.transcript g.S.Source.is_over g.S.Source.has_failed g.W.Sink.transcript g.W.Sink.has_failed
+    served_client g.G.PassageId.passage g.H.SharedHandler.answers g.J.Origin.begins g.S.Source.transcript g.S.Source.is_over g.S.Source.has_failed g.W.Sink.transcript g.W.Sink.has_failed
     ((c.args.reader.now, c.args.writer.now), c.args.client.now)
     ((c.serve_stream-served.new.reader, c.serve_stream-served.new.writer), c.serve_stream-served.new.handler)
     _
@@ -20,4 +20,4 @@ returns-clause-served g c =
 pub returns-clause-legal : goal.returns-clause-legal
 returns-clause-legal g c =
     let known = c.client.invariant.0 in
-    (known.0, subst (λ (k : ClientView). Replays g.H.Handler.answers g.J.Origin.begins k.seen known.0) c.client.view_is known.1)
+    (known.0, subst (λ (k : ClientView). Replays g.H.SharedHandler.answers g.J.Origin.begins k.seen known.0) c.client.view_is known.1)

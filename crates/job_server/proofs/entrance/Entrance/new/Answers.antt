@@ -7,4 +7,5 @@ invariant_of-result g c = (
   omega (arith, c.ranges.sessions.fits),
   sym c.requires.none,
   record { first = c.args.listener; begun = c.requires.listener; given = nothing_yet },
+  c.requires.comes,
 )

@@ -16,6 +16,7 @@ taking-preserved g c =
         begun = since.begun;
         given = in_vain _ _ _ since.given c.in-Err.ensures.fails;
       },
+      c.taking.invariant.3,
     )
 
 pub invariant_of-self : goal.invariant_of-self
@@ -35,6 +36,7 @@ invariant_of-self-then-is_stopped-2 g c =
         begun = since.begun;
         given = let_go _ _ _ since.given c.in-Ok.ensures.opens;
       },
+      c.taking.invariant.3,
     )
 
 pub overflow_add-self : goal.overflow_add-self
@@ -58,4 +60,10 @@ invariant_of-self-in-Ok g c =
         begun = since.begun;
         given = served _ _ _ since.given c.in-Ok.ensures.opens;
       },
+      c.taking.invariant.3,
     )
+
+pub returns-in-Ok-clause-passage : goal.returns-in-Ok-clause-passage
+returns-in-Ok-clause-passage g c =
+    c.taking.invariant.3 c.passage.result
+    (record { before = _; after = _; given = c.in-Ok.ensures.opens; is = c.passage.ensures })

@@ -1,5 +1,6 @@
 use Rattle.std.proofs.Common.{◌≡◌, ◌+◌, ◌<◌}
-use Rattle.job_server.specs.Listening.{HasGivenSince}
+use Rattle.job_server.specs.Listening.{CameBy, HasGivenSince}
+use Rattle.shared_desk.specs.declared.passage.Passage.{Passage}
 use Rattle.job_server.proofs.entrance.Entrance.next.Given as goal
 
 -- the numbers are few, and those that were opened are connections of the first listener
@@ -8,6 +9,7 @@ invariant-taking g l =
     (l.self-inside.opened + l.self-inside.left + l.self-inside.failed < 4294967296)
     × (l.self-inside.opened ≡ l.self-inside.opener)
     × HasGivenSince g.L.Listener.opens g.L.Listener.fails g.J.FirstListener.is_first l.self-inside.opened l.self-inside.listener
+    × ((p : Passage) → CameBy g.L.Listener.opens g.L.Listener.passage p → g.J.HistoryId.comes p)
 
 abbrev pub decreases-taking : goal.decreases-taking
 decreases-taking g l = l.self-inside.left

@@ -4,4 +4,4 @@ use Rattle.shared_desk.proofs.desk.SharedDesk.close.Given as goal
 
 -- what went through the two ends
 abbrev pub ghosts-close : goal.ghosts-close
-ghosts-close g a = record { closes = λ c. c ≡ closed_of g.G.RequestFilter.may_grant g.S.Source.transcript g.S.Source.is_over g.S.Source.has_failed g.W.Sink.transcript g.W.Sink.has_failed a.seat a.reader.now a.writer.now a.outcome.now }
+ghosts-close g a = record { closes = λ c. c ≡ closed_of a.passage g.S.Source.transcript g.S.Source.is_over g.S.Source.has_failed g.W.Sink.transcript g.W.Sink.has_failed a.seat a.reader.now a.writer.now a.outcome.now }

@@ -1,0 +1,66 @@
+//! By which way a connection comes to the desk.
+
+ghost use Rattle.std.specs.Prelude.{◌≡◌};
+ghost use Rattle.streams.specs.Hearing.{query_of};
+ghost use Rattle.shared_desk.specs.Grants.{admitted};
+
+use crate::door::Door;
+use sessions::Request;
+use std::marker::Brand;
+
+// The number of the refusal of what is no request.
+const NO_REQUEST: u8 = 73;
+
+/// The door that a connection came by, and whether it may grant there.
+#[derive(Clone, Copy, Debug, PartialEq, Eq)]
+pub struct Passage {
+    /// A tenant's door, from 1 on; 0: a door of the host's.
+    pub door: u32,
+    /// Whether its grants come to the desk.
+    pub may_grant: bool,
+}
+
+/// Names the passage of a connection. Each call of a program picks it.
+pub trait PassageId {
+    ghost use Rattle.shared_desk.specs.declared.passage.Passage.{Passage};
+
+    ghost passage: { Passage };
+}
+
+impl PassageId for Brand {
+    ghost use Rattle.shared_desk.specs.Grants.{by_port};
+
+    ghost passage = { by_port };
+}
+
+impl Passage {
+    /// What comes to the desk of what was asked. A grant of a connection that may make none is no
+    /// request: 73.
+    pub fn admit(self, request: Result<Request, u8>) -> Result<Request, u8>
+        ensures { query_of result ≡ admitted self.may_grant (query_of request) }
+    {
+        if self.may_grant {
+            return request;
+        }
+        match request {
+            Ok(Request::Grant { .. }) => Err(NO_REQUEST),
+            Ok(Request::Account { tenant }) => Ok(Request::Account { tenant }),
+            Ok(
+                Request::Submit {
+                    tenant,
+                    programs,
+                    credit,
+                    buffer,
+                },
+            ) => Ok(Request::Submit {
+                tenant,
+                programs,
+                credit,
+                buffer,
+            }),
+            Ok(Request::Status { job }) => Ok(Request::Status { job }),
+            Ok(Request::Result { job }) => Ok(Request::Result { job }),
+            Err(code) => Err(code),
+        }
+    }
+}
