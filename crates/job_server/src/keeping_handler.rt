@@ -6,7 +6,7 @@ use accounts::Desk;
 use refusal::NoMemory;
 use sessions::Request;
 use std::alloc::Global;
-use streams::{Handler, Runner};
+use streams::{Handler, Runner, SubmitRefusal, TellingHandler};
 
 /// Answers a request as the runner does, and then has the desk forget the reports of all but the
 /// last `keep` jobs; 0: it forgets none.
@@ -52,5 +52,18 @@ impl<N: Runner> Handler<Desk> for KeepingHandler<N> {
         let reply = self.runner.answer(alloc, desk, request);
         keep_last(desk, self.keep);
         reply
+    }
+}
+
+impl<N: Runner> TellingHandler<Desk> for KeepingHandler<N> {
+    fn answer_and_tell(
+        &mut self,
+        alloc: Global,
+        desk: &mut Desk,
+        request: Result<Request, u8>,
+    ) -> (Option<SubmitRefusal>, Result<Vec<u8>, NoMemory>) {
+        let told = self.runner.answer_and_tell(alloc, desk, request);
+        keep_last(desk, self.keep);
+        told
     }
 }

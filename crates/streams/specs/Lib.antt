@@ -6,3 +6,4 @@ pub mod Passing
 pub mod Answering
 pub mod LedgerReplies
 pub mod Inline
+pub mod Refusing

@@ -1,46 +1,50 @@
 //! A desk and a runner behind a stream.
 
-ghost use Rattle.std.specs.Prelude.{Ok};
+ghost use Rattle.std.specs.Prelude.{IfOk, List, ℕ, Ok, OnErr};
 ghost use Rattle.sessions.specs.Grammar.{request_asked};
-ghost use Rattle.streams.specs.Answering.{Framed, Replies};
+ghost use Rattle.streams.specs.Answering.{Answers, Framed, Replies};
 ghost use Rattle.streams.specs.Hearing.{query_of};
+ghost use Rattle.streams.specs.Refusing.{TellsRefusal};
 
 use crate::finished::pass_finished;
 use crate::forms::{
     answer_account, answer_grant, answer_result, answer_status, answer_submit, refused,
 };
-use crate::handler::Handler;
+use crate::handler::{Handler, TellingHandler};
 use crate::runner::Runner;
+use crate::submit_refusal::SubmitRefusal;
 use accounts::Desk;
 use refusal::NoMemory;
 use sessions::{Request, reply_frame};
 use std::alloc::Global;
 
-// Carries a request out, and gives the frame of its reply.
+// Carries a request out, and gives the frame of its reply, and why a job that was asked for doesn't
+// run.
 fn carry_out<N: Runner>(
     alloc: Global,
     desk: &mut Desk,
     runner: &mut N,
     request: Request,
-) -> Result<Vec<u8>, NoMemory>
+) -> (Option<SubmitRefusal>, Result<Vec<u8>, NoMemory>)
     requires { N.ready runner.old }
     ensures ready { N.ready runner.new }
-    ensures done { Framed result
+    ensures refusal { TellsRefusal (Ok (request_asked request)) result.0 result.1 }
+    ensures done { Framed result.1
         (λ told. Replies N.starts N.looks desk.old runner.old
         (Ok (request_asked request)) told desk.new
         runner.new) }
 {
     match request {
-        Request::Grant { tenant, amount } => answer_grant(alloc, desk, &tenant, amount),
-        Request::Account { tenant } => answer_account(alloc, desk, &tenant),
+        Request::Grant { tenant, amount } => (None, answer_grant(alloc, desk, &tenant, amount)),
+        Request::Account { tenant } => (None, answer_account(alloc, desk, &tenant)),
         Request::Submit {
             tenant,
             programs,
             credit,
             buffer,
         } => answer_submit(alloc, desk, runner, &tenant, &programs, credit, buffer),
-        Request::Status { job } => answer_status(alloc, desk, runner, job),
-        Request::Result { job } => answer_result(alloc, desk, job),
+        Request::Status { job } => (None, answer_status(alloc, desk, runner, job)),
+        Request::Result { job } => (None, answer_result(alloc, desk, job)),
     }
 }
 
@@ -50,17 +54,37 @@ fn reply_to<N: Runner>(
     desk: &mut Desk,
     runner: &mut N,
     request: Result<Request, u8>,
-) -> Result<Vec<u8>, NoMemory>
+) -> (Option<SubmitRefusal>, Result<Vec<u8>, NoMemory>)
     requires { N.ready runner.old }
     ensures ready { N.ready runner.new }
-    ensures done { Framed result
+    ensures refusal { TellsRefusal (query_of request) result.0 result.1 }
+    ensures done { Framed result.1
         (λ told. Replies N.starts N.looks desk.old runner.old (query_of request) told desk.new
         runner.new) }
 {
     match request {
         Ok(request) => carry_out(alloc, desk, runner, request),
-        Err(code) => reply_frame(alloc, &refused(code)),
+        Err(code) => (None, reply_frame(alloc, &refused(code))),
     }
+}
+
+// Passes every finished job to the desk, and then answers a request.
+fn answer_by_runner<N: Runner>(
+    alloc: Global,
+    desk: &mut Desk,
+    runner: &mut N,
+    request: Result<Request, u8>,
+) -> (Option<SubmitRefusal>, Result<Vec<u8>, NoMemory>)
+    requires { N.ready runner.old }
+    ensures ready { N.ready runner.new }
+    ensures refusal { TellsRefusal (query_of request) result.0 result.1 }
+    ensures ok { IfOk result.1 (λ reply. Answers N.starts N.looks N.takes desk.old runner.old
+        (query_of request) reply.items desk.new runner.new) }
+    ensures err { OnErr result.1 ((reply : List ℕ) × Answers N.starts N.looks N.takes desk.old
+        runner.old (query_of request) reply desk.new runner.new) }
+{
+    pass_finished(desk, runner);
+    reply_to(alloc, desk, runner, request)
 }
 
 impl<N: Runner> Handler<Desk> for N {
@@ -77,7 +101,17 @@ impl<N: Runner> Handler<Desk> for N {
         desk: &mut Desk,
         request: Result<Request, u8>,
     ) -> Result<Vec<u8>, NoMemory> {
-        pass_finished(desk, self);
-        reply_to(alloc, desk, self, request)
+        answer_by_runner(alloc, desk, self, request).1
+    }
+}
+
+impl<N: Runner> TellingHandler<Desk> for N {
+    fn answer_and_tell(
+        &mut self,
+        alloc: Global,
+        desk: &mut Desk,
+        request: Result<Request, u8>,
+    ) -> (Option<SubmitRefusal>, Result<Vec<u8>, NoMemory>) {
+        answer_by_runner(alloc, desk, self, request)
     }
 }

@@ -1,13 +1,15 @@
 //! One answer for each form of request.
 
-ghost use Rattle.std.specs.Prelude.{◌≡◌, ◌⊎◌, ℕ, None, Result};
+ghost use Rattle.std.specs.Prelude.{◌≡◌, ◌⊎◌, ℕ, IfOk, None, Result};
 ghost use Rattle.credit_book.specs.declared.board.Progress.{Progress};
 ghost use Rattle.accounts.specs.Ledgers.{account_at, progress_at, report_at};
-ghost use Rattle.sessions.specs.Replies.{reply_data};
+ghost use Rattle.sessions.specs.Replies.{frame_or_refusal, reply_data, submit_data};
 ghost use Rattle.sessions.specs.declared.reply.Reply.TheVariants.{Refused};
 ghost use Rattle.streams.specs.Answering.{Framed, Grants, GrantsNone, IsOpenJob, Settles, Submits, account_told, progress_told, report_told};
+ghost use Rattle.streams.specs.Refusing.{SaysRefusal};
 
 use crate::runner::Runner;
+use crate::submit_refusal::SubmitRefusal;
 use accounts::{Account, Desk, DeskFault};
 use job_core::{Job, ProgramBytes};
 use refusal::NoMemory;
@@ -62,24 +64,40 @@ pub fn answer_account(alloc: Global, desk: &Desk, tenant: &str) -> Result<Vec<u8
 }
 
 // Starts a job that was taken. A start that is refused ends the job with its number.
-fn start_job<N: Runner>(alloc: Global, desk: &mut Desk, runner: &mut N, number: u64, job: Job)
+fn start_job<N: Runner>(
+    alloc: Global,
+    desk: &mut Desk,
+    runner: &mut N,
+    number: u64,
+    job: Job,
+) -> Result<(), u8>
     requires ready { N.ready runner.old }
     requires open { IsOpenJob desk.old number }
     ensures ready { N.ready runner.new }
-    ensures started { (outcome : Result (Unit {0}) ℕ)
-        × N.starts runner.old number job outcome runner.new
-        × Settles desk.old number outcome desk.new }
+    ensures started { N.starts runner.old number job result runner.new
+        × Settles desk.old number result desk.new }
 {
     match runner.start(alloc, number, job) {
-        Ok(()) => {}
+        Ok(()) => Ok(()),
         Err(code) => {
             let _ = desk.finish(number, Err(code));
+            Err(code)
         }
     }
 }
 
+// Why a job that was taken doesn't run, if its start was refused.
+fn refused_start(job: u64, started: Result<(), u8>) -> Option<SubmitRefusal>
+    ensures { SaysRefusal result (frame_or_refusal (submit_data job)) }
+{
+    match started {
+        Ok(()) => None,
+        Err(code) => Some(SubmitRefusal::NotStarted { job, code }),
+    }
+}
+
 /// Takes a job and starts it, and tells its number. A start that is refused ends the job at once
-/// with its number.
+/// with its number. Beside the reply it tells why the job doesn't run.
 pub fn answer_submit<N: Runner>(
     alloc: Global,
     desk: &mut Desk,
@@ -88,25 +106,29 @@ pub fn answer_submit<N: Runner>(
     programs: &[ProgramBytes],
     credit: u32,
     buffer: Vec<u8>,
-) -> Result<Vec<u8>, NoMemory>
+) -> (Option<SubmitRefusal>, Result<Vec<u8>, NoMemory>)
     requires { N.ready runner.old }
     ensures ready { N.ready runner.new }
-    ensures done { Framed result
+    ensures done { Framed result.1
         (λ told. Submits N.starts desk.old runner.old tenant.now programs.now credit
         buffer.items told desk.new runner.new) }
+    ensures refusal { IfOk result.1 (λ frame. SaysRefusal result.0 frame.items) }
 {
     match desk.submit(alloc, tenant, programs, credit, buffer) {
         Ok((number, job)) => {
-            start_job(alloc, desk, runner, number, job);
-            reply_frame(alloc, &Reply::Submit { job: number })
+            let started = start_job(alloc, desk, runner, number, job);
+            let reply = reply_frame(alloc, &Reply::Submit { job: number });
+            (refused_start(number, started), reply)
         }
         Err(fault) => {
+            let code = fault.code();
             let refusal = Reply::Refused {
-                code: fault.code(),
+                code,
                 program: fault.program(),
                 slot: fault.slot(),
             };
-            reply_frame(alloc, &refusal)
+            let reply = reply_frame(alloc, &refusal);
+            (Some(SubmitRefusal::NotTaken { code }), reply)
         }
     }
 }

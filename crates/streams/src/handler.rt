@@ -3,7 +3,9 @@
 ghost use Rattle.std.specs.Prelude.{ℕ, List, Result, IfOk, OnErr};
 ghost use Rattle.sessions.specs.Grammar.{Asked};
 ghost use Rattle.streams.specs.Hearing.{query_of};
+ghost use Rattle.streams.specs.Refusing.{TellsRefusal};
 
+use crate::submit_refusal::SubmitRefusal;
 use refusal::NoMemory;
 use sessions::Request;
 use std::alloc::Global;
@@ -32,4 +34,23 @@ pub trait Handler<D> {
             (desk.new, self.new)) }
         ensures err { OnErr result ((reply : List ℕ)
             × answers (desk.old, self.old) (query_of request) reply (desk.new, self.new)) };
+}
+
+/// A handler that also tells why a job that was asked for doesn't run.
+pub trait TellingHandler<D>: Handler<D> {
+    /// Answers as `answer` does. Beside the reply it tells why a job that was asked for doesn't run.
+    fn answer_and_tell(
+        &mut self,
+        alloc: Global,
+        desk: &mut D,
+        request: Result<Request, u8>,
+    ) -> (Option<SubmitRefusal>, Result<Vec<u8>, NoMemory>)
+        requires { Self.ready self.old }
+        ensures ready { Self.ready self.new }
+        ensures ok { IfOk result.1
+            (λ reply. Self.answers (desk.old, self.old) (query_of request) reply.items
+            (desk.new, self.new)) }
+        ensures err { OnErr result.1 ((reply : List ℕ)
+            × Self.answers (desk.old, self.old) (query_of request) reply (desk.new, self.new)) }
+        ensures refusal { TellsRefusal (query_of request) result.0 result.1 };
 }

@@ -15,7 +15,7 @@ mod handler;
 mod serve;
 
 pub use fault::StreamFault;
-pub use handler::Handler;
+pub use handler::{Handler, TellingHandler};
 pub use serve::serve_stream;
 
 // the answers of a desk and a runner
@@ -23,9 +23,11 @@ mod answers;
 mod finished;
 mod forms;
 mod runner;
+mod submit_refusal;
 
 pub use finished::pass_finished;
 pub use runner::Runner;
+pub use submit_refusal::SubmitRefusal;
 
 // what went through an end of a stream, in proofs alone
 mod transcript;

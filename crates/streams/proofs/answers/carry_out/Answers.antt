@@ -14,7 +14,7 @@ returns-in-Account-clause-done g c = framed_as c.answer_account.result _ _
     c.answer_account.ensures
 
 pub returns-in-Submit-clause-done : goal.returns-in-Submit-clause-done
-returns-in-Submit-clause-done g c = framed_as c.answer_submit.result _ _
+returns-in-Submit-clause-done g c = framed_as c.answer_submit.result.1 _ _
     (λ told h. to_submit g.N.Runner.starts g.N.Runner.looks _ _ _ _ c.args.request told c.in-Submit.tenant c.in-Submit.programs c.in-Submit.credit c.in-Submit.buffer _ _
     c.in-Submit.is (search rules) (search rules) h)
     c.answer_submit.ensures.done
