@@ -22,6 +22,10 @@
 extern "C" {
 #endif
 
+/* The version of the library: 65,536 times the first of its three numbers, 256 times the second, and
+ * the third. */
+uint32_t telgovan_version(void);
+
 /* ---- Programs as bytes and as text */
 
 /* What is said of a program. */

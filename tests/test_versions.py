@@ -1,6 +1,7 @@
 """The file VERSION says the version, and what else tells one agrees. What C sees of the library is what
 release/abi.txt lists."""
 
+import ctypes
 import os
 import re
 import sys
@@ -55,6 +56,15 @@ class Version(unittest.TestCase):
     def test_the_newest_heading_of_the_changes(self):
         heading = re.search(r"^## (.*)$", text_of("CHANGELOG.md"), re.MULTILINE).group(1)
         self.assertRegex(heading, rf"\A{re.escape(VERSION)} \((unreleased|\d{{4}}-\d\d-\d\d)\)\Z")
+
+    def test_the_library(self):
+        """The number that C is told, in the source and from the shared object."""
+        first, second, third = map(int, VERSION.split("."))
+        number = first << 16 | second << 8 | third
+        self.assertIn(f"ensures {{ result ≡ {number} }}", text_of("crates/telgovan_c/src/version.rt"))
+        folder = os.environ.get("TELGOVAN_LIB", os.path.join(TOP, "bindings/out"))
+        library = ctypes.CDLL(os.path.join(folder, "libtelgovan.so"))
+        self.assertEqual(library.telgovan_version(), number)
 
     def test_the_programs(self):
         for name, program in (("bpfjobs", programs.BPFJOBS), ("bpfrun", programs.BPFRUN)):

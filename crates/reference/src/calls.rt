@@ -10,7 +10,7 @@ ghost use Rattle.machine_model.specs.Spawn.{answer_of};
 ghost use Rattle.reference.specs.Records.{asking, effect_of, program_of, registers_of, state_of};
 
 use crate::records::{
-    Child, Content, ReferenceProgram, Request, Running, StepOutcome, TrapCause, Unanswered,
+    Child, Content, ReferenceProgram, Running, SpawnArguments, StepOutcome, TrapCause, Unanswered,
 };
 use crate::registers::{content, number};
 use insn_codec::Register;
@@ -32,7 +32,7 @@ pub(crate) fn put_answer(mut state: Running, answer: u64) -> Running
     state
 }
 
-fn request(state: &Running) -> Result<Request, TrapCause>
+fn request(state: &Running) -> Result<SpawnArguments, TrapCause>
     ensures { (go : ℕ → ℕ → ℕ → ℕ → Effect)
         → number_in (registers_of state.now.registers 1) (λ program.
         number_in (registers_of state.now.registers 2)
@@ -44,7 +44,7 @@ fn request(state: &Running) -> Result<Request, TrapCause>
     let share = number(content(state, Register::new(2)))?;
     let cut = number(content(state, Register::new(3)))?;
     let arg = number(content(state, Register::new(4)))?;
-    Ok(Request {
+    Ok(SpawnArguments {
         program,
         share,
         cut,
@@ -53,7 +53,13 @@ fn request(state: &Running) -> Result<Request, TrapCause>
 }
 
 /// What a spawn is answered.
-fn answer(child: Option<Entry>, request: Request, state: &Running, after: u32, need: u32) -> u64
+fn answer(
+    child: Option<Entry>,
+    request: SpawnArguments,
+    state: &Running,
+    after: u32,
+    need: u32,
+) -> u64
     ensures value { result
         ≡ answer_of child request.share request.cut state.now.held state.now.used after
         (length state.now.part.items) need }
@@ -87,7 +93,11 @@ fn answer(child: Option<Entry>, request: Request, state: &Running, after: u32, n
 }
 
 /// The child gets the last bytes, and the parent keeps the rest.
-fn hand_over(alloc: Global, state: Running, request: Request) -> Result<StepOutcome, Unanswered>
+fn hand_over(
+    alloc: Global,
+    state: Running,
+    request: SpawnArguments,
+) -> Result<StepOutcome, Unanswered>
     requires slot { state.slot < 4294967296 }
     requires share { request.share ≤ state.held }
     requires cut { request.cut ≤ length state.part.items }

@@ -26,6 +26,7 @@ mod tasks;
 mod texts;
 mod traces;
 mod verdicts;
+mod version;
 
 pub use desk_handle::DeskHandle;
 pub use desks::{
@@ -48,3 +49,4 @@ pub use tasks::{TaskEvent, telgovan_task_drop, telgovan_task_go, telgovan_task_s
 pub use texts::{Written, telgovan_assemble, telgovan_disassemble};
 pub use traces::telgovan_trace;
 pub use verdicts::{Verdict, telgovan_verify};
+pub use version::telgovan_version;
