@@ -4,7 +4,7 @@ use crate::fault::{DeskFault, SubmitFault};
 use crate::jobs::{JobEntry, JobStanding, Jobs, settle};
 use crate::tenants::{Account, Sums, account_of, add, change, sums_of};
 use credit_book::{Progress, Report};
-use job_core::{Job, ProgramBytes, admit};
+use job_core::{AdmitFault, Job, ProgramBytes, admit};
 use std::alloc::Global;
 use std::collections::BTreeMap;
 use std::marker::Model;
@@ -34,10 +34,12 @@ impl Model for Desk {
 }
 
 impl Desk {
-    ghost use Rattle.std.specs.Prelude.{◌≡◌, ◌≤◌, ◌+◌, [], IfOk, IfErr, OnOk, OnErr, Ok, Err, MatchResult, length, unwrap_or};
+    ghost use Rattle.std.specs.Prelude.{◌≡◌, ◌≤◌, ◌+◌, ℕ, List, [], IfOk, IfErr, OnOk, OnErr, Ok, Err, MatchResult, length, unwrap_or};
     ghost use Rattle.job_core.specs.Admission.{IsAdmittedFrom};
+    ghost use Rattle.job_core.specs.declared.admission.ProgramBytes.{ProgramBytes};
+    ghost use Rattle.accounts.specs.Ahead.{IsAdmissionOf};
     ghost use Rattle.accounts.specs.declared.fault.DeskFault.TheVariants as fault;
-    ghost use Rattle.accounts.specs.Ledgers.{account_at, granted_to, most_granted, GrantsMore, RefusesGrant, Takes, RefusesSubmit, Finishes, Forgets, IsNotOpen, progress_at, report_at};
+    ghost use Rattle.accounts.specs.Ledgers.{account_at, granted_to, most_granted, GrantsMore, HasBalance, RefusesGrant, Takes, RefusesSubmit, Finishes, Forgets, IsNotOpen, progress_at, report_at};
 
     /// A desk with no tenant.
     pub fn new(alloc: Global) -> Desk
@@ -117,13 +119,55 @@ impl Desk {
             (λ e. RefusesSubmit self.old tenant.now programs.now credit buffer.items e) }
         ensures unchanged { OnErr result (self.new ≡ self.old) }
     {
+        self.may_submit(tenant, credit)?;
+        self.take(
+            alloc,
+            tenant,
+            credit,
+            admit(alloc, programs, credit, buffer),
+        )
+    }
+
+    /// Whether a job of this credit may be taken, but for its admission: 74 where the tenant was
+    /// granted nothing, then 75 where the credit is over its balance.
+    pub fn may_submit(&self, tenant: &str, credit: u32) -> Result<(), SubmitFault>
+        ensures refused { IfErr result (λ e. (programs : List ProgramBytes) (buffer : List ℕ)
+            → RefusesSubmit self.now tenant.now programs credit buffer e) }
+        ensures enough { OnOk result ((balance : ℕ) × HasBalance self.now tenant.now balance
+            × (credit ≤ balance)) }
+    {
+        let Ok(account) = self.account(tenant) else {
+            return Err(SubmitFault::NoTenant);
+        };
+        if u64::from(credit) > account.balance {
+            return Err(SubmitFault::BalanceLow);
+        }
+        Ok(())
+    }
+
+    /// Takes a job as [`Desk::submit`] does, that was admitted or refused ahead.
+    pub fn take(
+        &mut self,
+        alloc: Global,
+        tenant: &str,
+        credit: u32,
+        admitted: Result<Job, AdmitFault>,
+    ) -> Result<(u64, Job), SubmitFault>
+        ensures taken { OnOk result (Takes self.old tenant.now credit self.new) }
+        ensures number { IfOk result (λ taken. taken.0 ≡ length self.new.jobs) }
+        ensures job { IfOk result (λ taken. admitted ≡ Ok taken.1) }
+        ensures refused { (programs : List ProgramBytes) (buffer : List ℕ)
+            → IsAdmissionOf programs credit buffer admitted
+            → IfErr result (λ e. RefusesSubmit self.old tenant.now programs credit buffer e) }
+        ensures unchanged { OnErr result (self.new ≡ self.old) }
+    {
         let Some(sums) = sums_of(&self.tenants, tenant) else {
             return Err(SubmitFault::NoTenant);
         };
         if u64::from(credit) > account_of(sums).balance {
             return Err(SubmitFault::BalanceLow);
         }
-        let job = admit(alloc, programs, credit, buffer)?;
+        let job = admitted?;
         let entry = JobEntry {
             tenant: String::from_str(alloc, tenant)?,
             credit,

@@ -6,7 +6,7 @@ use accounts::Desk;
 use refusal::NoMemory;
 use sessions::Request;
 use std::alloc::Global;
-use streams::{Handler, Runner, SubmitRefusal, TellingHandler};
+use streams::{Handler, PreparedRequest, Runner, SubmitRefusal, TellingHandler};
 
 /// Answers a request as the runner does, and then has the desk forget the reports of all but the
 /// last `keep` jobs; 0: it forgets none.
@@ -60,7 +60,7 @@ impl<N: Runner> TellingHandler<Desk> for KeepingHandler<N> {
         &mut self,
         alloc: Global,
         desk: &mut Desk,
-        request: Result<Request, u8>,
+        request: PreparedRequest,
     ) -> (Option<SubmitRefusal>, Result<Vec<u8>, NoMemory>) {
         let told = self.runner.answer_and_tell(alloc, desk, request);
         keep_last(desk, self.keep);

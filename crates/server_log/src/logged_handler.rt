@@ -8,11 +8,12 @@ use crate::log_queue::ServerLog;
 use accounts::Desk;
 use refusal::NoMemory;
 use sessions::Request;
+use shared_desk::{Passage, SharedHandler};
 use std::alloc::Global;
 use std::marker::Model;
 use std::sync::Wait;
 use std::time::Clock;
-use streams::{Handler, SubmitRefusal, TellingHandler};
+use streams::{PreparedRequest, SubmitRefusal, TellingHandler, wants_admission};
 
 /// Answers as a handler does. Where there is a log, that is told of each job that is refused. Contracts
 /// see it as the handler.
@@ -52,16 +53,23 @@ fn event_of_refusal(refusal: SubmitRefusal) -> LogEvent
     }
 }
 
-impl<R: Wait + Clock, H: TellingHandler<Desk>> Handler<Desk> for LoggedHandler<'_, R, H> {
+impl<R: Wait + Clock, H: TellingHandler<Desk>> SharedHandler<Desk> for LoggedHandler<'_, R, H> {
+    ghost use Rattle.shared_desk.specs.Histories.{by_any_passage};
+
     ghost ready = { λ h. H.ready h };
 
-    ghost answers = { λ s query reply t. H.answers s query reply t };
+    ghost answers = { by_any_passage (λ s query reply t. H.answers s query reply t) };
 
-    fn answer(
+    fn wants_admission(&self, desk: &Desk, request: &Request) -> bool {
+        wants_admission(desk, request)
+    }
+
+    fn answer_by(
         &mut self,
         alloc: Global,
         desk: &mut Desk,
-        request: Result<Request, u8>,
+        _passage: Passage,
+        request: PreparedRequest,
     ) -> Result<Vec<u8>, NoMemory> {
         let (refusal, reply) = self.handler.answer_and_tell(alloc, desk, request);
         if let (Some(log), Some(refusal)) = (self.log, refusal) {

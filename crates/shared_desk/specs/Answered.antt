@@ -2,15 +2,15 @@
 use Rattle.std.specs.Prelude.{◌≡◌, ℕ, List, [], ◌∷◌, ◌++◌, Result, IfOk, Vec}
 use Rattle.std.specs.declared.alloc.Global.{Global}
 use Rattle.refusal.specs.declared.NoMemory.{NoMemory}
-use Rattle.sessions.specs.declared.request.Request.{Request}
-use Rattle.streams.specs.Hearing.{query_of}
+use Rattle.streams.specs.Prepared.{asked_of}
+use Rattle.streams.specs.declared.prepared_request.PreparedRequest.{PreparedRequest}
 use Rattle.shared_desk.specs.declared.passage.Passage.{Passage}
 use Rattle.shared_desk.specs.Histories.{HistoryEntry, Query, Replays, part_of}
 use Rattle.shared_desk.specs.ClientViews.{ClientView}
 
 -- what was asked by a passage
-abbrev pub query_by : Passage → Result Request ℕ → Query
-query_by passage request = record { passage = passage; asked = query_of request }
+abbrev pub query_by : Passage → PreparedRequest → Query
+query_by passage request = record { passage = passage; asked = asked_of request }
 
 -- this answer, to this connection
 abbrev pub entry_for : ClientView → Query → List ℕ → HistoryEntry

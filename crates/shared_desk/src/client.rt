@@ -3,6 +3,8 @@
 ghost use Rattle.std.specs.Prelude.{◌≡◌, [], false};
 ghost use Rattle.shared_desk.specs.Histories.{Replays, part_of};
 ghost use Rattle.shared_desk.specs.Parts.{IsServedClient};
+ghost use Rattle.streams.specs.Hearing.{query_of};
+ghost use Rattle.streams.specs.Prepared.{asked_of};
 
 use crate::desk::SharedDesk;
 use crate::passage::{Passage, PassageId};
@@ -14,7 +16,7 @@ use sessions::Request;
 use std::alloc::Global;
 use std::marker::{Brand, Model, PhantomData};
 use std::sync::{Mutex, Wait};
-use streams::{Handler, Sink, Source, StreamFault, serve_stream};
+use streams::{Handler, PreparedRequest, Sink, Source, StreamFault, prepare, serve_stream};
 
 /// Answers one connection's requests at the shared desk, each under the lock, as far as its passage
 /// lets them come there. Contracts see it as what the connection knows of the history.
@@ -94,6 +96,28 @@ impl<'a, R: Wait, D, H: SharedHandler<D>, J: Origin<D, H>, G: PassageId> Client<
     }
 }
 
+impl<R: Wait, D, H: SharedHandler<D>, J: Origin<D, H>, G: PassageId> Client<'_, R, D, H, J, G> {
+    // The same request. One for a job that the desk would take now, but for its admission, is admitted
+    // here, while others are at the desk.
+    fn prepared(&self, alloc: Global, request: Result<Request, u8>) -> PreparedRequest
+        ensures { asked_of result ≡ query_of request }
+    {
+        let request = match request {
+            Ok(request) => request,
+            Err(code) => return PreparedRequest::AsItCame(Err(code)),
+        };
+        if !matches!(&request, Request::Submit { .. }) {
+            return PreparedRequest::AsItCame(Ok(request));
+        }
+        let is_wanted = self.lock.lock(self.rt).wants_admission(&request);
+        if is_wanted {
+            prepare(alloc, request)
+        } else {
+            PreparedRequest::AsItCame(Ok(request))
+        }
+    }
+}
+
 impl<R: Wait, D, H: SharedHandler<D>, J: Origin<D, H>, G: PassageId> Handler<()>
     for Client<'_, R, D, H, J, G> {
     ghost use Rattle.shared_desk.specs.Answered.{IsSharedAnswer};
@@ -111,7 +135,8 @@ impl<R: Wait, D, H: SharedHandler<D>, J: Origin<D, H>, G: PassageId> Handler<()>
         request: Result<Request, u8>,
     ) -> Result<Vec<u8>, NoMemory> {
         let admitted = self.passage.admit(request);
-        self.lock.lock(self.rt).answer(self.history, &mut self.seat, alloc, self.passage, admitted)
+        let prepared = self.prepared(alloc, admitted);
+        self.lock.lock(self.rt).answer(self.history, &mut self.seat, alloc, self.passage, prepared)
     }
 }
 

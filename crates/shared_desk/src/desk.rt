@@ -15,7 +15,7 @@ use sessions::Request;
 use std::alloc::Global;
 use std::marker::{Brand, Model};
 use std::snapshot::Snapshot;
-use streams::{Sink, Source, StreamFault};
+use streams::{PreparedRequest, Sink, Source, StreamFault};
 
 /// A desk and its handler, with the history that leads to them, and the connections that are over.
 /// Contracts see it as the two, the history, and these connections, of which the last one stands
@@ -90,6 +90,11 @@ impl<D, H: SharedHandler<D>, J: Origin<D, H>> SharedDesk<D, H, J> {
         history.look(seat, &mut self.recorder);
     }
 
+    /// Whether it is worth to admit the job of this request ahead of the answer.
+    pub fn wants_admission(&self, request: &Request) -> bool {
+        self.handler.wants_admission(&self.desk, request)
+    }
+
     /// Answers a request of a connection, by its passage, as the handler does, and adds that to the
     /// history. Where the reply finds no memory, the request was still carried out, and the history
     /// has it.
@@ -99,7 +104,7 @@ impl<D, H: SharedHandler<D>, J: Origin<D, H>> SharedDesk<D, H, J> {
         seat: &mut ClientSeat<J>,
         alloc: Global,
         passage: Passage,
-        request: Result<Request, u8>,
+        request: PreparedRequest,
     ) -> Result<Vec<u8>, NoMemory>
         ensures ok { IfOk result (λ reply.
             H.answers self.old.0 (query_by passage request) reply.items self.new.0

@@ -17,14 +17,14 @@ pub struct LogEntry {
 }
 
 impl Model for LogEntry {
-    ghost use Rattle.shared_desk.specs.Answered.{query_by};
+    ghost use Rattle.streams.specs.Hearing.{query_of};
     ghost use Rattle.shared_desk.specs.Histories.{HistoryEntry};
 
     ghost Value = { HistoryEntry };
 
     ghost view = { λ e. record {
       connection = e.connection;
-      query = query_by e.passage e.request;
+      query = record { passage = e.passage; asked = query_of e.request };
       reply = e.reply;
     } };
 }

@@ -5,10 +5,11 @@ ghost use Rattle.shared_desk.specs.Histories.{Query};
 ghost use Rattle.shared_desk.specs.Answered.{query_by};
 
 use crate::passage::Passage;
+use accounts::Desk;
 use refusal::NoMemory;
 use sessions::Request;
 use std::alloc::Global;
-use streams::Handler;
+use streams::{PreparedRequest, Runner, TellingHandler, wants_admission};
 
 /// What answers a request at a desk that connections share, by the passage that it came by.
 pub trait SharedHandler<D> {
@@ -18,6 +19,10 @@ pub trait SharedHandler<D> {
     // From a desk and a handler, for what was asked, the reply and the desk and the handler after it.
     ghost answers: { D × Self → Query → List ℕ → D × Self → Type 0 };
 
+    /// Whether it is worth to admit the job of this request ahead of the answer, while others are at
+    /// the desk.
+    fn wants_admission(&self, desk: &D, request: &Request) -> bool;
+
     /// Answers what was asked by a passage, or the number of its refusal. Where the reply finds no
     /// memory, the request was still carried out.
     fn answer_by(
@@ -25,7 +30,7 @@ pub trait SharedHandler<D> {
         alloc: Global,
         desk: &mut D,
         passage: Passage,
-        request: Result<Request, u8>,
+        request: PreparedRequest,
     ) -> Result<Vec<u8>, NoMemory>
         requires { ready self.old }
         ensures ready { ready self.new }
@@ -35,21 +40,27 @@ pub trait SharedHandler<D> {
             × answers (desk.old, self.old) (query_by passage request) reply (desk.new, self.new)) };
 }
 
-/// A handler that answers all passages alike.
-impl<D, H: Handler<D>> SharedHandler<D> for H {
+/// A runner answers all passages alike.
+impl<N: Runner> SharedHandler<Desk> for N {
     ghost use Rattle.shared_desk.specs.Histories.{by_any_passage};
+    ghost use Rattle.streams.specs.Answering.{Answers};
 
-    ghost ready = { H.Handler.ready };
+    ghost ready = { N.Runner.ready };
 
-    ghost answers = { by_any_passage H.Handler.answers };
+    ghost answers = { by_any_passage (λ s query reply t.
+        Answers N.starts N.looks N.takes s.0 s.1 query reply t.0 t.1) };
+
+    fn wants_admission(&self, desk: &Desk, request: &Request) -> bool {
+        wants_admission(desk, request)
+    }
 
     fn answer_by(
         &mut self,
         alloc: Global,
-        desk: &mut D,
+        desk: &mut Desk,
         _passage: Passage,
-        request: Result<Request, u8>,
+        request: PreparedRequest,
     ) -> Result<Vec<u8>, NoMemory> {
-        self.answer(alloc, desk, request)
+        self.answer_and_tell(alloc, desk, request).1
     }
 }

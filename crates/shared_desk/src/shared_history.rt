@@ -13,12 +13,11 @@ use crate::seats::{
 };
 use atomic_table::{Seat, Table};
 use refusal::NoMemory;
-use sessions::Request;
 use std::alloc::Global;
 use std::marker::{Model, PhantomData};
 use std::mem;
 use std::snapshot::Snapshot;
-use streams::StreamFault;
+use streams::{PreparedRequest, StreamFault};
 
 /// An empty history that has no name yet, with its first seat.
 #[derive(Drop)]
@@ -175,7 +174,7 @@ impl<J: HistoryId> SharedHistory<J> {
         seat: &mut ClientSeat<J>,
         recorder: &mut Recorder<J>,
         passage: Passage,
-        request: &Snapshot<Result<Request, u8>>,
+        request: &Snapshot<PreparedRequest>,
         desk_before: &Snapshot<D>,
         handler_before: &Snapshot<H>,
         desk: &D,

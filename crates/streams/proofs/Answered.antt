@@ -1,5 +1,5 @@
 -- What was done, and its frame.
-use Rattle.std.proofs.Common.{◌≡◌, ◌⊎◌, ◌≤◌, ◌+◌, ◌-◌, ℕ, List, [], ◌∷◌, ◌++◌, length, length-append, slice_get, refl, sym, ◌∙◌, ap, subst, arith, nat_eq, if◌then◌else◌, false, Option, Some, None, Result, Ok, Err, OnOk, OnErr, IfOk, IfErr, inl, inr, unwrap_or, Vec}
+use Rattle.std.proofs.Common.{◌≡◌, ◌⊎◌, ◌≤◌, ◌+◌, ◌-◌, ℕ, List, [], ◌∷◌, ◌++◌, length, length-append, slice_get, refl, sym, ◌∙◌, ap, subst, arith, nat_eq, if◌then◌else◌, false, Option, Some, None, Result, Ok, Err, OnOk, OnErr, IfOk, IfErr, inl, inr, unwrap_or, MatchResult, Vec}
 use Rattle.std.proofs.lemmas.Bool.Decides.{nat_tests}
 use Rattle.std.specs.declared.alloc.Global.{Global}
 use Rattle.refusal.specs.declared.NoMemory.{NoMemory}
@@ -7,16 +7,21 @@ use Rattle.serde_json.specs.Data.{Data}
 use Rattle.credit_book.specs.declared.book.Report.{Report}
 use Rattle.credit_book.specs.declared.board.Progress.{Progress}
 use Rattle.job_core.specs.Admitted as core
+use Rattle.job_core.specs.Admission.{IsAdmittedFrom}
+use Rattle.job_core.specs.declared.admission.ProgramBytes.{ProgramBytes}
+use Rattle.job_core.specs.declared.admission.AdmitFault.{AdmitFault}
 use Rattle.accounts.specs.declared.fault.DeskFault.{DeskFault}
 use Rattle.accounts.specs.declared.fault.DeskFault.TheVariants as fault
 use Rattle.accounts.specs.declared.tenants.Account.{Account}
 use Rattle.accounts.specs.declared.jobs.JobEntry.{JobEntry}
 use Rattle.accounts.specs.Jobs.{job_at}
-use Rattle.accounts.specs.Ledgers.{Ledger, granted_to, most_granted, GrantsMore, RefusesGrant, Takes, Finishes, IsNotOpen, account_at}
+use Rattle.accounts.specs.declared.fault.SubmitFault.{SubmitFault}
+use Rattle.accounts.specs.Ahead.{IsAdmissionOf}
+use Rattle.accounts.specs.Ledgers.{Ledger, granted_to, most_granted, GrantsMore, RefusesGrant, RefusesSubmit, Takes, Finishes, IsNotOpen, account_at}
 use Rattle.sessions.specs.Grammar.{Asked}
-use Rattle.sessions.specs.Replies.{reply_data, frame_of}
+use Rattle.sessions.specs.Replies.{reply_data, frame_of, submit_data}
 use Rattle.streams.specs.Passing.{Passes}
-use Rattle.streams.specs.Answering.{Answers, Framed, Grants, GrantsNone, IsOpenJob, Replies, account_told}
+use Rattle.streams.specs.Answering.{Answers, Framed, Grants, GrantsNone, IsOpenJob, Replies, Settles, StartsTaken, Submits, account_told, submit_refused}
 
 -- a grant is made, or it isn't
 pub granted : (r : Result Account DeskFault) (desk after : Ledger) (name : List ℕ) (amount : ℕ) (told : Data) → told ≡ account_told r →
@@ -48,6 +53,36 @@ pub finished : {T : Type 0} (r : Result T DeskFault) (old new : Ledger) (number 
     OnOk r (Finishes old number outcome new) → IfErr r (λ e. (e ≡ fault.NoJob) × IsNotOpen old number) → Finishes old number outcome new
 finished (Ok x) old new number outcome there done refused = done
 finished (Err e) old new number outcome there done refused = absurd (refused.1 there.0 there.1 there.2)
+
+-- the job of a number is open, if one was taken
+pub opened_if : (r : Result (ℕ × core.AdmittedJob) SubmitFault) (old new : Ledger) (name : List ℕ) (credit : ℕ) → OnOk r (Takes old name credit new) → IfOk r (λ t. t.0 ≡ length new.jobs) → IfOk r (λ t. IsOpenJob new t.0)
+opened_if (Ok t) old new name credit takes is = opened old new name credit t.0 takes is
+opened_if (Err e) old new name credit takes is = tt
+
+-- a job that was taken was admitted
+pub admitted_if : (programs : List ProgramBytes) (credit : ℕ) (buffer : List ℕ) (a : Result core.AdmittedJob AdmitFault) (r : Result (ℕ × core.AdmittedJob) SubmitFault)
+    → IsAdmissionOf programs credit buffer a → IfOk r (λ t. a ≡ Ok t.1) → IfOk r (λ t. IsAdmittedFrom programs credit buffer t.1)
+admitted_if programs credit buffer a (Ok t) admission is = subst (IsAdmissionOf programs credit buffer) is admission
+admitted_if programs credit buffer a (Err e) admission is = tt
+
+-- what a submit comes to is a job that is taken and started, or one that isn't taken
+pub submits_by : {R : Type 0} (starts : R → ℕ → core.AdmittedJob → Result (Unit {0}) ℕ → R → Type 0) (r : Result (ℕ × core.AdmittedJob) SubmitFault) (desk mid : Ledger) (runner : R) (name : List ℕ) (programs : List ProgramBytes) (credit : ℕ) (buffer : List ℕ)
+    → OnOk r (Takes desk name credit mid) → IfOk r (λ t. t.0 ≡ length mid.jobs) → IfOk r (λ t. IsAdmittedFrom programs credit buffer t.1)
+    → IfErr r (λ e. RefusesSubmit desk name programs credit buffer e) → OnErr r (mid ≡ desk) → (told : Data) (after : Ledger) (left : R)
+    → MatchResult r (λ t. StartsTaken starts mid runner t.0 t.1 told after left) (λ fault. (after ≡ mid) × (left ≡ runner) × (told ≡ submit_refused fault))
+    → Submits starts desk runner name programs credit buffer told after left
+submits_by starts (Ok t) desk mid runner name programs credit buffer takes number admitted why same told after left done = inl (record {
+  mid = mid;
+  takes = takes;
+  job = t.1;
+  admitted = admitted;
+  outcome = done.outcome;
+  starts_job = subst (λ (n : ℕ). starts runner n t.1 done.outcome left) number done.starts_job;
+  settles = subst (λ (n : ℕ). Settles mid n done.outcome after) number done.settles;
+  tells = done.tells ∙ ap submit_data number;
+})
+submits_by starts (Err e) desk mid runner name programs credit buffer takes number admitted why same told after left done =
+    inr (record { fault = e; why = why; same = done.0 ∙ same; same_runner = done.1; tells = done.2 })
 
 -- what was done is told by the same frame, in other words
 pub framed_as : (r : Result (Vec ℕ Global) NoMemory) (P Q : Data → Type 0) → ((d : Data) → P d → Q d) → Framed r P → Framed r Q

@@ -70,6 +70,15 @@ abbrev pub Settles : Ledger → ℕ → Result (Unit {0}) ℕ → Ledger → Typ
 Settles desk number (Ok started) after = after ≡ desk
 Settles desk number (Err code) after = Finishes desk number (Err code) after
 
+-- a job that was taken under this number is started, and the number is told
+pub record StartsTaken {R : Type 0} (starts : R → ℕ → core.AdmittedJob → Result (Unit {0}) ℕ → R
+    → Type 0) (desk : Ledger) (runner : R) (number : ℕ) (job : core.AdmittedJob) (told : Data)
+    (after : Ledger) (left : R) : Type 0 where
+  pub outcome : Result (Unit {0}) ℕ
+  pub starts_job : starts runner number job outcome left
+  pub settles : Settles desk number outcome after
+  pub tells : told ≡ submit_data number
+
 -- a job is taken, and started under its number, which is told
 pub record TakesJob {R : Type 0} (starts : R → ℕ → core.AdmittedJob → Result (Unit {0}) ℕ → R
     → Type 0) (desk : Ledger) (runner : R) (name : List ℕ) (programs : List ProgramBytes)

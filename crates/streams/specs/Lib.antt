@@ -7,3 +7,4 @@ pub mod Answering
 pub mod LedgerReplies
 pub mod Inline
 pub mod Refusing
+pub mod Prepared

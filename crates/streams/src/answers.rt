@@ -3,14 +3,16 @@
 ghost use Rattle.std.specs.Prelude.{IfOk, List, ℕ, Ok, OnErr};
 ghost use Rattle.sessions.specs.Grammar.{request_asked};
 ghost use Rattle.streams.specs.Answering.{Answers, Framed, Replies};
-ghost use Rattle.streams.specs.Hearing.{query_of};
+ghost use Rattle.streams.specs.Prepared.{asked_of};
 ghost use Rattle.streams.specs.Refusing.{TellsRefusal};
 
 use crate::finished::pass_finished;
 use crate::forms::{
-    answer_account, answer_grant, answer_result, answer_status, answer_submit, refused,
+    answer_account, answer_admitted, answer_grant, answer_result, answer_status, answer_submit,
+    refused,
 };
 use crate::handler::{Handler, TellingHandler};
+use crate::prepared_request::PreparedRequest;
 use crate::runner::Runner;
 use crate::submit_refusal::SubmitRefusal;
 use accounts::Desk;
@@ -53,18 +55,19 @@ fn reply_to<N: Runner>(
     alloc: Global,
     desk: &mut Desk,
     runner: &mut N,
-    request: Result<Request, u8>,
+    request: PreparedRequest,
 ) -> (Option<SubmitRefusal>, Result<Vec<u8>, NoMemory>)
     requires { N.ready runner.old }
     ensures ready { N.ready runner.new }
-    ensures refusal { TellsRefusal (query_of request) result.0 result.1 }
+    ensures refusal { TellsRefusal (asked_of request) result.0 result.1 }
     ensures done { Framed result.1
-        (λ told. Replies N.starts N.looks desk.old runner.old (query_of request) told desk.new
+        (λ told. Replies N.starts N.looks desk.old runner.old (asked_of request) told desk.new
         runner.new) }
 {
     match request {
-        Ok(request) => carry_out(alloc, desk, runner, request),
-        Err(code) => (None, reply_frame(alloc, &refused(code))),
+        PreparedRequest::AsItCame(Ok(request)) => carry_out(alloc, desk, runner, request),
+        PreparedRequest::AsItCame(Err(code)) => (None, reply_frame(alloc, &refused(code))),
+        PreparedRequest::Submit(submit) => answer_admitted(alloc, desk, runner, submit),
     }
 }
 
@@ -73,15 +76,15 @@ fn answer_by_runner<N: Runner>(
     alloc: Global,
     desk: &mut Desk,
     runner: &mut N,
-    request: Result<Request, u8>,
+    request: PreparedRequest,
 ) -> (Option<SubmitRefusal>, Result<Vec<u8>, NoMemory>)
     requires { N.ready runner.old }
     ensures ready { N.ready runner.new }
-    ensures refusal { TellsRefusal (query_of request) result.0 result.1 }
+    ensures refusal { TellsRefusal (asked_of request) result.0 result.1 }
     ensures ok { IfOk result.1 (λ reply. Answers N.starts N.looks N.takes desk.old runner.old
-        (query_of request) reply.items desk.new runner.new) }
+        (asked_of request) reply.items desk.new runner.new) }
     ensures err { OnErr result.1 ((reply : List ℕ) × Answers N.starts N.looks N.takes desk.old
-        runner.old (query_of request) reply desk.new runner.new) }
+        runner.old (asked_of request) reply desk.new runner.new) }
 {
     pass_finished(desk, runner);
     reply_to(alloc, desk, runner, request)
@@ -101,7 +104,7 @@ impl<N: Runner> Handler<Desk> for N {
         desk: &mut Desk,
         request: Result<Request, u8>,
     ) -> Result<Vec<u8>, NoMemory> {
-        answer_by_runner(alloc, desk, self, request).1
+        answer_by_runner(alloc, desk, self, PreparedRequest::AsItCame(request)).1
     }
 }
 
@@ -110,7 +113,7 @@ impl<N: Runner> TellingHandler<Desk> for N {
         &mut self,
         alloc: Global,
         desk: &mut Desk,
-        request: Result<Request, u8>,
+        request: PreparedRequest,
     ) -> (Option<SubmitRefusal>, Result<Vec<u8>, NoMemory>) {
         answer_by_runner(alloc, desk, self, request)
     }

@@ -1,16 +1,17 @@
 //! One answer for each form of request.
 
-ghost use Rattle.std.specs.Prelude.{◌≡◌, ◌⊎◌, ℕ, IfOk, None, Result};
+ghost use Rattle.std.specs.Prelude.{◌≡◌, ◌⊎◌, ℕ, IfOk, MatchResult, None, Ok, Result};
 ghost use Rattle.credit_book.specs.declared.board.Progress.{Progress};
 ghost use Rattle.accounts.specs.Ledgers.{account_at, progress_at, report_at};
 ghost use Rattle.sessions.specs.Replies.{frame_or_refusal, reply_data, submit_data};
 ghost use Rattle.sessions.specs.declared.reply.Reply.TheVariants.{Refused};
-ghost use Rattle.streams.specs.Answering.{Framed, Grants, GrantsNone, IsOpenJob, Settles, Submits, account_told, progress_told, report_told};
-ghost use Rattle.streams.specs.Refusing.{SaysRefusal};
+ghost use Rattle.streams.specs.Answering.{Framed, Grants, GrantsNone, IsOpenJob, Replies, Settles, StartsTaken, Submits, account_told, progress_told, report_told, submit_refused};
+ghost use Rattle.streams.specs.Refusing.{SaysRefusal, TellsRefusal};
 
+use crate::prepared_request::AdmittedSubmit;
 use crate::runner::Runner;
 use crate::submit_refusal::SubmitRefusal;
-use accounts::{Account, Desk, DeskFault};
+use accounts::{Account, Desk, DeskFault, SubmitFault};
 use job_core::{Job, ProgramBytes};
 use refusal::NoMemory;
 use sessions::{Reply, reply_frame};
@@ -96,6 +97,41 @@ fn refused_start(job: u64, started: Result<(), u8>) -> Option<SubmitRefusal>
     }
 }
 
+// Starts a job that was taken, and tells its number; or tells why it wasn't.
+fn answer_taken<N: Runner>(
+    alloc: Global,
+    desk: &mut Desk,
+    runner: &mut N,
+    taken: Result<(u64, Job), SubmitFault>,
+) -> (Option<SubmitRefusal>, Result<Vec<u8>, NoMemory>)
+    requires ready { N.ready runner.old }
+    requires open { IfOk taken (λ t. IsOpenJob desk.old t.0) }
+    ensures ready { N.ready runner.new }
+    ensures done { Framed result.1 (λ told. MatchResult taken
+        (λ t. StartsTaken N.starts desk.old runner.old t.0 t.1 told desk.new runner.new)
+        (λ fault. (desk.new ≡ desk.old) × (runner.new ≡ runner.old)
+        × (told ≡ submit_refused fault))) }
+    ensures refusal { IfOk result.1 (λ frame. SaysRefusal result.0 frame.items) }
+{
+    match taken {
+        Ok((number, job)) => {
+            let started = start_job(alloc, desk, runner, number, job);
+            let reply = reply_frame(alloc, &Reply::Submit { job: number });
+            (refused_start(number, started), reply)
+        }
+        Err(fault) => {
+            let code = fault.code();
+            let refusal = Reply::Refused {
+                code,
+                program: fault.program(),
+                slot: fault.slot(),
+            };
+            let reply = reply_frame(alloc, &refusal);
+            (Some(SubmitRefusal::NotTaken { code }), reply)
+        }
+    }
+}
+
 /// Takes a job and starts it, and tells its number. A start that is refused ends the job at once
 /// with its number. Beside the reply it tells why the job doesn't run.
 pub fn answer_submit<N: Runner>(
@@ -114,23 +150,34 @@ pub fn answer_submit<N: Runner>(
         buffer.items told desk.new runner.new) }
     ensures refusal { IfOk result.1 (λ frame. SaysRefusal result.0 frame.items) }
 {
-    match desk.submit(alloc, tenant, programs, credit, buffer) {
-        Ok((number, job)) => {
-            let started = start_job(alloc, desk, runner, number, job);
-            let reply = reply_frame(alloc, &Reply::Submit { job: number });
-            (refused_start(number, started), reply)
-        }
-        Err(fault) => {
-            let code = fault.code();
-            let refusal = Reply::Refused {
-                code,
-                program: fault.program(),
-                slot: fault.slot(),
-            };
-            let reply = reply_frame(alloc, &refusal);
-            (Some(SubmitRefusal::NotTaken { code }), reply)
-        }
-    }
+    let taken = desk.submit(alloc, tenant, programs, credit, buffer);
+    answer_taken(alloc, desk, runner, taken)
+}
+
+/// The same of a job that was admitted or refused ahead.
+pub fn answer_admitted<N: Runner>(
+    alloc: Global,
+    desk: &mut Desk,
+    runner: &mut N,
+    submit: AdmittedSubmit,
+) -> (Option<SubmitRefusal>, Result<Vec<u8>, NoMemory>)
+    requires { N.ready runner.old }
+    ensures ready { N.ready runner.new }
+    ensures done { Framed result.1
+        (λ told. Replies N.starts N.looks desk.old runner.old (Ok submit) told desk.new runner.new) }
+    ensures refusal { TellsRefusal (Ok submit) result.0 result.1 }
+{
+    let AdmittedSubmit {
+        tenant,
+        programs,
+        credit,
+        admitted,
+        buffer,
+    } = submit;
+    let taken = desk.take(alloc, &tenant, credit, admitted);
+    let told = answer_taken(alloc, desk, runner, taken);
+    let _ = (programs, buffer);
+    told
 }
 
 /// Tells how far a job is; while it is open, what the runner's look tells.

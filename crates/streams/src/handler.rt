@@ -3,8 +3,10 @@
 ghost use Rattle.std.specs.Prelude.{ℕ, List, Result, IfOk, OnErr};
 ghost use Rattle.sessions.specs.Grammar.{Asked};
 ghost use Rattle.streams.specs.Hearing.{query_of};
+ghost use Rattle.streams.specs.Prepared.{asked_of};
 ghost use Rattle.streams.specs.Refusing.{TellsRefusal};
 
+use crate::prepared_request::PreparedRequest;
 use crate::submit_refusal::SubmitRefusal;
 use refusal::NoMemory;
 use sessions::Request;
@@ -36,21 +38,22 @@ pub trait Handler<D> {
             × answers (desk.old, self.old) (query_of request) reply (desk.new, self.new)) };
 }
 
-/// A handler that also tells why a job that was asked for doesn't run.
+/// A handler that also takes requests whose jobs were admitted ahead, and tells why a job that was
+/// asked for doesn't run.
 pub trait TellingHandler<D>: Handler<D> {
     /// Answers as `answer` does. Beside the reply it tells why a job that was asked for doesn't run.
     fn answer_and_tell(
         &mut self,
         alloc: Global,
         desk: &mut D,
-        request: Result<Request, u8>,
+        request: PreparedRequest,
     ) -> (Option<SubmitRefusal>, Result<Vec<u8>, NoMemory>)
         requires { Self.ready self.old }
         ensures ready { Self.ready self.new }
         ensures ok { IfOk result.1
-            (λ reply. Self.answers (desk.old, self.old) (query_of request) reply.items
+            (λ reply. Self.answers (desk.old, self.old) (asked_of request) reply.items
             (desk.new, self.new)) }
         ensures err { OnErr result.1 ((reply : List ℕ)
-            × Self.answers (desk.old, self.old) (query_of request) reply (desk.new, self.new)) }
-        ensures refusal { TellsRefusal (query_of request) result.0 result.1 };
+            × Self.answers (desk.old, self.old) (asked_of request) reply (desk.new, self.new)) }
+        ensures refusal { TellsRefusal (asked_of request) result.0 result.1 };
 }

@@ -22,10 +22,12 @@ pub use serve::serve_stream;
 mod answers;
 mod finished;
 mod forms;
+mod prepared_request;
 mod runner;
 mod submit_refusal;
 
 pub use finished::pass_finished;
+pub use prepared_request::{AdmittedSubmit, PreparedRequest, prepare, wants_admission};
 pub use runner::Runner;
 pub use submit_refusal::SubmitRefusal;
 

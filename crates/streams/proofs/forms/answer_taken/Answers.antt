@@ -1,0 +1,37 @@
+use Rattle.std.proofs.Common.{refl, sym, subst}
+use Rattle.std.proofs.lemmas.Result.{IfOk-weaker}
+use Rattle.sessions.specs.declared.reply.Reply.TheVariants.{Submit, Refused}
+use Rattle.streams.specs.Refusing.{SaysRefusal}
+use Rattle.streams.proofs.forms.answer_taken.Goals as goal
+
+pub returns-in-Ok-clause-done : goal.returns-in-Ok-clause-done
+returns-in-Ok-clause-done g c =
+    let started = c.start_job-started.ensures.started in
+    record {
+      told = Submit c.in-Ok.number;
+      was = rw c.in-Ok.is (record {
+        outcome = c.start_job-started.result;
+        starts_job = started.0;
+        settles = started.1;
+        tells = refl;
+      });
+      frame = c.reply_frame-reply.ensures;
+    }
+
+pub returns-in-Err-clause-done : goal.returns-in-Err-clause-done
+returns-in-Err-clause-done g c = record {
+  told = Refused c.code-code.result c.program.result c.slot.result;
+  was = rw c.in-Err.is (refl, refl, rw (c.code-code.ensures, c.program.ensures, c.slot.ensures) refl);
+  frame = c.reply_frame-reply-in-Err.ensures;
+}
+
+pub returns-in-Ok-clause-refusal : goal.returns-in-Ok-clause-refusal
+returns-in-Ok-clause-refusal g c =
+    IfOk-weaker c.reply_frame-reply.result _ _
+    (λ frame is. subst (SaysRefusal c.refused_start.result) (sym is) c.refused_start.ensures)
+    c.reply_frame-reply.ensures
+
+pub returns-in-Err-clause-refusal : goal.returns-in-Err-clause-refusal
+returns-in-Err-clause-refusal g c =
+    IfOk-weaker c.reply_frame-reply-in-Err.result _ _ (λ frame is. (c.program.result, c.slot.result, is))
+    c.reply_frame-reply-in-Err.ensures

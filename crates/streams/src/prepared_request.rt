@@ -1,0 +1,77 @@
+//! Requests whose jobs are admitted ahead of the desk.
+
+ghost use Rattle.std.specs.Prelude.{◌≡◌, Ok};
+ghost use Rattle.sessions.specs.Grammar.{request_asked};
+ghost use Rattle.streams.specs.Prepared.{asked_of};
+
+use accounts::Desk;
+use job_core::{AdmitFault, Job, ProgramBytes, admit};
+use sessions::Request;
+use std::alloc::Global;
+use std::marker::Model;
+use std::snapshot::Snapshot;
+
+/// A request for a job, which was admitted or refused. Contracts see it as what was asked.
+#[derive(Drop)]
+pub struct AdmittedSubmit {
+    pub(crate) tenant: String,
+    pub(crate) programs: Vec<ProgramBytes>,
+    pub(crate) credit: u32,
+    pub(crate) admitted: Result<Job, AdmitFault>,
+    pub(crate) buffer: Snapshot<Vec<u8>>,
+}
+
+impl Model for AdmittedSubmit {
+    ghost use Rattle.accounts.specs.Ahead.{IsAdmissionOf};
+    ghost use Rattle.sessions.specs.Grammar.{Asked};
+    ghost use Rattle.streams.specs.Prepared.{submit_asked};
+
+    ghost Value = { Asked };
+
+    ghost view = { λ s. submit_asked s.tenant s.programs.items s.credit s.buffer.value.items };
+
+    ghost invariant = { λ s. IsAdmissionOf s.programs.items s.credit s.buffer.value.items
+        s.admitted };
+}
+
+/// A request as it came, or the number of its refusal; or one for a job, which was admitted or
+/// refused ahead.
+#[derive(Drop)]
+pub enum PreparedRequest {
+    AsItCame(Result<Request, u8>),
+    Submit(AdmittedSubmit),
+}
+
+/// Whether a request is one for a job that the desk would take now, but for its admission. Then it
+/// is worth to admit it ahead.
+pub fn wants_admission(desk: &Desk, request: &Request) -> bool {
+    match request {
+        Request::Submit { tenant, credit, .. } => desk.may_submit(tenant, *credit).is_ok(),
+        _ => false,
+    }
+}
+
+/// The same request, whose job is admitted or refused, if it is one for a job.
+pub fn prepare(alloc: Global, request: Request) -> PreparedRequest
+    ensures { asked_of result ≡ Ok (request_asked request) }
+{
+    match request {
+        Request::Submit {
+            tenant,
+            programs,
+            credit,
+            buffer,
+        } => {
+            let before = Snapshot::of(&buffer);
+            let admitted = admit(alloc, &programs, credit, buffer);
+            PreparedRequest::Submit(AdmittedSubmit {
+                tenant,
+                programs,
+                credit,
+                admitted,
+                buffer: before,
+            })
+        }
+        other => PreparedRequest::AsItCame(Ok(other)),
+    }
+}
