@@ -2,13 +2,14 @@
 
 import json
 import os
+import select
 import socket
 import subprocess
 import threading
 import time
 import unittest
 
-from programs import IS_SLOW, PATIENCE, Server, frame, is_read, submit_text
+from programs import IS_SLOW, PATIENCE, Server, assemble, frame, is_read, submit_text
 from rows import code_of
 from test_server import dialog, is_later, texts_of
 
@@ -21,6 +22,12 @@ ADD = "mov64 r0, 40 / add64 r0, 2 / exit"
 
 def told(reply):
     return json.dumps(reply, sort_keys=True, separators=(",", ":"))
+
+
+def dear_code():
+    """A program of 4,096 slots that stores and loads all along, whose verdict takes long."""
+    ahead = "mov64 r0, 0\nmov64 r1, 0\n"
+    return assemble(ahead + "stxdw [r10-8], r1\nldxdw r1, [r10-8]\n" * 2_046 + "mov64 r0, 0\nexit\n")
 
 
 def threads_of(server):
@@ -285,6 +292,27 @@ class Clients(unittest.TestCase):
             for stream in (silent, within, client.stream):
                 stream.close()
             self.assertEqual(server.status(), 0)
+
+    def test_nobody_waits_while_a_job_is_verified(self):
+        """The longest that an account is waited for is short beside what another client's submit takes, most of which is its verdict."""
+        dear = submit_text([(0, dear_code())] * 15 + [(0, b"")], 10, b"", tenant="dear")
+        with Server(more=["--clients", 2]) as server:
+            asking, submitting = Client(server), Client(server)
+            for tenant in ("t", "dear"):
+                asking.ask({"op": "grant", "tenant": tenant, "amount": 100})
+            shares = []
+            for _ in range(5):
+                asking.slowest, began = 0.0, time.monotonic()
+                submitting.stream.sendall(frame(dear))
+                while not select.select([submitting.stream], [], [], 0)[0]:
+                    self.assertEqual(asking.ask({"op": "account", "tenant": "t"})["balance"], 100)
+                shares.append(asking.slowest / (time.monotonic() - began))
+                length = int.from_bytes(is_read(submitting.stream, 4), "big")
+                refusal = json.loads(is_read(submitting.stream, length))
+                self.assertEqual((refusal["code"], refusal["program"]), (1, 15))
+            asking.stream.close()
+            submitting.stream.close()
+            self.assertLess(min(shares), 0.4, shares)
 
     def test_as_many_as_there_are_places(self):
         """One more waits until a place is free."""
