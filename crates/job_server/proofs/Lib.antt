@@ -10,3 +10,4 @@ pub mod StaysOver
 pub mod WentOver
 pub mod RefusedResults
 pub mod FromSubmit
+pub mod NoFlag

@@ -4,3 +4,4 @@ pub mod Addresses
 pub mod Listening
 pub mod EndToEnd
 pub mod Payloads
+pub mod Stopping

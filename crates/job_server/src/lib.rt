@@ -25,6 +25,7 @@ mod noted_ends;
 mod stop_flag;
 mod timed_listener;
 mod timed_reader;
+mod timed_stream;
 
 pub use bounds::Bounds;
 pub use keeping_handler::KeepingHandler;

@@ -31,7 +31,9 @@ impl StopFlag {
 }
 
 /// Whether there is a flag that was raised.
-pub(crate) fn is_stopped(stop: Option<&StopFlag>) -> bool {
+pub(crate) fn is_stopped(stop: Option<&StopFlag>) -> bool
+    ensures { is_some stop.entry ≡ false → result ≡ false }
+{
     match stop {
         Some(flag) => flag.is_raised(),
         None => false,

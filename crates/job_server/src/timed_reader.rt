@@ -1,7 +1,8 @@
 //! A reader of a connection that waits no longer than a host allows.
 
 use crate::frame_place::FramePlace;
-use crate::stop_flag::{StopFlag, is_stopped};
+use crate::stop_flag::StopFlag;
+use crate::timed_stream::{FlaggedStream, StoppableStream};
 use std::io;
 use std::io::{ErrorKind, Read};
 use std::net::TcpStream;
@@ -19,37 +20,60 @@ pub struct Waiting<'a> {
 // How many milliseconds a read waits until it looks at the flag.
 const LOOK: u64 = 200;
 
-/// Reads a connection. A read fails that waits too long, or once a frame is not whole in time. It
-/// gives no byte once a host's flag is raised.
+/// Reads a connection: the bytes of its stream, up to where a host stops it. A read fails that waits
+/// too long, or once a frame is not whole in time.
 #[derive(Drop)]
-pub(crate) struct TimedReader<'a, R> {
+pub(crate) struct TimedReader<'a, R, S = FlaggedStream<'a, &'a TcpStream>> {
     rt: &'a R,
-    stream: &'a TcpStream,
-    waiting: Waiting<'a>,
+    stream: S,
+    seconds: u32,
     place: FramePlace,
     due: Option<Instant>,
 }
 
 impl<'a, R> TimedReader<'a, R> {
+    ghost use Rattle.std.specs.Prelude.{◌≡◌};
+
     /// A reader of a connection of which nothing was read.
-    pub fn new(rt: &'a R, stream: &'a TcpStream, waiting: Waiting<'a>) -> TimedReader<'a, R> {
+    pub fn new(rt: &'a R, stream: &'a TcpStream, waiting: Waiting<'a>) -> TimedReader<'a, R>
+        ensures { (result.stream.stop ≡ waiting.entry.stop)
+            × (result.seconds ≡ waiting.entry.seconds) }
+    {
+        TimedReader::over(
+            rt,
+            FlaggedStream::new(stream, waiting.stop),
+            waiting.seconds,
+        )
+    }
+}
+
+impl<'a, R, S> TimedReader<'a, R, S> {
+    ghost use Rattle.std.specs.Prelude.{◌≡◌};
+
+    /// A reader of a stream of which nothing was read, and the seconds that a read may wait; 0: any
+    /// time.
+    pub fn over(rt: &'a R, stream: S, seconds: u32) -> TimedReader<'a, R, S>
+        ensures { (result.stream ≡ stream) × (result.seconds ≡ seconds) }
+    {
         TimedReader {
             rt,
             stream,
-            waiting,
+            seconds,
             place: FramePlace::between(),
             due: None,
         }
     }
 }
 
-impl<R: Clock> TimedReader<'_, R> {
+impl<R: Clock, S: StoppableStream> TimedReader<'_, R, S> {
+    ghost use Rattle.std.specs.Prelude.{◌≡◌};
+
     // When what is waited for from now on has to be there, if there is a limit, and a clock.
     fn due_from_now(&self) -> Option<Instant> {
-        if self.waiting.seconds == 0 {
+        if self.seconds == 0 {
             return None;
         }
-        let limit = Duration::from_secs(u64::from(self.waiting.seconds));
+        let limit = Duration::from_secs(u64::from(self.seconds));
         Instant::now(self.rt).ok()?.checked_add(limit)
     }
 
@@ -62,19 +86,21 @@ impl<R: Clock> TimedReader<'_, R> {
                 _ => return Err(io::Error::from(ErrorKind::TimedOut)),
             }
         }
-        if self.waiting.stop.is_some() {
+        if self.stream.may_stop() {
             let look = Duration::from_millis(LOOK);
             wait = match wait {
                 Some(left) if left < look => Some(left),
                 _ => Some(look),
             };
         }
-        self.stream.set_read_timeout(wait)
+        self.stream.set_wait(wait)
     }
 
     // Notes what was read: a frame that began in it and isn't whole has its time from now on. It can't
     // fail: what was read is never lost.
-    fn note(&mut self, piece: &[u8]) {
+    fn note(&mut self, piece: &[u8])
+        ensures { self.new.stream ≡ self.old.stream }
+    {
         let frames = self.place.behind(piece);
         self.place = frames.place;
         if !frames.place.is_within() {
@@ -85,22 +111,24 @@ impl<R: Clock> TimedReader<'_, R> {
     }
 }
 
-impl<R: Clock> Read for TimedReader<'_, R> {
+impl<R: Clock, S: StoppableStream> Read for TimedReader<'_, R, S> {
+    ghost remaining = { λ r. S.remaining r.stream };
+
     fn read(&mut self, piece: &mut [u8]) -> io::Result<usize> {
-        if self.waiting.seconds == 0 && self.waiting.stop.is_none() {
-            return (&*self.stream).read(piece);
+        if self.seconds == 0 && !self.stream.may_stop() {
+            return self.stream.read(piece);
         }
         let due = if self.place.is_within() {
             self.due
         } else {
             self.due_from_now()
         };
-        for _ in 0..u64::MAX {
-            if is_stopped(self.waiting.stop) {
+        'trying: for _ in 0..u64::MAX {
+            if self.stream.is_stopped() {
                 return Ok(0);
             }
             self.set_wait(due)?;
-            match (&*self.stream).read(piece) {
+            match self.stream.read(piece) {
                 Ok(count) => {
                     self.note(&piece[..count]);
                     return Ok(count);

@@ -1,5 +1,5 @@
 -- The lines of a server's log, as text.
-use Rattle.std.specs.Prelude.{ℕ, List, [], ◌++◌, codes, ◌==◌, if◌then◌else◌}
+use Rattle.std.specs.Prelude.{◌≡◌, flat_map, ℕ, List, [], ◌++◌, codes, ◌==◌, if◌then◌else◌}
 use Rattle.std.specs.Fmt.{decimal}
 use Rattle.shared_desk.specs.Doors.{door_text}
 use Rattle.server_log.specs.declared.log_line.ConnectionEnd.{ConnectionEnd}
@@ -65,3 +65,7 @@ log_text line =
     codes "{\"time\":" ++ (decimal line.time
     ++ (codes ",\"event\":" ++ (event_text line.event
     ++ (lost_text line.lost ++ codes "}\n"))))
+
+-- whole lines, one after the other
+abbrev pub AreLines : List ℕ → Type 0
+AreLines text = (lines : List LogLine) × (text ≡ flat_map log_text lines)

@@ -1,5 +1,9 @@
 //! The log of a server: lines that wait for who writes them, and nobody who waits for that.
 
+ghost use Rattle.std.specs.Prelude.{◌≡◌, ◌⊎◌, ◌++◌, ◌/◌, ◌-◌, ◌^◌, min, false, is_some, string_bytes};
+ghost use Rattle.std.specs.Duration.{as_nanos};
+ghost use Rattle.server_log.specs.LogLines.{AreLines, log_text};
+
 use crate::log_line::{LogEvent, LogLine};
 use crossbeam_channel::{Receiver, Sender, bounded};
 use refusal::NoMemory;
@@ -85,7 +89,9 @@ pub fn open_log(alloc: Global) -> Result<(ServerLog, LogLines), NoMemory> {
 }
 
 // Milliseconds, which stay at `2^64 - 1`.
-fn millis(time: Duration) -> u64 {
+fn millis(time: Duration) -> u64
+    ensures { result ≡ min (as_nanos time / 1_000_000) (2 ^ 64 - 1) }
+{
     u64::try_from(time.as_millis()).unwrap_or(u64::MAX)
 }
 
@@ -98,7 +104,9 @@ fn now<R: Clock>(rt: &R) -> u64 {
 }
 
 /// How long something took that began then, in milliseconds; 0 where the clock can't be read.
-pub fn millis_since<R: Clock>(rt: &R, begun: Option<Instant>) -> u64 {
+pub fn millis_since<R: Clock>(rt: &R, begun: Option<Instant>) -> u64
+    ensures { is_some begun ≡ false → result ≡ 0 }
+{
     match (begun, Instant::now(rt)) {
         (Some(begun), Ok(ended)) => millis(ended.duration_since(begun)),
         _ => 0,
@@ -127,7 +135,10 @@ impl ServerLog {
 }
 
 // Adds a line to a text. Where there is no memory for it, it counts as lost.
-fn put_line(alloc: Global, text: &mut String, line: LogLine, losses: &Losses) {
+fn put_line(alloc: Global, text: &mut String, line: LogLine, losses: &Losses)
+    ensures { (string_bytes text.new ≡ string_bytes text.old ++ log_text line)
+        ⊎ (string_bytes text.new ≡ string_bytes text.old) }
+{
     let is_put = match format!(in alloc; "{line}") {
         Ok(written) => text.push_str(written.as_str()).is_ok(),
         Err(_) => false,
@@ -139,10 +150,12 @@ fn put_line(alloc: Global, text: &mut String, line: LogLine, losses: &Losses) {
 
 impl LogLines {
     // The lines that wait behind this one, up to a batch, as text.
-    fn batch<R: Wait>(&self, rt: &R, alloc: Global, first: LogLine) -> String {
+    fn batch<R: Wait>(&self, rt: &R, alloc: Global, first: LogLine) -> String
+        ensures { AreLines (string_bytes result) }
+    {
         let mut text = String::new(alloc);
         put_line(alloc, &mut text, first, &self.losses);
-        for _ in 1..BATCH_LEN {
+        'putting: for _ in 1..BATCH_LEN {
             match self.queue.try_recv(rt) {
                 Ok(line) => put_line(alloc, &mut text, line, &self.losses),
                 Err(_) => break,

@@ -1,0 +1,85 @@
+//! Streams whose reads wait so long at most, and that a host may stop.
+
+ghost use Rattle.std.specs.Prelude.{◌≡◌, true, is_some};
+ghost use Rattle.job_server.specs.Stopping.{left_unless};
+ghost use Rattle.std.specs.Io.{ReadsAtMost};
+ghost use Rattle.std.specs.Io.KnownBytes.{IsAtEnd, ReadConsumes};
+
+use crate::stop_flag::{StopFlag, is_stopped};
+use std::io;
+use std::io::Read;
+use std::net::TcpStream;
+use std::time::Duration;
+
+/// A stream whose reads can be made to wait no longer than a time.
+pub(crate) trait TimedStream: Read {
+    /// Lets each read from now on wait so long, and fail then by `WouldBlock`; `None`: any time.
+    fn set_wait(&self, wait: Option<Duration>) -> io::Result<()>;
+}
+
+impl TimedStream for &TcpStream {
+    fn set_wait(&self, wait: Option<Duration>) -> io::Result<()> {
+        self.set_read_timeout(wait)
+    }
+}
+
+/// A stream that a host may stop. It then ends, whatever its peer still sends: the bytes that it has
+/// left are those that it gives before.
+pub(crate) trait StoppableStream: TimedStream {
+    /// True where a host may stop it while a read waits.
+    fn may_stop(&self) -> bool;
+
+    /// True once a host has stopped it: no byte is left then.
+    fn is_stopped(&self) -> bool
+        ensures { result ≡ true → IsAtEnd (Self.remaining self.now) };
+}
+
+/// A stream that a flag stops, if there is one.
+#[derive(Drop)]
+pub(crate) struct FlaggedStream<'a, S> {
+    stream: S,
+    stop: Option<&'a StopFlag>,
+}
+
+impl<'a, S> FlaggedStream<'a, S> {
+    /// This stream, with this flag.
+    pub fn new(stream: S, stop: Option<&'a StopFlag>) -> FlaggedStream<'a, S>
+        ensures { (result.stream ≡ stream) × (result.stop ≡ stop.entry) }
+    {
+        FlaggedStream { stream, stop }
+    }
+}
+
+/// Gives what the stream gives. With a flag, the number of bytes that come before it is raised isn't
+/// known.
+impl<S: Read> Read for FlaggedStream<'_, S> {
+    ghost remaining = { λ s. left_unless s.stop (S.remaining s.stream) };
+
+    fn read(&mut self, piece: &mut [u8]) -> io::Result<usize>
+        ensures bound { ReadsAtMost result piece.new }
+        ensures bytes { ReadConsumes (left_unless self.old.stop (S.remaining self.old.stream))
+            (left_unless self.new.stop (S.remaining self.new.stream)) result piece.new }
+        ensures gives { ReadConsumes (S.remaining self.old.stream) (S.remaining self.new.stream)
+            result piece.new }
+    {
+        self.stream.read(piece)
+    }
+}
+
+impl<S: TimedStream> TimedStream for FlaggedStream<'_, S> {
+    fn set_wait(&self, wait: Option<Duration>) -> io::Result<()> {
+        self.stream.set_wait(wait)
+    }
+}
+
+impl<S: TimedStream> StoppableStream for FlaggedStream<'_, S> {
+    fn may_stop(&self) -> bool
+        ensures { result ≡ is_some self.now.stop }
+    {
+        self.stop.is_some()
+    }
+
+    fn is_stopped(&self) -> bool {
+        is_stopped(self.stop)
+    }
+}
