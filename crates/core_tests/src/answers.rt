@@ -2,13 +2,13 @@
 //!
 //! | Question | Answer |
 //! |---|---|
-//! | `order` | the graph's order, or its refusal; of a long list the first 16 numbers and the last |
+//! | `order` | the graph's order, of a long one the first 16 numbers and the last; or its refusal |
 //! | `lists SLOT ..` | whether these are an order of the program's instructions |
-//! | `alone STEPS CREDIT MEMORY ARITY ..` | R0, the credit used and the memory then, by the reference alone, or the trap |
-//! | `task CREDIT MEMORY` | the same of a job of one task by the reference |
+//! | `task CREDIT MEMORY` | a job of one task by the reference: R0, what was used, its memory |
+//! | `alone STEPS CREDIT MEMORY ARITY ..` | the same of a program alone, or its trap |
 //! | `kept NEED` | how many states a verified program keeps, and its cost |
 //! | `turns` | what a machine answers to calls, with semicolons between them |
-//! | `arities ID/ARITY ..` | the helper table with these, and behind a semicolon the copy of `copy` |
+//! | `arities ID/ARITY ..` | the helper table with these, and behind a semicolon the copy |
 
 use crate::alone::{alone, as_job};
 use crate::graphs::{is_order, order};

@@ -62,8 +62,8 @@ fn told(alloc: Global, vm: &mut Vm, words: &[&str], program: &str) -> anyhow::Re
     }
 }
 
-/// What a machine without a program answers to calls, one after the other. Where a program is refused,
-/// the one that was set stays.
+/// What a machine without a program answers to calls, one after the other. Where a program is
+/// refused, the one that was set stays.
 pub fn answers(alloc: Global, calls: &str) -> anyhow::Result<String> {
     let mut vm = Vm::new(alloc, None)?;
     let mut text = String::new(alloc);
