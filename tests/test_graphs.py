@@ -77,7 +77,8 @@ class Rows(unittest.TestCase):
                 self.assertEqual(" ".join(lines).replace(": ;", ":;"), row.answer)
 
     def cost(self, code, slot, boxes):
-        """The cost of a slot: a block's that begins there, or else of one that a jump ahead of the program makes begin there."""
+        """The cost of a slot: of the block that begins there, or that a jump ahead of the program makes begin there; or of
+        the rest of a program that has no room for a jump."""
         if slot in boxes:
             return boxes[slot][0]
         if len(code) < 8 * self.MOST:

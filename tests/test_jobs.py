@@ -88,7 +88,8 @@ class Rows(unittest.TestCase):
                 self.assertEqual(play(programs, credit, buffer, schedule_of(turns)), job.played())
 
     def test_tasks(self):
-        """Each task then, ended or alive: what the model says, whose sums `bpfjobs play` prints and whose steps it traces (test_steps)."""
+        """Each task then, ended or alive, by the model. Its sums are those that `bpfjobs play` prints, and its steps those
+        that it traces (test_steps)."""
         for row in rows("tasks.txt"):
             _, credit, memory, *turns = row.question
             programs, credit, buffer = programs_of(row.program), int(credit), memory_of(memory)
@@ -283,12 +284,13 @@ class Chains(unittest.TestCase):
                 self.assertTrue(all(set(task.part) <= {1} for task in job.tasks))
 
     def test_their_parts_take_the_bytes_twice_at_most(self):
-        """Where each link took its part's bytes anew, the chain took 256 MiB, or 512. Here 48 are enough for the whole process."""
+        """Where each link took its part's bytes anew, the chain took 256 MiB, or 512. 48 are enough for the process."""
         schedule = [number for number in range(self.LINKS) for _ in range(10)]
         schedule += [number for number in range(self.LINKS) for _ in range(2)]
         for kept in (0, 8):
             given = job_text([self.link(kept)], self.LINKS * (self.COST + 1), bytes(self.SIZE), schedule=schedule)
-            done = subprocess.run([BPFJOBS, "play"], input=given.encode(), capture_output=True, preexec_fn=self.limited, check=True)
+            how = {"capture_output": True, "preexec_fn": self.limited, "check": True}
+            done = subprocess.run([BPFJOBS, "play"], input=given.encode(), **how)
             with self.subTest(kept=kept):
                 self.assertTrue(json.loads(done.stdout)["complete"])
 

@@ -221,7 +221,8 @@ class Ranges(unittest.TestCase):
         told = known_ahead(need, code_of("mov64 r0, 0 / exit"))[0]
         self.assertEqual([told.get(register) for register in range(11)], [*map(value_of, known)])
 
-    KINDS = {"range": given, "unsigned": given, "taken": narrowed, "passed": narrowed, "join": joined, "load": loaded, "entry": entered}
+    KINDS = {"range": given, "unsigned": given, "taken": narrowed, "passed": narrowed}
+    KINDS |= {"join": joined, "load": loaded, "entry": entered}
 
     def test_rows(self):
         for row in rows("ranges.txt"):

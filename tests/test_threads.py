@@ -1,5 +1,5 @@
-"""Jobs on threads: pseudo-random trees of tasks by `bpfjobs run` and by the model, jobs that are looked at while they run, and what tasks
-find on the stacks of others."""
+"""Jobs on threads: pseudo-random trees of tasks by `bpfjobs run` and by the model, jobs that are looked at while they
+run, and what tasks find on the stacks of others."""
 
 import json
 import os
