@@ -6,7 +6,7 @@ import os
 import unittest
 
 import test_jobs
-from programs import Server, assemble, bpfjobs, job_text, submit_text, telgovan
+from programs import IS_SLOW, Server, assemble, bpfjobs, job_text, submit_text, telgovan
 from trees import Planter, comparable
 
 # How many trees there are: a sample, or as many as this variable says. 2,300 take a minute or two.
@@ -42,7 +42,8 @@ class Trees(unittest.TestCase):
 class Looks(unittest.TestCase):
     """What a server says of jobs that run: it never goes back, and a complete job has spent all of its credit."""
 
-    COUNT, TIMES = 60, 5
+    # how many children the root and each of those has: enough that some looks come while they run
+    COUNT, TIMES = 60 if IS_SLOW else 150, 5
 
     def test_jobs_that_run_at_once(self):
         share = 22 * self.COUNT + 2
