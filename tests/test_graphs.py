@@ -9,7 +9,8 @@ from collections import Counter
 from pathlib import Path
 
 from instructions import costs, decode, successors
-from programs import BPFJOBS, BPFRUN, TOP, assemble, told
+from programs import BPFJOBS, BPFRUN, TOP, assemble, telgovan, told
+from rows import code_of, rows
 from test_random import Writer
 
 DOCS = Path(TOP) / "docs"
@@ -53,6 +54,51 @@ def modelled(code):
         words = ["not taken", "taken"] if len(onward) == 2 else [""]
         edges += [(box[0], to, word) for to, word in zip(onward, words)]
     return [(box[0], table[box[0]], box) for box in boxes], edges
+
+
+class Rows(unittest.TestCase):
+    """Edges and costs, which were worked out by hand."""
+
+    PREFIX, MOST = "jeq r3, 0, {:+d}", 4096
+
+    @staticmethod
+    def boxes(code):
+        return {slot: (cost, held) for slot, cost, held in drawn(telgovan.graph(0, code))[0]}
+
+    def test_edges(self):
+        for row in rows("edges.txt"):
+            code = code_of(row.program)
+            boxes, edges = drawn(telgovan.graph(0, code))
+            found = {slot: [following] for _, _, held in boxes for slot, following in zip(held, held[1:])}
+            for box, _, held in boxes:
+                found[held[-1]] = [onward for came, onward, _ in edges if came == box]
+            lines = [f"{slot}: {' '.join(map(str, found[slot]))}".rstrip() + ";" for slot in sorted(found)]
+            with self.subTest(row.place):
+                self.assertEqual(" ".join(lines).replace(": ;", ":;"), row.answer)
+
+    def cost(self, code, slot, boxes):
+        """The cost of a slot: of the block that begins there, or that a jump ahead of the program makes begin there; or of
+        the rest of a program that has no room for a jump."""
+        if slot in boxes:
+            return boxes[slot][0]
+        if len(code) < 8 * self.MOST:
+            return self.boxes(assemble(self.PREFIX.format(slot)) + code)[slot + 1][0]
+        rest = code[8 * slot:]
+        try:
+            return telgovan.Program(0, rest).cost
+        except telgovan.Error:
+            return self.boxes(rest)[0][0]
+
+    def test_costs(self):
+        """The cost of each slot, 0 where no instruction begins; of many slots the first 16 and the last."""
+        for row in rows("costs.txt"):
+            code = code_of(row.program)
+            boxes, begun = self.boxes(code), {slot for slot, one in enumerate(decode(code)) if one}
+            count = len(code) // 8
+            slots = range(count) if count <= 16 else [*range(16), count - 1]
+            found = [self.cost(code, slot, boxes) if slot in begun else 0 for slot in slots]
+            with self.subTest(row.place):
+                self.assertEqual(found, [int(word) for word in row.answer.split() if word != ".."])
 
 
 class Graphs(unittest.TestCase):

@@ -1,12 +1,13 @@
 """Jobs of several tasks: over schedules by `bpfjobs play`, on threads by a server, and by the model."""
 
 import json
-import os
 import random
+import resource
+import subprocess
 import unittest
 
 from jobs import Job, Program
-from programs import TOP, Server, assemble, bpfjobs, job_text, play, submit_text
+from programs import BPFJOBS, Server, assemble, bpfjobs, job_text, play, submit_text, telgovan
 from rows import memory_of, programs_of, rows, schedule_of, text_of
 
 
@@ -21,13 +22,17 @@ def by_place(job):
     return f"spent {job.totals()['spent']} memory {text_of(job.bytes())}{told}"
 
 
-def ends_text(job):
-    """What a row of the reference tells of tasks that have ended."""
+def tasks_text(job):
+    """What a row tells of each task: its end, or where its part lies, what it holds and its R0."""
     told = ""
     for task in job.tasks:
         place, program = "/" + "/".join(map(str, task.place)), job.numbers[id(task.program)]
-        told += f", {place} program {program} on {task.argument} with {task.given} gives {task.r0}"
-        told += f" spent {task.used} rest {task.rest}"
+        told += f", {place} program {program} on {task.argument}"
+        if task.alive:
+            r0 = "unset" if task.registers[0] is None else task.registers[0]
+            told += f" alive at {task.base}+{len(task.part)} holds {task.held} r0 {r0}"
+        else:
+            told += f" with {task.given} gives {task.r0} spent {task.used} rest {task.rest}"
     return told
 
 
@@ -82,21 +87,16 @@ class Rows(unittest.TestCase):
                 self.assertEqual(by_place(model_of(programs, credit, buffer).finish()), row.answer)
                 self.assertEqual(play(programs, credit, buffer, schedule_of(turns)), job.played())
 
-    def test_rows_of_the_reference(self):
-        """What the reference says of a job in which no spawn is refused, `bpfjobs play` and the model say too."""
-        folder = os.path.join(TOP, "crates/core_tests/data")
-        for row in [*rows("jobs.txt", folder), *rows("trees.txt", folder)]:
-            kind, credit, memory, *turns = row.question
-            if any(turn.endswith("!") for turn in turns):
-                continue
+    def test_tasks(self):
+        """Each task then, ended or alive, by the model. Its sums are those that `bpfjobs play` prints, and its steps those
+        that it traces (test_steps)."""
+        for row in rows("tasks.txt"):
+            _, credit, memory, *turns = row.question
             programs, credit, buffer = programs_of(row.program), int(credit), memory_of(memory)
             with self.subTest(row.place):
                 job = self.play_by_model(programs, credit, buffer, schedule_of(turns))
                 self.assertEqual(play(programs, credit, buffer, schedule_of(turns)), job.played())
-                if kind == "tree":
-                    self.assertEqual(by_place(job), row.answer)
-                elif job.complete:
-                    self.assertEqual(text_of(job.bytes()) + ends_text(job), row.answer)
+                self.assertEqual(text_of(job.bytes()) + tasks_text(job), row.answer)
 
     def test_on_threads(self):
         """A server's threads run each job to what the model comes to depth first."""
@@ -232,10 +232,36 @@ class Many(unittest.TestCase):
                 self.assertFalse(play(programs, credit, b"", schedule[:-1])["complete"])
 
 
+class Spawns(unittest.TestCase):
+    """What a spawn is answered, by the library and by the model: the first reason against it."""
+
+    @staticmethod
+    def costing(cost, *lines, ahead=0):
+        """The lines, with so many moves ahead of them, and moves and the end behind them, for this cost."""
+        priced = sum(16 if line == "call 1" else 1 for line in lines)
+        moves = ["mov64 r6, 0"] * (cost - priced - ahead - 1)
+        return assemble("\n".join([*["mov64 r6, 0"] * ahead, *lines, *moves, "exit"]))
+
+    def test_rows(self):
+        for row in rows("spawns.txt"):
+            share, cut, credit, used, rest, size, need = map(int, row.question[2:])
+            lines = ["mov64 r1, 1", f"lddw r2, {share}", f"lddw r3, {cut}", "mov64 r4, 0", "call 1"]
+            programs = [(need, self.costing(used + rest, *lines, ahead=used - 20))]
+            if row.question[1] != "-":
+                cost, child_need = map(int, row.question[1].split("/"))
+                programs.append((child_need, self.costing(cost, "mov64 r0, 0")))
+            with self.subTest(row.place):
+                job = model_of(programs, credit, bytes(size)).finish()
+                report = telgovan.Job(*programs).play(bytearray(size), credit)
+                self.assertEqual((report.tasks[0].r0, job.tasks[0].r0), (int(row.answer),) * 2)
+                self.assertEqual(report.count, 2 if row.answer == "0" else 1)
+
+
 class Chains(unittest.TestCase):
     """Tasks that hand their credit and their bytes on, but for so many."""
 
     LINKS, COST, SIZE = 8000, 28, 65536
+    MOST_ROOM = 48 << 20
 
     def link(self, kept):
         lines = ["call 3", "mov64 r7, r0", f"sub64 r7, {kept}", "call 2", "sub64 r0, 23", "mov64 r2, r0"]
@@ -256,6 +282,20 @@ class Chains(unittest.TestCase):
                 self.assertEqual(job.totals(), wanted)
                 self.assertEqual(len(job.tasks), self.LINKS)
                 self.assertTrue(all(set(task.part) <= {1} for task in job.tasks))
+
+    def test_their_parts_take_the_bytes_twice_at_most(self):
+        """Where each link took its part's bytes anew, the chain took 256 MiB, or 512. 48 are enough for the process."""
+        schedule = [number for number in range(self.LINKS) for _ in range(10)]
+        schedule += [number for number in range(self.LINKS) for _ in range(2)]
+        for kept in (0, 8):
+            given = job_text([self.link(kept)], self.LINKS * (self.COST + 1), bytes(self.SIZE), schedule=schedule)
+            how = {"capture_output": True, "preexec_fn": self.limited, "check": True}
+            done = subprocess.run([BPFJOBS, "play"], input=given.encode(), **how)
+            with self.subTest(kept=kept):
+                self.assertTrue(json.loads(done.stdout)["complete"])
+
+    def limited(self):
+        resource.setrlimit(resource.RLIMIT_AS, (self.MOST_ROOM, self.MOST_ROOM))
 
 
 if __name__ == "__main__":

@@ -273,5 +273,22 @@ class Opcodes(unittest.TestCase):
         return None
 
 
+class Traced(unittest.TestCase):
+    """The steps that the reference takes, as the library writes them. The answers were worked out by hand."""
+
+    def test_rows(self):
+        for row in rows("reference.txt"):
+            credit, memory, registers = int(row.question[1]), memory_of(row.question[2]), {}
+            part = bytearray(memory)
+            steps = telgovan.trace(len(memory), code_of(row.program), memory, credit=credit)
+            for step in steps:
+                registers.update(step["registers"])
+                change = step.get("part", {"at": 0, "bytes": ""})
+                changed = bytes.fromhex(change["bytes"])
+                part[change["at"]:change["at"] + len(changed)] = changed
+            with self.subTest(row.place):
+                self.assertEqual(came_to(registers["r0"], steps[-1]["used"], part), row.answer)
+
+
 if __name__ == "__main__":
     unittest.main()

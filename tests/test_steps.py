@@ -103,7 +103,7 @@ class Traces(unittest.TestCase):
             self.assertEqual(told.splitlines(), told_by_model(programs, credit, buffer, schedule))
 
     def test_rows(self):
-        for name in ("jobs.txt", "trees.txt"):
+        for name in ("jobs.txt", "trees.txt", "tasks.txt"):
             for row in rows(name):
                 with self.subTest(row.place):
                     schedule = list(schedule_of(row.question[3:]))

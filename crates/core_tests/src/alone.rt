@@ -1,7 +1,6 @@
 //! One program by the reference, whether or not it would be accepted.
 
-use crate::row::{memory_of, text_of};
-use crate::trees::copied;
+use crate::row::{copied, memory_of, text_of};
 use insn_codec::decode;
 use reference::{
     Content, JobMember, ReferenceJob, ReferenceMove, ReferenceProgram, Running, StepOutcome,
@@ -40,7 +39,11 @@ fn registered_of(alloc: Global, arities: &[&str]) -> anyhow::Result<Vec<Option<u
 }
 
 /// The program, with helpers from id 64 on that take so many arguments. Its costs aren't known.
-fn program_of(alloc: Global, arities: &[&str], code: &[u8]) -> anyhow::Result<ReferenceProgram> {
+pub fn program_of(
+    alloc: Global,
+    arities: &[&str],
+    code: &[u8],
+) -> anyhow::Result<ReferenceProgram> {
     let placed = decode(alloc, code)?;
     let mut slots = Vec::new(alloc);
     for one in &placed {

@@ -1,9 +1,8 @@
-//! The graph of a program: its order, its edges and the cost of each slot.
+//! The order of a program's instructions, by its graph.
 
 ghost use Rattle.flow_graph.specs.Program.{IsDecoded};
 
-use cost_bound::costs;
-use flow_graph::{FlowFault, Graph, Next, build, check_order};
+use flow_graph::{FlowFault, build, check_order};
 use insn_codec::{Placed, decode};
 use std::alloc::Global;
 
@@ -38,51 +37,12 @@ fn slot_of(fault: &FlowFault) -> Option<u32> {
     }
 }
 
-/// What is wanted of a graph.
-#[derive(Clone, Copy)]
-pub enum Wanted {
-    Order,
-    Edges,
-    Costs,
-}
-
-/// Each instruction's slot, and behind it the slots that may follow.
-fn edges_of(alloc: Global, graph: &Graph) -> anyhow::Result<String> {
-    let mut text = String::new(alloc);
-    for slot in 0..graph.slots() {
-        if graph.insn(slot).is_some() {
-            text = match graph.successors(slot) {
-                Next::Zero => format!(in alloc; "{text}{slot}:; ")?,
-                Next::One(next) => format!(in alloc; "{text}{slot}: {next}; ")?,
-                Next::Two(next, target) => format!(in alloc; "{text}{slot}: {next} {target}; ")?,
-            };
-        }
-    }
-    Ok(String::from_str(alloc, text.as_str().trim())?)
-}
-
-/// The cost of each slot, 0 where no instruction begins.
-fn costs_of(alloc: Global, graph: &Graph) -> anyhow::Result<String> {
-    let table = costs(alloc, graph)?;
-    let mut numbers = Vec::new(alloc);
-    for slot in 0..graph.slots() {
-        let is_there = graph.insn(slot).is_some();
-        numbers.push(if is_there { table.at(slot) } else { 0 })?;
-    }
-    listed(alloc, &numbers)
-}
-
-/// What is wanted of the program's graph, or why it has none.
-pub fn graphed(alloc: Global, wanted: Wanted, code: &[u8]) -> anyhow::Result<String> {
+/// The order of the program's graph, or why it has none.
+pub fn order(alloc: Global, code: &[u8]) -> anyhow::Result<String> {
     let placed = decode(alloc, code)?;
-    let graph = match build(alloc, &placed) {
-        Ok(graph) => graph,
-        Err(fault) => return refused(alloc, fault.code(), slot_of(&fault)),
-    };
-    match wanted {
-        Wanted::Order => listed(alloc, graph.order()),
-        Wanted::Edges => edges_of(alloc, &graph),
-        Wanted::Costs => costs_of(alloc, &graph),
+    match build(alloc, &placed) {
+        Ok(graph) => listed(alloc, graph.order()),
+        Err(fault) => refused(alloc, fault.code(), slot_of(&fault)),
     }
 }
 

@@ -1,7 +1,7 @@
-//! `core_tests FILE..`: reads rows of what no built program shows: ranges of values, graphs and
-//! costs by slot, the reference, helpers of a caller's own, and tasks by their places. It tells the
-//! rows that disagree. Then it goes through calls of books, parts, machines and worlds by hand, and
-//! tells each that answers otherwise.
+//! `core_tests FILE..`: reads rows of what neither a built program nor the library for C shows:
+//! orders, the states that are kept, traps of the reference, tables of helpers, and machines with
+//! helpers of a caller's own. It tells the rows that disagree. Then it goes through calls of books,
+//! parts and runs by hand, and tells each that answers otherwise.
 #![tactic(auto)]
 
 mod answers;
@@ -12,21 +12,15 @@ mod scenarios;
 mod alone;
 mod callers;
 mod graphs;
-mod known;
-mod machines;
+mod kept;
 mod turns;
-
-// what is asked of values and of jobs
-mod jobs;
-mod ranges;
-mod trees;
 
 // calls by hand
 mod asking;
 mod books;
-mod chains;
 mod parts;
-mod refusing;
+mod pointers;
+mod refused_spawns;
 mod wording;
 
 use answers::answer;

@@ -1,8 +1,7 @@
-//! The table, a part's pieces and a spawn's answers. Expected values were worked out by hand.
+//! The table of helpers and a part's pieces. Expected values were worked out by hand.
 
 use crate::scenarios::Findings;
-use anyhow::bail;
-use helpers::{Entry, HelperTable, Part, spawn_answer};
+use helpers::{HelperTable, Part};
 use std::alloc::Global;
 
 /// The arities of the ids that have one, among 0 to 200 and the last of all.
@@ -18,7 +17,7 @@ fn arities_of(alloc: Global, table: &HelperTable) -> anyhow::Result<String> {
 }
 
 /// Adds a helper to a table: its id, from 64 to 127, and its arity, of at most 5.
-pub fn add(alloc: Global, table: &mut HelperTable, id: &str, arity: &str) -> anyhow::Result<()> {
+fn add(alloc: Global, table: &mut HelperTable, id: &str, arity: &str) -> anyhow::Result<()> {
     let id = id.parse::<u32>()?.clamp(64, 127);
     Ok(table.add(alloc, id, arity.parse::<u32>()?.min(5))?)
 }
@@ -49,36 +48,6 @@ pub fn arities(alloc: Global, words: &[&str]) -> anyhow::Result<String> {
         None => text,
     };
     Ok(String::from_str(alloc, text.as_str().trim())?)
-}
-
-/// What a spawn of a program is answered, which is told by its cost and need, or of no program.
-pub fn spawned(alloc: Global, child: &str, words: &[&str]) -> anyhow::Result<String> {
-    let mut numbers = Vec::new(alloc);
-    for word in words {
-        numbers.push(word.parse::<u64>()?)?;
-    }
-    let [share, cut, held, used, after, len, need] = numbers.as_slice() else {
-        bail!("a spawn has seven numbers");
-    };
-    let child = match child.split_once('/') {
-        Some((cost, need)) => Some(Entry {
-            cost: cost.parse::<u32>()?,
-            need: need.parse::<u32>()?,
-        }),
-        None => None,
-    };
-    let small = |number: u64| u32::try_from(number).unwrap_or(u32::MAX);
-    let answer = spawn_answer(
-        child,
-        *share,
-        *cut,
-        small(*held),
-        small(*used),
-        small(*after),
-        small(*len),
-        small(*need),
-    );
-    Ok(format!(in alloc; "{answer}")?)
 }
 
 fn pieces_come_back(alloc: Global, findings: &mut Findings) -> anyhow::Result<()> {

@@ -2,7 +2,6 @@
 //! `#` is a comment.
 
 use assembler::assemble;
-use job_core::ProgramBytes;
 use std::alloc::Global;
 
 /// What is asked of which program, and the answer that is wanted.
@@ -83,33 +82,11 @@ pub fn bytes_of(alloc: Global, program: &str) -> anyhow::Result<Vec<u8>> {
     Ok(assemble(alloc, source.as_str())?)
 }
 
-/// Programs with `;` between them, each after the bytes that it needs and a colon.
-pub fn programs_of(alloc: Global, text: &str) -> anyhow::Result<Vec<ProgramBytes>> {
-    let mut programs = Vec::new(alloc);
-    for part in text.split(';') {
-        let (need, program) = part.split_once(':').unwrap_or(("0", part));
-        programs.push(ProgramBytes {
-            need: need.trim().parse::<u32>()?,
-            code: bytes_of(alloc, program)?,
-        })?;
-    }
-    Ok(programs)
-}
-
-/// Numbers of tasks, each as often as it is told: `0*5` is task 0 five times. Behind a number with
-/// a `!` a spawn is refused.
-pub fn turns_of(alloc: Global, turns: &[&str]) -> anyhow::Result<Vec<(u32, bool)>> {
-    let mut numbers = Vec::new(alloc);
-    for turn in turns {
-        let refuses = turn.ends_with('!');
-        let turn = turn.trim_end_matches('!');
-        let (number, times) = turn.split_once('*').unwrap_or((turn, "1"));
-        let number = number.parse::<u32>()?;
-        for _ in 0..times.parse::<u32>()? {
-            numbers.push((number, refuses))?;
-        }
-    }
-    Ok(numbers)
+/// A copy of the bytes.
+pub fn copied(alloc: Global, bytes: &[u8]) -> anyhow::Result<Vec<u8>> {
+    let mut copy = Vec::new(alloc);
+    copy.extend_from_slice(bytes)?;
+    Ok(copy)
 }
 
 /// Bytes as hexadecimal, and none as `-`.

@@ -1,6 +1,6 @@
 //! Calls by hand, one after the other, each answered as it was worked out.
 
-use crate::{asking, books, chains, parts, refusing, wording};
+use crate::{asking, books, parts, pointers, refused_spawns, wording};
 use std::alloc::Global;
 use std::io::Write;
 
@@ -22,14 +22,14 @@ impl Findings {
     }
 }
 
-const NAMES: [&str; 6] = ["books", "parts", "refusing", "chains", "asking", "wording"];
+const NAMES: [&str; 6] = ["books", "parts", "spawns", "pointers", "asking", "wording"];
 
 fn go_through(alloc: Global, name: &str, findings: &mut Findings) -> anyhow::Result<()> {
     match name {
         "books" => books::go_through(alloc, findings),
         "parts" => parts::go_through(alloc, findings),
-        "refusing" => refusing::go_through(alloc, findings),
-        "chains" => chains::go_through(alloc, findings),
+        "spawns" => refused_spawns::go_through(alloc, findings),
+        "pointers" => pointers::go_through(alloc, findings),
         "asking" => asking::go_through(alloc, findings),
         _ => wording::go_through(alloc, findings),
     }

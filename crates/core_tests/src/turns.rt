@@ -1,5 +1,7 @@
-//! Programs that are set, refused and run in turn: what a machine answers to each call.
+//! Programs that are set, refused and run in turn, and helpers of a caller's own: what a machine
+//! answers to each call.
 
+use crate::callers::{added, greatest, weighed};
 use crate::row::{bytes_of, memory_of, text_of, words_of};
 use anyhow::bail;
 use std::alloc::Global;
@@ -32,6 +34,20 @@ fn start(alloc: Global, need: &str, credit: &str, program: &str) -> anyhow::Resu
     }
 }
 
+/// Registers a helper of the caller's, or tells why not.
+fn add(alloc: Global, vm: &mut Vm, id: &str, arity: &str) -> anyhow::Result<String> {
+    let (id, arity) = (id.parse::<u32>()?, arity.parse::<u32>()?);
+    let answer = match id {
+        64 => vm.try_register_helper(alloc, id, arity, added),
+        65 => vm.try_register_helper(alloc, id, arity, weighed),
+        _ => vm.try_register_helper(alloc, id, arity, greatest),
+    };
+    match answer {
+        Ok(()) => Ok(String::from_str(alloc, "added")?),
+        Err(fault) => Ok(format!(in alloc; "{}", fault.code())?),
+    }
+}
+
 /// What the machine answers to a call that sets no program.
 fn told(alloc: Global, vm: &mut Vm, words: &[&str], program: &str) -> anyhow::Result<String> {
     match words {
@@ -39,14 +55,15 @@ fn told(alloc: Global, vm: &mut Vm, words: &[&str], program: &str) -> anyhow::Re
             let has = vm.has_program();
             Ok(format!(in alloc; "{has}")?)
         }
+        ["add", id, arity] => add(alloc, vm, id, arity),
         ["run", credit, memory] => run(alloc, vm, credit, memory),
         ["start", need, credit] => start(alloc, need, credit, program),
         _ => bail!("no such call"),
     }
 }
 
-/// What a machine without a program answers to calls, one after the other. Where a program is refused,
-/// the one that was set stays.
+/// What a machine without a program answers to calls, one after the other. Where a program is
+/// refused, the one that was set stays.
 pub fn answers(alloc: Global, calls: &str) -> anyhow::Result<String> {
     let mut vm = Vm::new(alloc, None)?;
     let mut text = String::new(alloc);

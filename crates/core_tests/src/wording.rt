@@ -1,10 +1,10 @@
-//! What is told of refusals that no built program prints, and the limits of spelled instructions.
+//! What is told of refusals that no built program prints.
 
 use crate::scenarios::Findings;
 use assembler::{TextFault, nothing_refused, one_program, one_refusal, read_back};
 use disassembler::one_line;
 use flow_graph::FlowFault;
-use insn_codec::{CodecFault, Insn, Register, encode};
+use insn_codec::CodecFault;
 use std::alloc::Global;
 use verifier::Refusal;
 use virtual_machine::VmFault;
@@ -56,21 +56,6 @@ fn refusals_of_single_programs(alloc: Global, findings: &mut Findings) -> anyhow
     Ok(())
 }
 
-/// 4,096 slots are spelled, and no more; and none are refused.
-fn limits_of_spelling(alloc: Global, findings: &mut Findings) -> anyhow::Result<()> {
-    let mut insns = vec![in alloc; Insn::Exit; 4096]?;
-    findings.holds(encode(alloc, &insns)?.len() == 8 * 4096, "4,096 slots");
-    insns[0] = Insn::LoadWide {
-        dst: Register::new(0),
-        value: 0,
-    };
-    let is_long = encode(alloc, &insns).is_err_and(|fault| fault == CodecFault::TooLong);
-    findings.holds(is_long, "4,097 slots");
-    let is_empty = encode(alloc, &[]).is_err_and(|fault| fault == CodecFault::Empty);
-    findings.holds(is_empty, "no slot");
-    Ok(())
-}
-
 /// A refusal that isn't of this text quotes nothing of it.
 fn quotes_of_other_texts(_alloc: Global, findings: &mut Findings) -> anyhow::Result<()> {
     let quotes_none = TextFault::UnknownWord(2).quoted("exit").is_none()
@@ -91,6 +76,5 @@ pub fn go_through(alloc: Global, findings: &mut Findings) -> anyhow::Result<()> 
     verdicts_and_runs_without_memory(alloc, findings)?;
     texts_and_graphs_without_memory(alloc, findings)?;
     refusals_of_single_programs(alloc, findings)?;
-    limits_of_spelling(alloc, findings)?;
     quotes_of_other_texts(alloc, findings)
 }

@@ -5,7 +5,7 @@ ghost use Rattle.std.proofs.Props.{props};
 ghost use Rattle.job_core.specs.Admitted.{AreOwn};
 
 use crate::stop::ScenarioFault;
-use crate::tree::{admitted, assembled, job, numbers};
+use crate::tree::{job, numbers};
 use credit_book::{Board, Book, Outcome, Refused, Report, Ticket};
 use helpers::{Entry, Part, SpawnRecord, Spawner};
 use job_core::Job;
@@ -97,42 +97,6 @@ impl Spawner for ByHand<'_> {
     fn call(&mut self, _id: u32, _arguments: [u64; 5]) -> u64 {
         0
     }
-}
-
-/// Runs the root of a job without children on the frames, and adds its R0, what it used, and
-/// whether it ran.
-fn run_root(
-    alloc: Global,
-    frames: &mut Frames,
-    number: u64,
-    text: &str,
-    told: &mut Vec<u64>,
-) -> Result<(), ScenarioFault> {
-    let programs = assembled(alloc, &[(0, text)])?;
-    let (known, credit, root) = ProgramList::of(admitted(alloc, &programs, 100, Vec::new(alloc))?);
-    let (mut hand, root) = ByHand::open(alloc, &known, number, credit, root)?;
-    let outcome = hand.run(alloc, root, frames);
-    told.push(outcome.r0)?;
-    told.push(u64::from(outcome.used))?;
-    told.push(u64::from(outcome.ran))?;
-    Ok(())
-}
-
-const WRITES: &str = "stdw [r10-8], 7\nmov64 r0, 0\nexit\n";
-
-const READS: &str = "ldxdw r0, [r10-8]\nexit\n";
-
-/// What tasks find on frames that others have written: a task of another job, of the same job, and
-/// one behind the end of a job.
-pub fn zeroed(alloc: Global) -> Result<Vec<u64>, ScenarioFault> {
-    let mut told = Vec::new(alloc);
-    let mut frames = Frames::new(alloc);
-    for (number, text) in [(1, WRITES), (2, READS), (2, WRITES), (2, READS)] {
-        run_root(alloc, &mut frames, number, text, &mut told)?;
-    }
-    frames.end_job();
-    run_root(alloc, &mut frames, 2, READS, &mut told)?;
-    Ok(told)
 }
 
 /// Runs a task, or leaves it, and ends it.

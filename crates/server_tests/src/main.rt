@@ -54,11 +54,11 @@ use std::sync::Wait;
 use std::thread::Threads;
 use stop::ScenarioFault;
 
-const NAMES: [&str; 33] = [
+const NAMES: [&str; 31] = [
     "played", "stepped", "heard", "replied", "desk", "stream", "frames", "workers", "runner",
     "given", "reads", "writes", "drips", "fills", "empties", "texts", "taps", "verdicts", "jobs",
-    "chosen", "passed", "order", "own", "halves", "passes", "lanes", "zeroed", "left", "answers",
-    "meetings", "looks", "faults", "object",
+    "chosen", "passed", "order", "own", "halves", "passes", "lanes", "left", "answers", "meetings",
+    "looks", "faults",
 ];
 
 /// One turn of a scenario in which memory may be refused.
@@ -88,7 +88,6 @@ where
 {
     match name {
         "faults" => wording::faults(alloc),
-        "object" => wording::object(alloc),
         "texts" => hearing::written(alloc),
         "taps" => failing_ends::handed_on(alloc),
         "verdicts" => commands::verdicts(&rt, alloc),
@@ -100,7 +99,6 @@ where
         "halves" => order::by_halves(alloc),
         "passes" => passing::by_passes(&rt, alloc),
         "lanes" => stealing::by_lanes(&rt, alloc),
-        "zeroed" => by_hand::zeroed(alloc),
         "left" => by_hand::left(alloc),
         "answers" => pools::answers(rt, alloc),
         "meetings" => meeting::meetings(&rt, alloc),

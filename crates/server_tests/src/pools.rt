@@ -1,6 +1,6 @@
 //! The job on two workers, in this thread and in threads of its own.
 
-use crate::asking::{asked, awaited, start, together};
+use crate::asking::{asked, awaited, start};
 use crate::stop::{ScenarioFault, holds};
 use crate::tree::{CREDIT, job, told as told_of};
 use credit_book::{Board, Report};
@@ -85,7 +85,7 @@ where
     }
 }
 
-/// What a runner answers about a job, and then about three at once.
+/// What a runner answers about a job.
 pub fn answers<R>(rt: R, alloc: Global) -> Result<Vec<u64>, ScenarioFault>
 where
     R: Threads + Wait + Copy + Send + Sync + Drop + 'static,
@@ -95,10 +95,7 @@ where
     };
     let mut runner = PoolRunner::new(rt, alloc, starter);
     let mut told = Vec::new(alloc);
-    let well = match asked(alloc, &mut runner, &mut told) {
-        Ok(()) => together(alloc, &mut runner, &mut told),
-        other => other,
-    };
+    let well = asked(alloc, &mut runner, &mut told);
     runner.join_all();
     well?;
     Ok(told)

@@ -1,8 +1,8 @@
-//! What faults say that no client is told, and what is read of a job's object.
+//! What faults say that no client is told.
 
 use crate::stop::{ScenarioFault, holds};
 use job_server::ServeFault;
-use sessions::{SessionFault, job_object};
+use sessions::SessionFault;
 use std::alloc::Global;
 use streams::StreamFault;
 
@@ -36,31 +36,5 @@ pub fn faults(alloc: Global) -> Result<Vec<u64>, ScenarioFault> {
     let told = format!(in alloc; "{}", ServeFault::Socket)?;
     let is_told = told.as_str() == "a socket failed";
     holds(is_told, "a fault of a socket has another text")?;
-    Ok(numbers)
-}
-
-const OBJECT: &str =
-    "{\"schedule\":[3,0,4294967295],\"programs\":[{\"code\":\"00Ff\",\"need\":7}],\"buffer\":\"01\",\"credit\":4294967295}";
-
-/// The fields of a job's object: its credit, its buffer, its schedule, and the need and the bytes
-/// of each program.
-pub fn object(alloc: Global) -> Result<Vec<u64>, ScenarioFault> {
-    let Ok(job) = job_object(alloc, OBJECT.as_bytes(), true) else {
-        return Err(ScenarioFault::Differs("the object isn't read"));
-    };
-    let mut numbers = Vec::new(alloc);
-    numbers.push(u64::from(job.credit))?;
-    for byte in &job.buffer {
-        numbers.push(u64::from(*byte))?;
-    }
-    for number in &job.schedule {
-        numbers.push(u64::from(*number))?;
-    }
-    for program in &job.programs {
-        numbers.push(u64::from(program.need))?;
-        for byte in &program.code {
-            numbers.push(u64::from(*byte))?;
-        }
-    }
     Ok(numbers)
 }

@@ -1,4 +1,0 @@
-use Rattle.server_tests.proofs.asking.watched.Given as goal
-
-abbrev pub invariant-loop : goal.invariant-loop
-invariant-loop g l = g.N.Runner.ready l.runner
