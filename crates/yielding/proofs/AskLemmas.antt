@@ -36,7 +36,7 @@ pub has_arity : (p : Checked) (f : Frame) (part : Piece) (credit : Credit) (help
 has_arity p f part credit helper at = some_of (arity_in p.helpers helper) (is_there p f part credit helper at)
 
 -- its arguments are numbers
-are_numbers : (need : ℕ) (state : abstract.State) (helper arity : ℕ) (o : Option ℕ) → IsRegistered helper → o ≡ Some arity →
+are_numbers : (need : ℕ) (state : abstract.AbsState) (helper arity : ℕ) (o : Option ℕ) → IsRegistered helper → o ≡ Some arity →
     call_fault need state helper o ≡ None → number_arguments state arity ≡ None
 are_numbers need state helper arity o other is e =
     let known : call_fault need state helper (Some arity) ≡ None = ap (call_fault need state helper) (sym is) ∙ e in
