@@ -26,6 +26,7 @@ VERSION = text_of("VERSION").strip()
 TOLD = (
     ("bindings/rust/Cargo.toml", r'^version = "(.*)"$'),
     ("bindings/python/pyproject.toml", r'^version = "(.*)"$'),
+    ("bindings/python/telgovan.py", r'^__version__ = "(.*)"$'),
     ("crates/bpfjobs_cli/src/texts.rt", r'const VERSION: &str = "(.*)";$'),
     ("crates/bpfrun_core/src/texts.rt", r'const VERSION: &str = "(.*)";$'),
     ("tests/data/commands.txt", r"^(?:--version|-V) .* bpfjobs (\S+)$"),

@@ -39,6 +39,8 @@ __all__ = [
     "trace",
 ]
 
+__version__ = "0.1.0"
+
 _HERE = os.path.dirname(os.path.abspath(__file__))
 
 

@@ -23,6 +23,9 @@ mod raw;
 pub mod rbpf;
 mod text;
 
+/// The version of this crate and of the library behind it.
+pub const VERSION: &str = env!("CARGO_PKG_VERSION");
+
 pub use desk::{Desk, HandedJob, Sent};
 pub use error::{Error, JobError};
 pub use hosted::{Event, Helpers, HostedTask, Question};
