@@ -167,7 +167,10 @@ impl Desk {
         if u64::from(credit) > account_of(sums).balance {
             return Err(SubmitFault::BalanceLow);
         }
-        let job = admitted?;
+        let job = match admitted {
+            Ok(job) => job,
+            Err(fault) => return Err(SubmitFault::Admit(fault)),
+        };
         let entry = JobEntry {
             tenant: String::from_str(alloc, tenant)?,
             credit,

@@ -8,34 +8,33 @@ use Rattle.accounts.proofs.Keeping.{none_of, granted_none, accounted, kept_taken
 use Rattle.accounts.proofs.desk.Desk.take.Goals as goal
 
 pub returns-in_default-clause-refused : goal.returns-in_default-clause-refused
-returns-in_default-clause-refused c = rw (← c.self.view_is) (granted_none c.self.inside.tenants c.self.inside.jobs c.args.tenant.now (sym c.sums_of.ensures ∙ none_of c.sums_of.result (λ s is. c.in_default.not-Some s is)))
+returns-in_default-clause-refused c programs buffer admission = rw (← c.self.view_is) (granted_none c.self.inside.tenants c.self.inside.jobs c.args.tenant.now (sym c.sums_of.ensures ∙ none_of c.sums_of.result (λ s is. c.in_default.not-Some s is)))
 
 pub returns-then-from-account_of-clause-refused : goal.returns-then-from-account_of-clause-refused
-returns-then-from-account_of-clause-refused c =
+returns-then-from-account_of-clause-refused c programs buffer admission =
     let found = sym c.in-Some.ensures in
     let account = accounted c.self.inside.tenants c.self.inside.jobs c.args.tenant.now c.in-Some.sums (c.self.invariant.each _ _ found) found in
     rw (← c.self.view_is) (c.account_of.result.balance, record { account = c.account_of.result; is = rw c.account_of.ensures.account account; same = refl }, omega (arith, c.if-from-account_of.true, c.from.ensures))
 
-pub returns-in_err-job-clause-refused : goal.returns-in_err-job-clause-refused
-returns-in_err-job-clause-refused c =
+pub returns-in-Err-clause-refused : goal.returns-in-Err-clause-refused
+returns-in-Err-clause-refused c programs buffer admission =
+    let found = sym c.in-Some.ensures in
+    let account = accounted c.self.inside.tenants c.self.inside.jobs c.args.tenant.now c.in-Some.sums (c.self.invariant.each _ _ found) found in
+    rw (← c.self.view_is) (c.account_of.result.balance, record { account = c.account_of.result; is = rw c.account_of.ensures.account account; same = refl }, omega (arith, c.if-from-account_of.false, c.from.ensures), rw c.in-Err.is at admission)
+
+pub returns-in_err-from_str-clause-refused : goal.returns-in_err-from_str-clause-refused
+returns-in_err-from_str-clause-refused c programs buffer admission =
     let found = sym c.in-Some.ensures in
     let account = accounted c.self.inside.tenants c.self.inside.jobs c.args.tenant.now c.in-Some.sums (c.self.invariant.each _ _ found) found in
     let p = err_from_is_err_and c.from_residual.result c.from_residual.ensures.1 in
-    rw (p.1, p.2, ← c.self.view_is) (c.account_of.result.balance, record { account = c.account_of.result; is = rw c.account_of.ensures.account account; same = refl }, omega (arith, c.if-from-account_of.false, c.from.ensures), c.in_err-job.ensures.refused)
-
-pub returns-in_err-from_str-clause-refused : goal.returns-in_err-from_str-clause-refused
-returns-in_err-from_str-clause-refused c =
-    let found = sym c.in-Some.ensures in
-    let account = accounted c.self.inside.tenants c.self.inside.jobs c.args.tenant.now c.in-Some.sums (c.self.invariant.each _ _ found) found in
-    let p = err_from_is_err_and c.from_residual-in_err-from_str.result c.from_residual-in_err-from_str.ensures.1 in
-    rw (p.1, p.2, ← c.self.view_is) (c.account_of.result.balance, record { account = c.account_of.result; is = rw c.account_of.ensures.account account; same = refl }, omega (arith, c.if-from-account_of.false, c.from.ensures), c.in_ok-job.ensures.admitted.limits)
+    rw (p.1, p.2, ← c.self.view_is) (c.account_of.result.balance, record { account = c.account_of.result; is = rw c.account_of.ensures.account account; same = refl }, omega (arith, c.if-from-account_of.false, c.from.ensures), (rw c.in-Ok.is at admission).limits)
 
 pub returns-in_err-add-clause-refused : goal.returns-in_err-add-clause-refused
-returns-in_err-add-clause-refused c =
+returns-in_err-add-clause-refused c programs buffer admission =
     let found = sym c.in-Some.ensures in
     let account = accounted c.self.inside.tenants c.self.inside.jobs c.args.tenant.now c.in-Some.sums (c.self.invariant.each _ _ found) found in
     let p = err_from_is_err_and c.from_residual-in_err-add.result c.from_residual-in_err-add.ensures.1 in
-    rw (p.1, p.2, ← c.self.view_is) (c.account_of.result.balance, record { account = c.account_of.result; is = rw c.account_of.ensures.account account; same = refl }, omega (arith, c.if-from-account_of.false, c.from.ensures), c.in_ok-job.ensures.admitted.limits)
+    rw (p.1, p.2, ← c.self.view_is) (c.account_of.result.balance, record { account = c.account_of.result; is = rw c.account_of.ensures.account account; same = refl }, omega (arith, c.if-from-account_of.false, c.from.ensures), (rw c.in-Ok.is at admission).limits)
 
 pub invariant_of-self-2 : goal.invariant_of-self-2
 invariant_of-self-2 c =
