@@ -20,8 +20,8 @@ pub struct Waiting<'a> {
 // How many milliseconds a read waits until it looks at the flag.
 const LOOK: u64 = 200;
 
-/// Reads a connection: the bytes of its stream, up to where a host stops it. A read fails that waits
-/// too long, or once a frame is not whole in time.
+/// Reads a connection: the bytes of its stream, up to where a host stops it. A read fails that
+/// waits too long, or once a frame is not whole in time.
 #[derive(Drop)]
 pub(crate) struct TimedReader<'a, R, S = FlaggedStream<'a, &'a TcpStream>> {
     rt: &'a R,
@@ -96,8 +96,8 @@ impl<R: Clock, S: StoppableStream> TimedReader<'_, R, S> {
         self.stream.set_wait(wait)
     }
 
-    // Notes what was read: a frame that began in it and isn't whole has its time from now on. It can't
-    // fail: what was read is never lost.
+    // Notes what was read: a frame that began in it and isn't whole has its time from now on. It
+    // can't fail: what was read is never lost.
     fn note(&mut self, piece: &[u8])
         ensures { self.new.stream ≡ self.old.stream }
     {
