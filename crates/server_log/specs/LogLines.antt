@@ -73,5 +73,5 @@ log_text line =
     ++ (lost_text line.lost ++ codes "}\n"))))
 
 -- whole lines, one after the other
-abbrev pub AreLines : List ℕ → Type 0
-AreLines text = (lines : List LogLine) × (text ≡ flat_map log_text lines)
+abbrev pub AreLogLines : List ℕ → Type 0
+AreLogLines text = (lines : List LogLine) × (text ≡ flat_map log_text lines)

@@ -3,7 +3,7 @@
 ghost use Rattle.std.specs.Prelude.{◌≡◌, ◌⊎◌, ◌++◌, ◌/◌, ◌-◌, ◌^◌, min, if◌then◌else◌};
 ghost use Rattle.std.specs.Prelude.{false, is_some, IfOk, string_bytes};
 ghost use Rattle.std.specs.Duration.{as_nanos};
-ghost use Rattle.server_log.specs.LogLines.{AreLines, log_text};
+ghost use Rattle.server_log.specs.LogLines.{AreLogLines, log_text};
 
 use crate::log_line::{Door, LogEvent, LogLine};
 use crossbeam_channel::{Receiver, Sender, bounded};
@@ -173,7 +173,7 @@ fn put_line(alloc: Global, text: &mut String, line: LogLine, losses: &Losses)
 impl LogLines {
     // The lines that wait behind this one, up to a batch, as text.
     fn batch<R: Wait>(&self, rt: &R, alloc: Global, first: LogLine) -> String
-        ensures { AreLines (string_bytes result) }
+        ensures { AreLogLines (string_bytes result) }
     {
         let mut text = String::new(alloc);
         put_line(alloc, &mut text, first, &self.losses);
