@@ -10,7 +10,7 @@ import threading
 import time
 import unittest
 
-from programs import BPFJOBS, PATIENCE, frame, is_read, submit_text
+from programs import BPFJOBS, PATIENCE, bpfjobs, frame, is_read, submit_text
 from rows import code_of
 
 ADD = "mov64 r0, 40 / add64 r0, 2 / exit"
@@ -157,16 +157,43 @@ class Local(unittest.TestCase):
             self.assertEqual(client.ask(ACCOUNT), NO_TENANT)
         self.assertEqual(first.wait(PATIENCE), 0)
 
-    def test_a_socket_that_was_left_behind(self):
-        first = self.start("--sessions", 3)
-        self.connect(first).stream.close()
-        first.kill()
-        first.wait()
-        self.assertTrue(os.path.exists(self.path))
-        second = self.start("--sessions", 1)
-        with self.connect(second) as client:
-            self.assertEqual(client.ask(ACCOUNT), NO_TENANT)
-        self.assertEqual(second.wait(PATIENCE), 0)
+    def test_paths_where_somebody_listens(self):
+        """Of another server's two sockets none is taken, and that goes on. The path that was free is free again."""
+        first = self.start("--grants", self.grants, "--sessions", 100, "--clients", 4)
+        client, granter = self.connect(first), self.connect(first, self.grants)
+        self.assertEqual(granter.ask(GRANT), told(100, 100))
+        other = self.path + "2"
+        for words in ((self.path,), (self.grants,), (other, "--grants", self.path), (other, "--grants", self.grants),
+                      (self.path, "--grants", other), (self.grants, "--grants", self.path)):
+            with self.subTest(words):
+                self.assertEqual(bpfjobs("serve", "--socket", *words), (3, ""))
+                self.assertEqual(sorted(os.listdir(os.path.dirname(self.path))), ["grants", "jobs"])
+                # by the connections that were there, and by new ones
+                self.assertEqual(client.ask(ACCOUNT), told(100, 100))
+                self.assertEqual(granter.ask(ACCOUNT), told(100, 100))
+                with self.connect(first) as later:
+                    self.assertEqual(later.ask(GRANT), NO_REQUEST)
+
+    def test_one_path_for_both(self):
+        self.assertEqual(self.start("--grants", self.path, "--sessions", 1).wait(PATIENCE), 3)
+        self.assertEqual(os.listdir(os.path.dirname(self.path)), [])
+
+    def test_sockets_that_were_left_behind(self):
+        for more in ((), ("--grants", self.grants)):
+            with self.subTest(more):
+                paths = [self.path, self.grants] if more else [self.path]
+                first = self.start("--sessions", 100, *more)
+                with self.connect(first) as client:
+                    self.assertEqual(client.ask(ACCOUNT), NO_TENANT)
+                first.kill()
+                first.wait()
+                self.assertTrue(all(map(os.path.exists, paths)))
+                second = self.start("--sessions", len(paths), "--clients", 2, *more)
+                for path in paths:
+                    with self.connect(second, path) as client:
+                        self.assertEqual(client.ask(ACCOUNT), NO_TENANT)
+                self.assertEqual(second.wait(PATIENCE), 0)
+                self.assertFalse(any(map(os.path.exists, paths)))
 
     def test_what_is_no_socket_stays(self):
         with open(self.path, "w", encoding="utf-8") as file:
@@ -176,6 +203,13 @@ class Local(unittest.TestCase):
             self.assertEqual(file.read(), "kept")
         os.unlink(self.path)
         # of the second path too, and the first one is free again
+        with open(self.grants, "w", encoding="utf-8") as file:
+            file.write("kept too")
+        self.assertEqual(self.start("--grants", self.grants, "--sessions", 1).wait(PATIENCE), 3)
+        self.assertEqual(os.listdir(os.path.dirname(self.path)), ["grants"])
+        with open(self.grants, encoding="utf-8") as file:
+            self.assertEqual(file.read(), "kept too")
+        os.unlink(self.grants)
         os.mkdir(self.grants)
         self.assertEqual(self.start("--grants", self.grants, "--sessions", 1).wait(PATIENCE), 3)
         self.assertEqual(os.listdir(os.path.dirname(self.path)), ["grants"])

@@ -1,10 +1,12 @@
 """Requests and their replies over connections to `bpfjobs serve`: whole, in pieces, and cut."""
 
+import contextlib
 import json
+import socket
 import struct
 import unittest
 
-from programs import Server, bpfjobs, frame, frames
+from programs import PATIENCE, Server, bpfjobs, frame, frames
 from rows import fields, lines, raw
 
 ACCOUNT = '{"op":"account","tenant":"t"}'
@@ -61,6 +63,14 @@ def is_later(reply, wanted):
     if not all(name in given and name in asked for name in sums):
         return False
     return given["granted"] == asked["granted"] == sum(given[name] for name in sums)
+
+
+def own_addresses():
+    """The addresses of this machine by which it would reach others, if it has any. No packet is sent."""
+    for family, far in ((socket.AF_INET, "192.0.2.1"), (socket.AF_INET6, "2001:db8::1")):
+        with contextlib.suppress(OSError), socket.socket(family, socket.SOCK_DGRAM) as probe:
+            probe.connect((far, 9))
+            yield family, probe.getsockname()[0]
 
 
 class Requests(unittest.TestCase):
@@ -246,6 +256,19 @@ class Connections(unittest.TestCase):
         with Server() as server:
             server.ask(ACCOUNT)
             self.assertEqual(bpfjobs("serve", "--port", str(server.port)), (3, ""))
+
+    def test_another_address_of_this_machine(self):
+        """The port is listened on at 127.0.0.1 alone."""
+        with Server() as server:
+            for family, address in {(socket.AF_INET, "127.0.0.2"), *own_addresses()}:
+                server.ask(ACCOUNT)
+                place = (address, server.port)
+                with self.subTest(address):
+                    with self.assertRaises(ConnectionRefusedError):
+                        socket.create_connection(place, timeout=PATIENCE).close()
+                    # the address is one of this machine, and another process may listen there
+                    with socket.create_server(place, family=family):
+                        socket.create_connection(place, timeout=PATIENCE).close()
 
     def test_the_most_that_is_granted(self):
         grant = {"op": "grant", "tenant": "t", "amount": 2_147_483_647}

@@ -1,5 +1,9 @@
 //! A reader of a connection that waits no longer than a host allows.
 
+ghost use Rattle.std.specs.Prelude.{◌≡◌, option_map};
+ghost use Rattle.std.specs.Duration.{as_nanos};
+ghost use Rattle.job_server.specs.Stopping.{wait_within};
+
 use crate::frame_place::FramePlace;
 use crate::stop_flag::StopFlag;
 use crate::timed_stream::{FlaggedStream, StoppableStream};
@@ -20,8 +24,22 @@ pub struct Waiting<'a> {
 // How many milliseconds a read waits until it looks at the flag.
 const LOOK: u64 = 200;
 
-/// Reads a connection: the bytes of its stream, up to where a host stops it. A read fails that waits
-/// too long, or once a frame is not whole in time.
+// The wait of one try: the time that is left, and no more than to the next look at a flag.
+fn wait_of(left: Option<Duration>, may_stop: bool) -> Option<Duration>
+    ensures { option_map as_nanos result ≡ wait_within (option_map as_nanos left) may_stop }
+{
+    if !may_stop {
+        return left;
+    }
+    let look = Duration::from_millis(LOOK);
+    match left {
+        Some(left) if left < look => Some(left),
+        _ => Some(look),
+    }
+}
+
+/// Reads a connection: the bytes of its stream, up to where a host stops it. A read fails that
+/// waits too long, or once a frame is not whole in time.
 #[derive(Drop)]
 pub(crate) struct TimedReader<'a, R, S = FlaggedStream<'a, &'a TcpStream>> {
     rt: &'a R,
@@ -79,25 +97,18 @@ impl<R: Clock, S: StoppableStream> TimedReader<'_, R, S> {
 
     // Lets the next try wait as long as it may: to the time that is due, or to the next look.
     fn set_wait(&self, due: Option<Instant>) -> io::Result<()> {
-        let mut wait = None;
+        let mut left = None;
         if let Some(due) = due {
             match due.checked_duration_since(Instant::now(self.rt)?) {
-                Some(left) if left > Duration::ZERO => wait = Some(left),
+                Some(time) if time > Duration::ZERO => left = Some(time),
                 _ => return Err(io::Error::from(ErrorKind::TimedOut)),
             }
         }
-        if self.stream.may_stop() {
-            let look = Duration::from_millis(LOOK);
-            wait = match wait {
-                Some(left) if left < look => Some(left),
-                _ => Some(look),
-            };
-        }
-        self.stream.set_wait(wait)
+        self.stream.set_wait(wait_of(left, self.stream.may_stop()))
     }
 
-    // Notes what was read: a frame that began in it and isn't whole has its time from now on. It can't
-    // fail: what was read is never lost.
+    // Notes what was read: a frame that began in it and isn't whole has its time from now on. It
+    // can't fail: what was read is never lost.
     fn note(&mut self, piece: &[u8])
         ensures { self.new.stream ≡ self.old.stream }
     {

@@ -23,8 +23,8 @@ impl TimedStream for &TcpStream {
     }
 }
 
-/// A stream that a host may stop. It then ends, whatever its peer still sends: the bytes that it has
-/// left are those that it gives before.
+/// A stream that a host may stop. It then ends, whatever its peer still sends: the bytes that it
+/// has left are those that it gives before.
 pub(crate) trait StoppableStream: TimedStream {
     /// True where a host may stop it while a read waits.
     fn may_stop(&self) -> bool;
@@ -50,8 +50,8 @@ impl<'a, S> FlaggedStream<'a, S> {
     }
 }
 
-/// Gives what the stream gives. With a flag, the number of bytes that come before it is raised isn't
-/// known.
+/// Gives what the stream gives. With a flag, the number of bytes that come before it is raised
+/// isn't known.
 impl<S: Read> Read for FlaggedStream<'_, S> {
     ghost remaining = { λ s. left_unless s.stop (S.remaining s.stream) };
 
