@@ -1,0 +1,88 @@
+#!/usr/bin/env python3
+"""Which functions of this repository a run and a submit pass, by valgrind's callgrind.
+
+    .ci/functions.py FOLDER [--list]
+
+FOLDER has bpfrun and bpfjobs with the names of their functions: `dirname $(./try kept bpfjobs)`. A run is that of examples/byte_at.bpf as
+hexadecimal, by bpfrun. A submit is that of a job of two instructions, at a server that has started and granted, up to the job's end on a
+worker. A line for each crate, with how many different functions; --list names them. What the compiler has put into its caller isn't counted.
+"""
+
+import collections
+import json
+import os
+import re
+import socket
+import struct
+import subprocess
+import sys
+import tempfile
+import time
+
+TOP = os.path.dirname(os.path.dirname(os.path.abspath(__file__)))
+CRATES = sorted(os.listdir(f"{TOP}/crates"))
+NAME = re.compile(r"fn=\(\d+\) <?((?:%s)::.*)" % "|".join(CRATES))
+CODE = "b700000007000000" "9500000000000000"
+
+
+def passed(path):
+    """The names of this repository's functions in what callgrind wrote."""
+    with open(path, encoding="utf-8", errors="replace") as file:
+        found = (NAME.match(line) for line in file)
+        return {re.sub(r"::<.*", "", match[1]).strip() for match in found if match}
+
+
+def valgrind(out, words):
+    return ["valgrind", "--tool=callgrind", f"--callgrind-out-file={out}", *words]
+
+
+def of_run(folder, room):
+    with open(f"{TOP}/examples/byte_at.bpf", "rb") as source:
+        code = subprocess.run([f"{folder}/bpfjobs", "assemble"], stdin=source, capture_output=True, check=True).stdout
+    with open(f"{room}/program.hex", "wb") as file:
+        file.write(code)
+    words = [f"{folder}/bpfrun", f"{room}/program.hex", "--need", "16", "--arg", "3"]
+    subprocess.run(valgrind(f"{room}/run", words), capture_output=True, check=True)
+    return passed(f"{room}/run")
+
+
+def ask(stream, request):
+    text = json.dumps(request).encode()
+    stream.sendall(struct.pack(">I", len(text)) + text)
+    (length,) = struct.unpack(">I", stream.recv(4, socket.MSG_WAITALL))
+    return json.loads(stream.recv(length, socket.MSG_WAITALL))
+
+
+def of_submit(folder, room):
+    path = f"{room}/socket"
+    words = [f"{folder}/bpfjobs", "serve", "--socket", path]
+    with subprocess.Popen(valgrind(f"{room}/submit", words), stdout=subprocess.DEVNULL, stderr=subprocess.DEVNULL) as server:
+        while not os.path.exists(path):
+            time.sleep(0.1)
+        with socket.socket(socket.AF_UNIX) as stream:
+            stream.connect(path)
+            ask(stream, {"op": "grant", "tenant": "t", "amount": 100})
+            subprocess.run(["callgrind_control", "-z", str(server.pid)], capture_output=True, check=True)
+            programs = [{"need": 0, "code": CODE}]
+            ask(stream, {"op": "submit", "tenant": "t", "programs": programs, "credit": 100, "buffer": ""})
+            time.sleep(2)
+            subprocess.run(["callgrind_control", "-d", str(server.pid)], capture_output=True, check=True)
+            time.sleep(1)
+        server.wait(60)
+    return passed(f"{room}/submit.1")
+
+
+def tell(what, names, lists):
+    print(f"{what}: {len(names)}")
+    for crate, count in collections.Counter(name.split("::")[0] for name in names).most_common():
+        print(f"    {count:3} {crate}")
+    if lists:
+        print("\n".join(f"        {name}" for name in sorted(names)))
+
+
+if __name__ == "__main__":
+    if len(sys.argv) < 2:
+        sys.exit(__doc__)
+    with tempfile.TemporaryDirectory() as made:
+        tell("run", of_run(sys.argv[1], made), "--list" in sys.argv)
+        tell("submit", of_submit(sys.argv[1], made), "--list" in sys.argv)
