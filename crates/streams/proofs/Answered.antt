@@ -19,7 +19,8 @@ use Rattle.accounts.specs.declared.fault.SubmitFault.{SubmitFault}
 use Rattle.accounts.specs.Ahead.{IsAdmissionOf}
 use Rattle.accounts.specs.Ledgers.{Ledger, granted_to, most_granted, GrantsMore, RefusesGrant, RefusesSubmit, Takes, Finishes, IsNotOpen, account_at}
 use Rattle.sessions.specs.Grammar.{Asked}
-use Rattle.sessions.specs.Replies.{reply_data, frame_of, submit_data}
+use Rattle.sessions.specs.Replies.{reply_data, frame_of, frame_or_refusal, submit_data}
+use Rattle.sessions.specs.declared.reply.Reply.{Reply}
 use Rattle.streams.specs.Passing.{Passes}
 use Rattle.streams.specs.Answering.{Answers, Framed, Grants, GrantsNone, IsOpenJob, Replies, Settles, StartsTaken, Submits, account_told, submit_refused}
 
@@ -53,6 +54,11 @@ pub finished : {T : Type 0} (r : Result T DeskFault) (old new : Ledger) (number 
     OnOk r (Finishes old number outcome new) → IfErr r (λ e. (e ≡ fault.NoJob) × IsNotOpen old number) → Finishes old number outcome new
 finished (Ok x) old new number outcome there done refused = done
 finished (Err e) old new number outcome there done refused = absurd (refused.1 there.0 there.1 there.2)
+
+-- a frame is that of its reply's text, or of refusal 65
+pub is_frame : (r : Reply) → frame_of r ≡ frame_or_refusal (reply_data r)
+unfolding frame_of
+is_frame r = refl
 
 -- the job of a number is open, if one was taken
 pub opened_if : (r : Result (ℕ × core.AdmittedJob) SubmitFault) (old new : Ledger) (name : List ℕ) (credit : ℕ) → OnOk r (Takes old name credit new) → IfOk r (λ t. t.0 ≡ length new.jobs) → IfOk r (λ t. IsOpenJob new t.0)

@@ -6,13 +6,14 @@ use Rattle.credit_book.specs.declared.board.Progress.{Progress}
 use Rattle.job_core.specs.declared.admission.ProgramBytes.{ProgramBytes}
 use Rattle.job_core.specs.Admitted as core
 use Rattle.accounts.specs.Ledgers.{Ledger, account_at, progress_at, report_at}
-use Rattle.sessions.specs.Grammar.{request_asked}
+use Rattle.sessions.specs.Grammar.{Asked, request_asked}
 use Rattle.sessions.specs.declared.request.Request.{Request}
 use Rattle.sessions.specs.declared.request.Request.TheVariants as request
 use Rattle.sessions.specs.declared.reply.Reply.{Reply}
 use Rattle.sessions.specs.declared.reply.Reply.TheVariants as reply
 use Rattle.sessions.specs.Replies.{reply_data}
 use Rattle.streams.specs.Hearing.{query_of}
+use Rattle.streams.specs.Submits.{submit_asked}
 use Rattle.streams.specs.Answering.{Grants, GrantsNone, Replies, Submits, account_told, progress_told, refused, report_told}
 
 module _ {R : Type 0} (starts : R → ℕ → core.AdmittedJob → Result (Unit {0}) ℕ → R → Type 0) (looks : R → ℕ → Progress → R → Type 0)
@@ -62,3 +63,10 @@ to_none starts looks desk runner asks code told is tells =
     let P : Result Request ℕ → Type 0 = λ a. Replies starts looks desk runner (query_of a) (reply_data told) desk runner in
     let Q : Reply → Type 0 = λ t. reply_data t ≡ refused code in
     subst P (sym is) (subst Q (sym tells) refl, refl, refl)
+
+pub to_admitted : {R : Type 0} (starts : R → ℕ → core.AdmittedJob → Result (Unit {0}) ℕ → R → Type 0) (looks : R → ℕ → Progress → R → Type 0) (desk after : Ledger) (runner left : R) (told : Data)
+    (asked : Asked) (tenant : String Global) (programs : List ProgramBytes) (credit : ℕ) (buffer : List ℕ) → asked ≡ submit_asked tenant programs credit buffer →
+    Submits starts desk runner (string_bytes tenant) programs credit buffer told after left → Replies starts looks desk runner (Ok asked) told after left
+unfolding Replies
+to_admitted starts looks desk after runner left told asked tenant programs credit buffer is done =
+    subst (λ (a : Asked). Replies starts looks desk runner (Ok a) told after left) (sym is) (programs, refl, done)

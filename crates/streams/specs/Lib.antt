@@ -7,4 +7,5 @@ pub mod Answering
 pub mod LedgerReplies
 pub mod Inline
 pub mod Refusing
+pub mod Submits
 pub mod Prepared

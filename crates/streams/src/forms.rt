@@ -8,7 +8,7 @@ ghost use Rattle.sessions.specs.declared.reply.Reply.TheVariants.{Refused};
 ghost use Rattle.streams.specs.Answering.{Framed, Grants, GrantsNone, IsOpenJob, Replies, Settles, StartsTaken, Submits, account_told, progress_told, report_told, submit_refused};
 ghost use Rattle.streams.specs.Refusing.{SaysRefusal, TellsRefusal};
 
-use crate::prepared_request::AdmittedSubmit;
+use crate::admitted_submit::AdmittedSubmit;
 use crate::runner::Runner;
 use crate::submit_refusal::SubmitRefusal;
 use accounts::{Account, Desk, DeskFault, SubmitFault};

@@ -19,6 +19,7 @@ pub use handler::{Handler, TellingHandler};
 pub use serve::serve_stream;
 
 // the answers of a desk and a runner
+mod admitted_submit;
 mod answers;
 mod finished;
 mod forms;
@@ -26,8 +27,9 @@ mod prepared_request;
 mod runner;
 mod submit_refusal;
 
+pub use admitted_submit::AdmittedSubmit;
 pub use finished::pass_finished;
-pub use prepared_request::{AdmittedSubmit, PreparedRequest, prepare, wants_admission};
+pub use prepared_request::{PreparedRequest, prepare, wants_admission};
 pub use runner::Runner;
 pub use submit_refusal::SubmitRefusal;
 

@@ -4,35 +4,12 @@ ghost use Rattle.std.specs.Prelude.{◌≡◌, Ok};
 ghost use Rattle.sessions.specs.Grammar.{request_asked};
 ghost use Rattle.streams.specs.Prepared.{asked_of};
 
+use crate::admitted_submit::AdmittedSubmit;
 use accounts::Desk;
-use job_core::{AdmitFault, Job, ProgramBytes, admit};
+use job_core::admit;
 use sessions::Request;
 use std::alloc::Global;
-use std::marker::Model;
 use std::snapshot::Snapshot;
-
-/// A request for a job, which was admitted or refused. Contracts see it as what was asked.
-#[derive(Drop)]
-pub struct AdmittedSubmit {
-    pub(crate) tenant: String,
-    pub(crate) programs: Vec<ProgramBytes>,
-    pub(crate) credit: u32,
-    pub(crate) admitted: Result<Job, AdmitFault>,
-    pub(crate) buffer: Snapshot<Vec<u8>>,
-}
-
-impl Model for AdmittedSubmit {
-    ghost use Rattle.accounts.specs.Ahead.{IsAdmissionOf};
-    ghost use Rattle.sessions.specs.Grammar.{Asked};
-    ghost use Rattle.streams.specs.Prepared.{submit_asked};
-
-    ghost Value = { Asked };
-
-    ghost view = { λ s. submit_asked s.tenant s.programs.items s.credit s.buffer.value.items };
-
-    ghost invariant = { λ s. IsAdmissionOf s.programs.items s.credit s.buffer.value.items
-        s.admitted };
-}
 
 /// A request as it came, or the number of its refusal; or one for a job, which was admitted or
 /// refused ahead.

@@ -1,7 +1,8 @@
-use Rattle.std.proofs.Common.{refl, sym, subst}
+use Rattle.std.proofs.Common.{refl, sym, subst, ◌∙◌}
 use Rattle.std.proofs.lemmas.Result.{IfOk-weaker}
 use Rattle.sessions.specs.declared.reply.Reply.TheVariants.{Submit, Refused}
 use Rattle.streams.specs.Refusing.{SaysRefusal}
+use Rattle.streams.proofs.Answered.{is_frame}
 use Rattle.streams.proofs.forms.answer_taken.Goals as goal
 
 pub returns-in-Ok-clause-done : goal.returns-in-Ok-clause-done
@@ -28,10 +29,10 @@ returns-in-Err-clause-done g c = record {
 pub returns-in-Ok-clause-refusal : goal.returns-in-Ok-clause-refusal
 returns-in-Ok-clause-refusal g c =
     IfOk-weaker c.reply_frame-reply.result _ _
-    (λ frame is. subst (SaysRefusal c.refused_start.result) (sym is) c.refused_start.ensures)
+    (λ frame is. subst (SaysRefusal c.refused_start.result) (sym (is ∙ is_frame (Submit c.in-Ok.number))) c.refused_start.ensures)
     c.reply_frame-reply.ensures
 
 pub returns-in-Err-clause-refusal : goal.returns-in-Err-clause-refusal
 returns-in-Err-clause-refusal g c =
-    IfOk-weaker c.reply_frame-reply-in-Err.result _ _ (λ frame is. (c.program.result, c.slot.result, is))
+    IfOk-weaker c.reply_frame-reply-in-Err.result _ _ (λ frame is. (c.program.result, c.slot.result, is ∙ is_frame (Refused c.code-code.result c.program.result c.slot.result)))
     c.reply_frame-reply-in-Err.ensures
