@@ -155,6 +155,10 @@ class Doors(unittest.TestCase):
         self.check(STRANGER, [ROOT_GROUP], {**none, ("grants", "alice"): ["ok", "ok"], ("grants", "bob"): [74, "ok"]})
         self.check(MEMBER, [MEMBER, alice], {**none, ("tenants", "alice"): ["ok", 73]})
 
+    def test_each_server_has_a_user(self):
+        """Without a name of its own, each instance of a unit has the same user."""
+        self.assertEqual((unit_lines("DynamicUser"), unit_lines("User")), (["yes"], ["jobs-%i"]))
+
     def test_nobody_takes_a_door_s_place(self):
         """Members of a tenant's group can't put a socket of their own there, nor take theirs away."""
         self.start("alice")
