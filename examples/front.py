@@ -3,11 +3,10 @@
 
     front.py PORT --cert FILE --key FILE --authority FILE --table FILE [OPTION ..]
 
-A client shows a certificate of the authority. A line of the table has the certificate's SHA-256 in
-hexadecimal, the tenant's name, and the path of the socket on which the tenant's `bpfjobs serve`
-listens; `#` begins a comment. Bytes pass in both directions, unread. A certificate that leaves the
-table is out within a second, with the connections that it opened. Each connection is told on
-standard error, a JSON object a line. Port 0 takes a free one, which is printed. SIGTERM ends it."""
+A line of the table has the SHA-256 of a certificate of the authority, its tenant's name, and the
+path of the socket of the tenant's server; `#` begins a comment. Bytes pass unread. A certificate
+that leaves the table is out within a second, with its connections. Each connection is told on
+standard error, a JSON object a line. Port 0 takes a free one and prints it. SIGTERM ends it."""
 
 import argparse
 import asyncio
@@ -24,7 +23,7 @@ from asyncio import get_running_loop as loop
 # where it listens; connections at once, and of each tenant; seconds without a byte
 DEFAULTS = {"address": "127.0.0.1", "connections": 256, "each": 16, "idle": 60.0}
 PIECE = 16384
-HANDSHAKE = 10.0  # seconds for a client to show its certificate
+HANDSHAKE = 10.0  # seconds for a client to show its certificate, where --idle isn't less
 LINGER = 2.0  # seconds for a client to end its stream, once the server has ended
 LOOK = 0.5  # seconds between looks at the table and at the clock
 
@@ -136,7 +135,8 @@ class Front:
         if self.count > self.given.connections:
             return "refused", {"why": "too many"}
         client = Client(stream, self.context)
-        await asyncio.wait_for(client.perform(client.tls.do_handshake), HANDSHAKE)
+        patience = min(HANDSHAKE, self.given.idle)
+        await asyncio.wait_for(client.perform(client.tls.do_handshake), patience)
         shown = hashlib.sha256(client.tls.getpeercert(binary_form=True)).hexdigest()
         row = rows_of(self.given.table).get(shown)
         if row is None:
@@ -162,8 +162,8 @@ class Front:
             with stream:
                 event, members = await self.serve(stream, told)
         except (OSError, EOFError, asyncio.TimeoutError) as error:  # also of TLS
-            words = getattr(error, "verify_message", None) or getattr(error, "reason", None)
-            event, members = "failed", {"why": words or type(error).__name__}
+            why = getattr(error, "verify_message", "") or getattr(error, "reason", "")
+            event, members = "failed", {"why": why or type(error).__name__}
         finally:
             self.count -= 1
         log(event, **told, **members)

@@ -354,8 +354,12 @@ class Front(unittest.TestCase):
             time.sleep(0.1)
         self.check_closed(silent, "alice")
         self.assertEqual(busy.account("bob")["granted"], 2000)
-        (closed,) = [event for event in self.events(left=1) if event["event"] == "closed"]
+        with socket.create_connection(("localhost", self.port), timeout=PATIENCE) as stranger:
+            self.assertEqual(stranger.recv(1), b"")  # it showed no certificate
+            busy.account("bob")
+        (closed, failed) = [event for event in self.events(left=1) if event["event"] in ("closed", "failed")]
         self.assertEqual((closed["tenant"], closed["end"]), ("alice", "idle"))
+        self.assertEqual((failed["why"], "tenant" in failed), ("TimeoutError", False))
 
     def test_the_most_connections(self):
         """Of a tenant and in all. Where one ends, there is room again."""
