@@ -155,10 +155,6 @@ class Doors(unittest.TestCase):
         self.check(STRANGER, [ROOT_GROUP], {**none, ("grants", "alice"): ["ok", "ok"], ("grants", "bob"): [74, "ok"]})
         self.check(MEMBER, [MEMBER, alice], {**none, ("tenants", "alice"): ["ok", 73]})
 
-    def test_each_server_has_a_user(self):
-        """Without a name of its own, each instance of a unit has the same user."""
-        self.assertEqual((unit_lines("DynamicUser"), unit_lines("User")), (["yes"], ["jobs-%i"]))
-
     def test_nobody_takes_a_door_s_place(self):
         """Members of a tenant's group can't put a socket of their own there, nor take theirs away."""
         self.start("alice")
@@ -197,8 +193,12 @@ class Doors(unittest.TestCase):
         self.check(MEMBER, [TENANTS["alice"][1]], {("tenants", "alice"): self.IN, ("grants", "alice"): self.OUT})
 
 
-class Limits(unittest.TestCase):
-    """What the unit's limits leave a server."""
+class Settings(unittest.TestCase):
+    """What the unit's settings give a server."""
+
+    def test_each_server_has_a_user(self):
+        """Without a name of its own, each instance of a unit has the same user."""
+        self.assertEqual((unit_lines("DynamicUser"), unit_lines("User")), (["yes"], ["jobs-%i"]))
 
     def test_the_threads_that_start_have_room(self):
         (line,) = unit_lines("ExecStart")
