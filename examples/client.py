@@ -3,8 +3,11 @@
 
     client.py PORT COMMAND [WORD ..]    does one command
     client.py PORT                      does those of standard input, one a line
+    client.py PATH ..                   the same on a socket in the file system
+    client.py HOST:PORT ..              the same over TLS, by the files that are named in the
+                                        environment: CERT and KEY of the client, and AUTHORITY
 
-Commands:
+A path has a slash. Commands:
 
     grant TENANT AMOUNT     adds credit to a tenant
     account TENANT          tells what a tenant has
@@ -18,7 +21,9 @@ Each reply is printed as it came. Status: 0 where all requests were answered, 1 
 """
 
 import json
+import os
 import socket
+import ssl
 import struct
 import sys
 import time
@@ -42,18 +47,22 @@ class Client:
     # The number of the refusal of a result: the job is still open.
     OPEN = 77
 
-    def __init__(self, port, host="127.0.0.1", patience=5.0):
-        """Connects. A server that isn't listening yet is asked again, for so many seconds."""
+    def __init__(self, port, host="127.0.0.1", patience=5.0, tls=None):
+        """Connects to a port, or to a path's socket where `port` is a text; over TLS by a context of
+        `ssl` in `tls`. A server that isn't listening yet is asked again, for so many seconds."""
         self.text = ""
         until = time.monotonic() + patience
         while True:
             try:
-                self.stream = socket.create_connection((host, port))
-                return
-            except ConnectionRefusedError:
+                at_path = isinstance(port, str)
+                self.stream = connect_local(port) if at_path else socket.create_connection((host, port))
+                break
+            except (ConnectionRefusedError, FileNotFoundError):
                 if time.monotonic() > until:
                     raise
                 time.sleep(0.05)
+        if tls:
+            self.stream = tls.wrap_socket(self.stream, server_hostname=host)
 
     def __enter__(self):
         return self
@@ -108,6 +117,28 @@ class Client:
         return bytes(parts)
 
 
+def connect_local(path):
+    stream = socket.socket(socket.AF_UNIX)
+    try:
+        stream.connect(path)
+    except OSError:
+        stream.close()
+        raise
+    return stream
+
+
+def place_of(word):
+    """What `Client` takes for the place that the first word names."""
+    if "/" in word:
+        return {"port": word}
+    host, _, port = word.rpartition(":")
+    if not host:
+        return {"port": int(port)}
+    tls = ssl.create_default_context(cafile=os.environ["AUTHORITY"])
+    tls.load_cert_chain(os.environ["CERT"], os.environ["KEY"])
+    return {"port": int(port), "host": host, "tls": tls}
+
+
 def load(path):
     with open(path, encoding="utf-8") as file:
         return json.load(file)
@@ -140,12 +171,22 @@ def perform(client, words):
 
 
 def main(words):
-    if not words or not words[0].isdigit():
+    if not words or not (words[0].rpartition(":")[2].isdigit() or "/" in words[0]):
         print(__doc__, file=sys.stderr)
         return 2
     lines = [words[1:]] if len(words) > 1 else (line.split() for line in sys.stdin if line.strip())
     try:
-        with Client(int(words[0])) as client:
+        place = place_of(words[0])
+    except (KeyError, OSError) as error:
+        print(f"no place for a client over TLS: {error}", file=sys.stderr)
+        return 2
+    try:
+        client = Client(**place)
+    except OSError as error:
+        print(error, file=sys.stderr)
+        return 3
+    try:
+        with client:
             answers = [perform(client, line) for line in lines]
     except (ValueError, FileNotFoundError) as error:
         print(error, file=sys.stderr)

@@ -22,6 +22,7 @@ Release = namedtuple("Release", "version tree built provenance date libc")
 
 PLATFORM = "x86_64-linux-gnu"
 PROGRAMS = ("bpfjobs", "bpfrun")
+UNITS = ("telgovan.service", "bpfjobs@.service")
 LICENSES = ("LICENSE-APACHE", "LICENSE-MIT")
 # what a user reads, below the folder of pages, where its own links lead on
 PAGES = re.compile(r"(CHANGELOG|README|bindings/\w+/README)\.md$|LICENSE|docs/(measurements/)?[\w-]+\.(md|svg)$|examples/")
@@ -97,7 +98,8 @@ def stage(release, room):
         put(built / name, room / "bin" / name, 0o755)
         put(tree / f"docs/man/{name}.1", room / f"share/man/man1/{name}.1")
         put(tree / f"docs/man/{name}.bash", room / f"share/bash-completion/completions/{name}")
-    put(tree / "examples/systemd/telgovan.service", room / "lib/systemd/system/telgovan.service")
+    for name in UNITS:
+        put(tree / "examples/systemd" / name, room / "lib/systemd/system" / name)
     if (built / "telgovan.html").exists():
         put(built / "telgovan.html", room / "share/telgovan/telgovan.html")
     pages = room / "share/doc/telgovan"
@@ -152,11 +154,12 @@ def stage_debian(release, room):
     set_prefix(usr, "", "/usr", f"lib/{PLATFORM}")
     (room / "lib").mkdir()
     (usr / "lib/systemd").rename(room / "lib/systemd")
-    unit = room / "lib/systemd/system/telgovan.service"
-    text = unit.read_text(encoding="utf-8")
-    if "/usr/local/bin/bpfjobs " not in text:
-        raise Failed("the unit starts no /usr/local/bin/bpfjobs")
-    put(text.replace("/usr/local/bin/", "/usr/bin/"), unit)
+    for name in UNITS:
+        unit = room / "lib/systemd/system" / name
+        text = unit.read_text(encoding="utf-8")
+        if "/usr/local/bin/bpfjobs " not in text:
+            raise Failed(f"{name} starts no /usr/local/bin/bpfjobs")
+        put(text.replace("/usr/local/bin/", "/usr/bin/"), unit)
     for page in sorted(usr.glob("share/man/man?/*")):
         packed(page)
     for name in LICENSES:
