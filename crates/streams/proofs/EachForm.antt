@@ -65,8 +65,9 @@ to_none starts looks desk runner asks code told is tells =
     subst P (sym is) (subst Q (sym tells) refl, refl, refl)
 
 pub to_admitted : {R : Type 0} (starts : R → ℕ → core.AdmittedJob → Result (Unit {0}) ℕ → R → Type 0) (looks : R → ℕ → Progress → R → Type 0) (desk after : Ledger) (runner left : R) (told : Data)
-    (asked : Asked) (tenant : String Global) (programs : List ProgramBytes) (credit : ℕ) (buffer : List ℕ) → asked ≡ submit_asked tenant programs credit buffer →
-    Submits starts desk runner (string_bytes tenant) programs credit buffer told after left → Replies starts looks desk runner (Ok asked) told after left
+    (asked : Asked) (tenant : String Global) (programs : List ProgramBytes) (credit : ℕ) (buffer : List ℕ) (name : List ℕ) → asked ≡ submit_asked tenant programs credit buffer →
+    name ≡ string_bytes tenant → Submits starts desk runner name programs credit buffer told after left → Replies starts looks desk runner (Ok asked) told after left
 unfolding Replies
-to_admitted starts looks desk after runner left told asked tenant programs credit buffer is done =
-    subst (λ (a : Asked). Replies starts looks desk runner (Ok a) told after left) (sym is) (programs, refl, done)
+to_admitted starts looks desk after runner left told asked tenant programs credit buffer name is same done =
+    let P : List ℕ → Type 0 = λ n. Submits starts desk runner n programs credit buffer told after left in
+    subst (λ (a : Asked). Replies starts looks desk runner (Ok a) told after left) (sym is) (programs, refl, subst P same done)

@@ -1,10 +1,9 @@
-use Rattle.std.proofs.Common.{refl, Err}
 use Rattle.streams.proofs.EachForm.{to_none}
 use Rattle.streams.proofs.answers.reply_to.Goals as goal
 
 pub returns-in-AsItCame-Err-clause-done : goal.returns-in-AsItCame-Err-clause-done
 returns-in-AsItCame-Err-clause-done g c = record {
   told = c.refused.result;
-  was = rw c.in-AsItCame-Err.is (to_none g.N.Runner.starts g.N.Runner.looks c.args.desk.now c.args.runner.now (Err c.in-AsItCame-Err.code) c.in-AsItCame-Err.code c.refused.result refl c.refused.ensures);
+  was = rw c.in-AsItCame-Err.is (to_none g.N.Runner.starts g.N.Runner.looks c.args.desk.now c.args.runner.now c.in-AsItCame-Err.field-0 c.in-AsItCame-Err.code c.refused.result c.in-AsItCame-Err.field-0-is c.refused.ensures);
   frame = c.reply_frame.ensures;
 }
