@@ -5,7 +5,7 @@ use crate::callers::{added, greatest, weighed};
 use crate::row::{bytes_of, memory_of, text_of, words_of};
 use anyhow::bail;
 use std::alloc::Global;
-use virtual_machine::Vm;
+use virtual_machine::{RegisterFault, Vm};
 
 /// Runs the program that is set: R0 or why there is none, and the memory then.
 fn run(alloc: Global, vm: &mut Vm, credit: &str, memory: &str) -> anyhow::Result<String> {
@@ -34,28 +34,21 @@ fn start(alloc: Global, need: &str, credit: &str, program: &str) -> anyhow::Resu
     }
 }
 
-/// Registers a helper of the caller's, or tells why not.
-fn add(alloc: Global, vm: &mut Vm, id: &str, arity: &str) -> anyhow::Result<String> {
-    let (id, arity) = (id.parse::<u32>()?, arity.parse::<u32>()?);
-    let answer = match id {
-        64 => vm.try_register_helper(alloc, id, arity, added),
-        65 => vm.try_register_helper(alloc, id, arity, weighed),
-        _ => vm.try_register_helper(alloc, id, arity, greatest),
-    };
+/// What the machine answers to a helper of the caller's.
+fn registered(alloc: Global, answer: Result<(), RegisterFault>) -> anyhow::Result<String> {
     match answer {
         Ok(()) => Ok(String::from_str(alloc, "added")?),
         Err(fault) => Ok(format!(in alloc; "{}", fault.code())?),
     }
 }
 
-/// What the machine answers to a call that sets no program.
+/// What the machine answers to a call that sets no program and adds no helper.
 fn told(alloc: Global, vm: &mut Vm, words: &[&str], program: &str) -> anyhow::Result<String> {
     match words {
         ["has"] => {
             let has = vm.has_program();
             Ok(format!(in alloc; "{has}")?)
         }
-        ["add", id, arity] => add(alloc, vm, id, arity),
         ["run", credit, memory] => run(alloc, vm, credit, memory),
         ["start", need, credit] => start(alloc, need, credit, program),
         _ => bail!("no such call"),
@@ -77,6 +70,16 @@ pub fn answers(alloc: Global, calls: &str) -> anyhow::Result<String> {
                     Ok(()) => String::from_str(alloc, "set")?,
                     Err(refusal) => format!(in alloc; "{refusal}")?,
                 }
+            }
+            Some(("add", numbers)) => {
+                let (id, arity) = numbers.split_once(' ').unwrap_or((numbers, ""));
+                let (id, arity) = (id.parse::<u32>()?, arity.parse::<u32>()?);
+                let answer = match id {
+                    64 => vm.try_register_helper(alloc, id, arity, added),
+                    65 => vm.try_register_helper(alloc, id, arity, weighed),
+                    _ => vm.try_register_helper(alloc, id, arity, greatest),
+                };
+                registered(alloc, answer)?
             }
             _ => told(alloc, &mut vm, &words_of(alloc, words)?, program)?,
         };
