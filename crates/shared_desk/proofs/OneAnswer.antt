@@ -3,6 +3,9 @@ use Rattle.std.proofs.Common.{◌≡◌, ℕ, List, [], ◌∷◌, ◌++◌, Res
 use Rattle.std.specs.Prelude.{IfOk, OnErr}
 use mathlib.Core.List.{IsPrefix}
 use Rattle.refusal.specs.declared.NoMemory.{NoMemory}
+use Rattle.sessions.specs.Grammar.{Asked}
+use Rattle.shared_desk.specs.declared.passage.Passage.{Passage}
+use Rattle.shared_desk.specs.Grants.{admitted, admitted_by}
 use Rattle.shared_desk.specs.Histories.{HistoryEntry, Query, Replays, none_yet, one_more, part_of}
 use Rattle.shared_desk.specs.ClientViews.{ClientView}
 use Rattle.shared_desk.specs.Answered.{IsSharedAnswer, Records, entry_for}
@@ -80,3 +83,13 @@ module _ {S : Type 0} (answers : S → Query → List ℕ → S → Type 0) (beg
       → ((s : S) × Replays answers begins w.seen s) × (part_of w.number w.seen ≡ w.part)
   legal_after A v query w (Ok r) ok err = (legal_seen v query r.items w ok.1, own_part v query r.items w ok.1)
   legal_after A v query w (Err x) ok err = (legal_seen v query err.0 w err.2, own_part v query err.0 w err.2)
+
+  -- the same answer, where nothing of it was written, to what was asked in other words
+  pub shared_err : (A : List ℕ → Type 0) (v w : ClientView) (asked heard : Query) (reply : Result (Vec ℕ Global) NoMemory) → asked ≡ heard
+      → OnErr reply ((bytes : List ℕ) × A bytes × IsSharedAnswer answers begins v asked bytes w) → OnErr reply ((bytes : List ℕ) × IsSharedAnswer answers begins v heard bytes w)
+  shared_err A v w asked heard (Ok r) is err = tt
+  shared_err A v w asked heard (Err x) is err = (err.0, subst (λ (q : Query). IsSharedAnswer answers begins v q err.0 w) is err.2)
+
+-- what comes to the desk of what was heard by a passage
+pub passed : (p q : Passage) (asked heard : Result Asked ℕ) → p ≡ q → asked ≡ admitted p.may_grant heard → record { passage = p; asked = asked } ≡ admitted_by q heard
+passed p q asked heard same is = ap (λ (a : Result Asked ℕ). record { passage = p; asked = a }) is ∙ ap (λ (r : Passage). admitted_by r heard) same

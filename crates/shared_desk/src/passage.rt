@@ -11,12 +11,11 @@ use std::marker::Brand;
 // The number of the refusal of what is no request.
 const NO_REQUEST: u8 = 73;
 
-/// The door that a connection came by, and whether it may grant there.
+/// The door that a connection came by, and whether it may grant.
 #[derive(Clone, Copy, Debug, PartialEq, Eq)]
 pub struct Passage {
-    /// A tenant's door, from 1 on; 0: a door of the host's.
-    pub door: u32,
-    /// Whether its grants come to the desk.
+    pub door: Door,
+    /// Whether its grants come to the desk. Else a grant is no request: 73.
     pub may_grant: bool,
 }
 

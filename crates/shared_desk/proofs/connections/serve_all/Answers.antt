@@ -1,4 +1,4 @@
-use Rattle.std.proofs.Common.{arith, slice_index_or, true}
+use Rattle.std.proofs.Common.{arith, slice_index_or}
 use Rattle.shared_desk.specs.Grants.{by_port}
 use Rattle.shared_desk.specs.Parts.{IsServedClient}
 use Rattle.shared_desk.proofs.WholeStream.{served_whole_part}

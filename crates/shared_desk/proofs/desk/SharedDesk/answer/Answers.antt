@@ -7,7 +7,7 @@ use Rattle.shared_desk.proofs.desk.SharedDesk.answer.Goals as goal
 pub add-requires : goal.add-requires
 add-requires g c =
     rw (c.of-desk_before.ensures, c.of-handler_before.ensures, c.of-asked.ensures)
-    (has_entry g.H.SharedHandler.answers g.J.Origin.begins _ _ _ c.args.seat.now.number _ c.answer-reply.ensures.ok c.answer-reply.ensures.err)
+    (has_entry g.H.SharedHandler.answers g.J.Origin.begins _ _ _ c.args.seat.now.number _ c.answer_by-reply.ensures.ok c.answer_by-reply.ensures.err)
 
 pub invariant_of-self : goal.invariant_of-self
 invariant_of-self g c =
@@ -15,7 +15,7 @@ invariant_of-self g c =
     let is = same_entry g.H.SharedHandler.answers g.J.Origin.begins _ (c.self.inside.desk, c.self.inside.handler) _ (query_by c.args.passage c.args.request) _ _ n.0 (λ i. (c.of-desk_before.ensures i, c.of-handler_before.ensures i)) (ap (query_by c.args.passage) c.of-asked.ensures) n.1 in
     let known = c.self.invariant in
     let told = told_of c.self.inside.recorder.1 c.add.new.recorder.1 c.self.inside.over c.self.inside.outcome (ap (λ r. r.1) n.4) (known.2, known.3, known.4) in
-    (c.answer-reply.ensures.ready, replays_on g.H.SharedHandler.answers g.J.Origin.begins _ _ _ _ _ n.0 _ known.1 is (ap (λ r. r.0) n.4), told.0, told.1, told.2, still_came g.J.HistoryId.comes _ _ (ap (λ r. r.1) n.4) known.5)
+    (c.answer_by-reply.ensures.ready, replays_on g.H.SharedHandler.answers g.J.Origin.begins _ _ _ _ _ n.0 _ known.1 is (ap (λ r. r.0) n.4), told.0, told.1, told.2, still_came g.J.HistoryId.comes _ _ (ap (λ r. r.1) n.4) known.5)
 
 pub returns-clause-ok : goal.returns-clause-ok
 returns-clause-ok g c =
