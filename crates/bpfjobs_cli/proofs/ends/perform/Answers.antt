@@ -1,28 +1,13 @@
-use Rattle.std.proofs.Common.{Err, ap, refl}
-use Rattle.std.proofs.lemmas.Result.{IfErr-weaker, err_from_is_err_and}
-use Rattle.bpfjobs_cli.proofs.GivenUp.{given_up_early, given_up_late}
+use Rattle.std.proofs.lemmas.Result.{IfErr-weaker}
+use Rattle.bpfjobs_cli.proofs.GivenUp.{given_up_late}
 use Rattle.bpfjobs_cli.proofs.ends.perform.Goals as goal
 
-pub returns-in_err-input-clause-stopped : goal.returns-in_err-input-clause-stopped
-returns-in_err-input-clause-stopped g c =
-    let stopped = c.in_err-input.ensures.stopped in
-    let p = err_from_is_err_and c.from_residual.result c.from_residual.ensures.1 in
-    rw p.1 (rw p.2 (
-      stopped.0,
-      stopped.1,
-      given_up_early c.in_err-input.field-0.0 _ _ _ (λ e. c.in_err-input.ensures.no_other (ap (λ f. Err f) e)),
-    ))
-
-pub returns-in_err-answer-clause-stopped : goal.returns-in_err-answer-clause-stopped
-returns-in_err-answer-clause-stopped g c =
-    let p = err_from_is_err_and c.from_residual-in_err-answer.result c.from_residual-in_err-answer.ensures.1 in
-    rw p.1 (rw p.2 (c.in_ok-input.input.items, c.in_ok-input.ensures.told, refl))
-
-pub returns-clause-stopped : goal.returns-clause-stopped
-returns-clause-stopped g c =
-    let answers = rw c.deref.ensures.value at c.in_ok-answer.ensures in
-    IfErr-weaker c.tell.result _ _ (λ fault told. (
-      c.in_ok-input.input.items,
-      c.in_ok-input.ensures.told,
-      given_up_late fault _ _ _ _ c.in_ok-answer.answer.text.items c.in_ok-answer.answer.status c.in_ok-input.ensures.over answers told,
-    )) c.tell.ensures.err
+pub returns-in_ok-answer-in-Run-clause-stopped : goal.returns-in_ok-answer-in-Run-clause-stopped
+returns-in_ok-answer-in-Run-clause-stopped g c =
+    let answers = rw c.deref.ensures.value at c.in_ok-answer-in-Run.ensures in
+    rw c.in-Run.is
+    (IfErr-weaker c.tell.result _ _ (λ fault told. (
+      c.in_ok-input-in-Run.input.items,
+      c.in_ok-input-in-Run.ensures.told,
+      given_up_late fault _ _ _ _ c.in_ok-answer-in-Run.answer.text.items c.in_ok-answer-in-Run.answer.status c.in_ok-input-in-Run.ensures.over answers told,
+    )) c.tell.ensures.err)
