@@ -1,6 +1,7 @@
 use Rattle.std.proofs.Common.{ap, ◌∙◌, sym, subst}
 use Rattle.std.specs.Prelude.{All}
 use Rattle.job_server.specs.Listening.{AreOf, CameBy}
+use Rattle.job_server.proofs.Alike.{beside}
 use Rattle.job_server.proofs.AtOnceAlike.{hosted_serving, keeping}
 use Rattle.job_server.proofs.serving.serve_on_pool.Goals as goal
 
