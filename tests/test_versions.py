@@ -29,6 +29,7 @@ TOLD = (
     ("bindings/python/telgovan.py", r'^__version__ = "(.*)"$'),
     ("crates/bpfjobs_cli/src/texts.rt", r'const VERSION: &str = "(.*)";$'),
     ("crates/bpfrun_core/src/texts.rt", r'const VERSION: &str = "(.*)";$'),
+    ("docs/try.html", r'^const VERSION = "(.*)";$'),
     ("tests/data/commands.txt", r"^(?:--version|-V) .* bpfjobs (\S+)$"),
 )
 # a file whose version is put in where it is installed or built, and the word that stands for it
