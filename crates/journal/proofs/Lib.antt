@@ -1,0 +1,3 @@
+pub mod RecordLemmas
+mod ChecksumLemmas
+mod TailLemmas

@@ -1,0 +1,2 @@
+pub mod FileLogs
+pub mod FilePairs

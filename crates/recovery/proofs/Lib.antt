@@ -1,0 +1,3 @@
+pub mod CrashLemmas
+pub mod HistoryLemmas
+mod OpeningLemmas

@@ -1,0 +1,5 @@
+pub mod Histories
+pub mod Crashes
+pub mod Writers
+pub mod Journals
+pub mod Openings
