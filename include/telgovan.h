@@ -283,6 +283,77 @@ uint32_t telgovan_job(const uint8_t *code, size_t code_length, const struct telg
                       struct telgovan_task *tasks, size_t tasks_length,
                       struct telgovan_report *report);
 
+/* Admits a job as telgovan_job, and writes its steps along a schedule: a JSON object for each, with
+ * a line feed behind it. An entry of the schedule is the number of the task whose instruction is
+ * next; one that names no live task is passed over. The members are those of telgovan_trace but
+ * `line`, with `task` ahead of them. Behind them is `r0` where the task ends there, or `spawned`
+ * where a task is spawned there, with its number `task`, its `program`, `share`, `argument` and
+ * `bytes`. The buffer stays as it is. No spawn that passes its tests is refused.
+ *
+ * It answers the status: that of the job's refusal, with the place of the program that it is about;
+ * 65 where the room is too short, 99, or 0. 65 of length 0 is over a limit; that is also told where
+ * the position of a pointer has more than 64 bits. */
+uint32_t telgovan_job_trace(const uint8_t *code, size_t code_length,
+                            const struct telgovan_piece *pieces, size_t pieces_length,
+                            uint32_t credit, const uint8_t *buffer, size_t buffer_length,
+                            const uint32_t *schedule, size_t schedule_length, uint8_t *room,
+                            size_t room_length, struct telgovan_written *written);
+
+/* ---- Jobs under way, of which the host says whose instruction is next */
+
+/* A handle: a job under way, or none. It begins as {0}, which holds none. What is said of struct
+ * telgovan_program holds of it too: its fields are the library's, no copy of it is used, one call
+ * at a time uses it, and one that is overwritten or forgotten leaks. */
+struct telgovan_world {
+    void *held;
+    bool opened;
+};
+
+/* What a run of a task came to. */
+enum telgovan_came_to {
+    TELGOVAN_SKIPPED = 0, /* no task of this number is alive, and nothing ran */
+    TELGOVAN_GOES_ON = 1, /* as many instructions ran as may */
+    TELGOVAN_HAS_ENDED = 2
+};
+
+struct telgovan_step {
+    uint64_t r0;       /* where the task has ended, R0 */
+    uint32_t status;   /* 0, or 41 where the handle holds no job */
+    uint32_t came_to;  /* an enum telgovan_came_to */
+    uint32_t count;    /* how many instructions ran */
+    uint32_t tasks;    /* how many tasks there are, numbered from 0 in the order of their spawns */
+    uint32_t held;     /* the credit that live tasks hold */
+    uint32_t returned; /* the credit that came back from those that ended */
+    uint32_t spent;    /* the credit that those spent; the three make what was issued */
+    uint32_t used;     /* what all tasks have used so far */
+    bool is_complete;  /* whether no task is alive */
+};
+
+/* Admits a job as telgovan_job, and lets the handle hold it at its start, in place of the one that
+ * it held: its root alone, with all of the credit, on a copy of the buffer. It answers the report's
+ * status; where that isn't 0, the handle holds what it held. */
+uint32_t telgovan_world_open(const uint8_t *code, size_t code_length,
+                             const struct telgovan_piece *pieces, size_t pieces_length,
+                             uint32_t credit, const uint8_t *buffer, size_t buffer_length,
+                             struct telgovan_world *world, struct telgovan_report *report);
+
+/* Runs a task of the job on from its next instruction: `limit` instructions at most, or until it
+ * ends. It tells what that came to and how the job stands, also where nothing ran. Once no task is
+ * alive, the buffer, the R0s of the tasks by their places in the tree and the credit spent are the
+ * same whatever the order was, but where a spawn was refused for want of memory. It answers 0, or
+ * 41 where the handle holds no job. */
+uint32_t telgovan_world_run(struct telgovan_world *world, uint32_t number, uint32_t limit,
+                            struct telgovan_step *step);
+
+/* Writes the buffer of the job as it is now. It answers 0; 65 where the room is too short, with the
+ * length that it takes; 41 where the handle holds no job, or 99. */
+uint32_t telgovan_world_buffer(struct telgovan_world *world, uint8_t *room, size_t room_length,
+                               struct telgovan_written *written);
+
+/* Lets go of the job, whether it is over or not. The handle holds none from then on, so that a
+ * second call does nothing. */
+void telgovan_world_drop(struct telgovan_world *world);
+
 /* ---- Desks: accounts and jobs of many clients, whatever carries their bytes */
 
 /* A handle: a desk, or none. It begins as {0}, which holds none. What is said of struct

@@ -28,15 +28,25 @@ def page(module: bytes) -> str:
     def text(name: str) -> str:
         return (HERE / name).read_text(encoding="utf-8")
 
+    def listed(examples: list) -> str:
+        return json.dumps(examples).replace("</", "<\\/")
+
     examples = [filled(example) for example in json.loads(text("examples.json"))]
+    jobs = json.loads(text("job_examples.json"))
+    for job in jobs:
+        job["programs"] = [filled(program) for program in job["programs"]]
     parts = {
         "/*STYLE*/": text("page.css"),
         "/*LIBRARY*/": text("telgovan.js"),
         "/*FLOW*/": text("flow.js"),
         "/*GRAPH*/": text("graph.js"),
         "/*STEPS*/": text("steps.js"),
+        "/*JOB*/": text("job.js"),
+        "/*JOB_TREE*/": text("job_tree.js"),
         "/*PAGE*/": text("page.js"),
-        "/*EXAMPLES*/[]": json.dumps(examples).replace("</", "<\\/"),
+        "/*JOB_PAGE*/": text("job_page.js"),
+        "/*EXAMPLES*/[]": listed(examples),
+        "/*JOB_EXAMPLES*/[]": listed(jobs),
         "/*VERSION*/": VERSION.read_text(encoding="utf-8").strip(),
         "/*MODULE*/": base64.b64encode(gzip.compress(module, 9, mtime=0)).decode(),
     }

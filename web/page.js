@@ -21,22 +21,27 @@ let written = ""; // the address that the page wrote last
 
 // ---- what is typed
 
+// A field's name, as it is told.
+const field_name = (id) => id.replace(/^job_/, "");
+
 function number(id, limit) {
     const text = at(id).value.trim();
-    if (!/^[0-9]+$/.test(text) || BigInt(text) >= limit) throw new Error(`${id}: a number from 0 to ${limit - 1n}`);
+    if (!/^[0-9]+$/.test(text) || BigInt(text) >= limit) {
+        throw new Error(`${field_name(id)}: a number from 0 to ${limit - 1n}`);
+    }
     return BigInt(text);
 }
 
 // Bytes in hexadecimal, in which a pair may be repeated, as 00*64.
-function bytes() {
+function bytes(id = "memory") {
     const found = [];
-    for (const word of at("memory").value.trim().split(/\s+/)) {
+    for (const word of at(id).value.trim().split(/\s+/)) {
         if (!word) continue;
         const parts = /^((?:[0-9a-fA-F]{2})+)(?:\*([0-9]{1,7}))?$/.exec(word);
-        if (!parts) throw new Error(`memory: pairs of hexadecimal digits, and not ${word.slice(0, 20)}`);
+        if (!parts) throw new Error(`${field_name(id)}: pairs of hexadecimal digits, and not ${word.slice(0, 20)}`);
         const piece = parts[1].match(/../g).map((pair) => parseInt(pair, 16));
         const times = parts[2] === undefined ? 1 : Number(parts[2]);
-        if (found.length + piece.length * times > MOST_BYTES) throw new Error("memory: over 1,048,576 bytes");
+        if (found.length + piece.length * times > MOST_BYTES) throw new Error(`${field_name(id)}: over 1,048,576 bytes`);
         for (let time = 0; time < times; time++) for (const one of piece) found.push(one);
     }
     return Uint8Array.from(found);
@@ -62,7 +67,7 @@ function made(name, text, className = "") {
 
 function tell(verdict, kind, facts = []) {
     at("verdict").textContent = verdict;
-    at("verdict").className = kind;
+    at("verdict").className = `verdict ${kind}`;
     at("facts").replaceChildren(...facts.flatMap(([name, value]) => [made("dt", name), made("dd", String(value))]));
 }
 
@@ -304,11 +309,21 @@ function keep(is_run = false) {
     for (const [id, usual] of Object.entries(FIELDS)) if (at(id).value !== usual) told.set(id, at(id).value);
     if (is_run) told.set("do", "run");
     told.set("source", at("source").value);
+    keep_told(told);
+}
+
+function keep_told(told) {
     written = `#${told}`;
+    write_address();
+}
+
+// A browser that is asked too often, or for too long an address, keeps the old one. It is asked again.
+function write_address() {
+    clearTimeout(write_address.timer);
     try {
         history.replaceState(null, "", written);
     } catch {
-        // A browser that is asked too often, or for too long an address, keeps the old one.
+        write_address.timer = setTimeout(write_address, 2000);
     }
 }
 
@@ -335,6 +350,12 @@ function guarded(work) {
 // Does what the address says; without a program there, shows the first example.
 function read_address() {
     const told = new URLSearchParams(location.hash.slice(1));
+    const is_job = told.get("view") === "job";
+    show_view(is_job ? "job" : "program");
+    if (is_job) {
+        read_job(told);
+        return;
+    }
     if (!told.has("source")) {
         show_example(0);
         return;
@@ -362,16 +383,54 @@ function at_once(work, is_run) {
 const do_verify = () => at_once(judge, false);
 const do_run = () => at_once(run, true);
 
-async function copy_link() {
-    const told = (text) => { at("shared").textContent = text; };
+// (the address itself may be older, where a browser refused to change it)
+async function copy_link(room) {
+    const told = (text) => { at(room).textContent = text; };
     try {
-        await navigator.clipboard.writeText(location.href);
+        await navigator.clipboard.writeText(location.href.split("#")[0] + written);
         told("copied");
     } catch {
         told("the address of this page is the link");
     }
     setTimeout(() => told(""), 3000);
 }
+
+// ---- the views
+
+const VIEWS = ["program", "job"];
+
+function show_view(name) {
+    for (const one of VIEWS) {
+        at(`tab_${one}`).ariaSelected = String(one === name);
+        at(`tab_${one}`).tabIndex = one === name ? 0 : -1;
+        at(`${one}_view`).hidden = one !== name;
+    }
+}
+
+// Shows a view as a person asks for it, with what it had or else with its first example.
+function open_view(name) {
+    clearTimeout(typed.timer);
+    show_view(name);
+    at(`tab_${name}`).focus();
+    if (name === "job" && !program_boxes().length) show_job_example(0);
+    else if (name === "job") keep_job();
+    else if (at("source").value) do_verify();
+    else show_example(0);
+}
+
+function listen_to_views() {
+    VIEWS.forEach((name, place) => {
+        at(`tab_${name}`).onclick = () => open_view(name);
+        at(`tab_${name}`).onkeydown = (event) => {
+            const to = { ArrowLeft: place - 1, ArrowRight: place + 1, Home: 0, End: VIEWS.length - 1 }[event.key];
+            if (to === undefined) return;
+            event.preventDefault();
+            open_view(VIEWS[(to + VIEWS.length) % VIEWS.length]);
+        };
+    });
+}
+
+// ---- keys and clicks
 
 function typed() {
     at("examples").value = "";
@@ -388,7 +447,7 @@ function listen() {
     for (const id of Object.keys(FIELDS)) at(id).oninput = typed;
     at("verify").onclick = do_verify;
     at("run").onclick = do_run;
-    at("share").onclick = copy_link;
+    at("share").onclick = () => copy_link("shared");
     at("graphs").ontoggle = guarded(draw_if_open);
     for (const [name, move] of [["first", "Home"], ["back", "ArrowLeft"], ["forth", "ArrowRight"], ["last", "End"]]) {
         at(`step_${name}`).onclick = () => go_to(MOVES[move]());
@@ -404,7 +463,8 @@ function listen() {
         if (!event.ctrlKey && !event.metaKey) return;
         if (event.key !== "Enter") return;
         event.preventDefault();
-        if (event.shiftKey) do_run();
+        if (!at("job_view").hidden) (event.shiftKey ? do_run_all : do_start)();
+        else if (event.shiftKey) do_run();
         else do_verify();
     };
     window.onhashchange = () => { if (location.hash !== written) read_address(); };
@@ -416,7 +476,32 @@ async function module_bytes() {
     return new Uint8Array(await new Response(stream).arrayBuffer());
 }
 
+// A module of nothing but a memory of 64 bits.
+const LARGE_MEMORY = Uint8Array.of(0, 97, 115, 109, 1, 0, 0, 0, 5, 3, 1, 4, 1);
+
+// Why this browser can't run the library, in words.
+function told_unable() {
+    const known = "Chrome, Chromium and Edge have it from version 133 on, and Firefox from version 134 on.";
+    if (!globalThis.WebAssembly) return `This browser has no WebAssembly. Take another one: ${known}`;
+    if (!WebAssembly.validate(LARGE_MEMORY)) {
+        return `The WebAssembly of this browser has no memory of 64 bits, which the library needs. ${known}`;
+    }
+    return typeof DecompressionStream === "function" ? "" : `This browser has no DecompressionStream. ${known}`;
+}
+
+function tell_unable(why) {
+    show_view("program");
+    tell(why, "bad");
+    hide("views");
+    document.documentElement.dataset.unable = "yes";
+}
+
 async function start() {
+    const unable = told_unable();
+    if (unable) {
+        tell_unable(unable);
+        return;
+    }
     try {
         const body = await module_bytes();
         library = new Telgovan(await WebAssembly.compile(body));
@@ -425,10 +510,12 @@ async function start() {
             `The module has ${body.length.toLocaleString("en")} bytes and imports ${imports}. ` +
             "The page asks no network for anything: what you type stays in this page and in its address.";
     } catch (wrong) {
-        tell(`This browser can't run the library, which wants WebAssembly with a memory of 64 bits: ${wrong.message}`, "bad");
+        tell_unable(`This browser can't run the library: ${wrong.message}`);
         return;
     }
     listen();
+    listen_to_views();
+    listen_to_job();
     read_address();
     document.documentElement.dataset.ready = "yes";
 }

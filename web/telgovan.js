@@ -2,6 +2,10 @@
 // `include/telgovan.h` declares what is called.
 "use strict";
 
+// The sizes of the header's structures, and what a run of a task comes to.
+const [PIECE_SIZE, HANDLE_SIZE, REPORT_SIZE, STEP_SIZE] = [24, 16, 32, 48];
+const [SKIPPED, WENT, ENDED] = [0, 1, 2];
+
 class Telgovan {
     constructor(module) {
         this.module = module;
@@ -135,5 +139,97 @@ class Telgovan {
             const r0 = said.getBigUint64(0, true);
             return { status, r0, used: said.getUint32(12, true), memory: this.copy(part, memory.length) };
         });
+    }
+
+    // A job's code, its pieces, its credit and its buffer, as the calls of a job take them.
+    lend_job({ programs, credit, buffer }) {
+        const code = new Uint8Array(programs.reduce((size, one) => size + one.code.length, 0));
+        const pieces = new DataView(new ArrayBuffer(PIECE_SIZE * programs.length));
+        let start = 0;
+        programs.forEach(({ need, code: bytes }, place) => {
+            code.set(bytes, start);
+            pieces.setBigUint64(PIECE_SIZE * place, BigInt(start), true);
+            pieces.setBigUint64(PIECE_SIZE * place + 8, BigInt(bytes.length), true);
+            pieces.setUint32(PIECE_SIZE * place + 16, need, true);
+            start += bytes.length;
+        });
+        const lent = [this.lend(code), BigInt(code.length)];
+        lent.push(this.lend(new Uint8Array(pieces.buffer)), BigInt(programs.length), credit);
+        return [...lent, this.lend(buffer), BigInt(buffer.length)];
+    }
+
+    // The steps of a job along a schedule: a text with a JSON object a line.
+    trace_job(job, schedule) {
+        return this.during(() => {
+            const numbers = new Uint8Array(Uint32Array.from(schedule).buffer);
+            const lent = [...this.lend_job(job), this.lend(numbers), BigInt(schedule.length)];
+            const call = (...room) => this.lib.telgovan_job_trace(...lent, ...room);
+            const told = this.written(call, 4096 + 256 * schedule.length);
+            return { status: told.status, place: told.place, text: new TextDecoder().decode(told.bytes) };
+        });
+    }
+}
+
+// A job under way, which the module keeps until it is closed. After a call that traps the module is
+// another one, and the job is gone.
+class World {
+    // A world, or the refusal's status with the place of the program and its slot.
+    static open(library, job) {
+        const handle = BigInt.asUintN(64, library.lib.page_alloc(BigInt(HANDLE_SIZE)));
+        if (handle === 0n) throw new Error("no memory");
+        new Uint8Array(library.lib.memory.buffer, Number(handle), HANDLE_SIZE).fill(0);
+        const refusal = library.during(() => {
+            const report = library.lend(null, REPORT_SIZE);
+            const status = library.lib.telgovan_world_open(...library.lend_job(job), handle, report) >>> 0;
+            const said = library.view(report, REPORT_SIZE);
+            const program = said.getUint8(28) ? said.getUint32(20, true) : null;
+            return { status, program, slot: said.getUint8(29) ? said.getUint32(24, true) : null };
+        });
+        if (!refusal.status) return { status: 0, world: new World(library, handle) };
+        library.lib.page_free(handle);
+        return refusal;
+    }
+
+    constructor(library, handle) {
+        this.library = library;
+        this.lib = library.lib;
+        this.handle = handle;
+    }
+
+    // What `work` answers, where the module is still the one that has the job.
+    within(work) {
+        if (this.lib !== this.library.lib) throw new Error("the job is gone");
+        return this.library.during(work);
+    }
+
+    // Runs a task, at most so many instructions, and tells how the job stands then.
+    run(number, limit = 1) {
+        return this.within(() => {
+            const room = this.library.lend(null, STEP_SIZE);
+            const status = this.lib.telgovan_world_run(this.handle, number, limit, room) >>> 0;
+            if (status) throw new Error(`the job: refused ${status}`);
+            const said = this.library.view(room, STEP_SIZE);
+            const [came_to, count, tasks, held, returned, spent, used] =
+                [12, 16, 20, 24, 28, 32, 36].map((at) => said.getUint32(at, true));
+            const sums = { held, returned, spent, used };
+            return { came_to, count, tasks, sums, r0: said.getBigUint64(0, true), is_complete: said.getUint8(40) !== 0 };
+        });
+    }
+
+    // The buffer as it is now.
+    buffer(size) {
+        return this.within(() => {
+            const call = (...room) => this.lib.telgovan_world_buffer(this.handle, ...room);
+            const told = this.library.written(call, size);
+            if (told.status) throw new Error(`the buffer: refused ${told.status}`);
+            return told.bytes;
+        });
+    }
+
+    close() {
+        if (this.lib !== this.library.lib) return;
+        this.lib.telgovan_world_drop(this.handle);
+        this.lib.page_free(this.handle);
+        this.lib = null;
     }
 }

@@ -1,5 +1,5 @@
 -- The helpers of a host, a word at a time.
-use Rattle.std.proofs.Common.{◌≡◌, ◌≢◌, ℕ, ◌+◌, ◌-◌, ◌<◌, ◌≤◌, ◌==◌, nat_le, nat_lt, refl, sym, ap, subst, ◌∙◌, arith, Bool, true, false, List, slice_get, slice_index_or, Option, Some, None, if◌then◌else◌, inl, inr}
+use Rattle.std.proofs.Common.{◌≡◌, ◌≢◌, ℕ, ◌+◌, ◌-◌, ◌<◌, ◌≤◌, ◌==◌, nat_le, nat_lt, refl, sym, ap, subst, ◌∙◌, arith, Bool, true, false, List, slice_get, Option, Some, None, if◌then◌else◌, inl, inr}
 use Rattle.std.proofs.lemmas.Bool.Decides.{nat_tests}
 use Rattle.helpers.specs.Table.{Table, arity_in, job_table, own_arity}
 use Rattle.telgovan_c.specs.Hosted.{AreAritiesTo, AreHelpersTo, IsArity, arity_to, arity_told, no_helper, told_at}
@@ -80,18 +80,6 @@ arity_by words n word place there is are said within at false here = are place s
 pub arities_more : (words : List ℕ) (n word : ℕ) → slice_get words n ≡ Some word → IsArity word → AreAritiesTo words n → AreAritiesTo words (n + 1)
 arities_more words n word there is are place said within at =
     arity_by words n word place there is are said within at (place == n) refl
-
-none_by : (words : List ℕ) (id : ℕ) (low old : Bool) → nat_lt id 64 ≡ low → nat_lt (id - 64) 0 ≡ old →
-    (if◌then◌else◌ {A = Option ℕ} low (own_arity id) (slice_index_or job_table (id - 64) None))
-    ≡ (if◌then◌else◌ {A = Option ℕ} low (own_arity id) (if old then told_at (slice_get words (id - 64)) else None))
-none_by words id true old a b = refl
-none_by words id false true a b = absurd (grind (arith, nat_tests))
-none_by words id false false a b = refl
-
--- ahead of the first word there are the helpers of a job
-pub none_told : (words : List ℕ) (table : Table) → table ≡ job_table → AreHelpersTo words 0 table
-none_told words table is id =
-    ap (λ (t : Table). arity_in t id) is ∙ none_by words id (nat_lt id 64) (nat_lt (id - 64) 0) refl refl
 
 told_by : (words : List ℕ) (n word : ℕ) (table table' : Table) → slice_get words n ≡ Some word → (word ≡ no_helper → table' ≡ table) →
     (word ≢ no_helper → (word ≤ 5) × ((other : ℕ) → arity_in table' other ≡ (if other == 64 + n then Some word else arity_in table other))) →

@@ -1,10 +1,10 @@
 -- The programs of a job's pieces, its tasks as they are written, and the length of its buffer.
 use Rattle.std.proofs.Common.{◌≡◌, ◌≢◌, ◌⊎◌, ℕ, ◌<◌, ◌≤◌, ◌+◌, inl, inr, List, [], ◌∷◌, ◌++◌, length, map, set, slice_get, refl, sym, ◌∙◌, arith, ap, subst, Some}
-use Rattle.std.proofs.lemmas.List.{length-append, length-set}
+use Rattle.std.proofs.lemmas.List.{length-append}
 use Rattle.std.proofs.lemmas.Option.{slice_get_within}
 use Rattle.machine_model.specs.Machine.{Program}
 use Rattle.machine_model.specs.JobState.{JobState, Live, AreTiles, start}
-use Rattle.machine_model.proofs.Places.{by_number, pushed, set_same, set_other}
+use Rattle.machine_model.proofs.Places.{pushed, set_other}
 use Rattle.machine_model.proofs.Tiles.{Tiled, tiles_step}
 use Rattle.task_trees.specs.Eval.{root}
 use Rattle.task_trees.proofs.TreeAnswers.{start_tiles}
@@ -17,7 +17,7 @@ use Rattle.job_core.specs.PlaysLowest.{GoesLowest, none_yet, one_more, IsPlayed}
 use Rattle.job_core.proofs.Simulates.{some_within}
 use Rattle.telgovan_c.specs.declared.jobs.CodePiece.{CodePiece}
 use Rattle.telgovan_c.specs.declared.jobs.ReportedTask.{ReportedTask}
-use Rattle.telgovan_c.specs.Jobs.{AreCut, AreCutTo, AreWritten, IsCut, reported_task}
+use Rattle.telgovan_c.specs.Jobs.{AreCut, AreCutTo, IsCut, reported_task}
 
 -- ---- the programs of the pieces
 
@@ -44,14 +44,6 @@ cut_more code pieces count programs piece program so_far is cut = record {
       let same_piece : piece ≡ other = cc in
       subst (λ (x : CodePiece). IsCut code x q) same_piece (subst (λ (x : ProgramBytes). IsCut code piece x) (sym same) cut)
 
-pub cut_all : (code : List ℕ) (pieces : List CodePiece) (count : ℕ) (programs : List ProgramBytes) → AreCutSoFar code pieces count programs →
-    count ≡ length pieces → AreCutTo code pieces programs
-cut_all code pieces count programs so_far all = record {
-  each = so_far.each;
-  most = omega (arith, so_far.many, all);
-  stops = λ less. absurd (omega (arith, so_far.many, all, less));
-}
-
 pub cut_stops : (code : List ℕ) (pieces : List CodePiece) (count : ℕ) (programs : List ProgramBytes) (piece : CodePiece) →
     AreCutSoFar code pieces count programs → slice_get pieces count ≡ Some piece → length code < piece.start + piece.length →
     AreCutTo code pieces programs
@@ -77,52 +69,6 @@ pub record AreWrittenTo (ends : List TaskEnd) (old : List ReportedTask) (done : 
   pub count : length new ≡ length old
   pub written : (n : ℕ) (ended : TaskEnd) → n < done → slice_get ends n ≡ Some ended → slice_get new n ≡ Some (reported_task ended)
   pub kept : (n : ℕ) → done ≤ n → slice_get new n ≡ slice_get old n
-
-pub written_none : (ends : List TaskEnd) (old : List ReportedTask) → AreWrittenTo ends old 0 old
-written_none ends old = record {
-  most = omega arith;
-  count = refl;
-  written = λ n ended lt e. absurd (omega (arith, lt));
-  kept = λ n le. refl;
-}
-
-pub written_more : (ends : List TaskEnd) (old : List ReportedTask) (done : ℕ) (new : List ReportedTask) (ended : TaskEnd) →
-    AreWrittenTo ends old done new → done < length new → slice_get ends done ≡ Some ended →
-    AreWrittenTo ends old (done + 1) (set new done (reported_task ended))
-written_more ends old done new ended so_far within there = record {
-  most = let below = slice_get_within ends done ended there in omega (arith, below);
-  count = length-set new done (reported_task ended) ∙ so_far.count;
-  written = λ n other lt e. by_number
-      (λ k. (x : TaskEnd) → slice_get ends k ≡ Some x → k < done + 1 → slice_get (set new done (reported_task ended)) k ≡ Some (reported_task x))
-      done n (λ x is below. last x is) (λ ne x is below. earlier n ne x is below) other e lt;
-  kept = λ n from. set_other new done n (reported_task ended) (λ is. omega (arith, is, from)) ∙ so_far.kept n (omega (arith, from));
-} where
-  last : (x : TaskEnd) → slice_get ends done ≡ Some x → slice_get (set new done (reported_task ended)) done ≡ Some (reported_task x)
-  last x is =
-      let same : ended ≡ x = cc in
-      set_same new done (reported_task ended) within ∙ ap (λ (y : TaskEnd). Some (reported_task y)) same
-
-  earlier : (n : ℕ) → n ≢ done → (x : TaskEnd) → slice_get ends n ≡ Some x → n < done + 1 →
-      slice_get (set new done (reported_task ended)) n ≡ Some (reported_task x)
-  earlier n ne x is below = set_other new done n (reported_task ended) ne ∙ so_far.written n x (omega (arith, ne, below)) is
-
--- there is no room for more
-pub written_room : (ends : List TaskEnd) (old : List ReportedTask) (done : ℕ) (new : List ReportedTask) → AreWrittenTo ends old done new →
-    length new ≤ done → AreWritten ends old new
-written_room ends old done new so_far full = record {
-  count = so_far.count;
-  written = λ n ended lt e. so_far.written n ended (omega (arith, lt, full, so_far.count)) e;
-  kept = λ n from. so_far.kept n (omega (arith, from, so_far.most));
-}
-
--- there are no more tasks
-pub written_all : (ends : List TaskEnd) (old : List ReportedTask) (done : ℕ) (new : List ReportedTask) → AreWrittenTo ends old done new →
-    done ≡ length ends → AreWritten ends old new
-written_all ends old done new so_far all = record {
-  count = so_far.count;
-  written = λ n ended lt e. let below = slice_get_within ends n ended e in so_far.written n ended (omega (arith, all, below)) e;
-  kept = λ n from. so_far.kept n (omega (arith, from, all));
-}
 
 -- ---- the length of the buffer
 

@@ -1,10 +1,14 @@
+pub mod AdmittingLemmas
 pub mod AsBox
 pub mod AsDeskBox
+pub mod AsWorldBox
 pub mod DeskLemmas
 pub mod Helpless
 pub mod JobLemmas
+pub mod JobTraceLemmas
 pub mod Pieces
 pub mod Turns
 pub mod HostedLemmas
 pub mod LineLemmas
+pub mod ListingLemmas
 pub mod TraceLemmas

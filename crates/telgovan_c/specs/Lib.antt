@@ -1,3 +1,4 @@
+pub mod Admitting
 pub mod DeskHolding
 pub mod Desks
 pub mod Explains
@@ -6,6 +7,7 @@ pub mod Graphs
 pub mod HelperFaults
 pub mod Holding
 pub mod Hosted
+pub mod JobTraces
 pub mod Jobs
 pub mod Programs
 pub mod Runs
@@ -13,3 +15,5 @@ pub mod Tasks
 pub mod Texts
 pub mod Traces
 pub mod Verdicts
+pub mod WorldHolding
+pub mod Worlds

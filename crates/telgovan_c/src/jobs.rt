@@ -53,8 +53,8 @@ pub struct JobReport {
     pub has_slot: bool,
 }
 
-// The report of a job that isn't admitted.
-fn refused_report(fault: &AdmitFault) -> JobReport
+/// The report of a job that isn't admitted.
+pub(crate) fn refused_report(fault: &AdmitFault) -> JobReport
     ensures { result ≡ refused_report fault.now }
 {
     let program = fault.program();
@@ -71,8 +71,8 @@ fn refused_report(fault: &AdmitFault) -> JobReport
     }
 }
 
-// The report of a job whose program of this place isn't in the code.
-fn missing_report(place: u32) -> JobReport
+/// The report of a job whose program of this place isn't in the code.
+pub(crate) fn missing_report(place: u32) -> JobReport
     ensures { result ≡ missing_report place }
 {
     JobReport {
@@ -137,8 +137,8 @@ fn write_report(report: &Report, buffer: &mut [u8], tasks: &mut [ReportedTask]) 
     }
 }
 
-// Why a job with so many programs, this credit and so many bytes is refused, whatever they are.
-fn over_limits(count: usize, credit: u32, size: usize) -> Option<AdmitFault>
+/// Why a job with so many programs, this credit and so many bytes is refused, whatever they are.
+pub(crate) fn over_limits(count: usize, credit: u32, size: usize) -> Option<AdmitFault>
     ensures some { IfSome result (λ fault. RefusesNumbers count credit size fault) }
     ensures none { IfNone result (IsWithinNumbers count credit size) }
 {
@@ -169,8 +169,8 @@ fn piece_in<'a>(code: &'a [u8], piece: &CodePiece) -> Option<&'a [u8]>
     Some(&code[start..end])
 }
 
-// The same bytes, in memory of their own.
-fn copied(alloc: Global, bytes: &[u8]) -> Result<Vec<u8>, NoMemory>
+/// The same bytes, in memory of their own.
+pub(crate) fn copied(alloc: Global, bytes: &[u8]) -> Result<Vec<u8>, NoMemory>
     ensures { IfOk result (λ copy. copy.items ≡ bytes.now) }
 {
     let mut copy = Vec::new(alloc);
@@ -178,8 +178,12 @@ fn copied(alloc: Global, bytes: &[u8]) -> Result<Vec<u8>, NoMemory>
     Ok(copy)
 }
 
-// The programs of the pieces, up to the first that the code doesn't have.
-fn cut(alloc: Global, code: &[u8], pieces: &[CodePiece]) -> Result<Vec<ProgramBytes>, NoMemory>
+/// The programs of the pieces, up to the first that the code doesn't have.
+pub(crate) fn cut(
+    alloc: Global,
+    code: &[u8],
+    pieces: &[CodePiece],
+) -> Result<Vec<ProgramBytes>, NoMemory>
     ensures { IfOk result (λ programs. AreCutTo code.now pieces.now programs.items) }
 {
     let mut programs = Vec::new(alloc);

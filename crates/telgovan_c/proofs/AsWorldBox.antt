@@ -1,0 +1,24 @@
+-- What C holds owns what a box at the same types owns.
+use mir.Syntax.{impl, tnil, dnil}
+use mathlib.Core.List.{[]}
+use denote.Signature.{Slot, plain}
+use Rattle.std_alloc.proofs.BoxSteps.Form.{Bx}
+use Rattle.std_heap.specs.contracts.Global as Heap
+use Rattle.std_heap.specs.contracts.GlobalAllocator.TheImpl.{ghosts, dict}
+use Rattle.std_heap.proofs.Global.TheLaws as heap
+use Rattle.job_core.specs.contracts.world.World as World
+use Rattle.job_core.proofs.world.World.TheLaws as boxed
+use Rattle.telgovan_c.specs.contracts.parts.Parts as Parts
+use Rattle.telgovan_c.specs.contracts.world_held.HeldWorld as Held
+
+abbrev pub E : Bx
+E = record { row = World.the_row; laws = boxed.the_row_laws; al = record { row = Heap.the_row; laws = heap.the_row_laws; g = ghosts; d = dict; drops = impl [] tnil dnil } }
+
+abbrev pub FromParts : Slot 0
+FromParts = plain (λ _. Parts.the_row World.the_row Heap.the_row ghosts)
+
+abbrev pub FromHeld : Slot 0
+FromHeld = plain (λ _. Held.the_row)
+
+abbrev pub FromHandle : Slot 0
+FromHandle = plain (λ _. Heap.the_row)
