@@ -2,7 +2,7 @@
  * functions.h, which bench/run writes, has their text. */
 #include "functions.h"
 
-#include "rounds.h"
+#include "machine.h"
 
 struct named {
     const char *name;

@@ -1,31 +1,8 @@
 /* What each machine does here: it reads lines "NAME CODE MEMORY ARGUMENT", code and memory in
  * hexadecimal ("-" for none), and prints "NAME R0 STEPS NANOSECONDS" of the quickest of several
- * rounds, by the run, or "NAME refused". STEPS is 0 where the machine doesn't count them. Whoever
- * includes this has `load` and `run`. */
-#ifndef ROUNDS_H
-#define ROUNDS_H
-
-#include <inttypes.h>
-#include <stdint.h>
-#include <stdio.h>
-#include <stdlib.h>
-#include <string.h>
-#include <time.h>
-
-/* The program of these bytes, for a memory of this length, or NULL. */
-static void *load(const char *name, const uint8_t *code, size_t length, size_t lent);
-
-/* R0 of a run on the memory, and how many instructions ran, where that is known. */
-static uint64_t run(void *program, uint8_t *memory, size_t length, uint64_t argument,
-                    uint64_t *steps);
+ * rounds, by the run, or "NAME refused". STEPS is 0 where the machine doesn't count them. */
 
 enum { ROUNDS = 7, ROUND = 40000000, MOST = 1 << 17 };
-
-static uint64_t nanoseconds(void) {
-    struct timespec time;
-    clock_gettime(CLOCK_THREAD_CPUTIME_ID, &time);
-    return (uint64_t)time.tv_sec * 1000000000u + (uint64_t)time.tv_nsec;
-}
 
 static size_t bytes_of(const char *text, uint8_t *bytes) {
     size_t length = 0;
@@ -73,5 +50,3 @@ int main(void) {
     }
     return 0;
 }
-
-#endif

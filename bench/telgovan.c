@@ -1,7 +1,7 @@
 /* The library: a program is verified once and runs by telgovan_program_run. */
 #include "telgovan.h"
 
-#include "rounds.h"
+#include "machine.h"
 
 static void *load(const char *name, const uint8_t *code, size_t length, size_t lent) {
     struct telgovan_program *program = calloc(1, sizeof *program);
@@ -13,8 +13,13 @@ static void *load(const char *name, const uint8_t *code, size_t length, size_t l
     return program;
 }
 
-static uint64_t run(void *program, uint8_t *memory, size_t length, uint64_t argument,
-                    uint64_t *steps) {
+static inline void unload(void *program) {
+    telgovan_program_unload(program);
+    free(program);
+}
+
+static inline uint64_t run(void *program, uint8_t *memory, size_t length, uint64_t argument,
+                           uint64_t *steps) {
     struct telgovan_outcome outcome;
     if (telgovan_program_run(program, 4096, argument, memory, length, &outcome) != 0) exit(1);
     *steps = outcome.used;
