@@ -1,23 +1,38 @@
 #!/usr/bin/env python3
 """What C sees of the library: each function's prototype, structure and constant of the header, on a
-line each.
+line each (release/abi.txt), and the same with the layouts that a compiler gives them (release/abi.xml).
 
     release/abi.py            compares release/abi.txt with the header
-    release/abi.py --write    writes the list anew, after a change that docs/versions.md allows
+    release/abi.py FOLDER     compares also release/abi.xml with the header and with FOLDER/libtelgovan.so
+    release/abi.py --write    writes both anew, after a change that docs/versions.md allows
+
+release/abi.xml is abidw's description of a shared object that has the header's functions with empty
+bodies: the proved library has no debug information, so that abidiff sees no type of it, but its symbols.
+Functions that come in are no difference. Where abidiff or a C compiler isn't there, it says so.
+Status: 0, or 1 after what differs.
 """
 
+import os
 import re
+import shutil
+import subprocess
 import sys
+import tempfile
 from pathlib import Path
 
 TOP = Path(__file__).resolve().parent.parent
 HEADER = TOP / "include/telgovan.h"
 LIST = TOP / "release/abi.txt"
+LAYOUTS = TOP / "release/abi.xml"
+SONAME = "libtelgovan.so.0"
 HEAD = """\
 # What C sees of libtelgovan.so.0, as release/abi.py finds it in include/telgovan.h. A line that is
 # changed or taken away needs another number behind `.so` (docs/versions.md). New lines don't.
 """
 FUNCTION = re.compile(r"(telgovan_\w+)\(")
+COMPILER = os.environ.get("CC", "cc")
+# what stays the same wherever it is written
+PLAIN = ("--no-show-locs", "--no-corpus-path", "--no-comp-dir-path")
 
 
 def declared(header):
@@ -43,14 +58,79 @@ def listed():
     return [line for line in text.splitlines() if not line.startswith("# ")]
 
 
+# ---- layouts, by abigail-tools
+
+
+def lacking(*tools):
+    """Those of these tools that aren't there."""
+    return [tool for tool in tools if not shutil.which(tool)]
+
+
+def object_of(header, room):
+    """A shared object of the header's functions, with empty bodies and with debug information."""
+    source, made = room / "functions.c", room / SONAME
+    bodies = [f"{line[:-1]} {{ __builtin_trap(); }}" for line in declared(header) if FUNCTION.search(line)]
+    (room / "telgovan.h").write_text(header, encoding="utf-8")
+    source.write_text("\n".join(['#include "telgovan.h"', *bodies, ""]), encoding="utf-8")
+    flags = ["-std=c11", "-g", "-O0", "-shared", "-fPIC", f"-Wl,-soname,{SONAME}"]
+    subprocess.run([COMPILER, *flags, "-o", made, source.name], cwd=room, check=True)
+    return made
+
+
+def described(header):
+    """abidw's description of the header."""
+    with tempfile.TemporaryDirectory(prefix="abi-") as room:
+        made = object_of(header, Path(room))
+        return subprocess.run(["abidw", *PLAIN, made], check=True, stdout=subprocess.PIPE, text=True).stdout
+
+
+def differences(other):
+    """What abidiff says of another object beside release/abi.xml, and nothing where it has all of that."""
+    words = ["abidiff", "--no-added-syms", LAYOUTS, other]
+    done = subprocess.run(words, stdout=subprocess.PIPE, text=True, check=False)
+    if done.returncode == 0:
+        return ""
+    return done.stdout or f"abidiff ended with {done.returncode}\n"
+
+
+def differences_of_header(header):
+    """The same of what a compiler makes of a header."""
+    with tempfile.TemporaryDirectory(prefix="abi-") as room:
+        return differences(object_of(header, Path(room)))
+
+
+def compare_layouts(folder):
+    """Compares release/abi.xml with the header and the library."""
+    library = Path(folder) / "libtelgovan.so"
+    lacks = lacking("abidiff", COMPILER)
+    if lacks or not library.is_file():
+        print(f"abi: layouts and symbols are skipped: {(lacks or [library])[0]} isn't there")
+        return
+    told = {"the header": differences_of_header(HEADER.read_text(encoding="utf-8")), library.name: differences(library)}
+    for name, text in told.items():
+        if text:
+            sys.exit(f"{text}abi: {name} isn't what release/abi.xml describes")
+    print("abi: the header has the layouts of release/abi.xml, and the library its symbols")
+
+
+def write(header):
+    LIST.write_text(HEAD + "\n".join(declared(header)) + "\n", encoding="utf-8")
+    lacks = lacking("abidw", COMPILER)
+    if lacks:
+        sys.exit(f"abi: release/abi.xml is as it was: {lacks[0]} isn't there")
+    LAYOUTS.write_text(described(header), encoding="utf-8")
+
+
 def main(words):
-    lines = declared(HEADER.read_text(encoding="utf-8"))
+    header = HEADER.read_text(encoding="utf-8")
     if words == ["--write"]:
-        LIST.write_text(HEAD + "\n".join(lines) + "\n", encoding="utf-8")
-    elif words:
+        write(header)
+    elif len(words) > 1 or words and words[0].startswith("-"):
         sys.exit(__doc__)
-    elif lines != listed():
+    elif declared(header) != listed():
         sys.exit("abi: release/abi.txt isn't what the header declares")
+    elif words:
+        compare_layouts(words[0])
 
 
 if __name__ == "__main__":

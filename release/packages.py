@@ -17,8 +17,9 @@ from pathlib import Path
 import abi
 
 # tree: the files of the commit. built: the folder of the programs and the libraries. provenance: a
-# text. date: of the commit, in seconds. libc: the oldest glibc that will do, as (2, 34).
-Release = namedtuple("Release", "version tree built provenance date libc")
+# text. date: of the commit, in seconds. libc: the oldest glibc that will do, as (2, 34). level: how
+# hard gzip and xz try, 1 to 9.
+Release = namedtuple("Release", "version tree built provenance date libc level")
 
 PLATFORM = "x86_64-linux-gnu"
 PROGRAMS = ("bpfjobs", "bpfrun")
@@ -71,18 +72,18 @@ def put(source, place, mode=0o644):
 # ---- archives
 
 
-def write_archive(folder, top, place, date):
+def write_archive(folder, top, place, release):
     """Writes the folder as NAME.tar.gz, below a folder `top`."""
 
     def plain(entry):
         entry.uid = entry.gid = 0
         entry.uname = entry.gname = "root"
-        entry.mtime = date
+        entry.mtime = release.date
         entry.mode = 0o755 if entry.isdir() or entry.mode & 0o100 else 0o644
         return entry
 
     folders = {str(parent) for path in paths_below(folder) for parent in Path(path).parents}
-    with place.open("wb") as file, gzip.GzipFile("", "wb", 9, file, mtime=0) as packed:
+    with place.open("wb") as file, gzip.GzipFile("", "wb", release.level, file, mtime=0) as packed:
         with tarfile.open(fileobj=packed, mode="w", format=tarfile.GNU_FORMAT) as archive:
             for path in sorted({*folders, *paths_below(folder)}):
                 name = top if path == "." else f"{top}/{path}"
@@ -128,7 +129,7 @@ def write_tarball(release, room, out):
     # it works where it is unpacked
     set_prefix(room / top, "", "${pcfiledir}/../..", "lib")
     put(release.tree / "release/README.md", room / top / "INSTALL.md")
-    write_archive(room / top, top, out / f"{top}.tar.gz", release.date)
+    write_archive(room / top, top, out / f"{top}.tar.gz", release)
 
 
 # ---- Debian
@@ -220,7 +221,7 @@ def write_debian(release, room, out):
             Path(at).chmod(0o755)
             for entry in [at, *(os.path.join(at, it) for it in folders + files)]:
                 os.utime(entry, (release.date, release.date), follow_symlinks=False)
-        words = ["dpkg-deb", "--root-owner-group", "-Zxz", "--threads-max=1", "--build", part]
+        words = ["dpkg-deb", "--root-owner-group", "-Zxz", f"-z{min(release.level, 6)}", "--threads-max=1", "--build", part]
         call([*words, out / f"{name}_{release.version}_amd64.deb"])
     left = paths_below(whole)
     if left:
@@ -260,7 +261,7 @@ def write_crate(release, room, out):
         put(release.tree / name, room / name)
     put(release.built / "libtelgovan.a", room / "lib/libtelgovan.a")
     put(release.provenance, room / "PROVENANCE")
-    write_archive(room, top, out / f"{top}.tar.gz", release.date)
+    write_archive(room, top, out / f"{top}.tar.gz", release)
 
 
 def write_all(release, room, out):

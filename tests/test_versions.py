@@ -4,8 +4,11 @@ release/abi.txt lists."""
 import ctypes
 import os
 import re
+import subprocess
 import sys
+import tempfile
 import unittest
+from pathlib import Path
 
 import programs
 from programs import TOP
@@ -29,6 +32,7 @@ TOLD = (
     ("bindings/python/telgovan.py", r'^__version__ = "(.*)"$'),
     ("crates/bpfjobs_cli/src/texts.rt", r'const VERSION: &str = "(.*)";$'),
     ("crates/bpfrun_core/src/texts.rt", r'const VERSION: &str = "(.*)";$'),
+    ("crates/server_log/src/log_line.rt", r'\\"version\\":\\"(.*?)\\"'),
     ("docs/try.html", r'^const VERSION = "(.*)";$'),
     ("tests/data/commands.txt", r"^(?:--version|-V) .* bpfjobs (\S+)$"),
 )
@@ -84,6 +88,44 @@ class Abi(unittest.TestCase):
         self.assertEqual(library.exports(), abi.functions(abi.listed()))
         self.assertEqual(library.soname(), "libtelgovan.so.0")
         self.assertLessEqual(set(library.needed()), elf.GLIBC)
+
+
+@unittest.skipIf(abi.lacking("abidiff", abi.COMPILER), "there is no abidiff, or no C compiler")
+class Layouts(unittest.TestCase):
+    """release/abi.py finds by abidiff what breaks a host that was compiled before."""
+
+    HEADER = text_of("include/telgovan.h")
+
+    def told(self, old, new):
+        """What is said of the header where this text stands in the place of the other."""
+        self.assertEqual(self.HEADER.count(old), 1)
+        return abi.differences_of_header(self.HEADER.replace(old, new))
+
+    def test_the_header_and_a_new_function(self):
+        self.assertEqual(abi.differences_of_header(self.HEADER), "")
+        version = "uint32_t telgovan_version(void);\n"
+        self.assertEqual(self.told(version, version + "uint32_t telgovan_newest(void);\n"), "")
+
+    def test_a_function_that_goes(self):
+        self.assertIn("[D] 'function uint32_t telgovan_version()'", self.told("uint32_t telgovan_version(void);\n", ""))
+
+    def test_the_type_of_an_argument(self):
+        told = self.told("uint32_t telgovan_verify(uint32_t need,", "uint32_t telgovan_verify(uint64_t need,")
+        self.assertIn("parameter 1 of type 'typedef uint32_t' changed", told)
+
+    def test_the_layout_of_a_structure(self):
+        fields = "    void *held;\n    bool made;\n"
+        self.assertIn("offset changed", self.told(fields, "    bool made;\n    void *held;\n"))
+        # (which leaves each declaration as it was, so that release/abi.txt doesn't show it)
+        packed = self.told("struct telgovan_verdict {", "#pragma pack(1)\nstruct telgovan_verdict {")
+        self.assertIn("type size changed from 128 to 104 (in bits)", packed)
+
+    def test_a_library_without_a_function(self):
+        """As it is built: without debug information."""
+        with tempfile.TemporaryDirectory() as room:
+            made = abi.object_of(self.HEADER.replace("uint32_t telgovan_version(void);\n", ""), Path(room))
+            subprocess.run(["strip", "--strip-debug", made], check=True)
+            self.assertIn("[D] 'function uint32_t telgovan_version()'", abi.differences(made))
 
 
 if __name__ == "__main__":
