@@ -2,6 +2,7 @@
 
 import json
 import os
+import resource
 import select
 import socket
 import subprocess
@@ -9,7 +10,7 @@ import threading
 import time
 import unittest
 
-from programs import IS_SLOW, PATIENCE, Server, assemble, frame, is_read, submit_text
+from programs import IS_SLOW, PATIENCE, Server, assemble, frame, free_port, is_read, submit_text
 from rows import code_of
 from test_server import dialog, is_later, texts_of
 
@@ -36,6 +37,13 @@ def threads_of(server):
 
 def files_of(server):
     return len(os.listdir(f"/proc/{server.process.pid}/fd"))
+
+
+def processor_time(server):
+    """How many seconds of a processor the server's process has used."""
+    with open(f"/proc/{server.process.pid}/stat", encoding="ascii") as file:
+        fields = file.read().rpartition(")")[2].split()
+    return (int(fields[11]) + int(fields[12])) / os.sysconf("SC_CLK_TCK")
 
 
 def resident(server):
@@ -114,6 +122,58 @@ def result_of(client, job):
     while (reply := client.ask({"op": "result", "job": job})).get("code") == 77 and time.monotonic() < until:
         time.sleep(0.001)
     return reply
+
+
+class Endless(unittest.TestCase):
+    """A server that takes any number of connections: `--clients K`, without `--sessions`."""
+
+    ACCOUNT = {"op": "account", "tenant": "nobody"}
+
+    def server(self):
+        port = free_port()
+        words = ["serve", "--port", port, "--clients", 4, "--until-eof"]
+        return Server(words=words, port=port, stdin=subprocess.PIPE)
+
+    def test_connections_have_no_end(self):
+        """It serves one after the other until its input ends."""
+        with self.server() as server:
+            for _ in range(50):
+                client = Client(server)
+                self.assertEqual(client.ask(self.ACCOUNT)["code"], 74)
+                client.stream.close()
+            server.process.stdin.close()
+            self.assertEqual(server.status(), 0)
+
+    def test_one_client_at_a_time_ends_with_it(self):
+        """Without `--clients` it takes one connection, as it says."""
+        port = free_port()
+        with Server(words=["serve", "--port", port], port=port) as server:
+            client = Client(server)
+            self.assertEqual(client.ask(self.ACCOUNT)["code"], 74)
+            client.stream.close()
+            self.assertEqual(server.status(), 0)
+
+    def test_it_waits_for_a_descriptor(self):
+        """Where no descriptor is left, a connection waits until one is, and the server hardly works."""
+        with self.server() as server:
+            first = Client(server)
+            first.ask(self.ACCOUNT)
+            limit = files_of(server) + 1
+            resource.prlimit(server.process.pid, resource.RLIMIT_NOFILE, (limit, limit))
+            second, third = Client(server), Client(server)
+            second.ask(self.ACCOUNT)
+            third.stream.sendall(frame(json.dumps(self.ACCOUNT)))
+            before = processor_time(server)
+            self.assertFalse(select.select([third.stream], [], [], 1.5)[0])
+            self.assertLess(processor_time(server) - before, 0.5)
+            first.stream.close()
+            length = int.from_bytes(is_read(third.stream, 4), "big")
+            self.assertEqual(json.loads(is_read(third.stream, length))["code"], 74)
+            for client in (second, third):
+                client.stream.close()
+            server.process.stdin.close()
+            # a connection could not be taken at first, which is told at the end
+            self.assertEqual(server.status(), 3)
 
 
 class Bounds(unittest.TestCase):

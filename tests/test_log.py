@@ -19,6 +19,8 @@ ADD = "mov64 r0, 40 / add64 r0, 2 / exit"
 SPAWN = "mov64 r1, 1 / mov64 r2, 5 / mov64 r3, 0 / mov64 r4, 0 / call 1 / mov64 r0, 0 / exit"
 # what the lines of each event have
 MEMBERS = {
+    "ready": ("version",),
+    "stopping": (),
     "opened": ("connection", "socket"),
     "closed": ("connection", "requests", "code", "end", "ms"),
     "started": ("job", "credit", "programs"),
@@ -30,6 +32,9 @@ SOCKETS = {"port", "socket", "grants"}
 ENDS = {"input", "stopped", "frame too large", "timeout", "cut", "memory"}
 PIPE_ROOM = 4096
 
+with open(os.path.join(os.path.dirname(os.path.abspath(__file__)), "../VERSION"), encoding="utf-8") as file:
+    VERSION = file.read().strip()
+
 
 def lines_of(text):
     """The lines of a log, each in the one form that its event has."""
@@ -38,7 +43,7 @@ def lines_of(text):
         told = json.loads(line)
         wanted = ["time", "event", *MEMBERS[told["event"]]] + ["lost"] * ("lost" in told)
         assert list(told) == wanted, line
-        words = {"event": MEMBERS, "socket": SOCKETS, "end": ENDS}
+        words = {"event": MEMBERS, "socket": SOCKETS, "end": ENDS, "version": {VERSION}}
         for name, value in told.items():
             assert value in words[name] if name in words else type(value) is int and value >= 0, line
         assert json.dumps(told, separators=(",", ":")) == line, line
@@ -76,7 +81,7 @@ class Log(unittest.TestCase):
             client.stream.close()
             lines = self.ended(server)
             self.assertEqual(server.process.returncode, 0)
-        self.assertEqual([line["event"] for line in lines], ["opened", "started", "ended", "started", "ended", "closed"])
+        self.assertEqual([line["event"] for line in lines], ["ready", "opened", "started", "ended", "started", "ended", "closed", "stopping"])
         self.assertEqual(told(lines, "opened"), [{"connection": 1, "socket": "port"}])
         self.assertEqual(told(lines, "started"), [{"job": 1, "credit": 3, "programs": 1}, {"job": 2, "credit": 200, "programs": 2}])
         first, second = told(lines, "ended")
@@ -104,7 +109,7 @@ class Log(unittest.TestCase):
             client.stream.close()
             text = server.process.communicate(timeout=PATIENCE)[1].decode()
         lines = lines_of(text)
-        self.assertEqual([line["event"] for line in lines], ["opened", "started", "ended", "refused", "refused", "closed"])
+        self.assertEqual([line["event"] for line in lines], ["ready", "opened", "started", "ended", "refused", "refused", "closed", "stopping"])
         for trace in ("ZQ", "zq", name, mark.hex(), code_of(ADD).hex(), b"ZQprogram".hex()):
             self.assertNotIn(trace, text)
 
@@ -176,6 +181,7 @@ class Log(unittest.TestCase):
             lines = self.ended(server)
             self.assertEqual(server.process.returncode, 0)
         self.assertEqual(told(lines, "closed"), [{"connection": 1, "requests": 1, "code": 0, "end": "stopped"}])
+        self.assertEqual(len(told(lines, "stopping")), 1)
 
     def test_many_connections_have_numbers_of_their_own(self):
         with self.serve("--clients", 8, sessions=200) as server:
@@ -186,6 +192,8 @@ class Log(unittest.TestCase):
                 for client in clients:
                     client.stream.close()
             lines = self.ended(server)
+        self.assertEqual([len(told(lines, event)) for event in ("ready", "stopping")], [1, 1])
+        self.assertEqual(lines[0]["event"], "ready")
         for event in ("opened", "closed"):
             self.assertEqual(sorted(line["connection"] for line in told(lines, event)), list(range(1, 201)))
 

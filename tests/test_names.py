@@ -15,6 +15,8 @@ TOP = os.path.dirname(os.path.dirname(os.path.abspath(__file__)))
 TYPE = re.compile(r"^\s*(?:pub(?:\([a-z]+\))? )?(?:unsafe )?(?:struct|enum|trait|type|union) (\w+)")
 # `type Lane = lanes::Lane<Ticket>;`: the same type under the same name
 ALIAS = re.compile(r"^\s*pub(?:\([a-z]+\))? type (\w+)(?:<[^=]*>)? = (?:\w+::)+(\w+)\b")
+# `    type NextLog = FileLog;` in an `impl`: what its trait names so
+CHOSEN = re.compile(r"^\s+type \w+(?:<[^=]*>)? = ")
 # at the left margin, or in a `module` block, where a `pub` alone is a field
 DEFINITION = re.compile(r"^(?:(?:\w+ )*?pub |\s+(?:abbrev|unfoldable) pub |\s+pub (?=data |record ))"
                         r"(?:(?:data|record) )?([^\s:(){}]+)")
@@ -59,7 +61,7 @@ def names_of(crate):
     for place, line in lines_of(crate, "src", ".rt"):
         alias = ALIAS.match(line)
         found = TYPE.match(line)
-        if found and not (alias and alias[1] == alias[2]):
+        if found and not CHOSEN.match(line) and not (alias and alias[1] == alias[2]):
             yield found[1], place
     for place, line in lines_of(crate, "specs", ".antt"):
         found = DEFINITION.match(line)

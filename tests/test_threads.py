@@ -4,6 +4,7 @@ run, and what tasks find on the stacks of others."""
 import json
 import os
 import unittest
+from concurrent.futures import ThreadPoolExecutor
 
 import test_jobs
 from programs import IS_SLOW, Server, assemble, bpfjobs, job_text, submit_text, telgovan
@@ -40,21 +41,22 @@ class Trees(unittest.TestCase):
 
 
 class Looks(unittest.TestCase):
-    """What a server says of jobs that run: it never goes back, and a complete job has spent all of its credit."""
+    """What a server says of jobs that run, to clients that look at once: it never goes back, and a complete job stays complete and has
+    spent all of its credit."""
 
     # how many children the root and each of those has: enough that some looks come while they run
-    COUNT, TIMES = 60 if IS_SLOW else 150, 5
+    COUNT, TIMES, CLIENTS = 60 if IS_SLOW else 150, 5, 4
 
     def test_jobs_that_run_at_once(self):
         share = 22 * self.COUNT + 2
         credit, spawning = self.COUNT * (share + 20) + 2, test_jobs.Many.spawning
         programs = [spawning(1, share, self.COUNT), spawning(2, 2, self.COUNT), spawning(2, 2, 0)]
-        with Server(workers=4) as server:
+        with Server(workers=4) as server, ThreadPoolExecutor(self.CLIENTS) as clients:
             seen = 0
             for _ in range(self.TIMES):
                 grant = {"op": "grant", "tenant": "t", "amount": 3 * credit}
                 numbers = [reply["job"] for reply in server.ask(grant, *[submit_text(programs, credit, b"")] * 3)[1:]]
-                seen += self.look(server, numbers, credit)
+                seen += sum(clients.map(lambda _: self.look(server, numbers, credit), range(self.CLIENTS)))
                 for number in numbers:
                     done = server.result(number)
                     self.assertEqual((done["spent"], len(done["tasks"])), (credit, 1 + self.COUNT + self.COUNT**2))

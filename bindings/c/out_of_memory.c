@@ -218,6 +218,60 @@ static int try_job(long request, int all, const struct code *sum, const struct c
     return refused;
 }
 
+/* An open leaves the job that was held where it is refused. A job goes on where a spawn is refused
+ * for want of memory, with all of its credit; its buffer is written whole or not at all. */
+static int try_world(long request, int all, const struct code *sum, const struct code *seven) {
+    uint8_t buffer[BYTES] = {1, 2, 3}, room[BYTES];
+    struct telgovan_world world = {0};
+    struct telgovan_report report;
+    struct telgovan_step step = {0};
+    struct telgovan_written written;
+    struct telgovan_piece piece = {.start = 0, .length = sum->length, .need = 8};
+    struct telgovan_piece other = {.start = 0, .length = seven->length, .need = 0};
+    long before = blocks;
+    HOLDS(telgovan_world_open(seven->bytes, seven->length, &other, 1, 9, buffer, 0, &world,
+                              &report) == 0);
+    granted = request, then_all = all, refused = 0;
+    uint32_t status = telgovan_world_open(sum->bytes, sum->length, &piece, 1, JOB_CREDIT, buffer,
+                                          BYTES, &world, &report);
+    int was_opened = status == 0;
+    HOLDS(status == report.status && status == (was_opened ? 0 : 99) && (was_opened || refused));
+    for (uint32_t task = 0; !step.is_complete; task++)
+        HOLDS(telgovan_world_run(&world, task, UINT32_MAX, &step) == 0);
+    status = telgovan_world_buffer(&world, room, BYTES, &written);
+    granted = -1;
+    int was_refused = refused;
+    HOLDS(step.held == 0 && step.spent + step.returned == (was_opened ? JOB_CREDIT : 9));
+    HOLDS(step.tasks == (was_opened ? 8 : 1) || (was_opened && was_refused));
+    HOLDS(status == written.status && (status == 0 || (was_refused && status == 99)));
+    HOLDS(written.length == (status == 0 && was_opened ? BYTES : 0));
+    telgovan_world_drop(&world);
+    telgovan_world_drop(&world);
+    HOLDS(blocks == before);
+    return was_refused;
+}
+
+/* The steps of a job are told whole or not at all. */
+static int try_job_trace(long request, int all, const struct code *sum, const struct code *none) {
+    static uint8_t room[8 * ROOM], same[8 * ROOM];
+    static const uint32_t schedule[2 * BYTES];
+    uint8_t buffer[BYTES] = {1, 2, 3};
+    struct telgovan_written written;
+    struct telgovan_piece piece = {.start = 0, .length = sum->length, .need = 8};
+    (void)none;
+    memset(room, 7, sizeof room);
+    memset(same, 7, sizeof same);
+    long before = blocks;
+    granted = request, then_all = all, refused = 0;
+    uint32_t status = telgovan_job_trace(sum->bytes, sum->length, &piece, 1, JOB_CREDIT, buffer,
+                                         BYTES, schedule, 10, room, sizeof room, &written);
+    granted = -1;
+    HOLDS(blocks == before && status == written.status && status == (refused ? 99 : 0));
+    HOLDS((written.length == 0) == (status != 0));
+    HOLDS(memcmp(room + written.length, same, sizeof room - written.length) == 0);
+    return refused;
+}
+
 /* Puts a text behind its length, and answers how many bytes both have. */
 static size_t put_frame(uint8_t *bytes, const char *text) {
     size_t length = strlen(text);
@@ -300,6 +354,8 @@ int main(int count, char **words) {
     try_each("start", try_start, &seven, &eight);
     try_each("steps and graph", try_views, &seven, &seven);
     try_each("job", try_job, &sum, &sum);
+    try_each("job under way", try_world, &sum, &seven);
+    try_each("steps of a job", try_job_trace, &sum, &sum);
     try_each("desk", try_desk, &sum, &sum);
     return 0;
 }

@@ -29,7 +29,9 @@ __all__ = [
     "Machine",
     "Program",
     "Report",
+    "Stepped",
     "Task",
+    "World",
     "assemble",
     "disassemble",
     "explain",
@@ -129,6 +131,18 @@ class _Report(ctypes.Structure):
     )
 
 
+class _World(ctypes.Structure):
+    _fields_ = [("held", ctypes.c_void_p), ("opened", _BOOL)]
+
+
+class _Step(ctypes.Structure):
+    _fields_ = _fields(
+        u64="r0",
+        u32="status came_to count tasks held returned spent used",
+        flags="is_complete",
+    )
+
+
 _WORD = 2**32
 _BYTES = [ctypes.c_char_p, ctypes.c_size_t]
 _ROOM = [ctypes.c_void_p, ctypes.c_size_t]
@@ -175,6 +189,19 @@ _job = _export(
     *(ctypes.POINTER(_Task), ctypes.c_size_t),
     ctypes.POINTER(_Report),
 )
+_JOB_OF = [*_BYTES, ctypes.POINTER(_Piece), ctypes.c_size_t, _U32, *_BYTES]
+_WORLD = ctypes.POINTER(_World)
+_job_trace = _export(
+    "telgovan_job_trace",
+    *_JOB_OF,
+    *(ctypes.POINTER(_U32), ctypes.c_size_t),
+    *_ROOM,
+    ctypes.POINTER(_Written),
+)
+_world_open = _export("telgovan_world_open", *_JOB_OF, _WORLD, ctypes.POINTER(_Report))
+_world_run = _export("telgovan_world_run", _WORLD, _U32, _U32, ctypes.POINTER(_Step))
+_world_buffer = _export("telgovan_world_buffer", _WORLD, *_ROOM, ctypes.POINTER(_Written))
+_world_drop = _export("telgovan_world_drop", _WORLD, answers=None)
 
 
 class Error(Exception):
@@ -497,13 +524,87 @@ class Job:
         tasks, report = (_Task * max(room, 1))(), _Report()
         credit = _number(credit, _WORD, "credit")
         lent, size = _lent(buffer)
-        programs = (self._code, len(self._code), self._pieces, self._count)
-        if _job(*programs, credit, lent, size, tasks, room, report):
-            slot = report.slot if report.has_slot else None
-            raise Error(report.status, slot, report.program if report.has_program else None)
+        if _job(*self._programs(), credit, lent, size, tasks, room, report):
+            raise _refused_job(report)
         count = min(room, report.tasks)
         told = [Task(*(getattr(task, name) for name in Task._fields)) for task in tasks[:count]]
         return Report(report.spent, report.returned, report.tasks, told)
+
+    def _programs(self):
+        return self._code, len(self._code), self._pieces, self._count
+
+    def trace(self, buffer, credit, schedule):
+        """The steps of the job on a copy of the buffer, along a schedule: the numbers of the tasks
+        whose instruction is next, of which those that aren't alive are passed over. A step is as
+        that of `trace`, with its `task`, and `r0` where the task ends or `spawned` where it has a
+        child: its number `task`, its `program`, `share`, `argument` and `bytes`."""
+        buffer = bytes(buffer)
+        numbers = (_U32 * max(len(schedule), 1))(*schedule)
+        given = (*self._programs(), _number(credit, _WORD, "credit"), buffer, len(buffer))
+        text = _write(1 << 16, _job_trace, *given, numbers, len(schedule))
+        return [json.loads(line) for line in text.splitlines()]
+
+    def open(self, buffer, credit):
+        """The job at its start, on a copy of the buffer, as a World."""
+        return World(self, buffer, credit)
+
+
+def _refused_job(report):
+    slot = report.slot if report.has_slot else None
+    return Error(report.status, slot, report.program if report.has_program else None)
+
+
+Stepped = namedtuple("Stepped", "count r0 is_alive tasks held returned spent used is_complete")
+Stepped.__doc__ = """What a run of a task came to: how many instructions ran, R0 where the task has
+ended, and whether it was alive at all; how many tasks there are, the credit that the live ones hold,
+that ended ones returned and spent, and that all have used; and whether no task is alive."""
+
+
+class World:
+    """A job under way, of which the caller says whose instruction is next. One call at a time uses
+    it."""
+
+    def __init__(self, job, buffer, credit):
+        self._lock, self._handle, self._size = threading.Lock(), _World(), len(buffer)
+        report, buffer = _Report(), bytes(buffer)
+        given = (*job._programs(), _number(credit, _WORD, "credit"), buffer, len(buffer))
+        if _world_open(*given, self._handle, report):
+            raise _refused_job(report)
+
+    def run(self, number, limit=1):
+        """Runs a task on: so many instructions at most, or until it ends."""
+        step = _Step()
+        given = (_number(number, _WORD, "number"), _number(limit, _WORD, "limit"))
+        with self._lock:
+            status = _world_run(self._handle, *given, step)
+        if status:
+            raise Error(status)
+        r0 = step.r0 if step.came_to == 2 else None
+        told = (step.tasks, step.held, step.returned, step.spent, step.used)
+        return Stepped(step.count, r0, step.came_to != 0, *told, bool(step.is_complete))
+
+    def buffer(self):
+        """The buffer as it is now."""
+        with self._lock:
+            return _write(self._size, _world_buffer, self._handle)
+
+    def close(self):
+        """Lets go of the job. From then on it is refused by 41."""
+        with self._lock:
+            _world_drop(self._handle)
+
+    def __enter__(self):
+        return self
+
+    def __exit__(self, *_):
+        self.close()
+
+    def __del__(self):
+        if hasattr(self, "_handle") and _world_drop is not None:
+            _world_drop(self._handle)
+
+    def __reduce__(self):
+        raise TypeError("a job that the library holds can't be copied")
 
 
 # ---- desks

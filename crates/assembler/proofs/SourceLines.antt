@@ -1,9 +1,9 @@
 -- A source text, line by line.
-use Rattle.std.proofs.Common.{◌≡◌, inl, inr, ℕ, zero, suc, ◌+◌, ◌-◌, ◌<◌, Bool, true, false, eqb, List, [], ◌∷◌, ◌++◌, length, get_or, take, drop, map, reverse, refl, ap, sym, subst, ◌∙◌, append_assoc, length-append, Option, Some, None, arith}
+use Rattle.std.proofs.Common.{◌≡◌, inl, inr, ℕ, ◌+◌, ◌-◌, ◌<◌, Bool, true, false, eqb, List, [], ◌∷◌, ◌++◌, length, drop, map, reverse, refl, ap, sym, subst, ◌∙◌, append_assoc, length-append, Option, Some, None, arith}
 use Rattle.std.specs.Prelude.{IsSome, ◌==◌}
 use Rattle.std.specs.List.{slice_split, AllByRecursion}
 use Rattle.std.proofs.lemmas.Bool.{eqb-true}
-use Rattle.std.proofs.lemmas.List.{map-append, append-nil, reverse-append, reverse-reverse}
+use Rattle.std.proofs.lemmas.List.{map-append, append-nil, reverse-append}
 use Rattle.std.proofs.lemmas.List.Splits.{slice_split-cons_no}
 use Rattle.insn_codec.specs.declared.insn.Insn.{Insn}
 use Rattle.insn_codec.specs.Spelling.{IsInsn}
@@ -11,8 +11,7 @@ use Rattle.disassembler.specs.Cut.{IsFree, StopsAtOnce}
 use Rattle.disassembler.specs.Line.{line_text}
 use Rattle.assembler.specs.declared.fault.TextFault.{TextFault}
 use Rattle.assembler.specs.declared.fault.TextFault.TheVariants as fault
-use Rattle.assembler.specs.Source.{code_part, is_blank, without_blanks, stripped, is_line_feed, numbered, texts_of, AreLinesOf, IsAtLine, IsTextRefusal, SaysInsn, listed, RefusesLine}
-use Rattle.assembler.proofs.Pairs.{last}
+use Rattle.assembler.specs.Source.{code_part, stripped, is_line_feed, numbered, texts_of, AreLinesOf, IsAtLine, IsTextRefusal, SaysInsn, listed, RefusesLine}
 
 pub eqb_not : (a b : ℕ) → (a ≡ b → ⊥) → eqb a b ≡ false
 eqb_not a b n = go (eqb a b) refl
@@ -32,42 +31,8 @@ code_front (x ∷ front) back f b = rw (eqb_not x 59 f.0) (ap (λ (l : List ℕ)
 pub code_is : (line front back : List ℕ) → line ≡ front ++ back → IsFree 59 59 front → StopsAtOnce 59 59 back → front ≡ code_part line
 code_is line front back e f b = sym (ap code_part e ∙ code_front front back f b)
 
-pub front_kept : (ts : List ℕ) → is_blank (get_or ts 0 0) ≡ false → without_blanks ts ≡ ts
-front_kept [] e = refl
-front_kept (c ∷ cs) e = rw e refl
-
-pub front_dropped : (ts : List ℕ) → 0 < length ts → is_blank (get_or ts 0 0) ≡ true → without_blanks ts ≡ without_blanks (drop 1 ts)
-front_dropped [] l e = absurd (omega arith)
-front_dropped (c ∷ cs) l e = rw e refl
-
-back_at : (ts : List ℕ) → 0 < length ts → ts ≡ take (length ts - 1) ts ++ get_or ts (length ts - 1) 0 ∷ []
-back_at ts l = last (length ts - 1) ts (get_or ts (length ts - 1) 0) (omega arith) refl
-
 reversed : (xs : List ℕ) (c : ℕ) → reverse (xs ++ c ∷ []) ≡ c ∷ reverse xs
 reversed xs c = reverse-append xs (c ∷ [])
-
-none_kept : (ts : List ℕ) → length ts ≡ 0 → reverse (without_blanks (reverse ts)) ≡ ts
-none_kept [] l = refl
-none_kept (c ∷ cs) l = absurd (omega arith)
-
-pub back_kept : (ts : List ℕ) → is_blank (get_or ts (length ts - 1) 0) ≡ false → reverse (without_blanks (reverse ts)) ≡ ts
-back_kept ts e = by_length (length ts) refl
-  where
-    by_length : (n : ℕ) → length ts ≡ n → reverse (without_blanks (reverse ts)) ≡ ts
-    by_length zero l = none_kept ts l
-    by_length (suc n) l =
-        let parts = back_at ts (omega arith) in
-        let turned : reverse ts ≡ get_or ts (length ts - 1) 0 ∷ reverse (take (length ts - 1) ts) = ap reverse parts ∙ reversed (take (length ts - 1) ts) (get_or ts (length ts - 1) 0) in
-        ap (λ (l : List ℕ). reverse (without_blanks l)) turned
-        ∙ (ap reverse (front_kept (get_or ts (length ts - 1) 0 ∷ reverse (take (length ts - 1) ts)) e)
-        ∙ (ap reverse (sym turned) ∙ reverse-reverse ts))
-
-pub back_dropped : (ts : List ℕ) → 0 < length ts → is_blank (get_or ts (length ts - 1) 0) ≡ true → reverse (without_blanks (reverse ts)) ≡ reverse (without_blanks (reverse (take (length ts - 1) ts)))
-back_dropped ts l e =
-    let parts = back_at ts l in
-    let turned : reverse ts ≡ get_or ts (length ts - 1) 0 ∷ reverse (take (length ts - 1) ts) = ap reverse parts ∙ reversed (take (length ts - 1) ts) (get_or ts (length ts - 1) 0) in
-    ap (λ (l : List ℕ). reverse (without_blanks l)) turned
-    ∙ ap reverse (front_dropped (get_or ts (length ts - 1) 0 ∷ reverse (take (length ts - 1) ts)) (omega arith) e)
 
 -- ---- lines
 

@@ -9,7 +9,7 @@ use Rattle.std.specs.Str.Parse.{AllDigits, digits_value}
 use Rattle.std.proofs.lemmas.Fmt.{digits_decimal, digits_value-decimal, decimal-digits_value, decimal_nonempty, first_decimal, decimal_digit}
 use Rattle.disassembler.specs.Line.{register_text, signed_text}
 use Rattle.assembler.specs.Numbers.{IsNumber}
-use Rattle.assembler.specs.Reading.{ReadsNegative, ReadsPositive, ReadsImm, ReadsWideOffset}
+use Rattle.assembler.specs.Reading.{ReadsNegative, ReadsImm}
 use Rattle.disassembler.proofs.Texts.{own}
 
 pub is_decimal : (ds : List ℕ) (n : ℕ) → IsNumber ds n → n < 2 ^ 64 → ds ≡ decimal n
@@ -63,38 +63,6 @@ imm_negative ts ds None e h = go
     go : (z : ℤ) → FitsSigned w32 z → ts ≢ signed_decimal z
     go (pos n) f g = let m = f.sfits in let d = first_digit n 45 ds (omega arith) (sym e ∙ g) in absurd (omega arith)
     go (negsuc n) f g = let m = f.sfits in let both : 45 ∷ ds ≡ 45 ∷ decimal (suc n) = sym e ∙ g in h n (omega arith) cc
-
-pub imm_positive : (ts : List ℕ) (r : Option ℤ) → ((ds : List ℕ) → ts ≡ 45 ∷ ds → ⊥) → ReadsPositive ts r → ReadsImm ts r
-imm_positive ts (Some (pos n)) apart h = (h.0, let k = h.2 in record { sfits = omega arith })
-imm_positive ts (Some (negsuc n)) apart h = let m = h.1 in absurd (omega (arith, m))
-imm_positive ts None apart h = go
-  where
-    go : (z : ℤ) → FitsSigned w32 z → ts ≢ signed_decimal z
-    go (pos n) f g = let m = f.sfits in h n (omega arith) g
-    go (negsuc n) f g = apart (decimal (suc n)) g
-
-pub offset_negative : (ts ds : List ℕ) (r : Option ℤ) → ts ≡ 45 ∷ ds → ReadsNegative ds r → ReadsWideOffset ts r
-offset_negative ts ds (Some (pos n)) e h = let m = h.1 in absurd (omega (arith, m))
-offset_negative ts ds (Some (negsuc n)) e h = (e ∙ ap (λ (x : List ℕ). 45 ∷ x) h.0, let k = h.2 in record { sfits = omega arith })
-offset_negative ts ds None e h = go
-  where
-    go : (z : ℤ) → FitsSigned w32 z → ts ≢ signed_text z
-    go (pos n) f g = let both : 45 ∷ ds ≡ 43 ∷ decimal n = sym e ∙ g in absurd (omega (arith, heads 45 43 _ _ both))
-    go (negsuc n) f g = let m = f.sfits in let both : 45 ∷ ds ≡ 45 ∷ decimal (suc n) = sym e ∙ g in h n (omega arith) cc
-
-pub offset_positive : (ts ds : List ℕ) (r : Option ℤ) → ts ≡ 43 ∷ ds → ReadsPositive ds r → ReadsWideOffset ts r
-offset_positive ts ds (Some (pos n)) e h = (e ∙ ap (λ (x : List ℕ). 43 ∷ x) h.0, let k = h.2 in record { sfits = omega arith })
-offset_positive ts ds (Some (negsuc n)) e h = let m = h.1 in absurd (omega (arith, m))
-offset_positive ts ds None e h = go
-  where
-    go : (z : ℤ) → FitsSigned w32 z → ts ≢ signed_text z
-    go (pos n) f g = let m = f.sfits in let both : 43 ∷ ds ≡ 43 ∷ decimal n = sym e ∙ g in h n (omega arith) cc
-    go (negsuc n) f g = let both : 43 ∷ ds ≡ 45 ∷ decimal (suc n) = sym e ∙ g in absurd (omega (arith, heads 43 45 _ _ both))
-
--- a text that begins with neither sign
-pub no_offset : (ts : List ℕ) (z : ℤ) → (get_or ts 0 0 ≡ 45 → ⊥) → (get_or ts 0 0 ≡ 43 → ⊥) → ts ≢ signed_text z
-no_offset ts (pos n) a b g = b (ap (λ (x : List ℕ). get_or x 0 0) g)
-no_offset ts (negsuc n) a b g = a (ap (λ (x : List ℕ). get_or x 0 0) g)
 
 -- two offsets of one text
 pub one_offset : (ts : List ℕ) (y z : ℤ) → FitsSigned w32 y → FitsSigned w32 z → ts ≡ signed_text y → ts ≡ signed_text z → y ≡ z

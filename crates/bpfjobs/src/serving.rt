@@ -22,6 +22,14 @@ fn bounds_of(options: ServeOptions) -> Bounds {
     }
 }
 
+// The connections that a server takes in all.
+fn sessions_of(options: ServeOptions) -> u64 {
+    match options.sessions {
+        Some(sessions) => u64::from(sessions),
+        None => u64::MAX,
+    }
+}
+
 /// Takes as many connections as the options say, and gives the status: 0 once all have ended, 3 where
 /// one of them or the socket failed. It ends earlier once the flag is raised, if there is one. A log,
 /// if there is one, is told of it.
@@ -39,7 +47,7 @@ where
     let options = server.options;
     let plan = Plan {
         workers: options.workers,
-        sessions: options.sessions,
+        sessions: sessions_of(options),
         bounds: bounds_of(options),
         stop,
         log,

@@ -12,7 +12,7 @@ use Rattle.clap.specs.Faults.{fault_of, is_simple_and_free, level_fault}
 use Rattle.clap.specs.declared.builder.action.ArgAction.TheVariants as action
 use Rattle.clap.specs.declared.builder.value_parser.ValueParser.TheVariants as vp
 use Rattle.clap.proofs.OnLiterals.{clap_on_literals}
-use Rattle.bpfjobs_cli.specs.Commands.{AreOptionsOf, IsMaybeNumber, IsNumberIn, SaysCommand, says_assemble, says_disassemble, says_verify, says_play, says_run, says_serve}
+use Rattle.bpfjobs_cli.specs.Commands.{AreOptionsOf, IsMaybeNumber, IsNumberIn, SaysCommand, says_assemble, says_disassemble, says_verify, says_play, says_run, says_serve, sessions_said}
 use Rattle.bpfjobs_cli.specs.declared.commands.ServeOptions.{ServeOptions}
 use Rattle.bpfjobs_cli.specs.Program.{bpfjobs_app, need_rule, port_rule, run_app, play_app, serve_app, sessions_rule, clients_rule, timeout_rule, open_jobs_rule, keep_rule, verify_app, workers_rule}
 use Rattle.bpfjobs_cli.proofs.NumberLemmas.{signed_number}
@@ -96,8 +96,8 @@ serve words own none =
     ((λ same. refl), (other, (other, (other, (other, (other, (other, (other, (other, (other, (other, (other, tt)))))))))))) none in
     let workers = left_out (rule workers_rule) 1 16 refl (omega arith) refl (leaf serve_app.top) words
     (other, (other, (other, ((λ same. refl), (other, (other, (other, (other, (other, (other, (other, (other, tt)))))))))))) (inr (inr (inr (inl refl)))) none (omega arith) in
-    let sessions = left_out (rule sessions_rule) 1 1000000 refl (omega arith) refl (leaf serve_app.top) words
-    (other, (other, (other, (other, ((λ same. refl), (other, (other, (other, (other, (other, (other, (other, tt)))))))))))) (inr (inr (inr (inr (inl refl))))) none (omega arith) in
+    let sessions = may_be (rule sessions_rule) 1 1000000 refl (omega arith) refl (leaf serve_app.top) words
+    (other, (other, (other, (other, ((λ same. refl), (other, (other, (other, (other, (other, (other, (other, tt)))))))))))) none in
     let clients = left_out (rule clients_rule) 1 64 refl (omega arith) refl (leaf serve_app.top) words
     (other, (other, (other, (other, (other, ((λ same. refl), (other, (other, (other, (other, (other, (other, tt)))))))))))) (inr (inr (inr (inr (inr (inl refl)))))) none (omega arith) in
     let timeout = left_out (rule timeout_rule) 0 3600 refl (omega arith) refl (leaf serve_app.top) words
@@ -109,7 +109,7 @@ serve words own none =
     let rows = rows_after (leaf serve_app.top).rules [] words in
     let options : ServeOptions = record {
       workers = workers.0;
-      sessions = sessions.0;
+      sessions = sessions_said sessions.0 clients.0;
       clients = clients.0;
       timeout = timeout.0;
       open_jobs = open_jobs.0;
@@ -119,7 +119,7 @@ serve words own none =
     } in
     let are_options : AreOptionsOf rows options = record {
       workers = workers.1;
-      sessions = sessions.1;
+      sessions = (sessions.0, sessions.1, refl);
       clients = clients.1;
       timeout = timeout.1;
       open_jobs = open_jobs.1;

@@ -1,5 +1,5 @@
 -- The command that a subcommand and its matches are.
-use Rattle.std.specs.Prelude.{◌≡◌, ◌↔◌, ◌⊎◌, ℕ, ◌≤◌, Bool, IsTrue, List, [], codes, Option, Some, None, is_some, option_map, string_bytes, true}
+use Rattle.std.specs.Prelude.{◌≡◌, ◌==◌, ◌↔◌, ◌⊎◌, ℕ, ◌≤◌, if◌then◌else◌, IfSome, Bool, IsTrue, List, [], codes, Option, Some, None, is_some, option_map, string_bytes, true}
 use Rattle.std.specs.Str.Parse.{IsNumeral, digits_value, without_leading_plus}
 use Rattle.clap.specs.Faults.{fault_of}
 use Rattle.clap.specs.Words.{HasKind, Row, Text, first_of, kind_of, one_of, subcommand_of, takes}
@@ -62,10 +62,21 @@ IsEndpointFault rows GrantsWithPort =
     ((port : ℕ) × IsPortOf rows port) × (first_of (codes "socket") rows ≡ None)
     × HasText rows (codes "grants")
 
+-- Connections that are taken in all: as many as the words say. Where they say none, it is one, and
+-- any number where there are several at once.
+abbrev pub sessions_said : Option ℕ → ℕ → Option ℕ
+sessions_said (Some sessions) clients = Some sessions
+sessions_said None clients = if clients == 1 then Some 1 else None
+
+abbrev pub AreSessionsOf : List Row → ℕ → Option ℕ → Type 0
+AreSessionsOf rows clients sessions =
+    (said : Option ℕ) × IsMaybeNumber rows (codes "sessions") 1 1000000 said
+    × (sessions ≡ sessions_said said clients)
+
 -- the options of a server
 pub record AreOptionsOf (rows : List Row) (options : ServeOptions) : Type 0 where
   pub workers : IsNumberIn rows (codes "workers") 1 16 options.workers
-  pub sessions : IsNumberIn rows (codes "sessions") 1 1000000 options.sessions
+  pub sessions : AreSessionsOf rows options.clients options.sessions
   pub clients : IsNumberIn rows (codes "clients") 1 64 options.clients
   pub timeout : IsNumberIn rows (codes "timeout") 0 3600 options.timeout
   pub open_jobs : IsNumberIn rows (codes "open-jobs") 0 1000000 options.open_jobs
@@ -120,7 +131,7 @@ IsEndpointInRange (Socket path grants) = Unit {0}
 pub record IsServeInRange (serve : Server) : Type 0 where
   pub endpoint : IsEndpointInRange serve.endpoint
   pub workers : (1 ≤ serve.options.workers) × (serve.options.workers ≤ 16)
-  pub sessions : (1 ≤ serve.options.sessions) × (serve.options.sessions ≤ 1000000)
+  pub sessions : IfSome serve.options.sessions (λ n. (1 ≤ n) × (n ≤ 1000000))
   pub clients : (1 ≤ serve.options.clients) × (serve.options.clients ≤ 64)
   pub timeout : serve.options.timeout ≤ 3600
   pub open_jobs : serve.options.open_jobs ≤ 1000000

@@ -48,3 +48,16 @@ IsGivenUpBy NoMemory answers over before after = after ≡ before
 -- the reader is over, or has given so many bytes
 abbrev pub IsAllRead : Type 0 → List ℕ → Type 0
 IsAllRead over input = over ⊎ (2 ^ 64 - 1 ≤ length input)
+
+-- The input is read to its end, and the command's answer to it is written. The lists are what was
+-- read and written before and after.
+abbrev pub AnswersAll : Command → List ℕ → List ℕ → Type 0 → List ℕ → List ℕ → ℕ → Type 0
+AnswersAll command was_read read over before after status =
+    (input text : List ℕ) × (read ≡ was_read ++ input) × IsAllRead over input
+    × IsAnswer command input text status × (after ≡ before ++ text)
+
+-- the command is given up by this, behind what was read
+abbrev pub GivesUp : Command → List ℕ → List ℕ → Type 0 → List ℕ → List ℕ → StreamFault → Type 0
+GivesUp command was_read read over before after fault =
+    (input : List ℕ) × (read ≡ was_read ++ input)
+    × IsGivenUpBy fault (IsAnswer command input) (IsAllRead over input) before after

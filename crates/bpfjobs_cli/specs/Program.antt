@@ -37,7 +37,6 @@ abbrev pub sessions_rule : Rule
 sessions_rule = record (new_rule (codes "sessions")) {
   long = Some (codes "sessions");
   value_names = 1;
-  defaults = codes "1" ∷ [];
   parser = Some (vp.Signed (pos 1) (pos 1000000));
 }
 

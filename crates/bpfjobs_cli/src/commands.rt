@@ -44,8 +44,8 @@ pub enum Endpoint {
 pub struct ServeOptions {
     /// Threads that run the tasks of a job, 1 to 16.
     pub workers: u32,
-    /// Connections that are taken until it ends, 1 to 1,000,000.
-    pub sessions: u32,
+    /// Connections that are taken until it ends, 1 to 1,000,000; `None`: any number.
+    pub sessions: Option<u32>,
     /// Connections at once, 1 to 64.
     pub clients: u32,
     /// Seconds, 1 to 3600, after which a client is given up that keeps a read or a write waiting, or

@@ -1,7 +1,7 @@
 //! A command from a source to a sink.
 
 ghost use Rattle.std.specs.Prelude.{◌≡◌, ◌≢◌, ◌<◌, ◌++◌, ℕ, List, true, false, take, length, is_err, OnOk, OnErr, IfOk, IfErr, Err};
-ghost use Rattle.bpfjobs_cli.specs.Performing.{AnswersInput, IsAllRead, IsAnswer, IsGivenUpBy, NeedsNoThread};
+ghost use Rattle.bpfjobs_cli.specs.Performing.{AnswersAll, AnswersInput, GivesUp, IsAllRead, IsAnswer, NeedsNoThread};
 
 use crate::Command;
 use crate::answer::Answer;
@@ -96,15 +96,12 @@ pub fn perform_alone<R: Source, W: Sink>(
     requires alone { NeedsNoThread command }
     requires source { R.has_failed reader.old ≡ false }
     requires sink { W.has_failed writer.old ≡ false }
-    ensures done { IfOk result (λ status. (input text : List ℕ)
-        × (R.transcript reader.new ≡ R.transcript reader.old ++ input)
-        × IsAllRead (R.is_over reader.new ≡ true) input
-        × IsAnswer command input text status
-        × (W.transcript writer.new ≡ W.transcript writer.old ++ text)) }
-    ensures stopped { IfErr result (λ fault. (input : List ℕ)
-        × (R.transcript reader.new ≡ R.transcript reader.old ++ input)
-        × IsGivenUpBy fault (IsAnswer command input) (IsAllRead (R.is_over reader.new ≡ true) input)
-        (W.transcript writer.old) (W.transcript writer.new)) }
+    ensures done { IfOk result (λ status. AnswersAll command (R.transcript reader.old)
+        (R.transcript reader.new) (R.is_over reader.new ≡ true) (W.transcript writer.old)
+        (W.transcript writer.new) status) }
+    ensures stopped { IfErr result (λ fault. GivesUp command (R.transcript reader.old)
+        (R.transcript reader.new) (R.is_over reader.new ≡ true) (W.transcript writer.old)
+        (W.transcript writer.new) fault) }
     ensures read_failed { result ≡ Err StreamFault.ReadFailed → R.has_failed reader.new ≡ true }
     ensures write_failed { result ≡ Err StreamFault.WriteFailed → W.has_failed writer.new ≡ true }
     ensures no_memory { result ≡ Err StreamFault.NoMemory → (R.has_failed reader.new ≡ false)
@@ -130,15 +127,12 @@ pub fn perform<T: Threads + Wait + Sync, R: Source, W: Sink>(
     requires answers { AnswersInput command }
     requires source { R.has_failed reader.old ≡ false }
     requires sink { W.has_failed writer.old ≡ false }
-    ensures done { IfOk result (λ status. (input text : List ℕ)
-        × (R.transcript reader.new ≡ R.transcript reader.old ++ input)
-        × IsAllRead (R.is_over reader.new ≡ true) input
-        × IsAnswer command input text status
-        × (W.transcript writer.new ≡ W.transcript writer.old ++ text)) }
-    ensures stopped { IfErr result (λ fault. (input : List ℕ)
-        × (R.transcript reader.new ≡ R.transcript reader.old ++ input)
-        × IsGivenUpBy fault (IsAnswer command input) (IsAllRead (R.is_over reader.new ≡ true) input)
-        (W.transcript writer.old) (W.transcript writer.new)) }
+    ensures done { IfOk result (λ status. AnswersAll command (R.transcript reader.old)
+        (R.transcript reader.new) (R.is_over reader.new ≡ true) (W.transcript writer.old)
+        (W.transcript writer.new) status) }
+    ensures stopped { IfErr result (λ fault. GivesUp command (R.transcript reader.old)
+        (R.transcript reader.new) (R.is_over reader.new ≡ true) (W.transcript writer.old)
+        (W.transcript writer.new) fault) }
     ensures read_failed { result ≡ Err StreamFault.ReadFailed → R.has_failed reader.new ≡ true }
     ensures write_failed { result ≡ Err StreamFault.WriteFailed → W.has_failed writer.new ≡ true }
     ensures no_memory { result ≡ Err StreamFault.NoMemory → (R.has_failed reader.new ≡ false)

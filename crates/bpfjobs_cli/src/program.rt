@@ -73,7 +73,6 @@ fn sessions<'a>(alloc: Global) -> Arg<'a>
         .value_name("COUNT")
         .help(texts::SESSIONS)
         .value_parser(clap::value_parser!(u32).range(1..=1000000))
-        .default_value("1")
 }
 
 fn clients<'a>(alloc: Global) -> Arg<'a>

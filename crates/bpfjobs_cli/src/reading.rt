@@ -4,7 +4,7 @@ ghost use Rattle.std.specs.Prelude.{◌≡◌, ℕ, map, codes, IfOk, IfErr, Opt
 ghost use Rattle.clap.specs.Words.{Row, Text, found_of, first_of, rows_of, subcommand_of};
 ghost use Rattle.bpfjobs_cli.specs.declared.commands.ServeOptions.{ServeOptions};
 ghost use Rattle.bpfjobs_cli.specs.Program.{bpfjobs_app};
-ghost use Rattle.bpfjobs_cli.specs.Commands.{AreOptionsOf, IsCommandOf, IsEndpointOf, IsEndpointUsage, IsFlagOf, IsInRange, IsMaybeNumber, IsNumberIn, IsServeOf, IsShownOf, IsUsage, SaysCommand, SaysServe};
+ghost use Rattle.bpfjobs_cli.specs.Commands.{AreOptionsOf, IsCommandOf, IsEndpointOf, IsEndpointUsage, IsFlagOf, IsInRange, IsMaybeNumber, IsNumberIn, IsServeOf, IsShownOf, IsUsage, SaysCommand, SaysServe, sessions_said};
 
 use crate::commands::{
     Command, CommandRequest, Endpoint, EndpointFault, Serve, ServeOptions, Shown, Usage,
@@ -45,13 +45,23 @@ fn text(alloc: Global, matches: &ArgMatches<'_>, id: &str) -> Result<Option<Stri
     }
 }
 
-// The port of a server, if the words say one.
-fn port(matches: &ArgMatches<'_>) -> Option<u32>
+// The number of an argument, from low to high, if the words say one.
+fn maybe_number(matches: &ArgMatches<'_>, id: &str, low: u32, high: u32) -> Option<u32>
     requires { (n : Option ℕ)
-        × IsMaybeNumber (rows_of (found_of matches.now)) (codes "port") 1 65535 n }
-    ensures { IsMaybeNumber (rows_of (found_of matches.now)) (codes "port") 1 65535 result }
+        × IsMaybeNumber (rows_of (found_of matches.now)) id.now low high n }
+    ensures { IsMaybeNumber (rows_of (found_of matches.now)) id.now low high result }
 {
-    matches.get_one::<u32>("port")
+    matches.get_one::<u32>(id)
+}
+
+// How many connections a server takes in all, by the words and how many it serves at once.
+fn sessions_of(said: Option<u32>, clients: u32) -> Option<u32>
+    ensures { result ≡ sessions_said said clients }
+{
+    match said {
+        Some(sessions) => Some(sessions),
+        None => { if clients == 1 { Some(1) } else { None } }
+    }
 }
 
 // The place where a server listens: a port, or a socket.
@@ -64,7 +74,7 @@ fn endpoint(alloc: Global, matches: &ArgMatches<'_>) -> Result<Endpoint, Usage>
 {
     let path = text(alloc, matches, "socket")?;
     let grants = text(alloc, matches, "grants")?;
-    match port(matches) {
+    match maybe_number(matches, "port", 1, 65535) {
         Some(port) => match path {
             Some(_) => Err(Usage::Endpoint(EndpointFault::Two)),
             None => match grants {
@@ -84,10 +94,12 @@ fn options(matches: &ArgMatches<'_>) -> ServeOptions
     requires { (o : ServeOptions) × AreOptionsOf (rows_of (found_of matches.now)) o }
     ensures { AreOptionsOf (rows_of (found_of matches.now)) result }
 {
+    let clients = number(matches, "clients", 1, 64);
+    let said = maybe_number(matches, "sessions", 1, 1000000);
     ServeOptions {
         workers: number(matches, "workers", 1, 16),
-        sessions: number(matches, "sessions", 1, 1000000),
-        clients: number(matches, "clients", 1, 64),
+        sessions: sessions_of(said, clients),
+        clients,
         timeout: number(matches, "timeout", 0, 3600),
         open_jobs: number(matches, "open-jobs", 0, 1000000),
         keep: number(matches, "keep", 0, 1000000),

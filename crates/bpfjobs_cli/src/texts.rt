@@ -103,7 +103,8 @@ pub(crate) const GRANTS: &str =
 
 pub(crate) const PORT: &str = "The port to listen on, 1 to 65535";
 
-pub(crate) const SESSIONS: &str = "Connections to take before it ends, 1 to 1000000";
+pub(crate) const SESSIONS: &str =
+    "Connections to take in all, 1 to 1000000 [default: 1, or any number with --clients above 1]";
 
 pub(crate) const CLIENTS: &str = "Connections to serve at once, 1 to 64";
 

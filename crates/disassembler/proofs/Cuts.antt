@@ -38,9 +38,3 @@ two_once ts p q p' q' a b =
 
 pub two_back : (ts x p front back : List ℕ) → IsFree 44 44 x → StopsAtOnce 44 44 p → ts ≡ x ++ p → IsTwo ts front back → p ≡ 44 ∷ 32 ∷ back
 two_back ts x p front back h g e t = (cut_once 44 44 x p front (44 ∷ 32 ∷ back) h t.0 g (inl refl) (sym e ∙ t.1)).1
-
-pub two_made : (ts x p back : List ℕ) → IsFree 44 44 x → StopsAtOnce 44 44 p → ts ≡ x ++ p → 2 ≤ length p → get_or p 1 0 ≡ 32 → back ≡ drop 2 p → IsTwo ts x back
-two_made ts x [] back h g e l d b = absurd (omega arith)
-two_made ts x (c ∷ []) back h g e l d b = absurd (omega arith)
-two_made ts x (c ∷ k ∷ p) back h (inl g) e l d b = (h, let q : back ≡ p = b in cc)
-two_made ts x (c ∷ k ∷ p) back h (inr g) e l d b = (h, let q : back ≡ p = b in cc)

@@ -5,6 +5,7 @@ ghost use Rattle.insn_codec.specs.declared.insn.Insn.{Insn};
 ghost use Rattle.insn_codec.specs.Spelling.{IsRefusal};
 ghost use Rattle.disassembler.specs.Line.{line_text, IsListing};
 
+use crate::signed_number::SignedNumber;
 use crate::word::Word;
 use insn_codec::{CodecFault, Insn, Operand, Register, decode};
 use refusal::NoMemory;
@@ -23,26 +24,6 @@ impl fmt::Display for Name {
 
     fn fmt<W: fmt::Write>(&self, f: &mut fmt::Formatter<W>) -> fmt::Result {
         write!(f, "r{}", self.0.number())
-    }
-}
-
-/// A number with its sign, also before zero.
-#[derive(Clone, Copy)]
-struct Offset(i32);
-
-impl fmt::Display for Offset {
-    ghost use Rattle.std.specs.Prelude.{Some};
-    ghost use Rattle.disassembler.specs.Line.{signed_text};
-
-    ghost output = { λ offset. Some (signed_text offset.0) };
-
-    fn fmt<W: fmt::Write>(&self, f: &mut fmt::Formatter<W>) -> fmt::Result {
-        let size = self.0.unsigned_abs();
-        if self.0 < 0 {
-            write!(f, "-{size}")
-        } else {
-            write!(f, "+{size}")
-        }
     }
 }
 
@@ -75,7 +56,7 @@ impl fmt::Display for MemoryOperand {
     ghost output = { λ place. Some (memory_text place.0 place.1) };
 
     fn fmt<W: fmt::Write>(&self, f: &mut fmt::Formatter<W>) -> fmt::Result {
-        write!(f, "[{}{}]", Name(self.0), Offset(i32::from(self.1)))
+        write!(f, "[{}{}]", Name(self.0), SignedNumber(i64::from(self.1)))
     }
 }
 
@@ -91,7 +72,7 @@ impl fmt::Display for Branch {
 
     fn fmt<W: fmt::Write>(&self, f: &mut fmt::Formatter<W>) -> fmt::Result {
         let (dst, src) = (Name(self.0), SourceOperand(self.1));
-        write!(f, "{dst}, {src}, {}", Offset(i32::from(self.2)))
+        write!(f, "{dst}, {src}, {}", SignedNumber(i64::from(self.2)))
     }
 }
 
@@ -132,8 +113,8 @@ impl fmt::Display for Tail {
                 src,
                 ..
             } => write!(f, " {}, {}", MemoryOperand(base, offset), Name(src)),
-            Insn::Jump { offset } => write!(f, " {}", Offset(i32::from(offset))),
-            Insn::Jump32 { offset } => write!(f, " {}", Offset(offset)),
+            Insn::Jump { offset } => write!(f, " {}", SignedNumber(i64::from(offset))),
+            Insn::Jump32 { offset } => write!(f, " {}", SignedNumber(i64::from(offset))),
             Insn::JumpIf {
                 dst,
                 src,

@@ -12,7 +12,7 @@ use Rattle.flow_graph.specs.Flow.{AreNext}
 use Rattle.flow_graph.specs.Program.{IsDecoded, code_of, code_of_insn}
 use Rattle.flow_graph.proofs.OrderLemmas.{joint_begins}
 use Rattle.explain.specs.declared.blocks.Block.{Block}
-use Rattle.explain.specs.Blocks.{AreBegun, IsStraight, IsTiled, slots_in}
+use Rattle.explain.specs.Blocks.{AreBegun, IsTiled, slots_in}
 
 -- ---- edges
 
@@ -34,18 +34,6 @@ pub joint_two : (code : Code) (p s following to : ℕ) → AreNext code p (Two f
 joint_two code p s following to next (Always, edge) = absurd (none_leads (leads_at code p Always) s next.0 edge)
 joint_two code p s following to next (NotTaken, edge) = inl (same_end (leads_at code p NotTaken) following s next.1 edge)
 joint_two code p s following to next (Taken, edge) = inr (same_end (leads_at code p Taken) to s next.2 edge)
-
-no_always : (code : Code) (p s : ℕ) → leads_at code p Always ≡ None → IsStraight code p s → ⊥
-no_always code p s none straight = none_leads (leads_at code p Always) s none straight.edge
-
-pub straight_zero : (code : Code) (p s : ℕ) → AreNext code p Zero → IsStraight code p s → ⊥
-straight_zero code p s next = no_always code p s (next.1 Always)
-
-pub straight_two : (code : Code) (p s following to : ℕ) → AreNext code p (Two following to) → IsStraight code p s → ⊥
-straight_two code p s following to next = no_always code p s next.0
-
-pub straight_one : (code : Code) (p s to : ℕ) → AreNext code p (One to) → IsStraight code p s → to ≡ s
-straight_one code p s to next straight = same_end (leads_at code p Always) to s next.0 straight.edge
 
 pub joint_within : (code : Code) (p s : ℕ) → IsJoint code p s → p < length code
 joint_within code p s joint = begins_within code p (joint_begins code p s joint)

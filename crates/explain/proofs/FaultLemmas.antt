@@ -13,7 +13,7 @@ use Rattle.flow_graph.proofs.OrderLemmas.{no_cycle}
 use Rattle.instruction_rules.specs.declared.rule.Rule.{Rule}
 use Rattle.instruction_rules.specs.declared.state.AbsState.{AbsState}
 use Rattle.instruction_rules.specs.States.{fault}
-use Rattle.verifier.specs.InStates.{InState, Reached, Subject, Undefined, Unreached, in_state}
+use Rattle.verifier.specs.InStates.{InState, Reached, Subject, in_state}
 use Rattle.verifier.specs.declared.refusals.Refusal.{Refusal}
 use Rattle.verifier.specs.Refusals.{HasFlow}
 use Rattle.verifier.specs.RefusalCodes.{from_codec, from_flow, refusal_at}
@@ -22,27 +22,6 @@ use Rattle.explain.specs.Faults.{broken_at, broken_by, refusal_of, refusals_belo
 use Rattle.explain.specs.Told.{ruled_slot}
 
 -- ---- one slot
-
-nothing_broken : (p : Subject) (o : Option Insn) (a : InState) → ((state : AbsState) → a ≡ Reached state → ⊥) → broken_by p o a ≡ None
-nothing_broken p None a none = refl
-nothing_broken p (Some i) Unreached none = refl
-nothing_broken p (Some i) Undefined none = refl
-nothing_broken p (Some i) (Reached state) none = absurd (none state refl)
-
-pub broken_nowhere : (p : Subject) (slot : ℕ) → insn_at p.code slot ≡ None → broken_at p slot ≡ None
-broken_nowhere p slot none = ap (λ (o : Option Insn). broken_by p o (in_state p slot)) none
-
-unreached_not : (a : InState) (state : AbsState) → a ≡ Unreached → a ≡ Reached state → ⊥
-unreached_not a state e f = cc
-
-undefined_not : (a : InState) (state : AbsState) → a ≡ Undefined → a ≡ Reached state → ⊥
-undefined_not a state e f = cc
-
-pub broken_unreached : (p : Subject) (slot : ℕ) → in_state p slot ≡ Unreached → broken_at p slot ≡ None
-broken_unreached p slot e = nothing_broken p (insn_at p.code slot) (in_state p slot) (λ state. unreached_not (in_state p slot) state e)
-
-pub broken_undefined : (p : Subject) (slot : ℕ) → in_state p slot ≡ Undefined → broken_at p slot ≡ None
-broken_undefined p slot e = nothing_broken p (insn_at p.code slot) (in_state p slot) (λ state. undefined_not (in_state p slot) state e)
 
 pub broken_is : (p : Subject) (slot : ℕ) (i : Insn) (state : AbsState) → insn_at p.code slot ≡ Some i → in_state p slot ≡ Reached state → (o : Option Rule) →
     fault p.need p.helpers i state ≡ o → broken_at p slot ≡ o

@@ -4,6 +4,7 @@ ghost use Rattle.std.specs.Prelude.{◌≡◌, ◌≤◌};
 ghost use Rattle.instruction_rules.specs.Covers.{abs_at};
 ghost use Rattle.explain.specs.Texts.{is_any, is_narrow};
 
+use disassembler::SignedNumber;
 use insn_codec::Register;
 use std::fmt;
 use value_ranges::{Abs, Numbers, Reach, SignedRange};
@@ -57,26 +58,6 @@ impl fmt::Display for NumbersText {
     }
 }
 
-/// A position with its sign, also before zero.
-#[derive(Clone, Copy)]
-struct PositionText(i32);
-
-impl fmt::Display for PositionText {
-    ghost use Rattle.std.specs.Prelude.{Some};
-    ghost use Rattle.disassembler.specs.Line.{signed_text};
-
-    ghost output = { λ position. Some (signed_text position.0) };
-
-    fn fmt<W: fmt::Write>(&self, f: &mut fmt::Formatter<W>) -> fmt::Result {
-        let size = self.0.unsigned_abs();
-        if self.0 < 0 {
-            write!(f, "-{size}")
-        } else {
-            write!(f, "+{size}")
-        }
-    }
-}
-
 /// Where a pointer leads, in bytes from its region's first.
 #[derive(Clone, Copy)]
 struct ReachText(Reach);
@@ -90,9 +71,14 @@ impl fmt::Display for ReachText {
     fn fmt<W: fmt::Write>(&self, f: &mut fmt::Formatter<W>) -> fmt::Result {
         let (lo, hi) = (self.0.lo(), self.0.hi());
         if lo < hi {
-            write!(f, "{} to {}", PositionText(lo), PositionText(hi))
+            write!(
+                f,
+                "{} to {}",
+                SignedNumber(i64::from(lo)),
+                SignedNumber(i64::from(hi))
+            )
         } else {
-            write!(f, "{}", PositionText(lo))
+            write!(f, "{}", SignedNumber(i64::from(lo)))
         }
     }
 }

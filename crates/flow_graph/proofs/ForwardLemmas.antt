@@ -3,11 +3,9 @@ use Rattle.std.proofs.Common.{◌≡◌, ℕ, ◌+◌, ◌≤◌, ◌<◌, ◌�
 use Rattle.std.proofs.lemmas.Bool.{cases_lt}
 use Rattle.std.proofs.lemmas.List.{get_or-set_other, get_or_default, length-replicate}
 use Rattle.std.proofs.Math.ListN.{length-set}
-use Rattle.machine_model.specs.Edges.{Code, Fact, Always, NotTaken, Taken, IsEdge, Begins, leads_at}
+use Rattle.machine_model.specs.Edges.{Code, Begins}
 use Rattle.machine_model.specs.Paths.{IsReached}
-use Rattle.flow_graph.specs.declared.graph.Next.TheVariants.{Zero, One, Two}
 use Rattle.flow_graph.specs.Cycles.{IsJoint}
-use Rattle.flow_graph.specs.Flow.{AreNext}
 use Rattle.flow_graph.specs.Forward.{IsForward, IsForwardTo}
 use Rattle.flow_graph.specs.Reached.{IsMarked}
 use Rattle.flow_graph.proofs.CodeLemmas.{begins_below}
@@ -30,42 +28,6 @@ marked_more marks t s h = elim (one_way s t) [
   | inl e ↦ inr e
   | inr ne ↦ inl (sym (get_or-set_other marks t s true false ne) ∙ h)
 ]
-
-pub marked_one : (code : Code) (slot t : ℕ) (marks : List Bool) → AreNext code slot (One t) → (s : ℕ) →
-    IsMarked (slice_set marks t true) s → IsMarked marks s ⊎ IsJoint code slot s
-marked_one code slot t marks next s h = elim (marked_more marks t s h) [
-  | inl old ↦ inl old
-  | inr e ↦ inr (Always, subst (IsEdge code slot Always) (sym e) next.0)
-]
-
-pub marked_two : (code : Code) (slot t u : ℕ) (marks : List Bool) → AreNext code slot (Two t u) → (s : ℕ) →
-    IsMarked (slice_set (slice_set marks t true) u true) s → IsMarked marks s ⊎ IsJoint code slot s
-marked_two code slot t u marks next s h = elim (marked_more (slice_set marks t true) u s h) [
-  | inl old ↦ elim (marked_more marks t s old) [
-    | inl older ↦ inl older
-    | inr e ↦ inr (NotTaken, subst (IsEdge code slot NotTaken) (sym e) next.1)
-  ]
-  | inr e ↦ inr (Taken, subst (IsEdge code slot Taken) (sym e) next.2)
-]
-
-pub onward_zero : (code : Code) (slot : ℕ) → AreNext code slot Zero → (s : ℕ) → IsJoint code slot s → slot < s
-onward_zero code slot next s joint = no_end (leads_at code slot joint.0) s joint.1 (next.1 joint.0)
-
-pub onward_one : (code : Code) (slot t : ℕ) → AreNext code slot (One t) → slot < t → (s : ℕ) → IsJoint code slot s → slot < s
-onward_one code slot t next lt s joint = goes joint.0 s joint.1
-  where
-    goes : (fact : Fact) (s : ℕ) → IsEdge code slot fact s → slot < s
-    goes Always s edge = subst (λ (q : ℕ). slot < q) (same_end (leads_at code slot Always) t s next.0 edge) lt
-    goes NotTaken s edge = no_end (leads_at code slot NotTaken) s edge next.1
-    goes Taken s edge = no_end (leads_at code slot Taken) s edge next.2
-
-pub onward_two : (code : Code) (slot t u : ℕ) → AreNext code slot (Two t u) → slot < t → slot < u → (s : ℕ) → IsJoint code slot s → slot < s
-onward_two code slot t u next low high s joint = goes joint.0 s joint.1
-  where
-    goes : (fact : Fact) (s : ℕ) → IsEdge code slot fact s → slot < s
-    goes Always s edge = no_end (leads_at code slot Always) s edge next.0
-    goes NotTaken s edge = subst (λ (q : ℕ). slot < q) (same_end (leads_at code slot NotTaken) t s next.1 edge) low
-    goes Taken s edge = subst (λ (q : ℕ). slot < q) (same_end (leads_at code slot Taken) u s next.2 edge) high
 
 -- the first slot alone is marked
 pub forward_first : (code : Code) (marks : List Bool) → marks ≡ replicate (length code) false → IsForwardTo code 0 (slice_set marks 0 true) []

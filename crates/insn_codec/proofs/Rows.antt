@@ -27,9 +27,6 @@ use Rattle.insn_codec.specs.declared.operation.Operation.TheVariants.{Alu, Mov, 
 use Rattle.insn_codec.specs.Table.{code_of, selecting_offset, condition_code, source_code, alu_class, jump_class, target_width, extended_bits, end_bits, size_code, load_code, IsRow, IsUnknown}
 use Rattle.insn_codec.specs.Inverse.{mov_at, source_at, alu_op_at, condition_at, size_at, load_at, extension_at, end_size_at, end_row, end_at, neg_row, extension_row, alu_op_row, other_jump_at, jump_row, operation_at, alu_at, jump_at}
 
-abbrev pub IsAluOp : ℕ → ℕ → AluOp → Type 0
-IsAluOp code offset op = (code_of op ≡ code) × IfSome (selecting_offset op) (λ n. offset ≡ n)
-
 -- a choice between two answers
 pub by_test : {A : Type 0} (P : A → Type 0) (b : Bool) (x y : Option A) → (b ≡ true → IfSome x P) → (b ≡ false → IfSome y P) → IfSome (cond b x y) P
 by_test P true x y f g = f refl

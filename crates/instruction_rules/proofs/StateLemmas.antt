@@ -1,15 +1,13 @@
 -- States as lists of eleven.
-use Rattle.std.proofs.Common.{◌≡◌, Option, Some, None, Result, Ok, Err, ℕ, zero, suc, ◌+◌, ◌≤◌, ◌<◌, List, [], ◌∷◌, length, drop, slice_set, slice_index_or, arith, refl, inl, inr, ◌⊎◌, to_z-of_z}
+use Rattle.std.proofs.Common.{◌≡◌, Option, Some, None, Ok, Err, ℕ, zero, suc, ◌+◌, ◌≤◌, ◌<◌, List, [], ◌∷◌, length, drop, slice_set, arith, refl, ◌⊎◌, to_z-of_z}
 use Rattle.std.proofs.lemmas.Int.{ints}
 use Rattle.value_ranges.specs.declared.abs.Abs.{Abs}
-use Rattle.value_ranges.specs.declared.abs.Abs.TheVariants.{Unset, Num, Stack, Part}
-use Rattle.value_ranges.specs.Joins.{joined}
+use Rattle.value_ranges.specs.declared.abs.Abs.TheVariants.{Unset}
 use Rattle.instruction_rules.specs.declared.rule.Rule.{Rule}
 use Rattle.instruction_rules.specs.declared.state.AbsState.{AbsState}
-use Rattle.instruction_rules.specs.Covers.{abs_at}
 use Rattle.instruction_rules.specs.Joining.{joined_to}
 use Rattle.instruction_rules.specs.Judged.{judged}
-use Rattle.instruction_rules.specs.States.{joined_state, with_abs, called_state}
+use Rattle.instruction_rules.specs.States.{joined_state}
 
 pub ruleset signed_values = (ints, to_z-of_z)
 
@@ -53,44 +51,6 @@ joined_all s t long =
     of_eleven (λ (xs : List Abs). joined_below (record { registers = xs }) t 11 ≡ joined_state (record { registers = xs }) t)
     (λ a b c d e f g h i j k. refl) s.registers long
 
--- a register that has changed on the other way is joined by itself
-pub joined_set : (s t : AbsState) (r : ℕ) (a : Abs) → length t.registers ≡ 11 → r ≤ 10 →
-    with_abs (joined_state s t) r (joined (abs_at s r) a) ≡ joined_state s (with_abs t r a)
-joined_set s t r a long low =
-    of_eleven (λ (xs : List Abs). with_abs (joined_state s (record { registers = xs })) r (joined (abs_at s r) a)
-    ≡ joined_state s (with_abs (record { registers = xs }) r a))
-    (by_register r low) t.registers long
-  where
-    by_register : (r : ℕ) → r ≤ 10 → (a₀ a₁ a₂ a₃ a₄ a₅ a₆ a₇ a₈ a₉ b : Abs) →
-        with_abs (joined_state s (record { registers = a₀ ∷ a₁ ∷ a₂ ∷ a₃ ∷ a₄ ∷ a₅ ∷ a₆ ∷ a₇ ∷ a₈ ∷ a₉ ∷ b ∷ [] })) r (joined (abs_at s r) a)
-        ≡ joined_state s (with_abs (record { registers = a₀ ∷ a₁ ∷ a₂ ∷ a₃ ∷ a₄ ∷ a₅ ∷ a₆ ∷ a₇ ∷ a₈ ∷ a₉ ∷ b ∷ [] }) r a)
-    by_register zero low a₀ a₁ a₂ a₃ a₄ a₅ a₆ a₇ a₈ a₉ b = refl
-    by_register (suc zero) low a₀ a₁ a₂ a₃ a₄ a₅ a₆ a₇ a₈ a₉ b = refl
-    by_register (suc (suc zero)) low a₀ a₁ a₂ a₃ a₄ a₅ a₆ a₇ a₈ a₉ b = refl
-    by_register (suc (suc (suc zero))) low a₀ a₁ a₂ a₃ a₄ a₅ a₆ a₇ a₈ a₉ b = refl
-    by_register (suc (suc (suc (suc zero)))) low a₀ a₁ a₂ a₃ a₄ a₅ a₆ a₇ a₈ a₉ b = refl
-    by_register (suc (suc (suc (suc (suc zero))))) low a₀ a₁ a₂ a₃ a₄ a₅ a₆ a₇ a₈ a₉ b = refl
-    by_register (suc (suc (suc (suc (suc (suc zero)))))) low a₀ a₁ a₂ a₃ a₄ a₅ a₆ a₇ a₈ a₉ b = refl
-    by_register (suc (suc (suc (suc (suc (suc (suc zero))))))) low a₀ a₁ a₂ a₃ a₄ a₅ a₆ a₇ a₈ a₉ b = refl
-    by_register (suc (suc (suc (suc (suc (suc (suc (suc zero)))))))) low a₀ a₁ a₂ a₃ a₄ a₅ a₆ a₇ a₈ a₉ b = refl
-    by_register (suc (suc (suc (suc (suc (suc (suc (suc (suc zero))))))))) low a₀ a₁ a₂ a₃ a₄ a₅ a₆ a₇ a₈ a₉ b = refl
-    by_register (suc (suc (suc (suc (suc (suc (suc (suc (suc (suc zero)))))))))) low a₀ a₁ a₂ a₃ a₄ a₅ a₆ a₇ a₈ a₉ b = refl
-    by_register (suc (suc (suc (suc (suc (suc (suc (suc (suc (suc (suc r))))))))))) low a₀ a₁ a₂ a₃ a₄ a₅ a₆ a₇ a₈ a₉ b = absurd (omega (arith, low))
-
-joined_unset : (a : Abs) → joined a Unset ≡ Unset
-joined_unset Unset = refl
-joined_unset (Num r) = refl
-joined_unset (Stack p) = refl
-joined_unset (Part p) = refl
-
--- and so are the answer and the arguments of a call
-pub joined_called : (s t : AbsState) (a : Abs) → length t.registers ≡ 11 →
-    called_state (joined_state s t) (joined (abs_at s 0) a) ≡ joined_state s (called_state t a)
-joined_called s t a long =
-    of_eleven (λ (xs : List Abs). called_state (joined_state s (record { registers = xs })) (joined (abs_at s 0) a)
-    ≡ joined_state s (called_state (record { registers = xs }) a))
-    (λ b c d e f g h i j k l. simp joined_unset) t.registers long
-
 -- what a verdict says
 pub refused_is : (o : Option Rule) (left : Abs) (rule : Rule) → Err rule ≡ judged o left → o ≡ Some rule
 refused_is None left rule e = absurd (cc)
@@ -99,6 +59,3 @@ refused_is (Some other) left rule e = cc
 pub allowed_is : (o : Option Rule) (left found : Abs) → Ok found ≡ judged o left → (o ≡ None) × (found ≡ left)
 allowed_is None left found e = (refl, cc)
 allowed_is (Some other) left found e = absurd (cc)
-
-pub one_state : (o : Option AbsState) (s t : AbsState) → Some s ≡ o → Some t ≡ o → s ≡ t
-one_state o s t x y = cc

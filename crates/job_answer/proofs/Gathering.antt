@@ -39,10 +39,6 @@ tail_get : {X : Type 0} (xs : List X) (n : ℕ) (x : X) → slice_get (drop 1 xs
 tail_get [] n x e = absurd (nothing n x e)
 tail_get (y ∷ ys) n x e = e
 
-get_tail : {X : Type 0} (xs : List X) (n : ℕ) (x : X) → slice_get xs (suc n) ≡ Some x → slice_get (drop 1 xs) n ≡ Some x
-get_tail [] n x e = absurd (nothing (suc n) x e)
-get_tail (y ∷ ys) n x e = e
-
 tail_long : {X : Type 0} (xs : List X) → 0 < length xs → length xs ≡ suc (length (drop 1 xs))
 tail_long [] lt = absurd (omega (arith, lt))
 tail_long (y ∷ ys) lt = refl

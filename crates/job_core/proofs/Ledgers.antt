@@ -40,7 +40,8 @@ use Rattle.job_core.specs.Representation.{WorldState, AreEntries, end_of, Repres
 use Rattle.job_core.proofs.Adding.{Adds, entered}
 use Rattle.job_core.proofs.Booking.{standing_there, standings_long, standings_quiet, standings_spawned, standings_ended, spawned_tasks, spawned_spent, spawned_returned, spawned_buffer, ended_tasks, ended_spent, ended_returned, ended_buffer}
 use Rattle.job_core.proofs.OwnPrograms.{nobody, own_did, own_table}
-use Rattle.job_core.proofs.Simulates.{IsLiveAt, live_at, entries_same, entry_program, steps_went, steps_ended, ended_end}
+use Rattle.job_core.proofs.Keeping.{ended_end}
+use Rattle.job_core.proofs.Simulates.{IsLiveAt, live_at, entries_same, entry_program, steps_went, steps_ended}
 
 abbrev pub Told : TaskLedger → TaskLedger → SpawnRecord → Result (Unit {0}) SpawnRecord → Type 0
 Told old new child reply = (new.entries.items ≡ old.entries.items) × (new.turn ≡ old.turn)

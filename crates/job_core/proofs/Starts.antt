@@ -7,10 +7,10 @@ use Rattle.machine_model.specs.Machine.{State}
 use Rattle.interpreter.specs.declared.frame.Frame.{Frame}
 use Rattle.credit_book.specs.declared.event.TaskEnd.{TaskEnd}
 use Rattle.machine_model.specs.JobState as job
-use Rattle.machine_model.specs.JobState.{JobState, Task, Member, start, AreTiles, Owner, IsApart, base_of, size_of, entry_registers, state_in, entry_of}
+use Rattle.machine_model.specs.JobState.{Task, Member, start, AreTiles, base_of, size_of, entry_registers, entry_of}
 use Rattle.machine_model.proofs.Places.{pushed}
 use Rattle.helpers.specs.Piece.{Piece}
-use Rattle.verifier.specs.Checked.{Checked, program_of, IsVerified, cost_at}
+use Rattle.verifier.specs.Checked.{Checked, program_of, IsVerified}
 use Rattle.interpreter.specs.Representation.{entry_frame, RepresentsTask}
 use Rattle.job_core.specs.declared.live.Live.{Live}
 use Rattle.job_core.specs.Living.{Living}
@@ -150,10 +150,6 @@ entries_more programs i entries p entry lt at verified own is old =
         | inr last ↦ ap (λ (x : Checked). x.helpers) last.1 ∙ own
       ];
     })
-
-pub entries_all : (programs : List Checked) (i : ℕ) (entries : List Entry) → i ≡ length programs → AreEntries (take i programs) entries → AreEntries programs entries
-entries_all programs i entries e are =
-    subst (λ ps. AreEntries ps entries) (ap (λ n. take n programs) e ∙ take-length programs) are
 
 take_past : {X : Type 0} (xs : List X) (i : ℕ) → length xs ≤ i → take i xs ≡ xs
 take_past [] zero le = refl

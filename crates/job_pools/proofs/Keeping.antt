@@ -1,17 +1,10 @@
 -- The jobs that are held, from one state to the next, over what their keys and places find.
-use Rattle.std.proofs.Common.{◌≡◌, ◌≢◌, ℕ, false, Option, Some, None, option_map, refl, sym, ap, subst, ◌∙◌, inl, inr, arith}
+use Rattle.std.proofs.Common.{◌≡◌, ◌≢◌, ℕ, Option, Some, None, option_map, refl, sym, ap, subst, ◌∙◌, inl, inr}
 use Rattle.std.proofs.lemmas.Bool.{cases_eq}
-use Rattle.std.proofs.lemmas.Bool.Decides.{nat_tests}
-use Rattle.std.specs.BTreeMap.{is_at}
-use Rattle.std.specs.Ordering.{nat_cmp}
 use Rattle.credit_book.specs.declared.board.Progress.{Progress}
 use Rattle.job_pools.specs.declared.held_jobs.HeldJobs.{HeldJobs}
 use Rattle.job_pools.specs.Holding.{HeldJob, AreKept, job_by}
 use Rattle.job_pools.specs.Holds.{held_at, count_of, SeesHeld, looks_by, TellsProgress}
-
--- another number isn't at this place of a tree
-pub not_at : (k n : ℕ) → n ≢ k → is_at (nat_cmp k) n ≡ false
-not_at k n differs = grind (arith, nat_tests)
 
 some_apart : {X : Type 0} (x y : X) → Some x ≡ Some y → x ≡ y
 some_apart x y same = cc
@@ -91,17 +84,6 @@ others_removed keys keys' jobs jobs' number key kept here others elsewhere n dif
 pub kept_same : (keys keys' : ℕ → Option ℕ) (jobs jobs' : ℕ → Option HeldJob) → AreKept keys jobs → ((n : ℕ) → keys' n ≡ keys n) → ((k : ℕ) → jobs' k ≡ jobs k) → AreKept keys' jobs'
 kept_same keys keys' jobs jobs' kept same elsewhere n k found =
     ap (option_map (λ h. h.number)) (elsewhere k) ∙ kept n k (sym (same n) ∙ found)
-
-pub each_same : (keys keys' : ℕ → Option ℕ) (jobs jobs' : ℕ → Option HeldJob) → ((n : ℕ) → keys' n ≡ keys n) → ((k : ℕ) → jobs' k ≡ jobs k) → (n : ℕ) → job_by jobs' (keys' n) ≡ job_by jobs (keys n)
-each_same keys keys' jobs jobs' same elsewhere n = ap (job_by jobs') (same n) ∙ by_key jobs jobs' (keys n) (λ k found. elsewhere k)
-
--- a key that was added under a number that had none, and taken away again
-pub added_and_gone : (keys keys' keys'' : ℕ → Option ℕ) (number : ℕ) → keys number ≡ None → SameBut keys number keys' → keys'' number ≡ None → SameBut keys' number keys'' → (n : ℕ) → keys'' n ≡ keys n
-added_and_gone keys keys' keys'' number none others gone others' n =
-    elim (cases_eq n number) [
-      | inl same ↦ ap keys'' same ∙ gone ∙ sym none ∙ sym (ap keys same)
-      | inr differs ↦ others' n differs ∙ others n differs
-    ]
 
 -- ---- what is held by its key
 

@@ -14,7 +14,7 @@ use Rattle.job_pools.specs.declared.job_seats.StartedJob.{StartedJob}
 use Rattle.job_pools.specs.Endings.{IsEndOf}
 use Rattle.job_pools.specs.Holding.{HeldJob, IsSeen}
 use Rattle.job_pools.specs.Holds.{AddsBy, GivesBy, IsUnchangedBy, TellsBy, looks_by}
-use Rattle.job_pools.specs.Started.{AreWatched, IsLook, NoneFrom, held_of, pooled_at, pooled_count, started_at}
+use Rattle.job_pools.specs.Started.{AreWatched, IsLook, held_of, pooled_at, pooled_count, started_at}
 use Rattle.job_pools.proofs.Keeping.{SameBut}
 
 -- ---- a job that was entered
@@ -28,11 +28,6 @@ pub entered_others : (s : StartedJob) (k : List StartedJob) (n : ℕ) → n ≢ 
 entered_others s k n differs =
     let is : (n == s.number) ≡ false = grind (arith, nat_tests) in
     ap (λ (b : Bool). if◌then◌else◌ {A = Option AdmittedJob} b (Some s.job) (started_at n k)) is
-
-pub none_from_on : (next : ℕ) (s : StartedJob) (k : List StartedJob) → NoneFrom next k → next ≤ s.number → NoneFrom (s.number + 1) (s ∷ k)
-none_from_on next s k none later n le =
-    let differs : n ≢ s.number = λ same. absurd (omega (arith, same, le)) in
-    entered_others s k n differs ∙ none n (omega (arith, later, le))
 
 -- ---- boards
 
@@ -49,53 +44,6 @@ free_board k boards n watched none = by_board (boards n) refl
 
 some_same : {X : Type 0} (x y : X) → Some x ≡ Some y → x ≡ y
 some_same x y same = cc
-
-pub watched_more : (s : StartedJob) (k : List StartedJob) (boards boards' : ℕ → Option Sight) (sight : Sight) → AreWatched k boards → boards' s.number ≡ Some sight → SameBut boards s.number boards'
-    → sight.board.issued ≡ s.job.credit → sight.board.job ≡ s.number → AreWatched (s ∷ k) boards'
-watched_more s k boards boards' sight watched here others credit job n seen at =
-    elim (cases_eq n s.number) [
-      | inl same ↦
-          let is : seen ≡ sight = some_same seen sight (sym at ∙ ap boards' same ∙ here) in (
-            ap (option_map (λ j. j.credit)) (entered_here s k n same) ∙ ap Some (sym credit) ∙ ap (λ (x : Sight). Some x.board.issued) (sym is),
-            ap (λ (x : Sight). x.board.job) is ∙ job ∙ sym same,
-          )
-      | inr differs ↦
-          let was = watched n seen (sym (others n differs) ∙ at) in
-          (ap (option_map (λ j. j.credit)) (entered_others s k n differs) ∙ was.0, was.1)
-    ]
-
--- the job is known, and its board isn't watched any more
-pub watched_not : (s : StartedJob) (k : List StartedJob) (boards boards' : ℕ → Option Sight) → AreWatched k boards → boards' s.number ≡ None → SameBut boards s.number boards' → AreWatched (s ∷ k) boards'
-watched_not s k boards boards' watched gone others n seen at =
-    elim (cases_eq n s.number) [
-      | inl same ↦ absurd (no_credit seen (sym gone ∙ (sym (ap boards' same) ∙ at)))
-      | inr differs ↦
-          let was = watched n seen (sym (others n differs) ∙ at) in
-          (ap (option_map (λ j. j.credit)) (entered_others s k n differs) ∙ was.0, was.1)
-    ]
-
-pub watched_less : (k : List StartedJob) (number : ℕ) (boards boards' : ℕ → Option Sight) → AreWatched k boards → boards' number ≡ None → SameBut boards number boards' → AreWatched k boards'
-watched_less k number boards boards' watched gone others n seen at =
-    elim (cases_eq n number) [
-      | inl same ↦ absurd (no_credit seen (sym gone ∙ (sym (ap boards' same) ∙ at)))
-      | inr differs ↦ watched n seen (sym (others n differs) ∙ at)
-    ]
-
-pub watched_seen : (k : List StartedJob) (number : ℕ) (old new : Sight) (boards boards' : ℕ → Option Sight) → AreWatched k boards → boards number ≡ Some old → boards' number ≡ Some new → new.board ≡ old.board
-    → SameBut boards number boards' → AreWatched k boards'
-watched_seen k number old new boards boards' watched was here same others n seen at =
-    elim (cases_eq n number) [
-      | inl is ↦
-          let found : seen ≡ new = some_same seen new (sym at ∙ ap boards' is ∙ here) in
-          let known = watched n old (ap boards is ∙ was) in (
-            known.0 ∙ ap (λ b. Some b.issued) (sym same) ∙ ap (λ (x : Sight). Some x.board.issued) (sym found),
-            ap (λ (x : Sight). x.board.job) found ∙ ap (λ b. b.job) same ∙ known.1,
-          )
-      | inr differs ↦ watched n seen (sym (others n differs) ∙ at)
-    ]
-
-pub watched_same : (k : List StartedJob) (boards boards' : ℕ → Option Sight) → AreWatched k boards → ((n : ℕ) → boards' n ≡ boards n) → AreWatched k boards'
-watched_same k boards boards' watched same n seen at = watched n seen (sym (same n) ∙ at)
 
 -- ---- what is held
 

@@ -109,21 +109,21 @@ module _ {R : Type 0} (f : R → Pool) (starts : R → ℕ → AdmittedJob → R
 
 -- ---- what a server tells of those that are over
 
-over_all : (k over opened : ℕ) → over ≡ min k (2 ^ 64 - 1) → over ≡ opened → opened < 2 ^ 32 → k ≡ opened
+over_all : (k over opened : ℕ) → over ≡ min k (2 ^ 64 - 1) → over ≡ opened → opened < 2 ^ 64 - 1 → k ≡ opened
 over_all k over opened counted all small = grind arith
 
-all_over : (k over opened : ℕ) → over ≡ min k (2 ^ 64 - 1) → k ≡ opened → opened < 2 ^ 32 → over ≡ opened
+all_over : (k over opened : ℕ) → over ≡ min k (2 ^ 64 - 1) → k ≡ opened → opened < 2 ^ 64 - 1 → over ≡ opened
 all_over k over opened counted all small = grind arith
 
 pub well_of : (closed : List ClosedConnection) (opened sessions over : ℕ) (may_stop stopped : Bool) (given_up : Result (Unit {0}) StreamFault) (outcome : Result (Unit {0}) ServeFault)
-    → over ≡ min (length closed) (2 ^ 64 - 1) → opened < 2 ^ 32 → given_up ≡ first_fault closed → (may_stop ≡ false → stopped ≡ false)
+    → over ≡ min (length closed) (2 ^ 64 - 1) → opened < 2 ^ 64 - 1 → given_up ≡ first_fault closed → (may_stop ≡ false → stopped ≡ false)
     → OnOk outcome ((over ≡ opened) × (given_up ≡ Ok tt) × (opened ≤ sessions) × (stopped ≡ false → opened ≡ sessions))
     → OnOk outcome ((length closed ≡ opened) × (first_fault closed ≡ Ok tt) × (opened ≤ sessions) × (may_stop ≡ false → opened ≡ sessions))
 well_of closed opened sessions over may_stop stopped given_up (Ok done) counted small is only well =
     (over_all (length closed) over opened counted well.0 small, sym is ∙ well.1, well.2, λ never. well.3 (only never))
 well_of closed opened sessions over may_stop stopped given_up (Err fault) counted small is only well = tt
 
-ends_of : (closed : List ClosedConnection) (opened sessions over : ℕ) (given_up : Result (Unit {0}) StreamFault) (fault : ServeFault) → over ≡ min (length closed) (2 ^ 64 - 1) → opened < 2 ^ 32
+ends_of : (closed : List ClosedConnection) (opened sessions over : ℕ) (given_up : Result (Unit {0}) StreamFault) (fault : ServeFault) → over ≡ min (length closed) (2 ^ 64 - 1) → opened < 2 ^ 64 - 1
     → given_up ≡ first_fault closed → EndsBy opened sessions over given_up fault → EndsBy opened sessions (length closed) (first_fault closed) fault
 ends_of closed opened sessions over given_up Socket counted small is ends = ends
 ends_of closed opened sessions over given_up (Connection fault) counted small is (inl same) = inl (sym is ∙ same)
@@ -132,7 +132,7 @@ ends_of closed opened sessions over given_up (Connection fault) counted small is
     inr (none, inr (inl (λ all. lost (all_over (length closed) over opened counted all small))))
 ends_of closed opened sessions over given_up (Connection fault) counted small is (inr (none, inr (inr nothing))) = inr (none, inr (inr nothing))
 
-pub fault_of_all : (closed : List ClosedConnection) (opened sessions over : ℕ) (given_up : Result (Unit {0}) StreamFault) (outcome : Result (Unit {0}) ServeFault) → over ≡ min (length closed) (2 ^ 64 - 1) → opened < 2 ^ 32
+pub fault_of_all : (closed : List ClosedConnection) (opened sessions over : ℕ) (given_up : Result (Unit {0}) StreamFault) (outcome : Result (Unit {0}) ServeFault) → over ≡ min (length closed) (2 ^ 64 - 1) → opened < 2 ^ 64 - 1
     → given_up ≡ first_fault closed → IfErr outcome (EndsBy opened sessions over given_up) → IfErr outcome (EndsBy opened sessions (length closed) (first_fault closed))
 fault_of_all closed opened sessions over given_up (Ok done) counted small is ends = tt
 fault_of_all closed opened sessions over given_up (Err fault) counted small is ends = ends_of closed opened sessions over given_up fault counted small is ends

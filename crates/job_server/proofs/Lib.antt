@@ -11,3 +11,4 @@ pub mod WentOver
 pub mod RefusedResults
 pub mod FromSubmit
 pub mod NoFlag
+pub mod KeptLemmas

@@ -23,12 +23,6 @@ get_before [] ys i y at = cc
 get_before (x ∷ xs) ys zero y at = at
 get_before (x ∷ xs) ys (suc i) y at = get_before xs ys i y at
 
-pub get_last : {X : Type 0} (xs : List X) (x : X) (i : ℕ) → i ≡ length xs → slice_get (xs ++ x ∷ []) i ≡ Some x
-get_last [] x zero is = refl
-get_last [] x (suc i) is = absurd (omega (arith, is))
-get_last (y ∷ xs) x zero is = absurd (omega (arith, is))
-get_last (y ∷ xs) x (suc i) is = get_last xs x i (omega (arith, is))
-
 pub get_set : {X : Type 0} (xs : List X) (i : ℕ) (x : X) (j : ℕ) (y : X) → slice_get (slice_set xs i x) j ≡ Some y → ((j ≡ i) × (x ≡ y)) ⊎ ((j ≢ i) × (slice_get xs j ≡ Some y))
 get_set [] i x j y at = cc
 get_set (z ∷ xs) zero x zero y at = inl (refl, some_same x y at)

@@ -1,6 +1,6 @@
 //! Many connections at once, with one desk and one handler.
 
-ghost use Rattle.std.specs.Prelude.{◌≡◌, ◌≤◌, ◌<◌, ◌^◌, [], All, Ok, OnOk, IfErr, false, is_some};
+ghost use Rattle.std.specs.Prelude.{◌≡◌, ◌≤◌, [], All, Ok, OnOk, IfErr, IfSome, false, is_some};
 ghost use Rattle.job_server.specs.AtOnce.{EndsBy, IsServingFrom};
 ghost use Rattle.job_server.specs.Listening.{AreOf, AreOfFirst, CameBy};
 ghost use Rattle.shared_desk.specs.declared.passage.Passage.{Passage};
@@ -14,7 +14,8 @@ use crate::stop_flag::ended_by;
 use crate::timed_reader::{TimedReader, Waiting};
 use server_log::{LogEvent, ServerLog, millis_since};
 use shared_desk::{
-    ClientSeat, NewHistory, Origin, Passage, SharedDesk, SharedHandler, SharedHistory, serve_opened,
+    ClientSeat, HistoryId, NewHistory, Origin, Passage, SharedDesk, SharedHandler, SharedHistory,
+    serve_opened,
 };
 use std::alloc::Global;
 use std::marker::Brand;
@@ -62,6 +63,31 @@ fn answer_connection<'s, R: Wait + Clock, D, H: SharedHandler<D>, J: Origin<D, H
     (reader.into_inner(), writer.into_inner())
 }
 
+// The next connection. A log is told once that no more are taken.
+fn next_connection<R: Wait + Clock, L: Listener + Drop, J: HistoryId + FirstListener<L>>(
+    rt: &R,
+    history: &SharedHistory<J>,
+    entrance: &Mutex<Entrance<'_, L, J>>,
+    log: Option<&ServerLog>,
+) -> Option<(TcpStream, ClientSeat<J>, Passage, u64)>
+    ensures fresh { IfSome result (λ taken. taken.1.part ≡ []) }
+    ensures passage { IfSome result (λ taken. J.comes taken.2) }
+{
+    let mut entrance = entrance.lock(rt);
+    let next = entrance.next(rt, history);
+    if next.is_none() && entrance.is_first_at_end() {
+        tell(rt, log, LogEvent::Stopping);
+    }
+    next
+}
+
+// Tells a log of an event, if there is one.
+fn tell<R: Wait + Clock>(rt: &R, log: Option<&ServerLog>, event: LogEvent) {
+    if let Some(log) = log {
+        log.tell(rt, event);
+    }
+}
+
 // Takes connections and serves them, one after the other, until no more are to be taken. A log is told
 // of each.
 fn take_turns<
@@ -80,7 +106,8 @@ fn take_turns<
     log: Option<&ServerLog>,
 ) {
     for _ in rt.forever() {
-        let Some((stream, seat, passage, connection)) = entrance.lock(rt).next(history) else {
+        let Some((stream, seat, passage, connection)) = next_connection(rt, history, entrance, log)
+        else {
             return;
         };
         let begun = tell_opened(rt, log, connection, passage);
@@ -104,7 +131,7 @@ fn take_turns<
 fn tell_opened<R: Wait + Clock>(
     rt: &R,
     log: Option<&ServerLog>,
-    connection: u32,
+    connection: u64,
     passage: Passage,
 ) -> Option<Instant> {
     let log = log?;
@@ -117,9 +144,9 @@ fn tell_opened<R: Wait + Clock>(
 // could not be taken, and some are over; whether a host stopped it; and the first fault by which one
 // was given up.
 fn outcome_of(
-    sessions: u32,
-    opened: u32,
-    failed: u32,
+    sessions: u64,
+    opened: u64,
+    failed: u64,
     over: u64,
     stopped: bool,
     given_up: Result<(), StreamFault>,
@@ -127,12 +154,11 @@ fn outcome_of(
     ensures well { OnOk result ((over ≡ opened) × (given_up ≡ Ok tt) × (opened ≤ sessions)
         × (stopped ≡ false → opened ≡ sessions)) }
     ensures fault { IfErr result (EndsBy opened sessions over given_up) }
-    ensures small { opened < 2 ^ 32 }
 {
     if failed > 0 && opened < sessions {
         return Err(ServeFault::Socket);
     }
-    if over != u64::from(opened) || opened > sessions {
+    if over != opened || opened > sessions {
         return Err(NO_MEMORY);
     }
     if opened < sessions && !stopped {
@@ -186,6 +212,7 @@ fn serve_named<
     let known = &history;
     let door = &entrance;
     let shared = &lock;
+    tell(rt, log, LogEvent::Ready);
     let serve = |_: usize| take_turns(rt, alloc, known, door, shared, waiting, log);
     let _ = thread::map_indices(rt, alloc, bounds.clients as usize, &serve);
     let mut shared = lock.into_inner();

@@ -1,6 +1,6 @@
 //! Where the threads of a server take connections.
 
-ghost use Rattle.std.specs.Prelude.{◌≡◌, [], IfSome};
+ghost use Rattle.std.specs.Prelude.{◌≡◌, ◌<◌, ◌-◌, ◌^◌, [], IfSome};
 ghost use Rattle.job_server.specs.Listening.{AreOfFirst, CameBy};
 ghost use Rattle.shared_desk.specs.declared.passage.Passage.{Passage};
 
@@ -9,6 +9,11 @@ use crate::stop_flag::{StopFlag, is_stopped};
 use shared_desk::{ClientSeat, HistoryId, Opener, Passage, SharedHistory};
 use std::marker::{Brand, Model};
 use std::net::TcpStream;
+use std::thread;
+use std::time::{Clock, Duration};
+
+/// How many milliseconds a server of any number of connections waits after one that it can't take.
+const PAUSE: u64 = 100;
 
 /// Names a server by the listener that it begins with. Each call of a program picks it.
 pub(crate) trait FirstListener<L> {
@@ -26,14 +31,16 @@ pub(crate) struct Entrance<'a, L: Listener, J: HistoryId + FirstListener<L>> {
     listener: L,
     opener: Opener<J>,
     stop: Option<&'a StopFlag>,
-    left: u32,
-    opened: u32,
-    failed: u32,
+    left: u64,
+    opened: u64,
+    failed: u64,
+    pauses: bool,
     stopped: bool,
+    is_over: bool,
 }
 
 impl<'a, L: Listener, J: HistoryId + FirstListener<L>> Model for Entrance<'a, L, J> {
-    ghost use Rattle.std.specs.Prelude.{◌≡◌, ◌<◌, ◌+◌, ◌^◌, ℕ};
+    ghost use Rattle.std.specs.Prelude.{◌≡◌, ◌<◌, ◌+◌, ◌-◌, ◌^◌, ℕ};
     ghost use Rattle.job_server.specs.Listening.{CameBy, HasGivenSince};
     ghost use Rattle.shared_desk.specs.declared.passage.Passage.{Passage};
 
@@ -41,7 +48,7 @@ impl<'a, L: Listener, J: HistoryId + FirstListener<L>> Model for Entrance<'a, L,
 
     ghost view = { λ e. e.opened };
 
-    ghost invariant = { λ e. (e.opened + e.left + e.failed < 2 ^ 32) × (e.opened ≡ e.opener)
+    ghost invariant = { λ e. (e.opened + e.left + e.failed < 2 ^ 64 - 1) × (e.opened ≡ e.opener)
         × HasGivenSince L.opens L.fails J.is_first e.opened e.listener
         × ((p : Passage) → CameBy L.opens L.passage p → J.comes p) };
 }
@@ -52,7 +59,7 @@ impl<'a, L: Listener + Drop, J: HistoryId + FirstListener<L>> Entrance<'a, L, J>
         listener: L,
         opener: Opener<J>,
         stop: Option<&'a StopFlag>,
-        sessions: u32,
+        sessions: u64,
     ) -> Entrance<'a, L, J>
         requires none { opener ≡ 0 }
         requires listener { J.is_first listener }
@@ -63,21 +70,25 @@ impl<'a, L: Listener + Drop, J: HistoryId + FirstListener<L>> Entrance<'a, L, J>
             listener,
             opener,
             stop,
-            left: sessions,
+            left: sessions.min(u64::MAX - 1),
             opened: 0,
             failed: 0,
+            pauses: sessions == u64::MAX,
             stopped: false,
+            is_over: false,
         }
     }
 
     /// Takes the next connection, with its seat, the passage that the listener gave it by, and its
     /// number, from 1 on; `None` once all were taken, or the flag is raised. One that can't be taken
-    /// counts, and the next one is taken. One that comes while the flag is raised is dropped: it only
+    /// counts, and the next one is taken. A server of any number of connections waits a moment before,
+    /// since there may be no descriptor. One that comes while the flag is raised is dropped: it only
     /// wakes the server.
-    pub fn next(
+    pub fn next<C: Clock>(
         &mut self,
+        clock: &C,
         history: &SharedHistory<J>,
-    ) -> Option<(TcpStream, ClientSeat<J>, Passage, u32)>
+    ) -> Option<(TcpStream, ClientSeat<J>, Passage, u64)>
         ensures fresh { IfSome result (λ taken. taken.1.part ≡ []) }
         ensures passage { IfSome result (λ taken. J.comes taken.2) }
     {
@@ -97,16 +108,31 @@ impl<'a, L: Listener + Drop, J: HistoryId + FirstListener<L>> Entrance<'a, L, J>
                     let seat = history.open(&mut self.opener);
                     return Some((stream, seat, self.listener.passage(), self.opened));
                 }
-                Err(_) => self.failed += 1,
+                Err(_) => {
+                    self.failed += 1;
+                    if self.pauses {
+                        thread::sleep(clock, Duration::from_millis(PAUSE));
+                    }
+                }
             }
         }
         None
     }
 
+    /// Whether it is asked for the first time. It is asked once no more are taken.
+    pub fn is_first_at_end(&mut self) -> bool
+        ensures same { self.new ≡ self.old }
+    {
+        let was_over = self.is_over;
+        self.is_over = true;
+        !was_over
+    }
+
     /// How many were taken, how many could not be taken, whether it was for the flag that no more
     /// were, and who opened them.
-    pub fn into_parts(self) -> (u32, u32, bool, Opener<J>)
+    pub fn into_parts(self) -> (u64, u64, bool, Opener<J>)
         ensures opened { (result.0 ≡ self.entry) × (result.0 ≡ result.3) }
+        ensures small { result.0 < 2 ^ 64 - 1 }
         ensures given { AreOfFirst L.opens L.fails J.is_first self.entry }
     {
         let Entrance {

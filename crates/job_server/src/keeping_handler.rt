@@ -55,7 +55,7 @@ impl<N: Runner> Handler<Desk> for KeepingHandler<N> {
     }
 }
 
-impl<N: Runner> TellingHandler<Desk> for KeepingHandler<N> {
+impl<N: Runner> TellingHandler for KeepingHandler<N> {
     fn answer_and_tell(
         &mut self,
         alloc: Global,

@@ -39,7 +39,8 @@ pub fn results_come_from_submits()
 
 /// A submit is told a greater number than each submit before it. So no two are told the same.
 pub fn numbers_rise()
-    ensures { (bounds : Bounds) (before between after : List HistoryEntry) (e f : HistoryEntry) (m n : ℕ)
+    ensures { (bounds : Bounds) (before between after : List HistoryEntry) (e f : HistoryEntry)
+        (m n : ℕ)
         → IsHostHistory bounds (before ++ e ∷ (between ++ f ∷ after))
         → length (before ++ e ∷ between) < 2 ^ 64 - 1
         → AsksForJob e.query.asked → HasReply e (submit_data m) → m < 2 ^ 64

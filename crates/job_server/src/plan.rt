@@ -10,8 +10,9 @@ pub struct Plan<'a> {
     /// Workers, 1 to 16, which last. A job of more than 1,000,000 credit runs on as many threads of
     /// its own.
     pub workers: u32,
-    /// Connections in all. One that can't be taken counts.
-    pub sessions: u32,
+    /// Connections in all; `u64::MAX`: any number. One that can't be taken counts, and with any number
+    /// the next one is waited for a moment later.
+    pub sessions: u64,
     /// What its host bounds.
     pub bounds: Bounds,
     /// No further connection is taken once this is raised. Each that was taken is over once all that

@@ -1,8 +1,8 @@
 //! A reader of a connection that waits no longer than a host allows.
 
-ghost use Rattle.std.specs.Prelude.{◌≡◌, option_map};
+ghost use Rattle.std.specs.Prelude.{◌≡◌, ℕ, IfOk, Option, option_map};
 ghost use Rattle.std.specs.Duration.{as_nanos};
-ghost use Rattle.job_server.specs.Stopping.{wait_within};
+ghost use Rattle.job_server.specs.Stopping.{IsWaitFor, wait_within};
 
 use crate::frame_place::FramePlace;
 use crate::stop_flag::StopFlag;
@@ -96,7 +96,10 @@ impl<R: Clock, S: StoppableStream> TimedReader<'_, R, S> {
     }
 
     // Lets the next try wait as long as it may: to the time that is due, or to the next look.
-    fn set_wait(&self, due: Option<Instant>) -> io::Result<()> {
+    fn set_wait(&self, due: Option<Instant>) -> io::Result<()>
+        ensures { IfOk result (λ _. (left : Option ℕ) × IsWaitFor due left
+            × S.was_set self.now.stream (wait_within left (S.stops self.now.stream))) }
+    {
         let mut left = None;
         if let Some(due) = due {
             match due.checked_duration_since(Instant::now(self.rt)?) {

@@ -1,6 +1,7 @@
 //! Streams whose reads wait so long at most, and that a host may stop.
 
-ghost use Rattle.std.specs.Prelude.{◌≡◌, true, is_some};
+ghost use Rattle.std.specs.Prelude.{◌≡◌, IfOk, true, is_some, option_map};
+ghost use Rattle.std.specs.Duration.{as_nanos};
 ghost use Rattle.job_server.specs.Stopping.{left_unless};
 ghost use Rattle.std.specs.Io.{ReadsAtMost};
 ghost use Rattle.std.specs.Io.KnownBytes.{IsAtEnd, ReadConsumes};
@@ -13,11 +14,20 @@ use std::time::Duration;
 
 /// A stream whose reads can be made to wait no longer than a time.
 pub(crate) trait TimedStream: Read {
+    ghost use Rattle.std.specs.Prelude.{ℕ, Option};
+
+    // Its reads were set to wait so many nanoseconds; none: any time.
+    ghost was_set: { Self → Option ℕ → Type 0 };
+
     /// Lets each read from now on wait so long, and fail then by `WouldBlock`; `None`: any time.
-    fn set_wait(&self, wait: Option<Duration>) -> io::Result<()>;
+    fn set_wait(&self, wait: Option<Duration>) -> io::Result<()>
+        ensures { IfOk result (λ _. was_set self.now (option_map as_nanos wait)) };
 }
 
 impl TimedStream for &TcpStream {
+    // The system says nothing of it in a contract.
+    ghost was_set = { λ _ _. Unit {0} };
+
     fn set_wait(&self, wait: Option<Duration>) -> io::Result<()> {
         self.set_read_timeout(wait)
     }
@@ -26,8 +36,14 @@ impl TimedStream for &TcpStream {
 /// A stream that a host may stop. It then ends, whatever its peer still sends: the bytes that it
 /// has left are those that it gives before.
 pub(crate) trait StoppableStream: TimedStream {
+    ghost use Rattle.std.specs.Prelude.{Bool};
+
+    // A host may stop it.
+    ghost stops: { Self → Bool };
+
     /// True where a host may stop it while a read waits.
-    fn may_stop(&self) -> bool;
+    fn may_stop(&self) -> bool
+        ensures { result ≡ stops self.now };
 
     /// True once a host has stopped it: no byte is left then.
     fn is_stopped(&self) -> bool
@@ -67,15 +83,17 @@ impl<S: Read> Read for FlaggedStream<'_, S> {
 }
 
 impl<S: TimedStream> TimedStream for FlaggedStream<'_, S> {
+    ghost was_set = { λ s wait. S.was_set s.stream wait };
+
     fn set_wait(&self, wait: Option<Duration>) -> io::Result<()> {
         self.stream.set_wait(wait)
     }
 }
 
 impl<S: TimedStream> StoppableStream for FlaggedStream<'_, S> {
-    fn may_stop(&self) -> bool
-        ensures { result ≡ is_some self.now.stop }
-    {
+    ghost stops = { λ s. is_some s.stop };
+
+    fn may_stop(&self) -> bool {
         self.stop.is_some()
     }
 

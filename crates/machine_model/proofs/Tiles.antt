@@ -56,9 +56,6 @@ tiles_set tasks n count old new here base size tiles =
       owned = λ at lt. let o = tiles.owned at lt in owner_set tasks n at old new here base size o.number o.member o.there o.low o.high;
     }
 
-owner_push : (tasks : List Member) (at : ℕ) (c : Member) → Owner tasks at → Owner (tasks ++ c ∷ []) at
-owner_push tasks at c o = record { number = o.number; member = o.member; there = push_old tasks o.number c o.member o.there; low = o.low; high = o.high }
-
 module _ (tasks : List Member) (n count : ℕ) (old first second : Member) (here : slice_get tasks n ≡ Some old)
     (base : base_of first ≡ base_of old) (next : base_of second ≡ base_of first + size_of first)
     (size : size_of first + size_of second ≡ size_of old) (tiles : AreTiles tasks count) where

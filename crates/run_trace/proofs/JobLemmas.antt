@@ -5,7 +5,7 @@ use Rattle.insn_codec.specs.declared.insn.Insn.{Insn}
 use Rattle.insn_codec.specs.declared.insn.Placed.{Placed}
 use Rattle.flow_graph.specs.Program.{code_of}
 use Rattle.machine_model.specs.Edges.{Code, insn_at}
-use Rattle.machine_model.specs.JobState.{JobState, Live, Move, Task, applied, entries_of, member_step, run, state_in, step, task_step}
+use Rattle.machine_model.specs.JobState.{JobState, Live, Move, Task, applied, entries_of, member_step, state_in, step, task_step}
 use Rattle.machine_model.specs.Machine.{State, Program, Entries, Effect, Continues, Ends, Spawns, Calls, Traps, answered, birth_of, effect, fetched, paid, parted, spawned}
 use Rattle.machine_model.proofs.Effects.{effect_holds, if_holds}
 use Rattle.run_trace.specs.declared.job_step.JobStep.{JobStep}
@@ -18,7 +18,7 @@ use Rattle.reference.specs.Records.{member_of, move_of, program_of, task_of}
 use Rattle.run_trace.specs.declared.job_programs.JobPrograms.{JobPrograms}
 use Rattle.run_trace.specs.declared.job_programs.Listed.{Listed}
 use Rattle.run_trace.specs.Spelled.{AreListed, listings_of, programs_of}
-use Rattle.run_trace.specs.JobSteps.{AreStepsOf, AreJobSteps, IsStepIfAlive, TellsEffect, listed_step}
+use Rattle.run_trace.specs.JobSteps.{AreJobSteps, IsStepIfAlive, TellsEffect, listed_step}
 use Rattle.run_trace.specs.JobTelling.{IsEffectIn, IsToldBy, Stops}
 
 -- what an instruction leaves of the part: as many bytes, but where a spawn is taken
@@ -159,24 +159,6 @@ told_next listings programs moves i m j k l steps more told here before goes is 
     subst (λ (ms : List Move). AreJobSteps listings programs j ms more l) (sym (next_taken moves i m here) ∙ ap (λ n. take n (map move_of moves)) (sym (add-one i)))
     (subst (λ (xs : List JobStep). AreJobSteps listings programs j (take i (map move_of moves) ++ move_of m ∷ []) xs l) (sym same)
     (told_more listings programs (take i (map move_of moves)) j k l (move_of m) steps told before goes is))
-
--- all of the moves
-pub told_whole : (listings : List (List Placed)) (programs : List Program) (moves : List ReferenceMove) (i : ℕ) (j k : JobState) (steps : List JobStep) →
-    length moves ≤ i → run programs j (take i (map move_of moves)) ≡ Some k → AreJobSteps listings programs j (take i (map move_of moves)) steps k →
-    AreStepsOf listings programs j (map move_of moves) steps
-told_whole listings programs moves i j k steps all runs told =
-    let same : take i (map move_of moves) ≡ map move_of moves = all_taken moves i all in
-    record {
-      last = k;
-      runs = subst (λ (ms : List Move). run programs j ms ≡ Some k) same runs;
-      told = subst (λ (ms : List Move). AreJobSteps listings programs j ms steps k) same told;
-    }
-  where
-    all_taken : (ms : List ReferenceMove) (n : ℕ) → length ms ≤ n → take n (map move_of ms) ≡ map move_of ms
-    all_taken [] zero le = refl
-    all_taken [] (suc n) le = refl
-    all_taken (m ∷ ms) zero le = absurd (omega (arith, le))
-    all_taken (m ∷ ms) (suc n) le = ap (λ (xs : List Move). move_of m ∷ xs) (all_taken ms n (let s : length ms ≤ n = omega (arith, le) in s))
 
 pub length_map : {A B : Type 0} (f : A → B) (xs : List A) → length (map f xs) ≡ length xs
 length_map f [] = refl

@@ -1,28 +1,9 @@
 //! Steps as text, a line each.
 
 use crate::step::{ChangedBytes, RegisterChange, Step};
+use disassembler::SignedNumber;
 use reference::Content;
 use std::fmt;
-
-/// A position with its sign, also before zero.
-#[derive(Clone, Copy)]
-struct Position(i64);
-
-impl fmt::Display for Position {
-    ghost use Rattle.std.specs.Prelude.{Some};
-    ghost use Rattle.disassembler.specs.Line.{signed_text};
-
-    ghost output = { λ position. Some (signed_text position.0) };
-
-    fn fmt<W: fmt::Write>(&self, f: &mut fmt::Formatter<W>) -> fmt::Result {
-        let size = self.0.unsigned_abs();
-        if self.0 < 0 {
-            write!(f, "-{size}")
-        } else {
-            write!(f, "+{size}")
-        }
-    }
-}
 
 /// What a register holds.
 #[derive(Clone, Copy)]
@@ -38,8 +19,8 @@ impl fmt::Display for Holding {
         match self.0 {
             Content::Unset => write!(f, "unset"),
             Content::Num(number) => write!(f, "{number}"),
-            Content::Stack(position) => write!(f, "stack{}", Position(position)),
-            Content::Part(position) => write!(f, "part{}", Position(position)),
+            Content::Stack(position) => write!(f, "stack{}", SignedNumber(position)),
+            Content::Part(position) => write!(f, "part{}", SignedNumber(position)),
         }
     }
 }

@@ -5,7 +5,7 @@ use Rattle.shared_desk.specs.Doors.{door_text}
 use Rattle.server_log.specs.declared.log_line.ConnectionEnd.{ConnectionEnd}
 use Rattle.server_log.specs.declared.log_line.ConnectionEnd.TheVariants.{Input, Stopped, TooLarge, ReadTimeout, ReadCut, WriteTimeout, WriteCut, NoMemory}
 use Rattle.server_log.specs.declared.log_line.LogEvent.{LogEvent}
-use Rattle.server_log.specs.declared.log_line.LogEvent.TheVariants.{Opened, Closed, Started, Ended, Failed, Refused}
+use Rattle.server_log.specs.declared.log_line.LogEvent.TheVariants.{Ready, Stopping, Opened, Closed, Started, Ended, Failed, Refused}
 use Rattle.server_log.specs.declared.log_line.LogLine.{LogLine}
 
 -- the number of the refusal, and 0 where there is none
@@ -31,6 +31,8 @@ ending_text NoMemory = codes "memory"
 
 -- what happened: a word of ours, and numbers
 abbrev pub event_text : LogEvent → List ℕ
+event_text Ready = codes "\"ready\",\"version\":\"0.1.0\""
+event_text Stopping = codes "\"stopping\""
 event_text (Opened connection by) =
     codes "\"opened\",\"connection\":" ++ (decimal connection
     ++ (codes ",\"socket\":\"" ++ (door_text by ++ codes "\"")))

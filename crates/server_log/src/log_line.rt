@@ -69,14 +69,18 @@ impl fmt::Display for ConnectionEnd {
 /// What happened. Connections and jobs have their numbers.
 #[derive(Clone, Copy, Debug, PartialEq, Eq)]
 pub enum LogEvent {
+    /// The server takes connections from now on.
+    Ready,
+    /// It takes no more connections.
+    Stopping,
     /// A connection was taken.
     Opened {
-        connection: u32,
+        connection: u64,
         by: Door,
     },
     /// A connection is over, after so many requests and milliseconds.
     Closed {
-        connection: u32,
+        connection: u64,
         requests: u64,
         end: ConnectionEnd,
         ms: u64,
@@ -115,6 +119,8 @@ impl fmt::Display for LogEvent {
 
     fn fmt<W: fmt::Write>(&self, f: &mut fmt::Formatter<W>) -> fmt::Result {
         match *self {
+            LogEvent::Ready => write!(f, "\"ready\",\"version\":\"0.1.0\""),
+            LogEvent::Stopping => write!(f, "\"stopping\""),
             LogEvent::Opened { connection, by } => {
                 write!(
                     f,

@@ -53,7 +53,7 @@ fn event_of_refusal(refusal: SubmitRefusal) -> LogEvent
     }
 }
 
-impl<R: Wait + Clock, H: TellingHandler<Desk>> SharedHandler<Desk> for LoggedHandler<'_, R, H> {
+impl<R: Wait + Clock, H: TellingHandler> SharedHandler<Desk> for LoggedHandler<'_, R, H> {
     ghost use Rattle.shared_desk.specs.Histories.{by_any_passage};
 
     ghost ready = { λ h. H.ready h };

@@ -19,8 +19,8 @@ AreClosed opened history (c ∷ cs) =
     (c.connection < opened) × (part_of c.connection history ≡ c.part)
     × (is_among c.connection cs ≡ false) × AreClosed opened history cs
 
--- What came asks the connection's part by its passage. What
--- was written are the replies of that part, in order; or it was given up by a fault.
+-- What came asks the connection's part by its passage. What was written are the replies of that
+-- part, in order; or it was given up by a fault.
 abbrev pub IsServedWhole : ClosedConnection → Type 0
 IsServedWhole c =
     MatchResult c.outcome

@@ -1,6 +1,7 @@
 -- Requests whose jobs are admitted ahead of the desk.
-use Rattle.std.specs.Prelude.{ℕ, Result, Ok}
-use Rattle.sessions.specs.Grammar.{Asked}
+use Rattle.std.specs.Prelude.{◌≤◌, ℕ, Result, Ok}
+use Rattle.accounts.specs.Ledgers.{Ledger, HasBalance}
+use Rattle.sessions.specs.Grammar.{Asked, submit}
 use Rattle.streams.specs.Hearing.{query_of}
 use Rattle.streams.specs.declared.prepared_request.PreparedRequest.{PreparedRequest}
 use Rattle.streams.specs.declared.prepared_request.PreparedRequest.TheVariants.{AsItCame, Submit}
@@ -9,3 +10,9 @@ use Rattle.streams.specs.declared.prepared_request.PreparedRequest.TheVariants.{
 abbrev pub asked_of : PreparedRequest → Result Asked ℕ
 asked_of (AsItCame request) = query_of request
 asked_of (Submit asked) = Ok asked
+
+-- a job is asked for whose credit its tenant's balance covers
+abbrev pub IsWithinBalance : Ledger → Asked → Type 0
+IsWithinBalance desk (submit name order) =
+    (balance : ℕ) × HasBalance desk name balance × (order.credit ≤ balance)
+IsWithinBalance desk other = ⊥

@@ -30,7 +30,7 @@ fn carry_out<N: Runner>(
 ) -> (Option<SubmitRefusal>, Result<Vec<u8>, NoMemory>)
     requires { N.ready runner.old }
     ensures ready { N.ready runner.new }
-    ensures refusal { TellsRefusal (Ok (request_asked request)) result.0 result.1 }
+    ensures refusal { TellsRefusal desk.new (Ok (request_asked request)) result.0 result.1 }
     ensures done { Framed result.1
         (λ told. Replies N.starts N.looks desk.old runner.old
         (Ok (request_asked request)) told desk.new
@@ -59,7 +59,7 @@ fn reply_to<N: Runner>(
 ) -> (Option<SubmitRefusal>, Result<Vec<u8>, NoMemory>)
     requires { N.ready runner.old }
     ensures ready { N.ready runner.new }
-    ensures refusal { TellsRefusal (asked_of request) result.0 result.1 }
+    ensures refusal { TellsRefusal desk.new (asked_of request) result.0 result.1 }
     ensures done { Framed result.1
         (λ told. Replies N.starts N.looks desk.old runner.old (asked_of request) told desk.new
         runner.new) }
@@ -80,7 +80,7 @@ fn answer_by_runner<N: Runner>(
 ) -> (Option<SubmitRefusal>, Result<Vec<u8>, NoMemory>)
     requires { N.ready runner.old }
     ensures ready { N.ready runner.new }
-    ensures refusal { TellsRefusal (asked_of request) result.0 result.1 }
+    ensures refusal { TellsRefusal desk.new (asked_of request) result.0 result.1 }
     ensures ok { IfOk result.1 (λ reply. Answers N.starts N.looks N.takes desk.old runner.old
         (asked_of request) reply.items desk.new runner.new) }
     ensures err { OnErr result.1 ((reply : List ℕ) × Answers N.starts N.looks N.takes desk.old
@@ -108,7 +108,7 @@ impl<N: Runner> Handler<Desk> for N {
     }
 }
 
-impl<N: Runner> TellingHandler<Desk> for N {
+impl<N: Runner> TellingHandler for N {
     fn answer_and_tell(
         &mut self,
         alloc: Global,

@@ -3,10 +3,10 @@
 ghost use Rattle.std.specs.Prelude.{◌≡◌, ◌⊎◌, ℕ, IfOk, MatchResult, None, Ok, Result};
 ghost use Rattle.credit_book.specs.declared.board.Progress.{Progress};
 ghost use Rattle.accounts.specs.Ledgers.{account_at, progress_at, report_at};
-ghost use Rattle.sessions.specs.Replies.{frame_or_refusal, reply_data, submit_data};
+ghost use Rattle.sessions.specs.Replies.{reply_data};
 ghost use Rattle.sessions.specs.declared.reply.Reply.TheVariants.{Refused};
 ghost use Rattle.streams.specs.Answering.{Framed, Grants, GrantsNone, IsOpenJob, Replies, Settles, StartsTaken, Submits, account_told, progress_told, report_told, submit_refused};
-ghost use Rattle.streams.specs.Refusing.{SaysRefusal, TellsRefusal};
+ghost use Rattle.streams.specs.Refusing.{IsJustTaken, SaysRefusal, TellsRefusal, start_refused};
 
 use crate::admitted_submit::AdmittedSubmit;
 use crate::runner::Runner;
@@ -89,7 +89,7 @@ fn start_job<N: Runner>(
 
 // Why a job that was taken doesn't run, if its start was refused.
 fn refused_start(job: u64, started: Result<(), u8>) -> Option<SubmitRefusal>
-    ensures { SaysRefusal result (frame_or_refusal (submit_data job)) }
+    ensures { result ≡ start_refused job started }
 {
     match started {
         Ok(()) => None,
@@ -105,13 +105,13 @@ fn answer_taken<N: Runner>(
     taken: Result<(u64, Job), SubmitFault>,
 ) -> (Option<SubmitRefusal>, Result<Vec<u8>, NoMemory>)
     requires ready { N.ready runner.old }
-    requires open { IfOk taken (λ t. IsOpenJob desk.old t.0) }
+    requires last { IfOk taken (λ t. IsJustTaken desk.old t.0) }
     ensures ready { N.ready runner.new }
     ensures done { Framed result.1 (λ told. MatchResult taken
         (λ t. StartsTaken N.starts desk.old runner.old t.0 t.1 told desk.new runner.new)
         (λ fault. (desk.new ≡ desk.old) × (runner.new ≡ runner.old)
         × (told ≡ submit_refused fault))) }
-    ensures refusal { IfOk result.1 (λ frame. SaysRefusal result.0 frame.items) }
+    ensures refusal { IfOk result.1 (λ frame. SaysRefusal desk.new result.0 frame.items) }
 {
     match taken {
         Ok((number, job)) => {
@@ -148,7 +148,7 @@ pub fn answer_submit<N: Runner>(
     ensures done { Framed result.1
         (λ told. Submits N.starts desk.old runner.old tenant.now programs.now credit
         buffer.items told desk.new runner.new) }
-    ensures refusal { IfOk result.1 (λ frame. SaysRefusal result.0 frame.items) }
+    ensures refusal { IfOk result.1 (λ frame. SaysRefusal desk.new result.0 frame.items) }
 {
     let taken = desk.submit(alloc, tenant, programs, credit, buffer);
     answer_taken(alloc, desk, runner, taken)
@@ -165,19 +165,16 @@ pub fn answer_admitted<N: Runner>(
     ensures ready { N.ready runner.new }
     ensures done { Framed result.1
         (λ told. Replies N.starts N.looks desk.old runner.old (Ok submit) told desk.new runner.new) }
-    ensures refusal { TellsRefusal (Ok submit) result.0 result.1 }
+    ensures refusal { TellsRefusal desk.new (Ok submit) result.0 result.1 }
 {
     let AdmittedSubmit {
         tenant,
-        programs,
         credit,
         admitted,
-        buffer,
+        ..
     } = submit;
     let taken = desk.take(alloc, &tenant, credit, admitted);
-    let told = answer_taken(alloc, desk, runner, taken);
-    let _ = (programs, buffer);
-    told
+    answer_taken(alloc, desk, runner, taken)
 }
 
 /// Tells how far a job is; while it is open, what the runner's look tells.

@@ -8,6 +8,7 @@ ghost use Rattle.streams.specs.Refusing.{TellsRefusal};
 
 use crate::prepared_request::PreparedRequest;
 use crate::submit_refusal::SubmitRefusal;
+use accounts::Desk;
 use refusal::NoMemory;
 use sessions::Request;
 use std::alloc::Global;
@@ -38,14 +39,14 @@ pub trait Handler<D> {
             × answers (desk.old, self.old) (query_of request) reply (desk.new, self.new)) };
 }
 
-/// A handler that also takes requests whose jobs were admitted ahead, and tells why a job that was
-/// asked for doesn't run.
-pub trait TellingHandler<D>: Handler<D> {
+/// A handler of a desk that also takes requests whose jobs were admitted ahead, and tells why a job
+/// that was asked for doesn't run.
+pub trait TellingHandler: Handler<Desk> {
     /// Answers as `answer` does. Beside the reply it tells why a job that was asked for doesn't run.
     fn answer_and_tell(
         &mut self,
         alloc: Global,
-        desk: &mut D,
+        desk: &mut Desk,
         request: PreparedRequest,
     ) -> (Option<SubmitRefusal>, Result<Vec<u8>, NoMemory>)
         requires { Self.ready self.old }
@@ -55,5 +56,5 @@ pub trait TellingHandler<D>: Handler<D> {
             (desk.new, self.new)) }
         ensures err { OnErr result.1 ((reply : List ℕ)
             × Self.answers (desk.old, self.old) (asked_of request) reply (desk.new, self.new)) }
-        ensures refusal { TellsRefusal (asked_of request) result.0 result.1 };
+        ensures refusal { TellsRefusal desk.new (asked_of request) result.0 result.1 };
 }

@@ -1,8 +1,8 @@
 //! Requests whose jobs are admitted ahead of the desk.
 
-ghost use Rattle.std.specs.Prelude.{◌≡◌, Ok};
+ghost use Rattle.std.specs.Prelude.{◌≡◌, ◌↔◌, IsTrue, Ok};
 ghost use Rattle.sessions.specs.Grammar.{request_asked};
-ghost use Rattle.streams.specs.Prepared.{asked_of};
+ghost use Rattle.streams.specs.Prepared.{IsWithinBalance, asked_of};
 
 use crate::admitted_submit::AdmittedSubmit;
 use accounts::Desk;
@@ -21,9 +21,14 @@ pub enum PreparedRequest {
 
 /// Whether a request is one for a job that the desk would take now, but for its admission. Then it
 /// is worth to admit it ahead.
-pub fn wants_admission(desk: &Desk, request: &Request) -> bool {
+pub fn wants_admission(desk: &Desk, request: &Request) -> bool
+    ensures { IsTrue result ↔ IsWithinBalance desk.now (request_asked request.now) }
+{
     match request {
-        Request::Submit { tenant, credit, .. } => desk.may_submit(tenant, *credit).is_ok(),
+        Request::Submit { tenant, credit, .. } => match desk.account(tenant) {
+            Ok(account) => u64::from(*credit) <= account.balance,
+            Err(_) => false,
+        },
         _ => false,
     }
 }

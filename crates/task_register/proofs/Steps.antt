@@ -759,8 +759,3 @@ module _ (slots id : ℕ) (me : Me (Unit {0}) TaskView) (st : Step (Unit {0})) w
               (record { tasks = λ k o there. (kept.ended k o there).is_task; older = kept.older }),
         ),
       )
-
--- the first, and those behind it
-pub first_and_rest : (l : List SeatedTask) → 0 < length l → l ≡ first_waiting l ∷ drop 1 l
-first_and_rest [] lt = absurd (omega (arith, lt))
-first_and_rest (o ∷ os) lt = refl

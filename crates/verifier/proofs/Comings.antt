@@ -34,10 +34,6 @@ passed_not_blocked p s state h blocked =
     not_undefined (out_state p (insn_at p.code s) Always (in_state p s)) (transferred h.insn Always state)
     (sent_is p (insn_at p.code s) (in_state p s) h.insn Always state h.there h.arrives h.allowed) (blocked Always)
 
--- one state is passed
-pub one_passed : (p : Subject) (s : ℕ) (a b : AbsState) → IsVisited p s a → IsVisited p s b → a ≡ b
-one_passed p s a b x y = one_arrived (in_state p s) a b x.arrives y.arrives
-
 -- where a state is there, it is the one that is passed
 pub sent_there : (p : Subject) (firsts : List (Option ℕ)) (s : ℕ) (o : Option AbsState) (state : AbsState) →
     o ≡ Some state → IsProcessed p firsts s o → IsVisited p s state

@@ -170,9 +170,6 @@ blocked_at_fault p s rule h fact =
 pub never : (a : InState) (state : AbsState) → a ≡ Undefined → a ≡ Reached state → ⊥
 never a state p q = cc
 
-nothing_not : (a : InState) (state : AbsState) → a ≡ Unreached → a ≡ Reached state → ⊥
-nothing_not a state p q = cc
-
 one_arrived : (a : InState) (s t : AbsState) → a ≡ Reached s → a ≡ Reached t → s ≡ t
 one_arrived a s t x y = cc
 

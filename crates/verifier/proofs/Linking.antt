@@ -44,9 +44,6 @@ one_end_two code p following to same next s joint = by_end (joint_two code p fol
     by_end (inl e) = e
     by_end (inr e) = e ∙ same
 
-pub link_to_first : (p following to : ℕ) (links : Links) → link_of links (Two following to) p following ≡ slice_index_or links.following p None
-link_to_first p following to links = grind (arith, nat_tests)
-
 -- the same, where both edges lead there
 pub link_to_one : (p following to : ℕ) (links : Links) → following ≡ to → link_of links (Two following to) p to ≡ slice_index_or links.following p None
 link_to_one p following to links same = grind (arith, nat_tests)

@@ -15,7 +15,7 @@ use Rattle.credit_book.specs.declared.fault.BookFault.{BookFault}
 use Rattle.credit_book.specs.declared.fault.BookFault.TheVariants.{Stranger, OverSpent, CreditLow, NoMemory}
 use Rattle.credit_book.specs.declared.task.Outcome.{Outcome}
 use Rattle.credit_book.specs.declared.task.Ticket.{Ticket}
-use Rattle.credit_book.specs.Books.{BookState, IsEndFault, IsParkFault, end_event, spawn_event}
+use Rattle.credit_book.specs.Books.{BookState, IsEndFault, end_event, spawn_event}
 use Rattle.credit_book.specs.History.{IsHistoryOf, is_alive, is_fresh, may_work, standing_at, table_of, without_first}
 use Rattle.credit_book.proofs.Histories.{table_of-push}
 use Rattle.credit_book.proofs.Sound.{at_end, bit, parked, sound_of, times}
@@ -27,7 +27,7 @@ use Rattle.task_register.specs.Rule.{IsOpen}
 use Rattle.job_answer.specs.Agreement.{RegisterAgrees, alive_at, ended_standing, shares}
 use Rattle.job_answer.specs.OneAnswer.{IsPaidFor}
 use Rattle.job_answer.proofs.Keyed.{times_below, zero_if}
-use Rattle.workers.specs.Locked.{AreSeats, IsJustSpawned}
+use Rattle.workers.specs.Locked.{AreSeats}
 
 -- ---- what waits
 
@@ -66,12 +66,6 @@ just_spawned h h' parent r is =
     ap (λ t. is_fresh (standing_at t (length ss)).stage) (ap table_of is ∙ table_of-push h (spawn_event parent (length ss) r))
     ∙ at_end (λ (s : Standing). is_fresh s.stage ≡ true) (set ss parent left) (length ss) (record { held = r.share; stage = Fresh }) ended_standing
     (omega (arith, long)) (λ lt. absurd (omega (arith, lt, long))) (λ _. refl)
-
-pub parks : (a : BookState) (t : Ticket) (fault : BookFault) → t.job ≡ a.board.job → IsJustSpawned a t.number → IsParkFault a t fault → ⊥
-parks a t Stranger job fresh why = why job fresh
-parks a t OverSpent job fresh why = why
-parks a t CreditLow job fresh why = why
-parks a t NoMemory job fresh why = why
 
 -- ---- a task that has a seat
 

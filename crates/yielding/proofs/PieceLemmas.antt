@@ -1,6 +1,5 @@
 -- A piece of a task's run, a stretch at a time.
-use Rattle.std.proofs.Common.{◌≡◌, ℕ, zero, suc, ◌+◌, ◌<◌, ◌≤◌, List, length, refl, sym, subst, ap, ◌∙◌, arith, inl, inr, Bool, true, false, true≢false, Some}
-use Rattle.insn_codec.specs.declared.insn.Insn.{Insn}
+use Rattle.std.proofs.Common.{◌≡◌, ℕ, zero, suc, ◌+◌, ◌<◌, ◌≤◌, List, refl, sym, subst, ap, ◌∙◌, arith, inl, inr, true≢false, Some}
 use Rattle.insn_codec.specs.declared.insn.Insn.TheVariants.{Call}
 use Rattle.machine_model.specs.Edges.{price}
 use Rattle.machine_model.specs.Machine.{State, Continues, Calls, effect}
@@ -14,54 +13,18 @@ use Rattle.interpreter.specs.declared.credit.Credit.{Credit}
 use Rattle.interpreter.specs.declared.stretch.Pause.{Pause}
 use Rattle.interpreter.specs.declared.stretch.Pause.TheVariants as pause
 use Rattle.interpreter.specs.Operands.{arguments_of}
-use Rattle.interpreter.specs.Representation.{AtInsn, IsCovered, RepresentsState, lent, state_of}
+use Rattle.interpreter.specs.Representation.{AtInsn, RepresentsState, lent, state_of}
 use Rattle.interpreter.specs.Stretch.{ContinuesFor, Pauses, spent_on}
-use Rattle.yielding.specs.declared.event.PieceEnd.{PieceEnd}
 use Rattle.yielding.specs.declared.event.PieceEnd.TheVariants as event
 use Rattle.yielding.specs.declared.event.Question.{Question}
 use Rattle.yielding.specs.declared.stops.Stop.{Stop}
 use Rattle.yielding.specs.Leading.{LeadsTo, IsPieceRun}
-use Rattle.yielding.specs.Standing.{IsStanding, MayGo, phase_after}
 use Rattle.yielding.specs.Stops.{Halts, IsStopOf}
-use Rattle.yielding.specs.Pieces.{MayResume, Leaves, StepsTo}
+use Rattle.yielding.specs.Pieces.{Leaves, StepsTo}
 use Rattle.yielding.proofs.AskLemmas.{asks}
 use Rattle.yielding.proofs.LeadLemmas.{leads_more, leads_then}
 
 -- ---- what may go on doesn't look at the bytes
-
-pub covered_on_any : (p : Checked) (f : Frame) (part part' : Piece) (credit : Credit) → length part'.bytes ≡ length part.bytes →
-    IsCovered p f part credit → IsCovered p f part' credit
-covered_on_any p f part part' credit same covered = record {
-  begins = covered.begins;
-  need = (let need = covered.need in omega (arith, need, same));
-  small = (let small = covered.small in omega (arith, small, same));
-  affords = covered.affords;
-  limit = covered.limit;
-  some = covered.some;
-}
-
-at_on_any : (p : Checked) (f : Frame) (part part' : Piece) (credit : Credit) (i : Insn) → length part'.bytes ≡ length part.bytes →
-    AtInsn p f part credit i → AtInsn p f part' credit i
-at_on_any p f part part' credit i same at = record {
-  covered = covered_on_any p f part part' credit same at.covered;
-  insn = at.insn;
-  sound = at.sound;
-  verified = at.verified;
-}
-
-pub may_on_any : (p : Checked) (f : Frame) (part part' : Piece) (credit : Credit) (asked : Bool) → length part'.bytes ≡ length part.bytes →
-    MayGo p f part credit asked → MayGo p f part' credit asked
-may_on_any p f part part' credit true same may = (may.0, may.1, at_on_any p f part part' credit (Call may.0) same may.2)
-may_on_any p f part part' credit false same may = covered_on_any p f part part' credit same may
-
--- what is settled may go on
-pub settled_stands : (p : Checked) (f : Frame) (bytes : List ℕ) (credit : Credit) (len : ℕ) (e : PieceEnd) → length bytes ≡ len →
-    MayResume p f (lent bytes) credit e → IsStanding p f credit len (phase_after e)
-settled_stands p f bytes credit len event.AtLimit size settled =
-    λ goes other same. may_on_any p f (lent bytes) (lent other) credit false (same ∙ sym size) settled
-settled_stands p f bytes credit len (event.Asks question) size settled =
-    λ goes other same. may_on_any p f (lent bytes) (lent other) credit true (same ∙ sym size) settled
-settled_stands p f bytes credit len (event.Ended r0) size settled = λ goes other same. absurd (true≢false goes)
 
 -- ---- a stretch
 

@@ -1,5 +1,5 @@
 -- Pieces come to the run of the definition.
-use Rattle.std.proofs.Common.{◌≡◌, ℕ, zero, suc, ◌+◌, ◌-◌, ◌*◌, ◌<◌, ◌≤◌, List, [], ◌∷◌, ◌++◌, refl, sym, subst, ap, ◌∙◌, arith, Bool, true, false, not}
+use Rattle.std.proofs.Common.{◌≡◌, ℕ, zero, suc, ◌+◌, ◌-◌, ◌*◌, ◌<◌, ◌≤◌, List, [], ◌∷◌, ◌++◌, refl, sym, subst, ap, ◌∙◌, true}
 use Rattle.machine_model.specs.Machine.{State, Effect, Continues, Ends, Spawns, Calls, Traps, answered, effect}
 use Rattle.machine_model.specs.Alone.{EndsWithin, Follows, no_entries}
 use Rattle.task_trees.specs.Solo.{entering}
@@ -15,7 +15,7 @@ use Rattle.yielding.specs.Answering.{may_answer_by}
 use Rattle.yielding.specs.Asking.{Exchange, FollowsEffect as Asked, AsksWithin, EndsAsking, AnswersCalls, RunsAsking}
 use Rattle.yielding.specs.Leading.{IsAnswered}
 use Rattle.yielding.specs.Standing.{PausedTask, waits}
-use Rattle.yielding.specs.Pieces.{GoesPiece, one_if}
+use Rattle.yielding.specs.Pieces.{GoesPiece}
 use Rattle.yielding.specs.Going.{HasGone}
 use Rattle.yielding.proofs.LeadLemmas.{leads_ends}
 
@@ -174,13 +174,3 @@ runs_alone p step f g arg credit bytes r0 used left run = record {
 }
 
 -- ---- each piece leaves less to run
-
-pub less_at_limit : (asked : Bool) (held used held' used' limit : ℕ) → 0 < limit → used + (one_if asked + limit) ≤ used' → used' ≤ held' → held' ≤ held →
-    2 * (held' - used') + 1 < 2 * (held - used) + one_if (not asked)
-less_at_limit true held used held' used' limit some spends within holds = omega (arith, some, spends, within, holds)
-less_at_limit false held used held' used' limit some spends within holds = omega (arith, some, spends, within, holds)
-
-pub less_asking : (asked : Bool) (held used held' used' : ℕ) → used + (one_if asked + 0) ≤ used' → used' ≤ held' → held' ≤ held →
-    2 * (held' - used') + 0 < 2 * (held - used) + one_if (not asked)
-less_asking true held used held' used' spends within holds = omega (arith, spends, within, holds)
-less_asking false held used held' used' spends within holds = omega (arith, spends, within, holds)

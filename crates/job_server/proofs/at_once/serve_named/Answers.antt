@@ -12,7 +12,7 @@ returns g c =
     let counted = c.into_parts-opened.ensures.opened.1 in
     let over = c.over-over.result in
     let over_is = c.over-over.ensures in
-    let few = c.outcome_of-outcome.ensures.small in
+    let few = c.into_parts-opened.ensures.small in
     let given_up = c.outcome.result in
     let outcome = c.outcome_of-outcome.result in (
       record {

@@ -1,10 +1,10 @@
-use Rattle.streams.proofs.Answered.{framed_as, opened_if, submits_by}
+use Rattle.streams.proofs.Answered.{framed_as, taken_if, submits_by}
 use Rattle.streams.proofs.forms.answer_submit.Goals as goal
 
-pub answer_taken-requires-clause-open : goal.answer_taken-requires-clause-open
-answer_taken-requires-clause-open g c =
+pub answer_taken-requires-clause-last : goal.answer_taken-requires-clause-last
+answer_taken-requires-clause-last g c =
     let t = c.submit-taken in
-    opened_if t.result c.args.desk.now t.new.self c.args.tenant.now c.args.credit t.ensures.taken t.ensures.number
+    taken_if t.result c.args.desk.now t.new.self c.args.tenant.now c.args.credit t.ensures.taken t.ensures.number
 
 pub returns-clause-done : goal.returns-clause-done
 returns-clause-done g c =

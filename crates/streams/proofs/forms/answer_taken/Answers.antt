@@ -1,9 +1,11 @@
-use Rattle.std.proofs.Common.{refl, sym, subst, ◌∙◌}
+use Rattle.std.proofs.Common.{refl, subst, ◌∙◌}
 use Rattle.std.proofs.lemmas.Result.{IfOk-weaker}
 use Rattle.sessions.specs.declared.reply.Reply.TheVariants.{Submit, Refused}
-use Rattle.streams.specs.Refusing.{SaysRefusal}
-use Rattle.streams.proofs.Answered.{is_frame}
+use Rattle.streams.proofs.Answered.{is_frame, open_taken, says_started}
 use Rattle.streams.proofs.forms.answer_taken.Goals as goal
+
+pub start_job-started-requires-clause-open : goal.start_job-started-requires-clause-open
+start_job-started-requires-clause-open g c = open_taken c.args.desk.now c.in-Ok.number (rw c.in-Ok.is at c.requires.last)
 
 pub returns-in-Ok-clause-done : goal.returns-in-Ok-clause-done
 returns-in-Ok-clause-done g c =
@@ -29,7 +31,8 @@ returns-in-Err-clause-done g c = record {
 pub returns-in-Ok-clause-refusal : goal.returns-in-Ok-clause-refusal
 returns-in-Ok-clause-refusal g c =
     IfOk-weaker c.reply_frame-reply.result _ _
-    (λ frame is. subst (SaysRefusal c.refused_start.result) (sym (is ∙ is_frame (Submit c.in-Ok.number))) c.refused_start.ensures)
+    (λ frame is. rw c.refused_start.ensures (says_started c.args.desk.now c.start_job-started.new.desk c.in-Ok.number c.start_job-started.result _
+    (rw c.in-Ok.is at c.requires.last) c.start_job-started.ensures.started.1 (is ∙ is_frame (Submit c.in-Ok.number))))
     c.reply_frame-reply.ensures
 
 pub returns-in-Err-clause-refusal : goal.returns-in-Err-clause-refusal

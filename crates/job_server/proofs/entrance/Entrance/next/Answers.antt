@@ -19,6 +19,20 @@ taking-preserved g c =
       c.taking.invariant.3,
     )
 
+pub taking-preserved-then-self : goal.taking-preserved-then-self
+taking-preserved-then-self g c =
+    let few = c.taking.invariant.0 in
+    let since = c.taking.invariant.2 in (
+      omega (arith, few, c.taking-test.true),
+      c.taking.invariant.1,
+      record {
+        first = since.first;
+        begun = since.begun;
+        given = in_vain _ _ _ since.given c.in-Err.ensures.fails;
+      },
+      c.taking.invariant.3,
+    )
+
 pub invariant_of-self : goal.invariant_of-self
 invariant_of-self g c = c.taking.invariant
 
