@@ -116,6 +116,10 @@ pub record Forgets (old : Ledger) (keep : ℕ) (new : Ledger) : Type 0 where
   pub grants : (q : List ℕ) → granted_to new q ≡ granted_to old q
   pub accounts : (q : List ℕ) → account_at new q ≡ account_at old q
 
+-- the reports of all but the last jobs are forgotten; 0 forgets none
+abbrev pub KeepsLast : ℕ → Ledger → Ledger → Type 0
+KeepsLast keep old new = (1 ≤ keep → Forgets old keep new) × (keep ≡ 0 → new ≡ old)
+
 -- no open job has the number
 abbrev pub IsNotOpen : Ledger → ℕ → Type 0
 IsNotOpen ledger number = (entry : JobEntry) → job_at ledger.jobs number ≡ Some entry

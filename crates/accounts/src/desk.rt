@@ -39,7 +39,7 @@ impl Desk {
     ghost use Rattle.job_core.specs.declared.admission.ProgramBytes.{ProgramBytes};
     ghost use Rattle.accounts.specs.Ahead.{IsAdmissionOf};
     ghost use Rattle.accounts.specs.declared.fault.DeskFault.TheVariants as fault;
-    ghost use Rattle.accounts.specs.Ledgers.{account_at, granted_to, most_granted, GrantsMore, HasBalance, RefusesGrant, Takes, RefusesSubmit, Finishes, Forgets, IsNotOpen, progress_at, report_at};
+    ghost use Rattle.accounts.specs.Ledgers.{account_at, granted_to, most_granted, GrantsMore, HasBalance, RefusesGrant, Takes, RefusesSubmit, Finishes, Forgets, KeepsLast, IsNotOpen, progress_at, report_at};
 
     /// A desk with no tenant.
     pub fn new(alloc: Global) -> Desk
@@ -219,6 +219,15 @@ impl Desk {
         ensures { Forgets self.old keep self.new }
     {
         self.jobs.forget(keep);
+    }
+
+    /// Forgets as [`Desk::forget`] does; 0 forgets nothing.
+    pub fn keep_last(&mut self, keep: u32)
+        ensures { KeepsLast keep self.old self.new }
+    {
+        if keep > 0 {
+            self.forget(u64::from(keep));
+        }
     }
 
     /// What a job has come to: its report's totals, or what was seen of it while it is open.

@@ -10,13 +10,13 @@ use Rattle.accounts.specs.declared.jobs.JobStanding.{JobStanding}
 use Rattle.accounts.specs.declared.jobs.JobStanding.TheVariants.{Open, Reported, Failed}
 use Rattle.job_core.specs.Admitted.{AdmittedJob}
 use Rattle.accounts.specs.Jobs.{report_of}
-use Rattle.accounts.specs.Ledgers.{Ledger, report_at, report_in}
+use Rattle.accounts.specs.Ledgers.{Ledger, report_at, report_in, KeepsLast}
 use Rattle.job_core.specs.declared.admission.ProgramBytes.{ProgramBytes}
 use Rattle.sessions.specs.Grammar.{Asked, grant, account, submit, status, result, program_asked}
 use Rattle.sessions.specs.Replies.{reply_data, frame_or_refusal, submit_data}
 use Rattle.streams.specs.Passing.{Taken, none_yet as none_taken, one_more as one_taken, Passes}
 use Rattle.streams.specs.Answering.{Replies, Grants, GrantsNone, Settles, Submits, report_told, refused}
-use Rattle.job_server.specs.Kept.{KeepsLast, answers_keeping}
+use Rattle.job_server.specs.Kept.{answers_keeping}
 use Rattle.job_server.specs.declared.keeping_handler.KeepingHandler.{KeepingHandler}
 use Rattle.shared_desk.specs.Histories.{HistoryEntry, Replays, by_any_passage, none_yet as nothing_replayed, one_more as one_replayed}
 use Rattle.job_pools.specs.Endings.{IsEndOf}

@@ -6,13 +6,12 @@ use Rattle.refusal.specs.declared.NoMemory.{NoMemory}
 use Rattle.accounts.specs.declared.jobs.JobEntry.{JobEntry}
 use Rattle.accounts.specs.declared.jobs.JobStanding.{JobStanding}
 use Rattle.accounts.specs.Forgetting.{ForgetsJobs}
-use Rattle.accounts.specs.Ledgers.{Ledger}
+use Rattle.accounts.specs.Ledgers.{Ledger, KeepsLast}
 use Rattle.sessions.specs.Grammar.{Asked, grant, account, submit, status, result}
 use Rattle.sessions.specs.Replies.{frame_or_refusal, submit_data}
 use Rattle.streams.specs.declared.submit_refusal.SubmitRefusal.{SubmitRefusal}
 use Rattle.streams.specs.declared.submit_refusal.SubmitRefusal.TheVariants.{NotTaken, NotStarted}
 use Rattle.streams.specs.Refusing.{LastStands, SaysRefusal, TellsRefusal}
-use Rattle.job_server.specs.Kept.{KeepsLast}
 
 -- what is behind the front of a list that has a last item ends with it too
 last_behind : {X : Type 0} (front rest before : List X) (x : X) → 1 ≤ length rest → front ++ rest ≡ before ++ x ∷ [] →

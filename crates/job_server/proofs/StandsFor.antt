@@ -7,9 +7,8 @@ use Rattle.accounts.specs.declared.jobs.JobStanding.{JobStanding}
 use Rattle.accounts.specs.declared.jobs.JobStanding.TheVariants.{Open, Reported, Failed}
 use Rattle.job_core.specs.Admitted.{AdmittedJob}
 use Rattle.accounts.specs.Jobs.{job_at, settled}
-use Rattle.accounts.specs.Ledgers.{Ledger, Finishes}
+use Rattle.accounts.specs.Ledgers.{Ledger, Finishes, KeepsLast}
 use Rattle.accounts.specs.Forgetting.{ForgetsJobs}
-use Rattle.job_server.specs.Kept.{KeepsLast}
 use Rattle.streams.specs.Passing.{Notes}
 use Rattle.job_pools.specs.Endings.{IsRun, IsEndOf}
 use Rattle.job_server.specs.EndToEnd.{FailsBy}

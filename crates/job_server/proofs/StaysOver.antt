@@ -10,9 +10,9 @@ use Rattle.accounts.specs.declared.jobs.JobStanding.{JobStanding}
 use Rattle.accounts.specs.declared.jobs.JobStanding.TheVariants.{Open, Reported, Failed}
 use Rattle.job_core.specs.Admitted.{AdmittedJob}
 use Rattle.accounts.specs.Jobs.{job_at, is_open, report_of, settled}
-use Rattle.accounts.specs.Ledgers.{Ledger, Finishes, report_at, report_in}
+use Rattle.accounts.specs.Ledgers.{Ledger, Finishes, report_at, report_in, KeepsLast}
 use Rattle.accounts.specs.Forgetting.{ForgetsJobs}
-use Rattle.job_server.specs.Kept.{KeepsLast, answers_keeping}
+use Rattle.job_server.specs.Kept.{answers_keeping}
 use Rattle.sessions.specs.Grammar.{Asked, grant, account, submit, status, result}
 use Rattle.streams.specs.Passing.{Taken, none_yet as none_taken, one_more as one_taken, Notes}
 use Rattle.streams.specs.Answering.{Replies, Grants, GrantsNone, Settles, Submits, report_told, refused}

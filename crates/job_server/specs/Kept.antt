@@ -1,9 +1,9 @@
 -- A handler that keeps the last jobs' reports.
-use Rattle.std.specs.Prelude.{◌≡◌, ◌≤◌, ℕ, List, Option, Result}
+use Rattle.std.specs.Prelude.{◌≡◌, ℕ, List, Option, Result}
 use Rattle.credit_book.specs.declared.book.Report.{Report}
 use Rattle.credit_book.specs.declared.board.Progress.{Progress}
 use Rattle.job_core.specs.Admitted.{AdmittedJob}
-use Rattle.accounts.specs.Ledgers.{Ledger, Forgets}
+use Rattle.accounts.specs.Ledgers.{Ledger, KeepsLast}
 use Rattle.sessions.specs.Grammar.{Asked}
 use Rattle.streams.specs.Answering.{Answers}
 use Rattle.job_server.specs.declared.keeping_handler.KeepingHandler.{KeepingHandler}
@@ -14,10 +14,6 @@ abbrev pub answers_by : {R : Type 0} → (R → ℕ → AdmittedJob → Result (
     → Result Asked ℕ → List ℕ → Ledger × R → Type 0
 answers_by starts looks takes =
     λ s query reply t. Answers starts looks takes s.0 s.1 query reply t.0 t.1
-
--- the reports of all but the last jobs are forgotten; 0 forgets none
-abbrev pub KeepsLast : ℕ → Ledger → Ledger → Type 0
-KeepsLast keep old new = (1 ≤ keep → Forgets old keep new) × (keep ≡ 0 → new ≡ old)
 
 -- A frame is answered as by the desk and the runner, and then the desk forgets.
 abbrev pub answers_keeping : {R : Type 0} → (R → ℕ → AdmittedJob → Result (Unit {0}) ℕ → R → Type 0)

@@ -1,7 +1,5 @@
 //! A desk that keeps the reports of its last jobs alone.
 
-ghost use Rattle.job_server.specs.Kept.{KeepsLast};
-
 use accounts::Desk;
 use refusal::NoMemory;
 use sessions::Request;
@@ -27,15 +25,6 @@ impl<N: Drop> KeepingHandler<N> {
     }
 }
 
-// Has the desk forget what it isn't to keep.
-fn keep_last(desk: &mut Desk, keep: u32)
-    ensures { KeepsLast keep desk.old desk.new }
-{
-    if keep > 0 {
-        desk.forget(u64::from(keep));
-    }
-}
-
 impl<N: Runner> Handler<Desk> for KeepingHandler<N> {
     ghost use Rattle.job_server.specs.Kept.{answers_keeping};
 
@@ -50,7 +39,7 @@ impl<N: Runner> Handler<Desk> for KeepingHandler<N> {
         request: Result<Request, u8>,
     ) -> Result<Vec<u8>, NoMemory> {
         let reply = self.runner.answer(alloc, desk, request);
-        keep_last(desk, self.keep);
+        desk.keep_last(self.keep);
         reply
     }
 }
@@ -63,7 +52,7 @@ impl<N: Runner> TellingHandler for KeepingHandler<N> {
         request: PreparedRequest,
     ) -> (Option<SubmitRefusal>, Result<Vec<u8>, NoMemory>) {
         let told = self.runner.answer_and_tell(alloc, desk, request);
-        keep_last(desk, self.keep);
+        desk.keep_last(self.keep);
         told
     }
 }

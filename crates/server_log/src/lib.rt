@@ -8,4 +8,4 @@ mod logged_handler;
 
 pub use log_line::{ConnectionEnd, LogEvent, LogLine};
 pub use log_queue::{LogLines, ServerLog, millis_since, open_log, write_lines};
-pub use logged_handler::LoggedHandler;
+pub use logged_handler::{LoggedHandler, event_of_refusal};

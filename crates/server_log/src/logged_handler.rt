@@ -41,8 +41,8 @@ impl<'a, R, H: Drop> LoggedHandler<'a, R, H> {
     }
 }
 
-// What a log tells of a job that was asked for and doesn't run.
-fn event_of_refusal(refusal: SubmitRefusal) -> LogEvent
+/// What a log tells of a job that was asked for and doesn't run.
+pub fn event_of_refusal(refusal: SubmitRefusal) -> LogEvent
     ensures { result ≡ refusal_event refusal }
 {
     match refusal {

@@ -11,6 +11,8 @@ pub enum Door {
     Socket,
     /// The one for grants.
     Grants,
+    /// That of the tenant with this number, from 0 on.
+    Tenant(u8),
 }
 
 impl fmt::Display for Door {
@@ -24,6 +26,7 @@ impl fmt::Display for Door {
             Door::Port => write!(f, "port"),
             Door::Socket => write!(f, "socket"),
             Door::Grants => write!(f, "grants"),
+            Door::Tenant(_) => write!(f, "tenant"),
         }
     }
 }
