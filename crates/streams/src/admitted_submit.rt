@@ -26,3 +26,15 @@ impl Model for AdmittedSubmit {
     ghost invariant = { λ s. IsAdmissionOf s.programs.items s.credit s.buffer.value.items
         s.admitted };
 }
+
+impl AdmittedSubmit {
+    ghost use Rattle.std.specs.Prelude.{◌≡◌, Some};
+    ghost use Rattle.streams.specs.Prepared.{submitter_of};
+
+    /// The tenant who asks for the job.
+    pub fn tenant(&self) -> &str
+        ensures { submitter_of self.now ≡ Some result.now }
+    {
+        self.tenant.as_str()
+    }
+}
