@@ -5,3 +5,4 @@ pub mod Listening
 pub mod EndToEnd
 pub mod Payloads
 pub mod Stopping
+pub mod TenantSockets
