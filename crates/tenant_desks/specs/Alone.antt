@@ -4,11 +4,11 @@ use Rattle.credit_book.specs.declared.book.Report.{Report}
 use Rattle.credit_book.specs.declared.board.Progress.{Progress}
 use Rattle.job_core.specs.Admitted.{AdmittedJob}
 use Rattle.accounts.specs.Ledgers.{Ledger, Finishes}
-use Rattle.shared_desk.specs.Histories.{HistoryEntry, Query, put_if}
+use Rattle.shared_desk.specs.Histories.{HistoryEntry, Query, Replays, put_if}
 use Rattle.tenant_desks.specs.Placing.{placed}
 use Rattle.tenant_desks.specs.Routing.{desk_for}
-use Rattle.tenant_desks.specs.Tenancies.{fresh_desk}
-use Rattle.tenant_desks.specs.Answering.{AnswersAlone, at_place}
+use Rattle.tenant_desks.specs.Tenancies.{Tenancy, fresh_desk, fresh_tenancy}
+use Rattle.tenant_desks.specs.Answering.{AnswersAlone, KeptRunner, at_place, tenant_answers}
 
 -- whether this is the place
 abbrev pub is_place : ℕ → Result ℕ ℕ → Bool
@@ -42,3 +42,12 @@ pub data IsAloneHistory {R : Type 0} (starts : R → ℕ → AdmittedJob → Res
       → AnswersAlone starts looks keep (at_place place r) (at_place place s) e.query.asked e.reply
       before after
       → IsAloneHistory starts looks takes place keep (history ++ e ∷ []) after
+
+-- A history that a server may have whose tenants of these names have desks of their own, each of
+-- which keeps so many reports. It begins with new desks.
+abbrev pub IsTenantHistory : {R : Type 0} → (R → ℕ → AdmittedJob → Result (Unit {0}) ℕ → R
+    → Type 0) → (R → ℕ → Progress → R → Type 0) → (R → Option (ℕ × Result Report ℕ) → R → Type 0)
+    → List (List ℕ) → ℕ → List HistoryEntry → Tenancy × KeptRunner R → Type 0
+IsTenantHistory starts looks takes names keep =
+    Replays (tenant_answers starts looks takes)
+    (λ s. (s.0 ≡ fresh_tenancy names) × (s.1.keep ≡ keep))

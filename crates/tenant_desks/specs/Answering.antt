@@ -82,24 +82,23 @@ AnswersWhere starts looks keep (Ok place) query desks runner reply after left =
     (AnswersAlone starts looks keep (at_place place runner) (at_place place left) query reply)
     desks after
 
--- Every finished job is passed to its own desk, and then what was asked is answered at the desk that
--- it goes to.
-pub record TenantAnswer {R : Type 0} (starts : R → ℕ → AdmittedJob → Result (Unit {0}) ℕ → R
+-- Every finished job is passed to its own desk, and then a query is answered at the desk that it
+-- goes to.
+pub record DeskAnswer {R : Type 0} (starts : R → ℕ → AdmittedJob → Result (Unit {0}) ℕ → R
     → Type 0) (looks : R → ℕ → Progress → R → Type 0)
-    (takes : R → Option (ℕ × Result Report ℕ) → R → Type 0) (s : Tenancy × KeptRunner R)
-    (query : Query) (reply : List ℕ) (t : Tenancy × KeptRunner R) : Type 0 where
+    (takes : R → Option (ℕ × Result Report ℕ) → R → Type 0) (keep : ℕ) (place : Result ℕ ℕ)
+    (query : Result Asked ℕ) (desks : List Ledger) (runner : R) (reply : List ℕ)
+    (after : List Ledger) (left : R) : Type 0 where
   pub mid : List Ledger
   pub rest : R
-  pub passed : PassesEnds takes s.0.desks s.1.runner mid rest
-  pub answered : AnswersWhere starts looks s.1.keep
-      (desk_for s.0.names query.passage query.asked) query.asked mid rest reply t.0.desks
-      t.1.runner
-  pub names : t.0.names ≡ s.0.names
-  pub keep : t.1.keep ≡ s.1.keep
+  pub passed : PassesEnds takes desks runner mid rest
+  pub answered : AnswersWhere starts looks keep place query mid rest reply after left
 
--- the answers at the desks of tenants, by a runner that all share
+-- The answers at the desks of tenants, by a runner that all share.
 abbrev pub tenant_answers : {R : Type 0} → (R → ℕ → AdmittedJob → Result (Unit {0}) ℕ → R
     → Type 0) → (R → ℕ → Progress → R → Type 0) → (R → Option (ℕ × Result Report ℕ) → R → Type 0)
     → Tenancy × KeptRunner R → Query → List ℕ → Tenancy × KeptRunner R → Type 0
-tenant_answers starts looks takes =
-    λ s query reply t. TenantAnswer starts looks takes s query reply t
+tenant_answers starts looks takes s query reply t =
+    DeskAnswer starts looks takes s.1.keep (desk_for s.0.names query.passage query.asked)
+    query.asked s.0.desks s.1.runner reply t.0.desks t.1.runner
+    × (t.0.names ≡ s.0.names) × (t.1.keep ≡ s.1.keep)
