@@ -6,3 +6,4 @@ pub mod EndToEnd
 pub mod Payloads
 pub mod Stopping
 pub mod TenantSockets
+pub mod TenantServing

@@ -2,7 +2,6 @@
 use Rattle.std.specs.Prelude.{◌≡◌, ℕ, Bool, true, false, not, List, length, slice_get, nat_lt, nat_eq, if◌then◌else◌, Option, Some}
 use Rattle.shared_desk.specs.declared.door.Door.TheVariants.{Grants, Socket, Tenant}
 use Rattle.shared_desk.specs.declared.passage.Passage.{Passage}
-use Rattle.job_server.specs.declared.tenants_listener.TenantsListener.{TenantsListener}
 
 -- the socket at a place: the tenants' come first, then that for all, then that for grants
 abbrev pub socket_at : {S : Type 0} → List S → S → Option S → ℕ → Option S
@@ -24,7 +23,3 @@ passage_at tenants has_grants place =
     if nat_lt place tenants then record { door = Tenant place; may_grant = false }
     else (if nat_eq place tenants then record { door = Socket; may_grant = not has_grants }
     else record { door = Grants; may_grant = true })
-
--- a listener has the sockets of another
-abbrev pub HasSocketsOf : {S : Type 0} → TenantsListener S → TenantsListener S → Type 0
-HasSocketsOf l m = (m.tenants ≡ l.tenants) × (m.all ≡ l.all) × (m.grants ≡ l.grants)

@@ -37,8 +37,8 @@ pub use timed_reader::Waiting;
 mod at_once;
 mod entrance;
 mod plan;
-mod pooled_serving;
 mod serving;
+mod serving_desks;
 mod tenant_door;
 
 pub use at_once::serve_at_once;

@@ -1,7 +1,7 @@
 //! A server by sockets in the file system, some of them of one tenant each.
 
 ghost use Rattle.std.specs.Prelude.{◌≡◌, ◌≤◌, ◌+◌, ◌⊎◌, Err, is_some, length, vec_len};
-ghost use Rattle.job_server.specs.AtOnce.{IsServingBy};
+ghost use Rattle.job_server.specs.TenantServing.{IsServingBy};
 ghost use Rattle.job_server.specs.declared.fault.ServeFault.TheVariants as fault;
 ghost use Rattle.streams.specs.declared.fault.StreamFault.TheVariants as stream;
 

@@ -1,7 +1,6 @@
 //! The door of a tenant: a socket that nobody else connects to.
 
-ghost use Rattle.std.specs.Prelude.{◌≡◌, IfOk, map};
-ghost use Rattle.std.specs.Str.{string_bytes};
+ghost use Rattle.std.specs.Prelude.{◌≡◌, IfOk, map, string_bytes};
 
 use refusal::NoMemory;
 use std::alloc::Global;
@@ -17,7 +16,8 @@ pub struct TenantDoor {
 
 /// The tenants' names, in order.
 pub(crate) fn names_of(alloc: Global, doors: &[TenantDoor]) -> Result<Vec<String>, NoMemory>
-    ensures { IfOk result (λ names. names.items ≡ map (λ d. d.name) doors.now) }
+    ensures { IfOk result (λ names. map string_bytes names.items
+        ≡ map (λ d. string_bytes d.name) doors.now) }
 {
     let mut names = Vec::new(alloc);
     for door in doors {

@@ -3,7 +3,7 @@
 ghost use Rattle.std.specs.Prelude.{◌≡◌, ◌<◌, ◌≤◌, ◌+◌, [], ◌∷◌, ◌++◌, length, map, option_map, IfOk, IfSome, vec_len};
 ghost use Rattle.std.specs.Net.Unix.{unix_listener_raw_fd};
 ghost use Rattle.mio.specs.Net.{unix_listener_fd};
-ghost use Rattle.job_server.specs.TenantSockets.{GaveAt, HasSocketsOf};
+ghost use Rattle.job_server.specs.TenantSockets.{GaveAt};
 
 use crate::listener::Listener;
 use crate::local_listener::waiting_at;
@@ -137,13 +137,14 @@ impl<S: AskedSocket> TenantsListener<S> {
     // The next connection of any socket, if one waits: the one that gave the last connection is asked
     // last.
     fn ask_all(&mut self) -> Result<Option<TcpStream>, Failed>
-        ensures same { HasSocketsOf self.old self.new }
+        ensures same { (self.new.tenants ≡ self.old.tenants) × (self.new.all ≡ self.old.all)
+            × (self.new.grants ≡ self.old.grants) }
         ensures gave { IfOk result (λ found. IfSome found
             (λ _. GaveAt S.gave self.new.tenants.items self.new.all self.new.grants self.new.last)) }
     {
         let places = self.tenants.len() + 2;
         let mut place = self.last;
-        for _ in 0..places {
+        'asking: for _ in 0..places {
             place = place_after(place, places);
             if let Some(stream) = self.ask_at(place)? {
                 self.last = place;
@@ -155,17 +156,18 @@ impl<S: AskedSocket> TenantsListener<S> {
 }
 
 impl<S: AskedSocket> Listener for TenantsListener<S> {
-    ghost use Rattle.std.specs.Prelude.{◌×◌, is_some, length};
-    ghost use Rattle.job_server.specs.TenantSockets.{GaveAt, HasSocketsOf, passage_at};
+    ghost use Rattle.std.specs.Prelude.{is_some, length};
+    ghost use Rattle.job_server.specs.TenantSockets.{GaveAt, passage_at};
 
     ghost passage = { λ l. passage_at (length l.tenants.items) (is_some l.grants) l.last };
 
-    ghost opens = { λ l m. HasSocketsOf l m × GaveAt S.gave m.tenants.items m.all m.grants m.last };
+    ghost opens = { λ l m. (m.tenants ≡ l.tenants) × (m.all ≡ l.all) × (m.grants ≡ l.grants)
+        × GaveAt S.gave m.tenants.items m.all m.grants m.last };
 
     ghost fails = { λ _ _. Unit {0} };
 
     fn accept(&mut self) -> Result<TcpStream, Failed> {
-        for _ in 0..u64::MAX {
+        'waiting: for _ in 0..u64::MAX {
             if let Some(stream) = self.ask_all()? {
                 return Ok(stream);
             }
