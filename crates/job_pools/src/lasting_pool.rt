@@ -99,10 +99,7 @@ impl<R: Wait, J: RegisterId> Runner for LastingPool<'_, R, J> {
         if !self.has_workers {
             return Err(81);
         }
-        match take_number(&mut self.nexts, number) {
-            Ok(()) => {}
-            Err(code) => return Err(code),
-        }
+        take_number(&mut self.nexts, number)?;
         let Ok((board, post, reader)) = job.board(alloc, number) else {
             return Err(99);
         };

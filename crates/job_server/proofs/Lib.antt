@@ -12,3 +12,5 @@ pub mod RefusedResults
 pub mod FromSubmit
 pub mod NoFlag
 pub mod KeptLemmas
+pub mod ByDoors
+pub mod TenantAlike

@@ -1,7 +1,8 @@
 -- Servers of which some tenants may have a door, and a desk, of their own.
-use Rattle.std.specs.Prelude.{◌≡◌, ℕ, Bool, List, [], ◌∷◌, All, map, string_bytes, Result}
+use Rattle.std.specs.Prelude.{◌≡◌, ℕ, Bool, false, List, [], ◌∷◌, All, map, string_bytes, Result}
 use Rattle.accounts.specs.Ledgers.{Ledger}
 use Rattle.shared_desk.specs.Histories.{Query}
+use Rattle.shared_desk.specs.declared.door.Door.TheVariants.{Tenant}
 use Rattle.shared_desk.specs.declared.passage.Passage.{Passage}
 use Rattle.tenant_desks.specs.Tenancies.{Tenancy, fresh_tenancy}
 use Rattle.tenant_desks.specs.Answering.{KeptRunner, tenant_answers}
@@ -46,11 +47,16 @@ pub record IsServingTenants (names : List (List ℕ)) (bounds : Bounds) (session
   pub serving : IsServingFrom hosted_tenant_answers (λ s. s ≡ new_tenant_host names bounds first) end
       sessions may_stop outcome
 
+-- what comes by a tenant's own door may not grant
+abbrev pub GrantsByNoTenant : Passage → Type 0
+GrantsByNoTenant passage = (n : ℕ) → passage.door ≡ Tenant n → passage.may_grant ≡ false
+
 -- A server with these doors of tenants: where there is none, one desk serves all.
 abbrev pub IsServingBy : List TenantDoor → Bounds → ℕ → Bool → Result (Unit {0}) ServeFault → Type 0
 IsServingBy [] bounds sessions may_stop outcome = IsServing bounds sessions may_stop outcome
 IsServingBy (door ∷ doors) bounds sessions may_stop outcome =
-    IsServingTenants (door_names (door ∷ doors)) bounds sessions may_stop outcome
+    (s : IsServingTenants (door_names (door ∷ doors)) bounds sessions may_stop outcome)
+    × All (λ c. GrantsByNoTenant c.passage) s.serving.closed
 
 -- The same, and the connections are this listener's, each by a passage that it gave.
 abbrev pub IsServingAt : {L : Type 0} → (L → L → Type 0) → (L → L → Type 0) → (L → Passage) → L

@@ -196,7 +196,8 @@ pub fn serve_port<
 >(rt: &R, alloc: Global, port: u16, plan: Plan<'_>) -> Result<(), ServeFault>
     requires workers { (1 ≤ plan.workers) × (plan.workers ≤ 16) }
     requires tenants { length plan.entry.tenants ≤ 256 }
-    ensures { IsServingBy plan.entry.tenants plan.entry.bounds plan.entry.sessions (is_some plan.entry.stop) result
+    ensures { IsServingBy plan.entry.tenants plan.entry.bounds plan.entry.sessions
+        (is_some plan.entry.stop) result
         ⊎ (result ≡ Err (fault.Connection stream.NoMemory)) ⊎ (result ≡ Err fault.Socket) }
 {
     let Ok(listener) = TcpListener::bind(rt, address_of(port)) else {

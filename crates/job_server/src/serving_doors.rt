@@ -63,7 +63,8 @@ fn serve_tenants<R: Net + Files + Threads + Wait + Clock + Sync>(
 ) -> Result<(), ServeFault>
     requires workers { (1 ≤ plan.workers) × (plan.workers ≤ 16) }
     requires tenants { length plan.entry.tenants ≤ 256 }
-    ensures { IsServingBy plan.entry.tenants plan.entry.bounds plan.entry.sessions (is_some plan.entry.stop) result
+    ensures { IsServingBy plan.entry.tenants plan.entry.bounds plan.entry.sessions
+        (is_some plan.entry.stop) result
         ⊎ (result ≡ Err (fault.Connection stream.NoMemory)) ⊎ (result ≡ Err fault.Socket) }
 {
     let Ok(mut listener) = TenantsListener::new(rt, alloc, all, grants) else {
@@ -91,7 +92,8 @@ fn serve_beside<R: Net + Files + Threads + Wait + Clock + Sync>(
 ) -> Result<(), ServeFault>
     requires workers { (1 ≤ plan.workers) × (plan.workers ≤ 16) }
     requires tenants { length plan.entry.tenants ≤ 256 }
-    ensures { IsServingBy plan.entry.tenants plan.entry.bounds plan.entry.sessions (is_some plan.entry.stop) result
+    ensures { IsServingBy plan.entry.tenants plan.entry.bounds plan.entry.sessions
+        (is_some plan.entry.stop) result
         ⊎ (result ≡ Err (fault.Connection stream.NoMemory)) ⊎ (result ≡ Err fault.Socket) }
 {
     let Some(path) = grants else {
@@ -115,7 +117,8 @@ pub(crate) fn serve_doors<R: Net + Files + Threads + Wait + Clock + Sync>(
 ) -> Result<(), ServeFault>
     requires workers { (1 ≤ plan.workers) × (plan.workers ≤ 16) }
     requires tenants { length plan.entry.tenants ≤ 256 }
-    ensures { IsServingBy plan.entry.tenants plan.entry.bounds plan.entry.sessions (is_some plan.entry.stop) result
+    ensures { IsServingBy plan.entry.tenants plan.entry.bounds plan.entry.sessions
+        (is_some plan.entry.stop) result
         ⊎ (result ≡ Err (fault.Connection stream.NoMemory)) ⊎ (result ≡ Err fault.Socket) }
 {
     let Ok(all) = listen_at(rt, socket) else {

@@ -1,6 +1,7 @@
 //! A server by sockets in the file system.
 
-ghost use Rattle.std.specs.Prelude.{◌≡◌, ◌≤◌, ◌⊎◌, Err, is_some, length};
+ghost use Rattle.std.specs.Prelude.{◌≡◌, ◌≤◌, ◌⊎◌, [], Err, is_some, length};
+ghost use Rattle.job_server.specs.AtOnce.{IsServing};
 ghost use Rattle.job_server.specs.TenantServing.{IsServingBy};
 ghost use Rattle.job_server.specs.declared.fault.ServeFault.TheVariants as fault;
 ghost use Rattle.streams.specs.declared.fault.StreamFault.TheVariants as stream;
@@ -27,8 +28,8 @@ fn serve_one<R: Net + Files + Threads + Wait + Clock + Sync>(
     plan: Plan<'_>,
 ) -> Result<(), ServeFault>
     requires workers { (1 ≤ plan.workers) × (plan.workers ≤ 16) }
-    requires tenants { length plan.entry.tenants ≤ 256 }
-    ensures { IsServingBy plan.entry.tenants plan.entry.bounds plan.entry.sessions (is_some plan.entry.stop) result
+    requires tenants { plan.entry.tenants ≡ [] }
+    ensures { IsServing plan.entry.bounds plan.entry.sessions (is_some plan.entry.stop) result
         ⊎ (result ≡ Err (fault.Connection stream.NoMemory)) ⊎ (result ≡ Err fault.Socket) }
 {
     let Ok(all) = listen_at(rt, socket) else {
@@ -49,8 +50,8 @@ fn serve_two<R: Net + Files + Threads + Wait + Clock + Sync>(
     plan: Plan<'_>,
 ) -> Result<(), ServeFault>
     requires workers { (1 ≤ plan.workers) × (plan.workers ≤ 16) }
-    requires tenants { length plan.entry.tenants ≤ 256 }
-    ensures { IsServingBy plan.entry.tenants plan.entry.bounds plan.entry.sessions (is_some plan.entry.stop) result
+    requires tenants { plan.entry.tenants ≡ [] }
+    ensures { IsServing plan.entry.bounds plan.entry.sessions (is_some plan.entry.stop) result
         ⊎ (result ≡ Err (fault.Connection stream.NoMemory)) ⊎ (result ≡ Err fault.Socket) }
 {
     let Ok(all) = listen_at(rt, socket) else {
@@ -87,7 +88,8 @@ pub fn serve_sockets<R: Net + Files + Threads + Wait + Clock + Sync>(
 ) -> Result<(), ServeFault>
     requires workers { (1 ≤ plan.workers) × (plan.workers ≤ 16) }
     requires tenants { length plan.entry.tenants ≤ 256 }
-    ensures { IsServingBy plan.entry.tenants plan.entry.bounds plan.entry.sessions (is_some plan.entry.stop) result
+    ensures { IsServingBy plan.entry.tenants plan.entry.bounds plan.entry.sessions
+        (is_some plan.entry.stop) result
         ⊎ (result ≡ Err (fault.Connection stream.NoMemory)) ⊎ (result ≡ Err fault.Socket) }
 {
     if !plan.tenants.is_empty() {
