@@ -6,32 +6,14 @@ use Rattle.shared_desk.specs.declared.door.Door.TheVariants.{Grants, Port, Socke
 use Rattle.shared_desk.specs.declared.passage.Passage.{Passage}
 use Rattle.shared_desk.specs.declared.closed.ClosedConnection.{ClosedConnection}
 use Rattle.shared_desk.specs.Grants.{by_port}
-use Rattle.shared_desk.specs.Histories as histories
-use Rattle.shared_desk.specs.Histories.{Query}
 use Rattle.job_server.specs.declared.bounds.Bounds.{Bounds}
 use Rattle.job_server.specs.declared.fault.ServeFault.{ServeFault}
 use Rattle.job_server.specs.declared.fault.ServeFault.TheVariants as fault
 use Rattle.job_server.specs.declared.tenant_door.TenantDoor.{TenantDoor}
-use Rattle.job_server.specs.AtOnce.{IsServing, IsServingFrom}
-use Rattle.job_server.specs.Listening.{AreOf, CameBy, nothing_yet}
+use Rattle.job_server.specs.AtOnce.{IsServing}
+use Rattle.job_server.specs.Listening.{AreOf, CameBy}
 use Rattle.job_server.specs.TenantServing.{GrantsByNoTenant, IsServingAt, IsServingBy, IsServingTenants, door_names}
 use Rattle.job_server.specs.TenantSockets.{passage_at}
-
--- ---- a server that has served nobody, since there is no memory
-
-pub none_served : {S : Type 0} (answers : S → Query → List ℕ → S → Type 0) (first : S) (sessions : ℕ) (may_stop : Bool)
-    → IsServingFrom answers (λ s. s ≡ first) first sessions may_stop (Err (fault.Connection NoMemory))
-none_served answers first sessions may_stop = record {
-  history = [];
-  opened = 0;
-  closed = [];
-  legal = histories.none_yet first refl;
-  others = λ n le. refl;
-  parts = tt;
-  served = λ k d lt. absurd (omega (arith, lt));
-  well = tt;
-  fault = inr (refl, inr (inr refl));
-}
 
 -- ---- with tenants or without
 

@@ -14,3 +14,4 @@ pub mod NoFlag
 pub mod KeptLemmas
 pub mod ByDoors
 pub mod TenantAlike
+pub mod DeskStarts
