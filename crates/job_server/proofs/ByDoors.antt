@@ -10,6 +10,8 @@ use Rattle.job_server.specs.declared.bounds.Bounds.{Bounds}
 use Rattle.job_server.specs.declared.fault.ServeFault.{ServeFault}
 use Rattle.job_server.specs.declared.fault.ServeFault.TheVariants as fault
 use Rattle.job_server.specs.declared.tenant_door.TenantDoor.{TenantDoor}
+use Rattle.job_server.specs.declared.tenants_listener.TenantsListener.{TenantsListener}
+use Rattle.job_server.specs.declared.timed_listener.TimedListener.{TimedListener}
 use Rattle.job_server.specs.AtOnce.{IsServing}
 use Rattle.job_server.specs.Listening.{AreOf, CameBy}
 use Rattle.job_server.specs.TenantServing.{GrantsByNoTenant, IsServingAt, IsServingBy, IsServingTenants, door_names}
@@ -84,9 +86,9 @@ place_grants tenants has_grants place n e = by_tests (nat_lt place tenants) (nat
     by_tests false true is is2 t = absurd (let u : Socket ≡ Tenant n = rw (is, is2) at t in cc)
     by_tests false false is is2 t = absurd (let u : Grants ≡ Tenant n = rw (is, is2) at t in cc)
 
-pub sockets_grant : {L : Type 0} (opens : L → L → Type 0) (tenants : L → ℕ) (has_grants : L → Bool) (place : L → ℕ) (p : Passage)
-    → CameBy opens (λ l. passage_at (tenants l) (has_grants l) (place l)) p → GrantsByNoTenant p
-sockets_grant opens tenants has_grants place p came n e =
-    let l = came.after in
-    let at = place_grants (tenants l) (has_grants l) (place l) n (sym (ap (λ (q : Passage). q.door) came.is) ∙ e) in
+pub sockets_grant : {S : Type 0} (opens : TimedListener (TenantsListener S) → TimedListener (TenantsListener S) → Type 0) (p : Passage)
+    → CameBy opens (λ l. passage_at (length l.listener.tenants.items) (is_some l.listener.grants) l.listener.last) p → GrantsByNoTenant p
+sockets_grant opens p came n e =
+    let l = came.after.listener in
+    let at = place_grants (length l.tenants.items) (is_some l.grants) l.last n (sym (ap (λ (q : Passage). q.door) came.is) ∙ e) in
     ap (λ (q : Passage). q.may_grant) came.is ∙ at

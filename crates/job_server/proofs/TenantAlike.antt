@@ -130,9 +130,9 @@ module _ {R : Type 0} (f : R → Pool) (starts : R → ℕ → AdmittedJob → R
   tenants_serving names bounds l pool end sessions may_stop outcome is_pool is_limit serving = (
     serving_alike (hosted_as f) _ hosted_tenant_answers
         (λ s q reply t. desks_alike (limited f) (starts_within (λ r. pooled_count (f r)) starts) (looks_within looks) (takes_within takes)
-            (starts_within pooled_count (StartsBy pooled_at pooled_count)) (looks_within (TellsBy pooled_at pooled_count)) (takes_within (TakesBy pooled_at pooled_count))
-            (within_alike f pooled_count (StartsBy pooled_at pooled_count) (TellsBy pooled_at pooled_count) (TakesBy pooled_at pooled_count) starts looks takes starts_alike looks_alike takes_alike)
-            (λ l n p m g. (looks_alike l.runner n p m.runner g.0, g.1)) (λ l x m g. (takes_alike l.runner x m.runner g.0, g.1)) s q reply t)
+        (starts_within pooled_count (StartsBy pooled_at pooled_count)) (looks_within (TellsBy pooled_at pooled_count)) (takes_within (TakesBy pooled_at pooled_count))
+        (within_alike f pooled_count (StartsBy pooled_at pooled_count) (TellsBy pooled_at pooled_count) (TakesBy pooled_at pooled_count) starts looks takes starts_alike looks_alike takes_alike)
+        (λ l n p m g. (looks_alike l.runner n p m.runner g.0, g.1)) (λ l x m g. (takes_alike l.runner x m.runner g.0, g.1)) s q reply t)
         (λ s. s ≡ (fresh_tenancy names, record { runner = l; keep = bounds.keep })) (λ s. s ≡ new_tenant_host names bounds (f pool))
         (λ s is. ap (hosted_as f) is ∙ host_is f names bounds l pool is_pool is_limit)
         end sessions may_stop outcome serving,

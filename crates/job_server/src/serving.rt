@@ -54,8 +54,8 @@ fn serve_on_pool<
 ) -> Result<(), ServeFault>
     requires keeper { keeper ≡ [] }
     requires workers { (1 ≤ plan.workers) × (plan.workers ≤ 16) }
-    requires tenants { length plan.entry.tenants ≤ 256 }
-    ensures { IsServingAt L.opens L.fails L.passage listener plan.entry.tenants plan.entry.bounds
+    requires tenants { length plan.tenants.now ≤ 256 }
+    ensures { IsServingAt L.opens L.fails L.passage listener plan.entry.tenants.now plan.entry.bounds
         plan.entry.sessions (is_some plan.entry.stop) result }
 {
     let Queues {
@@ -90,8 +90,8 @@ fn serve_in_scope<
 ) -> Result<(), ServeFault>
     requires keeper { keeper ≡ [] }
     requires workers { (1 ≤ plan.workers) × (plan.workers ≤ 16) }
-    requires tenants { length plan.entry.tenants ≤ 256 }
-    ensures { IsServingAt L.opens L.fails L.passage listener plan.entry.tenants plan.entry.bounds
+    requires tenants { length plan.tenants.now ≤ 256 }
+    ensures { IsServingAt L.opens L.fails L.passage listener plan.entry.tenants.now plan.entry.bounds
         plan.entry.sessions (is_some plan.entry.stop) result }
 {
     let Plan {
@@ -137,8 +137,8 @@ fn serve_registered<
 ) -> Result<(), ServeFault>
     requires named { new_register ≡ J.table }
     requires workers { (1 ≤ plan.workers) × (plan.workers ≤ 16) }
-    requires tenants { length plan.entry.tenants ≤ 256 }
-    ensures { IsServingAt L.opens L.fails L.passage listener plan.entry.tenants plan.entry.bounds
+    requires tenants { length plan.tenants.now ≤ 256 }
+    ensures { IsServingAt L.opens L.fails L.passage listener plan.entry.tenants.now plan.entry.bounds
         plan.entry.sessions (is_some plan.entry.stop) result
         ⊎ (result ≡ Err (fault.Connection stream.NoMemory)) }
 {
@@ -177,8 +177,8 @@ pub fn serve_listener<R: Threads + Wait + Clock + Sync, L: Listener + Send + Dro
     plan: Plan<'_>,
 ) -> Result<(), ServeFault>
     requires workers { (1 ≤ plan.workers) × (plan.workers ≤ 16) }
-    requires tenants { length plan.entry.tenants ≤ 256 }
-    ensures { IsServingAt L.opens L.fails L.passage listener plan.entry.tenants plan.entry.bounds
+    requires tenants { length plan.tenants.now ≤ 256 }
+    ensures { IsServingAt L.opens L.fails L.passage listener plan.entry.tenants.now plan.entry.bounds
         plan.entry.sessions (is_some plan.entry.stop) result
         ⊎ (result ≡ Err (fault.Connection stream.NoMemory)) }
 {
@@ -195,8 +195,8 @@ pub fn serve_port<
     R: Net<Stream = TcpStream, Listener = TcpListener> + Threads + Wait + Clock + Sync,
 >(rt: &R, alloc: Global, port: u16, plan: Plan<'_>) -> Result<(), ServeFault>
     requires workers { (1 ≤ plan.workers) × (plan.workers ≤ 16) }
-    requires tenants { length plan.entry.tenants ≤ 256 }
-    ensures { IsServingBy plan.entry.tenants plan.entry.bounds plan.entry.sessions
+    requires tenants { length plan.tenants.now ≤ 256 }
+    ensures { IsServingBy plan.entry.tenants.now plan.entry.bounds plan.entry.sessions
         (is_some plan.entry.stop) result
         ⊎ (result ≡ Err (fault.Connection stream.NoMemory)) ⊎ (result ≡ Err fault.Socket) }
 {

@@ -58,11 +58,11 @@ pub(crate) fn serve_at_desks<
     N: Runner + Send + Drop,
 >(rt: &'s R, alloc: Global, listener: L, runner: N, plan: Plan<'s>) -> Result<(), ServeFault>
     requires ready { N.ready runner }
-    requires tenants { length plan.entry.tenants ≤ 256 }
+    requires tenants { length plan.tenants.now ≤ 256 }
     ensures { (end : Tenancy × KeptRunner N)
         × (s : IsServingFrom (tenant_answers N.starts N.looks N.takes)
         (λ s. s ≡ (
-          fresh_tenancy (door_names plan.entry.tenants),
+          fresh_tenancy (door_names plan.entry.tenants.now),
           record { runner = runner; keep = plan.entry.bounds.keep },
         )) end
         plan.entry.sessions (is_some plan.entry.stop) result)

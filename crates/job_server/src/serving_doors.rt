@@ -62,8 +62,8 @@ fn serve_tenants<R: Net + Files + Threads + Wait + Clock + Sync>(
     plan: Plan<'_>,
 ) -> Result<(), ServeFault>
     requires workers { (1 ≤ plan.workers) × (plan.workers ≤ 16) }
-    requires tenants { length plan.entry.tenants ≤ 256 }
-    ensures { IsServingBy plan.entry.tenants plan.entry.bounds plan.entry.sessions
+    requires tenants { length plan.tenants.now ≤ 256 }
+    ensures { IsServingBy plan.entry.tenants.now plan.entry.bounds plan.entry.sessions
         (is_some plan.entry.stop) result
         ⊎ (result ≡ Err (fault.Connection stream.NoMemory)) ⊎ (result ≡ Err fault.Socket) }
 {
@@ -91,8 +91,8 @@ fn serve_beside<R: Net + Files + Threads + Wait + Clock + Sync>(
     plan: Plan<'_>,
 ) -> Result<(), ServeFault>
     requires workers { (1 ≤ plan.workers) × (plan.workers ≤ 16) }
-    requires tenants { length plan.entry.tenants ≤ 256 }
-    ensures { IsServingBy plan.entry.tenants plan.entry.bounds plan.entry.sessions
+    requires tenants { length plan.tenants.now ≤ 256 }
+    ensures { IsServingBy plan.entry.tenants.now plan.entry.bounds plan.entry.sessions
         (is_some plan.entry.stop) result
         ⊎ (result ≡ Err (fault.Connection stream.NoMemory)) ⊎ (result ≡ Err fault.Socket) }
 {
@@ -116,8 +116,8 @@ pub(crate) fn serve_doors<R: Net + Files + Threads + Wait + Clock + Sync>(
     plan: Plan<'_>,
 ) -> Result<(), ServeFault>
     requires workers { (1 ≤ plan.workers) × (plan.workers ≤ 16) }
-    requires tenants { length plan.entry.tenants ≤ 256 }
-    ensures { IsServingBy plan.entry.tenants plan.entry.bounds plan.entry.sessions
+    requires tenants { length plan.tenants.now ≤ 256 }
+    ensures { IsServingBy plan.entry.tenants.now plan.entry.bounds plan.entry.sessions
         (is_some plan.entry.stop) result
         ⊎ (result ≡ Err (fault.Connection stream.NoMemory)) ⊎ (result ≡ Err fault.Socket) }
 {

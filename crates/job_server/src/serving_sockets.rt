@@ -28,7 +28,7 @@ fn serve_one<R: Net + Files + Threads + Wait + Clock + Sync>(
     plan: Plan<'_>,
 ) -> Result<(), ServeFault>
     requires workers { (1 ≤ plan.workers) × (plan.workers ≤ 16) }
-    requires tenants { plan.entry.tenants ≡ [] }
+    requires tenants { plan.tenants.now ≡ [] }
     ensures { IsServing plan.entry.bounds plan.entry.sessions (is_some plan.entry.stop) result
         ⊎ (result ≡ Err (fault.Connection stream.NoMemory)) ⊎ (result ≡ Err fault.Socket) }
 {
@@ -50,7 +50,7 @@ fn serve_two<R: Net + Files + Threads + Wait + Clock + Sync>(
     plan: Plan<'_>,
 ) -> Result<(), ServeFault>
     requires workers { (1 ≤ plan.workers) × (plan.workers ≤ 16) }
-    requires tenants { plan.entry.tenants ≡ [] }
+    requires tenants { plan.tenants.now ≡ [] }
     ensures { IsServing plan.entry.bounds plan.entry.sessions (is_some plan.entry.stop) result
         ⊎ (result ≡ Err (fault.Connection stream.NoMemory)) ⊎ (result ≡ Err fault.Socket) }
 {
@@ -87,8 +87,8 @@ pub fn serve_sockets<R: Net + Files + Threads + Wait + Clock + Sync>(
     plan: Plan<'_>,
 ) -> Result<(), ServeFault>
     requires workers { (1 ≤ plan.workers) × (plan.workers ≤ 16) }
-    requires tenants { length plan.entry.tenants ≤ 256 }
-    ensures { IsServingBy plan.entry.tenants plan.entry.bounds plan.entry.sessions
+    requires tenants { length plan.tenants.now ≤ 256 }
+    ensures { IsServingBy plan.entry.tenants.now plan.entry.bounds plan.entry.sessions
         (is_some plan.entry.stop) result
         ⊎ (result ≡ Err (fault.Connection stream.NoMemory)) ⊎ (result ≡ Err fault.Socket) }
 {

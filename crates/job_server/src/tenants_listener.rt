@@ -1,6 +1,6 @@
 //! The sockets of a server whose tenants have doors of their own.
 
-ghost use Rattle.std.specs.Prelude.{◌≡◌, ◌<◌, ◌≤◌, ◌+◌, [], ◌∷◌, ◌++◌, length, map, option_map, IfOk, IfSome, vec_len};
+ghost use Rattle.std.specs.Prelude.{◌≡◌, ◌<◌, ◌≤◌, ◌+◌, [], ◌∷◌, ◌++◌, length, map, option_map, IfOk, IfSome, OnErr, OnOk, is_ok, if◌then◌else◌, vec_len};
 ghost use Rattle.std.specs.Net.Unix.{unix_listener_raw_fd};
 ghost use Rattle.mio.specs.Net.{unix_listener_fd};
 ghost use Rattle.job_server.specs.TenantSockets.{GaveAt};
@@ -98,9 +98,12 @@ impl TenantsListener {
     /// The connections of one more tenant too, the one behind those that there are.
     pub fn add_tenant(&mut self, socket: UnixListener) -> io::Result<()>
         requires { vec_len self.old.tenants < 256 }
-        ensures { IfOk result (λ _. (map unix_listener_fd self.new.tenants.items
-            ≡ map unix_listener_fd self.old.tenants.items ++ unix_listener_raw_fd socket ∷ [])
-            × (self.new.all ≡ self.old.all) × (self.new.grants ≡ self.old.grants)) }
+        ensures one_more { OnOk result (map unix_listener_fd self.new.tenants.items
+            ≡ map unix_listener_fd self.old.tenants.items ++ unix_listener_raw_fd socket ∷ []) }
+        ensures none_more { OnErr result (self.new.tenants.items ≡ self.old.tenants.items) }
+        ensures others { (self.new.all ≡ self.old.all) × (self.new.grants ≡ self.old.grants) }
+        ensures count { vec_len self.new.tenants
+            ≡ (if is_ok result then vec_len self.old.tenants + 1 else vec_len self.old.tenants) }
     {
         let socket = polled(&self.poll, socket)?;
         self.tenants.push(socket)?;
