@@ -1,0 +1,4 @@
+mod PlacedLemmas
+mod ChangedDesks
+mod SentEntries
+mod AloneLemmas
