@@ -2,7 +2,6 @@
 use Rattle.std.proofs.Common.{◌≡◌, ◌≤◌, ◌⊎◌, ℕ, List, Option, Some, None, Result, Ok, Err, Vec, IfOk, OnErr, refl, sym, ap, subst, ◌∙◌, inl, inr}
 use Rattle.std.specs.declared.alloc.Global.{Global}
 use Rattle.refusal.specs.declared.NoMemory.{NoMemory}
-use Rattle.serde_json.specs.Data.{Data}
 use Rattle.credit_book.specs.declared.book.Report.{Report}
 use Rattle.credit_book.specs.declared.board.Progress.{Progress}
 use Rattle.job_core.specs.declared.admission.ProgramBytes.{ProgramBytes}
@@ -10,6 +9,7 @@ use Rattle.job_core.specs.Admitted.{AdmittedJob}
 use Rattle.accounts.specs.Ledgers.{Ledger, KeepsLast}
 use Rattle.sessions.specs.Grammar.{Asked, grant, account, submit, status, result}
 use Rattle.sessions.specs.Replies.{reply_data}
+use Rattle.sessions.specs.declared.reply.Reply.{Reply}
 use Rattle.streams.specs.Answering.{Answers, Replies, Submits}
 use Rattle.streams.specs.Passing.{Taken, none_yet, one_more, Passes}
 use Rattle.tenant_desks.specs.declared.placed_runner.PlacedRunner.{PlacedRunner}
@@ -21,7 +21,7 @@ use Rattle.tenant_desks.specs.Answering.{AnswersAlone, for_place}
 none_taken : {R : Type 0} (d : Ledger) (r : PlacedRunner R) (e : Ledger) (s : PlacedRunner R) → Taken takes_placed d r e s → (e ≡ d) × (s ≡ r)
 none_taken d r e s none_yet = (refl, refl)
 none_taken d r e s (one_more d1 r1 number outcome s1 e1 before step notes) =
-    let clash : Some (number, outcome) ≡ None = step.0 in cc
+    let clash = step.0 in cc
 
 none_passed : {R : Type 0} (d : Ledger) (r : PlacedRunner R) (e : Ledger) (s : PlacedRunner R) → Passes takes_placed d r e s → (e ≡ d) × (s ≡ r)
 none_passed d r e s p =
@@ -50,13 +50,13 @@ module _ {R : Type 0} (starts : R → ℕ → AdmittedJob → Result (Unit {0}) 
 
   -- ---- the place stays
 
-  submits_stay : (desk : Ledger) (r : PlacedRunner R) (name : List ℕ) (programs : List ProgramBytes) (credit : ℕ) (buffer : List ℕ) (told : Data) (after : Ledger) (s : PlacedRunner R)
-      → Submits (starts_placed starts) desk r name programs credit buffer told after s → s.place ≡ r.place
+  submits_stay : (desk : Ledger) (r : PlacedRunner R) (name : List ℕ) (programs : List ProgramBytes) (credit : ℕ) (buffer : List ℕ) (told : Reply) (after : Ledger) (s : PlacedRunner R)
+      → Submits (starts_placed starts) desk r name programs credit buffer (reply_data told) after s → s.place ≡ r.place
   submits_stay desk r name programs credit buffer told after s (inl t) = t.starts_job.1
   submits_stay desk r name programs credit buffer told after s (inr n) = ap (λ (x : PlacedRunner R). x.place) n.same_runner
 
-  replies_stay : (desk : Ledger) (r : PlacedRunner R) (query : Result Asked ℕ) (told : Data) (after : Ledger) (s : PlacedRunner R)
-      → Replies (starts_placed starts) (looks_placed looks) desk r query told after s → s.place ≡ r.place
+  replies_stay : (desk : Ledger) (r : PlacedRunner R) (query : Result Asked ℕ) (told : Reply) (after : Ledger) (s : PlacedRunner R)
+      → Replies (starts_placed starts) (looks_placed looks) desk r query (reply_data told) after s → s.place ≡ r.place
   unfolding Replies
   replies_stay desk r (Err code) told after s t = ap (λ (x : PlacedRunner R). x.place) t.2
   replies_stay desk r (Ok (grant name amount)) told after s t = ap (λ (x : PlacedRunner R). x.place) t.1
@@ -69,5 +69,5 @@ module _ {R : Type 0} (starts : R → ℕ → AdmittedJob → Result (Unit {0}) 
   pub at_its_place : (keep place : ℕ) (runner : R) (s : PlacedRunner R) (query : Result Asked ℕ) (reply : List ℕ) (before after : Ledger)
       → AnswersAlone starts looks keep (for_place place runner) s query reply before after → AnswersAlone starts looks keep (for_place place runner) (for_place place s.runner) query reply before after
   at_its_place keep place runner s query reply before after a =
-      let stays = replies_stay before (for_place place runner) query (reply_data a.told) a.mid s a.replies in
+      let stays = replies_stay before (for_place place runner) query a.told a.mid s a.replies in
       subst (λ (p : ℕ). AnswersAlone starts looks keep (for_place place runner) (for_place p s.runner) query reply before after) stays a

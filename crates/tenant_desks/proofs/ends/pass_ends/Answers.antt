@@ -1,4 +1,5 @@
 use Rattle.tenant_desks.specs.Answering.{none_yet, one_more}
+use Rattle.tenant_desks.proofs.ChangedDesks.{count_taken}
 use Rattle.tenant_desks.proofs.ends.pass_ends.Goals as goal
 
 pub jobs-init : goal.jobs-init
@@ -10,3 +11,6 @@ jobs-preserved g c = (
       c.note_end.ensures,
   c.in-Some.ensures.ready,
 )
+
+pub returns-in-None-clause-count : goal.returns-in-None-clause-count
+returns-in-None-clause-count g c = count_taken g.N.Runner.takes c.args.desks.now.items c.args.runner.now c.jobs.desks.items c.jobs.runner c.jobs.invariant.0
