@@ -8,7 +8,7 @@ use Rattle.shared_desk.specs.Histories.{HistoryEntry, Query, Replays, put_if}
 use Rattle.tenant_desks.specs.Placing.{placed}
 use Rattle.tenant_desks.specs.Routing.{desk_for}
 use Rattle.tenant_desks.specs.Tenancies.{Tenancy, fresh_desk, fresh_tenancy}
-use Rattle.tenant_desks.specs.Answering.{AnswersAlone, KeptRunner, at_place, tenant_answers}
+use Rattle.tenant_desks.specs.Answering.{AnswersAlone, KeptRunner, for_place, refusal_frame, tenant_answers}
 
 -- whether this is the place
 abbrev pub is_place : ℕ → Result ℕ ℕ → Bool
@@ -39,7 +39,7 @@ pub data IsAloneHistory {R : Type 0} (starts : R → ℕ → AdmittedJob → Res
       → IsAloneHistory starts looks takes place keep history after
   one_more : (history : List HistoryEntry) (before after : Ledger) (e : HistoryEntry) (r s : R)
       → IsAloneHistory starts looks takes place keep history before
-      → AnswersAlone starts looks keep (at_place place r) (at_place place s) e.query.asked e.reply
+      → AnswersAlone starts looks keep (for_place place r) (for_place place s) e.query.asked e.reply
       before after
       → IsAloneHistory starts looks takes place keep (history ++ e ∷ []) after
 
@@ -51,3 +51,12 @@ abbrev pub IsTenantHistory : {R : Type 0} → (R → ℕ → AdmittedJob → Res
 IsTenantHistory starts looks takes names keep =
     Replays (tenant_answers starts looks takes)
     (λ s. (s.0 ≡ fresh_tenancy names) × (s.1.keep ≡ keep))
+
+-- Where the entry's query goes nowhere, the reply tells why.
+abbrev pub IsToldWhy : List (List ℕ) → HistoryEntry → Type 0
+IsToldWhy names e =
+    (code : ℕ) → desk_for names e.query.passage e.query.asked ≡ Err code → e.reply ≡ refusal_frame code
+
+abbrev pub AreToldWhy : List (List ℕ) → List HistoryEntry → Type 0
+AreToldWhy names [] = Unit {0}
+AreToldWhy names (e ∷ es) = IsToldWhy names e × AreToldWhy names es

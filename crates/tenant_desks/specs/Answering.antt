@@ -67,8 +67,8 @@ pub record AnswersAlone {R : Type 0} (starts : R → ℕ → AdmittedJob → Res
   pub keeps : KeepsLast keep mid after
 
 -- the runner of all jobs, for the desk at a place
-abbrev pub at_place : {R : Type 0} → ℕ → R → PlacedRunner R
-at_place place runner = record { runner = runner; place = place }
+abbrev pub for_place : {R : Type 0} → ℕ → R → PlacedRunner R
+for_place place runner = record { runner = runner; place = place }
 
 -- The desk that a query goes to answers it, and no other desk changes. A query that goes nowhere is
 -- told why, and nothing changes.
@@ -79,7 +79,7 @@ AnswersWhere starts looks keep (Err code) query desks runner reply after left =
     (reply ≡ refusal_frame code) × (after ≡ desks) × (left ≡ runner)
 AnswersWhere starts looks keep (Ok place) query desks runner reply after left =
     ChangesAt place
-    (AnswersAlone starts looks keep (at_place place runner) (at_place place left) query reply)
+    (AnswersAlone starts looks keep (for_place place runner) (for_place place left) query reply)
     desks after
 
 -- Every finished job is passed to its own desk, and then a query is answered at the desk that it

@@ -9,6 +9,6 @@ abbrev pub placed : ℕ → ℕ → ℕ
 placed number place = number * 1000 + place
 
 -- the same refusal, with the job's number at the pool
-abbrev pub refusal_at : ℕ → SubmitRefusal → SubmitRefusal
-refusal_at place (NotTaken code) = NotTaken code
-refusal_at place (NotStarted job code) = NotStarted (min (placed job place) (2 ^ 64 - 1)) code
+abbrev pub placed_refusal : ℕ → SubmitRefusal → SubmitRefusal
+placed_refusal place (NotTaken code) = NotTaken code
+placed_refusal place (NotStarted job code) = NotStarted (min (placed job place) (2 ^ 64 - 1)) code

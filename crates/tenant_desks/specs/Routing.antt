@@ -13,8 +13,8 @@ place_from place [] name = 0
 place_from place (first ∷ names) name =
     if bytes_eq first name then place else place_from (place + 1) names name
 
-abbrev pub place_of : List (List ℕ) → List ℕ → ℕ
-place_of names name = place_from 1 names name
+abbrev pub tenant_place : List (List ℕ) → List ℕ → ℕ
+tenant_place names name = place_from 1 names name
 
 -- the place of the desk that a door belongs to
 abbrev pub place_behind : Door → ℕ
@@ -32,19 +32,19 @@ desk_behind names door =
 -- the door's own is refused as if nothing was granted to it: 74.
 abbrev pub desk_of_account : List (List ℕ) → Passage → List ℕ → Result ℕ ℕ
 desk_of_account names passage name =
-    if (place_of names name == place_behind passage.door) || passage.may_grant
-    then Ok (place_of names name) else Err 74
+    if (tenant_place names name == place_behind passage.door) || passage.may_grant
+    then Ok (tenant_place names name) else Err 74
 
 -- A job is taken by the door of its tenant's desk alone.
 abbrev pub desk_of_submit : List (List ℕ) → Door → List ℕ → Result ℕ ℕ
 desk_of_submit names door name =
-    if place_of names name == place_behind door then Ok (place_of names name) else Err 74
+    if tenant_place names name == place_behind door then Ok (tenant_place names name) else Err 74
 
 -- The place of the desk that answers a request, or the number of its refusal. A grant goes to the
 -- desk of its name. The number of a job is one of the desk behind the door.
 abbrev pub desk_for : List (List ℕ) → Passage → Result Asked ℕ → Result ℕ ℕ
 desk_for names passage (Err code) = Err code
-desk_for names passage (Ok (grant name amount)) = Ok (place_of names name)
+desk_for names passage (Ok (grant name amount)) = Ok (tenant_place names name)
 desk_for names passage (Ok (account name)) = desk_of_account names passage name
 desk_for names passage (Ok (submit name job)) = desk_of_submit names passage.door name
 desk_for names passage (Ok (status number)) = desk_behind names passage.door

@@ -1,5 +1,6 @@
 //! Finished jobs, each passed to its own desk.
 
+ghost use Rattle.std.specs.Prelude.{◌≡◌, length};
 ghost use Rattle.tenant_desks.specs.Answering.{NotesAtPlace, PassesEnds};
 
 use crate::placed_runner::own_number;
@@ -24,6 +25,7 @@ pub(crate) fn pass_ends<N: Runner>(desks: &mut Vec<Desk>, runner: &mut N)
     requires { N.ready runner.old }
     ensures ready { N.ready runner.new }
     ensures passed { PassesEnds N.takes desks.old.items runner.old desks.new.items runner.new }
+    ensures count { length desks.new.items ≡ length desks.old.items }
 {
     'jobs: loop {
         match runner.take() {

@@ -13,9 +13,9 @@ use streams::PreparedRequest;
 const NO_TENANT: u8 = 74;
 
 /// The place of the desk of a name: 1 for the first of these, and 0 for one that isn't among them.
-pub(crate) fn place_of(names: &[String], name: &str) -> usize
+pub(crate) fn tenant_place(names: &[String], name: &str) -> usize
     requires { length names.now ≤ 256 }
-    ensures place { result ≡ routing.place_of (map string_bytes names.now) name.now }
+    ensures place { result ≡ routing.tenant_place (map string_bytes names.now) name.now }
     ensures within { result ≤ length names.now }
 {
     let mut place = 1;
@@ -62,7 +62,7 @@ fn desk_of_account(names: &[String], passage: Passage, name: &str) -> Result<usi
     ensures desk { result ≡ routing.desk_of_account (map string_bytes names.now) passage name.now }
     ensures within { IfOk result (λ place. place ≤ length names.now) }
 {
-    let place = place_of(names, name);
+    let place = tenant_place(names, name);
     if place == place_behind(passage.door) || passage.may_grant {
         Ok(place)
     } else {
@@ -76,7 +76,7 @@ fn desk_of_submit(names: &[String], door: Door, name: &str) -> Result<usize, u8>
     ensures desk { result ≡ routing.desk_of_submit (map string_bytes names.now) door name.now }
     ensures within { IfOk result (λ place. place ≤ length names.now) }
 {
-    let place = place_of(names, name);
+    let place = tenant_place(names, name);
     if place == place_behind(door) {
         Ok(place)
     } else {
@@ -92,7 +92,7 @@ fn desk_for_request(names: &[String], passage: Passage, request: &Request) -> Re
     ensures within { IfOk result (λ place. place ≤ length names.now) }
 {
     match request {
-        Request::Grant { tenant, .. } => Ok(place_of(names, tenant)),
+        Request::Grant { tenant, .. } => Ok(tenant_place(names, tenant)),
         Request::Account { tenant } => desk_of_account(names, passage, tenant),
         Request::Submit { tenant, .. } => desk_of_submit(names, passage.door, tenant),
         Request::Status { .. } => desk_behind(names, passage.door),

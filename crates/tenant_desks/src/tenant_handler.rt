@@ -3,13 +3,13 @@
 ghost use Rattle.std.specs.Prelude.{◌≡◌, ◌≤◌, ◌<◌, ◌+◌, ℕ, IfOk, List, OnErr, length, map, option_map, string_bytes};
 ghost use Rattle.streams.specs.Prepared.{asked_of};
 ghost use Rattle.tenant_desks.specs.Answering.{AnswersAlone, DeskAnswer, refusal_frame};
-ghost use Rattle.tenant_desks.specs.Placing.{refusal_at};
+ghost use Rattle.tenant_desks.specs.Placing.{placed_refusal};
 ghost use Rattle.tenant_desks.specs.Routing.{desk_for};
 
 use crate::desks::TenantDesks;
 use crate::ends::pass_ends;
 use crate::placed_runner::{PlacedRunner, placed_number};
-use crate::routing::{desk_for, place_of};
+use crate::routing::{desk_for, tenant_place};
 use accounts::Desk;
 use refusal::NoMemory;
 use server_log::{ServerLog, event_of_refusal};
@@ -75,7 +75,7 @@ fn refuse(alloc: Global, code: u8) -> Result<Vec<u8>, NoMemory>
 
 // The same refusal, with the job's number at the runner of all jobs.
 fn refused_at(refusal: Option<SubmitRefusal>, place: u16) -> Option<SubmitRefusal>
-    ensures { result ≡ option_map (refusal_at place) refusal }
+    ensures { result ≡ option_map (placed_refusal place) refusal }
 {
     match refusal {
         Some(SubmitRefusal::NotStarted { job, code }) => Some(SubmitRefusal::NotStarted {
@@ -148,7 +148,7 @@ impl<R: Wait + Clock, N: Runner> SharedHandler<TenantDesks> for TenantHandler<'_
     fn wants_admission(&self, desk: &TenantDesks, request: &Request) -> bool {
         match request {
             Request::Submit { tenant, .. } => {
-                wants_admission(&desk.desks[place_of(&desk.names, tenant)], request)
+                wants_admission(&desk.desks[tenant_place(&desk.names, tenant)], request)
             }
             _ => false,
         }
