@@ -11,7 +11,7 @@ use Rattle.tenant_desks.specs.Placing.{placed}
 use Rattle.tenant_desks.specs.PlacedRunners.{starts_placed, looks_placed, takes_placed}
 use Rattle.tenant_desks.specs.Routing.{desk_for}
 use Rattle.tenant_desks.specs.Tenancies.{Tenancy, fresh_tenancy}
-use Rattle.tenant_desks.specs.Answering.{AnswersAlone, AnswersWhere, DeskAnswer, EndsTaken, KeptRunner, PassesEnds, at_place, none_yet, one_more, tenant_answers}
+use Rattle.tenant_desks.specs.Answering.{AnswersAlone, AnswersWhere, DeskAnswer, EndsTaken, KeptRunner, PassesEnds, for_place, none_yet, one_more, tenant_answers}
 use Rattle.job_pools.specs.declared.limited_runner.LimitedRunner.{LimitedRunner}
 use Rattle.job_pools.specs.Bounded.{looks_within, starts_within, takes_within}
 use Rattle.job_pools.specs.Holds.{StartsBy, TellsBy, TakesBy}
@@ -90,7 +90,7 @@ module _ {R Q : Type 0} (f : R → Q)
     before = h.before;
     was = h.was;
     after = h.after;
-    changed = alone_as keep (at_place place runner) (at_place place left) query reply h.before h.after h.changed;
+    changed = alone_as keep (for_place place runner) (for_place place left) query reply h.before h.after h.changed;
     is = h.is;
   }
 
