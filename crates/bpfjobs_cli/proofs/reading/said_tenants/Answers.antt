@@ -10,7 +10,7 @@ use Rattle.bpfjobs_cli.proofs.FlagLemmas.{all_is}
 use Rattle.bpfjobs_cli.proofs.TurnLemmas.{texts}
 use Rattle.bpfjobs_cli.proofs.reading.said_tenants.Goals as goal
 
-ok_of : List NamedPath → Entered
+abbrev ok_of : List NamedPath → Entered
 ok_of ts = Ok ts
 
 pub returns-in-Some-clause-ok : goal.returns-in-Some-clause-ok
