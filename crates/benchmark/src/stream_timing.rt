@@ -222,6 +222,7 @@ where
                     open_jobs: 0,
                     keep: 0,
                 },
+                tenants: &[],
                 stop: None,
                 log: None,
             };

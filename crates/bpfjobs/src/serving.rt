@@ -49,6 +49,7 @@ where
         workers: options.workers,
         sessions: sessions_of(options),
         bounds: bounds_of(options),
+        tenants: &[],
         stop,
         log,
     };

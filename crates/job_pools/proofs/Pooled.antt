@@ -1,5 +1,5 @@
 -- The jobs that a lasting pool holds, from one state to the next.
-use Rattle.std.proofs.Common.{◌≡◌, ◌≢◌, ◌==◌, ◌≤◌, ◌+◌, ℕ, Bool, true, false, true≢false, List, [], ◌∷◌, Option, Some, None, Result, is_some, option_map, if◌then◌else◌, refl, sym, ap, subst, ◌∙◌, inl, inr, arith}
+use Rattle.std.proofs.Common.{◌≡◌, ◌≢◌, ◌==◌, ◌≤◌, ◌+◌, ◌%◌, ℕ, Bool, true, false, true≢false, List, [], ◌∷◌, Option, Some, None, Result, is_some, option_map, unwrap_or, if◌then◌else◌, refl, sym, ap, subst, ◌∙◌, inl, inr, arith}
 use Rattle.std.proofs.lemmas.Bool.{cases_eq}
 use Rattle.std.proofs.lemmas.Bool.Decides.{nat_tests}
 use Rattle.std.specs.BTreeMap as tree
@@ -14,7 +14,7 @@ use Rattle.job_pools.specs.declared.job_seats.StartedJob.{StartedJob}
 use Rattle.job_pools.specs.Endings.{IsEndOf}
 use Rattle.job_pools.specs.Holding.{HeldJob, IsSeen}
 use Rattle.job_pools.specs.Holds.{AddsBy, GivesBy, IsUnchangedBy, TellsBy, looks_by}
-use Rattle.job_pools.specs.Started.{AreWatched, IsLook, held_of, pooled_at, pooled_count, started_at}
+use Rattle.job_pools.specs.Started.{AreWatched, IsLook, NoneFrom, held_of, pooled_at, pooled_count, started_at}
 use Rattle.job_pools.proofs.Keeping.{SameBut}
 
 -- ---- a job that was entered
@@ -153,3 +153,29 @@ gives_job k k' b b' n seat end sight same number found here is_end gone others c
 pub some_of : {X : Type 0} (o : Option X) → is_some o ≡ true → (x : X) × (o ≡ Some x)
 some_of None e = absurd (true≢false (sym e))
 some_of (Some x) e = (x, refl)
+
+-- ---- lines of numbers
+
+-- a job is entered under a number that its line had not come to, and the line goes on behind it
+pub line_behind : (nexts nexts' : ℕ → Option ℕ) (number : ℕ) (k : List StartedJob) → NoneFrom nexts k → unwrap_or (nexts (number % 1000)) 0 ≤ number → nexts' (number % 1000) ≡ Some (number + 1)
+    → ((n : ℕ) → n ≢ number % 1000 → nexts' n ≡ nexts n) → (n : ℕ) → unwrap_or (nexts' (n % 1000)) 0 ≤ n → (n ≢ number) × (started_at n k ≡ None)
+line_behind nexts nexts' number k none free here others n from =
+    elim (cases_eq (n % 1000) (number % 1000)) [
+      | inl same ↦
+          let at : unwrap_or (nexts' (n % 1000)) 0 ≡ number + 1 = ap (λ m. unwrap_or (nexts' m) 0) same ∙ ap (λ o. unwrap_or o 0) here in
+          let was : unwrap_or (nexts (n % 1000)) 0 ≡ unwrap_or (nexts (number % 1000)) 0 = ap (λ m. unwrap_or (nexts m) 0) same in
+          ((λ is. omega (arith, at, from, is)), none n (omega (arith, at, was, from, free)))
+      | inr apart ↦
+          let at : unwrap_or (nexts' (n % 1000)) 0 ≡ unwrap_or (nexts (n % 1000)) 0 = ap (λ o. unwrap_or o 0) (others (n % 1000) apart) in
+          ((λ is. apart (ap (λ m. m % 1000) is)), none n (omega (arith, at, from)))
+    ]
+
+pub line_taken : (nexts nexts' : ℕ → Option ℕ) (number : ℕ) (k : List StartedJob) → NoneFrom nexts k → unwrap_or (nexts (number % 1000)) 0 ≤ number → nexts' (number % 1000) ≡ Some (number + 1)
+    → ((n : ℕ) → n ≢ number % 1000 → nexts' n ≡ nexts n) → NoneFrom nexts' k
+line_taken nexts nexts' number k none free here others n from = (line_behind nexts nexts' number k none free here others n from).1
+
+pub line_entered : (nexts nexts' : ℕ → Option ℕ) (number : ℕ) (s : StartedJob) (k k' : List StartedJob) → NoneFrom nexts k → unwrap_or (nexts (number % 1000)) 0 ≤ number → nexts' (number % 1000) ≡ Some (number + 1)
+    → ((n : ℕ) → n ≢ number % 1000 → nexts' n ≡ nexts n) → s.number ≡ number → k' ≡ s ∷ k → NoneFrom nexts' k'
+line_entered nexts nexts' number s k k' none free here others numbered entered n from =
+    let behind = line_behind nexts nexts' number k none free here others n from in
+    ap (started_at n) entered ∙ (entered_others s k n (λ is. behind.0 (is ∙ numbered)) ∙ behind.1)

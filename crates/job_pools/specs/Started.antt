@@ -1,5 +1,5 @@
 -- Jobs that were started, and those that a pool holds.
-use Rattle.std.specs.Prelude.{◌≡◌, ◌↔◌, ◌≤◌, ◌+◌, ◌==◌, ℕ, List, [], ◌∷◌, Option, Some, None, option_map, IsTrue, if◌then◌else◌}
+use Rattle.std.specs.Prelude.{◌≡◌, ◌↔◌, ◌≤◌, ◌+◌, ◌%◌, ◌==◌, ℕ, List, [], ◌∷◌, Option, Some, None, option_map, unwrap_or, IsTrue, if◌then◌else◌}
 use mathlib.Core.List.{IsPrefix}
 use Rattle.std.specs.BTreeMap as tree
 use Rattle.std.specs.BTreeMap.{BTreeMap, btree_map_len}
@@ -16,9 +16,11 @@ abbrev pub started_at : ℕ → List StartedJob → Option AdmittedJob
 started_at n [] = None
 started_at n (s ∷ ss) = if n == s.number then Some s.job else started_at n ss
 
--- no job was started under this number or a later one
-abbrev pub NoneFrom : ℕ → List StartedJob → Type 0
-NoneFrom next started = (n : ℕ) → next ≤ n → started_at n started ≡ None
+-- Numbers that leave the same remainder by 1,000 are a line. Where a line goes on from a number, no job
+-- was started under that or a later number of it.
+abbrev pub NoneFrom : (ℕ → Option ℕ) → List StartedJob → Type 0
+NoneFrom nexts started =
+    (n : ℕ) → unwrap_or (nexts (n % 1000)) 0 ≤ n → started_at n started ≡ None
 
 -- a job that was started, with what was seen of its board
 abbrev pub held_of : Option AdmittedJob → ℕ → Option Sight → Option HeldJob

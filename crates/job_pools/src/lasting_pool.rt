@@ -10,6 +10,7 @@ use crate::job_register::{JobRegister, Keeper};
 use crate::job_seats::RegisterId;
 use crate::keys::{forget, note};
 use crate::limited_runner::CountedRunner;
+use crate::lines::take_number;
 use crate::queued_job::{EndedJob, QueuedJob};
 use crate::queues::{Inlet, Outlet};
 use crate::seen_board::{SeenBoard, look_at};
@@ -23,8 +24,10 @@ use streams::Runner;
 /// Hands each job to workers that wait in threads of their own, and takes back what it came to.
 ///
 /// A started job waits in a queue until a worker is free. That one ever is, or a job ever finished,
-/// is nowhere claimed. Numbers have to rise: a start under a number at or below an earlier one is
-/// refused by 81, as are all where no worker could be started, or where 16,384 jobs wait already.
+/// is nowhere claimed. Numbers that leave the same remainder by 1,000 have to rise: a start under a
+/// number at or below an earlier one of these is refused by 81. So up to 1,000 hosts that count their
+/// jobs by themselves can share a pool. All starts are refused so where no worker could be started, or
+/// where 16,384 jobs wait already.
 /// A start that is answered by Ok has put this very job into the queue. A take that gives none has
 /// taken no end of a job that is held.
 #[derive(Drop)]
@@ -32,12 +35,12 @@ pub struct LastingPool<'a, R, J: RegisterId> {
     rt: &'a R,
     register: &'a JobRegister<J>,
     keeper: Keeper<J>,
-    next: u64,
+    nexts: BTreeMap<u64, u64>,
     boards: BTreeMap<u64, SeenBoard>,
     queue: Inlet<QueuedJob<J>>,
     ended: Outlet<EndedJob<J>>,
     has_workers: bool,
-    ghost none_from: { NoneFrom next keeper } by { Prim.hlevel props },
+    ghost none_from: { NoneFrom (tree.get nat_cmp nexts) keeper } by { Prim.hlevel props },
     ghost watched: { AreWatched keeper (tree.get nat_cmp boards) } by { Prim.hlevel props },
 }
 
@@ -62,7 +65,7 @@ impl<'a, R, J: RegisterId> LastingPool<'a, R, J> {
             rt,
             register,
             keeper,
-            next: 0,
+            nexts: BTreeMap::new(alloc),
             boards: BTreeMap::new(alloc),
             queue,
             ended,
@@ -96,19 +99,13 @@ impl<R: Wait, J: RegisterId> Runner for LastingPool<'_, R, J> {
         if !self.has_workers {
             return Err(81);
         }
-        if number < self.next {
-            return Err(81);
-        }
-        let Some(next) = number.checked_add(1) else {
-            return Err(81);
-        };
+        take_number(&mut self.nexts, number)?;
         let Ok((board, post, reader)) = job.board(alloc, number) else {
             return Err(99);
         };
         let Ok(()) = note(&mut self.boards, number, SeenBoard::new(board, reader)) else {
             return Err(99);
         };
-        self.next = next;
         let register = self.register;
         let seat = register.enter(&mut self.keeper, number, &job);
         let queued = QueuedJob {

@@ -22,6 +22,7 @@ pub use pool::PoolRunner;
 mod job_register;
 mod job_seats;
 mod lasting_pool;
+mod lines;
 mod pool_threads;
 mod queued_job;
 mod queues;

@@ -55,7 +55,7 @@ module _ {R Q : Type 0} (f : R → Q)
     tells = t.tells;
   })
 
-  replies_alike : (desk after : Ledger) (runner left : R) (query : Result Asked ℕ) (told : Data) → Replies starts looks desk runner query told after left → Replies starts1 looks1 desk (f runner) query told after (f left)
+  pub replies_alike : (desk after : Ledger) (runner left : R) (query : Result Asked ℕ) (told : Data) → Replies starts looks desk runner query told after left → Replies starts1 looks1 desk (f runner) query told after (f left)
   unfolding Replies
   replies_alike desk after runner left (Err code) told r = (r.0, r.1, ap f r.2)
   replies_alike desk after runner left (Ok (grant name amount)) told r = (r.0, ap f r.1)

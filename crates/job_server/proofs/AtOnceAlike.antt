@@ -59,7 +59,7 @@ module _ {R Q : Type 0} (f : R → Q) where
       (starts_alike : (r : R) (n : ℕ) (j : AdmittedJob) (x : Result (Unit {0}) ℕ) (s : R) → starts r n j x s → starts1 (f r) n j x (f s))
       (looks_alike : (r : R) (n : ℕ) (p : Progress) (s : R) → looks r n p s → looks1 (f r) n p (f s))
       (takes_alike : (r : R) (x : Option (ℕ × Result Report ℕ)) (s : R) → takes r x s → takes1 (f r) x (f s)) where
-    within_alike : (l : LimitedRunner R) (n : ℕ) (j : AdmittedJob) (x : Result (Unit {0}) ℕ) (m : LimitedRunner R) → starts_within (λ r. held1 (f r)) starts l n j x m → starts_within held1 starts1 (limited l) n j x (limited m)
+    pub within_alike : (l : LimitedRunner R) (n : ℕ) (j : AdmittedJob) (x : Result (Unit {0}) ℕ) (m : LimitedRunner R) → starts_within (λ r. held1 (f r)) starts l n j x m → starts_within held1 starts1 (limited l) n j x (limited m)
     within_alike l n j x m h = (
       elim h.0 [
         | inl full ↦ inl (full.0, full.1, ap f full.2)

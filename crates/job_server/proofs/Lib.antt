@@ -12,3 +12,6 @@ pub mod RefusedResults
 pub mod FromSubmit
 pub mod NoFlag
 pub mod KeptLemmas
+pub mod ByDoors
+pub mod TenantAlike
+pub mod DeskStarts

@@ -5,3 +5,5 @@ pub mod Listening
 pub mod EndToEnd
 pub mod Payloads
 pub mod Stopping
+pub mod TenantSockets
+pub mod TenantServing

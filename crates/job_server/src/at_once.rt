@@ -199,6 +199,7 @@ fn serve_named<
         workers: _,
         sessions,
         bounds,
+        tenants: _,
         stop,
         log,
     } = plan;

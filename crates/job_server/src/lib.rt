@@ -38,10 +38,13 @@ mod at_once;
 mod entrance;
 mod plan;
 mod serving;
+mod serving_desks;
+mod tenant_door;
 
 pub use at_once::serve_at_once;
 pub use plan::Plan;
 pub use serving::{serve_listener, serve_port};
+pub use tenant_door::TenantDoor;
 
 // the meaning of the replies, from a submit to its result
 mod laws;
@@ -50,7 +53,10 @@ pub use laws::{numbers_rise, payloads_lead_to_payloads, results_come_from_submit
 
 // the same by sockets in the file system
 mod local_listener;
+mod serving_doors;
 mod serving_sockets;
+mod tenants_listener;
 
 pub use local_listener::{GrantsListener, LocalListener, listen_at};
 pub use serving_sockets::serve_sockets;
+pub use tenants_listener::{AskedSocket, TenantsListener};

@@ -96,8 +96,8 @@ pub struct GrantsListener {
     by_grants: bool,
 }
 
-// The next connection of a socket, if one waits.
-fn waiting_at(listener: &PolledListener) -> Result<Option<TcpStream>, Failed> {
+/// The next connection of a socket, if one waits.
+pub(crate) fn waiting_at(listener: &PolledListener) -> Result<Option<TcpStream>, Failed> {
     match listener.accept() {
         Ok((stream, _)) => {
             let stream = TcpStream::from(OwnedFd::from(stream));

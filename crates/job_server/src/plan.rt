@@ -1,7 +1,9 @@
-//! A server's plan: its workers and connections, its host's bounds, its flag and its log.
+//! A server's plan: its workers and connections, its host's bounds, its tenants, its flag and its
+//! log.
 
 use crate::bounds::Bounds;
 use crate::stop_flag::StopFlag;
+use crate::tenant_door::TenantDoor;
 use server_log::ServerLog;
 
 /// A server's plan.
@@ -15,6 +17,9 @@ pub struct Plan<'a> {
     pub sessions: u64,
     /// What its host bounds.
     pub bounds: Bounds,
+    /// The tenants with a socket of their own, at most 256, in the order of their numbers. Each has a
+    /// desk of its own. None: all have one desk.
+    pub tenants: &'a [TenantDoor],
     /// No further connection is taken once this is raised. Each that was taken is over once all that
     /// was read of it is answered.
     pub stop: Option<&'a StopFlag>,

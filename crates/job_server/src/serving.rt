@@ -1,25 +1,22 @@
 //! A server, whose jobs a pool runs that lasts.
 
-ghost use Rattle.std.specs.Prelude.{◌≡◌, ◌≤◌, ◌⊎◌, [], All, Err, is_some};
-ghost use Rattle.job_server.specs.AtOnce.{IsServing};
-ghost use Rattle.job_server.specs.Listening.{AreOf, CameBy};
+ghost use Rattle.std.specs.Prelude.{◌≡◌, ◌≤◌, ◌⊎◌, [], Err, is_some, length};
+ghost use Rattle.job_server.specs.TenantServing.{IsServingAt, IsServingBy};
 ghost use Rattle.job_server.specs.declared.fault.ServeFault.TheVariants as fault;
 ghost use Rattle.streams.specs.declared.fault.StreamFault.TheVariants as stream;
 
 use crate::address::address_of;
-use crate::at_once::{NO_MEMORY, serve_at_once};
+use crate::at_once::NO_MEMORY;
 use crate::fault::ServeFault;
-use crate::keeping_handler::KeepingHandler;
 use crate::listener::Listener;
 use crate::plan::Plan;
+use crate::serving_desks::{serve_at_desk, serve_at_desks};
 use crate::timed_listener::TimedListener;
 use crate::timed_reader::Waiting;
-use accounts::Desk;
 use job_pools::{
     EndedJob, Inlet, JobRegister, Keeper, LastingPool, LimitedRunner, NewRegister, Outlet,
     QueuedJob, RegisterId, queue_to_many, queue_to_one, start_workers,
 };
-use server_log::LoggedHandler;
 use std::alloc::Global;
 use std::marker::Brand;
 use std::net::{Net, TcpListener, TcpStream};
@@ -57,9 +54,9 @@ fn serve_on_pool<
 ) -> Result<(), ServeFault>
     requires keeper { keeper ≡ [] }
     requires workers { (1 ≤ plan.workers) × (plan.workers ≤ 16) }
-    ensures { (s : IsServing plan.entry.bounds plan.entry.sessions (is_some plan.entry.stop) result)
-        × AreOf L.opens L.fails listener s.serving.opened
-        × All (λ c. CameBy L.opens L.passage c.passage) s.serving.closed }
+    requires tenants { length plan.tenants.now ≤ 256 }
+    ensures { IsServingAt L.opens L.fails L.passage listener plan.entry.tenants.now plan.entry.bounds
+        plan.entry.sessions (is_some plan.entry.stop) result }
 {
     let Queues {
         queue,
@@ -69,13 +66,12 @@ fn serve_on_pool<
     } = queues;
     let started = start_workers(rt, scope, jobs, endings, plan.workers, plan.log);
     let pool = LastingPool::new(rt, alloc, register, keeper, queue, ended, started > 0);
-    let bounds = plan.bounds;
-    let kept = KeepingHandler::new(LimitedRunner::new(pool, bounds.open_jobs), bounds.keep);
-    let handler = LoggedHandler::new(rt, plan.log, kept);
-    let desk = Desk::new(alloc);
-    // the pool goes at the end, and with it the workers' queue
-    let served = serve_at_once(rt, alloc, listener, desk, handler, plan);
-    served.2
+    let runner = LimitedRunner::new(pool, plan.bounds.open_jobs);
+    if plan.tenants.is_empty() {
+        serve_at_desk(rt, alloc, listener, runner, plan)
+    } else {
+        serve_at_desks(rt, alloc, listener, runner, plan)
+    }
 }
 
 // The same with the threads in a scope of their own.
@@ -94,14 +90,15 @@ fn serve_in_scope<
 ) -> Result<(), ServeFault>
     requires keeper { keeper ≡ [] }
     requires workers { (1 ≤ plan.workers) × (plan.workers ≤ 16) }
-    ensures { (s : IsServing plan.entry.bounds plan.entry.sessions (is_some plan.entry.stop) result)
-        × AreOf L.opens L.fails listener s.serving.opened
-        × All (λ c. CameBy L.opens L.passage c.passage) s.serving.closed }
+    requires tenants { length plan.tenants.now ≤ 256 }
+    ensures { IsServingAt L.opens L.fails L.passage listener plan.entry.tenants.now plan.entry.bounds
+        plan.entry.sessions (is_some plan.entry.stop) result }
 {
     let Plan {
         workers,
         sessions,
         bounds,
+        tenants,
         stop,
         log,
     } = plan;
@@ -109,15 +106,15 @@ fn serve_in_scope<
         thread::scope_env(),
         rt,
         |scope| -> Result<(), ServeFault>
-            requires { (1 ≤ workers) × (workers ≤ 16) × (keeper ≡ []) }
-            ensures { (s : IsServing bounds sessions (is_some stop.entry) result)
-                × AreOf L.opens L.fails listener s.serving.opened
-                × All (λ c. CameBy L.opens L.passage c.passage) s.serving.closed }
+            requires { (1 ≤ workers) × (workers ≤ 16) × (keeper ≡ []) × (length tenants.now ≤ 256) }
+            ensures { IsServingAt L.opens L.fails L.passage listener tenants.now bounds sessions
+                (is_some stop.entry) result }
         {
             let plan = Plan {
                 workers,
                 sessions,
                 bounds,
+                tenants,
                 stop,
                 log,
             };
@@ -140,9 +137,9 @@ fn serve_registered<
 ) -> Result<(), ServeFault>
     requires named { new_register ≡ J.table }
     requires workers { (1 ≤ plan.workers) × (plan.workers ≤ 16) }
-    ensures { ((s : IsServing plan.entry.bounds plan.entry.sessions (is_some plan.entry.stop) result)
-        × AreOf L.opens L.fails listener s.serving.opened
-        × All (λ c. CameBy L.opens L.passage c.passage) s.serving.closed)
+    requires tenants { length plan.tenants.now ≤ 256 }
+    ensures { IsServingAt L.opens L.fails L.passage listener plan.entry.tenants.now plan.entry.bounds
+        plan.entry.sessions (is_some plan.entry.stop) result
         ⊎ (result ≡ Err (fault.Connection stream.NoMemory)) }
 {
     let (register, keeper) = new_register.named::<J>();
@@ -162,9 +159,10 @@ fn serve_registered<
 }
 
 /// Serves so many connections of the listener as the plan says, in as many threads at once as its
-/// bounds say, on a new desk. Its jobs run on the plan's workers, which start once and last: a small
-/// job is run whole by one of them, a large one on as many threads. It returns once the last
-/// connection and the last job have ended, if they do.
+/// bounds say, on a new desk. Where tenants have doors, each has a new desk of its own, and that one
+/// is for everybody else. Jobs run on the plan's workers, which start once and last: a small job is run
+/// whole by one of them, a large one on as many threads. It returns once the last connection and the
+/// last job have ended, if they do.
 ///
 /// While as many jobs are open as the bounds allow, a start is refused by 81. The reports of all but
 /// the last jobs are forgotten, as many as the bounds keep. A connection whose reads wait longer than
@@ -178,10 +176,10 @@ pub fn serve_listener<R: Threads + Wait + Clock + Sync, L: Listener + Send + Dro
     listener: L,
     plan: Plan<'_>,
 ) -> Result<(), ServeFault>
-    requires { (1 ≤ plan.workers) × (plan.workers ≤ 16) }
-    ensures { ((s : IsServing plan.entry.bounds plan.entry.sessions (is_some plan.entry.stop) result)
-        × AreOf L.opens L.fails listener s.serving.opened
-        × All (λ c. CameBy L.opens L.passage c.passage) s.serving.closed)
+    requires workers { (1 ≤ plan.workers) × (plan.workers ≤ 16) }
+    requires tenants { length plan.tenants.now ≤ 256 }
+    ensures { IsServingAt L.opens L.fails L.passage listener plan.entry.tenants.now plan.entry.bounds
+        plan.entry.sessions (is_some plan.entry.stop) result
         ⊎ (result ≡ Err (fault.Connection stream.NoMemory)) }
 {
     let Ok(new_register) = NewRegister::new(alloc) else {
@@ -196,8 +194,10 @@ pub fn serve_listener<R: Threads + Wait + Clock + Sync, L: Listener + Send + Dro
 pub fn serve_port<
     R: Net<Stream = TcpStream, Listener = TcpListener> + Threads + Wait + Clock + Sync,
 >(rt: &R, alloc: Global, port: u16, plan: Plan<'_>) -> Result<(), ServeFault>
-    requires { (1 ≤ plan.workers) × (plan.workers ≤ 16) }
-    ensures { IsServing plan.entry.bounds plan.entry.sessions (is_some plan.entry.stop) result
+    requires workers { (1 ≤ plan.workers) × (plan.workers ≤ 16) }
+    requires tenants { length plan.tenants.now ≤ 256 }
+    ensures { IsServingBy plan.entry.tenants.now plan.entry.bounds plan.entry.sessions
+        (is_some plan.entry.stop) result
         ⊎ (result ≡ Err (fault.Connection stream.NoMemory)) ⊎ (result ≡ Err fault.Socket) }
 {
     let Ok(listener) = TcpListener::bind(rt, address_of(port)) else {

@@ -1,7 +1,8 @@
 //! A server by sockets in the file system.
 
-ghost use Rattle.std.specs.Prelude.{◌≡◌, ◌≤◌, ◌⊎◌, Err, is_some};
+ghost use Rattle.std.specs.Prelude.{◌≡◌, ◌≤◌, ◌⊎◌, [], Err, is_some, length};
 ghost use Rattle.job_server.specs.AtOnce.{IsServing};
+ghost use Rattle.job_server.specs.TenantServing.{IsServingBy};
 ghost use Rattle.job_server.specs.declared.fault.ServeFault.TheVariants as fault;
 ghost use Rattle.streams.specs.declared.fault.StreamFault.TheVariants as stream;
 
@@ -9,6 +10,7 @@ use crate::fault::ServeFault;
 use crate::local_listener::{GrantsListener, LocalListener, listen_at};
 use crate::plan::Plan;
 use crate::serving::serve_listener;
+use crate::serving_doors::serve_doors;
 use crate::timed_listener::TimedListener;
 use std::alloc::Global;
 use std::fs;
@@ -25,7 +27,8 @@ fn serve_one<R: Net + Files + Threads + Wait + Clock + Sync>(
     socket: &str,
     plan: Plan<'_>,
 ) -> Result<(), ServeFault>
-    requires { (1 ≤ plan.workers) × (plan.workers ≤ 16) }
+    requires workers { (1 ≤ plan.workers) × (plan.workers ≤ 16) }
+    requires tenants { plan.tenants.now ≡ [] }
     ensures { IsServing plan.entry.bounds plan.entry.sessions (is_some plan.entry.stop) result
         ⊎ (result ≡ Err (fault.Connection stream.NoMemory)) ⊎ (result ≡ Err fault.Socket) }
 {
@@ -46,7 +49,8 @@ fn serve_two<R: Net + Files + Threads + Wait + Clock + Sync>(
     grants: &str,
     plan: Plan<'_>,
 ) -> Result<(), ServeFault>
-    requires { (1 ≤ plan.workers) × (plan.workers ≤ 16) }
+    requires workers { (1 ≤ plan.workers) × (plan.workers ≤ 16) }
+    requires tenants { plan.tenants.now ≡ [] }
     ensures { IsServing plan.entry.bounds plan.entry.sessions (is_some plan.entry.stop) result
         ⊎ (result ≡ Err (fault.Connection stream.NoMemory)) ⊎ (result ≡ Err fault.Socket) }
 {
@@ -71,7 +75,8 @@ fn serve_two<R: Net + Files + Threads + Wait + Clock + Sync>(
 
 /// Listens on a socket at this path, and serves as [`serve_listener`](crate::serve_listener) does.
 /// Where there is a path for grants, it listens there too, and a grant of any other connection is
-/// answered by 73 and changes nothing. The sockets are removed at the end. It answers
+/// answered by 73 and changes nothing. It listens at the doors of the plan's tenants too: whoever comes
+/// by one is this tenant, and may not grant. The sockets are removed at the end. It answers
 /// [`ServeFault::Socket`] where a path can't be listened at: where somebody listens there, or
 /// something stands there that is no socket.
 pub fn serve_sockets<R: Net + Files + Threads + Wait + Clock + Sync>(
@@ -81,10 +86,15 @@ pub fn serve_sockets<R: Net + Files + Threads + Wait + Clock + Sync>(
     grants: Option<&str>,
     plan: Plan<'_>,
 ) -> Result<(), ServeFault>
-    requires { (1 ≤ plan.workers) × (plan.workers ≤ 16) }
-    ensures { IsServing plan.entry.bounds plan.entry.sessions (is_some plan.entry.stop) result
+    requires workers { (1 ≤ plan.workers) × (plan.workers ≤ 16) }
+    requires tenants { length plan.tenants.now ≤ 256 }
+    ensures { IsServingBy plan.entry.tenants.now plan.entry.bounds plan.entry.sessions
+        (is_some plan.entry.stop) result
         ⊎ (result ≡ Err (fault.Connection stream.NoMemory)) ⊎ (result ≡ Err fault.Socket) }
 {
+    if !plan.tenants.is_empty() {
+        return serve_doors(rt, alloc, socket, grants, plan);
+    }
     match grants {
         Some(grants) => serve_two(rt, alloc, socket, grants, plan),
         None => serve_one(rt, alloc, socket, plan),

@@ -1,0 +1,141 @@
+-- Desks of tenants over two runner types.
+use Rattle.std.proofs.Common.{◌≡◌, ℕ, Bool, List, Option, Some, None, Result, Ok, Err, inl, inr, refl, ap, ◌∙◌}
+use Rattle.credit_book.specs.declared.book.Report.{Report}
+use Rattle.credit_book.specs.declared.board.Progress.{Progress}
+use Rattle.job_core.specs.Admitted.{AdmittedJob}
+use Rattle.accounts.specs.Ledgers.{Ledger}
+use Rattle.sessions.specs.Grammar.{Asked}
+use Rattle.shared_desk.specs.Histories.{Query}
+use Rattle.tenant_desks.specs.declared.placed_runner.PlacedRunner.{PlacedRunner}
+use Rattle.tenant_desks.specs.Placing.{placed}
+use Rattle.tenant_desks.specs.PlacedRunners.{starts_placed, looks_placed, takes_placed}
+use Rattle.tenant_desks.specs.Routing.{desk_for}
+use Rattle.tenant_desks.specs.Tenancies.{Tenancy, fresh_tenancy}
+use Rattle.tenant_desks.specs.Answering.{AnswersAlone, AnswersWhere, DeskAnswer, EndsTaken, KeptRunner, PassesEnds, for_place, none_yet, one_more, tenant_answers}
+use Rattle.job_pools.specs.declared.limited_runner.LimitedRunner.{LimitedRunner}
+use Rattle.job_pools.specs.Bounded.{looks_within, starts_within, takes_within}
+use Rattle.job_pools.specs.Holds.{StartsBy, TellsBy, TakesBy}
+use Rattle.job_pools.specs.Started.{pooled_at, pooled_count}
+use Rattle.job_server.specs.declared.bounds.Bounds.{Bounds}
+use Rattle.job_server.specs.declared.fault.ServeFault.{ServeFault}
+use Rattle.job_server.specs.AtOnce.{IsServingFrom, Pool}
+use Rattle.job_server.specs.TenantServing.{TenantHosted, hosted_tenant_answers, new_tenant_host}
+use Rattle.job_server.proofs.Alike.{replies_alike}
+use Rattle.job_server.proofs.AtOnceAlike.{limited, serving_alike, within_alike}
+
+module _ {R Q : Type 0} (f : R → Q)
+    (starts : R → ℕ → AdmittedJob → Result (Unit {0}) ℕ → R → Type 0) (looks : R → ℕ → Progress → R → Type 0) (takes : R → Option (ℕ × Result Report ℕ) → R → Type 0)
+    (starts1 : Q → ℕ → AdmittedJob → Result (Unit {0}) ℕ → Q → Type 0) (looks1 : Q → ℕ → Progress → Q → Type 0) (takes1 : Q → Option (ℕ × Result Report ℕ) → Q → Type 0)
+    (starts_alike : (r : R) (n : ℕ) (o : AdmittedJob) (x : Result (Unit {0}) ℕ) (s : R) → starts r n o x s → starts1 (f r) n o x (f s))
+    (looks_alike : (r : R) (n : ℕ) (p : Progress) (s : R) → looks r n p s → looks1 (f r) n p (f s))
+    (takes_alike : (r : R) (x : Option (ℕ × Result Report ℕ)) (s : R) → takes r x s → takes1 (f r) x (f s)) where
+  -- a runner for one desk, with what its runner comes to
+  abbrev pub placed_as : PlacedRunner R → PlacedRunner Q
+  placed_as p = record { runner = f p.runner; place = p.place }
+
+  -- a handler, with what its runner comes to
+  abbrev pub kept_as : KeptRunner R → KeptRunner Q
+  kept_as k = record { runner = f k.runner; keep = k.keep }
+
+  -- desks and a handler, with what its runner comes to
+  abbrev pub desks_as : Tenancy × KeptRunner R → Tenancy × KeptRunner Q
+  desks_as s = (s.0, kept_as s.1)
+
+  placed_starts : (r : PlacedRunner R) (n : ℕ) (o : AdmittedJob) (x : Result (Unit {0}) ℕ) (s : PlacedRunner R) → starts_placed starts r n o x s → starts_placed starts1 (placed_as r) n o x (placed_as s)
+  placed_starts r n o x s h = (
+    elim h.0 [
+      | inl fits ↦ inl (fits.0, starts_alike r.runner (placed n r.place) o x s.runner fits.1)
+      | inr over ↦ inr (over.0, over.1, ap f over.2)
+    ],
+    h.1,
+  )
+
+  placed_looks : (r : PlacedRunner R) (n : ℕ) (p : Progress) (s : PlacedRunner R) → looks_placed looks r n p s → looks_placed looks1 (placed_as r) n p (placed_as s)
+  placed_looks r n p s h = (
+    elim h.0 [
+      | inl fits ↦ inl (fits.0, looks_alike r.runner (placed n r.place) p s.runner fits.1)
+      | inr over ↦ inr (over.0, over.1, ap f over.2)
+    ],
+    h.1,
+  )
+
+  placed_takes : (r : PlacedRunner R) (x : Option (ℕ × Result Report ℕ)) (s : PlacedRunner R) → takes_placed r x s → takes_placed (placed_as r) x (placed_as s)
+  placed_takes r x s h = (h.0, ap placed_as h.1)
+
+  taken_as : (desks : List Ledger) (runner : R) (after : List Ledger) (last : R) → EndsTaken takes desks runner after last → EndsTaken takes1 desks (f runner) after (f last)
+  taken_as desks runner after last none_yet = none_yet
+  taken_as desks runner after last (one_more ds r number outcome s es before takes_one notes) =
+      one_more ds (f r) number outcome (f s) es (taken_as desks runner ds r before) (takes_alike r (Some (number, outcome)) s takes_one) notes
+
+  passes_as : (desks : List Ledger) (runner : R) (after : List Ledger) (left : R) → PassesEnds takes desks runner after left → PassesEnds takes1 desks (f runner) after (f left)
+  passes_as desks runner after left p = record {
+    last = f p.last;
+    taken = taken_as desks runner after p.last p.taken;
+    none_left = takes_alike p.last None left p.none_left;
+  }
+
+  alone_as : (keep : ℕ) (r s : PlacedRunner R) (query : Result Asked ℕ) (reply : List ℕ) (before after : Ledger) → AnswersAlone starts looks keep r s query reply before after → AnswersAlone starts1 looks1 keep (placed_as r) (placed_as s) query reply before after
+  alone_as keep r s query reply before after a = record {
+    mid = a.mid;
+    told = a.told;
+    replies = replies_alike placed_as (starts_placed starts) (looks_placed looks) takes_placed (starts_placed starts1) (looks_placed looks1) takes_placed placed_starts placed_looks placed_takes before a.mid r s query _ a.replies;
+    frame = a.frame;
+    keeps = a.keeps;
+  }
+
+  where_as : (keep : ℕ) (place : Result ℕ ℕ) (query : Result Asked ℕ) (desks : List Ledger) (runner : R) (reply : List ℕ) (after : List Ledger) (left : R)
+      → AnswersWhere starts looks keep place query desks runner reply after left → AnswersWhere starts1 looks1 keep place query desks (f runner) reply after (f left)
+  where_as keep (Err code) query desks runner reply after left h = (h.0, h.1, ap f h.2)
+  where_as keep (Ok place) query desks runner reply after left h = record {
+    before = h.before;
+    was = h.was;
+    after = h.after;
+    changed = alone_as keep (for_place place runner) (for_place place left) query reply h.before h.after h.changed;
+    is = h.is;
+  }
+
+  pub desks_alike : (s : Tenancy × KeptRunner R) (query : Query) (reply : List ℕ) (t : Tenancy × KeptRunner R)
+      → tenant_answers starts looks takes s query reply t → tenant_answers starts1 looks1 takes1 (desks_as s) query reply (desks_as t)
+  desks_alike s query reply t a = (
+    record {
+      mid = a.0.mid;
+      rest = f a.0.rest;
+      passed = passes_as s.0.desks s.1.runner a.0.mid a.0.rest a.0.passed;
+      answered = where_as s.1.keep (desk_for s.0.names query.passage query.asked) query.asked a.0.mid a.0.rest reply t.0.desks t.1.runner a.0.answered;
+    },
+    a.1,
+    a.2,
+  )
+
+-- desks and a pool within its host's bounds, with what the pool comes to
+abbrev pub hosted_as : {R : Type 0} → (R → Pool) → Tenancy × KeptRunner (LimitedRunner R) → TenantHosted
+hosted_as f s = (s.0, record { runner = limited f s.1.runner; keep = s.1.keep })
+
+host_is : {R : Type 0} (f : R → Pool) (names : List (List ℕ)) (bounds : Bounds) (l : LimitedRunner R) (pool : R) → l.runner ≡ pool → l.limit ≡ bounds.open_jobs
+    → hosted_as f (fresh_tenancy names, record { runner = l; keep = bounds.keep }) ≡ new_tenant_host names bounds (f pool)
+host_is {R} f names bounds l pool is_pool is_limit =
+    let host : Pool → ℕ → TenantHosted = λ p n. (fresh_tenancy names, record { runner = record { runner = p; limit = n }; keep = bounds.keep }) in
+    ap (λ (p : R). host (f p) l.limit) is_pool ∙ ap (λ (n : ℕ). host (f pool) n) is_limit
+
+module _ {R : Type 0} (f : R → Pool) (starts : R → ℕ → AdmittedJob → Result (Unit {0}) ℕ → R → Type 0) (looks : R → ℕ → Progress → R → Type 0) (takes : R → Option (ℕ × Result Report ℕ) → R → Type 0)
+    (starts_alike : (r : R) (n : ℕ) (j : AdmittedJob) (x : Result (Unit {0}) ℕ) (s : R) → starts r n j x s → StartsBy pooled_at pooled_count (f r) n j x (f s))
+    (looks_alike : (r : R) (n : ℕ) (p : Progress) (s : R) → looks r n p s → TellsBy pooled_at pooled_count (f r) n p (f s))
+    (takes_alike : (r : R) (x : Option (ℕ × Result Report ℕ)) (s : R) → takes r x s → TakesBy pooled_at pooled_count (f r) x (f s)) where
+  -- the pool's own state is forgotten, but for the jobs that it was given and the boards that it watches
+  pub tenants_serving : (names : List (List ℕ)) (bounds : Bounds) (l : LimitedRunner R) (pool : R) (end : Tenancy × KeptRunner (LimitedRunner R)) (sessions : ℕ) (may_stop : Bool) (outcome : Result (Unit {0}) ServeFault)
+      → l.runner ≡ pool → l.limit ≡ bounds.open_jobs
+      → (serving : IsServingFrom (tenant_answers (starts_within (λ r. pooled_count (f r)) starts) (looks_within looks) (takes_within takes)) (λ s. s ≡ (fresh_tenancy names, record { runner = l; keep = bounds.keep })) end sessions may_stop outcome)
+      → (hosted : IsServingFrom hosted_tenant_answers (λ s. s ≡ new_tenant_host names bounds (f pool)) (hosted_as f end) sessions may_stop outcome) × (hosted.opened ≡ serving.opened) × (hosted.closed ≡ serving.closed)
+  unfolding serving_alike
+  tenants_serving names bounds l pool end sessions may_stop outcome is_pool is_limit serving = (
+    serving_alike (hosted_as f) _ hosted_tenant_answers
+        (λ s q reply t. desks_alike (limited f) (starts_within (λ r. pooled_count (f r)) starts) (looks_within looks) (takes_within takes)
+        (starts_within pooled_count (StartsBy pooled_at pooled_count)) (looks_within (TellsBy pooled_at pooled_count)) (takes_within (TakesBy pooled_at pooled_count))
+        (within_alike f pooled_count (StartsBy pooled_at pooled_count) (TellsBy pooled_at pooled_count) (TakesBy pooled_at pooled_count) starts looks takes starts_alike looks_alike takes_alike)
+        (λ l n p m g. (looks_alike l.runner n p m.runner g.0, g.1)) (λ l x m g. (takes_alike l.runner x m.runner g.0, g.1)) s q reply t)
+        (λ s. s ≡ (fresh_tenancy names, record { runner = l; keep = bounds.keep })) (λ s. s ≡ new_tenant_host names bounds (f pool))
+        (λ s is. ap (hosted_as f) is ∙ host_is f names bounds l pool is_pool is_limit)
+        end sessions may_stop outcome serving,
+    refl,
+    refl,
+  )

@@ -1,0 +1,18 @@
+use Rattle.std.proofs.Common.{refl, inr}
+use Rattle.job_server.proofs.ByDoors.{served_plain}
+use Rattle.job_server.proofs.serving_sockets.serve_two.Goals.{in-Ok-new, in-Err}
+use Rattle.job_server.proofs.serving_sockets.serve_two.Goals as goal
+
+pub returns-in_default : goal.returns-in_default
+returns-in_default g c = inr (inr refl)
+
+pub returns-in_default-listen_at : goal.returns-in_default-listen_at
+returns-in_default-listen_at g c = inr (inr refl)
+
+pub returns : goal.returns
+returns g c =
+    elim c.match-new.branch [
+      | in-Ok-new w ↦
+          rw w.served-is (served_plain _ _ _ _ _ _ _ _ _ c.requires.tenants w.serve_listener-served.ensures)
+      | in-Err w ↦ rw w.served-is (inr (inr refl))
+    ]

@@ -1,0 +1,70 @@
+-- Servers of which some tenants may have a door, and a desk, of their own.
+use Rattle.std.specs.Prelude.{◌≡◌, ℕ, Bool, false, List, [], ◌∷◌, All, map, string_bytes, Result}
+use Rattle.accounts.specs.Ledgers.{Ledger}
+use Rattle.shared_desk.specs.Histories.{Query}
+use Rattle.shared_desk.specs.declared.door.Door.TheVariants.{Tenant}
+use Rattle.shared_desk.specs.declared.passage.Passage.{Passage}
+use Rattle.tenant_desks.specs.Tenancies.{Tenancy, fresh_tenancy}
+use Rattle.tenant_desks.specs.Answering.{KeptRunner, tenant_answers}
+use Rattle.job_pools.specs.Holds.{StartsBy, TellsBy, TakesBy}
+use Rattle.job_pools.specs.Started.{pooled_at, pooled_count}
+use Rattle.job_pools.specs.Bounded.{looks_within, starts_within, takes_within}
+use Rattle.job_pools.specs.declared.limited_runner.LimitedRunner.{LimitedRunner}
+use Rattle.job_server.specs.declared.bounds.Bounds.{Bounds}
+use Rattle.job_server.specs.declared.fault.ServeFault.{ServeFault}
+use Rattle.job_server.specs.declared.tenant_door.TenantDoor.{TenantDoor}
+use Rattle.job_server.specs.AtOnce.{IsServing, IsServingFrom, Pool}
+use Rattle.job_server.specs.Listening.{AreOf, CameBy}
+
+-- the names of the tenants that have a door
+abbrev pub door_names : List TenantDoor → List (List ℕ)
+door_names doors = map (λ (d : TenantDoor). string_bytes d.name) doors
+
+-- the desks, and a pool within its host's bounds that runs the jobs of all
+abbrev pub TenantHosted : Type 0
+TenantHosted = Tenancy × KeptRunner (LimitedRunner Pool)
+
+abbrev pub hosted_tenant_answers : TenantHosted → Query → List ℕ → TenantHosted → Type 0
+hosted_tenant_answers =
+    tenant_answers (starts_within pooled_count (StartsBy pooled_at pooled_count))
+    (looks_within (TellsBy pooled_at pooled_count)) (takes_within (TakesBy pooled_at pooled_count))
+
+-- a new desk for each of these tenants and one for everybody else, and a pool with no job, within
+-- these bounds
+abbrev pub new_tenant_host : List (List ℕ) → Bounds → Pool → TenantHosted
+new_tenant_host names bounds pool = (
+  fresh_tenancy names,
+  record { runner = record { runner = pool; limit = bounds.open_jobs }; keep = bounds.keep },
+)
+
+-- So many connections are served, first on new desks and with no job. Jobs run on a pool that lasts,
+-- within the bounds.
+pub record IsServingTenants (names : List (List ℕ)) (bounds : Bounds) (sessions : ℕ)
+    (may_stop : Bool) (outcome : Result (Unit {0}) ServeFault) : Type 0 where
+  pub first : Pool
+  pub none : (first.0 ≡ []) × (first.1.entries ≡ [])
+  pub end : TenantHosted
+  pub serving : IsServingFrom hosted_tenant_answers (λ s. s ≡ new_tenant_host names bounds first) end
+      sessions may_stop outcome
+
+-- what comes by a tenant's own door may not grant
+abbrev pub GrantsByNoTenant : Passage → Type 0
+GrantsByNoTenant passage = (n : ℕ) → passage.door ≡ Tenant n → passage.may_grant ≡ false
+
+-- A server with these doors of tenants: where there is none, one desk serves all.
+abbrev pub IsServingBy : List TenantDoor → Bounds → ℕ → Bool → Result (Unit {0}) ServeFault → Type 0
+IsServingBy [] bounds sessions may_stop outcome = IsServing bounds sessions may_stop outcome
+IsServingBy (door ∷ doors) bounds sessions may_stop outcome =
+    (s : IsServingTenants (door_names (door ∷ doors)) bounds sessions may_stop outcome)
+    × All (λ c. GrantsByNoTenant c.passage) s.serving.closed
+
+-- The same, and the connections are this listener's, each by a passage that it gave.
+abbrev pub IsServingAt : {L : Type 0} → (L → L → Type 0) → (L → L → Type 0) → (L → Passage) → L
+    → List TenantDoor → Bounds → ℕ → Bool → Result (Unit {0}) ServeFault → Type 0
+IsServingAt opens fails passage_of listener [] bounds sessions may_stop outcome =
+    (s : IsServing bounds sessions may_stop outcome) × AreOf opens fails listener s.serving.opened
+    × All (λ c. CameBy opens passage_of c.passage) s.serving.closed
+IsServingAt opens fails passage_of listener (door ∷ doors) bounds sessions may_stop outcome =
+    (s : IsServingTenants (door_names (door ∷ doors)) bounds sessions may_stop outcome)
+    × AreOf opens fails listener s.serving.opened
+    × All (λ c. CameBy opens passage_of c.passage) s.serving.closed

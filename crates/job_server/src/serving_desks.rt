@@ -1,0 +1,81 @@
+//! What answers a server's connections: one desk, or one for each tenant that has a door.
+
+ghost use Rattle.std.specs.Prelude.{◌≡◌, ◌≤◌, All, is_some, length};
+ghost use Rattle.accounts.specs.Ledgers.{Ledger};
+ghost use Rattle.shared_desk.specs.Histories.{by_any_passage};
+ghost use Rattle.tenant_desks.specs.Answering.{KeptRunner, tenant_answers};
+ghost use Rattle.tenant_desks.specs.Tenancies.{Tenancy, fresh_tenancy};
+ghost use Rattle.job_server.specs.AtOnce.{IsServingFrom, new_desk};
+ghost use Rattle.job_server.specs.Kept.{answers_keeping};
+ghost use Rattle.job_server.specs.Listening.{AreOf, CameBy};
+ghost use Rattle.job_server.specs.TenantServing.{door_names};
+ghost use Rattle.job_server.specs.declared.keeping_handler.KeepingHandler.{KeepingHandler};
+
+use crate::at_once::{NO_MEMORY, serve_at_once};
+use crate::fault::ServeFault;
+use crate::keeping_handler::KeepingHandler;
+use crate::listener::Listener;
+use crate::plan::Plan;
+use crate::tenant_door::names_of;
+use accounts::Desk;
+use server_log::LoggedHandler;
+use std::alloc::Global;
+use std::sync::Wait;
+use std::thread::Threads;
+use std::time::Clock;
+use streams::Runner;
+use tenant_desks::{TenantDesks, TenantHandler};
+
+/// Serves the connections at one new desk, whose jobs this runner runs.
+pub(crate) fn serve_at_desk<
+    's,
+    R: Threads + Wait + Clock + Sync,
+    L: Listener + Send + Drop,
+    N: Runner + Send + Drop,
+>(rt: &'s R, alloc: Global, listener: L, runner: N, plan: Plan<'s>) -> Result<(), ServeFault>
+    requires { N.ready runner }
+    ensures { (end : Ledger × KeepingHandler N)
+        × (s : IsServingFrom (by_any_passage (answers_keeping N.starts N.looks N.takes))
+        (λ s. s ≡ (new_desk, record { runner = runner; keep = plan.entry.bounds.keep })) end
+        plan.entry.sessions (is_some plan.entry.stop) result)
+        × AreOf L.opens L.fails listener s.opened
+        × All (λ c. CameBy L.opens L.passage c.passage) s.closed }
+{
+    let kept = KeepingHandler::new(runner, plan.bounds.keep);
+    let handler = LoggedHandler::new(rt, plan.log, kept);
+    let desk = Desk::new(alloc);
+    // the runner goes at the end, and with it its workers' queue
+    let served = serve_at_once(rt, alloc, listener, desk, handler, plan);
+    served.2
+}
+
+/// Serves the connections at new desks: one for each of the plan's tenants, and one for everybody
+/// else. The runner runs the jobs of all.
+pub(crate) fn serve_at_desks<
+    's,
+    R: Threads + Wait + Clock + Sync,
+    L: Listener + Send + Drop,
+    N: Runner + Send + Drop,
+>(rt: &'s R, alloc: Global, listener: L, runner: N, plan: Plan<'s>) -> Result<(), ServeFault>
+    requires ready { N.ready runner }
+    requires tenants { length plan.tenants.now ≤ 256 }
+    ensures { (end : Tenancy × KeptRunner N)
+        × (s : IsServingFrom (tenant_answers N.starts N.looks N.takes)
+        (λ s. s ≡ (
+          fresh_tenancy (door_names plan.entry.tenants.now),
+          record { runner = runner; keep = plan.entry.bounds.keep },
+        )) end
+        plan.entry.sessions (is_some plan.entry.stop) result)
+        × AreOf L.opens L.fails listener s.opened
+        × All (λ c. CameBy L.opens L.passage c.passage) s.closed }
+{
+    let Ok(names) = names_of(alloc, plan.tenants) else {
+        return Err(NO_MEMORY);
+    };
+    let Ok(desks) = TenantDesks::new(alloc, &names) else {
+        return Err(NO_MEMORY);
+    };
+    let handler = TenantHandler::new(rt, plan.log, runner, plan.bounds.keep);
+    let served = serve_at_once(rt, alloc, listener, desks, handler, plan);
+    served.2
+}

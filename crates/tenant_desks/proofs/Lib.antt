@@ -1,0 +1,5 @@
+mod PlacedLemmas
+mod AmongLemmas
+mod ChangedDesks
+mod SentEntries
+mod AloneLemmas

@@ -1,0 +1,6 @@
+pub mod Placing
+pub mod PlacedRunners
+pub mod Routing
+pub mod Tenancies
+pub mod Answering
+pub mod Alone

@@ -1,0 +1,29 @@
+//! What each tenant has of a server that many share: a server to itself.
+
+ghost use Rattle.std.specs.Prelude.{◌≡◌, ◌+◌, ℕ, List, Some, length, slice_get};
+ghost use Rattle.accounts.specs.Ledgers.{Ledger};
+ghost use Rattle.shared_desk.specs.Histories.{HistoryEntry};
+ghost use Rattle.tenant_desks.specs.Alone.{AreToldWhy, IsAloneHistory, IsTenantHistory, sent_to};
+ghost use Rattle.tenant_desks.specs.Answering.{KeptRunner};
+ghost use Rattle.tenant_desks.specs.Tenancies.{Tenancy};
+
+use streams::Runner;
+
+/// Each tenant has the server to itself. After every history there is one desk for each tenant, and
+/// one for everybody else. The entries that go to one of them, in order, are a history of that desk
+/// alone, which leads to it. A request that goes nowhere is told why.
+pub fn each_tenant_is_alone<N: Runner>()
+    ensures desks { (names : List (List ℕ)) (keep : ℕ) (history : List HistoryEntry)
+        (end : Tenancy × KeptRunner N)
+        → IsTenantHistory N.starts N.looks N.takes names keep history end
+        → length end.0.desks ≡ length names + 1 }
+    ensures alone { (names : List (List ℕ)) (keep : ℕ) (history : List HistoryEntry)
+        (end : Tenancy × KeptRunner N) (place : ℕ) (desk : Ledger)
+        → IsTenantHistory N.starts N.looks N.takes names keep history end
+        → slice_get end.0.desks place ≡ Some desk
+        → IsAloneHistory N.starts N.looks N.takes place keep (sent_to names place history) desk }
+    ensures refused { (names : List (List ℕ)) (keep : ℕ) (history : List HistoryEntry)
+        (end : Tenancy × KeptRunner N)
+        → IsTenantHistory N.starts N.looks N.takes names keep history end
+        → AreToldWhy names history }
+{}

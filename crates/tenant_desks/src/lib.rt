@@ -1,0 +1,24 @@
+//! Tenants with a desk of their own: each is answered by it alone, and one runner runs all jobs.
+#![tactic(auto)]
+
+// the desks, and which of them a request goes to
+mod desks;
+mod routing;
+
+pub use desks::TenantDesks;
+
+// the runner that all desks share
+mod ends;
+mod placed_runner;
+
+pub use placed_runner::PlacedRunner;
+
+// what answers
+mod tenant_handler;
+
+pub use tenant_handler::TenantHandler;
+
+// what each tenant has of it
+mod laws;
+
+pub use laws::each_tenant_is_alone;
