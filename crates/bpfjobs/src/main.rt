@@ -9,6 +9,7 @@ ghost use Rattle.std.specs.Prelude.{◌≤◌};
 mod server_threads;
 mod serving;
 mod showing;
+mod tenant_file;
 
 use bpfjobs_cli::{
     Command, CommandRequest, FAILED, UNREAD, perform, perform_alone, print_usage, request, words,
@@ -23,6 +24,7 @@ use std::sync::Wait;
 use std::thread::Threads;
 use std::{io, thread};
 use streams::Tap;
+use tenant_file::with_file;
 
 // Reads the input, prints the answer of a command that needs no thread, and gives the status. It
 // returns if the input and the output do.
@@ -90,6 +92,10 @@ fn main(rt: HostRuntime) -> ExitCode {
         Command::Serve(server) => server,
         Command::Run { workers } => return ExitCode::from(run(&rt, alloc, workers)),
         command => return ExitCode::from(answer(&rt, alloc, command)),
+    };
+    let server = match with_file(&rt, alloc, server) {
+        Ok(server) => server,
+        Err(status) => return ExitCode::from(status),
     };
     let Ok((handles, helpers)) = handles_of(alloc, &server) else {
         return ExitCode::from(FAILED);

@@ -1,9 +1,12 @@
 //! The command `serve`: requests over TCP, or over a socket in the file system.
 
+ghost use Rattle.std.specs.Prelude.{◌≡◌, IfOk, map, string_bytes};
 ghost use Rattle.bpfjobs_cli.specs.Commands.{IsServeInRange};
+ghost use Rattle.bpfjobs_cli.specs.Tenants.{tenants_in};
 
-use bpfjobs_cli::{Endpoint, Serve, ServeOptions};
-use job_server::{Bounds, Plan, StopFlag, serve_port, serve_sockets, status_of};
+use bpfjobs_cli::{Endpoint, FAILED, Serve, ServeOptions, TenantSocket};
+use job_server::{Bounds, Plan, StopFlag, TenantDoor, serve_port, serve_sockets, status_of};
+use refusal::NoMemory;
 use server_log::ServerLog;
 use std::alloc::Global;
 use std::fs::Files;
@@ -30,8 +33,28 @@ fn sessions_of(options: ServeOptions) -> u64 {
     }
 }
 
+// The doors of tenants, in their order: each has its tenant's name and path.
+fn doors_of(alloc: Global, tenants: &[TenantSocket]) -> Result<Vec<TenantDoor>, NoMemory>
+    ensures { IfOk result (λ doors. map (λ d. (string_bytes d.name, string_bytes d.path))
+        doors.items ≡ tenants_in tenants.now) }
+{
+    let mut doors = Vec::new(alloc);
+    for tenant in tenants {
+        let Ok(name) = String::from_str(alloc, &tenant.name) else {
+            return Err(NoMemory);
+        };
+        let Ok(path) = String::from_str(alloc, &tenant.path) else {
+            return Err(NoMemory);
+        };
+        let Ok(()) = doors.push(TenantDoor { name, path }) else {
+            return Err(NoMemory);
+        };
+    }
+    Ok(doors)
+}
+
 /// Takes as many connections as the options say, and gives the status: 0 once all have ended, 3 where
-/// one of them or the socket failed. It ends earlier once the flag is raised, if there is one. A log,
+/// one of them or a socket failed. It ends earlier once the flag is raised, if there is one. A log,
 /// if there is one, is told of it.
 pub fn serve<R>(
     rt: &R,
@@ -45,11 +68,14 @@ where
     requires { IsServeInRange server.now }
 {
     let options = server.options;
+    let Ok(doors) = doors_of(alloc, &server.tenants.tenants) else {
+        return FAILED;
+    };
     let plan = Plan {
         workers: options.workers,
         sessions: sessions_of(options),
         bounds: bounds_of(options),
-        tenants: &[],
+        tenants: &doors,
         stop,
         log,
     };

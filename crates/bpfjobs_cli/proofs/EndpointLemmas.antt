@@ -11,4 +11,5 @@ pub endpoint_usage : (words : List Text) (name : Text) (rows : List Row) (u : Us
     → name ≡ codes "serve" → IsEndpointUsage rows u → IsUsage u words
 endpoint_usage words name rows (usage.Refused error) none found is refused = absurd refused
 endpoint_usage words name rows (usage.Endpoint fault) none found is refused = (none, rows, found ∙ ap (λ (n : Text). Some (n, rows)) is, refused)
+endpoint_usage words name rows (usage.Tenant word fault) none found is refused = (none, rows, found ∙ ap (λ (n : Text). Some (n, rows)) is, refused)
 endpoint_usage words name rows usage.NoMemory none found is refused = tt

@@ -1,11 +1,12 @@
 -- What clap's getters tell of a flag.
-use Rattle.std.proofs.Common.{◌≡◌, ◌↔◌, Bool, false, eqb, Option, Some, None, IsTrue, option_map, unwrap_or, sym, ap, ◌∙◌}
+use Rattle.std.proofs.Common.{◌≡◌, ◌↔◌, List, map, Bool, false, eqb, Option, Some, None, IsTrue, option_map, unwrap_or, sym, ap, ◌∙◌}
 use Rattle.std.specs.Cmp.Lexicographic.{pointwise}
 use Rattle.std.proofs.lemmas.Bool.Decides.{Decides-eqb}
 use Rattle.std.proofs.lemmas.Slice.Eq.{slice_eq-Decides}
 use Rattle.clap.specs.declared.parser.matches.Found.{Found}
-use Rattle.clap.specs.Words.{Text, first_of, first_value, rows_of}
-use Rattle.clap.proofs.WalkLemmas.{first_value-rows}
+use Rattle.std.specs.Borrow.{Bor}
+use Rattle.clap.specs.Words.{Text, all_of, first_of, first_value, matched_of, raw_values, rows_of}
+use Rattle.clap.proofs.WalkLemmas.{first_value-rows, raw_values-rows}
 
 pub first_is : {X : Type 0} (now : X → Text) (f : Found) (id : Text) (o : Option X) → option_map now o ≡ first_value f id → first_of id (rows_of f) ≡ option_map now o
 first_is now f id o e = sym (e ∙ first_value-rows f id)
@@ -21,3 +22,8 @@ flag_some found text value b is e =
 
 pub flag_none : (found : Option Text) (value : Text) → found ≡ None → IsTrue false ↔ (found ≡ Some value)
 flag_none found value is = (λ t. absurd cc, λ there. let clash = sym is ∙ there in absurd cc)
+
+-- the values of an argument that may be given more than once
+pub all_is : (f : Found) (id : Text) (o : Option (Bor (List (Bor Text)))) → option_map (λ s. map (λ v. v.now) s.now) o ≡ option_map raw_values (matched_of f id)
+    → all_of id (rows_of f) ≡ option_map (λ s. map (λ v. v.now) s.now) o
+all_is f id o e = sym (e ∙ raw_values-rows f id)

@@ -7,3 +7,8 @@ pub mod SubcommandLemmas
 pub mod GivenUp
 pub mod Spelling
 pub mod Telling
+pub mod NameLemmas
+pub mod TenantLemmas
+pub mod EnteredLemmas
+pub mod TurnLemmas
+pub mod RangeLemmas

@@ -1,21 +1,24 @@
 -- The command that a subcommand and its matches are.
-use Rattle.std.specs.Prelude.{◌≡◌, ◌==◌, ◌↔◌, ◌⊎◌, ℕ, ◌≤◌, if◌then◌else◌, IfSome, Bool, IsTrue, List, [], codes, Option, Some, None, is_some, option_map, string_bytes, true}
+use Rattle.std.specs.Prelude.{◌≡◌, ◌==◌, ◌↔◌, ◌⊎◌, ℕ, ◌≤◌, if◌then◌else◌, IfSome, Bool, IsTrue, List, [], codes, Ok, unwrap_or, Option, Some, None, is_some, option_map, string_bytes, true}
 use Rattle.std.specs.Str.Parse.{IsNumeral, digits_value, without_leading_plus}
 use Rattle.clap.specs.Faults.{fault_of}
-use Rattle.clap.specs.Words.{HasKind, Row, Text, first_of, kind_of, one_of, subcommand_of, takes}
+use Rattle.clap.specs.Words.{HasKind, Row, Text, all_of, first_of, kind_of, one_of, subcommand_of, takes}
 use Rattle.clap.specs.declared.error.kind.ErrorKind.TheVariants.{DisplayHelp, DisplayVersion, OutOfMemory}
 use Rattle.bpfjobs_cli.specs.declared.commands.Command.{Command}
 use Rattle.bpfjobs_cli.specs.declared.commands.Command.TheVariants.{Assemble, Disassemble, Verify, Play, Run, Serve}
 use Rattle.bpfjobs_cli.specs.declared.commands.Endpoint.{Endpoint}
 use Rattle.bpfjobs_cli.specs.declared.commands.Endpoint.TheVariants.{Port, Socket}
 use Rattle.bpfjobs_cli.specs.declared.commands.EndpointFault.{EndpointFault}
-use Rattle.bpfjobs_cli.specs.declared.commands.EndpointFault.TheVariants.{Missing, Two, GrantsWithPort}
+use Rattle.bpfjobs_cli.specs.declared.commands.EndpointFault.TheVariants.{Missing, Two, GrantsWithPort, TenantsWithPort}
 use Rattle.bpfjobs_cli.specs.declared.commands.Serve.{Serve as Server}
 use Rattle.bpfjobs_cli.specs.declared.commands.ServeOptions.{ServeOptions}
 use Rattle.bpfjobs_cli.specs.declared.commands.Shown.{Shown}
 use Rattle.bpfjobs_cli.specs.declared.commands.Usage.{Usage}
+use Rattle.bpfjobs_cli.specs.declared.tenant_socket.TenantFault.{TenantFault}
+use Rattle.bpfjobs_cli.specs.declared.tenant_socket.TenantWords.{TenantWords}
 use Rattle.bpfjobs_cli.specs.declared.commands.Usage.TheVariants as usage
 use Rattle.bpfjobs_cli.specs.Program.{bpfjobs_app}
+use Rattle.bpfjobs_cli.specs.Tenants.{AreTenants, IsWrongWord, entered, tenants_in, words_said}
 
 -- the value of an argument, read as a number from low to high; clap reads a leading plus
 pub record IsNumberIn (rows : List Row) (id : Text) (low high number : ℕ) : Type 0 where
@@ -53,6 +56,24 @@ IsEndpointOf rows (Socket path grants) =
     × (first_of (codes "socket") rows ≡ Some (string_bytes path))
     × (first_of (codes "grants") rows ≡ option_map string_bytes grants)
 
+-- the words of the arguments `--tenant`, in their order
+abbrev pub tenant_words : List Row → List Text
+tenant_words rows = unwrap_or (all_of (codes "tenant") rows) []
+
+-- they name a tenant, or a file of tenants
+abbrev pub NameTenants : List Row → Type 0
+NameTenants rows =
+    (is_some (all_of (codes "tenant") rows) ≡ true) ⊎ HasText rows (codes "tenants")
+
+-- the tenants with sockets of their own: none beside a port
+abbrev pub AreTenantsOf : List Row → Endpoint → TenantWords → Type 0
+AreTenantsOf rows (Port port) tenants =
+    (all_of (codes "tenant") rows ≡ None) × (first_of (codes "tenants") rows ≡ None)
+    × (tenants.tenants.items ≡ []) × (tenants.file ≡ None)
+AreTenantsOf rows (Socket path grants) tenants =
+    (entered [] 0 (words_said (tenant_words rows)) ≡ Ok (tenants_in tenants.tenants.items))
+    × (first_of (codes "tenants") rows ≡ option_map string_bytes tenants.file)
+
 -- the words name no endpoint
 abbrev pub IsEndpointFault : List Row → EndpointFault → Type 0
 IsEndpointFault rows Missing =
@@ -61,6 +82,15 @@ IsEndpointFault rows Two = ((port : ℕ) × IsPortOf rows port) × HasText rows 
 IsEndpointFault rows GrantsWithPort =
     ((port : ℕ) × IsPortOf rows port) × (first_of (codes "socket") rows ≡ None)
     × HasText rows (codes "grants")
+IsEndpointFault rows TenantsWithPort =
+    ((port : ℕ) × IsPortOf rows port) × (first_of (codes "socket") rows ≡ None)
+    × (first_of (codes "grants") rows ≡ None) × NameTenants rows
+
+-- a word names no tenant, beside a socket
+pub record IsTenantFault (rows : List Row) (word : Text) (f : TenantFault) : Type 0 where
+  pub portless : one_of (codes "port") rows ≡ None
+  pub socket : HasText rows (codes "socket")
+  pub wrong : IsWrongWord (tenant_words rows) word f
 
 -- Connections that are taken in all: as many as the words say. Where they say none, it is one, and
 -- any number where there are several at once.
@@ -87,6 +117,7 @@ pub record AreOptionsOf (rows : List Row) (options : ServeOptions) : Type 0 wher
 -- a server
 pub record IsServeOf (rows : List Row) (serve : Server) : Type 0 where
   pub endpoint : IsEndpointOf rows serve.endpoint
+  pub tenants : AreTenantsOf rows serve.endpoint serve.tenants
   pub options : AreOptionsOf rows serve.options
 
 abbrev pub IsCommandOf : Text → List Row → Command → Type 0
@@ -130,6 +161,7 @@ IsEndpointInRange (Socket path grants) = Unit {0}
 -- a server's numbers are in range
 pub record IsServeInRange (serve : Server) : Type 0 where
   pub endpoint : IsEndpointInRange serve.endpoint
+  pub tenants : AreTenants (tenants_in serve.tenants.tenants.items)
   pub workers : (1 ≤ serve.options.workers) × (serve.options.workers ≤ 16)
   pub sessions : IfSome serve.options.sessions (λ n. (1 ≤ n) × (n ≤ 1000000))
   pub clients : (1 ≤ serve.options.clients) × (serve.options.clients ≤ 64)
@@ -146,14 +178,15 @@ IsInRange Play = Unit {0}
 IsInRange (Run workers) = (1 ≤ workers) × (workers ≤ 16)
 IsInRange (Serve serve) = IsServeInRange serve
 
--- the options of a server are refused for want of memory, or for their endpoint
+-- the options of a server are refused for want of memory, for their endpoint, or for a tenant
 abbrev pub IsEndpointUsage : List Row → Usage → Type 0
 IsEndpointUsage rows (usage.Refused error) = ⊥
 IsEndpointUsage rows (usage.Endpoint fault) = IsEndpointFault rows fault
+IsEndpointUsage rows (usage.Tenant word f) = IsTenantFault rows (string_bytes word) f
 IsEndpointUsage rows usage.NoMemory = Unit {0}
 
 -- Words that clap takes are refused for want of memory, or where a server's options name no
--- endpoint. Any others are refused for want of memory, or for a fault that clap finds in them.
+-- endpoint or a word names no tenant. Any others are refused for want of memory, or for a fault that clap finds in them.
 abbrev pub IsUsage : Usage → List Text → Type 0
 IsUsage (usage.Refused error) words =
     (takes bpfjobs_app words ≡ true → kind_of error ≡ OutOfMemory)
@@ -161,10 +194,15 @@ IsUsage (usage.Refused error) words =
 IsUsage (usage.Endpoint fault) words =
     (fault_of bpfjobs_app words ≡ []) × (rows : List Row)
     × (subcommand_of bpfjobs_app words ≡ Some (codes "serve", rows)) × IsEndpointFault rows fault
+IsUsage (usage.Tenant word f) words =
+    (fault_of bpfjobs_app words ≡ []) × (rows : List Row)
+    × (subcommand_of bpfjobs_app words ≡ Some (codes "serve", rows))
+    × IsTenantFault rows (string_bytes word) f
 IsUsage usage.NoMemory words = Unit {0}
 
 -- the words ask for help, or for the version: that is no mistake
 abbrev pub AsksHelp : Usage → Type 0
 AsksHelp (usage.Refused error) = (kind_of error ≡ DisplayHelp) ⊎ (kind_of error ≡ DisplayVersion)
 AsksHelp (usage.Endpoint fault) = ⊥
+AsksHelp (usage.Tenant word f) = ⊥
 AsksHelp usage.NoMemory = ⊥

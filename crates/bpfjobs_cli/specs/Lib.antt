@@ -1,4 +1,6 @@
 pub mod Program
+pub mod Tenants
+pub mod Entries
 pub mod Commands
 pub mod Printed
 pub mod Hexadecimal

@@ -1,7 +1,7 @@
 -- The program's command line, in clap's plain words.
 use Rattle.std.specs.Prelude.{[], ◌∷◌, codes, pos, Some, true}
 use Rattle.clap.specs.Words.{App, Rule, new_app, new_rule, with_rule, with_subcommand}
-use Rattle.clap.specs.declared.builder.action.ArgAction.TheVariants.{SetTrue}
+use Rattle.clap.specs.declared.builder.action.ArgAction.TheVariants.{Append, SetTrue}
 use Rattle.clap.specs.declared.builder.value_parser.ValueParser.TheVariants as vp
 
 abbrev pub need_rule : Rule
@@ -24,6 +24,19 @@ socket_rule = record (new_rule (codes "socket")) { long = Some (codes "socket");
 
 abbrev pub grants_rule : Rule
 grants_rule = record (new_rule (codes "grants")) { long = Some (codes "grants"); value_names = 1 }
+
+abbrev pub tenant_rule : Rule
+tenant_rule = record (new_rule (codes "tenant")) {
+  long = Some (codes "tenant");
+  value_names = 1;
+  action = Some Append;
+}
+
+abbrev pub tenants_rule : Rule
+tenants_rule = record (new_rule (codes "tenants")) {
+  long = Some (codes "tenants");
+  value_names = 1;
+}
 
 abbrev pub workers_rule : Rule
 workers_rule = record (new_rule (codes "workers")) {
@@ -108,8 +121,8 @@ run_app = with_rule (with_rule (new_app (codes "run")) workers_rule) tree_rule
 abbrev pub serve_app : App
 serve_app =
     with_rule (with_rule (with_rule (with_rule (with_rule (with_rule (with_rule (with_rule
-    (with_rule (with_rule (with_rule (new_app (codes "serve")) port_rule) socket_rule)
-    grants_rule) workers_rule) sessions_rule) clients_rule) timeout_rule) open_jobs_rule)
+    (with_rule (with_rule (with_rule (with_rule (with_rule (new_app (codes "serve")) port_rule)
+    socket_rule) grants_rule) tenant_rule) tenants_rule) workers_rule) sessions_rule) clients_rule) timeout_rule) open_jobs_rule)
     keep_rule) until_eof_rule) log_rule
 
 -- the program without its commands, which tells its version

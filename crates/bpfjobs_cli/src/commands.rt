@@ -1,5 +1,6 @@
 //! The meaning of a command line's words: a command with its numbers, or why there is none.
 
+use crate::tenant_socket::{TenantFault, TenantWords};
 use clap::Error;
 use std::alloc::AllocError;
 
@@ -20,10 +21,12 @@ pub enum Command {
     Serve(Serve),
 }
 
-/// A server: where it listens, and its options.
+/// A server: where it listens, for which tenants apart, and its options.
 #[derive(Debug, PartialEq, Eq, Drop)]
 pub struct Serve {
     pub endpoint: Endpoint,
+    /// The tenants with sockets of their own: none beside a port.
+    pub tenants: TenantWords,
     pub options: ServeOptions,
 }
 
@@ -88,6 +91,8 @@ pub enum EndpointFault {
     Two,
     /// A socket for grants beside a port.
     GrantsWithPort,
+    /// A socket for a tenant beside a port.
+    TenantsWithPort,
 }
 
 impl EndpointFault {
@@ -97,6 +102,7 @@ impl EndpointFault {
             EndpointFault::Missing => "error: serve needs --port <PORT> or --socket <PATH>",
             EndpointFault::Two => "error: serve takes --port or --socket, and not both",
             EndpointFault::GrantsWithPort => "error: serve takes --grants with --socket alone",
+            EndpointFault::TenantsWithPort => "error: serve takes tenants with --socket alone",
         }
     }
 }
@@ -108,6 +114,8 @@ pub enum Usage {
     Refused(Error),
     /// clap takes them, but they name no endpoint of a server.
     Endpoint(EndpointFault),
+    /// clap takes them, but this word names no tenant beside those before it.
+    Tenant(String, TenantFault),
     /// A growth was refused: 99.
     NoMemory,
 }
@@ -128,6 +136,7 @@ impl Usage {
         match self {
             Usage::Refused(error) => { if error.use_stderr() { MISTAKEN } else { 0 } }
             Usage::Endpoint(_) => MISTAKEN,
+            Usage::Tenant(_, _) => MISTAKEN,
             Usage::NoMemory => MISTAKEN,
         }
     }

@@ -7,6 +7,9 @@ mod commands;
 mod process;
 mod program;
 mod reading;
+mod tenant_socket;
+mod tenant_text;
+mod tenants;
 mod texts;
 
 pub use commands::{
@@ -14,6 +17,8 @@ pub use commands::{
 };
 pub use process::{FAILED, UNREAD, print_usage, words};
 pub use reading::{command, request};
+pub use tenant_socket::{TenantFault, TenantSocket, TenantWords, WrongTenant};
+pub use tenants::with_lines;
 
 // what is printed
 mod answer;

@@ -36,6 +36,10 @@ pub fn print_usage<R: Print + Eprint>(rt: &R, usage: Usage) -> u8
             let text = fault.text();
             let _ = eprintln!(rt; "{text}");
         }
+        Usage::Tenant(word, fault) => {
+            let text = fault.text();
+            let _ = eprintln!(rt; "error: --tenant {word}: {text}");
+        }
         Usage::NoMemory => {}
     }
     usage.status()

@@ -3,7 +3,7 @@
 ghost use Rattle.std.specs.Prelude.{◌≡◌, false, codes, IfOk};
 ghost use Rattle.clap.specs.Words.{app_of, new_app, rule_of};
 ghost use Rattle.clap.specs.declared.builder.command.Command.TheViews.{out-Command as fields_of};
-ghost use Rattle.bpfjobs_cli.specs.Program.{need_rule, port_rule, socket_rule, grants_rule, workers_rule, sessions_rule, clients_rule, timeout_rule, open_jobs_rule, keep_rule, until_eof_rule, log_rule, trace_rule, trace_json_rule, tree_rule, named_app, verify_app, play_app, run_app, serve_app, bpfjobs_app, with_text_commands};
+ghost use Rattle.bpfjobs_cli.specs.Program.{need_rule, port_rule, socket_rule, grants_rule, tenant_rule, tenants_rule, workers_rule, sessions_rule, clients_rule, timeout_rule, open_jobs_rule, keep_rule, until_eof_rule, log_rule, trace_rule, trace_json_rule, tree_rule, named_app, verify_app, play_app, run_app, serve_app, bpfjobs_app, with_text_commands};
 
 use crate::texts;
 use clap::{Arg, ArgAction, Command};
@@ -50,6 +50,27 @@ fn grants<'a>(alloc: Global) -> Arg<'a>
         .long("grants")
         .value_name("PATH")
         .help(texts::GRANTS)
+}
+
+fn tenant<'a>(alloc: Global) -> Arg<'a>
+    ensures rule { rule_of result ≡ tenant_rule }
+    ensures local { result.global ≡ false }
+{
+    Arg::new(alloc, "tenant")
+        .long("tenant")
+        .value_name("NAME=PATH")
+        .help(texts::TENANT)
+        .action(ArgAction::Append)
+}
+
+fn tenants<'a>(alloc: Global) -> Arg<'a>
+    ensures rule { rule_of result ≡ tenants_rule }
+    ensures local { result.global ≡ false }
+{
+    Arg::new(alloc, "tenants")
+        .long("tenants")
+        .value_name("FILE")
+        .help(texts::TENANTS)
 }
 
 fn workers<'a>(alloc: Global) -> Arg<'a>
@@ -233,6 +254,8 @@ fn serve<'a>(alloc: Global) -> Result<Command<'a>, AllocError>
         .arg(port(alloc))?
         .arg(socket(alloc))?
         .arg(grants(alloc))?
+        .arg(tenant(alloc))?
+        .arg(tenants(alloc))?
         .arg(workers(alloc))?
         .arg(sessions(alloc))?
         .arg(clients(alloc))?

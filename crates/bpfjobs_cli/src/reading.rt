@@ -1,15 +1,20 @@
 //! The command that words say.
 
-ghost use Rattle.std.specs.Prelude.{◌≡◌, ℕ, map, codes, IfOk, IfErr, Option, Some, option_map, string_bytes, List};
+ghost use Rattle.std.specs.Prelude.{◌≡◌, [], Ok, ℕ, map, codes, IfOk, IfErr, Option, Some, option_map, string_bytes, List};
 ghost use Rattle.clap.specs.Words.{Row, Text, found_of, first_of, rows_of, subcommand_of};
 ghost use Rattle.bpfjobs_cli.specs.declared.commands.ServeOptions.{ServeOptions};
 ghost use Rattle.bpfjobs_cli.specs.Program.{bpfjobs_app};
-ghost use Rattle.bpfjobs_cli.specs.Commands.{AreOptionsOf, IsCommandOf, IsEndpointOf, IsEndpointUsage, IsFlagOf, IsInRange, IsMaybeNumber, IsNumberIn, IsServeOf, IsShownOf, IsUsage, SaysCommand, SaysServe, sessions_said};
+ghost use Rattle.bpfjobs_cli.specs.declared.commands.Endpoint.TheVariants.{Port};
+ghost use Rattle.bpfjobs_cli.specs.Tenants.{entered, tenants_in, words_said};
+ghost use Rattle.bpfjobs_cli.specs.Entries.{IsWordUsage};
+ghost use Rattle.bpfjobs_cli.specs.Commands.{AreOptionsOf, AreTenantsOf, IsCommandOf, IsEndpointOf, IsEndpointUsage, IsFlagOf, IsInRange, IsMaybeNumber, IsNumberIn, IsServeOf, IsShownOf, IsUsage, SaysCommand, SaysServe, sessions_said, tenant_words};
 
 use crate::commands::{
     Command, CommandRequest, Endpoint, EndpointFault, Serve, ServeOptions, Shown, Usage,
 };
 use crate::program::bpfjobs;
+use crate::tenant_socket::{TenantSocket, TenantWords};
+use crate::tenants::tenants_of_words;
 use clap::ArgMatches;
 use std::alloc::{AllocError, Global};
 
@@ -89,6 +94,69 @@ fn endpoint(alloc: Global, matches: &ArgMatches<'_>) -> Result<Endpoint, Usage>
     }
 }
 
+// The tenants of the words `--tenant`, in their order.
+fn said_tenants(alloc: Global, matches: &ArgMatches<'_>) -> Result<Vec<TenantSocket>, Usage>
+    ensures ok { IfOk result (λ tenants.
+        entered [] 0 (words_said (tenant_words (rows_of (found_of matches.now))))
+        ≡ Ok (tenants_in tenants.items)) }
+    ensures err { IfErr result (λ usage.
+        IsWordUsage (tenant_words (rows_of (found_of matches.now))) usage) }
+{
+    match matches.get_strs("tenant") {
+        Some(words) => tenants_of_words(alloc, words),
+        None => Ok(Vec::new(alloc)),
+    }
+}
+
+// No tenants, beside a port: the words name none, and no file of them.
+fn no_tenants(
+    alloc: Global,
+    matches: &ArgMatches<'_>,
+    port: u16,
+) -> Result<TenantWords, Usage>
+    requires { IsEndpointOf (rows_of (found_of matches.now)) (Port port) }
+    ensures ok { IfOk result (λ tenants.
+        AreTenantsOf (rows_of (found_of matches.now)) (Port port) tenants) }
+    ensures err { IfErr result (λ usage.
+        IsEndpointUsage (rows_of (found_of matches.now)) usage) }
+{
+    let fault = EndpointFault::TenantsWithPort;
+    match matches.get_strs("tenant") {
+        Some(_) => Err(Usage::Endpoint(fault)),
+        None => match matches.get_str("tenants") {
+            Some(_) => Err(Usage::Endpoint(fault)),
+            None => Ok(TenantWords {
+                tenants: Vec::new(alloc),
+                file: None,
+            }),
+        },
+    }
+}
+
+// The tenants with sockets of their own, where a server listens there.
+fn tenants(
+    alloc: Global,
+    matches: &ArgMatches<'_>,
+    endpoint: &Endpoint,
+) -> Result<TenantWords, Usage>
+    requires { IsEndpointOf (rows_of (found_of matches.now)) endpoint.now }
+    ensures ok { IfOk result (λ tenants.
+        AreTenantsOf (rows_of (found_of matches.now)) endpoint.now tenants) }
+    ensures err { IfErr result (λ usage.
+        IsEndpointUsage (rows_of (found_of matches.now)) usage) }
+{
+    match endpoint {
+        Endpoint::Port(port) => no_tenants(alloc, matches, *port),
+        Endpoint::Socket { path: _, grants: _ } => {
+            let file = text(alloc, matches, "tenants")?;
+            match said_tenants(alloc, matches) {
+                Ok(tenants) => Ok(TenantWords { tenants, file }),
+                Err(usage) => Err(usage),
+            }
+        }
+    }
+}
+
 // The options of a server.
 fn options(matches: &ArgMatches<'_>) -> ServeOptions
     requires { (o : ServeOptions) × AreOptionsOf (rows_of (found_of matches.now)) o }
@@ -115,10 +183,17 @@ fn serve_of(alloc: Global, matches: &ArgMatches<'_>) -> Result<Serve, Usage>
     ensures err { IfErr result (λ usage. IsEndpointUsage (rows_of (found_of matches.now)) usage) }
 {
     match endpoint(alloc, matches) {
-        Ok(endpoint) => {
-            let options = options(matches);
-            Ok(Serve { endpoint, options })
-        }
+        Ok(endpoint) => match tenants(alloc, matches, &endpoint) {
+            Ok(tenants) => {
+                let options = options(matches);
+                Ok(Serve {
+                    endpoint,
+                    tenants,
+                    options,
+                })
+            }
+            Err(usage) => Err(usage),
+        },
         Err(usage) => Err(usage),
     }
 }

@@ -89,6 +89,11 @@ With --socket PATH it listens on a Unix socket at PATH, in place of a port. Thos
 PATH may connect: the umask says who they are. A socket at PATH on which nobody listens is removed
 first, and PATH is removed at the end. With --grants a grant of any other connection is answered
 by 73, and changes nothing.
+
+With --tenant NAME=PATH a tenant has a socket of its own at PATH. It alone submits in the tenant's
+name and tells its account, and jobs of each such socket count from 1. A connection there takes no
+grants, and knows no other tenant (74) and no other's job (76). A line of --tenants FILE is
+NAME PATH; `#` begins a comment.
 Status: 0 once so many connections have ended, 3 where one of them or a socket failed.
 
 Example:
@@ -100,6 +105,11 @@ pub(crate) const SOCKET: &str = "The path of a socket to listen on, in place of 
 
 pub(crate) const GRANTS: &str =
     "With --socket: the path of a second socket, which alone takes grants";
+
+pub(crate) const TENANT: &str =
+    "With --socket: a tenant, and the path of a socket for it alone; up to 256 times";
+
+pub(crate) const TENANTS: &str = "With --socket: a file with a tenant NAME PATH a line";
 
 pub(crate) const PORT: &str = "The port to listen on, 1 to 65535";
 

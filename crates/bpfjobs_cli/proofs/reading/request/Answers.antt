@@ -4,6 +4,7 @@ use Rattle.clap.proofs.TakesLemmas.{some_rows}
 use Rattle.bpfjobs_cli.proofs.EndpointLemmas.{endpoint_usage}
 use Rattle.bpfjobs_cli.proofs.LineLemmas.{entered_says, is_entered, is_plain, of_kind, plain}
 use Rattle.bpfjobs_cli.proofs.NumberLemmas.{pair_of, named}
+use Rattle.bpfjobs_cli.proofs.RangeLemmas.{command_range}
 use Rattle.bpfjobs_cli.proofs.reading.request.Goals as goal
 
 pub command_of-requires : goal.command_of-requires
@@ -47,3 +48,6 @@ returns-in-Err-clause-err c = (
   λ taken. c.in-Err.ensures.passes (ap (λ a. takes a (map string_bytes c.args.words.now)) c.in_ok-bpfjobs.ensures ∙ taken),
   of_kind (map string_bytes c.args.words.now) _ c.in-Err.error c.in_ok-bpfjobs.ensures (c.in-Err.ensures.kinds (ap is_simple_and_free c.in_ok-bpfjobs.ensures ∙ plain)),
 )
+
+pub returns-in-Ok-command_of-clause-range : goal.returns-in-Ok-command_of-clause-range
+returns-in-Ok-command_of-clause-range c = command_range c.in-Some.name.now (rows_of (found_of c.in-Some.inner.now)) c.in-Ok-command_of.command c.in-Ok-command_of.ensures.ok

@@ -1,0 +1,10 @@
+use Rattle.std.proofs.Common.{rules}
+use Rattle.bpfjobs_cli.specs.Tenants.{tenants_in}
+use Rattle.bpfjobs_cli.proofs.EnteredLemmas.{refuses_other, takes_nothing}
+use Rattle.bpfjobs_cli.proofs.tenants.with_said.Goals as goal
+
+pub returns-in-Nothing-clause-ok : goal.returns-in-Nothing-clause-ok
+returns-in-Nothing-clause-ok c = takes_nothing _ c.args.said c.in-Nothing.is
+
+pub returns-in-Other-clause-err : goal.returns-in-Other-clause-err
+returns-in-Other-clause-err c = refuses_other _ c.args.said c.in-Other.is

@@ -1,0 +1,61 @@
+//! A tenant with a socket of its own, and the reasons why words or lines name none.
+
+/// A tenant with a socket of its own.
+#[derive(Debug, PartialEq, Eq, Drop)]
+pub struct TenantSocket {
+    pub name: String,
+    /// The path of its socket.
+    pub path: String,
+}
+
+/// The tenants with sockets of their own that the words of `serve` name.
+#[derive(Debug, PartialEq, Eq, Drop)]
+pub struct TenantWords {
+    /// Those of the words `--tenant NAME=PATH`, in their order.
+    pub tenants: Vec<TenantSocket>,
+    /// The path of a file with more of them, if the words name one.
+    pub file: Option<String>,
+}
+
+/// The reason why a word or a line names no tenant beside those before it.
+#[derive(Clone, Copy, Debug, PartialEq, Eq)]
+pub enum TenantFault {
+    /// It hasn't a name and a path.
+    Form,
+    /// It is no UTF-8.
+    NotText,
+    /// The name isn't 1 to 32 of `a` to `z`, `0` to `9`, `_` and `-`.
+    Name,
+    /// The path is empty.
+    NoPath,
+    /// A tenant before it has this name.
+    NameTwice,
+    /// A tenant before it has this path.
+    PathTwice,
+    /// There are 256 tenants before it.
+    TooMany,
+}
+
+impl TenantFault {
+    /// The words that tell it.
+    pub fn text(self) -> &'static str {
+        match self {
+            TenantFault::Form => "it wants a name and a path",
+            TenantFault::NotText => "it is no UTF-8",
+            TenantFault::Name => "a name has 1 to 32 of a to z, 0 to 9, _ and -",
+            TenantFault::NoPath => "the path is empty",
+            TenantFault::NameTwice => "the name is there already",
+            TenantFault::PathTwice => "the path is there already",
+            TenantFault::TooMany => "256 tenants are there already",
+        }
+    }
+}
+
+/// The reason why lines name no tenants.
+#[derive(Clone, Copy, Debug, PartialEq, Eq)]
+pub enum WrongTenant {
+    /// The first wrong one, by its number from 1 on, and what is wrong.
+    At(u64, TenantFault),
+    /// A growth was refused.
+    NoMemory,
+}
