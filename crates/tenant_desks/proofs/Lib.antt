@@ -3,3 +3,4 @@ mod AmongLemmas
 mod ChangedDesks
 mod SentEntries
 mod AloneLemmas
+mod AlikeDesks
