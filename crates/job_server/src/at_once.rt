@@ -10,6 +10,7 @@ use crate::fault::ServeFault;
 use crate::listener::Listener;
 use crate::noted_ends::{NotedReader, NotedWriter, ending_of};
 use crate::plan::Plan;
+use crate::shares::{Shares, leave, shares_of};
 use crate::stop_flag::ended_by;
 use crate::timed_reader::{TimedReader, Waiting};
 use server_log::{LogEvent, ServerLog, millis_since};
@@ -103,6 +104,7 @@ fn take_turns<
     entrance: &Mutex<Entrance<'_, L, J>>,
     lock: &Mutex<SharedDesk<D, H, J>>,
     waiting: Waiting<'_>,
+    shares: Option<&Shares>,
     log: Option<&ServerLog>,
 ) {
     for _ in rt.forever() {
@@ -115,6 +117,7 @@ fn take_turns<
         let (reader, writer) = answer_connection(
             rt, alloc, history, lock, seat, passage, &stream, waiting, notes,
         );
+        leave(shares, passage.door);
         if let Some(log) = log {
             let closed = LogEvent::Closed {
                 connection,
@@ -185,6 +188,7 @@ fn serve_named<
     desk: D,
     handler: H,
     plan: Plan<'_>,
+    shares: Option<&Shares>,
 ) -> (D, H, Result<(), ServeFault>)
     requires named { new_history ≡ J.table }
     requires begins { J.begins (desk, handler) }
@@ -209,12 +213,12 @@ fn serve_named<
     };
     let (history, recorder, opener) = new_history.named::<J>();
     let lock = Mutex::new(SharedDesk::new(desk, handler, recorder));
-    let entrance = Mutex::new(Entrance::new(listener, opener, stop, sessions));
+    let entrance = Mutex::new(Entrance::new(listener, opener, stop, shares, sessions));
     let known = &history;
     let door = &entrance;
     let shared = &lock;
     tell(rt, log, LogEvent::Ready);
-    let serve = |_: usize| take_turns(rt, alloc, known, door, shared, waiting, log);
+    let serve = |_: usize| take_turns(rt, alloc, known, door, shared, waiting, shares, log);
     let _ = thread::map_indices(rt, alloc, bounds.clients as usize, &serve);
     let mut shared = lock.into_inner();
     let (opened, failed, ended, mut opener) = entrance.into_inner().into_parts();
@@ -257,5 +261,11 @@ pub fn serve_at_once<
     let Ok(new_history) = NewHistory::new(alloc) else {
         return (desk, handler, Err(NO_MEMORY));
     };
-    serve_named::<R, L, D, H, Brand>(rt, alloc, new_history, listener, desk, handler, plan)
+    let Ok(shares) = shares_of(alloc, plan.bounds.clients, plan.tenants.len()) else {
+        return (desk, handler, Err(NO_MEMORY));
+    };
+    let shares = shares.as_ref();
+    serve_named::<R, L, D, H, Brand>(
+        rt, alloc, new_history, listener, desk, handler, plan, shares,
+    )
 }

@@ -5,6 +5,7 @@ ghost use Rattle.job_server.specs.Listening.{AreOfFirst, CameBy};
 ghost use Rattle.shared_desk.specs.declared.passage.Passage.{Passage};
 
 use crate::listener::Listener;
+use crate::shares::{Shares, may_enter};
 use crate::stop_flag::{StopFlag, is_stopped};
 use shared_desk::{ClientSeat, HistoryId, Opener, Passage, SharedHistory};
 use std::marker::{Brand, Model};
@@ -31,6 +32,7 @@ pub(crate) struct Entrance<'a, L: Listener, J: HistoryId + FirstListener<L>> {
     listener: L,
     opener: Opener<J>,
     stop: Option<&'a StopFlag>,
+    shares: Option<&'a Shares>,
     left: u64,
     opened: u64,
     failed: u64,
@@ -59,6 +61,7 @@ impl<'a, L: Listener + Drop, J: HistoryId + FirstListener<L>> Entrance<'a, L, J>
         listener: L,
         opener: Opener<J>,
         stop: Option<&'a StopFlag>,
+        shares: Option<&'a Shares>,
         sessions: u64,
     ) -> Entrance<'a, L, J>
         requires none { opener ≡ 0 }
@@ -70,6 +73,7 @@ impl<'a, L: Listener + Drop, J: HistoryId + FirstListener<L>> Entrance<'a, L, J>
             listener,
             opener,
             stop,
+            shares,
             left: sessions.min(u64::MAX - 1),
             opened: 0,
             failed: 0,
@@ -81,7 +85,7 @@ impl<'a, L: Listener + Drop, J: HistoryId + FirstListener<L>> Entrance<'a, L, J>
 
     /// Takes the next connection, with its seat, the passage that the listener gave it by, and its
     /// number, from 1 on; `None` once all were taken, or the flag is raised. One that can't be taken
-    /// counts, and the next one is taken. A server of any number of connections waits a moment before,
+    /// counts, and the next one is taken; so is one of a socket that has its share. A server of any number of connections waits a moment before,
     /// since there may be no descriptor. One that comes while the flag is raised is dropped: it only
     /// wakes the server.
     pub fn next<C: Clock>(
@@ -104,9 +108,13 @@ impl<'a, L: Listener + Drop, J: HistoryId + FirstListener<L>> Entrance<'a, L, J>
                         self.stopped = true;
                         return None;
                     }
-                    self.opened += 1;
-                    let seat = history.open(&mut self.opener);
-                    return Some((stream, seat, self.listener.passage(), self.opened));
+                    let passage = self.listener.passage();
+                    if may_enter(self.shares, passage.door) {
+                        self.opened += 1;
+                        let seat = history.open(&mut self.opener);
+                        return Some((stream, seat, passage, self.opened));
+                    }
+                    self.failed += 1;
                 }
                 Err(_) => {
                     self.failed += 1;

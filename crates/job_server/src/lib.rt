@@ -37,6 +37,7 @@ pub use timed_reader::Waiting;
 mod at_once;
 mod entrance;
 mod plan;
+mod shares;
 mod serving;
 mod serving_desks;
 mod tenant_door;
