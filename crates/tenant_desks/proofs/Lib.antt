@@ -5,3 +5,5 @@ mod SentEntries
 mod StartedTo
 mod AloneLemmas
 mod AlikeDesks
+mod AlikeReplies
+mod AlikeEvents
