@@ -56,7 +56,7 @@ module _ {P : Type 0} (starts : P → ℕ → AdmittedJob → Result (Unit {0}) 
   answers_alike d e d' e' x y first second r s r' s' a xs ys same =
       let T : Result Asked ℕ × Result (Unit {0}) ℕ → Type 0 = λ p. Replies (starts_to p.1 starts) looks d r p.0 (reply_data xs.told) xs.mid r' in
       let both = replies_alike starts looks one d e r s y.query.asked xs.told ys.told xs.mid ys.mid r' s' second a (subst T (λ k. (same.0 k, same.1 k)) xs.replies) ys.replies
-          (had_memory xs.told x.reply xs.frame same.2) (had_memory ys.told y.reply ys.frame same.3) in
+      (had_memory xs.told x.reply xs.frame same.2) (had_memory ys.told y.reply ys.frame same.3) in
       (carried xs.mid ys.mid d' e' (xs.keeps.1 refl) (ys.keeps.1 refl) both.0, told both.1)
     where
       told : AlikeReplies xs.told ys.told → IsToldAlike (was_asked x first) (was_asked y second)

@@ -172,11 +172,12 @@ settles_alike d e m n (Err code) d' e' a same first second =
 module _ {P : Type 0} (starts : P → ℕ → AdmittedJob → Result (Unit {0}) ℕ → P → Type 0) (looks : P → ℕ → Progress → P → Type 0) (one : OneAdmission) where
   both_take : (d e : Ledger) (r s : P) (name : List ℕ) (ps qs : List ProgramBytes) (credit : ℕ) (buffer : List ℕ) (t u : Reply) (d' e' : Ledger) (r' s' : P) (started : Result (Unit {0}) ℕ) → AlikeDesks d e
       → TakesJob (starts_to started starts) d r name ps credit buffer (reply_data t) d' r' → TakesJob (starts_to started starts) e s name qs credit buffer (reply_data u) e' s' → AlikeDesks d' e' × AlikeReplies t u
-  both_take d e r s name ps qs credit buffer t u d' e' r' s' started a first second =
-      (settles_alike first.mid second.mid _ _ started d' e' mids numbers
-      (subst (λ o. Settles first.mid (length first.mid.jobs) o d') first.starts_job.1 first.settles)
-      (subst (λ o. Settles second.mid (length second.mid.jobs) o e') second.starts_job.1 second.settles),
-      inl (first.tells ∙ ap submit_data numbers ∙ sym second.tells))
+  both_take d e r s name ps qs credit buffer t u d' e' r' s' started a first second = (
+    settles_alike first.mid second.mid _ _ started d' e' mids numbers
+        (subst (λ o. Settles first.mid (length first.mid.jobs) o d') first.starts_job.1 first.settles)
+        (subst (λ o. Settles second.mid (length second.mid.jobs) o e') second.starts_job.1 second.settles),
+    inl (first.tells ∙ ap submit_data numbers ∙ sym second.tells),
+  )
     where
       mids : AlikeDesks first.mid second.mid
       mids = jobs_alike d e first.mid second.mid _ _ a first.takes.jobs second.takes.jobs (push_alike d.jobs e.jobs first.takes.entry second.takes.entry a.jobs (record {

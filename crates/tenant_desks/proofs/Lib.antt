@@ -6,4 +6,5 @@ mod StartedTo
 mod AloneLemmas
 mod AlikeDesks
 mod AlikeReplies
+mod AdmissionLemmas
 mod AlikeEvents
