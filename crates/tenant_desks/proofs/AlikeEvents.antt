@@ -13,7 +13,7 @@ use Rattle.tenant_desks.specs.PlacedRunners.{starts_placed, looks_placed}
 use Rattle.tenant_desks.specs.Tenancies.{fresh_desk}
 use Rattle.tenant_desks.specs.Answering.{AnswersAlone, for_place, refusal_frame}
 use Rattle.tenant_desks.specs.Alone.{DeskEvent, was_asked, has_ended, starts_to, HappensAlone, none_yet, one_ended, one_asked}
-use Rattle.tenant_desks.specs.Events.{EachTwo, HappensAlike, IsToldAlike, TellsProgress}
+use Rattle.tenant_desks.specs.Events.{EachTwo, HappensAlike, IsToldAlike, TellsHowFar}
 use Rattle.tenant_desks.proofs.AlikeDesks.{AlikeDesks, finishes_alike}
 use Rattle.tenant_desks.proofs.AlikeReplies.{OneAdmission, HadMemory, AlikeReplies, carried, replies_alike}
 
