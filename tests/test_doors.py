@@ -1,6 +1,6 @@
-"""The unit of a server for one tenant: two users of the machine can't connect to each other's door.
+"""The units of servers for tenants, one each and one for several: users can't connect to each other's door.
 
-The unit's own lines make the folders and start the servers, below a folder of the test's in the place
+The units' own lines make the folders and start the servers, below a folder of the test's in the place
 of /run/telgovan. Users and groups are numbers that nobody has.
 """
 
@@ -18,6 +18,7 @@ import unittest
 from programs import BPFJOBS, PATIENCE, TOP, frame, is_read
 
 UNIT = os.path.join(TOP, "examples/systemd/bpfjobs@.service")
+SHARED = os.path.join(TOP, "examples/systemd/bpfjobs-tenants.service")
 # of each tenant: the user of its server, and the group whose members may connect
 TENANTS = {"alice": (64101, 64201), "bob": (64102, 64202)}
 MEMBER, OTHER, STRANGER = 64301, 64302, 64303
@@ -26,9 +27,9 @@ GRANT = '{"op":"grant","tenant":"%s","amount":100}'
 ACCOUNT = '{"op":"account","tenant":"%s"}'
 
 
-def unit_lines(name):
-    """The values of a setting of the unit, in their order."""
-    with open(UNIT, encoding="utf-8") as file:
+def unit_lines(name, unit=UNIT):
+    """The values of a setting of a unit, in their order."""
+    with open(unit, encoding="utf-8") as file:
         return re.findall(rf"^{name}=(.*)$", file.read(), re.MULTILINE)
 
 
@@ -193,6 +194,107 @@ class Doors(unittest.TestCase):
         self.check(MEMBER, [TENANTS["alice"][1]], {("tenants", "alice"): self.IN, ("grants", "alice"): self.OUT})
 
 
+@unittest.skipUnless(os.geteuid() == 0, "only root can be two users: run tests/run test_doors as root")
+class Shared(unittest.TestCase):
+    """One server for several tenants, of which each has a door."""
+
+    USER = 64103
+
+    def setUp(self):
+        room = tempfile.TemporaryDirectory()
+        self.addCleanup(room.cleanup)
+        os.chmod(room.name, 0o755)
+        self.room = os.path.join(room.name, "telgovan")
+        self.program, self.lines, self.groups = (os.path.join(room.name, name) for name in ("bpfjobs", "tenants", "groups"))
+        shutil.copy(BPFJOBS, self.program)
+        os.chmod(self.program, 0o755)
+        os.mkdir(self.room, 0o755)
+        self.process = None
+        with open(self.lines, "w", encoding="utf-8") as file:
+            file.write("# tenants\n\n" + "\n".join(f"{tenant} {self.path(tenant)}" for tenant in TENANTS))
+        with open(self.groups, "w", encoding="utf-8") as file:
+            file.write("".join(f"{tenant} {group}\n" for tenant, (_, group) in TENANTS.items()))
+
+    def path(self, tenant):
+        return os.path.join(self.room, "doors", tenant, "door")
+
+    def own(self, name):
+        return os.path.join(self.room, "shared", name)
+
+    def call(self, line, **more):
+        """A line of the unit as systemd runs it: as the server's user, or with a + as root."""
+        line = line.replace('-g "$name"', f'-g "$(sed -n "s/^$name //p" {self.groups})"').replace("%%", "%")
+        line = line.replace("/etc/telgovan/tenants", self.lines).replace("/run/telgovan", self.room).replace("/usr/local/bin/bpfjobs", self.program)
+        become = None if line.startswith("+") else as_user(self.USER, [self.USER])
+        names = {"RUNTIME_DIRECTORY": os.path.join(self.room, "shared"), "PATH": os.environ["PATH"]}
+        names["MAINPID"] = str(self.process.pid) if self.process else ""
+        words = ["/bin/sh", "-c", "exec " + line.lstrip("+")]
+        umask = int(*unit_lines("UMask", SHARED), 8)
+        return subprocess.Popen(words, env=names, preexec_fn=become, umask=umask, **more)
+
+    def start(self):
+        os.mkdir(os.path.join(self.room, "shared"))
+        os.chmod(os.path.join(self.room, "shared"), int(*unit_lines("RuntimeDirectoryMode", SHARED), 8))
+        os.chown(os.path.join(self.room, "shared"), self.USER, self.USER)
+        for line in unit_lines("ExecStartPre", SHARED):
+            self.assertEqual(self.call(line).wait(PATIENCE), 0, line)
+        self.process = self.call(*unit_lines("ExecStart", SHARED), stderr=subprocess.DEVNULL)
+        self.addCleanup(self.end)
+        until = time.monotonic() + PATIENCE
+        while not all(map(os.path.exists, map(self.path, TENANTS))):
+            self.assertLess(time.monotonic(), until)
+            self.assertIsNone(self.process.poll())
+            time.sleep(0.01)
+
+    def end(self):
+        if self.process:
+            stop = self.call(*unit_lines("ExecStop", SHARED))
+            status = self.process.wait(PATIENCE)
+            stop.wait(PATIENCE)
+            self.process = None
+            return status
+        return None
+
+    def kinds(self, user, groups, path, tenant):
+        return [Doors.kind_of(told_as(user, groups, path, text)) for text in (ACCOUNT % tenant, GRANT % tenant)]
+
+    def test_each_to_its_own(self):
+        self.start()
+        alice, bob = (TENANTS[tenant][1] for tenant in TENANTS)
+        for user, groups, mine in ((MEMBER, [MEMBER, alice], ["alice"]), (OTHER, [OTHER, bob], ["bob"]), (OTHER, [alice, bob], list(TENANTS)), (STRANGER, [STRANGER, ROOT_GROUP], [])):
+            for tenant in TENANTS:
+                wanted = Doors.IN if tenant in mine else Doors.OUT
+                self.assertEqual(self.kinds(user, groups, self.path(tenant), tenant), wanted, (user, tenant))
+            for name in ("all", "grants"):
+                self.assertEqual(self.kinds(user, groups, self.own(name), "alice"), Doors.OUT)
+        # root grants to each by name, and a member of both groups is still told of each at its door alone
+        for tenant in TENANTS:
+            self.assertEqual(self.kinds(0, [ROOT_GROUP], self.own("grants"), tenant), [74, "ok"])
+        self.assertEqual(self.kinds(OTHER, [alice, bob], self.path("alice"), "alice"), ["ok", 73])
+        self.assertEqual(self.kinds(OTHER, [alice, bob], self.path("alice"), "bob"), [74, 73])
+
+    def test_the_modes(self):
+        self.start()
+        for tenant, (_, group) in TENANTS.items():
+            for place, mode in ((self.path(tenant), 0o770), (os.path.dirname(self.path(tenant)), 0o2750)):
+                found = os.stat(place)
+                self.assertEqual((stat.S_IMODE(found.st_mode), found.st_uid, found.st_gid), (mode, self.USER, group), place)
+
+    def test_stop(self):
+        self.start()
+        self.assertEqual(self.end(), 0)
+        for line in unit_lines("ExecStopPost", SHARED):
+            self.assertEqual(self.call(line).wait(PATIENCE), 0)
+        self.assertEqual((os.listdir(self.room), sorted(os.listdir(os.path.join(self.room, "shared")))), (["shared"], ["holder", "open"]))
+
+    def test_a_group_that_is_not_there(self):
+        with open(self.lines, "a", encoding="utf-8") as file:
+            file.write(f"\ncarol {self.path('carol')}\n")
+        os.mkdir(os.path.join(self.room, "shared"))
+        first = unit_lines("ExecStartPre", SHARED)[0]
+        self.assertNotEqual(self.call(first, stderr=subprocess.DEVNULL).wait(PATIENCE), 0)
+
+
 class Settings(unittest.TestCase):
     """What the unit's settings give a server."""
 
@@ -201,14 +303,15 @@ class Settings(unittest.TestCase):
         self.assertEqual((unit_lines("DynamicUser"), unit_lines("User")), (["yes"], ["jobs-%i"]))
 
     def test_the_threads_that_start_have_room(self):
-        (line,) = unit_lines("ExecStart")
-        options = dict(re.findall(r"--([a-z-]+) (\d+)", line))
-        started = int(options["workers"]) + int(options["clients"]) + line.count("--until-eof") + line.count("--log")
-        (tasks,), (data,), (memory,) = map(unit_lines, ("TasksMax", "LimitDATA", "MemoryMax"))
-        # a sleep and a tail stand beside it
-        self.assertLess(started + 2 + int(options["workers"]), int(tasks))
-        self.assertGreater(int(data.rstrip("M")), 8 * started + 256)
-        self.assertLess(int(data.rstrip("M")) - 8 * started, int(memory.rstrip("M")))
+        for unit in (UNIT, SHARED):
+            (line,) = unit_lines("ExecStart", unit)
+            options = dict(re.findall(r"--([a-z-]+) (\d+)", line))
+            started = int(options["workers"]) + int(options["clients"]) + line.count("--until-eof") + line.count("--log")
+            (tasks,), (data,), (memory,) = (unit_lines(name, unit) for name in ("TasksMax", "LimitDATA", "MemoryMax"))
+            # a sleep and a tail stand beside it
+            self.assertLess(started + 2 + int(options["workers"]), int(tasks))
+            self.assertGreater(int(data.rstrip("M")), 8 * started + 256)
+            self.assertLess(int(data.rstrip("M")) - 8 * started, int(memory.rstrip("M")))
 
 
 @unittest.skipUnless(shutil.which("systemd-analyze"), "there is no systemd-analyze")

@@ -28,7 +28,7 @@ MEMBERS = {
     "failed": ("job", "code"),
     "refused": ("code",),
 }
-SOCKETS = {"port", "socket", "grants"}
+SOCKETS = {"port", "socket", "grants", "tenant"}
 ENDS = {"input", "stopped", "frame too large", "timeout", "cut", "memory"}
 PIPE_ROOM = 4096
 

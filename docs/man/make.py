@@ -31,7 +31,7 @@ class Entry:
 
     @property
     def value(self):
-        found = re.search(r"<(\w+)>", self.words)
+        found = re.search(r"<([\w=]+)>", self.words)
         return found.group(1) if found else None
 
 

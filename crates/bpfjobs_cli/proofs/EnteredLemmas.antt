@@ -12,7 +12,7 @@ use Rattle.bpfjobs_cli.specs.declared.tenant_socket.TenantFault.TheVariants as f
 use Rattle.bpfjobs_cli.specs.declared.tenant_socket.TenantSocket.{TenantSocket}
 use Rattle.bpfjobs_cli.specs.declared.tenant_text.Said.{Said}
 use Rattle.bpfjobs_cli.specs.declared.tenant_text.Said.TheVariants as said
-use Rattle.bpfjobs_cli.specs.Tenants.{AreTenants, Entered, NamedPath, SaidText, entered, fault_beside, fault_of, has_name, has_path, said_by, says_nothing, says_other, says_tenant, tenant_of, tenants_in, tenants_of, unless_fault}
+use Rattle.bpfjobs_cli.specs.Tenants.{AreTenants, Entered, NamedPath, SaidText, entered, fault_beside, fault_said, has_name, has_path, said_by, says_nothing, says_other, says_tenant, tenant_of, tenants_in, tenants_of, unless_fault}
 use Rattle.bpfjobs_cli.specs.Entries.{TakesSaid}
 
 -- ---- what is entered
@@ -23,7 +23,7 @@ entered_more before after n said rest takes =
     ap (λ (o : Option TenantFault). unless_fault o n (entered (before ++ tenants_of said) (n + 1) rest)) takes.faultless
     ∙ ap (λ (ts : List NamedPath). entered ts (n + 1) rest) (sym takes.more)
 
-pub entered_stops : (before : List NamedPath) (n : ℕ) (said : SaidText) (rest : List SaidText) (f : TenantFault) → fault_of before said ≡ Some f
+pub entered_stops : (before : List NamedPath) (n : ℕ) (said : SaidText) (rest : List SaidText) (f : TenantFault) → fault_said before said ≡ Some f
     → entered before n (said ∷ rest) ≡ Err (n, f)
 entered_stops before n said rest f wrong =
     ap (λ (o : Option TenantFault). unless_fault o n (entered (before ++ tenants_of said) (n + 1) rest)) wrong
@@ -60,8 +60,8 @@ fits_beside ts name path e =
     let last = passes (nat_le 256 (length ts)) fault.TooMany _ fourth.1 in
     record { name_is = not_false _ first.0; path_is = second.0; new_name = third.0; new_path = fourth.0; room = last.0 }
 
-fits_tenant : (ts : List NamedPath) (name path : List ℕ) → fault_of ts (says_tenant name path) ≡ None → Fits ts name path
-unfolding fault_of
+fits_tenant : (ts : List NamedPath) (name path : List ℕ) → fault_said ts (says_tenant name path) ≡ None → Fits ts name path
+unfolding fault_said
 fits_tenant ts name path e = go (is_utf8 name && is_utf8 path) e
   where
     go : (b : Bool) → cond b (fault_beside ts name path) (Some fault.NotText) ≡ None → Fits ts name path
@@ -100,7 +100,7 @@ tenants_more ts name path are fits = record {
   count = subst (λ n. n ≤ 256) (sym (length-append ts ((name, path) ∷ []))) (under (length ts) fits.room);
 }
 
-said_more : (ts : List NamedPath) (said : SaidText) → fault_of ts said ≡ None → AreTenants ts → AreTenants (ts ++ tenants_of said)
+said_more : (ts : List NamedPath) (said : SaidText) → fault_said ts said ≡ None → AreTenants ts → AreTenants (ts ++ tenants_of said)
 said_more ts says_nothing e are = subst AreTenants (sym (append-nil ts)) are
 said_more ts says_other e are = subst AreTenants (sym (append-nil ts)) are
 said_more ts (says_tenant name path) e are = tenants_more ts name path are (fits_tenant ts name path e)
@@ -113,9 +113,9 @@ same_all a b e = cc
 
 pub all_apart : (ts : List NamedPath) (n : ℕ) (saids : List SaidText) (all : List NamedPath) → AreTenants ts → entered ts n saids ≡ Ok all → AreTenants all
 all_apart ts n [] all are e = subst AreTenants (same_all ts all e) are
-all_apart ts n (said ∷ rest) all are e = go (fault_of ts said) refl e (λ more h. all_apart (ts ++ tenants_of said) (n + 1) rest all more h)
+all_apart ts n (said ∷ rest) all are e = go (fault_said ts said) refl e (λ more h. all_apart (ts ++ tenants_of said) (n + 1) rest all more h)
   where
-    go : (o : Option TenantFault) → fault_of ts said ≡ o → unless_fault o n (entered (ts ++ tenants_of said) (n + 1) rest) ≡ Ok all
+    go : (o : Option TenantFault) → fault_said ts said ≡ o → unless_fault o n (entered (ts ++ tenants_of said) (n + 1) rest) ≡ Ok all
         → (AreTenants (ts ++ tenants_of said) → entered (ts ++ tenants_of said) (n + 1) rest ≡ Ok all → AreTenants all) → AreTenants all
     go None none h onward = onward (said_more ts said none are) h
     go (Some f) some h onward = absurd (never n f all h)
@@ -128,25 +128,25 @@ none_apart = record { names = refl; paths = refl; names_apart = tt; paths_apart 
 -- ---- what one text comes to
 
 pub takes_nothing : (ts : List NamedPath) (s : Said) → s ≡ said.Nothing → TakesSaid ts (said_by s) ts
-unfolding fault_of
+unfolding fault_said
 takes_nothing ts s is = subst (λ (x : Said). TakesSaid ts (said_by x) ts) (sym is) (record { faultless = refl; more = sym (append-nil ts) })
 
-pub refuses_other : (ts : List NamedPath) (s : Said) → s ≡ said.Other → fault_of ts (said_by s) ≡ Some fault.Form
-unfolding fault_of
+pub refuses_other : (ts : List NamedPath) (s : Said) → s ≡ said.Other → fault_said ts (said_by s) ≡ Some fault.Form
+unfolding fault_said
 refuses_other ts s is = rw is refl
 
 module _ (ts : List NamedPath) (name path : List ℕ) where
-  pub refuses_bytes : false ≡ is_utf8 name && is_utf8 path → fault_of ts (says_tenant name path) ≡ Some fault.NotText
-  unfolding fault_of
+  pub refuses_bytes : false ≡ is_utf8 name && is_utf8 path → fault_said ts (says_tenant name path) ≡ Some fault.NotText
+  unfolding fault_said
   refuses_bytes test = rw (sym test) refl
 
-  pub refuses_tenant : (f : TenantFault) → true ≡ is_utf8 name && is_utf8 path → Some f ≡ fault_beside ts name path → fault_of ts (says_tenant name path) ≡ Some f
-  unfolding fault_of
+  pub refuses_tenant : (f : TenantFault) → true ≡ is_utf8 name && is_utf8 path → Some f ≡ fault_beside ts name path → fault_said ts (says_tenant name path) ≡ Some f
+  unfolding fault_said
   refuses_tenant f test why = rw (sym test) (sym why)
 
   pub takes_tenant : (after : List NamedPath) → true ≡ is_utf8 name && is_utf8 path → None ≡ fault_beside ts name path → after ≡ ts ++ (name, path) ∷ []
       → TakesSaid ts (says_tenant name path) after
-  unfolding fault_of
+  unfolding fault_said
   takes_tenant after test none more = record { faultless = rw (sym test) (sym none); more = more }
 
 pub pushed_tenant : (ts after : List TenantSocket) (t : TenantSocket) (name path : List ℕ) → after ≡ ts ++ t ∷ [] → string_bytes t.name ≡ name → string_bytes t.path ≡ path

@@ -10,8 +10,8 @@ use Rattle.bpfjobs_cli.specs.declared.commands.Usage.{Usage}
 use Rattle.bpfjobs_cli.specs.declared.commands.Usage.TheVariants as usage
 use Rattle.bpfjobs_cli.specs.declared.tenants.EntryFault.{EntryFault}
 use Rattle.bpfjobs_cli.specs.declared.tenants.EntryFault.TheVariants as entry
-use Rattle.bpfjobs_cli.specs.declared.tenant_text.Mark.TheVariants.{LineEnd}
-use Rattle.bpfjobs_cli.specs.Tenants.{Entered, IsWrongLine, NamedPath, SaidText, before_mark, entered, fault_of, from_mark, is_mark, line_says, lines_said, word_says, words_said}
+use Rattle.bpfjobs_cli.specs.declared.tenant_text.Delimiter.TheVariants.{LineEnd}
+use Rattle.bpfjobs_cli.specs.Tenants.{Entered, IsWrongLine, NamedPath, SaidText, before_delimiter, entered, fault_said, from_delimiter, is_delimiter, line_says, lines_said, word_says, words_said}
 use Rattle.bpfjobs_cli.specs.Entries.{IsWordUsage, RefusesSaid, TakesSaid, TellsWord, wrong_at}
 use Rattle.bpfjobs_cli.proofs.EnteredLemmas.{entered_more, entered_stops}
 use Rattle.bpfjobs_cli.proofs.TenantLemmas.{behind, lines_at, within}
@@ -23,7 +23,7 @@ pub is_some : (n : ℕ) → false ≡ (n == 0) → 0 < n
 is_some n e = grind (arith, nat_tests)
 
 -- what is behind a line is shorter
-pub shorter : (rest tail next : List ℕ) → tail ≡ from_mark LineEnd rest → 0 < length tail → next ≡ drop 1 tail → length next + 1 ≤ length rest
+pub shorter : (rest tail next : List ℕ) → tail ≡ from_delimiter LineEnd rest → 0 < length tail → next ≡ drop 1 tail → length next + 1 ≤ length rest
 shorter rest tail next tail_is some is =
     omega (arith, within LineEnd rest, ap length tail_is, some, ap length is, length-drop 1 tail)
 
@@ -31,18 +31,18 @@ none_behind : (tail : List ℕ) → length tail ≡ 0 → behind tail ≡ []
 none_behind [] e = refl
 none_behind (c ∷ cs) e = absurd (omega (arith, e))
 
-some_behind : (tail : List ℕ) → 0 < length tail → behind tail ≡ slice_split (is_mark LineEnd) (drop 1 tail)
+some_behind : (tail : List ℕ) → 0 < length tail → behind tail ≡ slice_split (is_delimiter LineEnd) (drop 1 tail)
 some_behind [] lt = absurd (omega (arith, lt))
 some_behind (c ∷ cs) lt = refl
 
 -- ---- lines
 
 module _ (whole : Entered) (ts : List NamedPath) (n : ℕ) (rest front tail : List ℕ) (s : SaidText) (so_far : whole ≡ entered ts n (lines_said rest))
-    (front_is : front ≡ before_mark LineEnd rest) (tail_is : tail ≡ from_mark LineEnd rest) (said_is : s ≡ line_says front) where
+    (front_is : front ≡ before_delimiter LineEnd rest) (tail_is : tail ≡ from_delimiter LineEnd rest) (said_is : s ≡ line_says front) where
   this_line : whole ≡ entered ts n (s ∷ map line_says (behind tail))
   this_line =
       so_far ∙ ap (λ (ls : List (List ℕ)). entered ts n (map line_says ls)) (lines_at rest)
-      ∙ ap (λ (f : List ℕ). entered ts n (line_says f ∷ map line_says (behind (from_mark LineEnd rest)))) (sym front_is)
+      ∙ ap (λ (f : List ℕ). entered ts n (line_says f ∷ map line_says (behind (from_delimiter LineEnd rest)))) (sym front_is)
       ∙ ap (λ (t : List ℕ). entered ts n (line_says front ∷ map line_says (behind t))) (sym tail_is)
       ∙ ap (λ (x : SaidText). entered ts n (x ∷ map line_says (behind tail))) (sym said_is)
 
@@ -82,7 +82,7 @@ module _ (ts : List NamedPath) (n : ℕ) (words : List (Bor (List ℕ))) (none :
   word_wrong e (usage.Refused error) wrong tells = absurd tells
   word_wrong e (usage.Endpoint fault) wrong tells = absurd tells
   word_wrong e (usage.Tenant told f) wrong tells =
-      let why : fault_of ts s ≡ Some f = subst (RefusesSaid ts s) tells.1 wrong in
+      let why : fault_said ts s ≡ Some f = subst (RefusesSaid ts s) tells.1 wrong in
       (n, this_word ∙ entered_stops ts n s (words_said (texts (drop (n + 1) words))) f why, place ∙ ap Some (sym tells.0))
   word_wrong e usage.NoMemory wrong tells = tt
 

@@ -8,8 +8,8 @@ use Rattle.bpfjobs_cli.specs.declared.tenant_socket.TenantFault.{TenantFault}
 use Rattle.bpfjobs_cli.specs.declared.tenant_socket.TenantFault.TheVariants as fault
 use Rattle.bpfjobs_cli.specs.declared.tenant_socket.WrongTenant.{WrongTenant}
 use Rattle.bpfjobs_cli.specs.declared.tenant_socket.WrongTenant.TheVariants as wrong
-use Rattle.bpfjobs_cli.specs.declared.tenant_text.Mark.{Mark}
-use Rattle.bpfjobs_cli.specs.declared.tenant_text.Mark.TheVariants.{Equals, Blank, LineEnd}
+use Rattle.bpfjobs_cli.specs.declared.tenant_text.Delimiter.{Delimiter}
+use Rattle.bpfjobs_cli.specs.declared.tenant_text.Delimiter.TheVariants.{Equals, Blank, LineEnd}
 use Rattle.bpfjobs_cli.specs.declared.tenant_text.Said.{Said}
 use Rattle.bpfjobs_cli.specs.declared.tenant_text.Said.TheVariants as said
 
@@ -26,24 +26,24 @@ tenants_in ts = map tenant_of ts
 -- ---- a text
 
 -- `=`; a space, a tab or a carriage return; a line feed
-abbrev pub is_mark : Mark → ℕ → Bool
-is_mark Equals c = c == 61
-is_mark Blank c = c == 32 || (c == 9 || c == 13)
-is_mark LineEnd c = c == 10
+abbrev pub is_delimiter : Delimiter → ℕ → Bool
+is_delimiter Equals c = c == 61
+is_delimiter Blank c = c == 32 || (c == 9 || c == 13)
+is_delimiter LineEnd c = c == 10
 
--- the part before the first mark, and the part from it on
-abbrev pub before_mark : Mark → List ℕ → List ℕ
-before_mark mark [] = []
-before_mark mark (c ∷ cs) = if is_mark mark c then [] else c ∷ before_mark mark cs
+-- the part before the first delimiter, and the part from it on
+abbrev pub before_delimiter : Delimiter → List ℕ → List ℕ
+before_delimiter d [] = []
+before_delimiter d (c ∷ cs) = if is_delimiter d c then [] else c ∷ before_delimiter d cs
 
-abbrev pub from_mark : Mark → List ℕ → List ℕ
-from_mark mark [] = []
-from_mark mark (c ∷ cs) = if is_mark mark c then c ∷ cs else from_mark mark cs
+abbrev pub from_delimiter : Delimiter → List ℕ → List ℕ
+from_delimiter d [] = []
+from_delimiter d (c ∷ cs) = if is_delimiter d c then c ∷ cs else from_delimiter d cs
 
 -- without the blanks at its start
 abbrev pub past_blanks : List ℕ → List ℕ
 past_blanks [] = []
-past_blanks (c ∷ cs) = if is_mark Blank c then past_blanks cs else c ∷ cs
+past_blanks (c ∷ cs) = if is_delimiter Blank c then past_blanks cs else c ∷ cs
 
 -- it is empty, or a comment: that begins with `#`
 abbrev pub is_over : List ℕ → Bool
@@ -63,18 +63,18 @@ said_by (said.Tenant name path) = says_tenant name.now path.now
 
 -- a word: the name ends at the first `=`
 unfoldable pub word_says : List ℕ → SaidText
-word_says word = if length (from_mark Equals word) == 0 then says_other
-    else says_tenant (before_mark Equals word) (drop 1 (from_mark Equals word))
+word_says word = if length (from_delimiter Equals word) == 0 then says_other
+    else says_tenant (before_delimiter Equals word) (drop 1 (from_delimiter Equals word))
 
 -- a line: the name and the path have no blank, and nothing but a comment is behind them
 unfoldable pub line_says : List ℕ → SaidText
 line_says line =
     let start = past_blanks line in
-    let behind = past_blanks (from_mark Blank start) in
+    let behind = past_blanks (from_delimiter Blank start) in
     if is_over start then says_nothing
     else if is_over behind then says_other
-    else if is_over (past_blanks (from_mark Blank behind))
-    then says_tenant (before_mark Blank start) (before_mark Blank behind)
+    else if is_over (past_blanks (from_delimiter Blank behind))
+    then says_tenant (before_delimiter Blank start) (before_delimiter Blank behind)
     else says_other
 
 -- ---- one text after the other
@@ -96,10 +96,10 @@ fault_beside ts name path =
     else if nat_le 256 (length ts) then Some fault.TooMany else None
 
 -- the reason why what is said is no further tenant, nor nothing
-unfoldable pub fault_of : List NamedPath → SaidText → Option TenantFault
-fault_of ts says_nothing = None
-fault_of ts says_other = Some fault.Form
-fault_of ts (says_tenant name path) =
+unfoldable pub fault_said : List NamedPath → SaidText → Option TenantFault
+fault_said ts says_nothing = None
+fault_said ts says_other = Some fault.Form
+fault_said ts (says_tenant name path) =
     if is_utf8 name && is_utf8 path then fault_beside ts name path else Some fault.NotText
 
 -- the tenant that is said, if one is
@@ -116,18 +116,19 @@ abbrev pub unless_fault : Option TenantFault → ℕ → Entered → Entered
 unless_fault None n goes = goes
 unless_fault (Some f) n goes = Err (n, f)
 
--- The tenants, and those that texts say, in their order. Or the number of the first wrong text, where
--- they are counted from this one on, and what is wrong with it.
+-- The tenants, and those that texts say, in their order. Or the number of the first wrong text,
+-- where they are counted from this one on, and what is wrong with it.
 abbrev pub entered : List NamedPath → ℕ → List SaidText → Entered
 entered ts n [] = Ok ts
-entered ts n (s ∷ rest) = unless_fault (fault_of ts s) n (entered (ts ++ tenants_of s) (n + 1) rest)
+entered ts n (s ∷ rest) =
+    unless_fault (fault_said ts s) n (entered (ts ++ tenants_of s) (n + 1) rest)
 
 abbrev pub words_said : List (List ℕ) → List SaidText
 words_said words = map word_says words
 
 -- the lines of a file, counted from 1
 abbrev pub lines_said : List ℕ → List SaidText
-lines_said text = map line_says (slice_split (is_mark LineEnd) text)
+lines_said text = map line_says (slice_split (is_delimiter LineEnd) text)
 
 -- a word is wrong
 abbrev pub IsWrongWord : List (List ℕ) → List ℕ → TenantFault → Type 0

@@ -109,11 +109,7 @@ fn said_tenants(alloc: Global, matches: &ArgMatches<'_>) -> Result<Vec<TenantSoc
 }
 
 // No tenants, beside a port: the words name none, and no file of them.
-fn no_tenants(
-    alloc: Global,
-    matches: &ArgMatches<'_>,
-    port: u16,
-) -> Result<TenantWords, Usage>
+fn no_tenants(alloc: Global, matches: &ArgMatches<'_>, port: u16) -> Result<TenantWords, Usage>
     requires { IsEndpointOf (rows_of (found_of matches.now)) (Port port) }
     ensures ok { IfOk result (λ tenants.
         AreTenantsOf (rows_of (found_of matches.now)) (Port port) tenants) }

@@ -1,11 +1,11 @@
 //! The name and the path that a word or a line has.
 
 ghost use Rattle.std.specs.Prelude.{◌≡◌};
-ghost use Rattle.bpfjobs_cli.specs.Tenants.{before_mark, from_mark, line_says, past_blanks, said_by, word_says};
+ghost use Rattle.bpfjobs_cli.specs.Tenants.{before_delimiter, from_delimiter, line_says, past_blanks, said_by, word_says};
 
 /// What ends a part of a text.
 #[derive(Clone, Copy)]
-pub(crate) enum Mark {
+pub(crate) enum Delimiter {
     /// `=`.
     Equals,
     /// A space, a tab or a carriage return.
@@ -25,33 +25,33 @@ pub(crate) enum Said<'a> {
     Tenant(&'a [u8], &'a [u8]),
 }
 
-fn is_mark(mark: Mark, byte: u8) -> bool
-    ensures { result ≡ Rattle.bpfjobs_cli.specs.Tenants.is_mark mark byte }
+fn is_delimiter(delimiter: Delimiter, byte: u8) -> bool
+    ensures { result ≡ Rattle.bpfjobs_cli.specs.Tenants.is_delimiter delimiter byte }
 {
-    match mark {
-        Mark::Equals => byte == b'=',
-        Mark::Blank => matches!(byte, b' ' | b'\t' | b'\r'),
-        Mark::LineEnd => byte == b'\n',
+    match delimiter {
+        Delimiter::Equals => byte == b'=',
+        Delimiter::Blank => matches!(byte, b' ' | b'\t' | b'\r'),
+        Delimiter::LineEnd => byte == b'\n',
     }
 }
 
-// The text from its first mark on.
-fn past_part(text: &[u8], mark: Mark) -> &[u8]
-    ensures { result.now ≡ from_mark mark text.now }
+// The text from its first delimiter on.
+fn past_part(text: &[u8], delimiter: Delimiter) -> &[u8]
+    ensures { result.now ≡ from_delimiter delimiter text.now }
 {
     let mut rest = text;
-    while !rest.is_empty() && !is_mark(mark, rest[0]) {
+    while !rest.is_empty() && !is_delimiter(delimiter, rest[0]) {
         rest = rest.split_at(1).1;
     }
     rest
 }
 
-/// The part of a text before its first mark, and the part from it on.
-pub(crate) fn cut_at(text: &[u8], mark: Mark) -> (&[u8], &[u8])
-    ensures front { result.0.now ≡ before_mark mark text.now }
-    ensures back { result.1.now ≡ from_mark mark text.now }
+/// The part of a text before its first delimiter, and the part from it on.
+pub(crate) fn cut_at(text: &[u8], delimiter: Delimiter) -> (&[u8], &[u8])
+    ensures front { result.0.now ≡ before_delimiter delimiter text.now }
+    ensures back { result.1.now ≡ from_delimiter delimiter text.now }
 {
-    let rest = past_part(text, mark);
+    let rest = past_part(text, delimiter);
     (text.split_at(text.len() - rest.len()).0, rest)
 }
 
@@ -60,7 +60,7 @@ fn past_blanks(text: &[u8]) -> &[u8]
     ensures { result.now ≡ past_blanks text.now }
 {
     let mut rest = text;
-    while !rest.is_empty() && is_mark(Mark::Blank, rest[0]) {
+    while !rest.is_empty() && is_delimiter(Delimiter::Blank, rest[0]) {
         rest = rest.split_at(1).1;
     }
     rest
@@ -78,7 +78,7 @@ fn is_over(text: &[u8]) -> bool
 pub(crate) fn said_by_word(word: &[u8]) -> Said<'_>
     ensures { said_by result ≡ word_says word.now }
 {
-    let (name, rest) = cut_at(word, Mark::Equals);
+    let (name, rest) = cut_at(word, Delimiter::Equals);
     if rest.is_empty() {
         return Said::Other;
     }
@@ -94,12 +94,12 @@ pub(crate) fn said_by_line(line: &[u8]) -> Said<'_>
     if is_over(start) {
         return Said::Nothing;
     }
-    let (name, rest) = cut_at(start, Mark::Blank);
+    let (name, rest) = cut_at(start, Delimiter::Blank);
     let behind = past_blanks(rest);
     if is_over(behind) {
         return Said::Other;
     }
-    let (path, rest) = cut_at(behind, Mark::Blank);
+    let (path, rest) = cut_at(behind, Delimiter::Blank);
     if is_over(past_blanks(rest)) {
         Said::Tenant(name, path)
     } else {

@@ -9,10 +9,11 @@ ghost use Rattle.bpfjobs_cli.specs.Entries.{IsWordUsage, RefusesSaid, TakesSaid,
 
 use crate::commands::Usage;
 use crate::tenant_socket::{TenantFault, TenantSocket, WrongTenant};
-use crate::tenant_text::{Mark, Said, cut_at, said_by_line, said_by_word};
+use crate::tenant_text::{Delimiter, Said, cut_at, said_by_line, said_by_word};
 use std::alloc::{AllocError, Global};
 
 const MOST_TENANTS: usize = 256;
+
 const LONGEST_NAME: usize = 32;
 
 // The reason why one more tenant isn't taken.
@@ -214,7 +215,7 @@ pub fn with_lines(
     let mut rest = text;
     let mut number = 1;
     loop {
-        let (line, tail) = cut_at(rest, Mark::LineEnd);
+        let (line, tail) = cut_at(rest, Delimiter::LineEnd);
         tenants = match with_said(alloc, tenants, said_by_line(line)) {
             Ok(tenants) => tenants,
             Err(fault) => return Err(wrong_at(number, fault)),

@@ -90,10 +90,10 @@ PATH may connect: the umask says who they are. A socket at PATH on which nobody 
 first, and PATH is removed at the end. With --grants a grant of any other connection is answered
 by 73, and changes nothing.
 
-With --tenant NAME=PATH a tenant has a socket of its own at PATH. It alone submits in the tenant's
-name and tells its account, and jobs of each such socket count from 1. A connection there takes no
-grants, and knows no other tenant (74) and no other's job (76). A line of --tenants FILE is
-NAME PATH; `#` begins a comment.
+With --tenant NAME=PATH a tenant has a socket of its own at PATH, and a desk of its own: jobs that
+are submitted there count from 1, and no other socket submits in the tenant's name. A connection
+there makes no grant (73), and knows no other tenant (74) and no other's job (76). A tenant is a line
+NAME PATH of --tenants FILE too, where `#` begins a comment.
 Status: 0 once so many connections have ended, 3 where one of them or a socket failed.
 
 Example:

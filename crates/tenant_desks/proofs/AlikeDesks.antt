@@ -60,7 +60,7 @@ get_alike (x ∷ xs) [] i a = absurd a
 get_alike (x ∷ xs) (y ∷ ys) zero a = a.0
 get_alike (x ∷ xs) (y ∷ ys) (suc i) a = get_alike xs ys i a.1
 
-job_alike : (xs ys : List JobEntry) (number : ℕ) → AlikeJobs xs ys → AlikeOptions (job_at xs number) (job_at ys number)
+pub job_alike : (xs ys : List JobEntry) (number : ℕ) → AlikeJobs xs ys → AlikeOptions (job_at xs number) (job_at ys number)
 job_alike xs ys number a = by_test (nat_eq number 0)
   where
     by_test : (b : Bool) → AlikeOptions (if◌then◌else◌ {A = Option JobEntry} b None (slice_get xs (number - 1))) (if◌then◌else◌ {A = Option JobEntry} b None (slice_get ys (number - 1)))

@@ -17,12 +17,15 @@ module _ {R : Type 0} (starts : R → ℕ → AdmittedJob → Result (Unit {0}) 
   pub nowhere_err : (keep code : ℕ) (to : Result ℕ ℕ) (query : Result Asked ℕ) (desks : List Ledger) (runner : R) (mid : List Ledger) (rest : R) (told : Result (Vec ℕ Global) NoMemory)
       → to ≡ Err code → PassesEnds takes desks runner mid rest → OnErr told ((reply : List ℕ) × DeskAnswer starts looks takes keep to query desks runner reply mid rest)
   nowhere_err keep code to query desks runner mid rest (Ok frame) goes passed = tt
-  nowhere_err keep code to query desks runner mid rest (Err e) goes passed = (refusal_frame code, record {
-    mid = mid;
-    rest = rest;
-    passed = passed;
-    answered = subst (λ w. AnswersWhere starts looks keep w query mid rest (refusal_frame code) mid rest) (sym goes) (refl, refl, refl);
-  })
+  nowhere_err keep code to query desks runner mid rest (Err e) goes passed = (
+    refusal_frame code,
+    record {
+      mid = mid;
+      rest = rest;
+      passed = passed;
+      answered = subst (λ w. AnswersWhere starts looks keep w query mid rest (refusal_frame code) mid rest) (sym goes) (refl, refl, refl);
+    },
+  )
 
   -- it goes to the desk at a place
   at_desk : (keep place : ℕ) (to : Result ℕ ℕ) (query : Result Asked ℕ) (desks : List Ledger) (runner : R) (mid : List Ledger) (rest : R) (before after : Ledger) (s : PlacedRunner R) (reply : List ℕ)

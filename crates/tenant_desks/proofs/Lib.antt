@@ -5,3 +5,6 @@ mod SentEntries
 mod StartedTo
 mod AloneLemmas
 mod AlikeDesks
+mod AlikeReplies
+mod AdmissionLemmas
+mod AlikeEvents

@@ -15,16 +15,19 @@ module _ {P : Type 0} (starts : P → ℕ → AdmittedJob → Result (Unit {0}) 
   submits_to : (desk : Ledger) (r : P) (name : List ℕ) (programs : List ProgramBytes) (credit : ℕ) (buffer : List ℕ) (told : Reply) (after : Ledger) (s : P)
       → Submits starts desk r name programs credit buffer (reply_data told) after s
       → (started : Result (Unit {0}) ℕ) × Submits (starts_to started starts) desk r name programs credit buffer (reply_data told) after s
-  submits_to desk r name programs credit buffer told after s (inl t) = (t.outcome, inl (record {
-    mid = t.mid;
-    takes = t.takes;
-    job = t.job;
-    admitted = t.admitted;
-    outcome = t.outcome;
-    starts_job = (t.starts_job, refl);
-    settles = t.settles;
-    tells = t.tells;
-  }))
+  submits_to desk r name programs credit buffer told after s (inl t) = (
+    t.outcome,
+    inl (record {
+      mid = t.mid;
+      takes = t.takes;
+      job = t.job;
+      admitted = t.admitted;
+      outcome = t.outcome;
+      starts_job = (t.starts_job, refl);
+      settles = t.settles;
+      tells = t.tells;
+    }),
+  )
   submits_to desk r name programs credit buffer told after s (inr n) = (Ok tt, inr n)
 
   replies_to : (desk : Ledger) (r : P) (query : Result Asked ℕ) (told : Reply) (after : Ledger) (s : P) → Replies starts looks desk r query (reply_data told) after s

@@ -23,14 +23,14 @@ HappensAlike (has_ended number outcome) (was_asked f second) = ⊥
 HappensAlike (has_ended m first) (has_ended n second) = (m ≡ n) × (first ≡ second)
 
 -- the reply tells how far a job is
-abbrev pub TellsProgress : HistoryEntry → Type 0
-TellsProgress e =
+abbrev pub TellsHowFar : HistoryEntry → Type 0
+TellsHowFar e =
     (complete : Bool) × (returned spent : ℕ)
     × (e.reply ≡ frame_or_refusal (status_data complete returned spent))
 
 -- The same is told, or how far a job is.
 abbrev pub IsToldAlike : DeskEvent → DeskEvent → Type 0
-IsToldAlike (was_asked e first) (was_asked f second) = (e.reply ≡ f.reply) ⊎ (TellsProgress e × TellsProgress f)
+IsToldAlike (was_asked e first) (was_asked f second) = (e.reply ≡ f.reply) ⊎ (TellsHowFar e × TellsHowFar f)
 IsToldAlike (was_asked e first) (has_ended number outcome) = ⊥
 IsToldAlike (has_ended number outcome) (was_asked f second) = ⊥
 IsToldAlike (has_ended m first) (has_ended n second) = Unit {0}

@@ -19,8 +19,9 @@ returns-in-Some-get_str-clause-err c =
 pub returns-in-None-get_str-clause-ok : goal.returns-in-None-get_str-clause-ok
 returns-in-None-get_str-clause-ok c =
     let all = all_is (found_of c.args.matches.now) (codes "tenant") c.get_strs.result c.get_strs.ensures in
-    let first = first_is (λ s. s.now) (found_of c.args.matches.now) (codes "tenants") c.get_str.result c.get_str.ensures in
-    (all ∙ ap (option_map (λ (s : Bor (List (Bor Text))). texts s.now)) c.in-None.is,
+    let first = first_is (λ s. s.now) (found_of c.args.matches.now) (codes "tenants") c.get_str.result c.get_str.ensures in (
+      all ∙ ap (option_map (λ (s : Bor (List (Bor Text))). texts s.now)) c.in-None.is,
       first ∙ ap (option_map (λ (s : Bor Text). s.now)) c.in-None-get_str.is,
       c.new.ensures.items,
-      refl)
+      refl,
+    )

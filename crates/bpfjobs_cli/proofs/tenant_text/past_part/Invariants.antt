@@ -1,9 +1,9 @@
 use Rattle.std.proofs.Common.{◌≡◌, length}
-use Rattle.bpfjobs_cli.specs.Tenants.{from_mark}
+use Rattle.bpfjobs_cli.specs.Tenants.{from_delimiter}
 use Rattle.bpfjobs_cli.proofs.tenant_text.past_part.Given as goal
 
-abbrev pub invariant-loop-mark : goal.invariant-loop-mark
-invariant-loop-mark l = from_mark l.mark l.text ≡ from_mark l.mark l.rest
+abbrev pub invariant-loop-delimiter : goal.invariant-loop-delimiter
+invariant-loop-delimiter l = from_delimiter l.delimiter l.text ≡ from_delimiter l.delimiter l.rest
 
-abbrev pub decreases-loop-mark : goal.decreases-loop-mark
-decreases-loop-mark l = length l.rest
+abbrev pub decreases-loop-delimiter : goal.decreases-loop-delimiter
+decreases-loop-delimiter l = length l.rest

@@ -12,7 +12,7 @@ pub loop-n-preserved : goal.loop-n-preserved
 loop-n-preserved c = record {
   within = search rules;
   same = word_more (tenants_in c.loop-n.tenants.items) c.loop-n.n c.args.words.now (record { ref_ptr = (0, 0); now = [] }) (said_by c.said_by_word.result) (search rules)
-    c.loop-n.invariant.same (search rules) (tenants_in c.in-Ok.tenants.items) c.in-Ok.ensures.ok;
+      c.loop-n.invariant.same (search rules) (tenants_in c.in-Ok.tenants.items) c.in-Ok.ensures.ok;
 }
 
 pub returns-clause-ok : goal.returns-clause-ok

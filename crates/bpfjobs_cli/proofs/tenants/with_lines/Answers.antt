@@ -31,6 +31,6 @@ loop-tenants-preserved c =
     let less = shorter c.loop-tenants.rest.now c.cut_at.result.1.now c.split_at.result.1.now c.cut_at.ensures.back some c.split_at.ensures.back in
     record {
       same = line_next _ (tenants_in c.loop-tenants.tenants.items) c.loop-tenants.number c.loop-tenants.rest.now c.cut_at.result.0.now c.cut_at.result.1.now (said_by c.said_by_line.result) c.loop-tenants.invariant.same
-    c.cut_at.ensures.front c.cut_at.ensures.back c.said_by_line.ensures (tenants_in c.in-Ok.tenants.items) c.in-Ok.ensures.ok c.split_at.result.1.now some c.split_at.ensures.back;
+          c.cut_at.ensures.front c.cut_at.ensures.back c.said_by_line.ensures (tenants_in c.in-Ok.tenants.items) c.in-Ok.ensures.ok c.split_at.result.1.now some c.split_at.ensures.back;
       count = omega (arith, less, c.loop-tenants.invariant.count);
     }

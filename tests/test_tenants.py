@@ -1,0 +1,583 @@
+"""`bpfjobs serve --tenant NAME=PATH` and `--tenants FILE`: tenants with sockets of their own, each of which has the server to itself."""
+
+import json
+import os
+import random
+import socket
+import subprocess
+import tempfile
+import threading
+import time
+import unittest
+
+from programs import BPFJOBS, IS_SLOW, PATIENCE, assemble, frame, free_port, is_read, submit_text
+from rows import code_of
+from test_local import Client, told
+from test_log import told as told_of
+from trees import Planter, comparable
+
+ADD = code_of("mov64 r0, 40 / add64 r0, 2 / exit")
+NO_REQUEST = {"code": 73, "ok": False}
+NO_TENANT = {"code": 74, "ok": False}
+NO_JOB = {"code": 76, "ok": False}
+MOST = 256
+
+
+def account(tenant):
+    return {"op": "account", "tenant": tenant}
+
+
+def grant(tenant, amount=1000):
+    return {"op": "grant", "tenant": tenant, "amount": amount}
+
+
+def submit(tenant, credit=3, buffer=b""):
+    return submit_text([(0, ADD)], credit, buffer, tenant=tenant)
+
+
+class Raw(Client):
+    """A connection whose replies are told byte for byte."""
+
+    def told(self, request):
+        self.stream.sendall(frame(request if isinstance(request, str) else json.dumps(request)))
+        return is_read(self.stream, int.from_bytes(is_read(self.stream, 4), "big"))
+
+    def ask(self, request):
+        return json.loads(self.told(request))
+
+    def over(self, job):
+        """The result of a job, once it isn't open."""
+        until = time.monotonic() + PATIENCE
+        while (reply := self.told({"op": "result", "job": job})) == b'{"code":77,"ok":false}':
+            assert time.monotonic() < until
+            time.sleep(0.001)
+        return reply
+
+
+class Room(unittest.TestCase):
+    """A folder with the sockets of a server."""
+
+    def setUp(self):
+        room = tempfile.TemporaryDirectory()
+        self.addCleanup(room.cleanup)
+        self.room = room.name
+
+    def path(self, name):
+        return os.path.join(self.room, name)
+
+    def names(self):
+        return sorted(os.listdir(self.room))
+
+    def words(self, *tenants):
+        return [word for name in tenants for word in ("--tenant", f"{name}={self.path(name)}")]
+
+    def write(self, text, name="tenants"):
+        with open(self.path(name), "wb") as file:
+            file.write(text if isinstance(text, bytes) else text.encode())
+        return self.path(name)
+
+    def start(self, *words, stdin=subprocess.DEVNULL, stderr=subprocess.DEVNULL):
+        words = [BPFJOBS, "serve", "--socket", self.path("all"), *map(str, words)]
+        process = subprocess.Popen(words, stdin=stdin, stdout=subprocess.DEVNULL, stderr=stderr)
+        self.addCleanup(process.wait)
+        self.addCleanup(process.kill)
+        for end in (process.stdin, process.stderr):
+            if end:
+                self.addCleanup(end.close)
+        return process
+
+    def connect(self, process, name="all"):
+        client = Raw(self.path(name), process)
+        self.addCleanup(client.stream.close)
+        return client
+
+    def refused(self, *words, status=2):
+        """What is told on standard error by a server that doesn't start."""
+        before = self.names()
+        ran = subprocess.run([BPFJOBS, "serve", *words], capture_output=True, text=True, timeout=PATIENCE, check=False)
+        self.assertEqual((ran.returncode, ran.stdout, self.names()), (status, "", before), words)
+        return ran.stderr
+
+
+class Clients:
+    """Clients at work beside a test. What one of them raises fails the test."""
+
+    def __init__(self, work, *given):
+        self.raised = []
+        self.threads = [threading.Thread(target=self.run, args=(work, one)) for one in given]
+
+    def run(self, work, one):
+        try:
+            work(*one)
+        except BaseException as error:  # noqa: B902  (it is raised again at the end)
+            self.raised.append(error)
+
+    def __enter__(self):
+        for thread in self.threads:
+            thread.start()
+
+    def __exit__(self, *_why):
+        for thread in self.threads:
+            thread.join()
+        for error in self.raised:
+            raise error
+
+
+FORM, NAME = "it wants a name and a path", "a name has 1 to 32 of a to z, 0 to 9, _ and -"
+NO_PATH, NO_TEXT = "the path is empty", "it is no UTF-8"
+NAME_TWICE, PATH_TWICE, TOO_MANY = "the name is there already", "the path is there already", "256 tenants are there already"
+
+
+class Words(Room):
+    """What is told of words that name no tenant."""
+
+    def check(self, wrong, why, *before):
+        words = [part for word in (*before, wrong, "a=/later") for part in ("--tenant", word)]
+        self.assertEqual(self.refused("--socket", self.path("all"), *words), f"error: --tenant {wrong}: {why}\n")
+
+    def test_each_refusal(self):
+        for word in ("", "alice", "/run/alice"):
+            self.check(word, FORM)
+        for name in ("", "Alice", "alice bob", "a.b", "é", "a" * 33, "a/b", "\t"):
+            self.check(f"{name}={self.path('x')}", NAME)
+        self.check("alice=", NO_PATH)
+        self.check("Alice=", NAME)
+        self.check(f"alice={self.path('y')}", NAME_TWICE, f"alice={self.path('x')}")
+        self.check(f"bob={self.path('x')}", PATH_TWICE, f"alice={self.path('x')}")
+        self.check(f"alice={self.path('x')}", NAME_TWICE, f"alice={self.path('x')}")
+        self.check(f"bob={self.path('z')}=", PATH_TWICE, f"alice={self.path('z')}=")
+
+    def test_the_first_wrong_one_is_told(self):
+        self.check("B=/x", NAME, "a=/x", "b=/y")
+        self.check("b=/x", PATH_TWICE, "a=/x")
+
+    def test_too_many(self):
+        tenants = [f"t{number}={self.path(str(number))}" for number in range(MOST)]
+        self.check(f"one-more={self.path('more')}", TOO_MANY, *tenants)
+
+    def test_with_a_socket_alone(self):
+        """Beside a port there are no tenants, and neither is an endpoint by itself."""
+        line = "error: serve takes tenants with --socket alone\n"
+        neither = "error: serve needs --port <PORT> or --socket <PATH>\n"
+        both = "error: serve takes --port or --socket, and not both\n"
+        for words in (self.words("alice"), ["--tenants", self.path("none")], ["--tenant", "Wrong"]):
+            self.assertEqual(self.refused("--port", "7", *words), line)
+            self.assertEqual(self.refused(*words), neither)
+            self.assertEqual(self.refused("--port", "7", "--socket", self.path("all"), *words), both)
+
+    def test_values_that_clap_refuses(self):
+        for words in (["--tenant"], ["--tenants"], ["--tenants", "a", "--tenants", "b"]):
+            self.assertTrue(self.refused("--socket", self.path("all"), *words).startswith("error: "), words)
+
+    def test_help(self):
+        ran = subprocess.run([BPFJOBS, "serve", "--help"], capture_output=True, timeout=PATIENCE, check=False)
+        self.assertEqual((ran.returncode, ran.stderr), (0, b""))
+        for option in (b"--tenant <NAME=PATH>", b"--tenants <FILE>"):
+            self.assertIn(option, ran.stdout)
+
+
+class Lines(Room):
+    """What is told of a file of tenants."""
+
+    def check(self, text, number, why, *words):
+        file = self.write(text)
+        told_by = self.refused("--socket", self.path("all"), "--tenants", file, *words)
+        self.assertEqual(told_by, f"error: {file}, line {number}: {why}\n")
+
+    def test_each_refusal(self):
+        for line in ("alice", "alice /x y", "alice # /x", "a /x b /y"):
+            self.check(f"# tenants\n\n{line}\nB /y\n", 3, FORM)
+        for line in ("Alice /x", "a" * 33 + " /x", "a.b /x", "=a /x", "é /x", "alice=/x /y"):
+            self.check(f"a /a\n{line}", 2, NAME)
+        self.check("a /a\n\nb /b\na /c\n", 4, NAME_TWICE)
+        self.check("a /a\nb\t/b\r\n\r\nc /b\n", 4, PATH_TWICE)
+        self.check(b"a /a\nb /\xff\n", 2, NO_TEXT)
+        self.check(b"\xffa /a\n", 1, NO_TEXT)
+        self.check("a /a\nb /\x00\x00\nb /b", 3, NAME_TWICE)
+
+    def test_too_many(self):
+        lines = [f"t{number} {self.path(str(number))}" for number in range(MOST)]
+        self.check("\n".join([*lines, "more /more"]), MOST + 1, TOO_MANY)
+        words = [word for line in lines for word in ("--tenant", line.replace(" ", "="))]
+        self.check("# none\nmore /more\n", 2, TOO_MANY, *words)
+
+    def test_beside_words(self):
+        """The tenants of the words are ahead of the file's."""
+        self.check("bob /x\nalice /y\n", 2, NAME_TWICE, "--tenant", "alice=/z")
+        self.check("bob /z\n", 1, PATH_TWICE, "--tenant", "alice=/z")
+        words = ("--socket", self.path("all"), "--tenant", "B=/x", "--tenants", self.write("wrong"))
+        self.assertEqual(self.refused(*words), f"error: --tenant B=/x: {NAME}\n")
+
+    def test_a_file_that_is_not_read(self):
+        for name in (self.path("none"), self.room):
+            line = self.refused("--socket", self.path("all"), "--tenants", name, status=3)
+            self.assertTrue(line.startswith(f"bpfjobs: {name}: ") and line.count("\n") == 1, line)
+
+    def test_blanks_and_comments(self):
+        """Each of these is a tenant, or nothing."""
+        lines = ["", "# a comment", " \t\r", "  #", f"a {self.path('a')}", f"\tb\t {self.path('b')} \r", f"c {self.path('c')} # one", f"d {self.path('d#')}#"]
+        process = self.start("--sessions", 4, "--tenants", self.write("\n".join(lines)))
+        for tenant, name in (("a", "a"), ("b", "b"), ("c", "c"), ("d", "d##")):
+            with self.connect(process, name) as client:
+                self.assertEqual(client.ask(account(tenant)), NO_TENANT)
+        self.assertEqual(process.wait(PATIENCE), 0)
+        self.assertEqual(self.names(), ["tenants"])
+
+    def test_a_file_with_no_tenant(self):
+        """It is a server as any: jobs of all count together."""
+        for text in ("", "# nobody\n"):
+            process = self.start("--sessions", 1, "--tenants", self.write(text))
+            with self.connect(process) as client:
+                for number, tenant in enumerate(("a", "b"), 1):
+                    self.assertEqual(client.ask(grant(tenant)), told(1000, 1000))
+                    self.assertEqual(client.ask(submit(tenant)), {"job": number, "ok": True})
+            self.assertEqual(process.wait(PATIENCE), 0)
+
+
+class Doors(Room):
+    """What is told at a tenant's socket, and at the others."""
+
+    def serve(self, *tenants, more=("--grants",), sessions=1000, clients=16):
+        words = [word for option in more for word in (option, self.path("grants"))]
+        return self.start("--clients", clients, "--sessions", sessions, "--workers", 2, *words, *self.words(*tenants))
+
+    def test_another_s_name_is_nobody_s(self):
+        """Byte for byte, whether that tenant was granted credit, has a door, or isn't there."""
+        process = self.serve("alice", "bob")
+        alice, granter = self.connect(process, "alice"), self.connect(process, "grants")
+        for tenant in ("alice", "bob", "carol"):
+            self.assertEqual(granter.ask(grant(tenant)), told(1000, 1000))
+        for tenant in ("bob", "carol", "nobody"):
+            self.assertEqual(alice.told(account(tenant)), alice.told(account("x")))
+            self.assertEqual(alice.told(submit(tenant)), alice.told(submit("x")))
+            self.assertEqual((alice.ask(account(tenant)), alice.ask(submit(tenant))), (NO_TENANT, NO_TENANT))
+        self.assertEqual(alice.ask(account("alice")), told(1000, 1000))
+
+    def test_a_grant_by_a_door(self):
+        process = self.serve("alice", "bob")
+        alice, granter = self.connect(process, "alice"), self.connect(process, "grants")
+        for tenant in ("alice", "bob", "nobody"):
+            self.assertEqual(alice.ask(grant(tenant)), NO_REQUEST)
+            self.assertEqual(granter.ask(account(tenant)), NO_TENANT)
+
+    def test_doors_take_no_grant_without_a_socket_for_grants(self):
+        """There the socket for all takes them, and no tenant's does."""
+        process = self.serve("alice", more=())
+        alice, everybody = self.connect(process, "alice"), self.connect(process)
+        self.assertEqual(alice.ask(grant("alice")), NO_REQUEST)
+        self.assertEqual(everybody.ask(grant("alice")), told(1000, 1000))
+        self.assertEqual(everybody.ask(account("alice")), told(1000, 1000))
+        self.assertEqual(everybody.ask(submit("alice")), NO_TENANT)
+        self.assertEqual(alice.ask(account("alice")), told(1000, 1000))
+
+    def test_numbers_of_jobs(self):
+        """Those of each tenant count from 1, and none is another's."""
+        process = self.serve("alice", "bob", "carol")
+        granter, everybody = self.connect(process, "grants"), self.connect(process)
+        doors = {tenant: self.connect(process, tenant) for tenant in ("alice", "bob", "carol")}
+        for tenant in (*doors, "dave"):
+            granter.ask(grant(tenant))
+        for number in (1, 2, 3):
+            self.assertEqual(doors["alice"].ask(submit("alice", buffer=b"of alice")), {"job": number, "ok": True})
+        self.assertEqual(doors["bob"].ask(submit("bob", credit=4, buffer=b"of bob")), {"job": 1, "ok": True})
+        self.assertEqual(everybody.ask(submit("dave", credit=5)), {"job": 1, "ok": True})
+        wanted = {"alice": (3, b"of alice"), "bob": (4, b"of bob")}
+        for tenant, (credit, buffer) in wanted.items():
+            reply = json.loads(doors[tenant].over(1))
+            self.assertEqual((reply["buffer"], reply["returned"], reply["spent"]), (buffer.hex(), credit - 3, 3))
+        self.assertEqual(json.loads(everybody.over(1))["returned"], 2)
+        # another's numbers, also as the pool has them, are nobody's
+        for tenant, numbers in (("alice", (0, 4, 1001, 2000, 2002)), ("bob", (0, 2, 3, 1000, 1001, 1002)), ("carol", (1, 2, 3, 1003, 2001, 2**64 - 1))):
+            for number in numbers:
+                for op in ("status", "result"):
+                    self.assertEqual(doors[tenant].ask({"op": op, "job": number}), NO_JOB, (tenant, op, number))
+        for number in (2, 3, 1001, 1002, 2001):
+            self.assertEqual(everybody.ask({"op": "result", "job": number}), NO_JOB)
+
+    def test_the_socket_for_grants(self):
+        """It grants to each tenant by name and tells each account. It submits in no name of a door."""
+        process = self.serve("alice", "bob")
+        granter, bob = self.connect(process, "grants"), self.connect(process, "bob")
+        for amount, tenant in enumerate(("alice", "bob", "carol"), 1):
+            self.assertEqual(granter.ask(grant(tenant, amount)), told(amount, amount))
+            self.assertEqual(granter.ask(account(tenant)), told(amount, amount))
+        for tenant in ("alice", "bob"):
+            self.assertEqual(granter.told(submit(tenant)), granter.told(submit("nobody")))
+        self.assertEqual(granter.ask(submit("carol")), {"job": 1, "ok": True})
+        self.assertEqual(bob.ask(account("bob")), told(2, 2))
+        self.assertEqual(bob.ask(submit("bob")), {"code": 75, "ok": False})
+
+    def test_the_socket_for_all(self):
+        """It knows no tenant that has a door, and is as ever for those that have none."""
+        process = self.serve("alice")
+        granter, everybody = self.connect(process, "grants"), self.connect(process)
+        for tenant in ("alice", "carol"):
+            granter.ask(grant(tenant))
+        self.assertEqual(everybody.told(account("alice")), everybody.told(account("nobody")))
+        self.assertEqual(everybody.told(submit("alice")), everybody.told(submit("nobody")))
+        self.assertEqual(everybody.ask(grant("carol")), NO_REQUEST)
+        self.assertEqual(everybody.ask(submit("carol")), {"job": 1, "ok": True})
+        everybody.over(1)
+        self.assertEqual(everybody.ask(account("carol")), told(997, 1000, 3))
+
+    def test_each_path_is_its_tenant_s(self):
+        """No two are exchanged, in words and in a file, whatever their order."""
+        names = ["c", "a", "b", "e", "d"]
+        file = self.write("".join(f"{name} {self.path(name)}\n" for name in names[2:]))
+        process = self.start("--clients", 16, "--sessions", 1000, "--grants", self.path("grants"), *self.words(*names[:2]), "--tenants", file)
+        granter = self.connect(process, "grants")
+        for amount, name in enumerate(names, 1):
+            self.assertEqual(granter.ask(grant(name, amount)), told(amount, amount))
+        for amount, name in enumerate(names, 1):
+            with self.connect(process, name) as client:
+                self.assertEqual(client.ask(account(name)), told(amount, amount))
+                others = [client.ask(account(other)) for other in names if other != name]
+                self.assertEqual(others, [NO_TENANT] * 4)
+
+    def test_256_tenants(self):
+        names = [f"t{number}" for number in range(MOST)]
+        process = self.serve(*names)
+        granter = self.connect(process, "grants")
+        for name in (names[0], names[127], names[255]):
+            granter.ask(grant(name))
+            with self.connect(process, name) as client:
+                self.assertEqual(client.ask(submit(name)), {"job": 1, "ok": True})
+                client.over(1)
+                self.assertEqual(client.ask(account(name)), told(997, 1000, 3))
+
+    def test_what_is_kept_is_each_tenant_s_own(self):
+        """A tenant's reports are forgotten behind its own jobs alone."""
+        process = self.start("--clients", 8, "--sessions", 100, "--keep", 1, "--grants", self.path("grants"), *self.words("alice", "bob"))
+        granter, alice, bob = (self.connect(process, name) for name in ("grants", "alice", "bob"))
+        for tenant in ("alice", "bob"):
+            granter.ask(grant(tenant))
+        alice.ask(submit("alice"))
+        alice.over(1)
+        for number in range(1, 6):
+            bob.ask(submit("bob"))
+            bob.over(number)
+        self.assertEqual(bob.ask({"op": "result", "job": 4}), NO_JOB)
+        self.assertEqual(json.loads(alice.over(1))["spent"], 3)
+
+
+class Together(Room):
+    """Tenants at once."""
+
+    def serve(self, *words):
+        return self.start("--clients", 32, "--sessions", 100_000, "--workers", 2, "--grants", self.path("grants"), *words)
+
+    def work(self, process, tenant, seed, wrong):
+        """Submits jobs, whose results are those of the model under numbers from 1 on."""
+        planter = Planter(seed, assemble)
+        trees = [planter.tree() for _ in range(4 if IS_SLOW else 20)]
+        with self.connect(process, "grants") as granter:
+            granter.ask(grant(tenant, sum(tree.credit for tree in trees)))
+        with self.connect(process, tenant) as client:
+            for number, tree in enumerate(trees, 1):
+                reply = client.ask(submit_text(tree.programs, tree.credit, tree.buffer, tenant=tenant))
+                if reply != {"job": number, "ok": True}:
+                    wrong.append((tenant, number, reply))
+            for number, tree in enumerate(trees, 1):
+                if comparable(json.loads(client.over(number))) != tree.report():
+                    wrong.append((tenant, number, "another result"))
+            spent = sum(tree.report()["spent"] for tree in trees)
+            granted = sum(tree.credit for tree in trees)
+            if client.ask(account(tenant)) != told(granted - spent, granted, spent):
+                wrong.append((tenant, "the account"))
+
+    def test_results_of_the_model(self):
+        process, wrong = self.serve(*self.words("alice", "bob")), []
+        with Clients(self.work, *((process, tenant, seed, wrong) for seed, tenant in enumerate(("alice", "bob")))):
+            pass
+        self.assertEqual(wrong, [])
+
+    def dialog(self, client):
+        """What an honest tenant asks, and what it is told, byte for byte."""
+        replies = []
+        for number in range(1, 1 + (5 if IS_SLOW else 30)):
+            buffer = random.Random(number).randbytes(8)
+            for request in (account("alice"), submit("alice", 3 + number, buffer)):
+                replies.append(client.told(request))
+            replies.append(client.over(number))
+            for request in ({"op": "status", "job": number}, submit("alice", 10**6), grant("alice"), "no JSON", {"op": "result", "job": number + 1}):
+                replies.append(client.told(request))
+        return replies
+
+    def disturb(self, process, done):
+        """Another tenant's client, which submits, asks for numbers of all, and cuts its connections."""
+        number = 0
+        while not done.is_set() or not number:
+            with self.connect(process, "mallory") as client:
+                for _ in range(20):
+                    number += 1
+                    client.told(submit("mallory", 3, b"mallory"))
+                    client.told(submit("alice", 3, b"mallory"))
+                    for job in (1, number, 1000 + number, 2000 + number):
+                        client.told({"op": "result", "job": job})
+                client.stream.sendall(frame(submit("mallory"))[:40])
+
+    def test_an_honest_tenant_is_told_what_a_server_of_its_own_tells(self):
+        alone = self.start("--sessions", 2, "--clients", 2, "--grants", self.path("grants"))
+        with self.connect(alone, "grants") as granter, self.connect(alone) as client:
+            granter.ask(grant("alice", 10_000))
+            wanted = self.dialog(client)
+        self.assertEqual(alone.wait(PATIENCE), 0)
+        process, done = self.serve(*self.words("mallory", "alice")), threading.Event()
+        with self.connect(process, "grants") as granter:
+            for tenant in ("alice", "mallory"):
+                granter.ask(grant(tenant, 10_000))
+        with Clients(self.disturb, *[(process, done)] * 3):
+            try:
+                with self.connect(process, "alice") as client:
+                    told_beside = self.dialog(client)
+            finally:
+                done.set()
+        self.assertEqual(told_beside, wanted)
+        with self.connect(process, "grants") as granter:
+            self.assertGreater(granter.ask(account("mallory"))["spent"], 0)
+
+    def test_no_socket_waits_for_another(self):
+        """Where clients keep coming by one socket, each of the others is heard."""
+        process, done = self.serve(*self.words("alice", "bob")), threading.Event()
+
+        def come():
+            while not done.is_set():
+                with self.connect(process, "bob") as client:
+                    client.told(account("bob"))
+
+        with Clients(come, *[()] * 8):
+            try:
+                for _ in range(20):
+                    for name in ("alice", "grants", "all", "bob"):
+                        with self.connect(process, name) as client:
+                            self.assertEqual(client.ask(account("alice")), NO_TENANT)
+            finally:
+                done.set()
+
+
+class Ends(Room):
+    """How a server with tenants starts and stops, and what it leaves in the file system."""
+
+    def test_all_sockets_are_removed(self):
+        process = self.start("--sessions", 4, "--clients", 4, "--grants", self.path("grants"), *self.words("alice", "bob"))
+        names = ["alice", "all", "bob", "grants"]
+        clients = [self.connect(process, name) for name in names]
+        self.assertEqual(self.names(), names)
+        for client in clients:
+            self.assertEqual(client.ask(account("x")), NO_TENANT)
+            client.stream.close()
+        self.assertEqual(process.wait(PATIENCE), 0)
+        self.assertEqual(self.names(), [])
+
+    def test_sessions_count_over_all_sockets(self):
+        process = self.start("--sessions", 3, *self.words("alice", "bob"))
+        for name in ("bob", "all", "alice"):
+            self.assertIsNone(process.poll())
+            with self.connect(process, name) as client:
+                self.assertEqual(client.ask(account("x")), NO_TENANT)
+        self.assertEqual(process.wait(PATIENCE), 0)
+
+    def test_it_ends_with_its_input(self):
+        words = ("--clients", 4, "--until-eof", "--grants", self.path("grants"), *self.words("alice", "bob"))
+        process = self.start(*words, stdin=subprocess.PIPE)
+        clients = [self.connect(process, name) for name in ("alice", "bob", "grants")]
+        for client in clients:
+            self.assertEqual(client.ask(account("x")), NO_TENANT)
+        process.stdin.close()
+        for client in clients:
+            self.assertEqual(client.stream.recv(1), b"")
+        self.assertEqual(process.wait(PATIENCE), 0)
+        self.assertEqual(self.names(), [])
+
+    def test_what_is_no_socket_refuses_the_start(self):
+        """The file stays, and the sockets ahead of it are gone."""
+        self.write("kept", "bob")
+        for words in (self.words("alice", "bob"), self.words("bob", "alice"), ["--grants", self.path("grants"), *self.words("alice", "carol", "bob")]):
+            self.assertEqual(self.start(*words).wait(PATIENCE), 3)
+            self.assertEqual(self.names(), ["bob"])
+        with open(self.path("bob"), encoding="utf-8") as file:
+            self.assertEqual(file.read(), "kept")
+        os.unlink(self.path("bob"))
+        os.mkdir(self.path("bob"))
+        self.assertEqual(self.start(*self.words("alice", "bob")).wait(PATIENCE), 3)
+        self.assertEqual(self.names(), ["bob"])
+
+    def test_a_path_that_can_t_be_made(self):
+        for word in (f"alice={self.path('none/alice')}", f"alice={self.path('x' * 120)}"):
+            self.assertEqual(self.start("--tenant", word, *self.words("bob")).wait(PATIENCE), 3)
+            self.assertEqual(self.names(), [])
+
+    def test_a_path_of_the_server_s_own(self):
+        """The socket for all, or for grants, is no tenant's too."""
+        for name in ("all", "grants"):
+            words = ("--grants", self.path("grants"), "--tenant", f"alice={self.path(name)}")
+            self.assertEqual(self.start(*words).wait(PATIENCE), 3)
+            self.assertEqual(self.names(), [])
+
+    def test_a_live_server_s_socket_is_not_taken(self):
+        first = self.start("--clients", 8, "--sessions", 100, "--grants", self.path("grants"), *self.words("alice", "bob"))
+        alice, granter = self.connect(first, "alice"), self.connect(first, "grants")
+        granter.ask(grant("alice"))
+        names = self.names()
+        for taken in ("alice", "bob", "all", "grants"):
+            words = [BPFJOBS, "serve", "--socket", self.path("other"), "--tenant", f"eve={self.path('eve')}", "--tenant", f"alice={self.path(taken)}"]
+            ran = subprocess.run(words, capture_output=True, timeout=PATIENCE, check=False)
+            self.assertEqual((ran.returncode, self.names()), (3, names), taken)
+            self.assertEqual(alice.ask(account("alice")), told(1000, 1000))
+            with self.connect(first, "alice") as later:
+                self.assertEqual(later.ask(account("alice")), told(1000, 1000))
+
+    def test_sockets_that_were_left_behind(self):
+        first = self.start("--sessions", 100, *self.words("alice", "bob"))
+        with self.connect(first, "bob") as client:
+            self.assertEqual(client.ask(account("bob")), NO_TENANT)
+        first.kill()
+        first.wait()
+        self.assertEqual(self.names(), ["alice", "all", "bob"])
+        second = self.start("--sessions", 1, *self.words("bob", "alice"))
+        with self.connect(second, "bob") as client:
+            self.assertEqual((client.ask(account("bob")), client.ask(grant("bob"))), (NO_TENANT, NO_REQUEST))
+        self.assertEqual(second.wait(PATIENCE), 0)
+        self.assertEqual(self.names(), [])
+
+    def test_a_server_without_tenants_is_as_ever(self):
+        """By a port too: jobs of all tenants count together, and anybody asks for them."""
+        port = free_port()
+        process = subprocess.Popen([BPFJOBS, "serve", "--port", str(port), "--sessions", "1"], stdout=subprocess.DEVNULL)
+        self.addCleanup(process.wait)
+        self.addCleanup(process.kill)
+        until = time.monotonic() + PATIENCE
+        while True:
+            try:
+                stream = socket.create_connection(("127.0.0.1", port), timeout=PATIENCE)
+                break
+            except ConnectionRefusedError:
+                self.assertLess(time.monotonic(), until)
+                time.sleep(0.001)
+        with stream:
+            requests = [grant("a"), submit("a"), grant("b"), submit("b"), account("c")]
+            for request, wanted in zip(requests, [told(1000, 1000), {"job": 1, "ok": True}, told(1000, 1000), {"job": 2, "ok": True}, NO_TENANT]):
+                stream.sendall(frame(request if isinstance(request, str) else json.dumps(request)))
+                self.assertEqual(json.loads(is_read(stream, int.from_bytes(is_read(stream, 4), "big"))), wanted)
+        self.assertEqual(process.wait(PATIENCE), 0)
+
+    def test_the_log(self):
+        """A tenant's connection is told as one of a tenant, and no line has a name."""
+        process = self.start("--log", "--sessions", 3, "--grants", self.path("grants"), *self.words("alice", "bob"), stderr=subprocess.PIPE)
+        with self.connect(process, "grants") as granter:
+            granter.ask(grant("bob"))
+        with self.connect(process, "bob") as bob:
+            self.assertEqual(bob.ask(submit("bob")), {"job": 1, "ok": True})
+            bob.over(1)
+        with self.connect(process) as everybody:
+            everybody.ask(account("bob"))
+        text = process.communicate(timeout=PATIENCE)[1].decode()
+        lines = [json.loads(line) for line in text.splitlines()]
+        self.assertEqual([line["socket"] for line in told_of(lines, "opened")], ["grants", "tenant", "socket"])
+        # the pool's number of a job: its own and the tenant's place
+        self.assertEqual([line["job"] for line in told_of(lines, "started") + told_of(lines, "ended")], [1002, 1002])
+        self.assertFalse("bob" in text or "alice" in text or self.room in text)
+
+
+if __name__ == "__main__":
+    unittest.main()
