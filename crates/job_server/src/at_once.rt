@@ -13,6 +13,7 @@ use crate::plan::Plan;
 use crate::shares::{Shares, leave, shares_of};
 use crate::stop_flag::ended_by;
 use crate::timed_reader::{TimedReader, Waiting};
+use refusal::NoMemory;
 use server_log::{LogEvent, ServerLog, millis_since};
 use shared_desk::{
     ClientSeat, HistoryId, NewHistory, Origin, Passage, SharedDesk, SharedHandler, SharedHistory,
@@ -231,6 +232,13 @@ fn serve_named<
     (desk, handler, outcome)
 }
 
+// A history in which nothing stands yet, and the shares of the plan's sockets, if it has tenants.
+fn opened(alloc: Global, plan: &Plan<'_>) -> Result<(NewHistory, Option<Shares>), NoMemory> {
+    let new_history = NewHistory::new(alloc)?;
+    let shares = shares_of(alloc, plan.bounds.clients, plan.tenants.len())?;
+    Ok((new_history, shares))
+}
+
 /// Serves so many connections of the listener as the plan says, in as many threads at once as its
 /// bounds say, from this desk and this handler on, and gives both back.
 ///
@@ -258,10 +266,7 @@ pub fn serve_at_once<
         × AreOf L.opens L.fails listener s.opened
         × All (λ c. CameBy L.opens L.passage c.passage) s.closed }
 {
-    let Ok(new_history) = NewHistory::new(alloc) else {
-        return (desk, handler, Err(NO_MEMORY));
-    };
-    let Ok(shares) = shares_of(alloc, plan.bounds.clients, plan.tenants.len()) else {
+    let Ok((new_history, shares)) = opened(alloc, &plan) else {
         return (desk, handler, Err(NO_MEMORY));
     };
     let shares = shares.as_ref();

@@ -27,9 +27,9 @@ fn share_of(places: u32, sockets: u32) -> u32
 impl Shares {
     /// The shares of the sockets of so many tenants, the one for all others and that for grants.
     pub fn new(alloc: Global, places: u32, tenants: u32) -> Result<Shares, NoMemory> {
-        let mut counts = Vec::with_capacity(alloc, tenants as usize)?;
+        let mut counts = Vec::new(alloc);
         for _ in 0..tenants {
-            counts.push_reserved(AtomicU32::new(0));
+            counts.push(AtomicU32::new(0))?;
         }
         Ok(Shares {
             share: share_of(places, tenants.saturating_add(2)),

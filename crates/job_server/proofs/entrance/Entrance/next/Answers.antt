@@ -63,8 +63,8 @@ overflow_add-self-in-Err g c =
     let few = c.taking.invariant.0 in
     omega (arith, few, c.taking-test.true)
 
-pub invariant_of-self-in-Ok : goal.invariant_of-self-in-Ok
-invariant_of-self-in-Ok g c =
+pub invariant_of-self-then-may_enter : goal.invariant_of-self-then-may_enter
+invariant_of-self-then-may_enter g c =
     let few = c.taking.invariant.0 in
     let since = c.taking.invariant.2 in (
       omega (arith, few, c.taking-test.true),
@@ -77,7 +77,16 @@ invariant_of-self-in-Ok g c =
       c.taking.invariant.3,
     )
 
-pub returns-in-Ok-clause-passage : goal.returns-in-Ok-clause-passage
-returns-in-Ok-clause-passage g c =
-    c.taking.invariant.3 c.passage.result
-    (record { before = _; after = _; given = c.in-Ok.ensures.opens; is = c.passage.ensures })
+pub taking-preserved-in-Ok : goal.taking-preserved-in-Ok
+taking-preserved-in-Ok g c =
+    let few = c.taking.invariant.0 in
+    let since = c.taking.invariant.2 in (
+      omega (arith, few, c.taking-test.true),
+      c.taking.invariant.1,
+      record {
+        first = since.first;
+        begun = since.begun;
+        given = let_go _ _ _ since.given c.in-Ok.ensures.opens;
+      },
+      c.taking.invariant.3,
+    )
