@@ -3,9 +3,10 @@
 
     .ci/functions.py FOLDER [--list]
 
-FOLDER has bpfrun and bpfjobs with the names of their functions: `dirname $(./try kept bpfjobs)`. A run is that of examples/byte_at.bpf as
-hexadecimal, by bpfrun. A submit is that of a job of two instructions, at a server that has started and granted, up to the job's end on a
-worker. A line for each crate, with how many different functions; --list names them. What the compiler has put into its caller isn't counted.
+FOLDER has bpfrun and bpfjobs with the names of their functions: that which `./try kept bpfjobs bpfrun` prints. A run is that of
+examples/byte_at.bpf as hexadecimal, by bpfrun. A submit is that of a job of two instructions, at a server that has started and granted: what
+its connection's thread passes from the frame to the reply, and, told apart, what a worker passes for the job. A line for each crate, with
+how many different functions; --list names them. What the compiler has put into its caller isn't counted.
 """
 
 import collections
@@ -32,8 +33,8 @@ def passed(path):
         return {re.sub(r"::<.*", "", match[1]).strip() for match in found if match}
 
 
-def valgrind(out, words):
-    return ["valgrind", "--tool=callgrind", f"--callgrind-out-file={out}", *words]
+def valgrind(out, words, *options):
+    return ["valgrind", "--tool=callgrind", f"--callgrind-out-file={out}", *options, *words]
 
 
 def of_run(folder, room):
@@ -55,8 +56,8 @@ def ask(stream, request):
 
 def of_submit(folder, room):
     path = f"{room}/socket"
-    words = [f"{folder}/bpfjobs", "serve", "--socket", path]
-    with subprocess.Popen(valgrind(f"{room}/submit", words), stdout=subprocess.DEVNULL, stderr=subprocess.DEVNULL) as server:
+    words = valgrind(f"{room}/submit", [f"{folder}/bpfjobs", "serve", "--socket", path], "--separate-threads=yes")
+    with subprocess.Popen(words, stdout=subprocess.DEVNULL, stderr=subprocess.DEVNULL) as server:
         while not os.path.exists(path):
             time.sleep(0.1)
         with socket.socket(socket.AF_UNIX) as stream:
@@ -69,7 +70,8 @@ def of_submit(folder, room):
             subprocess.run(["callgrind_control", "-d", str(server.pid)], capture_output=True, check=True)
             time.sleep(1)
         server.wait(60)
-    return passed(f"{room}/submit.1")
+    threads = [passed(f"{room}/{name}") for name in sorted(os.listdir(room)) if name.startswith("submit.1-")]
+    return {"submit" if any(name.startswith("sessions::") for name in names) else "its job": names for names in threads if names}
 
 
 def tell(what, names, lists):
@@ -85,4 +87,5 @@ if __name__ == "__main__":
         sys.exit(__doc__)
     with tempfile.TemporaryDirectory() as made:
         tell("run", of_run(sys.argv[1], made), "--list" in sys.argv)
-        tell("submit", of_submit(sys.argv[1], made), "--list" in sys.argv)
+        for what, names in sorted(of_submit(sys.argv[1], made).items(), reverse=True):
+            tell(what, names, "--list" in sys.argv)

@@ -28,8 +28,8 @@ KINDS = {
     "lua": ("interpreter of Lua 5.4", "tested", "a count hook"),
     "dpdk jit": ("compiled, no interpreter", "validated ahead", "no loops"),
     "kernel jit": ("compiled, no interpreter", "verified ahead", "no endless loop"),
-    "wasm": ("compiled, no interpreter", "tested", "a count in each block"),
-    "wasm, no copy": ("the same on frames in its memory", "tested", "a count in each block"),
+    "wasm": ("compiled, no interpreter", "tested or trapped", "a count in each block"),
+    "wasm, no copy": ("the same on frames in its memory", "tested or trapped", "a count in each block"),
     "native, budget": ("the processor's own code", "nothing", "a count in each block"),
     "native": ("the processor's own code", "nothing", "nothing"),
 }

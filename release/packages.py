@@ -26,7 +26,7 @@ PROGRAMS = ("bpfjobs", "bpfrun")
 UNITS = ("telgovan.service", "bpfjobs@.service")
 LICENSES = ("LICENSE-APACHE", "LICENSE-MIT")
 # what a user reads, below the folder of pages, where its own links lead on
-PAGES = re.compile(r"(CHANGELOG|README|bindings/\w+/README)\.md$|LICENSE|docs/(measurements/)?[\w-]+\.(md|svg)$|examples/")
+PAGES = re.compile(r"(CHANGELOG|README|bindings/\w+/README)\.md$|LICENSE|docs/((measurements|plots)/)?[\w-]+\.(md|svg)$|examples/")
 DEBIAN_PARTS = {
     "telgovan": r"usr/bin/|lib/systemd/|usr/lib/[^/]+/libtelgovan\.so\.0$|usr/share/(bash-|man/man1/|telgovan/|doc/telgovan/)",
     "libtelgovan-dev": r"usr/include/|usr/lib/[^/]+/(libtelgovan\.(a|so)$|pkgconfig/)|usr/share/(man/man3/|doc/libtelgovan-dev/)",
