@@ -17,7 +17,7 @@ use Rattle.tenant_desks.specs.Placing.{placed}
 use Rattle.tenant_desks.specs.PlacedRunners.{starts_placed, looks_placed}
 use Rattle.tenant_desks.specs.Routing.{desk_for}
 use Rattle.tenant_desks.specs.Tenancies.{Tenancy, ChangesAt, fresh_desk}
-use Rattle.tenant_desks.specs.Answering.{KeptRunner, NotesAtPlace, EndsTaken, PassesEnds, AnswersAlone, AnswersWhere, for_place, tenant_answers, none_yet as none_ended, one_more as one_ended}
+use Rattle.tenant_desks.specs.Answering.{KeptRunner, NotesAtPlace, EndsTaken, AnswersAlone, AnswersWhere, for_place, tenant_answers, none_yet as none_ended, one_more as one_ended}
 use Rattle.tenant_desks.specs.Alone.{IsTenantHistory, is_place, sent_to}
 use Rattle.tenant_desks.specs.Seen.{OthersSteps, no_step, one_start, one_look, one_end, no_end, starts_seen, looks_seen, takes_seen, answers_seen}
 use Rattle.tenant_desks.proofs.ChangedDesks.{count_taken}
@@ -62,9 +62,11 @@ there_is (x ∷ xs) (suc i) lt = there_is xs i (omega (arith, lt))
 module _ (change : Ledger → Ledger → Type 0) (place : ℕ) (old new : List Ledger) (d : Ledger) (at : slice_get old place ≡ Some d) where
   changed_here : (k : ℕ) → place ≡ k → ChangesAt k change old new → (e : Ledger) × change d e × (slice_get new place ≡ Some e)
   changed_here k same c =
-      let there : slice_get old k ≡ Some d = ap (slice_get old) (sym same) ∙ at in
-      (c.after, subst (λ (x : Ledger). change x c.after) (some_same (slice_get old k) c.before d c.was there) c.changed,
-      ap (slice_get new) same ∙ ap (λ (l : List Ledger). slice_get l k) c.is ∙ set_here old k c.before c.after c.was)
+      let there : slice_get old k ≡ Some d = ap (slice_get old) (sym same) ∙ at in (
+        c.after,
+        subst (λ (x : Ledger). change x c.after) (some_same (slice_get old k) c.before d c.was there) c.changed,
+        ap (slice_get new) same ∙ ap (λ (l : List Ledger). slice_get l k) c.is ∙ set_here old k c.before c.after c.was,
+      )
 
   changed_apart : (k : ℕ) → place ≢ k → ChangesAt k change old new → slice_get new place ≡ Some d
   changed_apart k apart c = ap (λ (l : List Ledger). slice_get l place) c.is ∙ set_apart old k place c.after apart ∙ at
@@ -218,14 +220,18 @@ module _ {R : Type 0} (starts : R → ℕ → AdmittedJob → Result (Unit {0}) 
       first = after;
       from = s;
       legal = subst (λ l. Replays (answers_seen starts looks takes place keep) (λ x. x.0 ≡ fresh_desk) l (after, s)) (sym (sent_here names place history e goes))
-          (one_replayed (sent_to names place history) (was.first, was.from) e (after, s) was.legal (a.mid, record {
-            mid = was.desk;
-            rest = r;
-            passed = record { last = was.since; taken = was.taken; none_left = (last, was.others, none_left) };
-            told = a.told;
-            replies = replies_seen was.desk r e.query.asked a.told a.mid s a.replies;
-            frame = a.frame;
-          }, a.keeps));
+          (one_replayed (sent_to names place history) (was.first, was.from) e (after, s) was.legal (
+            a.mid,
+            record {
+              mid = was.desk;
+              rest = r;
+              passed = record { last = was.since; taken = was.taken; none_left = (last, was.others, none_left) };
+              told = a.told;
+              replies = replies_seen was.desk r e.query.asked a.told a.mid s a.replies;
+              frame = a.frame;
+            },
+            a.keeps,
+          ));
       desk = after;
       at = there;
       since = s;

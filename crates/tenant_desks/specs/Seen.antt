@@ -1,6 +1,6 @@
 -- The runner of all jobs, as the desk at one place sees it: between its own steps others may have
 -- theirs.
-use Rattle.std.specs.Prelude.{◌≡◌, ◌≢◌, ◌<◌, ℕ, List, Option, Some, None, Result}
+use Rattle.std.specs.Prelude.{◌≢◌, ◌<◌, ℕ, List, Option, Some, None, Result}
 use Rattle.credit_book.specs.declared.book.Report.{Report}
 use Rattle.credit_book.specs.declared.board.Progress.{Progress}
 use Rattle.job_core.specs.Admitted.{AdmittedJob}
