@@ -1,19 +1,15 @@
 -- Two desks of which everything that is told is the same.
-use Rattle.std.proofs.Common.{◌≡◌, ◌≢◌, ◌⊎◌, ◌+◌, ◌-◌, ◌≤◌, ℕ, zero, suc, Bool, true, false, List, [], ◌∷◌, ◌++◌, length, sum_by, slice_get, slice_set, nat_eq, if◌then◌else◌, Option, Some, None, Result, Ok, Err, string_bytes, unwrap_or, refl, sym, ap, subst, ◌∙◌, inl, inr, arith}
+use Rattle.std.proofs.Common.{◌≡◌, ◌+◌, ◌-◌, ℕ, zero, suc, Bool, true, false, List, [], ◌∷◌, ◌++◌, length, sum_by, slice_get, slice_set, nat_eq, if◌then◌else◌, Option, Some, None, Result, Ok, string_bytes, unwrap_or, refl, sym, ap, subst, ◌∙◌}
 use Rattle.std.specs.Str.{bytes_eq}
 use Rattle.std.specs.Map.{update}
 use Rattle.std.proofs.lemmas.List.Sums.{sum_by-cons}
 use Rattle.credit_book.specs.declared.book.Report.{Report}
-use Rattle.credit_book.specs.declared.board.Progress.{Progress}
-use Rattle.accounts.specs.declared.fault.DeskFault.{DeskFault}
-use Rattle.accounts.specs.declared.fault.DeskFault.TheVariants as fault
 use Rattle.accounts.specs.declared.jobs.JobEntry.{JobEntry}
 use Rattle.accounts.specs.declared.jobs.JobStanding.{JobStanding}
 use Rattle.accounts.specs.declared.jobs.JobStanding.TheVariants.{Open, Reported, Failed}
-use Rattle.accounts.specs.declared.tenants.Account.{Account}
 use Rattle.accounts.specs.Accounts.{account_with}
-use Rattle.accounts.specs.Jobs.{job_at, settled, opened_for, spent_for, opened_in, spent_by_job, progress_of, report_of}
-use Rattle.accounts.specs.Ledgers.{Ledger, Finishes, HasJobs, GrantsMore, account_at, account_in, granted_to, past_of, opened_by, spent_by_jobs, progress_at, progress_in, report_at, report_in}
+use Rattle.accounts.specs.Jobs.{job_at, settled, opened_for, spent_for, spent_by_job, report_of}
+use Rattle.accounts.specs.Ledgers.{Ledger, Finishes, HasJobs, GrantsMore, account_at, account_in, granted_to, past_of, report_at, report_in}
 
 -- ---- jobs
 

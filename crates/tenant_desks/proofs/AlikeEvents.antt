@@ -1,5 +1,5 @@
 -- Two desks at which the same happens are alike, and tell the same.
-use Rattle.std.proofs.Common.{◌≡◌, ◌≢◌, ◌⊎◌, ℕ, List, [], ◌∷◌, ◌++◌, Option, Result, refl, sym, ap, subst, ◌∙◌, inl, inr}
+use Rattle.std.proofs.Common.{◌≡◌, ◌≢◌, ℕ, List, [], ◌∷◌, ◌++◌, Option, Result, refl, sym, ap, subst, ◌∙◌, inl, inr}
 use Rattle.credit_book.specs.declared.book.Report.{Report}
 use Rattle.credit_book.specs.declared.board.Progress.{Progress}
 use Rattle.job_core.specs.Admitted.{AdmittedJob}
@@ -7,13 +7,13 @@ use Rattle.accounts.specs.Ledgers.{Ledger, Finishes}
 use Rattle.sessions.specs.Grammar.{Asked}
 use Rattle.sessions.specs.Replies.{frame_of, frame_or_refusal, reply_data}
 use Rattle.sessions.specs.declared.reply.Reply.{Reply}
-use Rattle.streams.specs.Answering.{Replies, refused}
+use Rattle.streams.specs.Answering.{Replies}
 use Rattle.shared_desk.specs.Histories.{HistoryEntry}
 use Rattle.tenant_desks.specs.PlacedRunners.{starts_placed, looks_placed}
 use Rattle.tenant_desks.specs.Tenancies.{fresh_desk}
 use Rattle.tenant_desks.specs.Answering.{AnswersAlone, for_place, refusal_frame}
 use Rattle.tenant_desks.specs.Alone.{DeskEvent, was_asked, has_ended, starts_to, HappensAlone, none_yet, one_ended, one_asked}
-use Rattle.tenant_desks.specs.Events.{EachTwo, HappensAlike, IsToldAlike, TellsHowFar}
+use Rattle.tenant_desks.specs.Events.{EachTwo, HappensAlike, IsToldAlike}
 use Rattle.tenant_desks.proofs.AlikeDesks.{AlikeDesks, finishes_alike}
 use Rattle.tenant_desks.proofs.AlikeReplies.{OneAdmission, HadMemory, AlikeReplies, carried, replies_alike}
 

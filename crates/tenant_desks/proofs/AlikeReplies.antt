@@ -1,5 +1,5 @@
 -- What is told at two desks that are alike, where the same is asked.
-use Rattle.std.proofs.Common.{◌≡◌, ◌≢◌, ◌⊎◌, ◌+◌, ◌≤◌, ◌<◌, ℕ, List, [], ◌∷◌, ◌++◌, length, map, Option, Some, None, Result, Ok, Err, unwrap_or, refl, sym, ap, subst, ◌∙◌, inl, inr, arith}
+use Rattle.std.proofs.Common.{◌≡◌, ◌≢◌, ◌⊎◌, ◌+◌, ◌≤◌, ◌<◌, ℕ, List, [], ◌∷◌, length, map, Option, Some, None, Result, Ok, Err, unwrap_or, refl, sym, ap, subst, ◌∙◌, inl, inr, arith}
 use Rattle.credit_book.specs.declared.board.Progress.{Progress}
 use Rattle.job_core.specs.declared.admission.ProgramBytes.{ProgramBytes}
 use Rattle.job_core.specs.declared.admission.AdmitFault.{AdmitFault}
@@ -16,13 +16,13 @@ use Rattle.accounts.specs.declared.jobs.JobStanding.TheVariants.{Open, Reported,
 use Rattle.accounts.specs.declared.tenants.Account.{Account}
 use Rattle.accounts.specs.Faults.{desk_code}
 use Rattle.accounts.specs.Jobs.{job_at, progress_of}
-use Rattle.accounts.specs.Ledgers.{Ledger, HasBalance, RefusesGrant, RefusesSubmit, Takes, Finishes, account_at, account_in, past_of, granted_to, most_granted, progress_at, progress_in, report_at}
+use Rattle.accounts.specs.Ledgers.{Ledger, HasBalance, RefusesGrant, RefusesSubmit, Takes, Finishes, account_at, account_in, past_of, granted_to, most_granted, progress_at, progress_in}
 use Rattle.sessions.specs.Grammar.{Asked, grant, account, submit as submit_asks, status, result, program_asked}
 use Rattle.sessions.specs.Replies.{reply_data, status_data, submit_data}
 use Rattle.sessions.specs.declared.reply.Reply.{Reply}
-use Rattle.streams.specs.Answering.{Replies, Grants, GrantsNone, Settles, TakesJob, TakesNone, Submits, account_told, progress_told, report_told, refused, submit_refused}
+use Rattle.streams.specs.Answering.{Replies, Grants, GrantsNone, Settles, TakesJob, Submits, account_told, progress_told, report_told, refused, submit_refused}
 use Rattle.tenant_desks.specs.Alone.{starts_to}
-use Rattle.tenant_desks.proofs.AlikeDesks.{AlikeDesks, AlikeJobs, AlikeOptions, AlikeEntries, account_alike, report_alike, jobs_alike, push_alike, length_alike, finishes_alike, grants_alike, job_alike}
+use Rattle.tenant_desks.proofs.AlikeDesks.{AlikeDesks, AlikeJobs, AlikeOptions, account_alike, report_alike, jobs_alike, push_alike, length_alike, finishes_alike, grants_alike, job_alike}
 
 -- Admission is the same for programs that are asked for the same, but for want of memory.
 pub record OneAdmission : Type 0 where

@@ -1,5 +1,5 @@
 -- After every history, each desk is one that its entries lead to alone.
-use Rattle.std.proofs.Common.{◌≡◌, ◌≢◌, ◌⊎◌, ◌+◌, ℕ, Bool, false, List, [], ◌∷◌, ◌++◌, length, replicate, slice_get, Option, Some, None, Result, Ok, Err, refl, sym, ap, subst, ◌∙◌, inl, inr, arith, zero, suc}
+use Rattle.std.proofs.Common.{◌≡◌, ◌≢◌, ◌+◌, ℕ, List, [], ◌∷◌, ◌++◌, length, replicate, slice_get, Option, Some, Result, Ok, Err, refl, sym, ap, subst, ◌∙◌, inl, inr, zero, suc}
 use Rattle.std.proofs.lemmas.List.{length-replicate}
 use Rattle.credit_book.specs.declared.book.Report.{Report}
 use Rattle.credit_book.specs.declared.board.Progress.{Progress}
@@ -7,12 +7,12 @@ use Rattle.job_core.specs.Admitted.{AdmittedJob}
 use Rattle.accounts.specs.Ledgers.{Ledger, Finishes}
 use Rattle.sessions.specs.Grammar.{Asked}
 use Rattle.streams.specs.Passing.{Notes}
-use Rattle.shared_desk.specs.Histories.{HistoryEntry, Replays, none_yet as nothing_replayed, one_more as one_replayed}
+use Rattle.shared_desk.specs.Histories.{HistoryEntry, none_yet as nothing_replayed, one_more as one_replayed}
 use Rattle.tenant_desks.specs.Placing.{placed}
 use Rattle.tenant_desks.specs.PlacedRunners.{starts_placed, looks_placed}
 use Rattle.tenant_desks.specs.Routing.{desk_for}
-use Rattle.tenant_desks.specs.Tenancies.{Tenancy, ChangesAt, fresh_desk, fresh_tenancy}
-use Rattle.tenant_desks.specs.Answering.{KeptRunner, NotesAtPlace, EndsTaken, PassesEnds, AnswersAlone, AnswersWhere, for_place, refusal_frame, tenant_answers, none_yet as none_taken, one_more as one_taken}
+use Rattle.tenant_desks.specs.Tenancies.{Tenancy, fresh_desk}
+use Rattle.tenant_desks.specs.Answering.{KeptRunner, NotesAtPlace, EndsTaken, AnswersAlone, AnswersWhere, for_place, refusal_frame, tenant_answers, none_yet as none_taken, one_more as one_taken}
 use Rattle.tenant_desks.specs.Alone.{IsAloneHistory, IsTenantHistory, IsToldWhy, AreToldWhy, DeskEvent, was_asked, has_ended, entries_in, sent_to, is_place, none_yet, one_ended, one_asked}
 use Rattle.tenant_desks.proofs.ChangedDesks.{EachDesk, each_changed, count_changed, count_taken}
 use Rattle.tenant_desks.proofs.StartedTo.{answered_to}
@@ -109,11 +109,11 @@ module _ {R : Type 0} (starts : R → ℕ → AdmittedJob → Result (Unit {0}) 
   -- ---- whole histories
 
   -- a state after a history
-  record Stands (names : List (List ℕ)) (keep : ℕ) (history : List HistoryEntry) (s : Tenancy × KeptRunner R) : Type 0 where
-    named : s.0.names ≡ names
-    keeps : s.1.keep ≡ keep
-    count : length s.0.desks ≡ length names + 1
-    each : EachDesk (Alone names keep history) s.0.desks
+  pub record Stands (names : List (List ℕ)) (keep : ℕ) (history : List HistoryEntry) (s : Tenancy × KeptRunner R) : Type 0 where
+    pub named : s.0.names ≡ names
+    pub keeps : s.1.keep ≡ keep
+    pub count : length s.0.desks ≡ length names + 1
+    pub each : EachDesk (Alone names keep history) s.0.desks
 
   after_answer : (names : List (List ℕ)) (keep : ℕ) (history : List HistoryEntry) (s : Tenancy × KeptRunner R) (e : HistoryEntry) (t : Tenancy × KeptRunner R)
       → tenant_answers starts looks takes s e.query e.reply t → Stands names keep history s → Stands names keep (history ++ e ∷ []) t
@@ -129,7 +129,7 @@ module _ {R : Type 0} (starts : R → ℕ → AdmittedJob → Result (Unit {0}) 
             (after_taken names keep history s.0.desks s.1.runner a.mid a.passed.last a.passed.taken was.each);
       }
 
-  stands : (names : List (List ℕ)) (keep : ℕ) (history : List HistoryEntry) (s : Tenancy × KeptRunner R) → IsTenantHistory starts looks takes names keep history s → Stands names keep history s
+  pub stands : (names : List (List ℕ)) (keep : ℕ) (history : List HistoryEntry) (s : Tenancy × KeptRunner R) → IsTenantHistory starts looks takes names keep history s → Stands names keep history s
   stands names keep history s (nothing_replayed t begins) = record {
     named = ap (λ (x : Tenancy). x.names) begins.0;
     keeps = begins.1;

@@ -1,5 +1,5 @@
 -- The answer at one of many desks.
-use Rattle.std.proofs.Common.{◌≡◌, ℕ, List, slice_get, slice_set, Option, Some, None, Result, Ok, Err, Vec, IfOk, OnErr, refl, sym, subst}
+use Rattle.std.proofs.Common.{◌≡◌, ℕ, List, slice_get, slice_set, Option, Some, Result, Ok, Err, Vec, IfOk, OnErr, refl, sym, subst}
 use Rattle.std.specs.declared.alloc.Global.{Global}
 use Rattle.refusal.specs.declared.NoMemory.{NoMemory}
 use Rattle.credit_book.specs.declared.book.Report.{Report}

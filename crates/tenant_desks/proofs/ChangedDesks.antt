@@ -1,9 +1,9 @@
 -- Desks of which one changes.
-use Rattle.std.proofs.Common.{◌≡◌, ◌≢◌, ◌⊎◌, ◌<◌, ◌≤◌, ℕ, zero, suc, List, [], ◌∷◌, length, slice_get, slice_set, Option, Some, None, Result, refl, sym, ap, subst, ◌∙◌, inl, inr, arith}
+use Rattle.std.proofs.Common.{◌≡◌, ◌≢◌, ◌⊎◌, ℕ, zero, suc, List, [], ◌∷◌, length, slice_get, slice_set, Option, Some, Result, refl, sym, ap, subst, ◌∙◌, inl, inr, arith}
 use Rattle.std.proofs.lemmas.List.{length-set}
 use Rattle.credit_book.specs.declared.book.Report.{Report}
 use Rattle.accounts.specs.Ledgers.{Ledger}
-use Rattle.tenant_desks.specs.Answering.{NotesAtPlace, EndsTaken, PassesEnds, none_yet, one_more}
+use Rattle.tenant_desks.specs.Answering.{NotesAtPlace, EndsTaken, none_yet, one_more}
 use Rattle.tenant_desks.specs.Tenancies.{ChangesAt}
 
 -- each desk is so, by its place

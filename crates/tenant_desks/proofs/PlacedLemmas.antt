@@ -1,8 +1,7 @@
 -- A runner for one desk, which takes no ends, answers at that desk.
-use Rattle.std.proofs.Common.{◌≡◌, ◌≤◌, ◌⊎◌, ℕ, List, Option, Some, None, Result, Ok, Err, Vec, IfOk, OnErr, refl, sym, ap, subst, ◌∙◌, inl, inr}
+use Rattle.std.proofs.Common.{◌≡◌, ℕ, List, Result, Ok, Err, Vec, IfOk, OnErr, refl, ap, subst, ◌∙◌, inl, inr}
 use Rattle.std.specs.declared.alloc.Global.{Global}
 use Rattle.refusal.specs.declared.NoMemory.{NoMemory}
-use Rattle.credit_book.specs.declared.book.Report.{Report}
 use Rattle.credit_book.specs.declared.board.Progress.{Progress}
 use Rattle.job_core.specs.declared.admission.ProgramBytes.{ProgramBytes}
 use Rattle.job_core.specs.Admitted.{AdmittedJob}

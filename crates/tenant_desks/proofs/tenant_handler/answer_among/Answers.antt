@@ -1,4 +1,4 @@
-use Rattle.std.proofs.Common.{◌<◌, ◌≡◌, ◌∙◌, length, map, string_bytes, refl, sym, rules, arith}
+use Rattle.std.proofs.Common.{◌<◌, ◌∙◌, length, map, string_bytes, refl, sym, rules, arith}
 use Rattle.std.proofs.lemmas.Option.{slice_get_read}
 use Rattle.streams.specs.Prepared.{asked_of}
 use Rattle.tenant_desks.specs.Routing.{desk_for}
