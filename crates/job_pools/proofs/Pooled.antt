@@ -45,6 +45,16 @@ free_board k boards n watched none = by_board (boards n) refl
 some_same : {X : Type 0} (x y : X) → Some x ≡ Some y → x ≡ y
 some_same x y same = cc
 
+-- a job was entered, and no board is watched under its number
+pub watched_entered : (k k' : List StartedJob) (boards boards' : ℕ → Option Sight) (s : StartedJob) (n : ℕ) → s.number ≡ n → k' ≡ s ∷ k → AreWatched k boards → boards' n ≡ None → SameBut boards n boards' → AreWatched k' boards'
+watched_entered k k' boards boards' s n numbered entered watched gone others m sight at =
+    elim (cases_eq m n) [
+      | inl same ↦ absurd (no_credit sight (sym gone ∙ sym (ap boards' same) ∙ at))
+      | inr differs ↦
+          let was = watched m sight (sym (others m differs) ∙ at) in
+          (ap (option_map (λ job. job.credit)) (ap (started_at m) entered ∙ entered_others s k m (λ same. differs (same ∙ numbered))) ∙ was.0, was.1)
+    ]
+
 -- ---- what is held
 
 pub held_none : (job : Option AdmittedJob) (n : ℕ) (sight : Option Sight) → sight ≡ None → held_of job n sight ≡ None

@@ -1,5 +1,6 @@
 -- What a server with doors of tenants comes to, by whether there are any.
-use Rattle.std.proofs.Common.{◌≡◌, ◌⊎◌, ◌<◌, ◌+◌, ℕ, Bool, true, false, true≢false, List, [], ◌∷◌, length, Option, Some, None, is_some, All, Result, Ok, Err, inl, inr, refl, sym, ap, ◌∙◌, nat_lt, nat_eq, if◌then◌else◌, arith}
+use Rattle.std.proofs.Common.{◌≡◌, ◌⊎◌, ◌==◌, ℕ, Bool, true, false, true≢false, List, [], ◌∷◌, length, Option, Some, None, is_some, All, Result, Ok, Err, inl, inr, refl, sym, ap, ◌∙◌, nat_lt, nat_eq, if◌then◌else◌, arith}
+use Rattle.std.proofs.lemmas.Bool.Decides.{nat_tests}
 use Rattle.streams.specs.declared.fault.StreamFault.TheVariants.{NoMemory}
 use Rattle.shared_desk.specs.declared.door.Door.{Door}
 use Rattle.shared_desk.specs.declared.door.Door.TheVariants.{Grants, Port, Socket, Tenant}
@@ -19,9 +20,15 @@ use Rattle.job_server.specs.TenantSockets.{passage_at}
 
 -- ---- with tenants or without
 
-empty_is : {D : Type 0} (doors : List D) → length doors ≡ 0 → doors ≡ []
-empty_is [] none = refl
-empty_is (d ∷ ds) none = absurd (omega (arith, none))
+pub none_if : {D : Type 0} (doors : List D) → true ≡ (length doors == 0) → doors ≡ []
+none_if [] e = refl
+none_if (d ∷ ds) e = absurd (let none : length (d ∷ ds) ≡ 0 = grind (arith, nat_tests) in omega (arith, none))
+
+pub some_if : {D : Type 0} (doors : List D) → false ≡ (length doors == 0) → doors ≡ [] → ⊥
+some_if doors e none =
+    let is : length doors ≡ 0 = ap length none in
+    let yes_it : (length doors == 0) ≡ true = grind (arith, nat_tests) in
+    true≢false (sym yes_it ∙ sym e)
 
 module _ {L : Type 0} (opens fails : L → L → Type 0) (passage_of : L → Passage) (listener : L) (doors : List TenantDoor) (bounds : Bounds) (sessions : ℕ) (may_stop : Bool) (outcome : Result (Unit {0}) ServeFault) where
   -- without

@@ -74,7 +74,7 @@ module _ {R Q : Type 0} (f : R → Q)
     none_left = takes_alike p.last None left p.none_left;
   }
 
-  alone_as : (keep : ℕ) (r s : PlacedRunner R) (query : Result Asked ℕ) (reply : List ℕ) (before after : Ledger) → AnswersAlone starts looks keep r s query reply before after → AnswersAlone starts1 looks1 keep (placed_as r) (placed_as s) query reply before after
+  alone_as : (keep : ℕ) (r s : PlacedRunner R) (query : Result Asked ℕ) (reply : List ℕ) (before after : Ledger) → AnswersAlone (starts_placed starts) (looks_placed looks) keep r s query reply before after → AnswersAlone (starts_placed starts1) (looks_placed looks1) keep (placed_as r) (placed_as s) query reply before after
   alone_as keep r s query reply before after a = record {
     mid = a.mid;
     told = a.told;

@@ -68,10 +68,9 @@ fn serve_on_pool<
     let pool = LastingPool::new(rt, alloc, register, keeper, queue, ended, started > 0);
     let runner = LimitedRunner::new(pool, plan.bounds.open_jobs);
     if plan.tenants.is_empty() {
-        serve_at_desk(rt, alloc, listener, runner, plan)
-    } else {
-        serve_at_desks(rt, alloc, listener, runner, plan)
+        return serve_at_desk(rt, alloc, listener, runner, plan);
     }
+    serve_at_desks(rt, alloc, listener, runner, plan)
 }
 
 // The same with the threads in a scope of their own.

@@ -4,16 +4,18 @@ use Rattle.std.proofs.lemmas.List.{length-replicate}
 use Rattle.credit_book.specs.declared.book.Report.{Report}
 use Rattle.credit_book.specs.declared.board.Progress.{Progress}
 use Rattle.job_core.specs.Admitted.{AdmittedJob}
-use Rattle.accounts.specs.Ledgers.{Ledger}
+use Rattle.accounts.specs.Ledgers.{Ledger, Finishes}
 use Rattle.sessions.specs.Grammar.{Asked}
 use Rattle.streams.specs.Passing.{Notes}
 use Rattle.shared_desk.specs.Histories.{HistoryEntry, Replays, none_yet as nothing_replayed, one_more as one_replayed}
 use Rattle.tenant_desks.specs.Placing.{placed}
+use Rattle.tenant_desks.specs.PlacedRunners.{starts_placed, looks_placed}
 use Rattle.tenant_desks.specs.Routing.{desk_for}
 use Rattle.tenant_desks.specs.Tenancies.{Tenancy, ChangesAt, fresh_desk, fresh_tenancy}
-use Rattle.tenant_desks.specs.Answering.{KeptRunner, NotesAtPlace, EndsTaken, PassesEnds, AnswersAlone, AnswersWhere, refusal_frame, tenant_answers, none_yet as none_taken, one_more as one_taken}
-use Rattle.tenant_desks.specs.Alone.{IsAloneHistory, IsTenantHistory, IsToldWhy, AreToldWhy, sent_to, is_place, none_yet, one_ended, one_more}
+use Rattle.tenant_desks.specs.Answering.{KeptRunner, NotesAtPlace, EndsTaken, PassesEnds, AnswersAlone, AnswersWhere, for_place, refusal_frame, tenant_answers, none_yet as none_taken, one_more as one_taken}
+use Rattle.tenant_desks.specs.Alone.{IsAloneHistory, IsTenantHistory, IsToldWhy, AreToldWhy, DeskEvent, was_asked, has_ended, entries_in, sent_to, is_place, none_yet, one_ended, one_asked}
 use Rattle.tenant_desks.proofs.ChangedDesks.{EachDesk, each_changed, count_changed, count_taken}
+use Rattle.tenant_desks.proofs.StartedTo.{answered_to}
 use Rattle.tenant_desks.proofs.SentEntries.{sent_here, sent_elsewhere, another_place}
 
 is_fresh : (n place : ℕ) (desk : Ledger) → slice_get (replicate n fresh_desk) place ≡ Some desk → fresh_desk ≡ desk
@@ -21,12 +23,42 @@ is_fresh zero place desk at = cc
 is_fresh (suc n) zero desk at = cc
 is_fresh (suc n) (suc place) desk at = is_fresh n place desk at
 
+entries_ended : (events : List DeskEvent) (number : ℕ) (outcome : Result Report ℕ) → entries_in (events ++ has_ended number outcome ∷ []) ≡ entries_in events
+entries_ended [] number outcome = refl
+entries_ended (was_asked e started ∷ events) number outcome = ap (λ es. e ∷ es) (entries_ended events number outcome)
+entries_ended (has_ended n o ∷ events) number outcome = entries_ended events number outcome
+
+entries_asked : (events : List DeskEvent) (e : HistoryEntry) (started : Result (Unit {0}) ℕ) → entries_in (events ++ was_asked e started ∷ []) ≡ entries_in events ++ e ∷ []
+entries_asked [] e started = refl
+entries_asked (was_asked f other ∷ events) e started = ap (λ es. f ∷ es) (entries_asked events e started)
+entries_asked (has_ended n o ∷ events) e started = entries_asked events e started
+
 module _ {R : Type 0} (starts : R → ℕ → AdmittedJob → Result (Unit {0}) ℕ → R → Type 0) (looks : R → ℕ → Progress → R → Type 0) (takes : R → Option (ℕ × Result Report ℕ) → R → Type 0) where
   -- the desk at the place is one that these entries lead to alone
   abbrev Alone : List (List ℕ) → ℕ → List HistoryEntry → ℕ → Ledger → Type 0
   Alone names keep history place desk = IsAloneHistory starts looks takes place keep (sent_to names place history) desk
 
   -- ---- ends of jobs are passed to the desks
+
+  -- what happens more at the desk
+
+  alone_ended : (place keep : ℕ) (entries : List HistoryEntry) (d e : Ledger) (number : ℕ) (outcome : Result Report ℕ) (r s : R) → IsAloneHistory starts looks takes place keep entries d
+      → takes r (Some (placed number place, outcome)) s → Finishes d number outcome e → IsAloneHistory starts looks takes place keep entries e
+  alone_ended place keep entries d e number outcome r s h step finishes = record {
+    events = h.events ++ has_ended number outcome ∷ [];
+    same = entries_ended h.events number outcome ∙ h.same;
+    happens = one_ended h.events d e number outcome r s h.happens step finishes;
+  }
+
+  alone_asked : (place keep : ℕ) (entries : List HistoryEntry) (d a : Ledger) (e : HistoryEntry) (r s : R) → IsAloneHistory starts looks takes place keep entries d
+      → AnswersAlone (starts_placed starts) (looks_placed looks) keep (for_place place r) (for_place place s) e.query.asked e.reply d a → IsAloneHistory starts looks takes place keep (entries ++ e ∷ []) a
+  alone_asked place keep entries d a e r s h alone =
+      let told = answered_to (starts_placed starts) (looks_placed looks) keep (for_place place r) (for_place place s) e.query.asked e.reply d a alone in
+      record {
+        events = h.events ++ was_asked e told.0 ∷ [];
+        same = entries_asked h.events e told.0 ∙ ap (λ es. es ++ e ∷ []) h.same;
+        happens = one_asked h.events d a e told.0 r s h.happens told.1;
+      }
 
   after_note : (names : List (List ℕ)) (keep : ℕ) (history : List HistoryEntry) (old : List Ledger) (r : R) (number : ℕ) (outcome : Result Report ℕ) (s : R) (new : List Ledger)
       → takes r (Some (number, outcome)) s → NotesAtPlace old number outcome new → EachDesk (Alone names keep history) old → EachDesk (Alone names keep history) new
@@ -37,7 +69,7 @@ module _ {R : Type 0} (starts : R → ℕ → AdmittedJob → Result (Unit {0}) 
     where
       noted : (d e : Ledger) → Alone names keep history n.place d → Notes d n.own outcome e → Alone names keep history n.place e
       noted d e h (inl finishes) =
-          one_ended (sent_to names n.place history) d e n.own outcome r s h (subst (λ (m : ℕ). takes r (Some (m, outcome)) s) n.is step) finishes
+          alone_ended n.place keep (sent_to names n.place history) d e n.own outcome r s h (subst (λ (m : ℕ). takes r (Some (m, outcome)) s) n.is step) finishes
       noted d e h (inr t) = subst (Alone names keep history n.place) (sym t.1) h
 
   after_taken : (names : List (List ℕ)) (keep : ℕ) (history : List HistoryEntry) (ds : List Ledger) (r : R) (es : List Ledger) (s : R)
@@ -56,14 +88,14 @@ module _ {R : Type 0} (starts : R → ℕ → AdmittedJob → Result (Unit {0}) 
       subst (λ es. IsAloneHistory starts looks takes i keep es desk) (sym (sent_elsewhere names i history e (ap (is_place i) goes)))
       (was i desk (ap (λ l. slice_get l i) (sym answered.1) ∙ at))
   after_where names keep history e (Ok place) ds r es s goes answered was =
-      each_changed (Alone names keep history) (Alone names keep (history ++ e ∷ [])) place (AnswersAlone starts looks keep (record { runner = r; place = place }) (record { runner = s; place = place }) e.query.asked e.reply)
+      each_changed (Alone names keep history) (Alone names keep (history ++ e ∷ [])) place (AnswersAlone (starts_placed starts) (looks_placed looks) keep (for_place place r) (for_place place s) e.query.asked e.reply)
       ds es answered here others was
     where
-      here : (d a : Ledger) → Alone names keep history place d → AnswersAlone starts looks keep (record { runner = r; place = place }) (record { runner = s; place = place }) e.query.asked e.reply d a
+      here : (d a : Ledger) → Alone names keep history place d → AnswersAlone (starts_placed starts) (looks_placed looks) keep (for_place place r) (for_place place s) e.query.asked e.reply d a
           → Alone names keep (history ++ e ∷ []) place a
       here d a h alone =
           subst (λ es. IsAloneHistory starts looks takes place keep es a) (sym (sent_here names place history e goes))
-          (one_more (sent_to names place history) d a e r s h alone)
+          (alone_asked place keep (sent_to names place history) d a e r s h alone)
 
       others : (i : ℕ) (d : Ledger) → i ≢ place → Alone names keep history i d → Alone names keep (history ++ e ∷ []) i d
       others i d apart h =
@@ -102,7 +134,7 @@ module _ {R : Type 0} (starts : R → ℕ → AdmittedJob → Result (Unit {0}) 
     named = ap (λ (x : Tenancy). x.names) begins.0;
     keeps = begins.1;
     count = ap (λ (x : Tenancy). length x.desks) begins.0 ∙ length-replicate (length names + 1) fresh_desk;
-    each = λ place desk at. subst (IsAloneHistory starts looks takes place keep []) (is_fresh (length names + 1) place desk (ap (λ (x : Tenancy). slice_get x.desks place) (sym begins.0) ∙ at)) none_yet;
+    each = λ place desk at. subst (IsAloneHistory starts looks takes place keep []) (is_fresh (length names + 1) place desk (ap (λ (x : Tenancy). slice_get x.desks place) (sym begins.0) ∙ at)) (record { events = []; same = refl; happens = none_yet });
   }
   stands names keep history s (one_replayed h t e u before answered) = after_answer names keep h t e u answered (stands names keep h t before)
 

@@ -8,6 +8,7 @@ use Rattle.job_core.specs.Admitted.{AdmittedJob}
 use Rattle.accounts.specs.Ledgers.{Ledger}
 use Rattle.sessions.specs.Grammar.{Asked}
 use Rattle.tenant_desks.specs.declared.placed_runner.PlacedRunner.{PlacedRunner}
+use Rattle.tenant_desks.specs.PlacedRunners.{starts_placed, looks_placed}
 use Rattle.tenant_desks.specs.Answering.{PassesEnds, AnswersAlone, AnswersWhere, DeskAnswer, for_place, refusal_frame}
 use Rattle.tenant_desks.proofs.PlacedLemmas.{at_its_place}
 
@@ -16,16 +17,19 @@ module _ {R : Type 0} (starts : R → ℕ → AdmittedJob → Result (Unit {0}) 
   pub nowhere_err : (keep code : ℕ) (to : Result ℕ ℕ) (query : Result Asked ℕ) (desks : List Ledger) (runner : R) (mid : List Ledger) (rest : R) (told : Result (Vec ℕ Global) NoMemory)
       → to ≡ Err code → PassesEnds takes desks runner mid rest → OnErr told ((reply : List ℕ) × DeskAnswer starts looks takes keep to query desks runner reply mid rest)
   nowhere_err keep code to query desks runner mid rest (Ok frame) goes passed = tt
-  nowhere_err keep code to query desks runner mid rest (Err e) goes passed = (refusal_frame code, record {
-    mid = mid;
-    rest = rest;
-    passed = passed;
-    answered = subst (λ w. AnswersWhere starts looks keep w query mid rest (refusal_frame code) mid rest) (sym goes) (refl, refl, refl);
-  })
+  nowhere_err keep code to query desks runner mid rest (Err e) goes passed = (
+    refusal_frame code,
+    record {
+      mid = mid;
+      rest = rest;
+      passed = passed;
+      answered = subst (λ w. AnswersWhere starts looks keep w query mid rest (refusal_frame code) mid rest) (sym goes) (refl, refl, refl);
+    },
+  )
 
   -- it goes to the desk at a place
   at_desk : (keep place : ℕ) (to : Result ℕ ℕ) (query : Result Asked ℕ) (desks : List Ledger) (runner : R) (mid : List Ledger) (rest : R) (before after : Ledger) (s : PlacedRunner R) (reply : List ℕ)
-      → to ≡ Ok place → PassesEnds takes desks runner mid rest → slice_get mid place ≡ Some before → AnswersAlone starts looks keep (for_place place rest) s query reply before after
+      → to ≡ Ok place → PassesEnds takes desks runner mid rest → slice_get mid place ≡ Some before → AnswersAlone (starts_placed starts) (looks_placed looks) keep (for_place place rest) s query reply before after
       → DeskAnswer starts looks takes keep to query desks runner reply (slice_set mid place after) s.runner
   at_desk keep place to query desks runner mid rest before after s reply goes passed there alone = record {
     mid = mid;
@@ -41,13 +45,13 @@ module _ {R : Type 0} (starts : R → ℕ → AdmittedJob → Result (Unit {0}) 
   }
 
   pub at_desk_ok : (keep place : ℕ) (to : Result ℕ ℕ) (query : Result Asked ℕ) (desks : List Ledger) (runner : R) (mid : List Ledger) (rest : R) (before after : Ledger) (s : PlacedRunner R) (told : Result (Vec ℕ Global) NoMemory)
-      → to ≡ Ok place → PassesEnds takes desks runner mid rest → slice_get mid place ≡ Some before → IfOk told (λ reply. AnswersAlone starts looks keep (for_place place rest) s query reply.items before after)
+      → to ≡ Ok place → PassesEnds takes desks runner mid rest → slice_get mid place ≡ Some before → IfOk told (λ reply. AnswersAlone (starts_placed starts) (looks_placed looks) keep (for_place place rest) s query reply.items before after)
       → IfOk told (λ reply. DeskAnswer starts looks takes keep to query desks runner reply.items (slice_set mid place after) s.runner)
   at_desk_ok keep place to query desks runner mid rest before after s (Ok reply) goes passed there alone = at_desk keep place to query desks runner mid rest before after s reply.items goes passed there alone
   at_desk_ok keep place to query desks runner mid rest before after s (Err e) goes passed there alone = alone
 
   pub at_desk_err : (keep place : ℕ) (to : Result ℕ ℕ) (query : Result Asked ℕ) (desks : List Ledger) (runner : R) (mid : List Ledger) (rest : R) (before after : Ledger) (s : PlacedRunner R) (told : Result (Vec ℕ Global) NoMemory)
-      → to ≡ Ok place → PassesEnds takes desks runner mid rest → slice_get mid place ≡ Some before → OnErr told ((reply : List ℕ) × AnswersAlone starts looks keep (for_place place rest) s query reply before after)
+      → to ≡ Ok place → PassesEnds takes desks runner mid rest → slice_get mid place ≡ Some before → OnErr told ((reply : List ℕ) × AnswersAlone (starts_placed starts) (looks_placed looks) keep (for_place place rest) s query reply before after)
       → OnErr told ((reply : List ℕ) × DeskAnswer starts looks takes keep to query desks runner reply (slice_set mid place after) s.runner)
   at_desk_err keep place to query desks runner mid rest before after s (Ok reply) goes passed there alone = alone
   at_desk_err keep place to query desks runner mid rest before after s (Err e) goes passed there alone = (alone.0, at_desk keep place to query desks runner mid rest before after s alone.0 goes passed there alone.1)

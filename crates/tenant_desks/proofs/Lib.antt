@@ -2,4 +2,9 @@ mod PlacedLemmas
 mod AmongLemmas
 mod ChangedDesks
 mod SentEntries
+mod StartedTo
 mod AloneLemmas
+mod AlikeDesks
+mod AlikeReplies
+mod AdmissionLemmas
+mod AlikeEvents

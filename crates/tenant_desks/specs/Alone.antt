@@ -6,6 +6,7 @@ use Rattle.job_core.specs.Admitted.{AdmittedJob}
 use Rattle.accounts.specs.Ledgers.{Ledger, Finishes}
 use Rattle.shared_desk.specs.Histories.{HistoryEntry, Query, Replays, put_if}
 use Rattle.tenant_desks.specs.Placing.{placed}
+use Rattle.tenant_desks.specs.PlacedRunners.{starts_placed, looks_placed}
 use Rattle.tenant_desks.specs.Routing.{desk_for}
 use Rattle.tenant_desks.specs.Tenancies.{Tenancy, fresh_desk, fresh_tenancy}
 use Rattle.tenant_desks.specs.Answering.{AnswersAlone, KeptRunner, for_place, refusal_frame, tenant_answers}
@@ -24,24 +25,52 @@ abbrev pub sent_to : List (List ℕ) → ℕ → List HistoryEntry → List Hist
 sent_to names place [] = []
 sent_to names place (e ∷ es) = put_if (goes_to names place e.query) e (sent_to names place es)
 
--- A history of one desk alone, from new on, that leads to this desk. The desk at the place is the
--- only one here: each entry is answered by it, and between entries its open jobs end, each as the
--- shared runner tells under the job's number there.
-pub data IsAloneHistory {R : Type 0} (starts : R → ℕ → AdmittedJob → Result (Unit {0}) ℕ → R
+-- Something was asked and replied, and the start of its job came to this, where there was one; or an
+-- open job ended.
+pub data DeskEvent : Type 0 where
+  was_asked : HistoryEntry → Result (Unit {0}) ℕ → DeskEvent
+  has_ended : ℕ → Result Report ℕ → DeskEvent
+
+-- the entries among these events
+abbrev pub entries_in : List DeskEvent → List HistoryEntry
+entries_in [] = []
+entries_in (was_asked e started ∷ events) = e ∷ entries_in events
+entries_in (has_ended number outcome ∷ events) = entries_in events
+
+-- a start that comes to this
+abbrev pub starts_to : {P : Type 0} → Result (Unit {0}) ℕ → (P → ℕ → AdmittedJob
+    → Result (Unit {0}) ℕ → P → Type 0) → P → ℕ → AdmittedJob → Result (Unit {0}) ℕ → P → Type 0
+starts_to outcome starts old number job result new =
+    starts old number job result new × (result ≡ outcome)
+
+-- What happened at a new desk leads to this one. The desk at the place is the only one here: it
+-- answers each entry as if it were alone, and its open jobs end, each as the runner of all jobs tells
+-- under the job's number there.
+pub data HappensAlone {R : Type 0} (starts : R → ℕ → AdmittedJob → Result (Unit {0}) ℕ → R
     → Type 0) (looks : R → ℕ → Progress → R → Type 0)
-    (takes : R → Option (ℕ × Result Report ℕ) → R → Type 0) (place keep : ℕ) :
-    List HistoryEntry → Ledger → Type 0 where
-  none_yet : IsAloneHistory starts looks takes place keep [] fresh_desk
-  one_ended : (history : List HistoryEntry) (before after : Ledger) (number : ℕ)
+    (takes : R → Option (ℕ × Result Report ℕ) → R → Type 0) (place keep : ℕ) : List DeskEvent
+    → Ledger → Type 0 where
+  none_yet : HappensAlone starts looks takes place keep [] fresh_desk
+  one_ended : (events : List DeskEvent) (before after : Ledger) (number : ℕ)
       (outcome : Result Report ℕ) (r s : R)
-      → IsAloneHistory starts looks takes place keep history before
+      → HappensAlone starts looks takes place keep events before
       → takes r (Some (placed number place, outcome)) s → Finishes before number outcome after
-      → IsAloneHistory starts looks takes place keep history after
-  one_more : (history : List HistoryEntry) (before after : Ledger) (e : HistoryEntry) (r s : R)
-      → IsAloneHistory starts looks takes place keep history before
-      → AnswersAlone starts looks keep (for_place place r) (for_place place s) e.query.asked e.reply
-      before after
-      → IsAloneHistory starts looks takes place keep (history ++ e ∷ []) after
+      → HappensAlone starts looks takes place keep (events ++ has_ended number outcome ∷ []) after
+  one_asked : (events : List DeskEvent) (before after : Ledger) (e : HistoryEntry)
+      (started : Result (Unit {0}) ℕ) (r s : R)
+      → HappensAlone starts looks takes place keep events before
+      → AnswersAlone (starts_to started (starts_placed starts)) (looks_placed looks) keep
+      (for_place place r) (for_place place s) e.query.asked e.reply before after
+      → HappensAlone starts looks takes place keep (events ++ was_asked e started ∷ []) after
+
+-- these entries, with ends of jobs between them, lead to the desk alone
+pub record IsAloneHistory {R : Type 0} (starts : R → ℕ → AdmittedJob → Result (Unit {0}) ℕ → R
+    → Type 0) (looks : R → ℕ → Progress → R → Type 0)
+    (takes : R → Option (ℕ × Result Report ℕ) → R → Type 0) (place keep : ℕ)
+    (entries : List HistoryEntry) (desk : Ledger) : Type 0 where
+  pub events : List DeskEvent
+  pub same : entries_in events ≡ entries
+  pub happens : HappensAlone starts looks takes place keep events desk
 
 -- A history that a server may have whose tenants of these names have desks of their own, each of
 -- which keeps so many reports. It begins with new desks.

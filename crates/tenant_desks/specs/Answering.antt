@@ -53,16 +53,14 @@ pub record PassesEnds {R : Type 0} (takes : R → Option (ℕ × Result Report �
 abbrev pub refusal_frame : ℕ → List ℕ
 refusal_frame code = frame_of (Refused code None None)
 
--- What is asked is answered at one desk as if there were no other, by a runner for that desk, and
--- then the desk forgets.
-pub record AnswersAlone {R : Type 0} (starts : R → ℕ → AdmittedJob → Result (Unit {0}) ℕ → R
-    → Type 0) (looks : R → ℕ → Progress → R → Type 0) (keep : ℕ) (runner : PlacedRunner R)
-    (left : PlacedRunner R) (query : Result Asked ℕ) (reply : List ℕ) (before after : Ledger) :
-    Type 0 where
+-- What is asked is answered at one desk by a runner, as if there were no other desk, and then the
+-- desk forgets.
+pub record AnswersAlone {P : Type 0} (starts : P → ℕ → AdmittedJob → Result (Unit {0}) ℕ → P
+    → Type 0) (looks : P → ℕ → Progress → P → Type 0) (keep : ℕ) (runner left : P)
+    (query : Result Asked ℕ) (reply : List ℕ) (before after : Ledger) : Type 0 where
   pub mid : Ledger
   pub told : Reply
-  pub replies : Replies (starts_placed starts) (looks_placed looks) before runner query
-      (reply_data told) mid left
+  pub replies : Replies starts looks before runner query (reply_data told) mid left
   pub frame : reply ≡ frame_of told
   pub keeps : KeepsLast keep mid after
 
@@ -79,7 +77,8 @@ AnswersWhere starts looks keep (Err code) query desks runner reply after left =
     (reply ≡ refusal_frame code) × (after ≡ desks) × (left ≡ runner)
 AnswersWhere starts looks keep (Ok place) query desks runner reply after left =
     ChangesAt place
-    (AnswersAlone starts looks keep (for_place place runner) (for_place place left) query reply)
+    (AnswersAlone (starts_placed starts) (looks_placed looks) keep (for_place place runner)
+    (for_place place left) query reply)
     desks after
 
 -- Every finished job is passed to its own desk, and then a query is answered at the desk that it

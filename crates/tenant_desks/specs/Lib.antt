@@ -1,3 +1,4 @@
+pub mod Events
 pub mod Placing
 pub mod PlacedRunners
 pub mod Routing

@@ -3,8 +3,9 @@
 ghost use Rattle.std.specs.Prelude.{◌≡◌, ◌+◌, ℕ, List, Some, length, slice_get};
 ghost use Rattle.accounts.specs.Ledgers.{Ledger};
 ghost use Rattle.shared_desk.specs.Histories.{HistoryEntry};
-ghost use Rattle.tenant_desks.specs.Alone.{AreToldWhy, IsAloneHistory, IsTenantHistory, sent_to};
+ghost use Rattle.tenant_desks.specs.Alone.{AreToldWhy, DeskEvent, HappensAlone, IsAloneHistory, IsTenantHistory, sent_to};
 ghost use Rattle.tenant_desks.specs.Answering.{KeptRunner};
+ghost use Rattle.tenant_desks.specs.Events.{EachTwo, HappensAlike, IsToldAlike};
 ghost use Rattle.tenant_desks.specs.Tenancies.{Tenancy};
 
 use streams::Runner;
@@ -26,4 +27,14 @@ pub fn each_tenant_is_alone<N: Runner>()
         (end : Tenancy × KeptRunner N)
         → IsTenantHistory N.starts N.looks N.takes names keep history end
         → AreToldWhy names history }
+{}
+
+/// A tenant is told nothing of others. Where the same happens at its desk in two histories, the same is
+/// told, or how far a job is: the same is asked, starts of its jobs come to the same, and its jobs end
+/// the same. Neither history forgets a report, or refuses for want of memory.
+pub fn others_are_not_told<N: Runner>()
+    ensures { (place : ℕ) (first second : List DeskEvent) (d e : Ledger)
+        → HappensAlone N.starts N.looks N.takes place 0 first d
+        → HappensAlone N.starts N.looks N.takes place 0 second e
+        → EachTwo HappensAlike first second → EachTwo IsToldAlike first second }
 {}

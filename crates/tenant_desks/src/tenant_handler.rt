@@ -3,6 +3,7 @@
 ghost use Rattle.std.specs.Prelude.{◌≡◌, ◌≤◌, ◌<◌, ◌+◌, ℕ, IfOk, List, OnErr, length, map, option_map, string_bytes};
 ghost use Rattle.streams.specs.Prepared.{asked_of};
 ghost use Rattle.tenant_desks.specs.Answering.{AnswersAlone, DeskAnswer, refusal_frame};
+ghost use Rattle.tenant_desks.specs.PlacedRunners.{looks_placed, starts_placed};
 ghost use Rattle.tenant_desks.specs.Placing.{placed_refusal};
 ghost use Rattle.tenant_desks.specs.Routing.{desk_for};
 
@@ -96,10 +97,12 @@ fn answer_at<N: Runner>(
 ) -> (Option<SubmitRefusal>, Result<Vec<u8>, NoMemory>)
     requires { N.ready runner.old.runner }
     ensures ready { N.ready runner.new.runner }
-    ensures ok { IfOk result.1 (λ reply. AnswersAlone N.starts N.looks keep runner.old runner.new
-        (asked_of request) reply.items desk.old desk.new) }
-    ensures err { OnErr result.1 ((reply : List ℕ) × AnswersAlone N.starts N.looks keep runner.old
-        runner.new (asked_of request) reply desk.old desk.new) }
+    ensures ok { IfOk result.1 (λ reply. AnswersAlone (starts_placed N.starts)
+        (looks_placed N.looks) keep runner.old runner.new (asked_of request) reply.items desk.old
+        desk.new) }
+    ensures err { OnErr result.1 ((reply : List ℕ) × AnswersAlone (starts_placed N.starts)
+        (looks_placed N.looks) keep runner.old runner.new (asked_of request) reply desk.old
+        desk.new) }
 {
     let told = runner.answer_and_tell(alloc, desk, request);
     desk.keep_last(keep);

@@ -1,25 +1,49 @@
-use Rattle.std.proofs.Common.{ap, ◌∙◌, sym, subst}
-use Rattle.std.specs.Prelude.{All}
+use Rattle.std.proofs.Common.{refl, sym, subst}
+use Rattle.std.specs.Prelude.{All, is_some}
+use Rattle.job_server.specs.AtOnce.{new_desk}
 use Rattle.job_server.specs.Listening.{AreOf, CameBy}
+use Rattle.job_server.specs.TenantServing.{door_names}
 use Rattle.job_server.proofs.Alike.{beside}
 use Rattle.job_server.proofs.AtOnceAlike.{hosted_serving, keeping}
+use Rattle.job_server.proofs.ByDoors.{none_if, plain_at, some_if, tenants_at}
+use Rattle.job_server.proofs.TenantAlike.{hosted_as, tenants_serving}
 use Rattle.job_server.proofs.serving.serve_on_pool.Goals as goal
+
+pub returns-then-is_empty : goal.returns-then-is_empty
+returns-then-is_empty g c =
+    let at = c.serve_at_desk.ensures in
+    let pool = c.new-pool.result in
+    let limited = c.new-runner.result in
+    let bounds = c.args.plan.bounds in
+    let hosted = hosted_serving (λ r. (r.keeper, r.boards)) _ _ _ (λ r n j x s h. h.0) (λ r n p s h. h) (λ r x s h. h.0) bounds new_desk (record { runner = limited; keep = bounds.keep }) limited pool at.0 c.args.plan.sessions _ c.serve_at_desk.result
+    refl refl refl c.new-runner.ensures.0 c.new-runner.ensures.1 at.1 in
+    plain_at g.L.Listener.opens g.L.Listener.fails g.L.Listener.passage c.args.listener c.args.plan.tenants.now bounds c.args.plan.sessions (is_some c.args.plan.stop) c.serve_at_desk.result
+    (none_if c.args.plan.tenants.now c.if-is_empty.ensures)
+    (record {
+      first = (pool.keeper, pool.boards);
+      none = c.new-pool.ensures;
+      end = beside (keeping (λ r. (r.keeper, r.boards))) at.0;
+      serving = hosted.0;
+    })
+    (subst (AreOf g.L.Listener.opens g.L.Listener.fails c.args.listener) (sym hosted.1) at.2)
+    (subst (All (λ c. CameBy g.L.Listener.opens g.L.Listener.passage c.passage)) (sym hosted.2) at.3)
 
 pub returns : goal.returns
 returns g c =
-    let served = c.serve_at_once-served in
+    let at = c.serve_at_desks.ensures in
     let pool = c.new-pool.result in
-    let limited = c.new.result in
-    let handler = c.new-handler.result in
-    let same = c.new-handler.ensures in
-    let hosted = hosted_serving (λ r. (r.keeper, r.boards)) _ _ _ (λ r n j x s h. h.0) (λ r n p s h. h) (λ r x s h. h.0) c.args.plan.bounds c.new-desk.result handler limited pool (served.result.0, served.result.1) c.args.plan.sessions _ served.result.2
-    c.new-desk.ensures (ap (λ k. k.runner) same ∙ c.new-kept.ensures.0) (ap (λ k. k.keep) same ∙ c.new-kept.ensures.1) c.new.ensures.0 c.new.ensures.1 served.ensures.0 in (
-      record {
-        first = (pool.keeper, pool.boards);
-        none = c.new-pool.ensures;
-        end = (served.result.0, keeping (λ r. (r.keeper, r.boards)) served.result.1);
-        serving = hosted.0;
-      },
-      subst (AreOf g.L.Listener.opens g.L.Listener.fails c.args.listener) (sym hosted.1) served.ensures.1,
-      subst (All (λ c. CameBy g.L.Listener.opens g.L.Listener.passage c.passage)) (sym hosted.2) served.ensures.2,
-    )
+    let limited = c.new-runner.result in
+    let bounds = c.args.plan.bounds in
+    let doors = c.args.plan.tenants.now in
+    let hosted = tenants_serving (λ r. (r.keeper, r.boards)) _ _ _ (λ r n j x s h. h.0) (λ r n p s h. h) (λ r x s h. h.0) (door_names doors) bounds limited pool at.0 c.args.plan.sessions _ c.serve_at_desks.result
+    c.new-runner.ensures.0 c.new-runner.ensures.1 at.1 in
+    tenants_at g.L.Listener.opens g.L.Listener.fails g.L.Listener.passage c.args.listener doors bounds c.args.plan.sessions (is_some c.args.plan.stop) c.serve_at_desks.result
+    (some_if doors c.if-is_empty.ensures)
+    (record {
+      first = (pool.keeper, pool.boards);
+      none = c.new-pool.ensures;
+      end = hosted_as (λ r. (r.keeper, r.boards)) at.0;
+      serving = hosted.0;
+    })
+    (subst (AreOf g.L.Listener.opens g.L.Listener.fails c.args.listener) (sym hosted.1) at.2)
+    (subst (All (λ c. CameBy g.L.Listener.opens g.L.Listener.passage c.passage)) (sym hosted.2) at.3)

@@ -3,15 +3,14 @@ use Rattle.std.specs.BTreeMap as tree
 use Rattle.std.specs.Ordering.{nat_cmp}
 use Rattle.job_pools.specs.Queues.{with_put}
 use Rattle.job_pools.specs.Started.{started_at}
-use Rattle.job_pools.proofs.Pooled.{adds_job, adds_none, free_board}
+use Rattle.job_pools.proofs.Pooled.{adds_job, adds_none, free_board, line_entered, watched_entered}
 use Rattle.job_pools.proofs.lasting_pool.LastingPoolRunner.start.Goals.{in-Ok-put_now, in-Err}
 use Rattle.job_pools.proofs.lasting_pool.LastingPoolRunner.start.Goals as goal
 
 pub returns-clause-starts : goal.returns-clause-starts
 returns-clause-starts g c =
     let was = c.args.self.now in
-    let below = c.if-number-self.false in
-    let free : started_at c.args.number was.keeper ≡ None = was.none_from c.args.number (omega (arith, below)) in
+    let free : started_at c.args.number was.keeper ≡ None = was.none_from c.args.number c.in_ok-take_number.ensures.free in
     let vacant : tree.get nat_cmp was.boards c.args.number ≡ None = free_board was.keeper (tree.get nat_cmp was.boards) c.args.number was.watched free in
     let seat = c.enter-seat.ensures in
     let noted = c.in-Ok-note.ensures in
@@ -34,3 +33,17 @@ returns-clause-starts g c =
             w.in-Err.ensures.1,
           )
     ]
+
+pub invariant_of-self-in-Err-clause-none_from : goal.invariant_of-self-in-Err-clause-none_from
+invariant_of-self-in-Err-clause-none_from g c =
+    let was = c.args.self.now in
+    let taken = c.in_ok-take_number.ensures in
+    let seat = c.enter-seat.ensures in
+    line_entered (tree.get nat_cmp was.nexts) (tree.get nat_cmp c.take_number.new.nexts) c.args.number c.enter-seat.result was.keeper c.enter-seat.new.keeper was.none_from taken.free taken.here taken.others seat.seat.0 seat.keeper
+
+pub invariant_of-self-in-Err-clause-watched : goal.invariant_of-self-in-Err-clause-watched
+invariant_of-self-in-Err-clause-watched g c =
+    let was = c.args.self.now in
+    let seat = c.enter-seat.ensures in
+    watched_entered was.keeper c.enter-seat.new.keeper (tree.get nat_cmp was.boards) (tree.get nat_cmp c.forget.new.values) c.enter-seat.result c.args.number seat.seat.0 seat.keeper was.watched c.forget.ensures.gone
+    (λ m differs. c.forget.ensures.others m differs ∙ c.in-Ok-note.ensures.others m differs)
