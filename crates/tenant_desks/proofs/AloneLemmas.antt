@@ -109,11 +109,11 @@ module _ {R : Type 0} (starts : R → ℕ → AdmittedJob → Result (Unit {0}) 
   -- ---- whole histories
 
   -- a state after a history
-  record Stands (names : List (List ℕ)) (keep : ℕ) (history : List HistoryEntry) (s : Tenancy × KeptRunner R) : Type 0 where
-    named : s.0.names ≡ names
-    keeps : s.1.keep ≡ keep
-    count : length s.0.desks ≡ length names + 1
-    each : EachDesk (Alone names keep history) s.0.desks
+  pub record Stands (names : List (List ℕ)) (keep : ℕ) (history : List HistoryEntry) (s : Tenancy × KeptRunner R) : Type 0 where
+    pub named : s.0.names ≡ names
+    pub keeps : s.1.keep ≡ keep
+    pub count : length s.0.desks ≡ length names + 1
+    pub each : EachDesk (Alone names keep history) s.0.desks
 
   after_answer : (names : List (List ℕ)) (keep : ℕ) (history : List HistoryEntry) (s : Tenancy × KeptRunner R) (e : HistoryEntry) (t : Tenancy × KeptRunner R)
       → tenant_answers starts looks takes s e.query e.reply t → Stands names keep history s → Stands names keep (history ++ e ∷ []) t
@@ -129,7 +129,7 @@ module _ {R : Type 0} (starts : R → ℕ → AdmittedJob → Result (Unit {0}) 
             (after_taken names keep history s.0.desks s.1.runner a.mid a.passed.last a.passed.taken was.each);
       }
 
-  stands : (names : List (List ℕ)) (keep : ℕ) (history : List HistoryEntry) (s : Tenancy × KeptRunner R) → IsTenantHistory starts looks takes names keep history s → Stands names keep history s
+  pub stands : (names : List (List ℕ)) (keep : ℕ) (history : List HistoryEntry) (s : Tenancy × KeptRunner R) → IsTenantHistory starts looks takes names keep history s → Stands names keep history s
   stands names keep history s (nothing_replayed t begins) = record {
     named = ap (λ (x : Tenancy). x.names) begins.0;
     keeps = begins.1;

@@ -4,6 +4,7 @@ mod ChangedDesks
 mod SentEntries
 mod StartedTo
 mod AloneLemmas
+mod SeenLemmas
 mod AlikeDesks
 mod AlikeReplies
 mod AdmissionLemmas

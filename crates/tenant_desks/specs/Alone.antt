@@ -25,8 +25,8 @@ abbrev pub sent_to : List (List ℕ) → ℕ → List HistoryEntry → List Hist
 sent_to names place [] = []
 sent_to names place (e ∷ es) = put_if (goes_to names place e.query) e (sent_to names place es)
 
--- Something was asked and replied, and the start of its job came to this, where there was one; or an
--- open job ended.
+-- Something was asked and replied, and the start of its job came to this, where there was one; or
+-- an open job ended.
 pub data DeskEvent : Type 0 where
   was_asked : HistoryEntry → Result (Unit {0}) ℕ → DeskEvent
   has_ended : ℕ → Result Report ℕ → DeskEvent
@@ -44,8 +44,8 @@ starts_to outcome starts old number job result new =
     starts old number job result new × (result ≡ outcome)
 
 -- What happened at a new desk leads to this one. The desk at the place is the only one here: it
--- answers each entry as if it were alone, and its open jobs end, each as the runner of all jobs tells
--- under the job's number there.
+-- answers each entry as if it were alone, and its open jobs end, each as the runner of all jobs
+-- tells under the job's number there.
 pub data HappensAlone {R : Type 0} (starts : R → ℕ → AdmittedJob → Result (Unit {0}) ℕ → R
     → Type 0) (looks : R → ℕ → Progress → R → Type 0)
     (takes : R → Option (ℕ × Result Report ℕ) → R → Type 0) (place keep : ℕ) : List DeskEvent
@@ -84,7 +84,8 @@ IsTenantHistory starts looks takes names keep =
 -- Where the entry's query goes nowhere, the reply tells why.
 abbrev pub IsToldWhy : List (List ℕ) → HistoryEntry → Type 0
 IsToldWhy names e =
-    (code : ℕ) → desk_for names e.query.passage e.query.asked ≡ Err code → e.reply ≡ refusal_frame code
+    (code : ℕ) → desk_for names e.query.passage e.query.asked ≡ Err code
+    → e.reply ≡ refusal_frame code
 
 abbrev pub AreToldWhy : List (List ℕ) → List HistoryEntry → Type 0
 AreToldWhy names [] = Unit {0}

@@ -30,7 +30,8 @@ TellsHowFar e =
 
 -- The same is told, or how far a job is.
 abbrev pub IsToldAlike : DeskEvent → DeskEvent → Type 0
-IsToldAlike (was_asked e first) (was_asked f second) = (e.reply ≡ f.reply) ⊎ (TellsHowFar e × TellsHowFar f)
+IsToldAlike (was_asked e first) (was_asked f second) =
+    (e.reply ≡ f.reply) ⊎ (TellsHowFar e × TellsHowFar f)
 IsToldAlike (was_asked e first) (has_ended number outcome) = ⊥
 IsToldAlike (has_ended number outcome) (was_asked f second) = ⊥
 IsToldAlike (has_ended m first) (has_ended n second) = Unit {0}

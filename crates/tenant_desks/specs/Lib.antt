@@ -5,3 +5,4 @@ pub mod Routing
 pub mod Tenancies
 pub mod Answering
 pub mod Alone
+pub mod Seen

@@ -1,12 +1,13 @@
 //! What each tenant has of a server that many share: a server to itself.
 
-ghost use Rattle.std.specs.Prelude.{◌≡◌, ◌+◌, ℕ, List, Some, length, slice_get};
+ghost use Rattle.std.specs.Prelude.{◌≡◌, ◌≤◌, ◌+◌, ℕ, List, Some, length, slice_get};
 ghost use Rattle.accounts.specs.Ledgers.{Ledger};
-ghost use Rattle.shared_desk.specs.Histories.{HistoryEntry};
+ghost use Rattle.shared_desk.specs.Histories.{HistoryEntry, Replays};
 ghost use Rattle.tenant_desks.specs.Alone.{AreToldWhy, DeskEvent, HappensAlone, IsAloneHistory, IsTenantHistory, sent_to};
 ghost use Rattle.tenant_desks.specs.Answering.{KeptRunner};
 ghost use Rattle.tenant_desks.specs.Events.{EachTwo, HappensAlike, IsToldAlike};
-ghost use Rattle.tenant_desks.specs.Tenancies.{Tenancy};
+ghost use Rattle.tenant_desks.specs.Seen.{answers_seen};
+ghost use Rattle.tenant_desks.specs.Tenancies.{Tenancy, fresh_desk};
 
 use streams::Runner;
 
@@ -29,12 +30,25 @@ pub fn each_tenant_is_alone<N: Runner>()
         → AreToldWhy names history }
 {}
 
-/// A tenant is told nothing of others. Where the same happens at its desk in two histories, the same is
-/// told, or how far a job is: the same is asked, starts of its jobs come to the same, and its jobs end
-/// the same. Neither history forgets a report, or refuses for want of memory.
+/// A tenant is told nothing of others. Where the same happens at its desk in two histories, the same
+/// is told, or how far a job is. The same happens where the same is asked, the starts of its jobs
+/// come to the same, and its jobs end the same. Neither history forgets a report, or refuses for
+/// want of memory.
 pub fn others_are_not_told<N: Runner>()
     ensures { (place : ℕ) (first second : List DeskEvent) (d e : Ledger)
         → HappensAlone N.starts N.looks N.takes place 0 first d
         → HappensAlone N.starts N.looks N.takes place 0 second e
         → EachTwo HappensAlike first second → EachTwo IsToldAlike first second }
+{}
+
+/// A tenant's part is a legal history of a plain desk, which a runner serves whose steps for others
+/// can't be seen.
+pub fn each_part_is_plain<N: Runner>()
+    ensures { (names : List (List ℕ)) (keep place : ℕ) (history : List HistoryEntry)
+        (end : Tenancy × KeptRunner N)
+        → length names ≤ 256 → place ≤ length names
+        → IsTenantHistory N.starts N.looks N.takes names keep history end
+        → (s : Ledger × N)
+        × Replays (answers_seen N.starts N.looks N.takes place keep) (λ x. x.0 ≡ fresh_desk)
+        (sent_to names place history) s }
 {}

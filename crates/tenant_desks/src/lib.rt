@@ -21,4 +21,4 @@ pub use tenant_handler::TenantHandler;
 // what each tenant has of it
 mod laws;
 
-pub use laws::{each_tenant_is_alone, others_are_not_told};
+pub use laws::{each_part_is_plain, each_tenant_is_alone, others_are_not_told};

@@ -17,8 +17,8 @@ const TOO_MANY: u8 = 81;
 /// The runner of all jobs, for the desk at a place: each job of the desk has a number of its own
 /// there.
 ///
-/// A job whose number there passes 64 bits isn't started: 81. Ends of jobs are taken from the runner
-/// of all jobs alone.
+/// A job whose number there passes 64 bits isn't started: 81. Ends of jobs are taken from the
+/// runner of all jobs alone.
 #[derive(Drop)]
 pub struct PlacedRunner<N> {
     pub(crate) runner: N,

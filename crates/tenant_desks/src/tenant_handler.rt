@@ -23,8 +23,9 @@ use std::time::Clock;
 use streams::{PreparedRequest, Runner, SubmitRefusal, TellingHandler, wants_admission};
 
 /// Answers each request at the desk that it goes to, by one runner of all jobs, and then has that
-/// desk forget the reports of all but its last `keep` jobs; 0: it forgets none. Where there is a log,
-/// that is told of each job that is refused. Contracts see the runner and how many reports are kept.
+/// desk forget the reports of all but its last `keep` jobs; 0: it forgets none. Where there is a
+/// log, that is told of each job that is refused. Contracts see the runner and how many reports are
+/// kept.
 #[derive(Drop)]
 pub struct TenantHandler<'a, R, N> {
     rt: &'a R,
