@@ -23,7 +23,7 @@ Release = namedtuple("Release", "version tree built provenance date libc level")
 
 PLATFORM = "x86_64-linux-gnu"
 PROGRAMS = ("bpfjobs", "bpfrun")
-UNITS = ("telgovan.service", "bpfjobs@.service")
+UNITS = ("telgovan.service", "bpfjobs@.service", "bpfjobs-tenants.service")
 LICENSES = ("LICENSE-APACHE", "LICENSE-MIT")
 # what a user reads, below the folder of pages, where its own links lead on
 PAGES = re.compile(r"(CHANGELOG|README|bindings/\w+/README)\.md$|LICENSE|docs/((measurements|plots)/)?[\w-]+\.(md|svg)$|examples/")

@@ -1,7 +1,8 @@
 //! The file of tenants with sockets of their own, which the words of `serve` may name.
 
-ghost use Rattle.std.specs.Prelude.{IfOk};
+ghost use Rattle.std.specs.Prelude.{◌≡◌, ℕ, IfOk, List, Ok};
 ghost use Rattle.bpfjobs_cli.specs.Commands.{IsServeInRange};
+ghost use Rattle.bpfjobs_cli.specs.Tenants.{entered, lines_said, tenants_in};
 
 use bpfjobs_cli::{FAILED, Serve, TenantWords, UNREAD, WrongTenant, with_lines};
 use std::alloc::Global;
@@ -31,15 +32,20 @@ fn refused<R: Eprint>(rt: &R, path: &str, wrong: WrongTenant) -> u8 {
     }
 }
 
-/// The server, with the tenants of its file beside those of its words; or the status that the program
-/// ends with, where the file can't be read or a line of it is wrong. Then a line tells why.
+/// The server, with the tenants of its file's lines behind those of its words; or the status that the
+/// program ends with, where the file can't be read or a line of it is wrong. Then a line tells why.
 pub fn with_file<R: Files + Eprint + AllocGlobal>(
     rt: &R,
     alloc: Global,
     server: Serve,
 ) -> Result<Serve, u8>
     requires { IsServeInRange server }
-    ensures { IfOk result (λ server. IsServeInRange server) }
+    ensures range { IfOk result (λ new. IsServeInRange new) }
+    ensures rest { IfOk result (λ new. (new.endpoint ≡ server.endpoint)
+        × (new.options ≡ server.options)) }
+    ensures lines { IfOk result (λ new. (text : List ℕ)
+        × (entered (tenants_in server.tenants.tenants.items) 1 (lines_said text)
+        ≡ Ok (tenants_in new.tenants.tenants.items))) }
 {
     let Serve {
         endpoint,

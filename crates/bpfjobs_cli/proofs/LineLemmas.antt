@@ -1,5 +1,5 @@
 -- Each line that clap takes says a command, with its numbers.
-use Rattle.std.proofs.Common.{◌≡◌, ◌↔◌, ◌≤◌, ◌<◌, ◌&&◌, ◌⊎◌, length, ℕ, Bool, IsTrue, codes, true, false, refl, sym, ap, ◌∙◌, subst, inl, inr, arith, List, [], Option, Some, None, is_some, true≢false, unwrap_or}
+use Rattle.std.proofs.Common.{◌≡◌, ◌↔◌, ◌≤◌, ◌<◌, ◌&&◌, ◌⊎◌, length, ℕ, Bool, IsTrue, codes, true, false, refl, sym, ap, subst, inl, inr, arith, List, [], Option, Some, None, is_some, true≢false, unwrap_or}
 use Rattle.std.specs.Prelude.{pos}
 use Rattle.std.proofs.lemmas.Slice.Eq.{bytes_eq-Decides}
 use Rattle.std.specs.Str.{bytes_eq}

@@ -1,5 +1,5 @@
 -- The numbers of a command that words say are in range, and its tenants apart.
-use Rattle.std.proofs.Common.{◌≡◌, ◌≤◌, ◌==◌, ℕ, Bool, cond, true, false, List, [], Option, Some, None, sym, subst, refl, arith}
+use Rattle.std.proofs.Common.{◌≤◌, ◌==◌, ℕ, Bool, cond, true, false, List, [], Option, Some, None, sym, subst, arith}
 use Rattle.std.specs.Prelude.{IfSome}
 use Rattle.clap.specs.Words.{Row, Text}
 use Rattle.bpfjobs_cli.specs.declared.commands.Command.{Command}

@@ -1,5 +1,5 @@
 -- The parts of a text at its first delimiter, and its lines.
-use Rattle.std.proofs.Common.{◌≡◌, suc, ◌≤◌, ◌-◌, ◌+◌, ◌∙◌, ℕ, Bool, cond, true, false, List, [], ◌∷◌, ◌++◌, length, take, drop, refl, sym, ap, arith}
+use Rattle.std.proofs.Common.{◌≡◌, suc, ◌≤◌, ◌-◌, ◌∙◌, ℕ, Bool, cond, true, false, List, [], ◌∷◌, length, take, refl, sym, ap, arith}
 use Rattle.std.specs.List.{onto_first, slice_split}
 use Rattle.bpfjobs_cli.specs.Tenants.{before_delimiter, from_delimiter, is_delimiter}
 use Rattle.bpfjobs_cli.specs.declared.tenant_text.Delimiter.{Delimiter}

@@ -1,6 +1,5 @@
 -- One turn of the loops over words and lines.
-use Rattle.std.proofs.Common.{◌≡◌, ◌≤◌, ◌<◌, ◌+◌, ◌∙◌, ◌==◌, ℕ, true, false, List, [], ◌∷◌, length, map, drop, get_or, refl, sym, ap, subst, arith, option_map, Some, Err, Ok}
-use Rattle.std.specs.Prelude.{string_bytes}
+use Rattle.std.proofs.Common.{◌≡◌, ◌≤◌, ◌<◌, ◌+◌, ◌∙◌, ◌==◌, ℕ, true, false, List, [], ◌∷◌, length, map, drop, get_or, refl, sym, ap, subst, arith, option_map, Some, Ok}
 use Rattle.std.specs.List.{slice_get, slice_split}
 use Rattle.std.specs.Borrow.{Bor}
 use Rattle.std.proofs.lemmas.Bool.Decides.{nat_tests}

@@ -1,5 +1,5 @@
 -- The tenants with sockets of their own: as words NAME=PATH and lines NAME PATH have them.
-use Rattle.std.specs.Prelude.{◌≡◌, ◌≤◌, ◌<◌, ◌==◌, ◌||◌, ◌&&◌, ◌+◌, ℕ, Bool, not, nat_le, true, List, [], ◌∷◌, ◌++◌, length, map, drop, string_bytes, slice_get, if◌then◌else◌, Option, Some, None, Result, Ok, Err}
+use Rattle.std.specs.Prelude.{◌≡◌, ◌≤◌, ◌==◌, ◌||◌, ◌&&◌, ◌+◌, ℕ, Bool, not, nat_le, true, List, [], ◌∷◌, ◌++◌, length, map, drop, string_bytes, slice_get, if◌then◌else◌, Option, Some, None, Result, Ok, Err}
 use Rattle.std.specs.List.{IsDistinct, list_any, list_all, slice_split}
 use Rattle.std.specs.Str.{bytes_eq, is_utf8}
 use Rattle.sessions.specs.Grammar.{is_name}

@@ -1,4 +1,4 @@
-use Rattle.std.proofs.Common.{◌≡◌, ◌∙◌, [], List, Ok, Option, ap, codes, map, option_map, rules, subst, sym, unwrap_or}
+use Rattle.std.proofs.Common.{◌≡◌, ◌∙◌, [], List, Ok, Option, ap, codes, option_map, subst, sym, unwrap_or}
 use Rattle.std.specs.Prelude.{IfErr, IfOk}
 use Rattle.std.specs.Borrow.{Bor}
 use Rattle.clap.specs.Words.{Text, found_of, rows_of}

@@ -1,4 +1,4 @@
-use Rattle.std.proofs.Common.{◌≡◌, ◌≤◌, List, ℕ, ap, length, rules, subst, sym}
+use Rattle.std.proofs.Common.{◌≤◌, List, ℕ, length, rules, subst, sym}
 use Rattle.bpfjobs_cli.proofs.TenantLemmas.{front_is, within}
 use Rattle.bpfjobs_cli.proofs.tenant_text.cut_at.Goals as goal
 

@@ -1,4 +1,4 @@
-use Rattle.std.proofs.Common.{arith, rules, refl}
+use Rattle.std.proofs.Common.{arith}
 use Rattle.bpfjobs_cli.specs.Tenants.{said_by, tenants_in}
 use Rattle.bpfjobs_cli.proofs.EnteredLemmas.{all_apart}
 use Rattle.bpfjobs_cli.proofs.TurnLemmas.{is_none, is_some, line_last, line_next, line_wrong, shorter}

@@ -1,5 +1,3 @@
-use Rattle.std.proofs.Common.{rules}
-use Rattle.bpfjobs_cli.specs.Tenants.{tenants_in}
 use Rattle.bpfjobs_cli.proofs.EnteredLemmas.{refuses_other, takes_nothing}
 use Rattle.bpfjobs_cli.proofs.tenants.with_said.Goals as goal
 
