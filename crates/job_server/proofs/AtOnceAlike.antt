@@ -45,6 +45,12 @@ module _ {S T : Type 0} (g : S → T) (answers : S → Query → List ℕ → S 
     fault = s.fault;
   }
 
+  -- with as many connections, and those that are over
+  pub serving_kept : (end : S) (sessions : ℕ) (may_stop : Bool) (outcome : Result (Unit {0}) ServeFault) → (serving : IsServingFrom answers begins end sessions may_stop outcome)
+      → (served : IsServingFrom answers1 begins1 (g end) sessions may_stop outcome) × (served.opened ≡ serving.opened) × (served.closed ≡ serving.closed)
+  unfolding serving_alike
+  serving_kept end sessions may_stop outcome s = (serving_alike end sessions may_stop outcome s, refl, refl)
+
 -- ---- a pool within its host's bounds
 
 module _ {R Q : Type 0} (f : R → Q) where

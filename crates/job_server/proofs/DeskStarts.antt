@@ -14,19 +14,19 @@ use Rattle.job_server.specs.Listening.{AreOf, CameBy, nothing_yet}
 
 -- one desk
 pub desk_begins : {N : Type 0} (desk : Ledger) (handler kept : KeepingHandler N) (runner : N) (keep : ℕ) → desk ≡ new_desk → handler ≡ kept → kept.runner ≡ runner → kept.keep ≡ keep
-    → (desk, handler) ≡ (new_desk, record { runner = runner; keep = keep })
+    → ◌≡◌ {A = Ledger × KeepingHandler N} (desk, handler) (new_desk, record { runner = runner; keep = keep })
 desk_begins {N} desk handler kept runner keep is_new same is_runner is_keep =
-    ap (λ (d : Ledger). (d, handler)) is_new
-    ∙ ap (λ (h : KeepingHandler N). (new_desk, h)) same
-    ∙ (λ i. (new_desk, record { runner = is_runner i; keep = is_keep i }))
+    let both : Ledger → KeepingHandler N → Ledger × KeepingHandler N = λ d h. (d, h) in
+    ap (λ (d : Ledger). both d handler) is_new ∙ ap (both new_desk) same
+    ∙ ap (both new_desk) (λ i. record { runner = is_runner i; keep = is_keep i })
 
 -- a desk for each tenant
 pub tenants_begin : {N : Type 0} (desks : Tenancy) (names names1 : List (List ℕ)) (handler kept : KeptRunner N) → desks ≡ fresh_tenancy names → names ≡ names1 → handler ≡ kept
-    → (desks, handler) ≡ (fresh_tenancy names1, kept)
+    → ◌≡◌ {A = Tenancy × KeptRunner N} (desks, handler) (fresh_tenancy names1, kept)
 tenants_begin {N} desks names names1 handler kept is_new named same =
-    ap (λ (d : Tenancy). (d, handler)) is_new
-    ∙ ap (λ (ns : List (List ℕ)). (fresh_tenancy ns, handler)) named
-    ∙ ap (λ (h : KeptRunner N). (fresh_tenancy names1, h)) same
+    let both : Tenancy → KeptRunner N → Tenancy × KeptRunner N = λ d h. (d, h) in
+    ap (λ (d : Tenancy). both d handler) is_new ∙ ap (λ (ns : List (List ℕ)). both (fresh_tenancy ns) handler) named
+    ∙ ap (both (fresh_tenancy names1)) same
 
 module _ {S L : Type 0} (answers : S → Query → List ℕ → S → Type 0) (opens fails : L → L → Type 0) (passage_of : L → Passage) (listener : L) (sessions : ℕ) (may_stop : Bool) where
   -- so many were served, from here on
@@ -34,12 +34,20 @@ module _ {S L : Type 0} (answers : S → Query → List ℕ → S → Type 0) (o
   ServedFrom first end outcome =
       (s : IsServingFrom answers (λ s. s ≡ first) end sessions may_stop outcome) × AreOf opens fails listener s.opened × All (λ c. CameBy opens passage_of c.passage) s.closed
 
-  pub begun_as : (a b end : S) (outcome : Result (Unit {0}) ServeFault) → a ≡ b → ServedFrom a end outcome → ServedFrom b end outcome
-  begun_as a b end outcome same s = subst (λ (x : S). ServedFrom x end outcome) same s
+  -- the same, up to some end
+  abbrev pub Served : S → Result (Unit {0}) ServeFault → Type 0
+  Served first outcome =
+      (end : S) × (s : IsServingFrom answers (λ s. s ≡ first) end sessions may_stop outcome) × AreOf opens fails listener s.opened × All (λ c. CameBy opens passage_of c.passage) s.closed
+
+  pub begun_as : (a b end : S) (outcome : Result (Unit {0}) ServeFault) → a ≡ b → ServedFrom a end outcome → Served b outcome
+  begun_as a b end outcome same s =
+      let t = subst (λ (x : S). ServedFrom x end outcome) same s in
+      (end, t.0, t.1, t.2)
 
   -- nobody was served, since there is no memory
-  pub none_served : (first : S) → ServedFrom first first (Err (Connection NoMemory))
+  pub none_served : (first : S) → Served first (Err (Connection NoMemory))
   none_served first = (
+    first,
     record {
       history = [];
       opened = 0;

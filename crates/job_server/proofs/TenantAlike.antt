@@ -21,7 +21,7 @@ use Rattle.job_server.specs.declared.fault.ServeFault.{ServeFault}
 use Rattle.job_server.specs.AtOnce.{IsServingFrom, Pool}
 use Rattle.job_server.specs.TenantServing.{TenantHosted, hosted_tenant_answers, new_tenant_host}
 use Rattle.job_server.proofs.Alike.{replies_alike}
-use Rattle.job_server.proofs.AtOnceAlike.{limited, serving_alike, within_alike}
+use Rattle.job_server.proofs.AtOnceAlike.{limited, serving_kept, within_alike}
 
 module _ {R Q : Type 0} (f : R → Q)
     (starts : R → ℕ → AdmittedJob → Result (Unit {0}) ℕ → R → Type 0) (looks : R → ℕ → Progress → R → Type 0) (takes : R → Option (ℕ × Result Report ℕ) → R → Type 0)
@@ -126,16 +126,12 @@ module _ {R : Type 0} (f : R → Pool) (starts : R → ℕ → AdmittedJob → R
       → l.runner ≡ pool → l.limit ≡ bounds.open_jobs
       → (serving : IsServingFrom (tenant_answers (starts_within (λ r. pooled_count (f r)) starts) (looks_within looks) (takes_within takes)) (λ s. s ≡ (fresh_tenancy names, record { runner = l; keep = bounds.keep })) end sessions may_stop outcome)
       → (hosted : IsServingFrom hosted_tenant_answers (λ s. s ≡ new_tenant_host names bounds (f pool)) (hosted_as f end) sessions may_stop outcome) × (hosted.opened ≡ serving.opened) × (hosted.closed ≡ serving.closed)
-  unfolding serving_alike
-  tenants_serving names bounds l pool end sessions may_stop outcome is_pool is_limit serving = (
-    serving_alike (hosted_as f) _ hosted_tenant_answers
-        (λ s q reply t. desks_alike (limited f) (starts_within (λ r. pooled_count (f r)) starts) (looks_within looks) (takes_within takes)
-        (starts_within pooled_count (StartsBy pooled_at pooled_count)) (looks_within (TellsBy pooled_at pooled_count)) (takes_within (TakesBy pooled_at pooled_count))
-        (within_alike f pooled_count (StartsBy pooled_at pooled_count) (TellsBy pooled_at pooled_count) (TakesBy pooled_at pooled_count) starts looks takes starts_alike looks_alike takes_alike)
-        (λ l n p m g. (looks_alike l.runner n p m.runner g.0, g.1)) (λ l x m g. (takes_alike l.runner x m.runner g.0, g.1)) s q reply t)
-        (λ s. s ≡ (fresh_tenancy names, record { runner = l; keep = bounds.keep })) (λ s. s ≡ new_tenant_host names bounds (f pool))
-        (λ s is. ap (hosted_as f) is ∙ host_is f names bounds l pool is_pool is_limit)
-        end sessions may_stop outcome serving,
-    refl,
-    refl,
-  )
+  tenants_serving names bounds l pool end sessions may_stop outcome is_pool is_limit serving =
+      serving_kept (hosted_as f) _ hosted_tenant_answers
+      (λ s q reply t. desks_alike (limited f) (starts_within (λ r. pooled_count (f r)) starts) (looks_within looks) (takes_within takes)
+      (starts_within pooled_count (StartsBy pooled_at pooled_count)) (looks_within (TellsBy pooled_at pooled_count)) (takes_within (TakesBy pooled_at pooled_count))
+      (within_alike f pooled_count (StartsBy pooled_at pooled_count) (TellsBy pooled_at pooled_count) (TakesBy pooled_at pooled_count) starts looks takes starts_alike looks_alike takes_alike)
+      (λ l n p m g. (looks_alike l.runner n p m.runner g.0, g.1)) (λ l x m g. (takes_alike l.runner x m.runner g.0, g.1)) s q reply t)
+      (λ s. s ≡ (fresh_tenancy names, record { runner = l; keep = bounds.keep })) (λ s. s ≡ new_tenant_host names bounds (f pool))
+      (λ s is. ap (hosted_as f) is ∙ host_is f names bounds l pool is_pool is_limit)
+      end sessions may_stop outcome serving

@@ -106,7 +106,7 @@ fn serve_in_scope<
         rt,
         |scope| -> Result<(), ServeFault>
             requires { (1 ≤ workers) × (workers ≤ 16) × (keeper ≡ []) × (length tenants.now ≤ 256) }
-            ensures { IsServingAt L.opens L.fails L.passage listener tenants.now bounds sessions
+            ensures { IsServingAt L.opens L.fails L.passage listener tenants.entry.now bounds sessions
                 (is_some stop.entry) result }
         {
             let plan = Plan {

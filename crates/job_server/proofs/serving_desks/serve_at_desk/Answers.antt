@@ -5,6 +5,6 @@ pub returns : goal.returns
 returns g c =
     let served = c.serve_at_once-served in
     let kept = c.new-kept.ensures in
-    let begun = desk_begins c.new-desk.result c.new-handler.result c.new-kept.result c.args.runner c.args.plan.bounds.keep c.new-desk.ensures c.new-handler.ensures kept.0 kept.1 in
-    let s = begun_as _ _ _ _ _ _ _ _ _ (served.result.0, served.result.1) served.result.2 begun served.ensures in
-    ((served.result.0, served.result.1), s.0, s.1, s.2)
+    begun_as _ _ _ _ _ _ _ _ _ (served.result.0, served.result.1) served.result.2
+    (desk_begins c.new-desk.result c.new-handler.result c.new-kept.result c.args.runner c.args.plan.bounds.keep c.new-desk.ensures c.new-handler.ensures kept.0 kept.1)
+    served.ensures
