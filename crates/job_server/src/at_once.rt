@@ -271,6 +271,13 @@ pub fn serve_at_once<
     };
     let shares = shares.as_ref();
     serve_named::<R, L, D, H, Brand>(
-        rt, alloc, new_history, listener, desk, handler, plan, shares,
+        rt,
+        alloc,
+        new_history,
+        listener,
+        desk,
+        handler,
+        plan,
+        shares,
     )
 }

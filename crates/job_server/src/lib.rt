@@ -37,9 +37,9 @@ pub use timed_reader::Waiting;
 mod at_once;
 mod entrance;
 mod plan;
-mod shares;
 mod serving;
 mod serving_desks;
+mod shares;
 mod tenant_door;
 
 pub use at_once::serve_at_once;

@@ -1,7 +1,8 @@
 //! The places that each socket of a server has at most.
 
-ghost use Rattle.std.specs.Prelude.{◌≡◌, ◌/◌, ◌+◌, IfOk, max};
+ghost use Rattle.std.specs.Prelude.{◌≡◌, ◌≤◌, ◌/◌, ◌+◌, IfOk, IfSome};
 
+use crate::tenants_listener::MOST_DOORS;
 use refusal::NoMemory;
 use shared_desk::Door;
 use std::alloc::Global;
@@ -17,22 +18,18 @@ pub(crate) struct Shares {
     tenants: Vec<AtomicU32>,
 }
 
-// The places of each of so many sockets: one at least.
-fn share_of(places: u32, sockets: u32) -> u32
-    ensures { result ≡ max 1 (places / max 1 sockets) }
-{
-    (places / sockets.max(1)).max(1)
-}
-
 impl Shares {
-    /// The shares of the sockets of so many tenants, the one for all others and that for grants.
-    pub fn new(alloc: Global, places: u32, tenants: u32) -> Result<Shares, NoMemory> {
+    /// So many places for each of the sockets of these tenants, the one for all others and that for
+    /// grants.
+    fn new(alloc: Global, share: u32, tenants: u32) -> Result<Shares, NoMemory>
+        ensures { IfOk result (λ shares. shares.share ≡ share) }
+    {
         let mut counts = Vec::new(alloc);
         for _ in 0..tenants {
             counts.push(AtomicU32::new(0))?;
         }
         Ok(Shares {
-            share: share_of(places, tenants.saturating_add(2)),
+            share,
             all: AtomicU32::new(0),
             grants: AtomicU32::new(0),
             tenants: counts,
@@ -72,17 +69,24 @@ impl Shares {
     }
 }
 
-/// The shares of the sockets of so many tenants; none where there are no tenants.
+/// The shares of the sockets of so many tenants. There are none where there are no tenants, or less
+/// than two places for each socket: a client that comes again finds its last connection still there.
 pub(crate) fn shares_of(
     alloc: Global,
     places: u32,
     tenants: usize,
-) -> Result<Option<Shares>, NoMemory> {
-    match u32::try_from(tenants) {
-        Ok(0) => Ok(None),
-        Ok(tenants) => Ok(Some(Shares::new(alloc, places, tenants)?)),
-        Err(_) => Err(NoMemory),
+) -> Result<Option<Shares>, NoMemory>
+    ensures { IfOk result (λ shares. IfSome shares (λ s. (1 ≤ tenants) × (2 ≤ s.share)
+        × (s.share ≡ places / (tenants + 2)))) }
+{
+    if tenants == 0 || tenants > MOST_DOORS {
+        return Ok(None);
     }
+    let share = places / (tenants as u32 + 2);
+    if share < 2 {
+        return Ok(None);
+    }
+    Ok(Some(Shares::new(alloc, share, tenants as u32)?))
 }
 
 /// Counts one connection of a socket less, where there are shares.
