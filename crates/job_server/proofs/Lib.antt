@@ -12,3 +12,6 @@ pub mod RefusedResults
 pub mod FromSubmit
 pub mod NoFlag
 pub mod KeptLemmas
+pub mod Renumbered
+pub mod SeenHolds
+pub mod OwnSubmits

@@ -4,4 +4,5 @@ pub mod Addresses
 pub mod Listening
 pub mod EndToEnd
 pub mod Payloads
+pub mod TenantResults
 pub mod Stopping

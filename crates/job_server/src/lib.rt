@@ -45,8 +45,10 @@ pub use serving::{serve_listener, serve_port};
 
 // the meaning of the replies, from a submit to its result
 mod laws;
+mod tenant_laws;
 
 pub use laws::{numbers_rise, payloads_lead_to_payloads, results_come_from_submits};
+pub use tenant_laws::results_come_from_own_submits;
 
 // the same by sockets in the file system
 mod local_listener;
