@@ -10,8 +10,8 @@ use Rattle.job_pools.specs.Holds.{StartsBy, TellsBy, TakesBy}
 use Rattle.job_pools.specs.Started.{pooled_at, pooled_count}
 use Rattle.job_server.specs.AtOnce.{Pool}
 
--- a history that a server of tenants of these names may have, from new desks on, each of which keeps
--- so many reports
+-- a history that a server of tenants of these names may have, from new desks on, each of which
+-- keeps so many reports
 pub record IsTenantHostHistory (keep : ℕ) (names : List (List ℕ)) (history : List HistoryEntry) :
     Type 0 where
   pub few : length names ≤ 256

@@ -8,12 +8,12 @@ ghost use Rattle.tenant_desks.specs.Alone.{sent_to};
 ghost use Rattle.job_server.specs.EndToEnd.{AsksForJob, AsksForResult, ComesFromSubmit, HasReply, IsResultFrame, IsToldRefusal, IsToldResult, StaysTold};
 ghost use Rattle.job_server.specs.TenantResults.{IsTenantHostHistory};
 
-/// At a server whose tenants have doors of their own, `results_come_from_submits` and `numbers_rise`
-/// hold of what goes to each desk: a result is the report of a run of the very job whose submit, by
-/// the same door, was told its number.
+/// At a server whose tenants have doors of their own, `results_come_from_submits` and
+/// `numbers_rise` hold of what goes to each desk: a result is the report of a run of the very job
+/// whose submit, by the same door, was told its number.
 pub fn results_come_from_own_submits()
-    ensures told { (keep place : ℕ) (names : List (List ℕ)) (history before after : List HistoryEntry)
-        (e : HistoryEntry) (number : ℕ)
+    ensures told { (keep place : ℕ) (names : List (List ℕ))
+        (history before after : List HistoryEntry) (e : HistoryEntry) (number : ℕ)
         → IsTenantHostHistory keep names history → place ≤ length names
         → sent_to names place history ≡ before ++ e ∷ after → AsksForResult number e.query.asked
         → IsToldResult keep before number e }
