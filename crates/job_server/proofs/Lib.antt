@@ -15,3 +15,6 @@ pub mod KeptLemmas
 pub mod ByDoors
 pub mod TenantAlike
 pub mod DeskStarts
+pub mod Renumbered
+pub mod SeenHolds
+pub mod OwnSubmits

@@ -49,8 +49,10 @@ pub use tenant_door::TenantDoor;
 
 // the meaning of the replies, from a submit to its result
 mod laws;
+mod tenant_laws;
 
 pub use laws::{numbers_rise, payloads_lead_to_payloads, results_come_from_submits};
+pub use tenant_laws::results_come_from_own_submits;
 
 // the same by sockets in the file system
 mod local_listener;

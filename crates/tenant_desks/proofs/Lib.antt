@@ -4,7 +4,7 @@ mod ChangedDesks
 mod SentEntries
 mod StartedTo
 mod AloneLemmas
-mod SeenLemmas
+pub mod SeenLemmas
 mod AlikeDesks
 mod AlikeReplies
 mod AdmissionLemmas

@@ -30,10 +30,10 @@ pub fn each_tenant_is_alone<N: Runner>()
         → AreToldWhy names history }
 {}
 
-/// A tenant is told nothing of others. Where the same happens at its desk in two histories, the same
-/// is told, or how far a job is. The same happens where the same is asked, the starts of its jobs
-/// come to the same, and its jobs end the same. Neither history forgets a report, or refuses for
-/// want of memory.
+/// A tenant is told nothing of others. Where the same happens at its desk in two histories, the
+/// same is told, or how far a job is. The same happens where the same is asked, the starts of its
+/// jobs come to the same, and its jobs end the same. Neither history forgets a report, or refuses
+/// for want of memory.
 pub fn others_are_not_told<N: Runner>()
     ensures { (place : ℕ) (first second : List DeskEvent) (d e : Ledger)
         → HappensAlone N.starts N.looks N.takes place 0 first d

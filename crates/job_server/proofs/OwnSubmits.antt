@@ -1,0 +1,108 @@
+-- A tenant's result comes from a submit of its own before it.
+use Rattle.std.proofs.Common.{◌≡◌, ◌≤◌, ◌<◌, ◌-◌, ◌^◌, ℕ, List, [], ◌∷◌, ◌++◌, length, Option, Result, Ok, refl, ap, subst, arith}
+use Rattle.credit_book.specs.declared.book.Report.{Report}
+use Rattle.credit_book.specs.declared.board.Progress.{Progress}
+use Rattle.job_core.specs.Admitted.{AdmittedJob}
+use Rattle.accounts.specs.Ledgers.{Ledger}
+use Rattle.sessions.specs.Grammar.{result}
+use Rattle.sessions.specs.Replies.{submit_data}
+use Rattle.streams.specs.Answering.{refused}
+use Rattle.shared_desk.specs.Histories.{HistoryEntry, Replays, by_any_passage, none_yet, one_more}
+use Rattle.tenant_desks.specs.Tenancies.{fresh_desk}
+use Rattle.tenant_desks.specs.Alone.{sent_to}
+use Rattle.tenant_desks.proofs.SeenLemmas.{plain_part}
+use Rattle.tenant_desks.specs.Seen.{starts_seen, looks_seen, takes_seen, answers_seen}
+use Rattle.job_pools.specs.declared.limited_runner.LimitedRunner.{LimitedRunner}
+use Rattle.job_pools.specs.Started.{pooled_at, pooled_count}
+use Rattle.job_pools.specs.Holds.{StartsBy, TellsBy, TakesBy}
+use Rattle.job_pools.specs.Bounded.{starts_within, looks_within, takes_within}
+use Rattle.job_server.specs.declared.keeping_handler.KeepingHandler.{KeepingHandler}
+use Rattle.job_server.specs.Kept.{answers_keeping}
+use Rattle.job_server.specs.AtOnce.{Pool}
+use Rattle.job_server.specs.EndToEnd.{AsksForJob, ComesFromSubmit, HasReply, IsResultFrame, IsToldRefusal, IsToldResult, StaysTold}
+use Rattle.job_server.specs.TenantResults.{IsTenantHostHistory}
+use Rattle.job_server.proofs.FromSubmit.{comes_from_submit}
+use Rattle.job_server.proofs.HistoryStands.{history_stands, history_tells}
+use Rattle.job_server.proofs.LimitedHolds.{job_held, limited_holds}
+use Rattle.job_server.proofs.RefusedResults.{told_refusal}
+use Rattle.job_server.proofs.RisingNumbers.{numbers_rise}
+use Rattle.job_server.proofs.SeenHolds.{held_seen, seen_holds}
+use Rattle.job_server.proofs.StaysOver.{results_stay}
+
+-- ---- a plain desk that forgets, as a desk and a handler that keeps the last jobs
+
+abbrev Begins : {R : Type 0} → ℕ → Ledger × KeepingHandler R → Type 0
+Begins keep x = (x.0 ≡ fresh_desk) × (x.1.keep ≡ keep)
+
+module _ {R : Type 0} (starts : R → ℕ → AdmittedJob → Result (Unit {0}) ℕ → R → Type 0) (looks : R → ℕ → Progress → R → Type 0) (takes : R → Option (ℕ × Result Report ℕ) → R → Type 0) (place keep : ℕ) where
+  as_kept : (history : List HistoryEntry) (s : Ledger × R) → Replays (answers_seen starts looks takes place keep) (λ x. x.0 ≡ fresh_desk) history s
+      → Replays (by_any_passage (answers_keeping (starts_seen starts looks takes place) (looks_seen starts looks takes place) (takes_seen starts looks takes place))) (Begins keep) history (s.0, record { runner = s.1; keep = keep })
+  as_kept history s (none_yet t begins) = none_yet (s.0, record { runner = s.1; keep = keep }) (begins, refl)
+  as_kept history s (one_more h t e u before answered) =
+      one_more h (t.0, record { runner = t.1; keep = keep }) e (s.0, record { runner = s.1; keep = keep }) (as_kept h t before) ((answered.0, answered.1, answered.2), refl)
+
+fresh_begins : {R : Type 0} (keep : ℕ) (x : Ledger × KeepingHandler R) → Begins keep x → (x.0.jobs ≡ []) × (x.1.keep ≡ keep)
+fresh_begins keep x begins = (ap (λ (d : Ledger). d.jobs) begins.0, begins.1)
+
+-- ---- a host of tenants
+
+abbrev Runner : Type 0
+Runner = LimitedRunner Pool
+
+abbrev starts_by : Runner → ℕ → AdmittedJob → Result (Unit {0}) ℕ → Runner → Type 0
+starts_by = starts_within pooled_count (StartsBy pooled_at pooled_count)
+
+abbrev looks_by : Runner → ℕ → Progress → Runner → Type 0
+looks_by = looks_within (TellsBy pooled_at pooled_count)
+
+abbrev takes_by : Runner → Option (ℕ × Result Report ℕ) → Runner → Type 0
+takes_by = takes_within (TakesBy pooled_at pooled_count)
+
+-- a tenant's part is legal
+part : (keep place : ℕ) (names : List (List ℕ)) (history : List HistoryEntry) → IsTenantHostHistory keep names history → place ≤ length names
+    → (s : Ledger × Runner) × Replays (answers_seen starts_by looks_by takes_by place keep) (λ x. x.0 ≡ fresh_desk) (sent_to names place history) s
+part keep place names history h there = plain_part starts_by looks_by takes_by place names keep history h.end h.few there h.legal
+
+module _ (keep place : ℕ) (names : List (List ℕ)) (history : List HistoryEntry) (h : IsTenantHostHistory keep names history) (there : place ≤ length names) where
+  small : place < 1000
+  small = let few = h.few in omega (arith, there, few)
+
+  state : Ledger × KeepingHandler Runner
+  state = let p = part keep place names history h there in (p.0.0, record { runner = p.0.1; keep = keep })
+
+  legal : (own : List HistoryEntry) → sent_to names place history ≡ own
+      → Replays (by_any_passage (answers_keeping (starts_seen starts_by looks_by takes_by place) (looks_seen starts_by looks_by takes_by place) (takes_seen starts_by looks_by takes_by place))) (Begins keep) own state
+  unfolding state
+  legal own is =
+      let p = part keep place names history h there in
+      subst (λ l. Replays (by_any_passage (answers_keeping (starts_seen starts_by looks_by takes_by place) (looks_seen starts_by looks_by takes_by place) (takes_seen starts_by looks_by takes_by place))) (Begins keep) l state) is
+      (as_kept starts_by looks_by takes_by place keep (sent_to names place history) p.0 p.1)
+
+  pub own_tells : (before after : List HistoryEntry) (e : HistoryEntry) (number : ℕ) → sent_to names place history ≡ before ++ e ∷ after → e.query.asked ≡ Ok (result number) → IsToldResult keep before number e
+  own_tells before after e number is asks =
+      history_tells (starts_seen starts_by looks_by takes_by place) (looks_seen starts_by looks_by takes_by place) (takes_seen starts_by looks_by takes_by place)
+      (held_seen starts_by looks_by takes_by (job_held pooled_at pooled_count) (limited_holds pooled_at pooled_count) place small)
+      (seen_holds starts_by looks_by takes_by (job_held pooled_at pooled_count) (limited_holds pooled_at pooled_count) place small) (Begins keep) keep (fresh_begins keep) before after e number state
+      (legal (before ++ e ∷ after) is) asks
+
+  pub own_stays : (before between after : List HistoryEntry) (e f : HistoryEntry) (number : ℕ) → sent_to names place history ≡ before ++ e ∷ (between ++ f ∷ after) → e.query.asked ≡ Ok (result number) → f.query.asked ≡ Ok (result number)
+      → StaysTold e f
+  own_stays before between after e f number is asks_e asks_f =
+      results_stay (starts_seen starts_by looks_by takes_by place) (looks_seen starts_by looks_by takes_by place) (takes_seen starts_by looks_by takes_by place) (Begins keep) before between after e f number state
+      (legal (before ++ e ∷ (between ++ f ∷ after)) is) asks_e asks_f
+
+  pub own_rises : (before between after : List HistoryEntry) (e f : HistoryEntry) (m n : ℕ) → sent_to names place history ≡ before ++ e ∷ (between ++ f ∷ after) → length (before ++ e ∷ between) < 2 ^ 64 - 1
+      → AsksForJob e.query.asked → HasReply e (submit_data m) → m < 2 ^ 64 → AsksForJob f.query.asked → HasReply f (submit_data n) → n < 2 ^ 64 → m < n
+  own_rises before between after e f m n is short asks_e tells_e small_m asks_f tells_f small_n =
+      let stands = history_stands (starts_seen starts_by looks_by takes_by place) (looks_seen starts_by looks_by takes_by place) (takes_seen starts_by looks_by takes_by place)
+      (held_seen starts_by looks_by takes_by (job_held pooled_at pooled_count) (limited_holds pooled_at pooled_count) place small)
+      (seen_holds starts_by looks_by takes_by (job_held pooled_at pooled_count) (limited_holds pooled_at pooled_count) place small) (Begins keep) keep (fresh_begins keep)
+      (before ++ e ∷ (between ++ f ∷ after)) state (legal (before ++ e ∷ (between ++ f ∷ after)) is) in
+      numbers_rise before between after e f stands.1.0 m n stands.1.1 short asks_e tells_e small_m asks_f tells_f small_n
+
+  pub own_comes : (before after : List HistoryEntry) (e : HistoryEntry) (number : ℕ) → sent_to names place history ≡ before ++ e ∷ after → e.query.asked ≡ Ok (result number) → IsResultFrame e.reply → ComesFromSubmit before number e
+  own_comes before after e number is asks f = comes_from_submit keep before number e (own_tells before after e number is asks) f
+
+  pub own_refuses : (before after : List HistoryEntry) (e : HistoryEntry) (number code : ℕ) → sent_to names place history ≡ before ++ e ∷ after → e.query.asked ≡ Ok (result number) → HasReply e (refused code) → code < 2 ^ 64
+      → IsToldRefusal keep before number code
+  own_refuses before after e number code is asks tells small_code = told_refusal keep before number e code (own_tells before after e number is asks) tells small_code

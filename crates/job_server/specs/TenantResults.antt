@@ -1,0 +1,21 @@
+-- Histories of a server whose tenants have doors of their own.
+use Rattle.std.specs.Prelude.{◌≤◌, ℕ, List, length}
+use Rattle.shared_desk.specs.Histories.{HistoryEntry}
+use Rattle.tenant_desks.specs.Tenancies.{Tenancy}
+use Rattle.tenant_desks.specs.Answering.{KeptRunner}
+use Rattle.tenant_desks.specs.Alone.{IsTenantHistory}
+use Rattle.job_pools.specs.declared.limited_runner.LimitedRunner.{LimitedRunner}
+use Rattle.job_pools.specs.Bounded.{looks_within, starts_within, takes_within}
+use Rattle.job_pools.specs.Holds.{StartsBy, TellsBy, TakesBy}
+use Rattle.job_pools.specs.Started.{pooled_at, pooled_count}
+use Rattle.job_server.specs.AtOnce.{Pool}
+
+-- a history that a server of tenants of these names may have, from new desks on, each of which
+-- keeps so many reports
+pub record IsTenantHostHistory (keep : ℕ) (names : List (List ℕ)) (history : List HistoryEntry) :
+    Type 0 where
+  pub few : length names ≤ 256
+  pub end : Tenancy × KeptRunner (LimitedRunner Pool)
+  pub legal : IsTenantHistory (starts_within pooled_count (StartsBy pooled_at pooled_count))
+      (looks_within (TellsBy pooled_at pooled_count))
+      (takes_within (TakesBy pooled_at pooled_count)) names keep history end

@@ -1,0 +1,43 @@
+//! The meaning of a tenant's replies, from the submit of a job to its result.
+
+ghost use Rattle.std.specs.Prelude.{◌≡◌, ◌≤◌, ◌<◌, ◌-◌, ◌^◌, ℕ, List, ◌∷◌, ◌++◌, length};
+ghost use Rattle.sessions.specs.Replies.{submit_data};
+ghost use Rattle.streams.specs.Answering.{refused};
+ghost use Rattle.shared_desk.specs.Histories.{HistoryEntry};
+ghost use Rattle.tenant_desks.specs.Alone.{sent_to};
+ghost use Rattle.job_server.specs.EndToEnd.{AsksForJob, AsksForResult, ComesFromSubmit, HasReply, IsResultFrame, IsToldRefusal, IsToldResult, StaysTold};
+ghost use Rattle.job_server.specs.TenantResults.{IsTenantHostHistory};
+
+/// At a server whose tenants have doors of their own, `results_come_from_submits` and
+/// `numbers_rise` hold of what goes to each desk: a result is the report of a run of the very job
+/// whose submit, by the same door, was told its number.
+pub fn results_come_from_own_submits()
+    ensures told { (keep place : ℕ) (names : List (List ℕ))
+        (history before after : List HistoryEntry) (e : HistoryEntry) (number : ℕ)
+        → IsTenantHostHistory keep names history → place ≤ length names
+        → sent_to names place history ≡ before ++ e ∷ after → AsksForResult number e.query.asked
+        → IsToldResult keep before number e }
+    ensures submitted { (keep place : ℕ) (names : List (List ℕ))
+        (history before after : List HistoryEntry) (e : HistoryEntry) (number : ℕ)
+        → IsTenantHostHistory keep names history → place ≤ length names
+        → sent_to names place history ≡ before ++ e ∷ after → AsksForResult number e.query.asked
+        → IsResultFrame e.reply → ComesFromSubmit before number e }
+    ensures refused { (keep place : ℕ) (names : List (List ℕ))
+        (history before after : List HistoryEntry) (e : HistoryEntry) (number code : ℕ)
+        → IsTenantHostHistory keep names history → place ≤ length names
+        → sent_to names place history ≡ before ++ e ∷ after → AsksForResult number e.query.asked
+        → HasReply e (refused code) → code < 2 ^ 64 → IsToldRefusal keep before number code }
+    ensures stays { (keep place : ℕ) (names : List (List ℕ))
+        (history before between after : List HistoryEntry) (e f : HistoryEntry) (number : ℕ)
+        → IsTenantHostHistory keep names history → place ≤ length names
+        → sent_to names place history ≡ before ++ e ∷ (between ++ f ∷ after)
+        → AsksForResult number e.query.asked → AsksForResult number f.query.asked
+        → StaysTold e f }
+    ensures rises { (keep place : ℕ) (names : List (List ℕ))
+        (history before between after : List HistoryEntry) (e f : HistoryEntry) (m n : ℕ)
+        → IsTenantHostHistory keep names history → place ≤ length names
+        → sent_to names place history ≡ before ++ e ∷ (between ++ f ∷ after)
+        → length (before ++ e ∷ between) < 2 ^ 64 - 1
+        → AsksForJob e.query.asked → HasReply e (submit_data m) → m < 2 ^ 64
+        → AsksForJob f.query.asked → HasReply f (submit_data n) → n < 2 ^ 64 → m < n }
+{}
