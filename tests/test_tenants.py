@@ -1,5 +1,6 @@
 """`bpfjobs serve --tenant NAME=PATH` and `--tenants FILE`: tenants with sockets of their own, each of which has the server to itself."""
 
+import contextlib
 import json
 import os
 import random
@@ -443,16 +444,55 @@ class Together(Room):
         def come():
             while not done.is_set():
                 with self.connect(process, "bob") as client:
-                    client.told(account("bob"))
+                    # a connection over the socket's share is closed
+                    with contextlib.suppress(ValueError, OSError):
+                        client.told(account("bob"))
 
         with Clients(come, *[()] * 8):
             try:
                 for _ in range(20):
-                    for name in ("alice", "grants", "all", "bob"):
+                    for name in ("alice", "grants", "all"):
                         with self.connect(process, name) as client:
                             self.assertEqual(client.ask(account("alice")), NO_TENANT)
             finally:
                 done.set()
+
+
+class Shares(Room):
+    """Each socket has a share of the places, where there are two at least for each."""
+
+    def is_served(self, process, name):
+        with self.connect(process, name) as client, contextlib.suppress(ValueError, OSError):
+            return client.ask(account("x")) == NO_TENANT
+        return False
+
+    def test_a_socket_has_no_more_than_its_share(self):
+        """Nine places for four sockets: two for each."""
+        process = self.start("--clients", 9, "--grants", self.path("grants"), *self.words("alice", "bob"))
+        held = [self.connect(process, "alice") for _ in range(2)]
+        for client in held:
+            self.assertEqual(client.ask(account("x")), NO_TENANT)
+        for _ in range(10):
+            self.assertFalse(self.is_served(process, "alice"))
+            for name in ("bob", "grants", "all"):
+                self.assertTrue(self.is_served(process, name))
+        held.pop().stream.close()
+        until = time.monotonic() + PATIENCE
+        while not self.is_served(process, "alice"):
+            self.assertLess(time.monotonic(), until)
+        self.assertEqual(held[0].ask(account("x")), NO_TENANT)
+
+    def test_a_socket_may_have_all_places_where_they_are_few(self):
+        process = self.start("--clients", 7, "--grants", self.path("grants"), *self.words("alice", "bob"))
+        held = [self.connect(process, "alice") for _ in range(6)]
+        for client in held:
+            self.assertEqual(client.ask(account("x")), NO_TENANT)
+
+    def test_a_server_without_tenants_has_no_shares(self):
+        process = self.start("--clients", 4, "--grants", self.path("grants"))
+        held = [self.connect(process) for _ in range(4)]
+        for client in held:
+            self.assertEqual(client.ask(account("x")), NO_TENANT)
 
 
 class Ends(Room):
