@@ -1,10 +1,8 @@
 -- Many connections at once, over two state types.
-use Rattle.std.proofs.Common.{◌≡◌, ◌<◌, ◌≤◌, ◌-◌, ◌^◌, ◌⊎◌, ℕ, Bool, false, List, length, min, Option, Result, Ok, Err, inl, inr, refl, sym, ap, ◌∙◌, arith}
+use Rattle.std.proofs.Common.{◌≡◌, ◌<◌, ◌≤◌, ◌-◌, ◌^◌, ℕ, Bool, false, List, length, min, Option, Result, Ok, Err, inl, inr, refl, sym, ap, ◌∙◌, arith}
 use Rattle.std.specs.Prelude.{OnOk, IfErr}
-use Rattle.std.specs.BTreeMap.{BTreeMap}
 use Rattle.sessions.specs.Grammar.{Asked}
 use Rattle.accounts.specs.Ledgers.{Ledger}
-use Rattle.credit_book.specs.Boards.{Sight}
 use Rattle.streams.specs.declared.fault.StreamFault.{StreamFault}
 use Rattle.shared_desk.specs.declared.closed.ClosedConnection.{ClosedConnection}
 use Rattle.shared_desk.specs.Histories.{HistoryEntry, Query, Replays, by_any_passage, none_yet, one_more}
@@ -18,7 +16,6 @@ use Rattle.job_server.specs.declared.keeping_handler.KeepingHandler.{KeepingHand
 use Rattle.job_pools.specs.declared.limited_runner.LimitedRunner.{LimitedRunner}
 use Rattle.job_pools.specs.Bounded.{looks_within, starts_within, takes_within}
 use Rattle.job_server.specs.Kept.{answers_keeping}
-use Rattle.job_pools.specs.declared.job_seats.StartedJob.{StartedJob}
 use Rattle.job_pools.specs.Holds.{StartsBy, TellsBy, TakesBy}
 use Rattle.job_pools.specs.Started.{pooled_at, pooled_count}
 use Rattle.job_server.specs.AtOnce.{EndsBy, Hosted, IsServingFrom, Pool, hosted_answers, new_desk, new_host}

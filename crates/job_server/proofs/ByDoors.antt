@@ -1,11 +1,9 @@
 -- What a server with doors of tenants comes to, by whether there are any.
-use Rattle.std.proofs.Common.{◌≡◌, ◌⊎◌, ◌==◌, ℕ, Bool, true, false, true≢false, List, [], ◌∷◌, length, Option, Some, None, is_some, All, Result, Ok, Err, inl, inr, refl, sym, ap, ◌∙◌, nat_lt, nat_eq, if◌then◌else◌, arith}
+use Rattle.std.proofs.Common.{◌≡◌, ◌⊎◌, ◌==◌, ℕ, Bool, true, false, true≢false, List, [], ◌∷◌, length, is_some, All, Result, Err, inl, inr, refl, sym, ap, ◌∙◌, nat_lt, nat_eq, arith}
 use Rattle.std.proofs.lemmas.Bool.Decides.{nat_tests}
 use Rattle.streams.specs.declared.fault.StreamFault.TheVariants.{NoMemory}
-use Rattle.shared_desk.specs.declared.door.Door.{Door}
 use Rattle.shared_desk.specs.declared.door.Door.TheVariants.{Grants, Port, Socket, Tenant}
 use Rattle.shared_desk.specs.declared.passage.Passage.{Passage}
-use Rattle.shared_desk.specs.declared.closed.ClosedConnection.{ClosedConnection}
 use Rattle.shared_desk.specs.Grants.{by_port}
 use Rattle.job_server.specs.declared.bounds.Bounds.{Bounds}
 use Rattle.job_server.specs.declared.fault.ServeFault.{ServeFault}

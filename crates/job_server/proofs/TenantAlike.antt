@@ -1,5 +1,5 @@
 -- Desks of tenants over two runner types.
-use Rattle.std.proofs.Common.{◌≡◌, ℕ, Bool, List, Option, Some, None, Result, Ok, Err, inl, inr, refl, ap, ◌∙◌}
+use Rattle.std.proofs.Common.{◌≡◌, ℕ, Bool, List, Option, Some, None, Result, Ok, Err, inl, inr, ap, ◌∙◌}
 use Rattle.credit_book.specs.declared.book.Report.{Report}
 use Rattle.credit_book.specs.declared.board.Progress.{Progress}
 use Rattle.job_core.specs.Admitted.{AdmittedJob}
@@ -11,7 +11,7 @@ use Rattle.tenant_desks.specs.Placing.{placed}
 use Rattle.tenant_desks.specs.PlacedRunners.{starts_placed, looks_placed, takes_placed}
 use Rattle.tenant_desks.specs.Routing.{desk_for}
 use Rattle.tenant_desks.specs.Tenancies.{Tenancy, fresh_tenancy}
-use Rattle.tenant_desks.specs.Answering.{AnswersAlone, AnswersWhere, DeskAnswer, EndsTaken, KeptRunner, PassesEnds, for_place, none_yet, one_more, tenant_answers}
+use Rattle.tenant_desks.specs.Answering.{AnswersAlone, AnswersWhere, EndsTaken, KeptRunner, PassesEnds, for_place, none_yet, one_more, tenant_answers}
 use Rattle.job_pools.specs.declared.limited_runner.LimitedRunner.{LimitedRunner}
 use Rattle.job_pools.specs.Bounded.{looks_within, starts_within, takes_within}
 use Rattle.job_pools.specs.Holds.{StartsBy, TellsBy, TakesBy}

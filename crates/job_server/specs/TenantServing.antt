@@ -1,6 +1,5 @@
 -- Servers of which some tenants may have a door, and a desk, of their own.
 use Rattle.std.specs.Prelude.{◌≡◌, ℕ, Bool, false, List, [], ◌∷◌, All, map, string_bytes, Result}
-use Rattle.accounts.specs.Ledgers.{Ledger}
 use Rattle.shared_desk.specs.Histories.{Query}
 use Rattle.shared_desk.specs.declared.door.Door.TheVariants.{Tenant}
 use Rattle.shared_desk.specs.declared.passage.Passage.{Passage}

@@ -1,4 +1,3 @@
-use Rattle.std.proofs.Common.{refl, inr}
 use Rattle.job_server.proofs.ByDoors.{port_grants, served_by}
 use Rattle.job_server.proofs.serving.serve_port.Goals as goal
 
