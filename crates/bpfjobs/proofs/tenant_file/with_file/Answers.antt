@@ -1,4 +1,4 @@
-use Rattle.std.proofs.Common.{◌≡◌, ◌∙◌, [], List, Ok, ap}
+use Rattle.std.proofs.Common.{◌≡◌, [], List, Ok, ap}
 use Rattle.std.proofs.lemmas.List.{append-nil}
 use Rattle.bpfjobs_cli.specs.Tenants.{Entered, NamedPath, entered, fault_said, line_says, lines_said}
 use Rattle.bpfjobs.proofs.tenant_file.with_file.Goals as goal
