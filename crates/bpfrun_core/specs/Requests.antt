@@ -39,4 +39,5 @@ IsBpfrunUsage (usage.Refused error) words =
     (takes bpfrun_app words ≡ true → kind_of error ≡ OutOfMemory)
     × HasKind (fault_of bpfrun_app words) error
 IsBpfrunUsage (usage.Endpoint fault) words = ⊥
+IsBpfrunUsage (usage.Tenant word fault) words = ⊥
 IsBpfrunUsage usage.NoMemory words = Unit {0}
