@@ -2,9 +2,11 @@
 
 use crate::fault::{DeskFault, SubmitFault};
 use crate::jobs::{JobEntry, JobStanding, Jobs, settle};
+use crate::kept_report::SharedReport;
 use crate::tenants::{Account, Sums, account_of, add, change, sums_of};
 use credit_book::{Progress, Report};
 use job_core::{AdmitFault, Job, ProgramBytes, admit};
+use refusal::NoMemory;
 use std::alloc::Global;
 use std::collections::BTreeMap;
 use std::marker::Model;
@@ -35,6 +37,7 @@ impl Model for Desk {
 
 impl Desk {
     ghost use Rattle.std.specs.Prelude.{◌≡◌, ◌≤◌, ◌+◌, ℕ, List, [], IfOk, IfErr, OnOk, OnErr, Ok, Err, MatchResult, length, unwrap_or};
+    ghost use Rattle.credit_book.specs.declared.book.Report.{Report};
     ghost use Rattle.job_core.specs.Admission.{IsAdmittedFrom};
     ghost use Rattle.job_core.specs.declared.admission.ProgramBytes.{ProgramBytes};
     ghost use Rattle.accounts.specs.Ahead.{IsAdmissionOf};
@@ -243,8 +246,8 @@ impl Desk {
         match &entry.standing {
             JobStanding::Open => Ok(seen),
             JobStanding::Reported(report) => Ok(Progress {
-                spent: report.spent,
-                returned: report.returned,
+                spent: report.get().spent,
+                returned: report.get().returned,
                 complete: true,
             }),
             JobStanding::Failed(code) => Err(DeskFault::Failed(*code)),
@@ -263,8 +266,29 @@ impl Desk {
         };
         match &entry.standing {
             JobStanding::Open => Err(DeskFault::NotComplete),
-            JobStanding::Reported(report) => Ok(report),
+            JobStanding::Reported(report) => Ok(report.get()),
             JobStanding::Failed(code) => Err(DeskFault::Failed(*code)),
         }
+    }
+
+    /// The report of a job as [`Desk::result`] tells it, for one holder more: the bytes aren't copied,
+    /// and stay as long as it is held. 99 where there was no memory to share the report.
+    #[tactic(auto, unfolding(crate::specs::Ledgers::report_at))]
+    pub fn shared_result(
+        &mut self,
+        alloc: Global,
+        job: u64,
+    ) -> Result<Result<SharedReport, DeskFault>, NoMemory>
+        ensures told { IfOk result (λ told. report_at self.old job ≡ told) }
+        ensures refused { OnErr result
+            ((report : Report) × (report_at self.old job ≡ Ok report)) }
+        ensures same { self.new ≡ self.old }
+    {
+        match self.result(job) {
+            Ok(_) => {}
+            Err(fault) => return Ok(Err(fault)),
+        }
+        let report = self.jobs.share(alloc, job)?;
+        Ok(Ok(report))
     }
 }

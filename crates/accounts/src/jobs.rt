@@ -1,11 +1,15 @@
 //! The jobs of a desk.
 
-ghost use Rattle.std.specs.Prelude.{◌≡◌, ◌≤◌, ◌-◌, ◌++◌, ◌∷◌, [], ◌^◌, ◌<◌, ◌+◌, false, length, OnOk, OnErr, Some, option_map, slice_set};
+ghost use Rattle.std.specs.Prelude.{◌≡◌, ◌≤◌, ◌-◌, ◌++◌, ◌∷◌, [], ◌^◌, ◌<◌, ◌+◌, false, length, IfOk, Ok, OnOk, OnErr, Some, option_map, slice_set};
+ghost use Rattle.credit_book.specs.declared.book.Report.{Report};
 ghost use Rattle.accounts.specs.declared.jobs.JobEntry.{JobEntry};
-ghost use Rattle.accounts.specs.Jobs.{job_at, settled, spent_by_job, is_open};
+ghost use Rattle.accounts.specs.Jobs.{job_at, report_of, settled, spent_by_job, is_open};
 ghost use Rattle.accounts.specs.Forgetting.{ForgetsJobs, begins_over};
+ghost use Rattle.accounts.specs.Ledgers.{report_in};
 
+use crate::kept_report::{KeptReport, SharedReport};
 use credit_book::Report;
+use refusal::NoMemory;
 use std::alloc::{AllocError, Global};
 use std::collections::VecDeque;
 use std::marker::Model;
@@ -16,7 +20,7 @@ pub enum JobStanding {
     /// It isn't over: its credit is neither spent nor back.
     Open,
     /// It came to this.
-    Reported(Report),
+    Reported(KeptReport),
     /// It failed with the refusal of this number.
     Failed(u8),
 }
@@ -37,8 +41,20 @@ impl JobStanding {
         ensures { result ≡ spent_by_job self.now }
     {
         match self {
-            JobStanding::Reported(report) => report.spent,
+            JobStanding::Reported(report) => report.get().spent,
             _ => 0,
+        }
+    }
+
+    // The report of a job that has one, for one holder more.
+    fn share(&mut self, alloc: Global) -> Result<SharedReport, NoMemory>
+        requires { (report : Report) × (report_of self.old ≡ Ok report) }
+        ensures shared { IfOk result (λ report. report_of self.old ≡ Ok report) }
+        ensures same { self.new ≡ self.old }
+    {
+        match self {
+            JobStanding::Reported(report) => report.share(alloc),
+            _ => unreachable!(),
         }
     }
 }
@@ -133,6 +149,18 @@ impl Jobs {
         self.kept[(job - 1 - self.forgotten) as usize].standing = standing;
     }
 
+    /// The report of a job that has one, for one holder more. 99 where there was no memory.
+    pub fn share(&mut self, alloc: Global, job: u64) -> Result<SharedReport, NoMemory>
+        requires { (report : Report) × (report_in (job_at self.old job) ≡ Ok report) }
+        ensures shared { IfOk result
+            (λ report. report_in (job_at self.old job) ≡ Ok report) }
+        ensures same { self.new ≡ self.old }
+    {
+        self.kept[(job - 1 - self.forgotten) as usize]
+            .standing
+            .share(alloc)
+    }
+
     /// Forgets the first jobs, as long as there are more than `keep` behind them, up to the first
     /// that is open.
     pub fn forget(&mut self, keep: u64)
@@ -167,7 +195,7 @@ pub fn settle(credit: u32, outcome: Result<Report, u8>) -> JobStanding
     match outcome {
         Ok(report) => {
             if u64::from(report.spent) + u64::from(report.returned) == u64::from(credit) {
-                JobStanding::Reported(report)
+                JobStanding::Reported(KeptReport::new(report))
             } else {
                 JobStanding::Failed(82)
             }

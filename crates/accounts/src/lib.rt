@@ -3,8 +3,10 @@
 
 // what is kept
 mod jobs;
+mod kept_report;
 mod tenants;
 
+pub use kept_report::SharedReport;
 pub use tenants::Account;
 
 // what is asked of it
