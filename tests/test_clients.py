@@ -100,20 +100,27 @@ class Worker(threading.Thread):
         self.slowest = client.slowest
 
 
+def spawner(count, program, credit):
+    """The text of a program that spawns so many tasks of another one, each with this credit."""
+    spawn = [f"mov64 r1, {program}", f"mov64 r2, {credit}", "mov64 r3, 0", "mov64 r4, 0", "call 1"]
+    return " / ".join(spawn * count + ["mov64 r0, 0", "exit"])
+
+
 def long_job():
     """Programs and a credit that keep one worker busy for a while: 60 tasks of 500 tasks of 4,001 steps, or a tenth of them."""
     count = 6 if IS_SLOW else 60
-    spawn = ["mov64 r1, {}", "mov64 r2, {}", "mov64 r3, 0", "mov64 r4, 0", "call 1"]
     leaf = " / ".join(["mov64 r0, 0"] * 4000 + ["exit"])
-
-    def spawner(count, program, credit):
-        lines = [line.format(program if k == 0 else credit) for k, line in enumerate(spawn)]
-        return " / ".join(lines * count + ["mov64 r0, 0", "exit"])
-
     middle_credit = 500 * 4001 + 500 * 100
     root_credit = count * middle_credit + count * 100
     programs = [spawner(count, 1, middle_credit), spawner(500, 2, 4001), leaf]
     return [(0, code_of(text)) for text in programs], root_credit
+
+
+def wide_job():
+    """Programs and a credit for a job whose result has two million bytes: 60 tasks of 500 tasks each, or a tenth of them."""
+    count, middle_credit = 6 if IS_SLOW else 60, 500 * 102
+    programs = [spawner(count, 1, middle_credit), spawner(500, 2, 2), "mov64 r0, 0 / exit"]
+    return [(0, code_of(text)) for text in programs], count * (middle_credit + 100)
 
 
 def result_of(client, job):
@@ -372,6 +379,30 @@ class Clients(unittest.TestCase):
                 self.assertEqual((refusal["code"], refusal["program"]), (1, 15))
             asking.stream.close()
             submitting.stream.close()
+            self.assertLess(min(shares), 0.4, shares)
+
+    def test_nobody_waits_while_a_result_is_written(self):
+        """The longest that an account is waited for is short beside what another client's result takes, whose text is made
+        meanwhile."""
+        programs, credit = wide_job()
+        with Server(more=["--clients", 2]) as server:
+            asking, reading = Client(server), Client(server)
+            for tenant, amount in (("t", 100), ("wide", credit)):
+                asking.ask({"op": "grant", "tenant": tenant, "amount": amount})
+            job = reading.ask(submit_text(programs, credit, b"", tenant="wide"))["job"]
+            wanted = result_of(reading, job)
+            self.assertTrue(wanted["ok"])
+            shares = []
+            for _ in range(5):
+                asking.slowest, began = 0.0, time.monotonic()
+                reading.stream.sendall(frame(json.dumps({"op": "result", "job": job})))
+                while not select.select([reading.stream], [], [], 0)[0]:
+                    self.assertEqual(asking.ask({"op": "account", "tenant": "t"})["balance"], 100)
+                shares.append(asking.slowest / (time.monotonic() - began))
+                length = int.from_bytes(is_read(reading.stream, 4), "big")
+                self.assertEqual(json.loads(is_read(reading.stream, length)), wanted)
+            asking.stream.close()
+            reading.stream.close()
             self.assertLess(min(shares), 0.4, shares)
 
     def test_as_many_as_there_are_places(self):

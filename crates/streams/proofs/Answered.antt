@@ -1,7 +1,6 @@
 -- What was done, and its frame.
-use Rattle.std.proofs.Common.{◌≡◌, ◌⊎◌, ◌≤◌, ◌+◌, ◌-◌, ℕ, List, [], ◌∷◌, ◌++◌, length, length-append, slice_get, slice_set, refl, sym, ◌∙◌, ap, subst, arith, nat_eq, if◌then◌else◌, false, Option, Some, None, Result, Ok, Err, OnOk, OnErr, IfOk, IfErr, inl, inr, unwrap_or, MatchResult, Vec}
+use Rattle.std.proofs.Common.{◌≡◌, ◌⊎◌, ◌≤◌, ◌+◌, ◌-◌, ℕ, List, [], ◌∷◌, ◌++◌, length, length-append, slice_get, slice_set, refl, sym, ◌∙◌, ap, subst, arith, nat_eq, if◌then◌else◌, false, Option, Some, None, Result, Ok, Err, OnOk, OnErr, IfOk, IfErr, inl, inr, unwrap_or, MatchResult}
 use Rattle.std.proofs.lemmas.Bool.Decides.{nat_tests}
-use Rattle.std.specs.declared.alloc.Global.{Global}
 use Rattle.refusal.specs.declared.NoMemory.{NoMemory}
 use Rattle.serde_json.specs.Data.{Data}
 use Rattle.credit_book.specs.declared.book.Report.{Report}
@@ -128,19 +127,19 @@ submits_by starts (Err e) desk mid runner name programs credit buffer takes numb
     inr (record { fault = e; why = why; same = done.0 ∙ same; same_runner = done.1; tells = done.2 })
 
 -- what was done is told by the same frame, in other words
-pub framed_as : (r : Result (Vec ℕ Global) NoMemory) (P Q : Data → Type 0) → ((d : Data) → P d → Q d) → Framed r P → Framed r Q
+pub framed_as : (r : Result (List ℕ) NoMemory) (P Q : Data → Type 0) → ((d : Data) → P d → Q d) → Framed r P → Framed r Q
 framed_as r P Q leads framed = record { told = framed.told; was = leads (reply_data framed.told) framed.was; frame = framed.frame }
 
 module _ {R : Type 0} (starts : R → ℕ → core.AdmittedJob → Result (Unit {0}) ℕ → R → Type 0) (looks : R → ℕ → Progress → R → Type 0)
     (takes : R → Option (ℕ × Result Report ℕ) → R → Type 0) (desk : Ledger) (runner : R) (query : Result Asked ℕ) (mid : Ledger) (rest : R)
     (after : Ledger) (left : R) (passed : Passes takes desk runner mid rest) where
-  pub answered_ok : (r : Result (Vec ℕ Global) NoMemory) → Framed r (λ told. Replies starts looks mid rest query told after left) →
-      IfOk r (λ f. Answers starts looks takes desk runner query f.items after left)
+  pub answered_ok : (r : Result (List ℕ) NoMemory) → Framed r (λ told. Replies starts looks mid rest query told after left) →
+      IfOk r (λ f. Answers starts looks takes desk runner query f after left)
   answered_ok (Ok f) framed =
       record { mid = mid; rest = rest; passed = passed; told = framed.told; replies = framed.was; frame = framed.frame }
   answered_ok (Err e) framed = tt
 
-  pub answered_err : (r : Result (Vec ℕ Global) NoMemory) → Framed r (λ told. Replies starts looks mid rest query told after left) →
+  pub answered_err : (r : Result (List ℕ) NoMemory) → Framed r (λ told. Replies starts looks mid rest query told after left) →
       OnErr r ((reply : List ℕ) × Answers starts looks takes desk runner query reply after left)
   answered_err (Ok f) framed = tt
   answered_err (Err e) framed =

@@ -1,6 +1,7 @@
 pub mod Serving
 pub mod Passed
 pub mod Answered
+pub mod Written
 pub mod EachForm
 pub mod Walks
 pub mod Plainly

@@ -1,6 +1,5 @@
 -- What is answered to a frame by a desk and a runner.
-use Rattle.std.specs.Prelude.{◌≡◌, ◌⊎◌, ◌≤◌, ◌+◌, ℕ, List, length, map, Option, Some, None, Result, Ok, Err, Vec, IfOk, unwrap_or}
-use Rattle.std.specs.declared.alloc.Global.{Global}
+use Rattle.std.specs.Prelude.{◌≡◌, ◌⊎◌, ◌≤◌, ◌+◌, ℕ, List, length, map, Option, Some, None, Result, Ok, Err, IfOk, unwrap_or}
 use Rattle.refusal.specs.declared.NoMemory.{NoMemory}
 use Rattle.serde_json.specs.Data.{Data}
 use Rattle.credit_book.specs.declared.book.Report.{Report}
@@ -140,8 +139,8 @@ pub record Answers {R : Type 0} (starts : R → ℕ → core.AdmittedJob → Res
   pub replies : Replies starts looks mid rest query (reply_data told) after left
   pub frame : reply ≡ frame_of told
 
--- what was done is told by a reply, and this is its frame, where that finds memory
-pub record Framed (result : Result (Vec ℕ Global) NoMemory) (done : Data → Type 0) : Type 0 where
+-- what was done is told by a reply, and these are the bytes of its frame, where that finds memory
+pub record Framed (result : Result (List ℕ) NoMemory) (done : Data → Type 0) : Type 0 where
   pub told : Reply
   pub was : done (reply_data told)
-  pub frame : IfOk result (λ f. f.items ≡ frame_of told)
+  pub frame : IfOk result (λ bytes. bytes ≡ frame_of told)

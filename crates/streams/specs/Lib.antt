@@ -4,6 +4,7 @@ pub mod Stops
 pub mod Hearing
 pub mod Passing
 pub mod Answering
+pub mod Pending
 pub mod LedgerReplies
 pub mod Inline
 pub mod Refusing

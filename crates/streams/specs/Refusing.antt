@@ -1,6 +1,5 @@
 -- Beside a reply to a submit: why its job doesn't run.
-use Rattle.std.specs.Prelude.{◌≡◌, ℕ, List, [], ◌∷◌, ◌++◌, length, Option, Some, None, Result, Ok, Err, IfOk, Vec}
-use Rattle.std.specs.declared.alloc.Global.{Global}
+use Rattle.std.specs.Prelude.{◌≡◌, ℕ, List, [], ◌∷◌, ◌++◌, length, Option, Some, None, Result, Ok, Err, IfOk}
 use Rattle.refusal.specs.declared.NoMemory.{NoMemory}
 use Rattle.accounts.specs.declared.jobs.JobEntry.{JobEntry}
 use Rattle.accounts.specs.declared.jobs.JobStanding.{JobStanding}
@@ -40,7 +39,7 @@ SaysRefusal desk (Some (NotTaken code)) reply =
 
 -- what is told beside the reply to what a frame asks, by the desk after it: nothing, but for a submit
 abbrev pub TellsRefusal : Ledger → Result Asked ℕ → Option SubmitRefusal
-    → Result (Vec ℕ Global) NoMemory → Type 0
+    → Result (List ℕ) NoMemory → Type 0
 TellsRefusal desk (Ok (submit name order)) refusal result =
-    IfOk result (λ frame. SaysRefusal desk refusal frame.items)
+    IfOk result (λ frame. SaysRefusal desk refusal frame)
 TellsRefusal desk other refusal result = refusal ≡ None

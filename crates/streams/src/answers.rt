@@ -12,12 +12,13 @@ use crate::forms::{
     refused,
 };
 use crate::handler::{Handler, TellingHandler};
+use crate::pending_reply::{PendingReply, written_frame};
 use crate::prepared_request::PreparedRequest;
 use crate::runner::Runner;
 use crate::submit_refusal::SubmitRefusal;
 use accounts::Desk;
 use refusal::NoMemory;
-use sessions::{Request, reply_frame};
+use sessions::Request;
 use std::alloc::Global;
 
 // Carries a request out, and gives the frame of its reply, and why a job that was asked for doesn't
@@ -27,7 +28,7 @@ fn carry_out<N: Runner>(
     desk: &mut Desk,
     runner: &mut N,
     request: Request,
-) -> (Option<SubmitRefusal>, Result<Vec<u8>, NoMemory>)
+) -> (Option<SubmitRefusal>, Result<PendingReply, NoMemory>)
     requires { N.ready runner.old }
     ensures ready { N.ready runner.new }
     ensures refusal { TellsRefusal desk.new (Ok (request_asked request)) result.0 result.1 }
@@ -56,7 +57,7 @@ fn reply_to<N: Runner>(
     desk: &mut Desk,
     runner: &mut N,
     request: PreparedRequest,
-) -> (Option<SubmitRefusal>, Result<Vec<u8>, NoMemory>)
+) -> (Option<SubmitRefusal>, Result<PendingReply, NoMemory>)
     requires { N.ready runner.old }
     ensures ready { N.ready runner.new }
     ensures refusal { TellsRefusal desk.new (asked_of request) result.0 result.1 }
@@ -66,7 +67,10 @@ fn reply_to<N: Runner>(
 {
     match request {
         PreparedRequest::AsItCame(Ok(request)) => carry_out(alloc, desk, runner, request),
-        PreparedRequest::AsItCame(Err(code)) => (None, reply_frame(alloc, &refused(code))),
+        PreparedRequest::AsItCame(Err(code)) => (
+            None,
+            PendingReply::of_reply(alloc, &refused(code)),
+        ),
         PreparedRequest::Submit(submit) => answer_admitted(alloc, desk, runner, submit),
     }
 }
@@ -77,12 +81,12 @@ fn answer_by_runner<N: Runner>(
     desk: &mut Desk,
     runner: &mut N,
     request: PreparedRequest,
-) -> (Option<SubmitRefusal>, Result<Vec<u8>, NoMemory>)
+) -> (Option<SubmitRefusal>, Result<PendingReply, NoMemory>)
     requires { N.ready runner.old }
     ensures ready { N.ready runner.new }
     ensures refusal { TellsRefusal desk.new (asked_of request) result.0 result.1 }
     ensures ok { IfOk result.1 (λ reply. Answers N.starts N.looks N.takes desk.old runner.old
-        (asked_of request) reply.items desk.new runner.new) }
+        (asked_of request) reply desk.new runner.new) }
     ensures err { OnErr result.1 ((reply : List ℕ) × Answers N.starts N.looks N.takes desk.old
         runner.old (asked_of request) reply desk.new runner.new) }
 {
@@ -104,7 +108,8 @@ impl<N: Runner> Handler<Desk> for N {
         desk: &mut Desk,
         request: Result<Request, u8>,
     ) -> Result<Vec<u8>, NoMemory> {
-        answer_by_runner(alloc, desk, self, PreparedRequest::AsItCame(request)).1
+        let reply = answer_by_runner(alloc, desk, self, PreparedRequest::AsItCame(request)).1;
+        written_frame(alloc, reply)
     }
 }
 
@@ -114,7 +119,7 @@ impl<N: Runner> TellingHandler for N {
         alloc: Global,
         desk: &mut Desk,
         request: PreparedRequest,
-    ) -> (Option<SubmitRefusal>, Result<Vec<u8>, NoMemory>) {
+    ) -> (Option<SubmitRefusal>, Result<PendingReply, NoMemory>) {
         answer_by_runner(alloc, desk, self, request)
     }
 }

@@ -9,12 +9,13 @@ ghost use Rattle.streams.specs.Answering.{Framed, Grants, GrantsNone, IsOpenJob,
 ghost use Rattle.streams.specs.Refusing.{IsJustTaken, SaysRefusal, TellsRefusal, start_refused};
 
 use crate::admitted_submit::AdmittedSubmit;
+use crate::pending_reply::PendingReply;
 use crate::runner::Runner;
 use crate::submit_refusal::SubmitRefusal;
 use accounts::{Account, Desk, DeskFault, SubmitFault};
 use job_core::{Job, ProgramBytes};
 use refusal::NoMemory;
-use sessions::{Reply, reply_frame};
+use sessions::Reply;
 use std::alloc::Global;
 
 /// A refusal that has a number alone.
@@ -49,19 +50,19 @@ pub fn answer_grant(
     desk: &mut Desk,
     tenant: &str,
     amount: u32,
-) -> Result<Vec<u8>, NoMemory>
+) -> Result<PendingReply, NoMemory>
     ensures { Framed result (λ told. Grants desk.old tenant.now amount told desk.new
         ⊎ GrantsNone desk.old tenant.now amount told desk.new) }
 {
     let account = desk.grant(alloc, tenant, amount);
-    reply_frame(alloc, &account_reply(account))
+    PendingReply::of_reply(alloc, &account_reply(account))
 }
 
 /// Tells an account.
-pub fn answer_account(alloc: Global, desk: &Desk, tenant: &str) -> Result<Vec<u8>, NoMemory>
+pub fn answer_account(alloc: Global, desk: &Desk, tenant: &str) -> Result<PendingReply, NoMemory>
     ensures { Framed result (λ told. told ≡ account_told (account_at desk.now tenant.now)) }
 {
-    reply_frame(alloc, &account_reply(desk.account(tenant)))
+    PendingReply::of_reply(alloc, &account_reply(desk.account(tenant)))
 }
 
 // Starts a job that was taken. A start that is refused ends the job with its number.
@@ -103,7 +104,7 @@ fn answer_taken<N: Runner>(
     desk: &mut Desk,
     runner: &mut N,
     taken: Result<(u64, Job), SubmitFault>,
-) -> (Option<SubmitRefusal>, Result<Vec<u8>, NoMemory>)
+) -> (Option<SubmitRefusal>, Result<PendingReply, NoMemory>)
     requires ready { N.ready runner.old }
     requires last { IfOk taken (λ t. IsJustTaken desk.old t.0) }
     ensures ready { N.ready runner.new }
@@ -111,12 +112,12 @@ fn answer_taken<N: Runner>(
         (λ t. StartsTaken N.starts desk.old runner.old t.0 t.1 told desk.new runner.new)
         (λ fault. (desk.new ≡ desk.old) × (runner.new ≡ runner.old)
         × (told ≡ submit_refused fault))) }
-    ensures refusal { IfOk result.1 (λ frame. SaysRefusal desk.new result.0 frame.items) }
+    ensures refusal { IfOk result.1 (λ frame. SaysRefusal desk.new result.0 frame) }
 {
     match taken {
         Ok((number, job)) => {
             let started = start_job(alloc, desk, runner, number, job);
-            let reply = reply_frame(alloc, &Reply::Submit { job: number });
+            let reply = PendingReply::of_reply(alloc, &Reply::Submit { job: number });
             (refused_start(number, started), reply)
         }
         Err(fault) => {
@@ -126,7 +127,7 @@ fn answer_taken<N: Runner>(
                 program: fault.program(),
                 slot: fault.slot(),
             };
-            let reply = reply_frame(alloc, &refusal);
+            let reply = PendingReply::of_reply(alloc, &refusal);
             (Some(SubmitRefusal::NotTaken { code }), reply)
         }
     }
@@ -142,13 +143,13 @@ pub fn answer_submit<N: Runner>(
     programs: &[ProgramBytes],
     credit: u32,
     buffer: Vec<u8>,
-) -> (Option<SubmitRefusal>, Result<Vec<u8>, NoMemory>)
+) -> (Option<SubmitRefusal>, Result<PendingReply, NoMemory>)
     requires { N.ready runner.old }
     ensures ready { N.ready runner.new }
     ensures done { Framed result.1
         (λ told. Submits N.starts desk.old runner.old tenant.now programs.now credit
         buffer.items told desk.new runner.new) }
-    ensures refusal { IfOk result.1 (λ frame. SaysRefusal desk.new result.0 frame.items) }
+    ensures refusal { IfOk result.1 (λ frame. SaysRefusal desk.new result.0 frame) }
 {
     let taken = desk.submit(alloc, tenant, programs, credit, buffer);
     answer_taken(alloc, desk, runner, taken)
@@ -160,7 +161,7 @@ pub fn answer_admitted<N: Runner>(
     desk: &mut Desk,
     runner: &mut N,
     submit: AdmittedSubmit,
-) -> (Option<SubmitRefusal>, Result<Vec<u8>, NoMemory>)
+) -> (Option<SubmitRefusal>, Result<PendingReply, NoMemory>)
     requires { N.ready runner.old }
     ensures ready { N.ready runner.new }
     ensures done { Framed result.1
@@ -183,7 +184,7 @@ pub fn answer_status<N: Runner>(
     desk: &Desk,
     runner: &mut N,
     job: u64,
-) -> Result<Vec<u8>, NoMemory>
+) -> Result<PendingReply, NoMemory>
     requires { N.ready runner.old }
     ensures ready { N.ready runner.new }
     ensures done { Framed result (λ told. (seen : Progress) × N.looks runner.old job seen runner.new
@@ -197,26 +198,19 @@ pub fn answer_status<N: Runner>(
                 returned: progress.returned,
                 spent: progress.spent,
             };
-            reply_frame(alloc, &status)
+            PendingReply::of_reply(alloc, &status)
         }
-        Err(fault) => reply_frame(alloc, &refused(fault.code())),
+        Err(fault) => PendingReply::of_reply(alloc, &refused(fault.code())),
     }
 }
 
-/// Tells what a job came to.
-pub fn answer_result(alloc: Global, desk: &Desk, job: u64) -> Result<Vec<u8>, NoMemory>
-    ensures { Framed result (λ told. told ≡ report_told (report_at desk.now job)) }
+/// Tells what a job came to. The text of its report is written later.
+pub fn answer_result(alloc: Global, desk: &mut Desk, job: u64) -> Result<PendingReply, NoMemory>
+    ensures told { Framed result (λ told. told ≡ report_told (report_at desk.old job)) }
+    ensures same { desk.new ≡ desk.old }
 {
-    match desk.result(job) {
-        Ok(report) => {
-            let result = Reply::Result {
-                buffer: &report.buffer,
-                returned: report.returned,
-                spent: report.spent,
-                tasks: &report.tasks,
-            };
-            reply_frame(alloc, &result)
-        }
-        Err(fault) => reply_frame(alloc, &refused(fault.code())),
+    match desk.shared_result(alloc, job)? {
+        Ok(report) => Ok(PendingReply::of_report(report)),
+        Err(fault) => PendingReply::of_reply(alloc, &refused(fault.code())),
     }
 }

@@ -6,6 +6,7 @@ ghost use Rattle.streams.specs.Hearing.{query_of};
 ghost use Rattle.streams.specs.Prepared.{asked_of};
 ghost use Rattle.streams.specs.Refusing.{TellsRefusal};
 
+use crate::pending_reply::PendingReply;
 use crate::prepared_request::PreparedRequest;
 use crate::submit_refusal::SubmitRefusal;
 use accounts::Desk;
@@ -42,17 +43,18 @@ pub trait Handler<D> {
 /// A handler of a desk that also takes requests whose jobs were admitted ahead, and tells why a job
 /// that was asked for doesn't run.
 pub trait TellingHandler: Handler<Desk> {
-    /// Answers as `answer` does. Beside the reply it tells why a job that was asked for doesn't run.
+    /// Answers as `answer` does, but for the frame of a report, which may be written later. Beside the
+    /// reply it tells why a job that was asked for doesn't run.
     fn answer_and_tell(
         &mut self,
         alloc: Global,
         desk: &mut Desk,
         request: PreparedRequest,
-    ) -> (Option<SubmitRefusal>, Result<Vec<u8>, NoMemory>)
+    ) -> (Option<SubmitRefusal>, Result<PendingReply, NoMemory>)
         requires { Self.ready self.old }
         ensures ready { Self.ready self.new }
         ensures ok { IfOk result.1
-            (λ reply. Self.answers (desk.old, self.old) (asked_of request) reply.items
+            (λ reply. Self.answers (desk.old, self.old) (asked_of request) reply
             (desk.new, self.new)) }
         ensures err { OnErr result.1 ((reply : List ℕ)
             × Self.answers (desk.old, self.old) (asked_of request) reply (desk.new, self.new)) }

@@ -23,12 +23,14 @@ mod admitted_submit;
 mod answers;
 mod finished;
 mod forms;
+mod pending_reply;
 mod prepared_request;
 mod runner;
 mod submit_refusal;
 
 pub use admitted_submit::AdmittedSubmit;
 pub use finished::pass_finished;
+pub use pending_reply::{PendingReply, written_frame};
 pub use prepared_request::{PreparedRequest, prepare, wants_admission};
 pub use runner::Runner;
 pub use submit_refusal::SubmitRefusal;

@@ -26,5 +26,5 @@ returns-in-Status-clause-done g c = framed_as c.answer_status.result _ _
 
 pub returns-in-Result-clause-done : goal.returns-in-Result-clause-done
 returns-in-Result-clause-done g c = framed_as c.answer_result.result _ _
-    (λ told h. to_result g.N.Runner.starts g.N.Runner.looks _ _ _ _ c.args.request told c.in-Result.job c.in-Result.is refl refl h)
-    c.answer_result.ensures
+    (λ told h. to_result g.N.Runner.starts g.N.Runner.looks _ _ _ _ c.args.request told c.in-Result.job c.in-Result.is c.answer_result.ensures.same refl h)
+    c.answer_result.ensures.told

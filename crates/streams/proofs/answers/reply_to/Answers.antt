@@ -5,5 +5,5 @@ pub returns-in-AsItCame-Err-clause-done : goal.returns-in-AsItCame-Err-clause-do
 returns-in-AsItCame-Err-clause-done g c = record {
   told = c.refused.result;
   was = rw c.in-AsItCame-Err.is (to_none g.N.Runner.starts g.N.Runner.looks c.args.desk.now c.args.runner.now c.in-AsItCame-Err.field-0 c.in-AsItCame-Err.code c.refused.result c.in-AsItCame-Err.field-0-is c.refused.ensures);
-  frame = c.reply_frame.ensures;
+  frame = c.of_reply.ensures;
 }

@@ -6,5 +6,5 @@ pub returns : goal.returns
 returns c = record {
   told = c.account_reply.result;
   was = c.account_reply.ensures ∙ ap account_told c.account.ensures.account;
-  frame = c.reply_frame.ensures;
+  frame = c.of_reply.ensures;
 }

@@ -18,24 +18,24 @@ returns-in-Ok-clause-done g c =
         settles = started.1;
         tells = refl;
       });
-      frame = c.reply_frame-reply.ensures;
+      frame = c.of_reply-reply.ensures;
     }
 
 pub returns-in-Err-clause-done : goal.returns-in-Err-clause-done
 returns-in-Err-clause-done g c = record {
   told = Refused c.code-code.result c.program.result c.slot.result;
   was = rw c.in-Err.is (refl, refl, rw (c.code-code.ensures, c.program.ensures, c.slot.ensures) refl);
-  frame = c.reply_frame-reply-in-Err.ensures;
+  frame = c.of_reply-reply-in-Err.ensures;
 }
 
 pub returns-in-Ok-clause-refusal : goal.returns-in-Ok-clause-refusal
 returns-in-Ok-clause-refusal g c =
-    IfOk-weaker c.reply_frame-reply.result _ _
+    IfOk-weaker c.of_reply-reply.result _ _
     (λ frame is. rw c.refused_start.ensures (says_started c.args.desk.now c.start_job-started.new.desk c.in-Ok.number c.start_job-started.result _
     (rw c.in-Ok.is at c.requires.last) c.start_job-started.ensures.started.1 (is ∙ is_frame (Submit c.in-Ok.number))))
-    c.reply_frame-reply.ensures
+    c.of_reply-reply.ensures
 
 pub returns-in-Err-clause-refusal : goal.returns-in-Err-clause-refusal
 returns-in-Err-clause-refusal g c =
-    IfOk-weaker c.reply_frame-reply-in-Err.result _ _ (λ frame is. (c.program.result, c.slot.result, is ∙ is_frame (Refused c.code-code.result c.program.result c.slot.result)))
-    c.reply_frame-reply-in-Err.ensures
+    IfOk-weaker c.of_reply-reply-in-Err.result _ _ (λ frame is. (c.program.result, c.slot.result, is ∙ is_frame (Refused c.code-code.result c.program.result c.slot.result)))
+    c.of_reply-reply-in-Err.ensures
