@@ -1,7 +1,6 @@
 -- The last job of a desk that forgets.
-use Rattle.std.proofs.Common.{◌≡◌, ◌≤◌, ℕ, zero, suc, List, [], ◌∷◌, ◌++◌, append_assoc, length, length-append, replicate, refl, sym, ◌∙◌, ap, arith, inl, inr, Option, Some, None, Result, Ok, Err, Vec}
+use Rattle.std.proofs.Common.{◌≡◌, ◌≤◌, ℕ, zero, suc, List, [], ◌∷◌, ◌++◌, append_assoc, length, length-append, replicate, refl, sym, ◌∙◌, ap, arith, inl, inr, Option, Some, None, Result, Ok, Err}
 use Rattle.std.proofs.lemmas.List.{length-replicate}
-use Rattle.std.specs.declared.alloc.Global.{Global}
 use Rattle.refusal.specs.declared.NoMemory.{NoMemory}
 use Rattle.accounts.specs.declared.jobs.JobEntry.{JobEntry}
 use Rattle.accounts.specs.declared.jobs.JobStanding.{JobStanding}
@@ -61,9 +60,9 @@ says_kept keep old new (Some (NotStarted number code)) reply keeps says =
     let kept = keeps_last keep old new _ keeps says.0 in (kept.0, says.1 ∙ sym kept.1, says.2)
 says_kept keep old new (Some (NotTaken code)) reply keeps says = says
 
-pub tells_kept : (keep : ℕ) (old new : Ledger) (asked : Result Asked ℕ) (refusal : Option SubmitRefusal) (reply : Result (Vec ℕ Global) NoMemory) →
+pub tells_kept : (keep : ℕ) (old new : Ledger) (asked : Result Asked ℕ) (refusal : Option SubmitRefusal) (reply : Result (List ℕ) NoMemory) →
     KeepsLast keep old new → TellsRefusal old asked refusal reply → TellsRefusal new asked refusal reply
-tells_kept keep old new (Ok (submit name order)) refusal (Ok frame) keeps tells = says_kept keep old new refusal frame.items keeps tells
+tells_kept keep old new (Ok (submit name order)) refusal (Ok frame) keeps tells = says_kept keep old new refusal frame keeps tells
 tells_kept keep old new (Ok (submit name order)) refusal (Err e) keeps tells = tells
 tells_kept keep old new (Ok (grant name amount)) refusal reply keeps tells = tells
 tells_kept keep old new (Ok (account name)) refusal reply keeps tells = tells

@@ -4,7 +4,7 @@ use accounts::Desk;
 use refusal::NoMemory;
 use sessions::Request;
 use std::alloc::Global;
-use streams::{Handler, PreparedRequest, Runner, SubmitRefusal, TellingHandler};
+use streams::{Handler, PendingReply, PreparedRequest, Runner, SubmitRefusal, TellingHandler};
 
 /// Answers a request as the runner does, and then has the desk forget the reports of all but the
 /// last `keep` jobs; 0: it forgets none.
@@ -50,7 +50,7 @@ impl<N: Runner> TellingHandler for KeepingHandler<N> {
         alloc: Global,
         desk: &mut Desk,
         request: PreparedRequest,
-    ) -> (Option<SubmitRefusal>, Result<Vec<u8>, NoMemory>) {
+    ) -> (Option<SubmitRefusal>, Result<PendingReply, NoMemory>) {
         let told = self.runner.answer_and_tell(alloc, desk, request);
         desk.keep_last(self.keep);
         told

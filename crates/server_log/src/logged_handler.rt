@@ -13,7 +13,7 @@ use std::alloc::Global;
 use std::marker::Model;
 use std::sync::Wait;
 use std::time::Clock;
-use streams::{PreparedRequest, SubmitRefusal, TellingHandler, wants_admission};
+use streams::{PendingReply, PreparedRequest, SubmitRefusal, TellingHandler, wants_admission};
 
 /// Answers as a handler does. Where there is a log, that is told of each job that is refused. Contracts
 /// see it as the handler.
@@ -70,7 +70,7 @@ impl<R: Wait + Clock, H: TellingHandler> SharedHandler<Desk> for LoggedHandler<'
         desk: &mut Desk,
         _passage: Passage,
         request: PreparedRequest,
-    ) -> Result<Vec<u8>, NoMemory> {
+    ) -> Result<PendingReply, NoMemory> {
         let (refusal, reply) = self.handler.answer_and_tell(alloc, desk, request);
         if let (Some(log), Some(refusal)) = (self.log, refusal) {
             log.tell(self.rt, event_of_refusal(refusal));

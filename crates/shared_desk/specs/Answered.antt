@@ -1,6 +1,5 @@
 -- What one connection is answered at the desk that all share.
-use Rattle.std.specs.Prelude.{◌≡◌, ℕ, List, [], ◌∷◌, ◌++◌, Result, IfOk, Vec}
-use Rattle.std.specs.declared.alloc.Global.{Global}
+use Rattle.std.specs.Prelude.{◌≡◌, ℕ, List, [], ◌∷◌, ◌++◌, Result, IfOk}
 use Rattle.refusal.specs.declared.NoMemory.{NoMemory}
 use Rattle.streams.specs.Prepared.{asked_of}
 use Rattle.streams.specs.declared.prepared_request.PreparedRequest.{PreparedRequest}
@@ -34,8 +33,8 @@ pub record IsSharedAnswer {S : Type 0} (answers : S → Query → List ℕ → S
 
 -- an entry of what the handler answered: what was asked, and the reply, as far as it found memory
 pub record Records {S : Type 0} (answers : S → Query → List ℕ → S → Type 0) (before : S)
-    (asked : Query) (after : S) (reply : Result (Vec ℕ Global) NoMemory) (e : HistoryEntry) :
+    (asked : Query) (after : S) (reply : Result (List ℕ) NoMemory) (e : HistoryEntry) :
     Type 0 where
   pub same : e.query ≡ asked
   pub answered : answers before e.query e.reply after
-  pub told : IfOk reply (λ r. e.reply ≡ r.items)
+  pub told : IfOk reply (λ r. e.reply ≡ r)

@@ -1,6 +1,7 @@
 //! One connection's way to the desk that all share.
 
-ghost use Rattle.std.specs.Prelude.{◌≡◌, [], false};
+ghost use Rattle.std.specs.Prelude.{◌≡◌, [], false, ℕ, List, IfOk, OnErr};
+ghost use Rattle.shared_desk.specs.Answered.{IsSharedAnswer, query_by};
 ghost use Rattle.shared_desk.specs.Histories.{Replays, part_of};
 ghost use Rattle.shared_desk.specs.Parts.{IsServedClient};
 ghost use Rattle.streams.specs.Hearing.{query_of};
@@ -16,7 +17,10 @@ use sessions::Request;
 use std::alloc::Global;
 use std::marker::{Brand, Model, PhantomData};
 use std::sync::{Mutex, Wait};
-use streams::{Handler, PreparedRequest, Sink, Source, StreamFault, prepare, serve_stream};
+use streams::{
+    Handler, PendingReply, PreparedRequest, Sink, Source, StreamFault, prepare, serve_stream,
+    written_frame,
+};
 
 /// Answers one connection's requests at the shared desk, each under the lock, as far as its passage
 /// lets them come there. Contracts see it as what the connection knows of the history.
@@ -116,6 +120,22 @@ impl<R: Wait, D, H: SharedHandler<D>, J: Origin<D, H>, G: PassageId> Client<'_, 
             PreparedRequest::AsItCame(Ok(request))
         }
     }
+
+    // The desk's answer, which is given under the lock. The lock is free again once this returns.
+    fn answered(
+        &mut self,
+        alloc: Global,
+        request: PreparedRequest,
+    ) -> Result<PendingReply, NoMemory>
+        ensures ok { IfOk result (λ reply. IsSharedAnswer H.answers J.begins self.old
+            (query_by G.passage request) reply self.new) }
+        ensures err { OnErr result ((reply : List ℕ) × IsSharedAnswer H.answers J.begins self.old
+            (query_by G.passage request) reply self.new) }
+    {
+        self.lock
+            .lock(self.rt)
+            .answer(self.history, &mut self.seat, alloc, self.passage, request)
+    }
 }
 
 impl<R: Wait, D, H: SharedHandler<D>, J: Origin<D, H>, G: PassageId> Handler<()>
@@ -136,7 +156,8 @@ impl<R: Wait, D, H: SharedHandler<D>, J: Origin<D, H>, G: PassageId> Handler<()>
     ) -> Result<Vec<u8>, NoMemory> {
         let admitted = self.passage.admit(request);
         let prepared = self.prepared(alloc, admitted);
-        self.lock.lock(self.rt).answer(self.history, &mut self.seat, alloc, self.passage, prepared)
+        let reply = self.answered(alloc, prepared);
+        written_frame(alloc, reply)
     }
 }
 

@@ -15,7 +15,7 @@ use sessions::Request;
 use std::alloc::Global;
 use std::marker::{Brand, Model};
 use std::snapshot::Snapshot;
-use streams::{PreparedRequest, Sink, Source, StreamFault};
+use streams::{PendingReply, PreparedRequest, Sink, Source, StreamFault};
 
 /// A desk and its handler, with the history that leads to them, and the connections that are over.
 /// Contracts see it as the two, the history, and these connections, of which the last one stands
@@ -105,10 +105,10 @@ impl<D, H: SharedHandler<D>, J: Origin<D, H>> SharedDesk<D, H, J> {
         alloc: Global,
         passage: Passage,
         request: PreparedRequest,
-    ) -> Result<Vec<u8>, NoMemory>
+    ) -> Result<PendingReply, NoMemory>
         ensures ok { IfOk result (λ reply.
-            H.answers self.old.0 (query_by passage request) reply.items self.new.0
-            × IsSharedAnswer H.answers J.begins seat.old (query_by passage request) reply.items
+            H.answers self.old.0 (query_by passage request) reply self.new.0
+            × IsSharedAnswer H.answers J.begins seat.old (query_by passage request) reply
             seat.new) }
         ensures err { OnErr result ((reply : List ℕ)
             × H.answers self.old.0 (query_by passage request) reply self.new.0

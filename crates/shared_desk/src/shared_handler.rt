@@ -9,7 +9,7 @@ use accounts::Desk;
 use refusal::NoMemory;
 use sessions::Request;
 use std::alloc::Global;
-use streams::{PreparedRequest, Runner, TellingHandler, wants_admission};
+use streams::{PendingReply, PreparedRequest, Runner, TellingHandler, wants_admission};
 
 /// What answers a request at a desk that connections share, by the passage that it came by.
 pub trait SharedHandler<D> {
@@ -23,19 +23,19 @@ pub trait SharedHandler<D> {
     /// the desk.
     fn wants_admission(&self, desk: &D, request: &Request) -> bool;
 
-    /// Answers what was asked by a passage, or the number of its refusal. Where the reply finds no
-    /// memory, the request was still carried out.
+    /// Answers what was asked by a passage, or the number of its refusal. The frame of a report is
+    /// written later. Where the reply finds no memory, the request was still carried out.
     fn answer_by(
         &mut self,
         alloc: Global,
         desk: &mut D,
         passage: Passage,
         request: PreparedRequest,
-    ) -> Result<Vec<u8>, NoMemory>
+    ) -> Result<PendingReply, NoMemory>
         requires { ready self.old }
         ensures ready { ready self.new }
         ensures ok { IfOk result (λ reply. answers (desk.old, self.old) (query_by passage request)
-            reply.items (desk.new, self.new)) }
+            reply (desk.new, self.new)) }
         ensures err { OnErr result ((reply : List ℕ)
             × answers (desk.old, self.old) (query_by passage request) reply (desk.new, self.new)) };
 }
@@ -60,7 +60,7 @@ impl<N: Runner> SharedHandler<Desk> for N {
         desk: &mut Desk,
         _passage: Passage,
         request: PreparedRequest,
-    ) -> Result<Vec<u8>, NoMemory> {
+    ) -> Result<PendingReply, NoMemory> {
         self.answer_and_tell(alloc, desk, request).1
     }
 }

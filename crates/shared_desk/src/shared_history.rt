@@ -17,7 +17,7 @@ use std::alloc::Global;
 use std::marker::{Model, PhantomData};
 use std::mem;
 use std::snapshot::Snapshot;
-use streams::{PreparedRequest, StreamFault};
+use streams::{PendingReply, PreparedRequest, StreamFault};
 
 /// An empty history that has no name yet, with its first seat.
 #[derive(Drop)]
@@ -179,7 +179,7 @@ impl<J: HistoryId> SharedHistory<J> {
         handler_before: &Snapshot<H>,
         desk: &D,
         handler: &H,
-        reply: &Result<Vec<u8>, NoMemory>,
+        reply: &Result<PendingReply, NoMemory>,
     )
         requires { (e : HistoryEntry) × E.allows e × (e.connection ≡ seat.old.number) }
         ensures { (e : HistoryEntry) × E.allows e × (e.connection ≡ seat.old.number)

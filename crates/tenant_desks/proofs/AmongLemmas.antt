@@ -1,6 +1,5 @@
 -- The answer at one of many desks.
-use Rattle.std.proofs.Common.{◌≡◌, ℕ, List, slice_get, slice_set, Option, Some, Result, Ok, Err, Vec, IfOk, OnErr, refl, sym, subst}
-use Rattle.std.specs.declared.alloc.Global.{Global}
+use Rattle.std.proofs.Common.{◌≡◌, ℕ, List, slice_get, slice_set, Option, Some, Result, Ok, Err, IfOk, OnErr, refl, sym, subst}
 use Rattle.refusal.specs.declared.NoMemory.{NoMemory}
 use Rattle.credit_book.specs.declared.book.Report.{Report}
 use Rattle.credit_book.specs.declared.board.Progress.{Progress}
@@ -14,7 +13,7 @@ use Rattle.tenant_desks.proofs.PlacedLemmas.{at_its_place}
 
 module _ {R : Type 0} (starts : R → ℕ → AdmittedJob → Result (Unit {0}) ℕ → R → Type 0) (looks : R → ℕ → Progress → R → Type 0) (takes : R → Option (ℕ × Result Report ℕ) → R → Type 0) where
   -- it goes nowhere
-  pub nowhere_err : (keep code : ℕ) (to : Result ℕ ℕ) (query : Result Asked ℕ) (desks : List Ledger) (runner : R) (mid : List Ledger) (rest : R) (told : Result (Vec ℕ Global) NoMemory)
+  pub nowhere_err : (keep code : ℕ) (to : Result ℕ ℕ) (query : Result Asked ℕ) (desks : List Ledger) (runner : R) (mid : List Ledger) (rest : R) (told : Result (List ℕ) NoMemory)
       → to ≡ Err code → PassesEnds takes desks runner mid rest → OnErr told ((reply : List ℕ) × DeskAnswer starts looks takes keep to query desks runner reply mid rest)
   nowhere_err keep code to query desks runner mid rest (Ok frame) goes passed = tt
   nowhere_err keep code to query desks runner mid rest (Err e) goes passed = (
@@ -44,13 +43,13 @@ module _ {R : Type 0} (starts : R → ℕ → AdmittedJob → Result (Unit {0}) 
     });
   }
 
-  pub at_desk_ok : (keep place : ℕ) (to : Result ℕ ℕ) (query : Result Asked ℕ) (desks : List Ledger) (runner : R) (mid : List Ledger) (rest : R) (before after : Ledger) (s : PlacedRunner R) (told : Result (Vec ℕ Global) NoMemory)
-      → to ≡ Ok place → PassesEnds takes desks runner mid rest → slice_get mid place ≡ Some before → IfOk told (λ reply. AnswersAlone (starts_placed starts) (looks_placed looks) keep (for_place place rest) s query reply.items before after)
-      → IfOk told (λ reply. DeskAnswer starts looks takes keep to query desks runner reply.items (slice_set mid place after) s.runner)
-  at_desk_ok keep place to query desks runner mid rest before after s (Ok reply) goes passed there alone = at_desk keep place to query desks runner mid rest before after s reply.items goes passed there alone
+  pub at_desk_ok : (keep place : ℕ) (to : Result ℕ ℕ) (query : Result Asked ℕ) (desks : List Ledger) (runner : R) (mid : List Ledger) (rest : R) (before after : Ledger) (s : PlacedRunner R) (told : Result (List ℕ) NoMemory)
+      → to ≡ Ok place → PassesEnds takes desks runner mid rest → slice_get mid place ≡ Some before → IfOk told (λ reply. AnswersAlone (starts_placed starts) (looks_placed looks) keep (for_place place rest) s query reply before after)
+      → IfOk told (λ reply. DeskAnswer starts looks takes keep to query desks runner reply (slice_set mid place after) s.runner)
+  at_desk_ok keep place to query desks runner mid rest before after s (Ok reply) goes passed there alone = at_desk keep place to query desks runner mid rest before after s reply goes passed there alone
   at_desk_ok keep place to query desks runner mid rest before after s (Err e) goes passed there alone = alone
 
-  pub at_desk_err : (keep place : ℕ) (to : Result ℕ ℕ) (query : Result Asked ℕ) (desks : List Ledger) (runner : R) (mid : List Ledger) (rest : R) (before after : Ledger) (s : PlacedRunner R) (told : Result (Vec ℕ Global) NoMemory)
+  pub at_desk_err : (keep place : ℕ) (to : Result ℕ ℕ) (query : Result Asked ℕ) (desks : List Ledger) (runner : R) (mid : List Ledger) (rest : R) (before after : Ledger) (s : PlacedRunner R) (told : Result (List ℕ) NoMemory)
       → to ≡ Ok place → PassesEnds takes desks runner mid rest → slice_get mid place ≡ Some before → OnErr told ((reply : List ℕ) × AnswersAlone (starts_placed starts) (looks_placed looks) keep (for_place place rest) s query reply before after)
       → OnErr told ((reply : List ℕ) × DeskAnswer starts looks takes keep to query desks runner reply (slice_set mid place after) s.runner)
   at_desk_err keep place to query desks runner mid rest before after s (Ok reply) goes passed there alone = alone

@@ -1,6 +1,5 @@
 -- A runner for one desk, which takes no ends, answers at that desk.
-use Rattle.std.proofs.Common.{◌≡◌, ℕ, List, Result, Ok, Err, Vec, IfOk, OnErr, refl, ap, subst, ◌∙◌, inl, inr}
-use Rattle.std.specs.declared.alloc.Global.{Global}
+use Rattle.std.proofs.Common.{◌≡◌, ℕ, List, Result, Ok, Err, IfOk, OnErr, refl, ap, subst, ◌∙◌, inl, inr}
 use Rattle.refusal.specs.declared.NoMemory.{NoMemory}
 use Rattle.credit_book.specs.declared.board.Progress.{Progress}
 use Rattle.job_core.specs.declared.admission.ProgramBytes.{ProgramBytes}
@@ -35,13 +34,13 @@ module _ {R : Type 0} (starts : R → ℕ → AdmittedJob → Result (Unit {0}) 
       let P : Ledger × PlacedRunner R → Type 0 = λ t. Replies (starts_placed starts) (looks_placed looks) t.0 t.1 query (reply_data a.told) mid s in
       record { mid = mid; told = a.told; replies = subst P (λ k. (same.0 k, same.1 k)) a.replies; frame = a.frame; keeps = keeps }
 
-  pub alone_ok : (keep : ℕ) (desk : Ledger) (r : PlacedRunner R) (query : Result Asked ℕ) (mid : Ledger) (s : PlacedRunner R) (after : Ledger) (told : Result (Vec ℕ Global) NoMemory)
-      → IfOk told (λ reply. Answers (starts_placed starts) (looks_placed looks) takes_placed desk r query reply.items mid s) → KeepsLast keep mid after
-      → IfOk told (λ reply. AnswersAlone (starts_placed starts) (looks_placed looks) keep r s query reply.items desk after)
-  alone_ok keep desk r query mid s after (Ok reply) a keeps = answered_alone keep desk r query reply.items mid s after a keeps
+  pub alone_ok : (keep : ℕ) (desk : Ledger) (r : PlacedRunner R) (query : Result Asked ℕ) (mid : Ledger) (s : PlacedRunner R) (after : Ledger) (told : Result (List ℕ) NoMemory)
+      → IfOk told (λ reply. Answers (starts_placed starts) (looks_placed looks) takes_placed desk r query reply mid s) → KeepsLast keep mid after
+      → IfOk told (λ reply. AnswersAlone (starts_placed starts) (looks_placed looks) keep r s query reply desk after)
+  alone_ok keep desk r query mid s after (Ok reply) a keeps = answered_alone keep desk r query reply mid s after a keeps
   alone_ok keep desk r query mid s after (Err e) a keeps = a
 
-  pub alone_err : (keep : ℕ) (desk : Ledger) (r : PlacedRunner R) (query : Result Asked ℕ) (mid : Ledger) (s : PlacedRunner R) (after : Ledger) (told : Result (Vec ℕ Global) NoMemory)
+  pub alone_err : (keep : ℕ) (desk : Ledger) (r : PlacedRunner R) (query : Result Asked ℕ) (mid : Ledger) (s : PlacedRunner R) (after : Ledger) (told : Result (List ℕ) NoMemory)
       → OnErr told ((reply : List ℕ) × Answers (starts_placed starts) (looks_placed looks) takes_placed desk r query reply mid s) → KeepsLast keep mid after
       → OnErr told ((reply : List ℕ) × AnswersAlone (starts_placed starts) (looks_placed looks) keep r s query reply desk after)
   alone_err keep desk r query mid s after (Ok reply) a keeps = a

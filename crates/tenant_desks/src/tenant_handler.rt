@@ -14,13 +14,15 @@ use crate::routing::{desk_for, tenant_place};
 use accounts::Desk;
 use refusal::NoMemory;
 use server_log::{ServerLog, event_of_refusal};
-use sessions::{Reply, Request, reply_frame};
+use sessions::{Reply, Request};
 use shared_desk::{Passage, SharedHandler};
 use std::alloc::Global;
 use std::marker::Model;
 use std::sync::Wait;
 use std::time::Clock;
-use streams::{PreparedRequest, Runner, SubmitRefusal, TellingHandler, wants_admission};
+use streams::{
+    PendingReply, PreparedRequest, Runner, SubmitRefusal, TellingHandler, wants_admission,
+};
 
 /// Answers each request at the desk that it goes to, by one runner of all jobs, and then has that
 /// desk forget the reports of all but its last `keep` jobs; 0: it forgets none. Where there is a
@@ -64,15 +66,15 @@ impl<'a, R, N: Drop> TenantHandler<'a, R, N> {
 }
 
 // The frame of a refusal that has a number alone.
-fn refuse(alloc: Global, code: u8) -> Result<Vec<u8>, NoMemory>
-    ensures { IfOk result (λ frame. frame.items ≡ refusal_frame code) }
+fn refuse(alloc: Global, code: u8) -> Result<PendingReply, NoMemory>
+    ensures { IfOk result (λ frame. frame ≡ refusal_frame code) }
 {
     let refusal = Reply::Refused {
         code,
         program: None,
         slot: None,
     };
-    reply_frame(alloc, &refusal)
+    PendingReply::of_reply(alloc, &refusal)
 }
 
 // The same refusal, with the job's number at the runner of all jobs.
@@ -95,11 +97,11 @@ fn answer_at<N: Runner>(
     runner: &mut PlacedRunner<N>,
     keep: u32,
     request: PreparedRequest,
-) -> (Option<SubmitRefusal>, Result<Vec<u8>, NoMemory>)
+) -> (Option<SubmitRefusal>, Result<PendingReply, NoMemory>)
     requires { N.ready runner.old.runner }
     ensures ready { N.ready runner.new.runner }
     ensures ok { IfOk result.1 (λ reply. AnswersAlone (starts_placed N.starts)
-        (looks_placed N.looks) keep runner.old runner.new (asked_of request) reply.items desk.old
+        (looks_placed N.looks) keep runner.old runner.new (asked_of request) reply desk.old
         desk.new) }
     ensures err { OnErr result.1 ((reply : List ℕ) × AnswersAlone (starts_placed N.starts)
         (looks_placed N.looks) keep runner.old runner.new (asked_of request) reply desk.old
@@ -119,14 +121,14 @@ fn answer_among<N: Runner>(
     keep: u32,
     passage: Passage,
     request: PreparedRequest,
-) -> (Option<SubmitRefusal>, Result<Vec<u8>, NoMemory>)
+) -> (Option<SubmitRefusal>, Result<PendingReply, NoMemory>)
     requires ready { N.ready runner.old.runner }
     requires names { length names.now ≤ 256 }
     requires desks { length desks.old.items ≡ length names.now + 1 }
     ensures ready { N.ready runner.new.runner }
     ensures ok { IfOk result.1 (λ reply. DeskAnswer N.starts N.looks N.takes keep
         (desk_for (map string_bytes names.now) passage (asked_of request)) (asked_of request)
-        desks.old.items runner.old.runner reply.items desks.new.items runner.new.runner) }
+        desks.old.items runner.old.runner reply desks.new.items runner.new.runner) }
     ensures err { OnErr result.1 ((reply : List ℕ) × DeskAnswer N.starts N.looks N.takes keep
         (desk_for (map string_bytes names.now) passage (asked_of request)) (asked_of request)
         desks.old.items runner.old.runner reply desks.new.items runner.new.runner) }
@@ -164,7 +166,7 @@ impl<R: Wait + Clock, N: Runner> SharedHandler<TenantDesks> for TenantHandler<'_
         desk: &mut TenantDesks,
         passage: Passage,
         request: PreparedRequest,
-    ) -> Result<Vec<u8>, NoMemory> {
+    ) -> Result<PendingReply, NoMemory> {
         let (refusal, reply) = answer_among(
             alloc,
             &desk.names,
