@@ -3,9 +3,10 @@
 
     .ci/waits_for_results.py PORT [BPFJOBS]
 
-It starts a server for two clients at once on the port, which runs a job of some 30,000 tasks. One asks for its account a thousand times, a
-millisecond apart, first alone and then beside one that asks again and again for the job's result. A line for each of the two: the middle
-one, the 99th of a hundred, and the longest, in milliseconds.
+It starts a server for two clients at once on the port, which runs a job of some 30,000 tasks. One
+asks for its account a thousand times, a millisecond apart, first alone and then beside one that
+asks again and again for the job's result. A line for each of the two: the middle one, the 99th of a
+hundred, and the longest, in milliseconds.
 """
 
 import json
@@ -23,7 +24,8 @@ ROOT_SPAWNS, MIDDLE_SPAWNS = 60, 500
 
 def spawner(count, program, credit):
     """A program that spawns so many tasks of another one, each with this credit."""
-    spawn = slot(0xB7, 0x01, 0, program) + slot(0xB7, 0x02, 0, credit) + slot(0xB7, 0x03) + slot(0xB7, 0x04) + slot(0x85, 0, 0, 1)
+    first = slot(0xB7, 0x01, 0, program) + slot(0xB7, 0x02, 0, credit)
+    spawn = first + slot(0xB7, 0x03) + slot(0xB7, 0x04) + slot(0x85, 0, 0, 1)
     return spawn * count + slot(0xB7) + slot(0x95)
 
 
@@ -62,7 +64,8 @@ def main(port, program):
         asking.ask(json.dumps({"op": "grant", "tenant": "t", "amount": 1_000}).encode())
         asking.ask(json.dumps({"op": "grant", "tenant": "wide", "amount": credit}).encode())
         job = other.ask(submit)["job"]
-        while (result := other.ask(json.dumps({"op": "result", "job": job}).encode())).get("code") == 77:
+        text = json.dumps({"op": "result", "job": job}).encode()
+        while (result := other.ask(text)).get("code") == 77:
             time.sleep(0.01)
         print(f"{len(result['tasks'])} tasks")
         tell("alone", times(asking))
