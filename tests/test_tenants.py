@@ -13,6 +13,7 @@ import unittest
 
 from programs import BPFJOBS, IS_SLOW, PATIENCE, assemble, frame, free_port, is_read, submit_text
 from rows import code_of
+from test_clients import long_job
 from test_local import Client, told
 from test_log import told as told_of
 from trees import Planter, comparable
@@ -617,6 +618,28 @@ class Ends(Room):
         # the pool's number of a job: its own and the tenant's place
         self.assertEqual([line["job"] for line in told_of(lines, "started") + told_of(lines, "ended")], [1002, 1002])
         self.assertFalse("bob" in text or "alice" in text or self.room in text)
+
+    def test_each_tenant_has_its_turn(self):
+        """One worker, kept busy while a tenant submits many jobs and another one: that one waits for one of the many, not for all."""
+        words = ("--workers", 1, "--clients", 2, "--sessions", 3, "--grants", self.path("grants"), *self.words("alice", "bob"))
+        process = self.start("--log", *words, stderr=subprocess.PIPE)
+        programs, credit = long_job()
+        with self.connect(process, "grants") as granter:
+            granter.ask(grant("alice", credit + 1000))
+            granter.ask(grant("bob"))
+        with self.connect(process, "alice") as alice, self.connect(process, "bob") as bob:
+            self.assertEqual(alice.ask(submit_text(programs, credit, b"", tenant="alice")), {"job": 1, "ok": True})
+            for job in range(2, 51):
+                self.assertEqual(alice.ask(submit("alice")), {"job": job, "ok": True})
+            self.assertEqual(bob.ask(submit("bob")), {"job": 1, "ok": True})
+            bob.over(1)
+            alice.over(50)
+        text = process.communicate(timeout=PATIENCE)[1].decode()
+        lines = [json.loads(line) for line in text.splitlines()]
+        for event in ("started", "ended"):
+            jobs = [line["job"] for line in told_of(lines, event)]
+            self.assertIn(1002, jobs[:3], event)
+            self.assertEqual([job for job in jobs if job != 1002], [1000 * job + 1 for job in range(1, 51)], event)
 
 
 if __name__ == "__main__":

@@ -6,3 +6,6 @@ pub mod Queues
 pub mod JobRule
 pub mod Starting
 pub mod Bounded
+pub mod Turns
+pub mod TurnHistories
+pub mod TurnRule

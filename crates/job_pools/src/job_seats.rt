@@ -23,17 +23,22 @@ pub struct JobView {
     pub job: Job,
 }
 
-/// Names one register, by its table. Each call of a program picks it.
+/// Names one register, and the history of one queue, each by its table. Each call of a program picks
+/// them.
 pub trait RegisterId {
     ghost use Rattle.atomic_table.specs.Seated.{TableId};
 
     ghost table: { TableId };
+
+    ghost turns: { TableId };
 }
 
 impl RegisterId for Brand {
     ghost use Rattle.job_pools.specs.JobRule.{no_table};
 
     ghost table = { no_table };
+
+    ghost turns = { no_table };
 }
 
 /// No number is given to two jobs.

@@ -12,8 +12,9 @@ use crate::keys::{forget, note};
 use crate::limited_runner::CountedRunner;
 use crate::lines::take_number;
 use crate::queued_job::{EndedJob, QueuedJob};
-use crate::queues::{Inlet, Outlet};
+use crate::queues::Outlet;
 use crate::seen_board::{SeenBoard, look_at};
+use crate::turn_ends::TurnInlet;
 use credit_book::{Progress, Report};
 use job_core::Job;
 use std::alloc::Global;
@@ -23,7 +24,7 @@ use streams::Runner;
 
 /// Hands each job to workers that wait in threads of their own, and takes back what it came to.
 ///
-/// A started job waits in a queue until a worker is free. That one ever is, or a job ever finished,
+/// A started job waits in a queue until a worker is free, and lines of numbers have their turns there. That one ever is, or a job ever finished,
 /// is nowhere claimed. Numbers that leave the same remainder by 1,000 have to rise: a start under a
 /// number at or below an earlier one of these is refused by 81. So up to 1,000 hosts that count their
 /// jobs by themselves can share a pool. All starts are refused so where no worker could be started, or
@@ -37,7 +38,7 @@ pub struct LastingPool<'a, R, J: RegisterId> {
     keeper: Keeper<J>,
     nexts: BTreeMap<u64, u64>,
     boards: BTreeMap<u64, SeenBoard>,
-    queue: Inlet<QueuedJob<J>>,
+    queue: TurnInlet<QueuedJob<J>, J>,
     ended: Outlet<EndedJob<J>>,
     has_workers: bool,
     ghost none_from: { NoneFrom (tree.get nat_cmp nexts) keeper } by { Prim.hlevel props },
@@ -54,7 +55,7 @@ impl<'a, R, J: RegisterId> LastingPool<'a, R, J> {
         alloc: Global,
         register: &'a JobRegister<J>,
         keeper: Keeper<J>,
-        queue: Inlet<QueuedJob<J>>,
+        queue: TurnInlet<QueuedJob<J>, J>,
         ended: Outlet<EndedJob<J>>,
         has_workers: bool,
     ) -> LastingPool<'a, R, J>

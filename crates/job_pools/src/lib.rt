@@ -28,12 +28,24 @@ mod queued_job;
 mod queues;
 mod seen_board;
 
+// the queue of jobs, whose lines have their turns: by itself, its history, and between threads
+mod turn_ends;
+mod turn_history;
+mod turn_laws;
+mod turn_queue;
+mod turn_seats;
+
 pub use job_register::{JobRegister, JobSeat, Keeper, NewRegister};
 pub use job_seats::{JobView, RegisterId, StartedJob};
 pub use lasting_pool::LastingPool;
 pub use pool_threads::start_workers;
 pub use queued_job::{EndedJob, QueuedJob};
-pub use queues::{Inlet, KnowsItself, OfJob, Outlet, Traffic, queue_to_many, queue_to_one};
+pub use queues::{Inlet, KnowsItself, OfJob, Outlet, Traffic, queue_to_one};
+pub use turn_ends::{NumberedJob, TurnCloser, TurnInlet, TurnOutlet, queue_in_turns};
+pub use turn_history::NewQueueHistory;
+pub use turn_laws::{each_flow_has_its_turn, flows_keep_their_order};
+pub use turn_queue::{NotPut, TurnQueue, WaitingJobs};
+pub use turn_seats::{QueueStep, TurnView};
 
 // a bound on the jobs that are held
 mod limited_runner;

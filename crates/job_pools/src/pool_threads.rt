@@ -5,7 +5,8 @@ ghost use Rattle.job_pools.specs.Queues.{AnswersEach};
 
 use crate::job_seats::RegisterId;
 use crate::queued_job::{EndedJob, QueuedJob};
-use crate::queues::{Inlet, Outlet};
+use crate::queues::Inlet;
+use crate::turn_ends::TurnOutlet;
 use server_log::{ServerLog, millis_since};
 use std::sync::Wait;
 use std::thread::{Scope, Threads};
@@ -35,7 +36,7 @@ fn run_told<R: Threads + Wait + Clock + Sync, J: RegisterId>(
 // back what each came to, until no more can come, or nobody takes ends any more.
 fn work<R: Threads + Wait + Clock + Sync, J: RegisterId>(
     rt: &R,
-    jobs: &mut Outlet<QueuedJob<J>>,
+    jobs: &mut TurnOutlet<QueuedJob<J>, J>,
     endings: &mut Inlet<EndedJob<J>>,
     workers: u32,
     log: Option<&ServerLog>,
@@ -54,12 +55,12 @@ fn work<R: Threads + Wait + Clock + Sync, J: RegisterId>(
 }
 
 /// Starts a worker for each of these ends of the queue of jobs, and tells how many could be started.
-/// They end once the other end of the queue is gone and it is empty. A log, if there is one, is told
+/// They end once the queue is closed and empty. A log, if there is one, is told
 /// of each job. A large job is run on so many threads, 1 to 16.
 pub fn start_workers<'s, E: 's, R: Threads + Wait + Clock + Sync, J: RegisterId + Send + Sync + 's>(
     rt: &'s R,
     scope: &Scope<'s, E>,
-    jobs: Vec<Outlet<QueuedJob<J>>>,
+    jobs: Vec<TurnOutlet<QueuedJob<J>, J>>,
     endings: Inlet<EndedJob<J>>,
     workers: u32,
     log: Option<&'s ServerLog>,

@@ -8,6 +8,7 @@ ghost use Rattle.server_log.specs.declared.log_line.LogEvent.TheVariants.{Starte
 use crate::job_register::JobSeat;
 use crate::job_seats::RegisterId;
 use crate::queues::OfJob;
+use crate::turn_ends::NumberedJob;
 use credit_book::{Post, Report};
 use job_core::Job;
 use server_log::LogEvent;
@@ -36,6 +37,12 @@ pub struct QueuedJob<J: RegisterId> {
 
 impl<J: RegisterId> OfJob for QueuedJob<J> {
     ghost job = { λ q. q.seat };
+}
+
+impl<J: RegisterId> NumberedJob for QueuedJob<J> {
+    fn number(&self) -> u64 {
+        self.number
+    }
 }
 
 /// A job that is over: its number and what it came to, which its seat knows to be the end of the

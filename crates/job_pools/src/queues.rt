@@ -1,5 +1,5 @@
 //! A queue between threads, whose ends know what they put into it and what they took out.
-ghost use Rattle.std.specs.Prelude.{◌≡◌, ◌<◌, [], All, IfOk, MatchOption, MatchResult, length};
+ghost use Rattle.std.specs.Prelude.{◌≡◌, [], IfOk, MatchOption, MatchResult};
 ghost use Rattle.job_pools.specs.Queues.{nothing, with_put, with_taken};
 
 use crate::job_seats::StartedJob;
@@ -139,21 +139,6 @@ impl<T: OfJob> Inlet<T> {
         }
     }
 
-    /// Puts this at the back. It comes back where there is no room for it now, or nobody takes any
-    /// more.
-    pub fn put_now<R: Wait>(&mut self, rt: &R, item: T) -> Result<(), T>
-        ensures { MatchResult result (λ _. self.new ≡ with_put self.old (T.job item))
-            (λ back. (back ≡ item) × (self.new ≡ self.old)) }
-    {
-        match self
-            .sender
-            .try_send_as::<NotesPut<T>, R>(rt, &mut self.pass, item)
-        {
-            Ok(()) => Ok(()),
-            Err(error) => Err(error.into_inner()),
-        }
-    }
-
     /// Another end that puts into the queue.
     pub fn another(&mut self) -> Result<Inlet<T>, NoMemory>
         ensures new { IfOk result (λ inlet. inlet ≡ nothing) }
@@ -166,16 +151,6 @@ impl<T: OfJob> Inlet<T> {
 }
 
 impl<T: OfJob> Outlet<T> {
-    /// What stands at the front, once there is something; none where nobody puts in any more.
-    pub fn take<R: Wait>(&mut self, rt: &R) -> Option<T>
-        ensures { MatchOption result (self.new ≡ self.old)
-            (λ item. self.new ≡ with_taken self.old (T.job item)) }
-    {
-        self.receiver
-            .recv_as::<NotesTaken<T>, R>(rt, &mut self.pass)
-            .ok()
-    }
-
     /// What stands at the front, if there is something now.
     pub fn take_now<R: Wait>(&mut self, rt: &R) -> Option<T>
         ensures { MatchOption result (self.new ≡ self.old)
@@ -185,25 +160,6 @@ impl<T: OfJob> Outlet<T> {
             .try_recv_as::<NotesTaken<T>, R>(rt, &mut self.pass)
             .ok()
     }
-}
-
-/// A queue with one end that puts in, and so many that take out.
-pub fn queue_to_many<T: OfJob>(
-    alloc: Global,
-    takers: u32,
-) -> Result<(Inlet<T>, Vec<Outlet<T>>), NoMemory>
-    ensures { IfOk result (λ ends. (ends.0 ≡ nothing) × (length ends.1.items ≡ takers)
-        × All (λ outlet. outlet ≡ nothing) ends.1.items) }
-{
-    let (sender, receiver, pass) = bounded_with::<T, Traffic, KnowsItself, Global>(alloc, ROOM)?;
-    let mut inlet = Inlet { sender, pass };
-    let mut outlets = Vec::with_capacity(alloc, takers as usize)?;
-    for _ in 0..takers {
-        let receiver = receiver.try_clone()?;
-        let pass = inlet.sender.another::<KnowsItself>(&mut inlet.pass);
-        outlets.push_reserved(Outlet { receiver, pass });
-    }
-    Ok((inlet, outlets))
 }
 
 /// A queue with one end that puts in, of which more can be made, and one that takes out.

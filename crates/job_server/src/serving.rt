@@ -14,8 +14,9 @@ use crate::serving_desks::{serve_at_desk, serve_at_desks};
 use crate::timed_listener::TimedListener;
 use crate::timed_reader::Waiting;
 use job_pools::{
-    EndedJob, Inlet, JobRegister, Keeper, LastingPool, LimitedRunner, NewRegister, Outlet,
-    QueuedJob, RegisterId, queue_to_many, queue_to_one, start_workers,
+    EndedJob, Inlet, JobRegister, Keeper, LastingPool, LimitedRunner, NewQueueHistory, NewRegister,
+    Outlet, QueuedJob, RegisterId, TurnCloser, TurnInlet, TurnOutlet, queue_in_turns, queue_to_one,
+    start_workers,
 };
 use std::alloc::Global;
 use std::marker::Brand;
@@ -25,14 +26,15 @@ use std::thread;
 use std::thread::{Scope, Threads};
 use std::time::Clock;
 
-// The ends of a pool's queues, all but the log's: those that the pool holds, and those of its
-// workers.
+// The ends of a pool's queues, all but the log's: those that the pool holds, those of its workers,
+// and what closes the queue of jobs.
 #[derive(Drop)]
 struct Queues<J: RegisterId> {
-    queue: Inlet<QueuedJob<J>>,
+    queue: TurnInlet<QueuedJob<J>, J>,
     ended: Outlet<EndedJob<J>>,
-    jobs: Vec<Outlet<QueuedJob<J>>>,
+    jobs: Vec<TurnOutlet<QueuedJob<J>, J>>,
     endings: Inlet<EndedJob<J>>,
+    closer: TurnCloser<QueuedJob<J>, J>,
 }
 
 // Starts the workers, and serves the connections with a pool of them.
@@ -63,14 +65,20 @@ fn serve_on_pool<
         ended,
         jobs,
         endings,
+        closer,
     } = queues;
     let started = start_workers(rt, scope, jobs, endings, plan.workers, plan.log);
     let pool = LastingPool::new(rt, alloc, register, keeper, queue, ended, started > 0);
     let runner = LimitedRunner::new(pool, plan.bounds.open_jobs);
+    // the queue is closed behind both, so that the workers end once nothing waits
     if plan.tenants.is_empty() {
-        return serve_at_desk(rt, alloc, listener, runner, plan);
+        let served = serve_at_desk(rt, alloc, listener, runner, plan);
+        closer.close(rt);
+        return served;
     }
-    serve_at_desks(rt, alloc, listener, runner, plan)
+    let served = serve_at_desks(rt, alloc, listener, runner, plan);
+    closer.close(rt);
+    served
 }
 
 // The same with the threads in a scope of their own.
@@ -131,10 +139,12 @@ fn serve_registered<
     rt: &R,
     alloc: Global,
     new_register: NewRegister,
+    new_history: NewQueueHistory,
     listener: L,
     plan: Plan<'_>,
 ) -> Result<(), ServeFault>
     requires named { new_register ≡ J.table }
+    requires named_turns { new_history ≡ J.turns }
     requires workers { (1 ≤ plan.workers) × (plan.workers ≤ 16) }
     requires tenants { length plan.tenants.now ≤ 256 }
     ensures { IsServingAt L.opens L.fails L.passage listener plan.entry.tenants.now plan.entry.bounds
@@ -142,7 +152,11 @@ fn serve_registered<
         ⊎ (result ≡ Err (fault.Connection stream.NoMemory)) }
 {
     let (register, keeper) = new_register.named::<J>();
-    let Ok((queue, jobs)) = queue_to_many::<QueuedJob<J>>(alloc, plan.workers) else {
+    let Ok((queue, jobs, closer)) = queue_in_turns::<QueuedJob<J>, J>(
+        alloc,
+        new_history,
+        plan.workers,
+    ) else {
         return Err(NO_MEMORY);
     };
     let Ok((endings, ended)) = queue_to_one::<EndedJob<J>>(alloc) else {
@@ -153,6 +167,7 @@ fn serve_registered<
         ended,
         jobs,
         endings,
+        closer,
     };
     serve_in_scope(rt, alloc, &register, keeper, queues, listener, plan)
 }
@@ -184,7 +199,10 @@ pub fn serve_listener<R: Threads + Wait + Clock + Sync, L: Listener + Send + Dro
     let Ok(new_register) = NewRegister::new(alloc) else {
         return Err(NO_MEMORY);
     };
-    serve_registered::<R, L, Brand>(rt, alloc, new_register, listener, plan)
+    let Ok(new_history) = NewQueueHistory::new(alloc) else {
+        return Err(NO_MEMORY);
+    };
+    serve_registered::<R, L, Brand>(rt, alloc, new_register, new_history, listener, plan)
 }
 
 /// Listens on this port of 127.0.0.1, and serves as [`serve_listener`] does. A write that takes as

@@ -44,7 +44,6 @@ pub(crate) fn serve_at_desk<
     let kept = KeepingHandler::new(runner, plan.bounds.keep);
     let handler = LoggedHandler::new(rt, plan.log, kept);
     let desk = Desk::new(alloc);
-    // the runner goes at the end, and with it its workers' queue
     let served = serve_at_once(rt, alloc, listener, desk, handler, plan);
     served.2
 }

@@ -11,13 +11,13 @@ use Rattle.job_server.proofs.serving.serve_on_pool.Goals as goal
 
 pub returns-then-is_empty : goal.returns-then-is_empty
 returns-then-is_empty g c =
-    let at = c.serve_at_desk.ensures in
+    let at = c.serve_at_desk-served.ensures in
     let pool = c.new-pool.result in
     let limited = c.new-runner.result in
     let bounds = c.args.plan.bounds in
-    let hosted = hosted_serving (λ r. (r.keeper, r.boards)) _ _ _ (λ r n j x s h. h.0) (λ r n p s h. h) (λ r x s h. h.0) bounds new_desk (record { runner = limited; keep = bounds.keep }) limited pool at.0 c.args.plan.sessions _ c.serve_at_desk.result
+    let hosted = hosted_serving (λ r. (r.keeper, r.boards)) _ _ _ (λ r n j x s h. h.0) (λ r n p s h. h) (λ r x s h. h.0) bounds new_desk (record { runner = limited; keep = bounds.keep }) limited pool at.0 c.args.plan.sessions _ c.serve_at_desk-served.result
     refl refl refl c.new-runner.ensures.0 c.new-runner.ensures.1 at.1 in
-    plain_at g.L.Listener.opens g.L.Listener.fails g.L.Listener.passage c.args.listener c.args.plan.tenants.now bounds c.args.plan.sessions (is_some c.args.plan.stop) c.serve_at_desk.result
+    plain_at g.L.Listener.opens g.L.Listener.fails g.L.Listener.passage c.args.listener c.args.plan.tenants.now bounds c.args.plan.sessions (is_some c.args.plan.stop) c.serve_at_desk-served.result
     (none_if c.args.plan.tenants.now c.if-is_empty.ensures)
     (record {
       first = (pool.keeper, pool.boards);
@@ -30,14 +30,14 @@ returns-then-is_empty g c =
 
 pub returns : goal.returns
 returns g c =
-    let at = c.serve_at_desks.ensures in
+    let at = c.serve_at_desks-served.ensures in
     let pool = c.new-pool.result in
     let limited = c.new-runner.result in
     let bounds = c.args.plan.bounds in
     let doors = c.args.plan.tenants.now in
-    let hosted = tenants_serving (λ r. (r.keeper, r.boards)) _ _ _ (λ r n j x s h. h.0) (λ r n p s h. h) (λ r x s h. h.0) (door_names doors) bounds limited pool at.0 c.args.plan.sessions _ c.serve_at_desks.result
+    let hosted = tenants_serving (λ r. (r.keeper, r.boards)) _ _ _ (λ r n j x s h. h.0) (λ r n p s h. h) (λ r x s h. h.0) (door_names doors) bounds limited pool at.0 c.args.plan.sessions _ c.serve_at_desks-served.result
     c.new-runner.ensures.0 c.new-runner.ensures.1 at.1 in
-    tenants_at g.L.Listener.opens g.L.Listener.fails g.L.Listener.passage c.args.listener doors bounds c.args.plan.sessions (is_some c.args.plan.stop) c.serve_at_desks.result
+    tenants_at g.L.Listener.opens g.L.Listener.fails g.L.Listener.passage c.args.listener doors bounds c.args.plan.sessions (is_some c.args.plan.stop) c.serve_at_desks-served.result
     (some_if doors c.if-is_empty.ensures)
     (record {
       first = (pool.keeper, pool.boards);
