@@ -6,3 +6,5 @@ pub mod Queues
 pub mod JobRule
 pub mod Starting
 pub mod Bounded
+pub mod LineLimiting
+pub mod LineBounded

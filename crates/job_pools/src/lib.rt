@@ -35,7 +35,13 @@ pub use pool_threads::start_workers;
 pub use queued_job::{EndedJob, QueuedJob};
 pub use queues::{Inlet, KnowsItself, OfJob, Outlet, Traffic, queue_to_many, queue_to_one};
 
-// a bound on the jobs that are held
+// bounds on the jobs that are held: of all, and of each line of numbers
 mod limited_runner;
+mod line_counts;
+mod line_limited_runner;
+mod line_limits;
 
 pub use limited_runner::{CountedRunner, LimitedRunner};
+pub use line_counts::LineCounts;
+pub use line_limited_runner::LineLimitedRunner;
+pub use line_limits::LineLimits;
