@@ -14,32 +14,32 @@ own_or all (Some None) = all
 own_or all None = all
 
 -- the limit of a line; 0 allows any number
-abbrev pub limit_of : LimitsByLine → ℕ → ℕ
-limit_of limits line = own_or limits.all (slice_get limits.own line)
+abbrev pub line_limit : LimitsByLine → ℕ → ℕ
+line_limit limits line = own_or limits.all (slice_get limits.own line)
 
 -- the line of a number
-abbrev pub line_of : ℕ → ℕ
-line_of number = number % 1000
+abbrev pub number_line : ℕ → ℕ
+number_line number = number % 1000
 
 -- As many jobs of the line are held as are allowed, or as can be counted.
 abbrev pub IsLineFull : LimitsByLine → List ℕ → ℕ → Type 0
 IsLineFull limits counts line =
-    IsFull (limit_of limits line) (slice_index counts line)
+    IsFull (line_limit limits line) (slice_index counts line)
     ⊎ (slice_index counts line ≡ 2 ^ 64 - 1)
 
 -- the line counts one more, or one fewer, and no other changes
-abbrev pub with_one_more : List ℕ → ℕ → List ℕ
-with_one_more counts line = slice_set counts line (slice_index counts line + 1)
+abbrev pub one_more_counted : List ℕ → ℕ → List ℕ
+one_more_counted counts line = slice_set counts line (slice_index counts line + 1)
 
-abbrev pub with_one_fewer : List ℕ → ℕ → List ℕ
-with_one_fewer counts line = slice_set counts line (slice_index counts line - 1)
+abbrev pub one_fewer_counted : List ℕ → ℕ → List ℕ
+one_fewer_counted counts line = slice_set counts line (slice_index counts line - 1)
 
 -- the counts behind a start: one job more where it was answered by Ok
 abbrev pub counts_started : List ℕ → ℕ → Result (Unit {0}) ℕ → List ℕ
-counts_started counts number (Ok _) = with_one_more counts (line_of number)
+counts_started counts number (Ok _) = one_more_counted counts (number_line number)
 counts_started counts number (Err code) = counts
 
 -- the counts behind a take: one job fewer where one was given
 abbrev pub counts_taken : {E : Type 0} → List ℕ → Option (ℕ × E) → List ℕ
-counts_taken counts (Some taken) = with_one_fewer counts (line_of taken.0)
+counts_taken counts (Some taken) = one_fewer_counted counts (number_line taken.0)
 counts_taken counts None = counts

@@ -1,7 +1,7 @@
 //! A runner that holds no more jobs of one line of numbers than a host allows.
 
 ghost use Rattle.std.specs.Prelude.{◌≡◌, ◌<◌, ◌+◌, IfSome, IfNone, slice_index};
-ghost use Rattle.job_pools.specs.LineLimiting.{IsLineFull, line_of};
+ghost use Rattle.job_pools.specs.LineLimiting.{IsLineFull, number_line};
 
 use crate::limited_runner::is_full;
 use crate::line_counts::LineCounts;
@@ -22,7 +22,8 @@ pub struct LineLimitedRunner<N> {
 }
 
 impl<N: Drop> LineLimitedRunner<N> {
-    ghost use Rattle.std.specs.Prelude.{◌≡◌, IfOk, replicate};
+    ghost use Rattle.std.specs.Prelude.{◌≡◌, IfOk};
+    ghost use Rattle.job_pools.specs.LineBounded.{new_by_line};
 
     /// A runner that holds no job, with a limit for each line.
     pub fn new(
@@ -30,8 +31,7 @@ impl<N: Drop> LineLimitedRunner<N> {
         runner: N,
         limits: LineLimits,
     ) -> Result<LineLimitedRunner<N>, NoMemory>
-        ensures { IfOk result (λ new. new
-            ≡ record { runner = runner; limits = limits; counts = replicate 1000 0 }) }
+        ensures { IfOk result (λ new. new ≡ new_by_line limits runner) }
     {
         let Ok(counts) = LineCounts::new(alloc) else {
             return Err(NoMemory);
@@ -46,7 +46,7 @@ impl<N: Drop> LineLimitedRunner<N> {
 
 // The line of a number.
 fn line_of(number: u64) -> usize
-    ensures line { result ≡ line_of number }
+    ensures line { result ≡ number_line number }
     ensures within { result < 1000 }
 {
     (number % 1000) as usize

@@ -1,7 +1,7 @@
 //! The limits of lines of numbers: one for all lines, and those of some by themselves.
 
 ghost use Rattle.std.specs.Prelude.{◌≡◌};
-ghost use Rattle.job_pools.specs.LineLimiting.{limit_of};
+ghost use Rattle.job_pools.specs.LineLimiting.{line_limit};
 
 use std::marker::Model;
 
@@ -33,7 +33,7 @@ impl LineLimits {
 
     /// The limit of a line.
     pub(crate) fn at(&self, line: usize) -> u32
-        ensures { result ≡ limit_of self.now line }
+        ensures { result ≡ line_limit self.now line }
     {
         match self.own.get(line) {
             Some(own) => match own {
