@@ -127,6 +127,7 @@ class Clients:
 
 FORM, NAME = "it wants a name and a path", "a name has 1 to 32 of a to z, 0 to 9, _ and -"
 NO_PATH, NO_TEXT = "the path is empty", "it is no UTF-8"
+NO_NUMBER = "open-jobs wants a number from 0 to 1000000"
 NAME_TWICE, PATH_TWICE, TOO_MANY = "the name is there already", "the path is there already", "256 tenants are there already"
 
 
@@ -167,14 +168,21 @@ class Words(Room):
             self.assertEqual(self.refused(*words), neither)
             self.assertEqual(self.refused("--port", "7", "--socket", self.path("all"), *words), both)
 
+    def test_a_limit_of_no_tenant(self):
+        """A limit for each tenant goes with tenants alone."""
+        line = "error: serve takes --tenant-jobs with --tenant or --tenants alone\n"
+        for words in (["--port", "7"], ["--socket", self.path("all")], ["--socket", self.path("all"), "--open-jobs", "2"]):
+            self.assertEqual(self.refused(*words, "--tenant-jobs", "1"), line)
+
     def test_values_that_clap_refuses(self):
-        for words in (["--tenant"], ["--tenants"], ["--tenants", "a", "--tenants", "b"]):
+        limits = [["--tenant", "a=/x", "--tenant-jobs", value] for value in ("0", "1000001", "x")]
+        for words in (["--tenant"], ["--tenants"], ["--tenants", "a", "--tenants", "b"], *limits):
             self.assertTrue(self.refused("--socket", self.path("all"), *words).startswith("error: "), words)
 
     def test_help(self):
         ran = subprocess.run([BPFJOBS, "serve", "--help"], capture_output=True, timeout=PATIENCE, check=False)
         self.assertEqual((ran.returncode, ran.stderr), (0, b""))
-        for option in (b"--tenant <NAME=PATH>", b"--tenants <FILE>"):
+        for option in (b"--tenant <NAME=PATH>", b"--tenants <FILE>", b"--tenant-jobs <COUNT>"):
             self.assertIn(option, ran.stdout)
 
 
@@ -189,6 +197,10 @@ class Lines(Room):
     def test_each_refusal(self):
         for line in ("alice", "alice /x y", "alice # /x", "a /x b /y"):
             self.check(f"# tenants\n\n{line}\nB /y\n", 3, FORM)
+        for rest in ("open-jobs 1 2", "open-jobs # 1", "open-jobs 1 x", "open-jobs x y", "jobs 1", "open-jobs=1", "Open-jobs 1", "1"):
+            self.check(f"a /a\nb /b {rest}\n", 2, FORM)
+        for rest in ("open-jobs", "open-jobs #", "open-jobs x", "open-jobs -1", "open-jobs +1", "open-jobs 1000001", "open-jobs 99999999999999999999"):
+            self.check(f"a /a open-jobs 0\nb /b {rest}\n", 2, NO_NUMBER)
         for line in ("Alice /x", "a" * 33 + " /x", "a.b /x", "=a /x", "é /x", "alice=/x /y"):
             self.check(f"a /a\n{line}", 2, NAME)
         self.check("a /a\n\nb /b\na /c\n", 4, NAME_TWICE)
@@ -360,6 +372,71 @@ class Doors(Room):
             bob.over(number)
         self.assertEqual(bob.ask({"op": "result", "job": 4}), NO_JOB)
         self.assertEqual(json.loads(alice.over(1))["spent"], 3)
+
+
+class OpenJobs(Room):
+    """How many jobs each tenant may have open."""
+
+    TOO_MANY = b'{"code":81,"ok":false}'
+
+    def begin(self, *words):
+        """A server of alice and bob, each with credit for long jobs, and a connection to each of its sockets."""
+        process = self.start("--clients", 8, "--sessions", 100, "--workers", 2, "--grants", self.path("grants"), *words)
+        granter, *others = (self.connect(process, name) for name in ("grants", "alice", "bob", "all"))
+        self.programs, self.credit = long_job()
+        for tenant in ("alice", "bob", "carol"):
+            granter.ask(grant(tenant, 2 * self.credit + 1000))
+        return others
+
+    def submit_long(self, client, tenant, job):
+        self.assertEqual(client.ask(submit_text(self.programs, self.credit, b"", tenant=tenant)), {"job": job, "ok": True})
+
+    def check_full(self, client, tenant, job):
+        """One more is taken, and fails by 81. Its credit is back."""
+        before = client.ask(account(tenant))
+        self.assertEqual(client.ask(submit(tenant)), {"job": job, "ok": True})
+        self.assertEqual(client.told({"op": "result", "job": job}), self.TOO_MANY)
+        after = client.ask(account(tenant))
+        self.assertEqual((after["balance"], after["open"]), (before["balance"], before["open"]))
+
+    def check_room(self, client, tenant, job):
+        """One more is taken, and runs, or waits for a worker."""
+        self.assertEqual(client.ask(submit(tenant)), {"job": job, "ok": True})
+        reply = client.ask({"op": "result", "job": job})
+        self.assertTrue(reply == {"code": 77, "ok": False} or reply.get("spent") == 3, reply)
+
+    def test_a_tenant_over_its_limit_holds_up_no_other(self):
+        alice, bob, everybody = self.begin("--tenant-jobs", 1, *self.words("alice", "bob"))
+        self.submit_long(alice, "alice", 1)
+        self.check_full(alice, "alice", 2)
+        # another's is taken beside it, and everybody else's
+        self.check_room(bob, "bob", 1)
+        self.check_room(everybody, "carol", 1)
+        # a job that is over counts no more
+        self.assertTrue(json.loads(alice.over(1))["ok"])
+        self.check_room(alice, "alice", 3)
+
+    def test_everybody_else_counts_as_one(self):
+        alice, _, everybody = self.begin("--tenant-jobs", 1, *self.words("alice", "bob"))
+        self.submit_long(everybody, "carol", 1)
+        self.check_full(everybody, "carol", 2)
+        self.check_room(alice, "alice", 1)
+
+    def test_a_line_has_its_tenant_s_own(self):
+        lines = f"alice {self.path('alice')} open-jobs 2 # of her own\nbob {self.path('bob')}\n"
+        alice, bob, _ = self.begin("--tenant-jobs", 1, "--tenants", self.write(lines))
+        self.submit_long(alice, "alice", 1)
+        self.submit_long(alice, "alice", 2)
+        self.check_full(alice, "alice", 3)
+        self.check_room(bob, "bob", 1)
+
+    def test_a_line_may_allow_any_number(self):
+        lines = f"alice {self.path('alice')}\topen-jobs\t0\nbob {self.path('bob')}\n"
+        alice, bob, _ = self.begin("--tenant-jobs", 1, "--tenants", self.write(lines))
+        self.submit_long(alice, "alice", 1)
+        for job in (2, 3):
+            self.check_room(alice, "alice", job)
+        self.check_room(bob, "bob", 1)
 
 
 class Together(Room):

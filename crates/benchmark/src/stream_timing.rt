@@ -220,6 +220,7 @@ where
                     clients: 1,
                     timeout: 0,
                     open_jobs: 0,
+                    tenant_jobs: 0,
                     keep: 0,
                 },
                 tenants: &[],

@@ -1,6 +1,6 @@
 //! The command `serve`: requests over TCP, or over a socket in the file system.
 
-ghost use Rattle.std.specs.Prelude.{◌≡◌, IfOk, map, string_bytes};
+ghost use Rattle.std.specs.Prelude.{◌≡◌, IfOk, map, string_bytes, unwrap_or};
 ghost use Rattle.bpfjobs_cli.specs.Commands.{IsServeInRange};
 ghost use Rattle.bpfjobs_cli.specs.Tenants.{tenants_in};
 
@@ -15,12 +15,21 @@ use std::sync::Wait;
 use std::thread::Threads;
 use std::time::Clock;
 
-// The bounds that the options say.
-fn bounds_of(options: ServeOptions) -> Bounds {
+// The bounds that the options say, with the jobs that each tenant may have open.
+fn bounds_of(options: ServeOptions, tenant_jobs: Option<u32>) -> Bounds
+    ensures { result ≡ record {
+      clients = options.clients;
+      timeout = options.timeout;
+      open_jobs = options.open_jobs;
+      tenant_jobs = unwrap_or tenant_jobs 0;
+      keep = options.keep;
+    } }
+{
     Bounds {
         clients: options.clients,
         timeout: options.timeout,
         open_jobs: options.open_jobs,
+        tenant_jobs: tenant_jobs.unwrap_or(0),
         keep: options.keep,
     }
 }
@@ -33,10 +42,11 @@ fn sessions_of(options: ServeOptions) -> u64 {
     }
 }
 
-// The doors of tenants, in their order: each has its tenant's name and path.
+// The doors of tenants, in their order: each has its tenant's name, path and number of open jobs.
 fn doors_of(alloc: Global, tenants: &[TenantSocket]) -> Result<Vec<TenantDoor>, NoMemory>
-    ensures { IfOk result (λ doors. map (λ d. (string_bytes d.name, string_bytes d.path))
-        doors.items ≡ tenants_in tenants.now) }
+    ensures { IfOk result (λ doors. map
+        (λ d. (string_bytes d.name, string_bytes d.path, d.open_jobs)) doors.items
+        ≡ tenants_in tenants.now) }
 {
     let mut doors = Vec::new(alloc);
     for tenant in tenants {
@@ -46,7 +56,13 @@ fn doors_of(alloc: Global, tenants: &[TenantSocket]) -> Result<Vec<TenantDoor>, 
         let Ok(path) = String::from_str(alloc, &tenant.path) else {
             return Err(NoMemory);
         };
-        let Ok(()) = doors.push(TenantDoor { name, path }) else {
+        let open_jobs = tenant.open_jobs;
+        let door = TenantDoor {
+            name,
+            path,
+            open_jobs,
+        };
+        let Ok(()) = doors.push(door) else {
             return Err(NoMemory);
         };
     }
@@ -74,7 +90,7 @@ where
     let plan = Plan {
         workers: options.workers,
         sessions: sessions_of(options),
-        bounds: bounds_of(options),
+        bounds: bounds_of(options, server.tenants.open_jobs),
         tenants: &doors,
         stop,
         log,

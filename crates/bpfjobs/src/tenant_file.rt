@@ -42,14 +42,19 @@ pub fn with_file<R: Files + Eprint + AllocGlobal>(
     requires { IsServeInRange server }
     ensures range { IfOk result (λ new. IsServeInRange new) }
     ensures rest { IfOk result (λ new. (new.endpoint ≡ server.endpoint)
-        × (new.options ≡ server.options)) }
+        × (new.options ≡ server.options)
+        × (new.tenants.open_jobs ≡ server.tenants.open_jobs)) }
     ensures lines { IfOk result (λ new. (text : List ℕ)
         × (entered (tenants_in server.tenants.tenants.items) 1 (lines_said text)
         ≡ Ok (tenants_in new.tenants.tenants.items))) }
 {
     let Serve {
         endpoint,
-        tenants: TenantWords { tenants, file },
+        tenants: TenantWords {
+            tenants,
+            file,
+            open_jobs,
+        },
         options,
     } = server;
     let tenants = match &file {
@@ -66,7 +71,11 @@ pub fn with_file<R: Files + Eprint + AllocGlobal>(
     };
     Ok(Serve {
         endpoint,
-        tenants: TenantWords { tenants, file },
+        tenants: TenantWords {
+            tenants,
+            file,
+            open_jobs,
+        },
         options,
     })
 }

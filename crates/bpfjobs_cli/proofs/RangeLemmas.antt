@@ -1,5 +1,5 @@
 -- The numbers of a command that words say are in range, and its tenants apart.
-use Rattle.std.proofs.Common.{◌≤◌, ◌==◌, ℕ, Bool, cond, true, false, List, [], Option, Some, None, sym, subst, arith}
+use Rattle.std.proofs.Common.{◌≤◌, ◌==◌, ℕ, Bool, cond, true, false, List, [], Option, Some, None, codes, sym, subst, arith}
 use Rattle.std.specs.Prelude.{IfSome}
 use Rattle.clap.specs.Words.{Row, Text}
 use Rattle.bpfjobs_cli.specs.declared.commands.Command.{Command}
@@ -15,6 +15,14 @@ use Rattle.bpfjobs_cli.proofs.EnteredLemmas.{all_apart, none_apart}
 tenants_range : (rows : List Row) (endpoint : Endpoint) (tenants : TenantWords) → AreTenantsOf rows endpoint tenants → AreTenants (tenants_in tenants.tenants.items)
 tenants_range rows (Port port) tenants are = subst (λ (ts : List TenantSocket). AreTenants (tenants_in ts)) (sym are.2) none_apart
 tenants_range rows (Socket path grants) tenants are = all_apart [] 0 (words_said (tenant_words rows)) (tenants_in tenants.tenants.items) none_apart are.0
+
+between : (low high : ℕ) (rows : List Row) (id : Text) (said : Option ℕ) → IsMaybeNumber rows id low high said → IfSome said (λ n. (low ≤ n) × (n ≤ high))
+between low high rows id (Some n) number = (number.least, number.most)
+between low high rows id None number = tt
+
+jobs_range : (rows : List Row) (endpoint : Endpoint) (tenants : TenantWords) → AreTenantsOf rows endpoint tenants → IfSome tenants.open_jobs (λ n. (1 ≤ n) × (n ≤ 1000000))
+jobs_range rows (Port port) tenants are = between 1 1000000 rows (codes "tenant-jobs") tenants.open_jobs are.1.0
+jobs_range rows (Socket path grants) tenants are = between 1 1000000 rows (codes "tenant-jobs") tenants.open_jobs are.2.0
 
 endpoint_range : (rows : List Row) (endpoint : Endpoint) → IsEndpointOf rows endpoint → IsEndpointInRange endpoint
 endpoint_range rows (Port port) is = (is.0.least, is.0.most)
@@ -37,6 +45,7 @@ command_range name rows (Run workers) is = (is.1.least, is.1.most)
 command_range name rows (Serve serve) is = record {
   endpoint = endpoint_range rows serve.endpoint is.1.endpoint;
   tenants = tenants_range rows serve.endpoint serve.tenants is.1.tenants;
+  tenant_jobs = jobs_range rows serve.endpoint serve.tenants is.1.tenants;
   workers = (is.1.options.workers.least, is.1.options.workers.most);
   sessions = subst (λ (o : Option ℕ). IfSome o (λ n. (1 ≤ n) × (n ≤ 1000000))) (sym is.1.options.sessions.2)
       (said_range rows _ is.1.options.sessions.0 serve.options.clients is.1.options.sessions.1);

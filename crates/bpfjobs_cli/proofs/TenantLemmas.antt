@@ -1,7 +1,7 @@
 -- The parts of a text at its first delimiter, and its lines.
 use Rattle.std.proofs.Common.{◌≡◌, suc, ◌≤◌, ◌-◌, ◌∙◌, ℕ, Bool, cond, true, false, List, [], ◌∷◌, length, take, refl, sym, ap, arith}
 use Rattle.std.specs.List.{onto_first, slice_split}
-use Rattle.bpfjobs_cli.specs.Tenants.{before_delimiter, from_delimiter, is_delimiter}
+use Rattle.bpfjobs_cli.specs.TenantLines.{before_delimiter, from_delimiter, is_delimiter}
 use Rattle.bpfjobs_cli.specs.declared.tenant_text.Delimiter.{Delimiter}
 use Rattle.bpfjobs_cli.specs.declared.tenant_text.Delimiter.TheVariants.{LineEnd}
 

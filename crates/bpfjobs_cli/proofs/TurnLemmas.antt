@@ -10,7 +10,8 @@ use Rattle.bpfjobs_cli.specs.declared.commands.Usage.TheVariants as usage
 use Rattle.bpfjobs_cli.specs.declared.tenants.EntryFault.{EntryFault}
 use Rattle.bpfjobs_cli.specs.declared.tenants.EntryFault.TheVariants as entry
 use Rattle.bpfjobs_cli.specs.declared.tenant_text.Delimiter.TheVariants.{LineEnd}
-use Rattle.bpfjobs_cli.specs.Tenants.{Entered, IsWrongLine, NamedPath, SaidText, before_delimiter, entered, fault_said, from_delimiter, is_delimiter, line_says, lines_said, word_says, words_said}
+use Rattle.bpfjobs_cli.specs.TenantLines.{SaidText, before_delimiter, from_delimiter, is_delimiter, line_says, word_says}
+use Rattle.bpfjobs_cli.specs.Tenants.{Entered, IsWrongLine, NamedTenant, entered, fault_said, lines_said, words_said}
 use Rattle.bpfjobs_cli.specs.Entries.{IsWordUsage, RefusesSaid, TakesSaid, TellsWord, wrong_at}
 use Rattle.bpfjobs_cli.proofs.EnteredLemmas.{entered_more, entered_stops}
 use Rattle.bpfjobs_cli.proofs.TenantLemmas.{behind, lines_at, within}
@@ -36,7 +37,7 @@ some_behind (c ∷ cs) lt = refl
 
 -- ---- lines
 
-module _ (whole : Entered) (ts : List NamedPath) (n : ℕ) (rest front tail : List ℕ) (s : SaidText) (so_far : whole ≡ entered ts n (lines_said rest))
+module _ (whole : Entered) (ts : List NamedTenant) (n : ℕ) (rest front tail : List ℕ) (s : SaidText) (so_far : whole ≡ entered ts n (lines_said rest))
     (front_is : front ≡ before_delimiter LineEnd rest) (tail_is : tail ≡ from_delimiter LineEnd rest) (said_is : s ≡ line_says front) where
   this_line : whole ≡ entered ts n (s ∷ map line_says (behind tail))
   this_line =
@@ -49,7 +50,7 @@ module _ (whole : Entered) (ts : List NamedPath) (n : ℕ) (rest front tail : Li
   line_wrong (entry.Wrong f) wrong = this_line ∙ entered_stops ts n s (map line_says (behind tail)) f wrong
   line_wrong entry.NoMemory wrong = tt
 
-  module _ (after : List NamedPath) (takes : TakesSaid ts s after) where
+  module _ (after : List NamedTenant) (takes : TakesSaid ts s after) where
     line_more : whole ≡ entered after (n + 1) (map line_says (behind tail))
     line_more = this_line ∙ entered_more ts after n s (map line_says (behind tail)) takes
 
@@ -67,7 +68,7 @@ module _ (whole : Entered) (ts : List NamedPath) (n : ℕ) (rest front tail : Li
 abbrev pub texts : List (Bor (List ℕ)) → List (List ℕ)
 texts = map (λ w. w.now)
 
-module _ (ts : List NamedPath) (n : ℕ) (words : List (Bor (List ℕ))) (none : Bor (List ℕ)) (s : SaidText) (within : n < length words)
+module _ (ts : List NamedTenant) (n : ℕ) (words : List (Bor (List ℕ))) (none : Bor (List ℕ)) (s : SaidText) (within : n < length words)
     (so_far : entered [] 0 (words_said (texts words)) ≡ entered ts n (words_said (texts (drop n words)))) (said_is : s ≡ word_says (get_or words n none).now) where
   this_word : entered [] 0 (words_said (texts words)) ≡ entered ts n (s ∷ words_said (texts (drop (n + 1) words)))
   this_word =
@@ -85,10 +86,10 @@ module _ (ts : List NamedPath) (n : ℕ) (words : List (Bor (List ℕ))) (none :
       (n, this_word ∙ entered_stops ts n s (words_said (texts (drop (n + 1) words))) f why, place ∙ ap Some (sym tells.0))
   word_wrong e usage.NoMemory wrong tells = tt
 
-  pub word_more : (after : List NamedPath) → TakesSaid ts s after → entered [] 0 (words_said (texts words)) ≡ entered after (n + 1) (words_said (texts (drop (n + 1) words)))
+  pub word_more : (after : List NamedTenant) → TakesSaid ts s after → entered [] 0 (words_said (texts words)) ≡ entered after (n + 1) (words_said (texts (drop (n + 1) words)))
   word_more after takes = this_word ∙ entered_more ts after n s (words_said (texts (drop (n + 1) words))) takes
 
 -- no word is left
-pub words_done : (ts : List NamedPath) (n : ℕ) (words : List (Bor (List ℕ))) → entered [] 0 (words_said (texts words)) ≡ entered ts n (words_said (texts (drop n words)))
+pub words_done : (ts : List NamedTenant) (n : ℕ) (words : List (Bor (List ℕ))) → entered [] 0 (words_said (texts words)) ≡ entered ts n (words_said (texts (drop n words)))
     → length words ≤ n → entered [] 0 (words_said (texts words)) ≡ Ok ts
 words_done ts n words so_far all = so_far ∙ ap (λ (ws : List (Bor (List ℕ))). entered ts n (words_said (texts ws))) (drop_all n words all)

@@ -9,7 +9,7 @@ use Rattle.bpfjobs_cli.specs.declared.commands.Command.TheVariants.{Assemble, Di
 use Rattle.bpfjobs_cli.specs.declared.commands.Endpoint.{Endpoint}
 use Rattle.bpfjobs_cli.specs.declared.commands.Endpoint.TheVariants.{Port, Socket}
 use Rattle.bpfjobs_cli.specs.declared.commands.EndpointFault.{EndpointFault}
-use Rattle.bpfjobs_cli.specs.declared.commands.EndpointFault.TheVariants.{Missing, Two, GrantsWithPort, TenantsWithPort}
+use Rattle.bpfjobs_cli.specs.declared.commands.EndpointFault.TheVariants.{Missing, Two, GrantsWithPort, TenantsWithPort, JobsOfNoTenant}
 use Rattle.bpfjobs_cli.specs.declared.commands.Serve.{Serve as Server}
 use Rattle.bpfjobs_cli.specs.declared.commands.ServeOptions.{ServeOptions}
 use Rattle.bpfjobs_cli.specs.declared.commands.Shown.{Shown}
@@ -65,14 +65,25 @@ abbrev pub NameTenants : List Row → Type 0
 NameTenants rows =
     (is_some (all_of (codes "tenant") rows) ≡ true) ⊎ HasText rows (codes "tenants")
 
+-- they name neither
+abbrev pub NameNoTenant : List Row → Type 0
+NameNoTenant rows =
+    (all_of (codes "tenant") rows ≡ None) × (first_of (codes "tenants") rows ≡ None)
+
+-- the jobs that each tenant may have open, if the words say it: then they name tenants
+abbrev pub AreJobsOf : List Row → Option ℕ → Type 0
+AreJobsOf rows jobs =
+    IsMaybeNumber rows (codes "tenant-jobs") 1 1000000 jobs × ((jobs ≡ None) ⊎ NameTenants rows)
+
 -- the tenants with sockets of their own: none beside a port
 abbrev pub AreTenantsOf : List Row → Endpoint → TenantWords → Type 0
 AreTenantsOf rows (Port port) tenants =
-    (all_of (codes "tenant") rows ≡ None) × (first_of (codes "tenants") rows ≡ None)
-    × (tenants.tenants.items ≡ []) × (tenants.file ≡ None)
+    NameNoTenant rows × AreJobsOf rows tenants.open_jobs × (tenants.tenants.items ≡ [])
+    × (tenants.file ≡ None)
 AreTenantsOf rows (Socket path grants) tenants =
     (entered [] 0 (words_said (tenant_words rows)) ≡ Ok (tenants_in tenants.tenants.items))
     × (first_of (codes "tenants") rows ≡ option_map string_bytes tenants.file)
+    × AreJobsOf rows tenants.open_jobs
 
 -- the words name no endpoint
 abbrev pub IsEndpointFault : List Row → EndpointFault → Type 0
@@ -85,6 +96,8 @@ IsEndpointFault rows GrantsWithPort =
 IsEndpointFault rows TenantsWithPort =
     ((port : ℕ) × IsPortOf rows port) × (first_of (codes "socket") rows ≡ None)
     × (first_of (codes "grants") rows ≡ None) × NameTenants rows
+IsEndpointFault rows JobsOfNoTenant =
+    ((jobs : ℕ) × IsNumberIn rows (codes "tenant-jobs") 1 1000000 jobs) × NameNoTenant rows
 
 -- a word names no tenant, beside a socket
 pub record IsTenantFault (rows : List Row) (word : Text) (f : TenantFault) : Type 0 where
@@ -137,9 +150,10 @@ pub record IsShownOf (rows : List Row) (shown : Shown) : Type 0 where
       ≡ option_map (λ path. path.now) shown.trace_json
   pub tree : first_of (codes "tree") rows ≡ option_map (λ path. path.now) shown.tree
 
--- the words of `serve` say its options, and perhaps a port
+-- the words of `serve` say its options, and perhaps a port and a number of jobs
 pub record SaysServe (rows : List Row) : Type 0 where
   pub port : (n : Option ℕ) × IsMaybeNumber rows (codes "port") 1 65535 n
+  pub jobs : (n : Option ℕ) × IsMaybeNumber rows (codes "tenant-jobs") 1 1000000 n
   pub options : (o : ServeOptions) × AreOptionsOf rows o
 
 -- they are those of a command, but for a server's endpoint
@@ -162,6 +176,7 @@ IsEndpointInRange (Socket path grants) = Unit {0}
 pub record IsServeInRange (serve : Server) : Type 0 where
   pub endpoint : IsEndpointInRange serve.endpoint
   pub tenants : AreTenants (tenants_in serve.tenants.tenants.items)
+  pub tenant_jobs : IfSome serve.tenants.open_jobs (λ n. (1 ≤ n) × (n ≤ 1000000))
   pub workers : (1 ≤ serve.options.workers) × (serve.options.workers ≤ 16)
   pub sessions : IfSome serve.options.sessions (λ n. (1 ≤ n) × (n ≤ 1000000))
   pub clients : (1 ≤ serve.options.clients) × (serve.options.clients ≤ 64)

@@ -6,16 +6,17 @@ use Rattle.bpfjobs_cli.specs.declared.tenants.EntryFault.{EntryFault}
 use Rattle.bpfjobs_cli.specs.declared.tenants.EntryFault.TheVariants as entry
 use Rattle.bpfjobs_cli.specs.declared.tenant_socket.WrongTenant.{WrongTenant}
 use Rattle.bpfjobs_cli.specs.declared.tenant_socket.WrongTenant.TheVariants as wrong
-use Rattle.bpfjobs_cli.specs.Tenants.{IsWrongWord, NamedPath, SaidText, fault_said, tenants_of}
+use Rattle.bpfjobs_cli.specs.TenantLines.{SaidText}
+use Rattle.bpfjobs_cli.specs.Tenants.{IsWrongWord, NamedTenant, fault_said, tenants_of}
 
 -- the tenants, and the one that is said, if one is
-pub record TakesSaid (before : List NamedPath) (said : SaidText) (after : List NamedPath) :
+pub record TakesSaid (before : List NamedTenant) (said : SaidText) (after : List NamedTenant) :
     Type 0 where
   pub faultless : fault_said before said ≡ None
   pub more : after ≡ before ++ tenants_of said
 
 -- what is said is wrong, or there is no memory
-abbrev pub RefusesSaid : List NamedPath → SaidText → EntryFault → Type 0
+abbrev pub RefusesSaid : List NamedTenant → SaidText → EntryFault → Type 0
 RefusesSaid before said (entry.Wrong f) = fault_said before said ≡ Some f
 RefusesSaid before said entry.NoMemory = Unit {0}
 

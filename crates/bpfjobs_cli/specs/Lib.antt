@@ -1,4 +1,5 @@
 pub mod Program
+pub mod TenantLines
 pub mod Tenants
 pub mod Entries
 pub mod Commands

@@ -38,6 +38,13 @@ tenants_rule = record (new_rule (codes "tenants")) {
   value_names = 1;
 }
 
+abbrev pub tenant_jobs_rule : Rule
+tenant_jobs_rule = record (new_rule (codes "tenant-jobs")) {
+  long = Some (codes "tenant-jobs");
+  value_names = 1;
+  parser = Some (vp.Signed (pos 1) (pos 1000000));
+}
+
 abbrev pub workers_rule : Rule
 workers_rule = record (new_rule (codes "workers")) {
   long = Some (codes "workers");
@@ -121,9 +128,9 @@ run_app = with_rule (with_rule (new_app (codes "run")) workers_rule) tree_rule
 abbrev pub serve_app : App
 serve_app =
     with_rule (with_rule (with_rule (with_rule (with_rule (with_rule (with_rule (with_rule
-    (with_rule (with_rule (with_rule (with_rule (with_rule (new_app (codes "serve")) port_rule)
-    socket_rule) grants_rule) tenant_rule) tenants_rule) workers_rule) sessions_rule) clients_rule) timeout_rule) open_jobs_rule)
-    keep_rule) until_eof_rule) log_rule
+    (with_rule (with_rule (with_rule (with_rule (with_rule (with_rule (new_app (codes "serve"))
+    port_rule) socket_rule) grants_rule) tenant_rule) tenants_rule) tenant_jobs_rule) workers_rule)
+    sessions_rule) clients_rule) timeout_rule) open_jobs_rule) keep_rule) until_eof_rule) log_rule
 
 -- the program without its commands, which tells its version
 abbrev pub named_app : App

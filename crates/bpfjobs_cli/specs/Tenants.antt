@@ -1,5 +1,5 @@
 -- The tenants with sockets of their own: as words NAME=PATH and lines NAME PATH have them.
-use Rattle.std.specs.Prelude.{◌≡◌, ◌≤◌, ◌==◌, ◌||◌, ◌&&◌, ◌+◌, ℕ, Bool, not, nat_le, true, List, [], ◌∷◌, ◌++◌, length, map, drop, string_bytes, slice_get, if◌then◌else◌, Option, Some, None, Result, Ok, Err}
+use Rattle.std.specs.Prelude.{◌≡◌, ◌≤◌, ◌==◌, ◌&&◌, ◌+◌, ℕ, Bool, not, nat_le, true, List, [], ◌∷◌, ◌++◌, length, map, string_bytes, slice_get, if◌then◌else◌, Option, Some, None, Result, Ok, Err}
 use Rattle.std.specs.List.{IsDistinct, list_any, list_all, slice_split}
 use Rattle.std.specs.Str.{bytes_eq, is_utf8}
 use Rattle.sessions.specs.Grammar.{is_name}
@@ -8,86 +8,30 @@ use Rattle.bpfjobs_cli.specs.declared.tenant_socket.TenantFault.{TenantFault}
 use Rattle.bpfjobs_cli.specs.declared.tenant_socket.TenantFault.TheVariants as fault
 use Rattle.bpfjobs_cli.specs.declared.tenant_socket.WrongTenant.{WrongTenant}
 use Rattle.bpfjobs_cli.specs.declared.tenant_socket.WrongTenant.TheVariants as wrong
-use Rattle.bpfjobs_cli.specs.declared.tenant_text.Delimiter.{Delimiter}
-use Rattle.bpfjobs_cli.specs.declared.tenant_text.Delimiter.TheVariants.{Equals, Blank, LineEnd}
-use Rattle.bpfjobs_cli.specs.declared.tenant_text.Said.{Said}
-use Rattle.bpfjobs_cli.specs.declared.tenant_text.Said.TheVariants as said
+use Rattle.bpfjobs_cli.specs.declared.tenant_text.Delimiter.TheVariants.{LineEnd}
+use Rattle.bpfjobs_cli.specs.TenantLines.{SaidText, is_delimiter, line_says, says_nothing, says_other, says_no_number, says_tenant, word_says}
 
--- a tenant's name, and the path of its socket
-abbrev pub NamedPath : Type 0
-NamedPath = List ℕ × List ℕ
+-- a tenant's name, the path of its socket, and the jobs that it may have open, where that is said
+abbrev pub NamedTenant : Type 0
+NamedTenant = List ℕ × List ℕ × Option ℕ
 
-abbrev pub tenant_of : TenantSocket → NamedPath
-tenant_of t = (string_bytes t.name, string_bytes t.path)
+abbrev pub tenant_of : TenantSocket → NamedTenant
+tenant_of t = (string_bytes t.name, string_bytes t.path, t.open_jobs)
 
-abbrev pub tenants_in : List TenantSocket → List NamedPath
+abbrev pub tenants_in : List TenantSocket → List NamedTenant
 tenants_in ts = map tenant_of ts
-
--- ---- a text
-
--- `=`; a space, a tab or a carriage return; a line feed
-abbrev pub is_delimiter : Delimiter → ℕ → Bool
-is_delimiter Equals c = c == 61
-is_delimiter Blank c = c == 32 || (c == 9 || c == 13)
-is_delimiter LineEnd c = c == 10
-
--- the part before the first delimiter, and the part from it on
-abbrev pub before_delimiter : Delimiter → List ℕ → List ℕ
-before_delimiter d [] = []
-before_delimiter d (c ∷ cs) = if is_delimiter d c then [] else c ∷ before_delimiter d cs
-
-abbrev pub from_delimiter : Delimiter → List ℕ → List ℕ
-from_delimiter d [] = []
-from_delimiter d (c ∷ cs) = if is_delimiter d c then c ∷ cs else from_delimiter d cs
-
--- without the blanks at its start
-abbrev pub past_blanks : List ℕ → List ℕ
-past_blanks [] = []
-past_blanks (c ∷ cs) = if is_delimiter Blank c then past_blanks cs else c ∷ cs
-
--- it is empty, or a comment: that begins with `#`
-abbrev pub is_over : List ℕ → Bool
-is_over [] = true
-is_over (c ∷ cs) = c == 35
-
--- what a text says: nothing, something else than a tenant, or a name and a path
-pub data SaidText : Type 0 where
-  says_nothing : SaidText
-  says_other : SaidText
-  says_tenant : List ℕ → List ℕ → SaidText
-
-abbrev pub said_by : Said → SaidText
-said_by said.Nothing = says_nothing
-said_by said.Other = says_other
-said_by (said.Tenant name path) = says_tenant name.now path.now
-
--- a word: the name ends at the first `=`
-unfoldable pub word_says : List ℕ → SaidText
-word_says word = if length (from_delimiter Equals word) == 0 then says_other
-    else says_tenant (before_delimiter Equals word) (drop 1 (from_delimiter Equals word))
-
--- a line: the name and the path have no blank, and nothing but a comment is behind them
-unfoldable pub line_says : List ℕ → SaidText
-line_says line =
-    let start = past_blanks line in
-    let behind = past_blanks (from_delimiter Blank start) in
-    if is_over start then says_nothing
-    else if is_over behind then says_other
-    else if is_over (past_blanks (from_delimiter Blank behind))
-    then says_tenant (before_delimiter Blank start) (before_delimiter Blank behind)
-    else says_other
 
 -- ---- one text after the other
 
 -- a tenant has this name, or this path
-abbrev pub has_name : List NamedPath → List ℕ → Bool
+abbrev pub has_name : List NamedTenant → List ℕ → Bool
 has_name ts name = list_any (λ t. bytes_eq t.0 name) ts
 
-abbrev pub has_path : List NamedPath → List ℕ → Bool
+abbrev pub has_path : List NamedTenant → List ℕ → Bool
 has_path ts path = list_any (λ t. bytes_eq t.1 path) ts
 
 -- the reason why a name and a path aren't those of one more tenant
-unfoldable pub fault_beside : List NamedPath → List ℕ → List ℕ → Option TenantFault
+unfoldable pub fault_beside : List NamedTenant → List ℕ → List ℕ → Option TenantFault
 fault_beside ts name path =
     if not (is_name name) then Some fault.Name
     else if length path == 0 then Some fault.NoPath
@@ -96,20 +40,22 @@ fault_beside ts name path =
     else if nat_le 256 (length ts) then Some fault.TooMany else None
 
 -- the reason why what is said is no further tenant, nor nothing
-unfoldable pub fault_said : List NamedPath → SaidText → Option TenantFault
+unfoldable pub fault_said : List NamedTenant → SaidText → Option TenantFault
 fault_said ts says_nothing = None
 fault_said ts says_other = Some fault.Form
-fault_said ts (says_tenant name path) =
+fault_said ts says_no_number = Some fault.OpenJobs
+fault_said ts (says_tenant name path jobs) =
     if is_utf8 name && is_utf8 path then fault_beside ts name path else Some fault.NotText
 
 -- the tenant that is said, if one is
-abbrev pub tenants_of : SaidText → List NamedPath
+abbrev pub tenants_of : SaidText → List NamedTenant
 tenants_of says_nothing = []
 tenants_of says_other = []
-tenants_of (says_tenant name path) = (name, path) ∷ []
+tenants_of says_no_number = []
+tenants_of (says_tenant name path jobs) = (name, path, jobs) ∷ []
 
 abbrev pub Entered : Type 0
-Entered = Result (List NamedPath) (ℕ × TenantFault)
+Entered = Result (List NamedTenant) (ℕ × TenantFault)
 
 -- it goes on, or ends at this number with a fault
 abbrev pub unless_fault : Option TenantFault → ℕ → Entered → Entered
@@ -118,7 +64,7 @@ unless_fault (Some f) n goes = Err (n, f)
 
 -- The tenants, and those that texts say, in their order. Or the number of the first wrong text,
 -- where they are counted from this one on, and what is wrong with it.
-abbrev pub entered : List NamedPath → ℕ → List SaidText → Entered
+abbrev pub entered : List NamedTenant → ℕ → List SaidText → Entered
 entered ts n [] = Ok ts
 entered ts n (s ∷ rest) =
     unless_fault (fault_said ts s) n (entered (ts ++ tenants_of s) (n + 1) rest)
@@ -143,7 +89,7 @@ IsWrongLine wrong.NoMemory outcome = Unit {0}
 -- ---- what holds of all that are entered
 
 -- each has a tenant's name and a path; no name and no path is there twice; there are 256 at most
-pub record AreTenants (ts : List NamedPath) : Type 0 where
+pub record AreTenants (ts : List NamedTenant) : Type 0 where
   pub names : list_all (λ t. is_name t.0) ts ≡ true
   pub paths : list_all (λ t. not (length t.1 == 0)) ts ≡ true
   pub names_apart : IsDistinct bytes_eq (map (λ t. t.0) ts)

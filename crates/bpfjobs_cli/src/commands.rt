@@ -93,6 +93,8 @@ pub enum EndpointFault {
     GrantsWithPort,
     /// A socket for a tenant beside a port.
     TenantsWithPort,
+    /// A limit for each tenant, where no tenant is named.
+    JobsOfNoTenant,
 }
 
 impl EndpointFault {
@@ -103,6 +105,9 @@ impl EndpointFault {
             EndpointFault::Two => "error: serve takes --port or --socket, and not both",
             EndpointFault::GrantsWithPort => "error: serve takes --grants with --socket alone",
             EndpointFault::TenantsWithPort => "error: serve takes tenants with --socket alone",
+            EndpointFault::JobsOfNoTenant => {
+                "error: serve takes --tenant-jobs with --tenant or --tenants alone"
+            }
         }
     }
 }

@@ -7,6 +7,7 @@ mod commands;
 mod process;
 mod program;
 mod reading;
+mod tenant_number;
 mod tenant_socket;
 mod tenant_text;
 mod tenants;

@@ -3,7 +3,7 @@
 ghost use Rattle.std.specs.Prelude.{◌≡◌, false, codes, IfOk};
 ghost use Rattle.clap.specs.Words.{app_of, new_app, rule_of};
 ghost use Rattle.clap.specs.declared.builder.command.Command.TheViews.{out-Command as fields_of};
-ghost use Rattle.bpfjobs_cli.specs.Program.{need_rule, port_rule, socket_rule, grants_rule, tenant_rule, tenants_rule, workers_rule, sessions_rule, clients_rule, timeout_rule, open_jobs_rule, keep_rule, until_eof_rule, log_rule, trace_rule, trace_json_rule, tree_rule, named_app, verify_app, play_app, run_app, serve_app, bpfjobs_app, with_text_commands};
+ghost use Rattle.bpfjobs_cli.specs.Program.{need_rule, port_rule, socket_rule, grants_rule, tenant_rule, tenants_rule, tenant_jobs_rule, workers_rule, sessions_rule, clients_rule, timeout_rule, open_jobs_rule, keep_rule, until_eof_rule, log_rule, trace_rule, trace_json_rule, tree_rule, named_app, verify_app, play_app, run_app, serve_app, bpfjobs_app, with_text_commands};
 
 use crate::texts;
 use clap::{Arg, ArgAction, Command};
@@ -71,6 +71,17 @@ fn tenants<'a>(alloc: Global) -> Arg<'a>
         .long("tenants")
         .value_name("FILE")
         .help(texts::TENANTS)
+}
+
+fn tenant_jobs<'a>(alloc: Global) -> Arg<'a>
+    ensures rule { rule_of result ≡ tenant_jobs_rule }
+    ensures local { result.global ≡ false }
+{
+    Arg::new(alloc, "tenant-jobs")
+        .long("tenant-jobs")
+        .value_name("COUNT")
+        .help(texts::TENANT_JOBS)
+        .value_parser(clap::value_parser!(u32).range(1..=1000000))
 }
 
 fn workers<'a>(alloc: Global) -> Arg<'a>
@@ -256,6 +267,7 @@ fn serve<'a>(alloc: Global) -> Result<Command<'a>, AllocError>
         .arg(grants(alloc))?
         .arg(tenant(alloc))?
         .arg(tenants(alloc))?
+        .arg(tenant_jobs(alloc))?
         .arg(workers(alloc))?
         .arg(sessions(alloc))?
         .arg(clients(alloc))?

@@ -1,13 +1,13 @@
 //! The command that words say.
 
-ghost use Rattle.std.specs.Prelude.{◌≡◌, [], Ok, ℕ, map, codes, IfOk, IfErr, Option, Some, option_map, string_bytes, List};
+ghost use Rattle.std.specs.Prelude.{◌≡◌, [], Ok, ℕ, true, false, map, codes, IfOk, IfErr, Option, Some, option_map, string_bytes, List};
 ghost use Rattle.clap.specs.Words.{Row, Text, found_of, first_of, rows_of, subcommand_of};
 ghost use Rattle.bpfjobs_cli.specs.declared.commands.ServeOptions.{ServeOptions};
 ghost use Rattle.bpfjobs_cli.specs.Program.{bpfjobs_app};
 ghost use Rattle.bpfjobs_cli.specs.declared.commands.Endpoint.TheVariants.{Port};
 ghost use Rattle.bpfjobs_cli.specs.Tenants.{entered, tenants_in, words_said};
 ghost use Rattle.bpfjobs_cli.specs.Entries.{IsWordUsage};
-ghost use Rattle.bpfjobs_cli.specs.Commands.{AreOptionsOf, AreTenantsOf, IsCommandOf, IsEndpointOf, IsEndpointUsage, IsFlagOf, IsInRange, IsMaybeNumber, IsNumberIn, IsServeOf, IsShownOf, IsUsage, SaysCommand, SaysServe, sessions_said, tenant_words};
+ghost use Rattle.bpfjobs_cli.specs.Commands.{AreJobsOf, AreOptionsOf, AreTenantsOf, IsCommandOf, IsEndpointOf, IsEndpointUsage, IsFlagOf, IsInRange, IsMaybeNumber, IsNumberIn, IsServeOf, IsShownOf, IsUsage, NameNoTenant, NameTenants, SaysCommand, SaysServe, sessions_said, tenant_words};
 
 use crate::commands::{
     Command, CommandRequest, Endpoint, EndpointFault, Serve, ServeOptions, Shown, Usage,
@@ -108,25 +108,62 @@ fn said_tenants(alloc: Global, matches: &ArgMatches<'_>) -> Result<Vec<TenantSoc
     }
 }
 
+// Whether the words name tenants, or a file of them.
+fn names_tenants(matches: &ArgMatches<'_>) -> bool
+    ensures some { result ≡ true → NameTenants (rows_of (found_of matches.now)) }
+    ensures none { result ≡ false → NameNoTenant (rows_of (found_of matches.now)) }
+{
+    match matches.get_strs("tenant") {
+        Some(_) => true,
+        None => match matches.get_str("tenants") {
+            Some(_) => true,
+            None => false,
+        },
+    }
+}
+
+// The jobs that each tenant may have open, if the words say it.
+fn jobs_of(matches: &ArgMatches<'_>) -> Result<Option<u32>, Usage>
+    requires { (n : Option ℕ)
+        × IsMaybeNumber (rows_of (found_of matches.now)) (codes "tenant-jobs") 1 1000000 n }
+    ensures ok { IfOk result (λ jobs. AreJobsOf (rows_of (found_of matches.now)) jobs) }
+    ensures err { IfErr result (λ usage.
+        IsEndpointUsage (rows_of (found_of matches.now)) usage) }
+{
+    let names = names_tenants(matches);
+    match maybe_number(matches, "tenant-jobs", 1, 1000000) {
+        Some(jobs) => {
+            if names {
+                return Ok(Some(jobs));
+            }
+            Err(Usage::Endpoint(EndpointFault::JobsOfNoTenant))
+        }
+        None => Ok(None),
+    }
+}
+
 // No tenants, beside a port: the words name none, and no file of them.
-fn no_tenants(alloc: Global, matches: &ArgMatches<'_>, port: u16) -> Result<TenantWords, Usage>
-    requires { IsEndpointOf (rows_of (found_of matches.now)) (Port port) }
+fn no_tenants(
+    alloc: Global,
+    matches: &ArgMatches<'_>,
+    port: u16,
+    open_jobs: Option<u32>,
+) -> Result<TenantWords, Usage>
+    requires endpoint { IsEndpointOf (rows_of (found_of matches.now)) (Port port) }
+    requires jobs { AreJobsOf (rows_of (found_of matches.now)) open_jobs }
     ensures ok { IfOk result (λ tenants.
         AreTenantsOf (rows_of (found_of matches.now)) (Port port) tenants) }
     ensures err { IfErr result (λ usage.
         IsEndpointUsage (rows_of (found_of matches.now)) usage) }
 {
-    let fault = EndpointFault::TenantsWithPort;
-    match matches.get_strs("tenant") {
-        Some(_) => Err(Usage::Endpoint(fault)),
-        None => match matches.get_str("tenants") {
-            Some(_) => Err(Usage::Endpoint(fault)),
-            None => Ok(TenantWords {
-                tenants: Vec::new(alloc),
-                file: None,
-            }),
-        },
+    if names_tenants(matches) {
+        return Err(Usage::Endpoint(EndpointFault::TenantsWithPort));
     }
+    Ok(TenantWords {
+        tenants: Vec::new(alloc),
+        file: None,
+        open_jobs,
+    })
 }
 
 // The tenants with sockets of their own, where a server listens there.
@@ -135,18 +172,28 @@ fn tenants(
     matches: &ArgMatches<'_>,
     endpoint: &Endpoint,
 ) -> Result<TenantWords, Usage>
-    requires { IsEndpointOf (rows_of (found_of matches.now)) endpoint.now }
+    requires endpoint { IsEndpointOf (rows_of (found_of matches.now)) endpoint.now }
+    requires jobs { (n : Option ℕ)
+        × IsMaybeNumber (rows_of (found_of matches.now)) (codes "tenant-jobs") 1 1000000 n }
     ensures ok { IfOk result (λ tenants.
         AreTenantsOf (rows_of (found_of matches.now)) endpoint.now tenants) }
     ensures err { IfErr result (λ usage.
         IsEndpointUsage (rows_of (found_of matches.now)) usage) }
 {
+    let open_jobs = match jobs_of(matches) {
+        Ok(jobs) => jobs,
+        Err(usage) => return Err(usage),
+    };
     match endpoint {
-        Endpoint::Port(port) => no_tenants(alloc, matches, *port),
+        Endpoint::Port(port) => no_tenants(alloc, matches, *port, open_jobs),
         Endpoint::Socket { path: _, grants: _ } => {
             let file = text(alloc, matches, "tenants")?;
             match said_tenants(alloc, matches) {
-                Ok(tenants) => Ok(TenantWords { tenants, file }),
+                Ok(tenants) => Ok(TenantWords {
+                    tenants,
+                    file,
+                    open_jobs,
+                }),
                 Err(usage) => Err(usage),
             }
         }

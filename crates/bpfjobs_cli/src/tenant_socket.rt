@@ -6,6 +6,8 @@ pub struct TenantSocket {
     pub name: String,
     /// The path of its socket.
     pub path: String,
+    /// Jobs, up to 1,000,000, that it may have open at once, where its line says so. 0: any number.
+    pub open_jobs: Option<u32>,
 }
 
 /// The tenants with sockets of their own that the words of `serve` name.
@@ -15,6 +17,9 @@ pub struct TenantWords {
     pub tenants: Vec<TenantSocket>,
     /// The path of a file with more of them, if the words name one.
     pub file: Option<String>,
+    /// Jobs, 1 to 1,000,000, that each may have open at once whose line says nothing of it. `None`:
+    /// any number.
+    pub open_jobs: Option<u32>,
 }
 
 /// The reason why a word or a line names no tenant beside those before it.
@@ -34,6 +39,8 @@ pub enum TenantFault {
     PathTwice,
     /// There are 256 tenants before it.
     TooMany,
+    /// No number from 0 to 1,000,000 is behind `open-jobs`.
+    OpenJobs,
 }
 
 impl TenantFault {
@@ -47,6 +54,7 @@ impl TenantFault {
             TenantFault::NameTwice => "the name is there already",
             TenantFault::PathTwice => "the path is there already",
             TenantFault::TooMany => "256 tenants are there already",
+            TenantFault::OpenJobs => "open-jobs wants a number from 0 to 1000000",
         }
     }
 }

@@ -4,7 +4,8 @@ ghost use Rattle.std.specs.Prelude.{◌≡◌, ◌&&◌, [], IfErr, IfOk, IfSome
 ghost use Rattle.std.specs.List.{list_all, list_any};
 ghost use Rattle.std.specs.Str.{bytes_eq, is_utf8};
 ghost use Rattle.sessions.specs.Grammar.{is_name_byte};
-ghost use Rattle.bpfjobs_cli.specs.Tenants.{AreTenants, IsWrongLine, entered, fault_beside, lines_said, said_by, says_tenant, tenants_in, words_said};
+ghost use Rattle.bpfjobs_cli.specs.Tenants.{AreTenants, IsWrongLine, entered, fault_beside, lines_said, tenants_in, words_said};
+ghost use Rattle.bpfjobs_cli.specs.TenantLines.{said_by, says_tenant};
 ghost use Rattle.bpfjobs_cli.specs.Entries.{IsWordUsage, RefusesSaid, TakesSaid, TellsWord, wrong_at};
 
 use crate::commands::Usage;
@@ -111,17 +112,18 @@ fn texts<'a>(name: &'a [u8], path: &'a [u8]) -> Option<(&'a str, &'a str)>
     }
 }
 
-// The tenants, and one more of this name and this path.
+// The tenants, and one more of this name and this path, which may have so many jobs open.
 fn with_tenant(
     alloc: Global,
     mut tenants: Vec<TenantSocket>,
     name: &[u8],
     path: &[u8],
+    open_jobs: Option<u32>,
 ) -> Result<Vec<TenantSocket>, EntryFault>
     ensures ok { IfOk result (λ all. TakesSaid (tenants_in tenants.items)
-        (says_tenant name.now path.now) (tenants_in all.items)) }
+        (says_tenant name.now path.now open_jobs) (tenants_in all.items)) }
     ensures err { IfErr result (λ e. RefusesSaid (tenants_in tenants.items)
-        (says_tenant name.now path.now) e) }
+        (says_tenant name.now path.now open_jobs) e) }
 {
     let (name, path) = match texts(name, path) {
         Some(both) => both,
@@ -135,6 +137,7 @@ fn with_tenant(
     tenants.push_reserved(TenantSocket {
         name: String::from_str(alloc, name)?,
         path: String::from_str(alloc, path)?,
+        open_jobs,
     });
     Ok(tenants)
 }
@@ -153,7 +156,8 @@ fn with_said(
     match said {
         Said::Nothing => Ok(tenants),
         Said::Other => Err(EntryFault::Wrong(TenantFault::Form)),
-        Said::Tenant(name, path) => with_tenant(alloc, tenants, name, path),
+        Said::NoNumber => Err(EntryFault::Wrong(TenantFault::OpenJobs)),
+        Said::Tenant(name, path, jobs) => with_tenant(alloc, tenants, name, path, jobs),
     }
 }
 
@@ -197,7 +201,7 @@ pub(crate) fn tenants_of_words(alloc: Global, words: &[&str]) -> Result<Vec<Tena
     Ok(tenants)
 }
 
-/// The tenants, and those of the lines `NAME PATH` of a text, in their order; or the number of the
+/// The tenants, and those of the lines of a text, in their order; or the number of the
 /// first wrong line, and what is wrong with it.
 pub fn with_lines(
     alloc: Global,

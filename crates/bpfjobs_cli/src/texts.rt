@@ -93,7 +93,9 @@ by 73, and changes nothing.
 With --tenant NAME=PATH a tenant has a socket of its own at PATH, and a desk of its own: jobs that
 are submitted there count from 1, and no other socket submits in the tenant's name. A connection
 there makes no grant (73), and knows no other tenant (74) and no other's job (76). A tenant is a line
-NAME PATH of --tenants FILE too, where `#` begins a comment.
+NAME PATH of --tenants FILE too, where `#` begins a comment. With --tenant-jobs COUNT each tenant, and
+everybody else as one, may have so many jobs open; a line NAME PATH open-jobs COUNT, from 0 for any
+number to 1000000, has its tenant's own.
 Status: 0 once so many connections have ended, 3 where one of them or a socket failed.
 
 Example:
@@ -109,7 +111,11 @@ pub(crate) const GRANTS: &str =
 pub(crate) const TENANT: &str =
     "With --socket: a tenant, and the path of a socket for it alone; up to 256 times";
 
-pub(crate) const TENANTS: &str = "With --socket: a file with a tenant NAME PATH a line";
+pub(crate) const TENANTS: &str =
+    "With --socket: a file with a tenant NAME PATH a line, and perhaps open-jobs COUNT behind it";
+
+pub(crate) const TENANT_JOBS: &str =
+    "With tenants: jobs that each may have open at once, 1 to 1000000: others fail by 81";
 
 pub(crate) const PORT: &str = "The port to listen on, 1 to 65535";
 

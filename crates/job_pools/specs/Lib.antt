@@ -9,3 +9,5 @@ pub mod Bounded
 pub mod Turns
 pub mod TurnHistories
 pub mod TurnRule
+pub mod LineLimiting
+pub mod LineBounded

@@ -47,7 +47,13 @@ pub use turn_laws::{each_flow_has_its_turn, flows_keep_their_order};
 pub use turn_queue::{NotPut, TurnQueue, WaitingJobs};
 pub use turn_seats::{QueueStep, TurnView};
 
-// a bound on the jobs that are held
+// bounds on the jobs that are held: of all, and of each line of numbers
 mod limited_runner;
+mod line_counts;
+mod line_limited_runner;
+mod line_limits;
 
 pub use limited_runner::{CountedRunner, LimitedRunner};
+pub use line_counts::LineCounts;
+pub use line_limited_runner::LineLimitedRunner;
+pub use line_limits::LineLimits;

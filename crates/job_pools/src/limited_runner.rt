@@ -34,8 +34,8 @@ impl<N: Drop> LimitedRunner<N> {
     }
 }
 
-// Whether no further job may be held.
-fn is_full(limit: u32, held: u64) -> bool
+/// Whether no further job may be held.
+pub(crate) fn is_full(limit: u32, held: u64) -> bool
     ensures full { result ≡ true → IsFull limit held }
     ensures room { result ≡ false → IsFull limit held → ⊥ }
 {

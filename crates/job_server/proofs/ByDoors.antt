@@ -13,7 +13,7 @@ use Rattle.job_server.specs.declared.tenants_listener.TenantsListener.{TenantsLi
 use Rattle.job_server.specs.declared.timed_listener.TimedListener.{TimedListener}
 use Rattle.job_server.specs.AtOnce.{IsServing}
 use Rattle.job_server.specs.Listening.{AreOf, CameBy}
-use Rattle.job_server.specs.TenantServing.{GrantsByNoTenant, IsServingAt, IsServingBy, IsServingTenants, door_names}
+use Rattle.job_server.specs.TenantServing.{GrantsByNoTenant, IsServingAt, IsServingBy, IsServingTenants}
 use Rattle.job_server.specs.TenantSockets.{passage_at}
 
 -- ---- with tenants or without
@@ -39,11 +39,11 @@ module _ {L : Type 0} (opens fails : L → L → Type 0) (passage_of : L → Pas
       by_doors (d ∷ ds) e = absurd cc
 
   -- with
-  pub tenants_at : (doors ≡ [] → ⊥) → (s : IsServingTenants (door_names doors) bounds sessions may_stop outcome) → AreOf opens fails listener s.serving.opened → All (λ c. CameBy opens passage_of c.passage) s.serving.closed
+  pub tenants_at : (doors ≡ [] → ⊥) → (s : IsServingTenants doors bounds sessions may_stop outcome) → AreOf opens fails listener s.serving.opened → All (λ c. CameBy opens passage_of c.passage) s.serving.closed
       → IsServingAt opens fails passage_of listener doors bounds sessions may_stop outcome
   tenants_at some s of came = by_doors doors some s of came
     where
-      by_doors : (ds : List TenantDoor) → (ds ≡ [] → ⊥) → (t : IsServingTenants (door_names ds) bounds sessions may_stop outcome) → AreOf opens fails listener t.serving.opened → All (λ c. CameBy opens passage_of c.passage) t.serving.closed
+      by_doors : (ds : List TenantDoor) → (ds ≡ [] → ⊥) → (t : IsServingTenants ds bounds sessions may_stop outcome) → AreOf opens fails listener t.serving.opened → All (λ c. CameBy opens passage_of c.passage) t.serving.closed
           → IsServingAt opens fails passage_of listener ds bounds sessions may_stop outcome
       by_doors [] e t o k = absurd (e refl)
       by_doors (d ∷ ds) e t o k = (t, o, k)

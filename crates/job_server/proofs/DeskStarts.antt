@@ -21,12 +21,14 @@ desk_begins {N} desk handler kept runner keep is_new same is_runner is_keep =
     ∙ ap (both new_desk) (λ i. record { runner = is_runner i; keep = is_keep i })
 
 -- a desk for each tenant
-pub tenants_begin : {N : Type 0} (desks : Tenancy) (names names1 : List (List ℕ)) (handler kept : KeptRunner N) → desks ≡ fresh_tenancy names → names ≡ names1 → handler ≡ kept
-    → ◌≡◌ {A = Tenancy × KeptRunner N} (desks, handler) (fresh_tenancy names1, kept)
-tenants_begin {N} desks names names1 handler kept is_new named same =
+pub tenants_begin : {N : Type 0} (desks : Tenancy) (names names1 : List (List ℕ)) (handler : KeptRunner N) (runner runner1 : N) (keep : ℕ) → desks ≡ fresh_tenancy names → names ≡ names1
+    → handler ≡ record { runner = runner; keep = keep } → runner ≡ runner1
+    → ◌≡◌ {A = Tenancy × KeptRunner N} (desks, handler) (fresh_tenancy names1, record { runner = runner1; keep = keep })
+tenants_begin {N} desks names names1 handler runner runner1 keep is_new named same limited =
     let both : Tenancy → KeptRunner N → Tenancy × KeptRunner N = λ d h. (d, h) in
+    let kept : N → KeptRunner N = λ r. record { runner = r; keep = keep } in
     ap (λ (d : Tenancy). both d handler) is_new ∙ ap (λ (ns : List (List ℕ)). both (fresh_tenancy ns) handler) named
-    ∙ ap (both (fresh_tenancy names1)) same
+    ∙ ap (both (fresh_tenancy names1)) same ∙ ap (λ (r : N). both (fresh_tenancy names1) (kept r)) limited
 
 module _ {S L : Type 0} (answers : S → Query → List ℕ → S → Type 0) (opens fails : L → L → Type 0) (passage_of : L → Passage) (listener : L) (sessions : ℕ) (may_stop : Bool) where
   -- so many were served, from here on

@@ -1,12 +1,15 @@
 -- A runner within a limit holds each job that was started, until it gives that.
 use Rattle.std.proofs.Common.{◌≡◌, ◌≢◌, ◌⊎◌, ℕ, Option, Some, None, option_map, Result, Ok, Err, refl, sym, ap, ◌∙◌, inl, inr}
 use Rattle.std.proofs.lemmas.Bool.{cases_eq}
+use Rattle.credit_book.specs.declared.book.Report.{Report}
 use Rattle.credit_book.specs.declared.board.Progress.{Progress}
 use Rattle.job_core.specs.Admitted.{AdmittedJob}
 use Rattle.job_pools.specs.Holding.{HeldJob}
 use Rattle.job_pools.specs.Holds.{StartsBy, TellsBy, TakesBy, IsUnchangedBy, looks_by}
 use Rattle.job_pools.specs.Bounded.{starts_within, looks_within, takes_within}
 use Rattle.job_pools.specs.declared.limited_runner.LimitedRunner.{LimitedRunner}
+use Rattle.job_pools.specs.LineBounded.{starts_by_line, looks_by_line, takes_by_line}
+use Rattle.job_pools.specs.declared.line_limited_runner.LineLimitedRunner.{LineLimitedRunner}
 use Rattle.job_server.proofs.HistoryStands.{HoldsJobs}
 
 not_refused : (outcome : Result (Unit {0}) ℕ) (done : Unit {0}) → outcome ≡ Ok done → outcome ≡ Err 81 → ⊥
@@ -60,3 +63,29 @@ module _ {P : Type 0} (held_by : P → ℕ → Option HeldJob) (count_by : P →
         λ m. ap (λ (p : P). option_map (λ (h : HeldJob). h.job) (held_by p m)) full.2,
       )
       refused r n job code s (inr starts, limit) = (starts.1.0, λ m. same_jobs r.runner s.runner starts.1.1 m)
+
+-- ---- with a limit for each line of numbers
+
+module _ {R : Type 0} (starts : R → ℕ → AdmittedJob → Result (Unit {0}) ℕ → R → Type 0) (looks : R → ℕ → Progress → R → Type 0) (takes : R → Option (ℕ × Result Report ℕ) → R → Type 0)
+    (held : R → ℕ → Option AdmittedJob) (holds : HoldsJobs starts looks takes held) where
+  abbrev pub held_in_lines : LineLimitedRunner R → ℕ → Option AdmittedJob
+  held_in_lines r n = held r.runner n
+
+  pub lines_hold : HoldsJobs (starts_by_line starts) (looks_by_line looks) (takes_by_line takes) held_in_lines
+  lines_hold = record {
+    started = started;
+    refused = refused;
+    looked = λ r n told s t m. holds.looked r.runner n told s.runner t.0 m;
+    taken = λ r n outcome s t. holds.taken r.runner n outcome s.runner t.0;
+    none = λ r s t m. holds.none r.runner s.runner t.0 m;
+  }
+    where
+      started : (r : LineLimitedRunner R) (n : ℕ) (job : AdmittedJob) (done : Unit {0}) (s : LineLimitedRunner R) → starts_by_line starts r n job (Ok done) s
+          → (held_in_lines s n ≡ Some job) × ((m : ℕ) → m ≢ n → held_in_lines s m ≡ held_in_lines r m)
+      started r n job done s (inl full, counted, same) = absurd (not_refused (Ok done) done refl full.1)
+      started r n job done s (inr room, counted, same) = holds.started r.runner n job done s.runner room.1
+
+      refused : (r : LineLimitedRunner R) (n : ℕ) (job : AdmittedJob) (code : ℕ) (s : LineLimitedRunner R) → starts_by_line starts r n job (Err code) s
+          → ((code ≡ 81) ⊎ (code ≡ 99)) × ((m : ℕ) → held_in_lines s m ≡ held_in_lines r m)
+      refused r n job code s (inl full, counted, same) = (inl (let is = full.1 in cc), λ m. ap (λ (x : R). held x m) full.2)
+      refused r n job code s (inr room, counted, same) = holds.refused r.runner n job code s.runner room.1

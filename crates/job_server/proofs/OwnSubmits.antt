@@ -13,6 +13,8 @@ use Rattle.tenant_desks.specs.Alone.{sent_to}
 use Rattle.tenant_desks.proofs.SeenLemmas.{plain_part}
 use Rattle.tenant_desks.specs.Seen.{starts_seen, looks_seen, takes_seen, answers_seen}
 use Rattle.job_pools.specs.declared.limited_runner.LimitedRunner.{LimitedRunner}
+use Rattle.job_pools.specs.LineBounded.{starts_by_line, looks_by_line, takes_by_line}
+use Rattle.job_pools.specs.declared.line_limited_runner.LineLimitedRunner.{LineLimitedRunner}
 use Rattle.job_pools.specs.Started.{pooled_at, pooled_count}
 use Rattle.job_pools.specs.Holds.{StartsBy, TellsBy, TakesBy}
 use Rattle.job_pools.specs.Bounded.{starts_within, looks_within, takes_within}
@@ -22,8 +24,8 @@ use Rattle.job_server.specs.AtOnce.{Pool}
 use Rattle.job_server.specs.EndToEnd.{AsksForJob, ComesFromSubmit, HasReply, IsResultFrame, IsToldRefusal, IsToldResult, StaysTold}
 use Rattle.job_server.specs.TenantResults.{IsTenantHostHistory}
 use Rattle.job_server.proofs.FromSubmit.{comes_from_submit}
-use Rattle.job_server.proofs.HistoryStands.{history_stands, history_tells}
-use Rattle.job_server.proofs.LimitedHolds.{job_held, limited_holds}
+use Rattle.job_server.proofs.HistoryStands.{HoldsJobs, history_stands, history_tells}
+use Rattle.job_server.proofs.LimitedHolds.{job_held, limited_holds, lines_hold}
 use Rattle.job_server.proofs.RefusedResults.{told_refusal}
 use Rattle.job_server.proofs.RisingNumbers.{numbers_rise}
 use Rattle.job_server.proofs.SeenHolds.{held_seen, seen_holds}
@@ -47,16 +49,25 @@ fresh_begins keep x begins = (ap (λ (d : Ledger). d.jobs) begins.0, begins.1)
 -- ---- a host of tenants
 
 abbrev Runner : Type 0
-Runner = LimitedRunner Pool
+Runner = LineLimitedRunner (LimitedRunner Pool)
 
 abbrev starts_by : Runner → ℕ → AdmittedJob → Result (Unit {0}) ℕ → Runner → Type 0
-starts_by = starts_within pooled_count (StartsBy pooled_at pooled_count)
+starts_by = starts_by_line (starts_within pooled_count (StartsBy pooled_at pooled_count))
 
 abbrev looks_by : Runner → ℕ → Progress → Runner → Type 0
-looks_by = looks_within (TellsBy pooled_at pooled_count)
+looks_by = looks_by_line (looks_within (TellsBy pooled_at pooled_count))
 
 abbrev takes_by : Runner → Option (ℕ × Result Report ℕ) → Runner → Type 0
-takes_by = takes_within (TakesBy pooled_at pooled_count)
+takes_by = takes_by_line (takes_within (TakesBy pooled_at pooled_count))
+
+-- the job that is held under a number
+abbrev held_by : Runner → ℕ → Option AdmittedJob
+held_by r n = job_held pooled_at pooled_count r.runner n
+
+holds_by : HoldsJobs starts_by looks_by takes_by held_by
+holds_by =
+    lines_hold (starts_within pooled_count (StartsBy pooled_at pooled_count)) (looks_within (TellsBy pooled_at pooled_count)) (takes_within (TakesBy pooled_at pooled_count))
+    (job_held pooled_at pooled_count) (limited_holds pooled_at pooled_count)
 
 -- a tenant's part is legal
 part : (keep place : ℕ) (names : List (List ℕ)) (history : List HistoryEntry) → IsTenantHostHistory keep names history → place ≤ length names
@@ -81,8 +92,8 @@ module _ (keep place : ℕ) (names : List (List ℕ)) (history : List HistoryEnt
   pub own_tells : (before after : List HistoryEntry) (e : HistoryEntry) (number : ℕ) → sent_to names place history ≡ before ++ e ∷ after → e.query.asked ≡ Ok (result number) → IsToldResult keep before number e
   own_tells before after e number is asks =
       history_tells (starts_seen starts_by looks_by takes_by place) (looks_seen starts_by looks_by takes_by place) (takes_seen starts_by looks_by takes_by place)
-      (held_seen starts_by looks_by takes_by (job_held pooled_at pooled_count) (limited_holds pooled_at pooled_count) place small)
-      (seen_holds starts_by looks_by takes_by (job_held pooled_at pooled_count) (limited_holds pooled_at pooled_count) place small) (Begins keep) keep (fresh_begins keep) before after e number state
+      (held_seen starts_by looks_by takes_by held_by holds_by place small)
+      (seen_holds starts_by looks_by takes_by held_by holds_by place small) (Begins keep) keep (fresh_begins keep) before after e number state
       (legal (before ++ e ∷ after) is) asks
 
   pub own_stays : (before between after : List HistoryEntry) (e f : HistoryEntry) (number : ℕ) → sent_to names place history ≡ before ++ e ∷ (between ++ f ∷ after) → e.query.asked ≡ Ok (result number) → f.query.asked ≡ Ok (result number)
@@ -95,8 +106,8 @@ module _ (keep place : ℕ) (names : List (List ℕ)) (history : List HistoryEnt
       → AsksForJob e.query.asked → HasReply e (submit_data m) → m < 2 ^ 64 → AsksForJob f.query.asked → HasReply f (submit_data n) → n < 2 ^ 64 → m < n
   own_rises before between after e f m n is short asks_e tells_e small_m asks_f tells_f small_n =
       let stands = history_stands (starts_seen starts_by looks_by takes_by place) (looks_seen starts_by looks_by takes_by place) (takes_seen starts_by looks_by takes_by place)
-      (held_seen starts_by looks_by takes_by (job_held pooled_at pooled_count) (limited_holds pooled_at pooled_count) place small)
-      (seen_holds starts_by looks_by takes_by (job_held pooled_at pooled_count) (limited_holds pooled_at pooled_count) place small) (Begins keep) keep (fresh_begins keep)
+      (held_seen starts_by looks_by takes_by held_by holds_by place small)
+      (seen_holds starts_by looks_by takes_by held_by holds_by place small) (Begins keep) keep (fresh_begins keep)
       (before ++ e ∷ (between ++ f ∷ after)) state (legal (before ++ e ∷ (between ++ f ∷ after)) is) in
       numbers_rise before between after e f stands.1.0 m n stands.1.1 short asks_e tells_e small_m asks_f tells_f small_n
 

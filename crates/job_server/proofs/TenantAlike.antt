@@ -10,16 +10,19 @@ use Rattle.tenant_desks.specs.declared.placed_runner.PlacedRunner.{PlacedRunner}
 use Rattle.tenant_desks.specs.Placing.{placed}
 use Rattle.tenant_desks.specs.PlacedRunners.{starts_placed, looks_placed, takes_placed}
 use Rattle.tenant_desks.specs.Routing.{desk_for}
-use Rattle.tenant_desks.specs.Tenancies.{Tenancy, fresh_tenancy}
+use Rattle.tenant_desks.specs.Tenancies.{Tenancy}
 use Rattle.tenant_desks.specs.Answering.{AnswersAlone, AnswersWhere, EndsTaken, KeptRunner, PassesEnds, for_place, none_yet, one_more, tenant_answers}
 use Rattle.job_pools.specs.declared.limited_runner.LimitedRunner.{LimitedRunner}
+use Rattle.job_pools.specs.LineBounded.{looks_by_line, starts_by_line, takes_by_line}
+use Rattle.job_pools.specs.declared.line_limited_runner.LineLimitedRunner.{LineLimitedRunner}
 use Rattle.job_pools.specs.Bounded.{looks_within, starts_within, takes_within}
 use Rattle.job_pools.specs.Holds.{StartsBy, TellsBy, TakesBy}
 use Rattle.job_pools.specs.Started.{pooled_at, pooled_count}
 use Rattle.job_server.specs.declared.bounds.Bounds.{Bounds}
 use Rattle.job_server.specs.declared.fault.ServeFault.{ServeFault}
+use Rattle.job_server.specs.declared.tenant_door.TenantDoor.{TenantDoor}
 use Rattle.job_server.specs.AtOnce.{IsServingFrom, Pool}
-use Rattle.job_server.specs.TenantServing.{TenantHosted, hosted_tenant_answers, new_tenant_host}
+use Rattle.job_server.specs.TenantServing.{TenantHosted, hosted_tenant_answers, new_desks, new_tenant_host}
 use Rattle.job_server.proofs.Alike.{replies_alike}
 use Rattle.job_server.proofs.AtOnceAlike.{limited, serving_kept, within_alike}
 
@@ -107,31 +110,89 @@ module _ {R Q : Type 0} (f : R → Q)
     a.2,
   )
 
--- desks and a pool within its host's bounds, with what the pool comes to
-abbrev pub hosted_as : {R : Type 0} → (R → Pool) → Tenancy × KeptRunner (LimitedRunner R) → TenantHosted
-hosted_as f s = (s.0, record { runner = limited f s.1.runner; keep = s.1.keep })
+-- ---- a runner with a limit for each line of numbers
 
-host_is : {R : Type 0} (f : R → Pool) (names : List (List ℕ)) (bounds : Bounds) (l : LimitedRunner R) (pool : R) → l.runner ≡ pool → l.limit ≡ bounds.open_jobs
-    → hosted_as f (fresh_tenancy names, record { runner = l; keep = bounds.keep }) ≡ new_tenant_host names bounds (f pool)
-host_is {R} f names bounds l pool is_pool is_limit =
-    let host : Pool → ℕ → TenantHosted = λ p n. (fresh_tenancy names, record { runner = record { runner = p; limit = n }; keep = bounds.keep }) in
+module _ {R Q : Type 0} (g : R → Q) where
+  -- with what its runner comes to
+  abbrev pub in_lines : LineLimitedRunner R → LineLimitedRunner Q
+  in_lines l = record { runner = g l.runner; limits = l.limits; counts = l.counts }
+
+  module _ (starts : R → ℕ → AdmittedJob → Result (Unit {0}) ℕ → R → Type 0) (looks : R → ℕ → Progress → R → Type 0) (takes : R → Option (ℕ × Result Report ℕ) → R → Type 0)
+      (starts1 : Q → ℕ → AdmittedJob → Result (Unit {0}) ℕ → Q → Type 0) (looks1 : Q → ℕ → Progress → Q → Type 0) (takes1 : Q → Option (ℕ × Result Report ℕ) → Q → Type 0)
+      (starts_alike : (r : R) (n : ℕ) (j : AdmittedJob) (x : Result (Unit {0}) ℕ) (s : R) → starts r n j x s → starts1 (g r) n j x (g s))
+      (looks_alike : (r : R) (n : ℕ) (p : Progress) (s : R) → looks r n p s → looks1 (g r) n p (g s))
+      (takes_alike : (r : R) (x : Option (ℕ × Result Report ℕ)) (s : R) → takes r x s → takes1 (g r) x (g s)) where
+    pub line_starts : (l : LineLimitedRunner R) (n : ℕ) (j : AdmittedJob) (x : Result (Unit {0}) ℕ) (m : LineLimitedRunner R) → starts_by_line starts l n j x m → starts_by_line starts1 (in_lines l) n j x (in_lines m)
+    line_starts l n j x m h = (
+      elim h.0 [
+        | inl full ↦ inl (full.0, full.1, ap g full.2)
+        | inr room ↦ inr (room.0, starts_alike l.runner n j x m.runner room.1)
+      ],
+      h.1,
+      h.2,
+    )
+
+    pub line_looks : (l : LineLimitedRunner R) (n : ℕ) (p : Progress) (m : LineLimitedRunner R) → looks_by_line looks l n p m → looks_by_line looks1 (in_lines l) n p (in_lines m)
+    line_looks l n p m h = (looks_alike l.runner n p m.runner h.0, h.1, h.2)
+
+    pub line_takes : (l : LineLimitedRunner R) (x : Option (ℕ × Result Report ℕ)) (m : LineLimitedRunner R) → takes_by_line takes l x m → takes_by_line takes1 (in_lines l) x (in_lines m)
+    line_takes l x m h = (takes_alike l.runner x m.runner h.0, h.1, h.2)
+
+-- desks and a pool within its host's bounds, with what the pool comes to
+abbrev pub hosted_as : {R : Type 0} → (R → Pool) → Tenancy × KeptRunner (LineLimitedRunner (LimitedRunner R)) → TenantHosted
+hosted_as f s = (s.0, record { runner = in_lines (limited f) s.1.runner; keep = s.1.keep })
+
+host_is : {R : Type 0} (f : R → Pool) (doors : List TenantDoor) (bounds : Bounds) (l : LimitedRunner R) (pool : R) → l.runner ≡ pool → l.limit ≡ bounds.open_jobs
+    → hosted_as f (new_desks doors bounds l) ≡ new_tenant_host doors bounds (f pool)
+host_is {R} f doors bounds l pool is_pool is_limit =
+    let host : Pool → ℕ → TenantHosted = λ p n. new_desks doors bounds (record { runner = p; limit = n }) in
     ap (λ (p : R). host (f p) l.limit) is_pool ∙ ap (λ (n : ℕ). host (f pool) n) is_limit
 
 module _ {R : Type 0} (f : R → Pool) (starts : R → ℕ → AdmittedJob → Result (Unit {0}) ℕ → R → Type 0) (looks : R → ℕ → Progress → R → Type 0) (takes : R → Option (ℕ × Result Report ℕ) → R → Type 0)
     (starts_alike : (r : R) (n : ℕ) (j : AdmittedJob) (x : Result (Unit {0}) ℕ) (s : R) → starts r n j x s → StartsBy pooled_at pooled_count (f r) n j x (f s))
     (looks_alike : (r : R) (n : ℕ) (p : Progress) (s : R) → looks r n p s → TellsBy pooled_at pooled_count (f r) n p (f s))
     (takes_alike : (r : R) (x : Option (ℕ × Result Report ℕ)) (s : R) → takes r x s → TakesBy pooled_at pooled_count (f r) x (f s)) where
+  -- a pool within its host's bounds
+  abbrev starts_in : LimitedRunner R → ℕ → AdmittedJob → Result (Unit {0}) ℕ → LimitedRunner R → Type 0
+  starts_in = starts_within (λ r. pooled_count (f r)) starts
+
+  abbrev starts_of : LimitedRunner Pool → ℕ → AdmittedJob → Result (Unit {0}) ℕ → LimitedRunner Pool → Type 0
+  starts_of = starts_within pooled_count (StartsBy pooled_at pooled_count)
+
+  abbrev looks_of : LimitedRunner Pool → ℕ → Progress → LimitedRunner Pool → Type 0
+  looks_of = looks_within (TellsBy pooled_at pooled_count)
+
+  abbrev takes_of : LimitedRunner Pool → Option (ℕ × Result Report ℕ) → LimitedRunner Pool → Type 0
+  takes_of = takes_within (TakesBy pooled_at pooled_count)
+
+  pool_starts : (l : LimitedRunner R) (n : ℕ) (j : AdmittedJob) (x : Result (Unit {0}) ℕ) (m : LimitedRunner R) → starts_in l n j x m → starts_of (limited f l) n j x (limited f m)
+  pool_starts =
+      within_alike f pooled_count (StartsBy pooled_at pooled_count) (TellsBy pooled_at pooled_count) (TakesBy pooled_at pooled_count) starts looks takes starts_alike looks_alike takes_alike
+
+  pool_looks : (l : LimitedRunner R) (n : ℕ) (p : Progress) (m : LimitedRunner R) → looks_within looks l n p m → looks_of (limited f l) n p (limited f m)
+  pool_looks l n p m h = (looks_alike l.runner n p m.runner h.0, h.1)
+
+  pool_takes : (l : LimitedRunner R) (x : Option (ℕ × Result Report ℕ)) (m : LimitedRunner R) → takes_within takes l x m → takes_of (limited f l) x (limited f m)
+  pool_takes l x m h = (takes_alike l.runner x m.runner h.0, h.1)
+
+  -- the same with a limit for each tenant
+  hosted_alike : (s : Tenancy × KeptRunner (LineLimitedRunner (LimitedRunner R))) (query : Query) (reply : List ℕ) (t : Tenancy × KeptRunner (LineLimitedRunner (LimitedRunner R)))
+      → tenant_answers (starts_by_line starts_in) (looks_by_line (looks_within looks)) (takes_by_line (takes_within takes)) s query reply t
+      → hosted_tenant_answers (hosted_as f s) query reply (hosted_as f t)
+  hosted_alike s query reply t =
+      desks_alike (in_lines (limited f)) (starts_by_line starts_in) (looks_by_line (looks_within looks)) (takes_by_line (takes_within takes))
+      (starts_by_line starts_of) (looks_by_line looks_of) (takes_by_line takes_of)
+      (line_starts (limited f) starts_in (looks_within looks) (takes_within takes) starts_of looks_of takes_of pool_starts pool_looks pool_takes)
+      (line_looks (limited f) starts_in (looks_within looks) (takes_within takes) starts_of looks_of takes_of pool_starts pool_looks pool_takes)
+      (line_takes (limited f) starts_in (looks_within looks) (takes_within takes) starts_of looks_of takes_of pool_starts pool_looks pool_takes) s query reply t
+
   -- the pool's own state is forgotten, but for the jobs that it was given and the boards that it watches
-  pub tenants_serving : (names : List (List ℕ)) (bounds : Bounds) (l : LimitedRunner R) (pool : R) (end : Tenancy × KeptRunner (LimitedRunner R)) (sessions : ℕ) (may_stop : Bool) (outcome : Result (Unit {0}) ServeFault)
+  pub tenants_serving : (doors : List TenantDoor) (bounds : Bounds) (l : LimitedRunner R) (pool : R) (end : Tenancy × KeptRunner (LineLimitedRunner (LimitedRunner R))) (sessions : ℕ) (may_stop : Bool) (outcome : Result (Unit {0}) ServeFault)
       → l.runner ≡ pool → l.limit ≡ bounds.open_jobs
-      → (serving : IsServingFrom (tenant_answers (starts_within (λ r. pooled_count (f r)) starts) (looks_within looks) (takes_within takes)) (λ s. s ≡ (fresh_tenancy names, record { runner = l; keep = bounds.keep })) end sessions may_stop outcome)
-      → (hosted : IsServingFrom hosted_tenant_answers (λ s. s ≡ new_tenant_host names bounds (f pool)) (hosted_as f end) sessions may_stop outcome) × (hosted.opened ≡ serving.opened) × (hosted.closed ≡ serving.closed)
-  tenants_serving names bounds l pool end sessions may_stop outcome is_pool is_limit serving =
-      serving_kept (hosted_as f) _ hosted_tenant_answers
-      (λ s q reply t. desks_alike (limited f) (starts_within (λ r. pooled_count (f r)) starts) (looks_within looks) (takes_within takes)
-      (starts_within pooled_count (StartsBy pooled_at pooled_count)) (looks_within (TellsBy pooled_at pooled_count)) (takes_within (TakesBy pooled_at pooled_count))
-      (within_alike f pooled_count (StartsBy pooled_at pooled_count) (TellsBy pooled_at pooled_count) (TakesBy pooled_at pooled_count) starts looks takes starts_alike looks_alike takes_alike)
-      (λ l n p m g. (looks_alike l.runner n p m.runner g.0, g.1)) (λ l x m g. (takes_alike l.runner x m.runner g.0, g.1)) s q reply t)
-      (λ s. s ≡ (fresh_tenancy names, record { runner = l; keep = bounds.keep })) (λ s. s ≡ new_tenant_host names bounds (f pool))
-      (λ s is. ap (hosted_as f) is ∙ host_is f names bounds l pool is_pool is_limit)
+      → (serving : IsServingFrom (tenant_answers (starts_by_line starts_in) (looks_by_line (looks_within looks)) (takes_by_line (takes_within takes))) (λ s. s ≡ new_desks doors bounds l) end sessions may_stop outcome)
+      → (hosted : IsServingFrom hosted_tenant_answers (λ s. s ≡ new_tenant_host doors bounds (f pool)) (hosted_as f end) sessions may_stop outcome) × (hosted.opened ≡ serving.opened) × (hosted.closed ≡ serving.closed)
+  tenants_serving doors bounds l pool end sessions may_stop outcome is_pool is_limit serving =
+      serving_kept (hosted_as f) _ hosted_tenant_answers hosted_alike
+      (λ s. s ≡ new_desks doors bounds l) (λ s. s ≡ new_tenant_host doors bounds (f pool))
+      (λ s is. ap (hosted_as f) is ∙ host_is f doors bounds l pool is_pool is_limit)
       end sessions may_stop outcome serving

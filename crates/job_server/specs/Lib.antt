@@ -7,4 +7,5 @@ pub mod Payloads
 pub mod TenantResults
 pub mod Stopping
 pub mod TenantSockets
+pub mod TenantLimits
 pub mod TenantServing

@@ -9,9 +9,12 @@ use Rattle.job_pools.specs.Holds.{StartsBy, TellsBy, TakesBy}
 use Rattle.job_pools.specs.Started.{pooled_at, pooled_count}
 use Rattle.job_pools.specs.Bounded.{looks_within, starts_within, takes_within}
 use Rattle.job_pools.specs.declared.limited_runner.LimitedRunner.{LimitedRunner}
+use Rattle.job_pools.specs.LineBounded.{looks_by_line, new_by_line, starts_by_line, takes_by_line}
+use Rattle.job_pools.specs.declared.line_limited_runner.LineLimitedRunner.{LineLimitedRunner}
 use Rattle.job_server.specs.declared.bounds.Bounds.{Bounds}
 use Rattle.job_server.specs.declared.fault.ServeFault.{ServeFault}
 use Rattle.job_server.specs.declared.tenant_door.TenantDoor.{TenantDoor}
+use Rattle.job_server.specs.TenantLimits.{door_limits}
 use Rattle.job_server.specs.AtOnce.{IsServing, IsServingFrom, Pool}
 use Rattle.job_server.specs.Listening.{AreOf, CameBy}
 
@@ -19,31 +22,42 @@ use Rattle.job_server.specs.Listening.{AreOf, CameBy}
 abbrev pub door_names : List TenantDoor → List (List ℕ)
 door_names doors = map (λ (d : TenantDoor). string_bytes d.name) doors
 
--- the desks, and a pool within its host's bounds that runs the jobs of all
+-- the desks, and a pool within its host's bounds, of all and of each tenant, that runs all jobs
 abbrev pub TenantHosted : Type 0
-TenantHosted = Tenancy × KeptRunner (LimitedRunner Pool)
+TenantHosted = Tenancy × KeptRunner (LineLimitedRunner (LimitedRunner Pool))
 
 abbrev pub hosted_tenant_answers : TenantHosted → Query → List ℕ → TenantHosted → Type 0
 hosted_tenant_answers =
-    tenant_answers (starts_within pooled_count (StartsBy pooled_at pooled_count))
-    (looks_within (TellsBy pooled_at pooled_count)) (takes_within (TakesBy pooled_at pooled_count))
+    tenant_answers
+    (starts_by_line (starts_within pooled_count (StartsBy pooled_at pooled_count)))
+    (looks_by_line (looks_within (TellsBy pooled_at pooled_count)))
+    (takes_by_line (takes_within (TakesBy pooled_at pooled_count)))
 
--- a new desk for each of these tenants and one for everybody else, and a pool with no job, within
--- these bounds
-abbrev pub new_tenant_host : List (List ℕ) → Bounds → Pool → TenantHosted
-new_tenant_host names bounds pool = (
-  fresh_tenancy names,
-  record { runner = record { runner = pool; limit = bounds.open_jobs }; keep = bounds.keep },
+-- a new desk for each of these doors' tenants and one for everybody else, and this runner with no
+-- job, within the limits of each
+abbrev pub new_desks : {R : Type 0} → List TenantDoor → Bounds → R
+    → Tenancy × KeptRunner (LineLimitedRunner R)
+new_desks doors bounds runner = (
+  fresh_tenancy (door_names doors),
+  record {
+    runner = new_by_line (door_limits bounds.tenant_jobs doors) runner;
+    keep = bounds.keep;
+  },
 )
+
+-- the same with a pool within the bounds
+abbrev pub new_tenant_host : List TenantDoor → Bounds → Pool → TenantHosted
+new_tenant_host doors bounds pool =
+    new_desks doors bounds (record { runner = pool; limit = bounds.open_jobs })
 
 -- So many connections are served, first on new desks and with no job. Jobs run on a pool that lasts,
 -- within the bounds.
-pub record IsServingTenants (names : List (List ℕ)) (bounds : Bounds) (sessions : ℕ)
+pub record IsServingTenants (doors : List TenantDoor) (bounds : Bounds) (sessions : ℕ)
     (may_stop : Bool) (outcome : Result (Unit {0}) ServeFault) : Type 0 where
   pub first : Pool
   pub none : (first.0 ≡ []) × (first.1.entries ≡ [])
   pub end : TenantHosted
-  pub serving : IsServingFrom hosted_tenant_answers (λ s. s ≡ new_tenant_host names bounds first) end
+  pub serving : IsServingFrom hosted_tenant_answers (λ s. s ≡ new_tenant_host doors bounds first) end
       sessions may_stop outcome
 
 -- what comes by a tenant's own door may not grant
@@ -54,7 +68,7 @@ GrantsByNoTenant passage = (n : ℕ) → passage.door ≡ Tenant n → passage.m
 abbrev pub IsServingBy : List TenantDoor → Bounds → ℕ → Bool → Result (Unit {0}) ServeFault → Type 0
 IsServingBy [] bounds sessions may_stop outcome = IsServing bounds sessions may_stop outcome
 IsServingBy (door ∷ doors) bounds sessions may_stop outcome =
-    (s : IsServingTenants (door_names (door ∷ doors)) bounds sessions may_stop outcome)
+    (s : IsServingTenants (door ∷ doors) bounds sessions may_stop outcome)
     × All (λ c. GrantsByNoTenant c.passage) s.serving.closed
 
 -- The same, and the connections are this listener's, each by a passage that it gave.
@@ -64,6 +78,6 @@ IsServingAt opens fails passage_of listener [] bounds sessions may_stop outcome 
     (s : IsServing bounds sessions may_stop outcome) × AreOf opens fails listener s.serving.opened
     × All (λ c. CameBy opens passage_of c.passage) s.serving.closed
 IsServingAt opens fails passage_of listener (door ∷ doors) bounds sessions may_stop outcome =
-    (s : IsServingTenants (door_names (door ∷ doors)) bounds sessions may_stop outcome)
+    (s : IsServingTenants (door ∷ doors) bounds sessions may_stop outcome)
     × AreOf opens fails listener s.serving.opened
     × All (λ c. CameBy opens passage_of c.passage) s.serving.closed

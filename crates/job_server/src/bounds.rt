@@ -10,6 +10,9 @@ pub struct Bounds {
     pub timeout: u32,
     /// Jobs, 1 to 1,000,000, that may be open at once. 0: any number.
     pub open_jobs: u32,
+    /// Jobs, 1 to 1,000,000, that each tenant may have open at once, where tenants have doors.
+    /// Everybody else counts as one. 0: any number.
+    pub tenant_jobs: u32,
     /// Jobs, 1 to 1,000,000, of which the last ones' reports are kept. 0: all are.
     pub keep: u32,
 }

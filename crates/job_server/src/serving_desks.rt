@@ -1,14 +1,17 @@
 //! What answers a server's connections: one desk, or one for each tenant that has a door.
 
-ghost use Rattle.std.specs.Prelude.{◌≡◌, ◌≤◌, All, is_some, length};
+ghost use Rattle.std.specs.Prelude.{◌≡◌, ◌≤◌, All, IfOk, is_some, length};
 ghost use Rattle.accounts.specs.Ledgers.{Ledger};
 ghost use Rattle.shared_desk.specs.Histories.{by_any_passage};
 ghost use Rattle.tenant_desks.specs.Answering.{KeptRunner, tenant_answers};
-ghost use Rattle.tenant_desks.specs.Tenancies.{Tenancy, fresh_tenancy};
+ghost use Rattle.tenant_desks.specs.Tenancies.{Tenancy};
 ghost use Rattle.job_server.specs.AtOnce.{IsServingFrom, new_desk};
 ghost use Rattle.job_server.specs.Kept.{answers_keeping};
 ghost use Rattle.job_server.specs.Listening.{AreOf, CameBy};
-ghost use Rattle.job_server.specs.TenantServing.{door_names};
+ghost use Rattle.job_pools.specs.LineBounded.{looks_by_line, new_by_line, starts_by_line, takes_by_line};
+ghost use Rattle.job_pools.specs.declared.line_limited_runner.LineLimitedRunner.{LineLimitedRunner};
+ghost use Rattle.job_server.specs.TenantLimits.{door_limits};
+ghost use Rattle.job_server.specs.TenantServing.{new_desks};
 ghost use Rattle.job_server.specs.declared.keeping_handler.KeepingHandler.{KeepingHandler};
 
 use crate::at_once::{NO_MEMORY, serve_at_once};
@@ -16,8 +19,10 @@ use crate::fault::ServeFault;
 use crate::keeping_handler::KeepingHandler;
 use crate::listener::Listener;
 use crate::plan::Plan;
-use crate::tenant_door::names_of;
+use crate::tenant_door::{TenantDoor, limits_of, names_of};
 use accounts::Desk;
+use job_pools::LineLimitedRunner;
+use refusal::NoMemory;
 use server_log::LoggedHandler;
 use std::alloc::Global;
 use std::sync::Wait;
@@ -48,8 +53,21 @@ pub(crate) fn serve_at_desk<
     served.2
 }
 
+// The runner, which holds as many jobs of each desk as its limit allows.
+fn limited_by_door<N: Runner + Drop>(
+    alloc: Global,
+    runner: N,
+    all: u32,
+    doors: &[TenantDoor],
+) -> Result<LineLimitedRunner<N>, NoMemory>
+    ensures { IfOk result (λ new. new ≡ new_by_line (door_limits all doors.now) runner) }
+{
+    let limits = limits_of(alloc, all, doors)?;
+    LineLimitedRunner::new(alloc, runner, limits)
+}
+
 /// Serves the connections at new desks: one for each of the plan's tenants, and one for everybody
-/// else. The runner runs the jobs of all.
+/// else. The runner runs the jobs of all, as many of each desk as its limit allows.
 pub(crate) fn serve_at_desks<
     's,
     R: Threads + Wait + Clock + Sync,
@@ -58,12 +76,10 @@ pub(crate) fn serve_at_desks<
 >(rt: &'s R, alloc: Global, listener: L, runner: N, plan: Plan<'s>) -> Result<(), ServeFault>
     requires ready { N.ready runner }
     requires tenants { length plan.tenants.now ≤ 256 }
-    ensures { (end : Tenancy × KeptRunner N)
-        × (s : IsServingFrom (tenant_answers N.starts N.looks N.takes)
-        (λ s. s ≡ (
-          fresh_tenancy (door_names plan.entry.tenants.now),
-          record { runner = runner; keep = plan.entry.bounds.keep },
-        )) end
+    ensures { (end : Tenancy × KeptRunner (LineLimitedRunner N))
+        × (s : IsServingFrom (tenant_answers (starts_by_line N.starts) (looks_by_line N.looks)
+        (takes_by_line N.takes))
+        (λ s. s ≡ new_desks plan.entry.tenants.now plan.entry.bounds runner) end
         plan.entry.sessions (is_some plan.entry.stop) result)
         × AreOf L.opens L.fails listener s.opened
         × All (λ c. CameBy L.opens L.passage c.passage) s.closed }
@@ -74,7 +90,10 @@ pub(crate) fn serve_at_desks<
     let Ok(desks) = TenantDesks::new(alloc, &names) else {
         return Err(NO_MEMORY);
     };
-    let handler = TenantHandler::new(rt, plan.log, runner, plan.bounds.keep);
+    let Ok(limited) = limited_by_door(alloc, runner, plan.bounds.tenant_jobs, plan.tenants) else {
+        return Err(NO_MEMORY);
+    };
+    let handler = TenantHandler::new(rt, plan.log, limited, plan.bounds.keep);
     let served = serve_at_once(rt, alloc, listener, desks, handler, plan);
     served.2
 }

@@ -1,7 +1,9 @@
 //! The door of a tenant: a socket that nobody else connects to.
 
 ghost use Rattle.std.specs.Prelude.{◌≡◌, IfOk, map, string_bytes};
+ghost use Rattle.job_server.specs.TenantLimits.{door_limits};
 
+use job_pools::LineLimits;
 use refusal::NoMemory;
 use std::alloc::Global;
 
@@ -12,6 +14,8 @@ pub struct TenantDoor {
     pub name: String,
     /// The socket's path.
     pub path: String,
+    /// Jobs that it may have open at once, in place of what the bounds say. 0: any number.
+    pub open_jobs: Option<u32>,
 }
 
 /// The tenants' names, in order.
@@ -29,4 +33,25 @@ pub(crate) fn names_of(alloc: Global, doors: &[TenantDoor]) -> Result<Vec<String
         };
     }
     Ok(names)
+}
+
+/// The limits of open jobs: one for all desks, and that of each tenant that has its own. The desk of
+/// everybody else is the first.
+pub(crate) fn limits_of(
+    alloc: Global,
+    all: u32,
+    doors: &[TenantDoor],
+) -> Result<LineLimits, NoMemory>
+    ensures { IfOk result (λ limits. limits ≡ door_limits all doors.now) }
+{
+    let mut own: Vec<Option<u32>> = Vec::new(alloc);
+    let Ok(()) = own.push(None) else {
+        return Err(NoMemory);
+    };
+    for door in doors {
+        let Ok(()) = own.push(door.open_jobs) else {
+            return Err(NoMemory);
+        };
+    }
+    Ok(LineLimits::new(all, own))
 }

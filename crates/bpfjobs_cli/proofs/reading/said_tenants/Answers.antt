@@ -5,12 +5,12 @@ use Rattle.clap.specs.Words.{Text, found_of, rows_of}
 use Rattle.bpfjobs_cli.specs.Commands.{tenant_words}
 use Rattle.bpfjobs_cli.specs.Entries.{IsWordUsage}
 use Rattle.bpfjobs_cli.specs.declared.tenant_socket.TenantSocket.{TenantSocket}
-use Rattle.bpfjobs_cli.specs.Tenants.{Entered, NamedPath, entered, tenants_in, words_said}
+use Rattle.bpfjobs_cli.specs.Tenants.{Entered, NamedTenant, entered, tenants_in, words_said}
 use Rattle.bpfjobs_cli.proofs.FlagLemmas.{all_is}
 use Rattle.bpfjobs_cli.proofs.TurnLemmas.{texts}
 use Rattle.bpfjobs_cli.proofs.reading.said_tenants.Goals as goal
 
-abbrev ok_of : List NamedPath → Entered
+abbrev ok_of : List NamedTenant → Entered
 ok_of ts = Ok ts
 
 pub returns-in-Some-clause-ok : goal.returns-in-Some-clause-ok

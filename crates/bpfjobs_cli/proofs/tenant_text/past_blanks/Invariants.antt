@@ -1,5 +1,5 @@
 use Rattle.std.proofs.Common.{◌≡◌, length}
-use Rattle.bpfjobs_cli.specs.Tenants.{past_blanks}
+use Rattle.bpfjobs_cli.specs.TenantLines.{past_blanks}
 use Rattle.bpfjobs_cli.proofs.tenant_text.past_blanks.Given as goal
 
 abbrev pub invariant-loop-rest : goal.invariant-loop-rest

@@ -1,5 +1,5 @@
 use Rattle.std.proofs.Common.{◌≡◌, length}
-use Rattle.bpfjobs_cli.specs.Tenants.{from_delimiter}
+use Rattle.bpfjobs_cli.specs.TenantLines.{from_delimiter}
 use Rattle.bpfjobs_cli.proofs.tenant_text.past_part.Given as goal
 
 abbrev pub invariant-loop-delimiter : goal.invariant-loop-delimiter

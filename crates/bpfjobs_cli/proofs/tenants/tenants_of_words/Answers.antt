@@ -1,5 +1,6 @@
 use Rattle.std.proofs.Common.{[], rules}
-use Rattle.bpfjobs_cli.specs.Tenants.{said_by, tenants_in}
+use Rattle.bpfjobs_cli.specs.TenantLines.{said_by}
+use Rattle.bpfjobs_cli.specs.Tenants.{tenants_in}
 use Rattle.bpfjobs_cli.proofs.TurnLemmas.{word_more, word_wrong, words_done}
 use Rattle.bpfjobs_cli.proofs.tenants.tenants_of_words.Goals as goal
 

@@ -1,5 +1,6 @@
 use Rattle.std.proofs.Common.{arith}
-use Rattle.bpfjobs_cli.specs.Tenants.{said_by, tenants_in}
+use Rattle.bpfjobs_cli.specs.TenantLines.{said_by}
+use Rattle.bpfjobs_cli.specs.Tenants.{tenants_in}
 use Rattle.bpfjobs_cli.proofs.EnteredLemmas.{all_apart}
 use Rattle.bpfjobs_cli.proofs.TurnLemmas.{is_none, is_some, line_last, line_next, line_wrong, shorter}
 use Rattle.bpfjobs_cli.proofs.tenants.with_lines.Goals as goal

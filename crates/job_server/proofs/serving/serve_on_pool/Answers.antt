@@ -2,7 +2,6 @@ use Rattle.std.proofs.Common.{refl, sym, subst}
 use Rattle.std.specs.Prelude.{All, is_some}
 use Rattle.job_server.specs.AtOnce.{new_desk}
 use Rattle.job_server.specs.Listening.{AreOf, CameBy}
-use Rattle.job_server.specs.TenantServing.{door_names}
 use Rattle.job_server.proofs.Alike.{beside}
 use Rattle.job_server.proofs.AtOnceAlike.{hosted_serving, keeping}
 use Rattle.job_server.proofs.ByDoors.{none_if, plain_at, some_if, tenants_at}
@@ -35,7 +34,7 @@ returns g c =
     let limited = c.new-runner.result in
     let bounds = c.args.plan.bounds in
     let doors = c.args.plan.tenants.now in
-    let hosted = tenants_serving (λ r. (r.keeper, r.boards)) _ _ _ (λ r n j x s h. h.0) (λ r n p s h. h) (λ r x s h. h.0) (door_names doors) bounds limited pool at.0 c.args.plan.sessions _ c.serve_at_desks-served.result
+    let hosted = tenants_serving (λ r. (r.keeper, r.boards)) _ _ _ (λ r n j x s h. h.0) (λ r n p s h. h) (λ r x s h. h.0) doors bounds limited pool at.0 c.args.plan.sessions _ c.serve_at_desks-served.result
     c.new-runner.ensures.0 c.new-runner.ensures.1 at.1 in
     tenants_at g.L.Listener.opens g.L.Listener.fails g.L.Listener.passage c.args.listener doors bounds c.args.plan.sessions (is_some c.args.plan.stop) c.serve_at_desks-served.result
     (some_if doors c.if-is_empty.ensures)
