@@ -1,5 +1,5 @@
 -- Numbers have as many bytes as their width says.
-use Rattle.std.proofs.Common.{◌≡◌, ◌≤◌, ℕ, Bool, true, false, List, ◌++◌, drop, length, refl, sym, ap, ◌∙◌, lit≤}
+use Rattle.std.proofs.Common.{◌≡◌, ◌≤◌, ℕ, Bool, true, false, List, [], ◌∷◌, ◌++◌, drop, length, refl, sym, ap, ◌∙◌, lit≤}
 use Rattle.std.specs.Int.{w16, w32, w64, to_le_bytes}
 use Rattle.desk_journal.specs.Encodings.{bool_bytes}
 
@@ -30,3 +30,9 @@ there_2 v = lit≤ tt
 pub there_bool : (v : Bool) → 1 ≤ length (bool_bytes v)
 there_bool true = lit≤ tt
 there_bool false = lit≤ tt
+
+pub rest_behind_1 : (v w : ℕ) (r s : List ℕ) → (v ∷ []) ++ r ≡ (w ∷ []) ++ s → r ≡ s
+rest_behind_1 v w r s same = ap (drop 1) same
+
+pub there_1 : (v : ℕ) → 1 ≤ length (v ∷ [])
+there_1 v = lit≤ tt

@@ -8,3 +8,8 @@ mod lists;
 mod numbers;
 mod pairs;
 mod parts;
+
+// changes
+mod change;
+
+pub use change::DeskChange;

@@ -5,6 +5,28 @@ ghost use Rattle.std.specs.Prelude.{◌≡◌, ◌++◌};
 use crate::encoded::{Encoded, ReadFault};
 use std::alloc::{AllocError, Global};
 
+impl Encoded for u8 {
+    ghost use Rattle.std.specs.Prelude.{◌∷◌, []};
+    ghost use Rattle.desk_journal.specs.NumberLemmas.{rest_behind_1, there_1};
+
+    ghost bytes = { λ n. n ∷ [] };
+
+    fn write(&self, out: &mut Vec<u8>) -> Result<(), AllocError> {
+        out.extend_from_slice(&[*self])
+    }
+
+    fn read(_alloc: Global, input: &[u8]) -> Result<(u8, usize), ReadFault> {
+        match input.first() {
+            Some(first) => Ok((*first, 1)),
+            None => Err(ReadFault::NoValue),
+        }
+    }
+
+    ghost is_there = { there_1 };
+
+    ghost one_rest = { λ v w r s small same. rest_behind_1 v w r s same };
+}
+
 impl Encoded for u64 {
     ghost use Rattle.std.specs.Int.{w64, to_le_bytes};
     ghost use Rattle.desk_journal.specs.NumberLemmas.{rest_behind_8, there_8};
