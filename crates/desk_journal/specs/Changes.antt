@@ -1,5 +1,5 @@
 -- The changes of a desk, and their bytes.
-use Rattle.std.specs.Prelude.{ℕ, List, ◌∷◌, ◌++◌, []}
+use Rattle.std.specs.Prelude.{ℕ, List, ◌++◌}
 use Rattle.std.specs.Int.{w16, w32, w64, to_le_bytes}
 use Rattle.credit_book.specs.declared.book.Report.{Report}
 use Rattle.credit_book.specs.declared.event.TaskEnd.{TaskEnd}

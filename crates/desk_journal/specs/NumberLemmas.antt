@@ -1,5 +1,5 @@
 -- Numbers have as many bytes as their width says.
-use Rattle.std.proofs.Common.{◌≡◌, ◌≤◌, ℕ, Bool, true, false, List, [], ◌∷◌, ◌++◌, drop, length, refl, sym, ap, ◌∙◌, lit≤}
+use Rattle.std.proofs.Common.{◌≡◌, ◌≤◌, ℕ, Bool, true, false, List, [], ◌∷◌, ◌++◌, drop, length, ap, lit≤}
 use Rattle.std.specs.Int.{w16, w32, w64, to_le_bytes}
 use Rattle.desk_journal.specs.Encodings.{bool_bytes}
 

@@ -1,14 +1,14 @@
 -- What stands behind the parts of a change.
-use Rattle.std.proofs.Common.{◌≡◌, ◌≤◌, ◌<◌, ◌^◌, ℕ, List, ◌++◌, drop, length, refl, sym, ap, subst, ◌∙◌, arith, append_assoc, lit≤}
+use Rattle.std.proofs.Common.{◌≤◌, ℕ, List, ◌++◌, drop, length, ap, arith, append_assoc}
 use Rattle.std.proofs.lemmas.List.{length-append}
-use Rattle.std.specs.Int.{w16, w32, w64, to_le_bytes}
+use Rattle.std.specs.Int.{w32, to_le_bytes}
 use Rattle.credit_book.specs.declared.book.Report.{Report}
 use Rattle.credit_book.specs.declared.event.TaskEnd.{TaskEnd}
 use Rattle.job_core.specs.declared.admission.ProgramBytes.{ProgramBytes}
 use Rattle.desk_journal.specs.Changes.{program_bytes, task_bytes, report_bytes}
-use Rattle.desk_journal.specs.CodecLemmas.{OneRest, counted_rest, counted_there, list_rest, pair_rest}
-use Rattle.desk_journal.specs.Encodings.{counted_bytes, list_bytes, bool_bytes}
-use Rattle.desk_journal.specs.NumberLemmas.{rest_behind_2, rest_behind_4, rest_behind_8, rest_behind_bool}
+use Rattle.desk_journal.specs.CodecLemmas.{OneRest, counted_rest, list_rest, pair_rest}
+use Rattle.desk_journal.specs.Encodings.{counted_bytes, list_bytes}
+use Rattle.desk_journal.specs.NumberLemmas.{rest_behind_bool}
 
 there_in_front : (n : ℕ) (more : List ℕ) → 1 ≤ length (to_le_bytes w32 n ++ more)
 there_in_front n more = omega (arith, length-append (to_le_bytes w32 n) more)

@@ -11,8 +11,10 @@ ghost use Rattle.desk_journal.specs.declared.encoded.ReadFault.TheVariants.{NoVa
 use crate::bytes::{Blob, write_bytes};
 use crate::encoded::{Encoded, ReadFault};
 use crate::lists::write_list;
+use crate::whole::read_whole;
 use credit_book::Report;
 use job_core::ProgramBytes;
+use recovery::{ChangeFault, StateChange};
 use std::alloc::{AllocError, Global};
 
 /// A change of a desk. A tenant's name is seen as its bytes.
@@ -241,4 +243,22 @@ impl Encoded for DeskChange {
     ghost is_there = { change_there };
 
     ghost one_rest = { change_rest };
+}
+
+impl StateChange for DeskChange {
+    ghost use Rattle.desk_journal.specs.DeskChanges.{change_bytes};
+
+    ghost payload = { change_bytes };
+
+    fn encode(&self, out: &mut Vec<u8>) -> Result<(), AllocError> {
+        self.write(out)
+    }
+
+    fn decode(alloc: Global, bytes: &[u8]) -> Result<DeskChange, ChangeFault> {
+        match read_whole::<DeskChange>(alloc, bytes) {
+            Ok(change) => Ok(change),
+            Err(ReadFault::NoMemory) => Err(ChangeFault::NoMemory),
+            Err(ReadFault::NoValue) => Err(ChangeFault::NotAChange),
+        }
+    }
 }

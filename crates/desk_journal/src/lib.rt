@@ -8,8 +8,16 @@ mod lists;
 mod numbers;
 mod pairs;
 mod parts;
+mod whole;
 
 // changes
 mod change;
 
 pub use change::DeskChange;
+
+// the desk that they lead to
+mod journaled_desk;
+mod opening;
+
+pub use journaled_desk::{JournaledDesk, OpenJob};
+pub use opening::open_desk_journal;

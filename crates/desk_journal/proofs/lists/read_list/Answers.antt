@@ -1,11 +1,9 @@
-use Rattle.std.proofs.Common.{◌≡◌, ◌≤◌, ◌<◌, ◌^◌, ◌+◌, ◌-◌, ℕ, List, [], ◌∷◌, ◌++◌, drop, length, sym, ap, subst, ◌∙◌, arith, append_assoc}
+use Rattle.std.proofs.Common.{◌≡◌, ◌+◌, ◌-◌, [], ◌∷◌, ◌++◌, drop, length, sym, ap, ◌∙◌, arith, append_assoc}
 use Rattle.std.proofs.lemmas.List.{drop-drop, length-append, length-drop}
-use Rattle.std.proofs.lemmas.Nat.{from_le_bytes-to_le_bytes_8}
 use Rattle.std.proofs.lemmas.Result.{err_from_is_err_and}
-use Rattle.std.specs.Int.{w64, to_le_bytes, from_le_bytes}
 use Rattle.desk_journal.specs.Encodings.{bytes_of_all}
 use Rattle.desk_journal.specs.declared.encoded.ReadFault.TheVariants.{NoValue}
-use Rattle.desk_journal.proofs.ListLemmas.{Starts, starts_on, no_start, bytes_pushed, same_fault, list_starts}
+use Rattle.desk_journal.proofs.ListLemmas.{starts_on, no_start, bytes_pushed, same_fault, list_starts}
 use Rattle.desk_journal.proofs.lists.read_list.Goals as goal
 
 pub values-preserved : goal.values-preserved
