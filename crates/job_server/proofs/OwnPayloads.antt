@@ -1,5 +1,5 @@
 -- A tenant's part of a history has entries of the whole, whose payloads went through connections.
-use Rattle.std.proofs.Common.{◌≡◌, ◌≤◌, ℕ, Bool, true, false, List, [], ◌∷◌, ◌++◌, length, slice_get, Some, Result, Ok, refl, sym, ap, subst, ◌∙◌}
+use Rattle.std.proofs.Common.{◌≡◌, ◌≤◌, ℕ, Bool, true, false, List, [], ◌∷◌, ◌++◌, length, Result, Ok, ap, subst, ◌∙◌}
 use Rattle.sessions.specs.Grammar.{Asked, result}
 use Rattle.shared_desk.specs.Histories.{HistoryEntry, Replays, none_yet, one_more, put_if}
 use Rattle.shared_desk.specs.Closed.{AreClosed}
@@ -32,12 +32,12 @@ rest_of x y xs ys is = cc
 pub sent_in : (names : List (List ℕ)) (place : ℕ) (history before after : List HistoryEntry) (e : HistoryEntry) → sent_to names place history ≡ before ++ e ∷ after → IsIn e history
 sent_in names place [] [] after e is = cc
 sent_in names place [] (y ∷ before) after e is = cc
-sent_in names place (x ∷ history) before after e is = put (goes_to names place x.query) before is
+sent_in names place (x ∷ history) before after e is = put (goes_to names place x.query) before (λ ahead there. sent_in names place history ahead after e there) is
   where
-    put : (b : Bool) (before : List HistoryEntry) → put_if b x (sent_to names place history) ≡ before ++ e ∷ after → IsIn e (x ∷ history)
-    put false before is = behind x e history (sent_in names place history before after e is)
-    put true [] is = first_of x e history (sent_to names place history) after is
-    put true (y ∷ before) is = behind x e history (sent_in names place history before after e (rest_of x y (sent_to names place history) (before ++ e ∷ after) is))
+    put : (b : Bool) (before : List HistoryEntry) → ((ahead : List HistoryEntry) → sent_to names place history ≡ ahead ++ e ∷ after → IsIn e history) → put_if b x (sent_to names place history) ≡ before ++ e ∷ after → IsIn e (x ∷ history)
+    put false before later is = behind x e history (later before is)
+    put true [] later is = first_of x e history (sent_to names place history) after is
+    put true (y ∷ before) later is = behind x e history (later before (rest_of x y (sent_to names place history) (before ++ e ∷ after) is))
 
 -- ---- and its payload went through its connection
 
