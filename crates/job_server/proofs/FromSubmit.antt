@@ -132,7 +132,7 @@ host_rises bounds before between after e f m n h short asks_e tells_e small_m as
 pub host_history : (bounds : Bounds) (sessions : ℕ) (may_stop : Bool) (outcome : Result (Unit {0}) ServeFault) (s : IsServing bounds sessions may_stop outcome) → IsHostHistory bounds s.serving.history
 host_history bounds sessions may_stop outcome s = record { first = s.first; end = s.end; legal = s.serving.legal }
 
-each_served : (closed : List ClosedConnection) → All IsServedWhole closed → (i : ℕ) (c : ClosedConnection) → slice_get closed i ≡ Some c → IsServedWhole c
+pub each_served : (closed : List ClosedConnection) → All IsServedWhole closed → (i : ℕ) (c : ClosedConnection) → slice_get closed i ≡ Some c → IsServedWhole c
 each_served closed served i c at = subst IsServedWhole (get_or_from_slice_get closed i c c at) (served i c (slice_get_within closed i c at))
 
 pub host_entries : (bounds : Bounds) (sessions : ℕ) (may_stop : Bool) (outcome : Result (Unit {0}) ServeFault) (s : IsServing bounds sessions may_stop outcome) (before after : List HistoryEntry) (e : HistoryEntry) (asks : Asked)

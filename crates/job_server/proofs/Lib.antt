@@ -18,3 +18,4 @@ pub mod DeskStarts
 pub mod Renumbered
 pub mod SeenHolds
 pub mod OwnSubmits
+pub mod OwnPayloads

@@ -20,10 +20,10 @@ use Rattle.job_server.specs.Payloads.{IsPayloadAt, first, later, IsEntryOf}
 
 -- ---- a connection's part has its entries
 
-record IsIn (e : HistoryEntry) (part : List HistoryEntry) : Type 0 where
-  before : List HistoryEntry
-  after : List HistoryEntry
-  is : part ≡ before ++ e ∷ after
+pub record IsIn (e : HistoryEntry) (part : List HistoryEntry) : Type 0 where
+  pub before : List HistoryEntry
+  pub after : List HistoryEntry
+  pub is : part ≡ before ++ e ∷ after
 
 in_part : (n : ℕ) (before after : List HistoryEntry) (e : HistoryEntry) → e.connection ≡ n → IsIn e (part_of n (before ++ e ∷ after))
 in_part n [] after e own =

@@ -1,12 +1,16 @@
 //! The meaning of a tenant's replies, from the submit of a job to its result.
 
-ghost use Rattle.std.specs.Prelude.{◌≡◌, ◌≤◌, ◌<◌, ◌-◌, ◌^◌, ℕ, List, ◌∷◌, ◌++◌, length};
+ghost use Rattle.std.specs.Prelude.{◌≡◌, ◌≤◌, ◌<◌, ◌-◌, ◌^◌, ℕ, Bool, List, ◌∷◌, ◌++◌, length, Result};
 ghost use Rattle.sessions.specs.Replies.{submit_data};
 ghost use Rattle.streams.specs.Answering.{refused};
 ghost use Rattle.shared_desk.specs.Histories.{HistoryEntry};
 ghost use Rattle.tenant_desks.specs.Alone.{sent_to};
 ghost use Rattle.job_server.specs.EndToEnd.{AsksForJob, AsksForResult, ComesFromSubmit, HasReply, IsResultFrame, IsToldRefusal, IsToldResult, StaysTold};
+ghost use Rattle.job_server.specs.Payloads.{ComesFromPayload};
 ghost use Rattle.job_server.specs.TenantResults.{IsTenantHostHistory};
+ghost use Rattle.job_server.specs.TenantServing.{IsServingTenants};
+ghost use Rattle.job_server.specs.declared.bounds.Bounds.{Bounds};
+ghost use Rattle.job_server.specs.declared.fault.ServeFault.{ServeFault};
 
 /// At a server whose tenants have doors of their own, `results_come_from_submits` and
 /// `numbers_rise` hold of what goes to each desk: a result is the report of a run of the very job
@@ -40,4 +44,18 @@ pub fn results_come_from_own_submits()
         → length (before ++ e ∷ between) < 2 ^ 64 - 1
         → AsksForJob e.query.asked → HasReply e (submit_data m) → m < 2 ^ 64
         → AsksForJob f.query.asked → HasReply f (submit_data n) → n < 2 ^ 64 → m < n }
+{}
+
+/// From payload to payload, at a server whose tenants have doors of their own: a tenant's result
+/// comes from a submit by its door, and the payload of each came on its connection, where its reply
+/// was written.
+pub fn payloads_lead_to_own_payloads()
+    ensures { (names : List (List ℕ)) (bounds : Bounds) (sessions : ℕ) (may_stop : Bool)
+        (outcome : Result (Unit {0}) ServeFault)
+        (s : IsServingTenants names bounds sessions may_stop outcome) (place : ℕ)
+        (before after : List HistoryEntry) (e : HistoryEntry) (number : ℕ)
+        → length names ≤ 256 → place ≤ length names
+        → sent_to names place s.serving.history ≡ before ++ e ∷ after
+        → AsksForResult number e.query.asked → IsResultFrame e.reply
+        → ComesFromPayload s.serving.closed before number e }
 {}

@@ -1,0 +1,23 @@
+//! The changes of a desk, as records of a journal, and the desk that they lead to.
+#![tactic(auto)]
+
+// values as bytes
+mod bytes;
+mod encoded;
+mod lists;
+mod numbers;
+mod pairs;
+mod parts;
+mod whole;
+
+// changes
+mod change;
+
+pub use change::DeskChange;
+
+// the desk that they lead to
+mod journaled_desk;
+mod opening;
+
+pub use journaled_desk::{JournaledDesk, OpenJob};
+pub use opening::open_desk_journal;
