@@ -8,9 +8,10 @@ ghost use Rattle.tenant_desks.specs.Alone.{sent_to};
 ghost use Rattle.job_server.specs.EndToEnd.{AsksForJob, AsksForResult, ComesFromSubmit, HasReply, IsResultFrame, IsToldRefusal, IsToldResult, StaysTold};
 ghost use Rattle.job_server.specs.Payloads.{ComesFromPayload};
 ghost use Rattle.job_server.specs.TenantResults.{IsTenantHostHistory};
-ghost use Rattle.job_server.specs.TenantServing.{IsServingTenants};
+ghost use Rattle.job_server.specs.TenantServing.{IsServingTenants, door_names};
 ghost use Rattle.job_server.specs.declared.bounds.Bounds.{Bounds};
 ghost use Rattle.job_server.specs.declared.fault.ServeFault.{ServeFault};
+ghost use Rattle.job_server.specs.declared.tenant_door.TenantDoor.{TenantDoor};
 
 /// At a server whose tenants have doors of their own, `results_come_from_submits` and
 /// `numbers_rise` hold of what goes to each desk: a result is the report of a run of the very job
@@ -50,12 +51,12 @@ pub fn results_come_from_own_submits()
 /// comes from a submit by its door, and the payload of each came on its connection, where its reply
 /// was written.
 pub fn payloads_lead_to_own_payloads()
-    ensures { (names : List (List ℕ)) (bounds : Bounds) (sessions : ℕ) (may_stop : Bool)
+    ensures { (doors : List TenantDoor) (bounds : Bounds) (sessions : ℕ) (may_stop : Bool)
         (outcome : Result (Unit {0}) ServeFault)
-        (s : IsServingTenants names bounds sessions may_stop outcome) (place : ℕ)
+        (s : IsServingTenants doors bounds sessions may_stop outcome) (place : ℕ)
         (before after : List HistoryEntry) (e : HistoryEntry) (number : ℕ)
-        → length names ≤ 256 → place ≤ length names
-        → sent_to names place s.serving.history ≡ before ++ e ∷ after
+        → length doors ≤ 256 → place ≤ length doors
+        → sent_to (door_names doors) place s.serving.history ≡ before ++ e ∷ after
         → AsksForResult number e.query.asked → IsResultFrame e.reply
         → ComesFromPayload s.serving.closed before number e }
 {}
