@@ -7,7 +7,7 @@ use Rattle.credit_book.specs.declared.book.Report.{Report}
 use Rattle.job_core.specs.declared.admission.ProgramBytes.{ProgramBytes}
 use Rattle.desk_journal.specs.Changes.{report_bytes}
 use Rattle.desk_journal.specs.DeskChanges.{change_bytes}
-use Rattle.desk_journal.specs.DeskSteps.{DeskState, Ends, IsWithout, Makes, MakesBytes}
+use Rattle.desk_journal.specs.DeskSteps.{DeskState, EndsJob, IsWithout, Makes, MakesBytes}
 use Rattle.desk_journal.specs.declared.change.DeskChange.{DeskChange}
 use Rattle.desk_journal.specs.declared.change.DeskChange.TheVariants.{Finished}
 use Rattle.desk_journal.specs.declared.journaled_desk.OpenJob.{OpenJob}
@@ -33,5 +33,5 @@ without (x ∷ jobs) (suc place) number job at numbered =
     record { before = x ∷ t.before; gone = t.gone; after = t.after; was = ap (λ l. x ∷ l) t.was; numbered = t.numbered; now = ap (λ l. x ∷ l) t.now }
 
 -- the end of a job with the same report
-pub finished_so : (change : DeskChange) (number : ℕ) (report same : Report) (old new : DeskState) → change ≡ Finished number report → report_bytes same ≡ report_bytes report → Ends number (Ok same) old new → MakesBytes old (change_bytes change) new
+pub finished_so : (change : DeskChange) (number : ℕ) (report same : Report) (old new : DeskState) → change ≡ Finished number report → report_bytes same ≡ report_bytes report → EndsJob number (Ok same) old new → MakesBytes old (change_bytes change) new
 finished_so change number report same old new is bytes ends = (change, refl, subst (λ (c : DeskChange). Makes c old new) (sym is) (same, bytes, ends))

@@ -35,8 +35,8 @@ pub record IsWithout (number : ℕ) (old new : List OpenJob) : Type 0 where
   pub now : new ≡ before ++ after
 
 -- an open job is over, and isn't held any more
-abbrev pub Ends : ℕ → Result Report ℕ → DeskState → DeskState → Type 0
-Ends number outcome old new =
+abbrev pub EndsJob : ℕ → Result Report ℕ → DeskState → DeskState → Type 0
+EndsJob number outcome old new =
     Finishes old.desk number outcome new.desk × IsWithout number old.held new.held
 
 -- what a change makes of a state
@@ -48,8 +48,8 @@ Makes (Submitted tenant programs credit buffer) old new =
     × ((taken : OpenJob) × IsAdmittedFrom programs.items credit buffer.items taken.job
     × (taken.number ≡ length new.desk.jobs) × (new.held ≡ old.held ++ taken ∷ []))
 Makes (Finished number report) old new =
-    (same : Report) × (report_bytes same ≡ report_bytes report) × Ends number (Ok same) old new
-Makes (Failed number code) old new = Ends number (Err code) old new
+    (same : Report) × (report_bytes same ≡ report_bytes report) × EndsJob number (Ok same) old new
+Makes (Failed number code) old new = EndsJob number (Err code) old new
 Makes (Forgotten keep) old new = Forgets old.desk keep new.desk × (new.held ≡ old.held)
 
 -- no open job of the number is held, or none is open
@@ -57,22 +57,22 @@ abbrev pub RefusesEnd : ℕ → DeskState → Type 0
 RefusesEnd number old = IsNotHeld old.held number ⊎ IsNotOpen old.desk number
 
 -- in this state the change isn't one that may be made
-abbrev pub Refuses : DeskChange → DeskState → Type 0
-Refuses (Granted tenant amount) old =
+abbrev pub RefusesChange : DeskChange → DeskState → Type 0
+RefusesChange (Granted tenant amount) old =
     IsNoText tenant.items ⊎ ((fault : DeskFault) × RefusesGrant old.desk tenant.items amount fault)
-Refuses (Submitted tenant programs credit buffer) old =
+RefusesChange (Submitted tenant programs credit buffer) old =
     IsNoText tenant.items ⊎ ((fault : SubmitFault)
     × RefusesSubmit old.desk tenant.items programs.items credit buffer.items fault)
-Refuses (Finished number report) old = RefusesEnd number old
-Refuses (Failed number code) old = RefusesEnd number old
-Refuses (Forgotten keep) old = ⊥
+RefusesChange (Finished number report) old = RefusesEnd number old
+RefusesChange (Failed number code) old = RefusesEnd number old
+RefusesChange (Forgotten keep) old = ⊥
 
 -- the same, of a change with these bytes
 abbrev pub MakesBytes : DeskState → List ℕ → DeskState → Type 0
 MakesBytes old bytes new = (change : DeskChange) × (change_bytes change ≡ bytes) × Makes change old new
 
-abbrev pub RefusesBytes : DeskState → List ℕ → Type 0
-RefusesBytes old bytes = (change : DeskChange) × (change_bytes change ≡ bytes) × Refuses change old
+abbrev pub RefusesChangeBytes : DeskState → List ℕ → Type 0
+RefusesChangeBytes old bytes = (change : DeskChange) × (change_bytes change ≡ bytes) × RefusesChange change old
 
 -- a new desk, with no job
 abbrev pub IsNewDesk : DeskState → Type 0

@@ -26,8 +26,8 @@ task_there t = there_in_front t.number (drop 4 (task_bytes t))
 pub task_rest : OneRest task_bytes
 task_rest t u r s small same = rest_behind_bool t.ran u.ran r s (ap (drop 34) same)
 
-pub report_there : (r : Report) → 1 ≤ length (report_bytes r)
-report_there r = omega (arith, length-append (to_le_bytes w32 r.spent) (to_le_bytes w32 r.returned ++ (counted_bytes r.buffer.items ++ list_bytes task_bytes r.tasks.items)))
+pub report_is_there : (r : Report) → 1 ≤ length (report_bytes r)
+report_is_there r = omega (arith, length-append (to_le_bytes w32 r.spent) (to_le_bytes w32 r.returned ++ (counted_bytes r.buffer.items ++ list_bytes task_bytes r.tasks.items)))
 
 pub report_rest : OneRest report_bytes
 report_rest a b r s small same =

@@ -62,7 +62,7 @@ impl JournaledDesk {
     ghost use Rattle.accounts.specs.declared.fault.DeskFault.{DeskFault};
     ghost use Rattle.accounts.specs.declared.fault.SubmitFault.{SubmitFault};
     ghost use Rattle.job_core.specs.Admission.{IsAdmittedFrom};
-    ghost use Rattle.desk_journal.specs.DeskSteps.{Ends, IsNoText, RefusesEnd};
+    ghost use Rattle.desk_journal.specs.DeskSteps.{EndsJob, IsNoText, RefusesEnd};
 
     /// The desk.
     pub fn desk(&self) -> &Desk
@@ -133,9 +133,9 @@ impl JournaledDesk {
         }
     }
 
-    // Ends an open job.
+    // EndsJob an open job.
     fn finish(&mut self, job: u64, outcome: Result<Report, u8>) -> Result<(), ApplyFault>
-        ensures ok { OnOk result (Ends job outcome self.old self.new) }
+        ensures ok { OnOk result (EndsJob job outcome self.old self.new) }
         ensures err { OnErr result (self.new ≡ self.old) }
         ensures refused { IsErrOf result Refused → RefusesEnd job self.old }
     {
@@ -162,13 +162,13 @@ impl JournaledDesk {
 impl StateMachine for JournaledDesk {
     type StateChange = DeskChange;
 
-    ghost use Rattle.desk_journal.specs.DeskSteps.{IsNewDesk, MakesBytes, RefusesBytes};
+    ghost use Rattle.desk_journal.specs.DeskSteps.{IsNewDesk, MakesBytes, RefusesChangeBytes};
 
     ghost starts = { IsNewDesk };
 
     ghost steps = { MakesBytes };
 
-    ghost refuses = { RefusesBytes };
+    ghost refuses = { RefusesChangeBytes };
 
     fn start(alloc: Global) -> JournaledDesk {
         JournaledDesk {

@@ -81,7 +81,7 @@ impl Encoded for TaskEnd {
 
 impl Encoded for Report {
     ghost use Rattle.desk_journal.specs.Changes.{report_bytes};
-    ghost use Rattle.desk_journal.specs.PartLemmas.{report_there, report_rest};
+    ghost use Rattle.desk_journal.specs.PartLemmas.{report_is_there, report_rest};
 
     ghost bytes = { report_bytes };
 
@@ -108,7 +108,7 @@ impl Encoded for Report {
         Ok((report, length))
     }
 
-    ghost is_there = { report_there };
+    ghost is_there = { report_is_there };
 
     ghost one_rest = { report_rest };
 }
