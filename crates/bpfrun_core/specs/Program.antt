@@ -1,5 +1,5 @@
 -- The program's command line, in clap's plain words.
-use Rattle.std.specs.Prelude.{[], ◌∷◌, codes, pos, Some, true}
+use Rattle.std.specs.Prelude.{ℕ, List, [], ◌∷◌, codes, pos, Some, true}
 use Rattle.machine_model.specs.Limits.{max_credit}
 use Rattle.clap.specs.Words.{App, Rule, new_app, new_rule, with_rule}
 use Rattle.clap.specs.declared.builder.action.ArgAction.TheVariants.{SetTrue}
@@ -31,38 +31,13 @@ arg_rule = record (new_rule (codes "arg")) {
   parser = Some (vp.Unsigned 0 18446744073709551615);
 }
 
-abbrev pub memory_rule : Rule
-memory_rule = record (new_rule (codes "memory")) { long = Some (codes "memory"); value_names = 1 }
+-- an option of this name, which names a file
+abbrev pub path_rule : List ℕ → Rule
+path_rule name = record (new_rule name) { long = Some name; value_names = 1 }
 
-abbrev pub explain_rule : Rule
-explain_rule = record (new_rule (codes "explain")) {
-  long = Some (codes "explain");
-  action = Some SetTrue;
-}
-
-abbrev pub explain_all_rule : Rule
-explain_all_rule = record (new_rule (codes "explain-all")) {
-  long = Some (codes "explain-all");
-  action = Some SetTrue;
-}
-
-abbrev pub graph_rule : Rule
-graph_rule = record (new_rule (codes "graph")) {
-  long = Some (codes "graph");
-  action = Some SetTrue;
-}
-
-abbrev pub bpfrun_trace_rule : Rule
-bpfrun_trace_rule = record (new_rule (codes "trace")) {
-  long = Some (codes "trace");
-  action = Some SetTrue;
-}
-
-abbrev pub bpfrun_trace_json_rule : Rule
-bpfrun_trace_json_rule = record (new_rule (codes "trace-json")) {
-  long = Some (codes "trace-json");
-  value_names = 1;
-}
+-- a flag of this name
+abbrev pub flag_rule : List ℕ → Rule
+flag_rule name = record (new_rule name) { long = Some name; action = Some SetTrue }
 
 -- the program without its arguments, which tells its version
 abbrev pub bare_bpfrun_app : App
@@ -75,5 +50,6 @@ abbrev pub bpfrun_app : App
 bpfrun_app = with_rule (with_rule (with_rule
     (with_rule (with_rule (with_rule
     (with_rule (with_rule (with_rule (with_rule bare_bpfrun_app file_rule) bpfrun_need_rule)
-    credit_rule) arg_rule) memory_rule) explain_rule) explain_all_rule) graph_rule)
-    bpfrun_trace_rule) bpfrun_trace_json_rule
+    credit_rule) arg_rule) (path_rule (codes "memory"))) (flag_rule (codes "explain")))
+    (flag_rule (codes "explain-all"))) (flag_rule (codes "graph"))) (flag_rule (codes "trace")))
+    (path_rule (codes "trace-json"))

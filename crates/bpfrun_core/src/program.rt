@@ -3,7 +3,7 @@
 ghost use Rattle.std.specs.Prelude.{◌≡◌, false, IfOk};
 ghost use Rattle.clap.specs.Words.{app_of, rule_of};
 ghost use Rattle.clap.specs.declared.builder.command.Command.TheViews.{out-Command as fields_of};
-ghost use Rattle.bpfrun_core.specs.Program.{file_rule, bpfrun_need_rule, credit_rule, arg_rule, memory_rule, explain_rule, bpfrun_trace_rule, bpfrun_trace_json_rule, bpfrun_app, explain_all_rule, graph_rule, bare_bpfrun_app};
+ghost use Rattle.bpfrun_core.specs.Program.{file_rule, bpfrun_need_rule, credit_rule, arg_rule, path_rule, flag_rule, bpfrun_app, bare_bpfrun_app};
 
 use crate::texts;
 use clap::{Arg, ArgAction, Command};
@@ -54,64 +54,26 @@ fn argument<'a>(alloc: Global) -> Arg<'a>
         .default_value("0")
 }
 
-fn memory<'a>(alloc: Global) -> Arg<'a>
-    ensures rule { rule_of result ≡ memory_rule }
+// An option of this name, which names a file.
+fn path<'a>(alloc: Global, name: &'a str, help: &'a str) -> Arg<'a>
+    ensures rule { rule_of result ≡ path_rule name.now }
     ensures local { result.global ≡ false }
 {
-    Arg::new(alloc, "memory")
-        .long("memory")
+    Arg::new(alloc, name)
+        .long(name)
         .value_name("FILE")
-        .help(texts::MEMORY)
+        .help(help)
 }
 
-fn explain<'a>(alloc: Global) -> Arg<'a>
-    ensures rule { rule_of result ≡ explain_rule }
+// A flag of this name.
+fn flag<'a>(alloc: Global, name: &'a str, help: &'a str) -> Arg<'a>
+    ensures rule { rule_of result ≡ flag_rule name.now }
     ensures local { result.global ≡ false }
 {
-    Arg::new(alloc, "explain")
-        .long("explain")
+    Arg::new(alloc, name)
+        .long(name)
         .action(ArgAction::SetTrue)
-        .help(texts::EXPLAIN)
-}
-
-fn explain_all<'a>(alloc: Global) -> Arg<'a>
-    ensures rule { rule_of result ≡ explain_all_rule }
-    ensures local { result.global ≡ false }
-{
-    Arg::new(alloc, "explain-all")
-        .long("explain-all")
-        .action(ArgAction::SetTrue)
-        .help(texts::EXPLAIN_ALL)
-}
-
-fn graph<'a>(alloc: Global) -> Arg<'a>
-    ensures rule { rule_of result ≡ graph_rule }
-    ensures local { result.global ≡ false }
-{
-    Arg::new(alloc, "graph")
-        .long("graph")
-        .action(ArgAction::SetTrue)
-        .help(texts::GRAPH)
-}
-
-fn trace<'a>(alloc: Global) -> Arg<'a>
-    ensures rule { rule_of result ≡ bpfrun_trace_rule }
-    ensures local { result.global ≡ false }
-{
-    Arg::new(alloc, "trace")
-        .long("trace")
-        .action(ArgAction::SetTrue)
-        .help(texts::TRACE)
-}
-
-fn trace_json<'a>(alloc: Global) -> Arg<'a>
-    ensures rule { rule_of result ≡ bpfrun_trace_json_rule }
-    ensures local { result.global ≡ false }
-{
-    Arg::new(alloc, "trace-json")
-        .long("trace-json")
-        .value_name("FILE")
-        .help(texts::TRACE_JSON)
+        .help(help)
 }
 
 // The program without its arguments.
@@ -134,10 +96,10 @@ pub(crate) fn bpfrun<'a>(alloc: Global) -> Result<Command<'a>, AllocError>
         .arg(need(alloc))?
         .arg(credit(alloc))?
         .arg(argument(alloc))?
-        .arg(memory(alloc))?
-        .arg(explain(alloc))?
-        .arg(explain_all(alloc))?
-        .arg(graph(alloc))?
-        .arg(trace(alloc))?
-        .arg(trace_json(alloc))
+        .arg(path(alloc, "memory", texts::MEMORY))?
+        .arg(flag(alloc, "explain", texts::EXPLAIN))?
+        .arg(flag(alloc, "explain-all", texts::EXPLAIN_ALL))?
+        .arg(flag(alloc, "graph", texts::GRAPH))?
+        .arg(flag(alloc, "trace", texts::TRACE))?
+        .arg(path(alloc, "trace-json", texts::TRACE_JSON))
 }
