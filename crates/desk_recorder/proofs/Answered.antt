@@ -16,9 +16,9 @@ use Rattle.streams.specs.declared.submit_refusal.SubmitRefusal.TheVariants.{NotT
 use Rattle.streams.specs.Answering.{Answers, Framed, Replies}
 use Rattle.streams.specs.Passing.{Passes}
 use Rattle.streams.specs.Refusing.{LastStands, SaysRefusal, TellsRefusal}
-use Rattle.desk_recorder.specs.Recording.{Records, RecordsMore}
+use Rattle.desk_recorder.specs.Recording.{RecordsChanges, RecordsMore}
 use Rattle.desk_recorder.specs.RecordedAnswers.{AnswersRecorded}
-use Rattle.desk_recorder.specs.declared.recorder.Recorder.{Recorder}
+use Rattle.desk_recorder.specs.declared.recorder.ChangeRecorder.{ChangeRecorder}
 use Rattle.desk_recorder.proofs.Composed.{records_then}
 
 -- what is behind the front of a list that has a last item ends with it too
@@ -88,15 +88,15 @@ tells_kept_or_same keep old new other asked refusal reply (inr same) tells = sub
 -- a recorder that notes no change yet, and from then on
 module _ {R Q : Type 0} (starts : R → ℕ → AdmittedJob → Result (Unit {0}) ℕ → R → Type 0) (looks : R → ℕ → Progress → R → Type 0)
     (takes : R → Option (ℕ × Result Report ℕ) → R → Type 0) (taken : Q → List ℕ) (failed : Q → Type 0) (keep : ℕ) (query : Result Asked ℕ)
-    (old passed_desk mid new : Ledger) (runner rest left : R) (before begun passed answered after : Recorder Q)
+    (old passed_desk mid new : Ledger) (runner rest left : R) (before begun passed answered after : ChangeRecorder Q)
     (queue : begun.queue ≡ before.queue) (stopped : begun.is_stopped ≡ before.is_stopped) (unchanged : begun.has_changed ≡ false)
-    (passes : Passes takes old runner passed_desk rest) (first : Records taken failed begun passed old passed_desk)
-    (second : Records taken failed passed answered passed_desk mid)
-    (kept : KeepsLast keep mid new ⊎ ((new ≡ mid) × (answered.has_changed ≡ false))) (third : Records taken failed answered after mid new) where
-  replied : Records taken failed begun answered old mid
+    (passes : Passes takes old runner passed_desk rest) (first : RecordsChanges taken failed begun passed old passed_desk)
+    (second : RecordsChanges taken failed passed answered passed_desk mid)
+    (kept : KeepsLast keep mid new ⊎ ((new ≡ mid) × (answered.has_changed ≡ false))) (third : RecordsChanges taken failed answered after mid new) where
+  replied : RecordsChanges taken failed begun answered old mid
   replied = records_then taken failed begun passed answered old passed_desk mid first second
 
-  all : Records taken failed begun after old new
+  all : RecordsChanges taken failed begun after old new
   all = records_then taken failed begun answered after old mid new replied third
 
   kept_so : (KeepsLast keep mid new ⊎ ((new ≡ mid) × (answered.has_changed ≡ false))) → KeepsLast keep mid new ⊎ ((new ≡ mid) × (mid ≡ old))

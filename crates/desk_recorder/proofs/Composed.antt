@@ -6,9 +6,9 @@ use Rattle.journal.specs.Records.{record_of, journal_of, AllFitRecords}
 use Rattle.recovery.specs.Histories.{ReplaysChanges}
 use Rattle.desk_journal.specs.DeskSteps.{DeskState, MakesBytes}
 use Rattle.desk_journal.specs.declared.journaled_desk.OpenJob.{OpenJob}
-use Rattle.desk_recorder.specs.Recording.{HoldsOpen, IsRecordOf, LeadsTo, Records, RecordsMore}
-use Rattle.desk_recorder.specs.Histories.{IsHistoryOf, RecordsLead}
-use Rattle.desk_recorder.specs.declared.recorder.Recorder.{Recorder}
+use Rattle.desk_recorder.specs.Recording.{HoldsOpen, IsChangeRecord, ChangesLead, RecordsChanges, RecordsMore}
+use Rattle.desk_recorder.specs.Histories.{IsDeskHistory, RecordsLead}
+use Rattle.desk_recorder.specs.declared.recorder.ChangeRecorder.{ChangeRecorder}
 
 pub replays_then : (steps : DeskState → List ℕ → DeskState → Type 0) (ps qs : List (List ℕ)) (a b c : DeskState) → ReplaysChanges steps a ps b → ReplaysChanges steps b qs c → ReplaysChanges steps a (ps ++ qs) c
 replays_then steps [] qs a b c first second = subst (λ (s : DeskState). ReplaysChanges steps s qs c) first second
@@ -22,14 +22,14 @@ fits_then : (ps qs : List (List ℕ)) → AllFitRecords ps → AllFitRecords qs 
 fits_then [] qs first second = second
 fits_then (p ∷ ps) qs first second = (first.0, fits_then ps qs first.1 second)
 
-pub leads_then : (d m e : Ledger) (ps qs : List (List ℕ)) → LeadsTo d ps m → LeadsTo m qs e → LeadsTo d (ps ++ qs) e
+pub leads_then : (d m e : Ledger) (ps qs : List (List ℕ)) → ChangesLead d ps m → ChangesLead m qs e → ChangesLead d (ps ++ qs) e
 leads_then d m e ps qs first second held holds =
     let one = first held holds in
     let two = second one.0 one.1 in
     (two.0, two.1, replays_then MakesBytes ps qs (record { desk = d; held = held }) (record { desk = m; held = one.0 }) (record { desk = e; held = two.0 }) one.2 two.2)
 
 -- nothing is recorded where nothing changes
-leads_nowhere : (d e : Ledger) → e ≡ d → LeadsTo d [] e
+leads_nowhere : (d e : Ledger) → e ≡ d → ChangesLead d [] e
 leads_nowhere d e same held holds =
     (held, subst (λ (x : Ledger). HoldsOpen held x) (sym same) holds, ap (λ (x : Ledger). record { desk = x; held = held }) same)
 
@@ -51,7 +51,7 @@ module _ {Q : Type 0} (taken : Q → List ℕ) (failed : Q → Type 0) where
     leads = leads_nowhere d e unchanged;
   }
 
-  pub more_one : (p q : Q) (d e : Ledger) (bytes : List ℕ) → taken q ≡ taken p ++ bytes → IsRecordOf bytes d e → RecordsMore taken p q d e
+  pub more_one : (p q : Q) (d e : Ledger) (bytes : List ℕ) → taken q ≡ taken p ++ bytes → IsChangeRecord bytes d e → RecordsMore taken p q d e
   more_one p q d e bytes added is = record {
     payloads = is.payload ∷ [];
     fit = (is.fits, tt);
@@ -59,7 +59,7 @@ module _ {Q : Type 0} (taken : Q → List ℕ) (failed : Q → Type 0) where
     leads = is.leads;
   }
 
-  pub records_then : (p q r : Recorder Q) (d m e : Ledger) → Records taken failed p q d m → Records taken failed q r m e → Records taken failed p r d e
+  pub records_then : (p q r : ChangeRecorder Q) (d m e : Ledger) → RecordsChanges taken failed p q d m → RecordsChanges taken failed q r m e → RecordsChanges taken failed p r d e
   records_then p q r d m e first second = record {
     going = λ on. first.going (second.going on);
     unchanged = λ none. let later = second.unchanged none in let early = first.unchanged later.0 in (early.0, later.1 ∙ early.1);
@@ -67,7 +67,7 @@ module _ {Q : Type 0} (taken : Q → List ℕ) (failed : Q → Type 0) where
     records = λ on. more_then p.queue q.queue r.queue d m e (first.records (second.going on)) (second.records on);
   }
 
-  pub records_nothing : (p : Recorder Q) (d e : Ledger) → e ≡ d → Records taken failed p p d e
+  pub records_nothing : (p : ChangeRecorder Q) (d e : Ledger) → e ≡ d → RecordsChanges taken failed p p d e
   records_nothing p d e same = record {
     going = λ on. on;
     unchanged = λ none. (none, same);
@@ -79,7 +79,7 @@ module _ {Q : Type 0} (taken : Q → List ℕ) (failed : Q → Type 0) where
   clash X is = absurd cc
 
   -- a recorder that has stopped takes nothing
-  pub records_stopped : (p q : Recorder Q) (d e : Ledger) → p.is_stopped ≡ true → q.is_stopped ≡ true → q.queue ≡ p.queue → q.has_changed ≡ true → Records taken failed p q d e
+  pub records_stopped : (p q : ChangeRecorder Q) (d e : Ledger) → p.is_stopped ≡ true → q.is_stopped ≡ true → q.queue ≡ p.queue → q.has_changed ≡ true → RecordsChanges taken failed p q d e
   records_stopped p q d e was is queue changed = record {
     going = λ on. clash (p.is_stopped ≡ false) (sym is ∙ on);
     unchanged = λ none. clash ((p.has_changed ≡ false) × (e ≡ d)) (sym changed ∙ none);
@@ -88,7 +88,7 @@ module _ {Q : Type 0} (taken : Q → List ℕ) (failed : Q → Type 0) where
   }
 
   -- it stops, and its queue is told so
-  pub records_stop : (p q : Recorder Q) (d e : Ledger) → q.is_stopped ≡ true → failed q.queue → q.has_changed ≡ true → Records taken failed p q d e
+  pub records_stop : (p q : ChangeRecorder Q) (d e : Ledger) → q.is_stopped ≡ true → failed q.queue → q.has_changed ≡ true → RecordsChanges taken failed p q d e
   records_stop p q d e is told changed = record {
     going = λ on. clash (p.is_stopped ≡ false) (sym is ∙ on);
     unchanged = λ none. clash ((p.has_changed ≡ false) × (e ≡ d)) (sym changed ∙ none);
@@ -97,8 +97,8 @@ module _ {Q : Type 0} (taken : Q → List ℕ) (failed : Q → Type 0) where
   }
 
   -- a record is added
-  pub records_one : (p q : Recorder Q) (d e : Ledger) (bytes : List ℕ) → p.is_stopped ≡ false → q.is_stopped ≡ false → q.has_changed ≡ true → taken q.queue ≡ taken p.queue ++ bytes → IsRecordOf bytes d e
-      → Records taken failed p q d e
+  pub records_one : (p q : ChangeRecorder Q) (d e : Ledger) (bytes : List ℕ) → p.is_stopped ≡ false → q.is_stopped ≡ false → q.has_changed ≡ true → taken q.queue ≡ taken p.queue ++ bytes → IsChangeRecord bytes d e
+      → RecordsChanges taken failed p q d e
   records_one p q d e bytes was is changed added are = record {
     going = λ on. was;
     unchanged = λ none. clash ((p.has_changed ≡ false) × (e ≡ d)) (sym changed ∙ none);
@@ -107,7 +107,7 @@ module _ {Q : Type 0} (taken : Q → List ℕ) (failed : Q → Type 0) where
   }
 
   -- a change is marked ahead of its record
-  pub records_marked : (p marked q : Recorder Q) (d e : Ledger) → marked.queue ≡ p.queue → marked.is_stopped ≡ p.is_stopped → marked.has_changed ≡ true → Records taken failed marked q d e → Records taken failed p q d e
+  pub records_marked : (p marked q : ChangeRecorder Q) (d e : Ledger) → marked.queue ≡ p.queue → marked.is_stopped ≡ p.is_stopped → marked.has_changed ≡ true → RecordsChanges taken failed marked q d e → RecordsChanges taken failed p q d e
   records_marked p marked q d e queue stopped changed records = record {
     going = λ on. sym stopped ∙ records.going on;
     unchanged = λ none. clash ((p.has_changed ≡ false) × (e ≡ d)) (sym changed ∙ (records.unchanged none).0);
@@ -116,7 +116,7 @@ module _ {Q : Type 0} (taken : Q → List ℕ) (failed : Q → Type 0) where
   }
 
   -- room is made
-  pub records_room : (p q : Recorder Q) (d : Ledger) → p.is_stopped ≡ false → q.is_stopped ≡ false → q.has_changed ≡ p.has_changed → taken q.queue ≡ taken p.queue → Records taken failed p q d d
+  pub records_room : (p q : ChangeRecorder Q) (d : Ledger) → p.is_stopped ≡ false → q.is_stopped ≡ false → q.has_changed ≡ p.has_changed → taken q.queue ≡ taken p.queue → RecordsChanges taken failed p q d d
   records_room p q d was is changed same = record {
     going = λ on. was;
     unchanged = λ none. (sym changed ∙ none, refl);
@@ -126,7 +126,7 @@ module _ {Q : Type 0} (taken : Q → List ℕ) (failed : Q → Type 0) where
 
   -- ---- over a history
 
-  pub leads_on : (p q : Q) (history : List (List ℕ)) (d e : Ledger) → IsHistoryOf history d → RecordsMore taken p q d e → RecordsLead taken p q history e
+  pub leads_on : (p q : Q) (history : List (List ℕ)) (d e : Ledger) → IsDeskHistory history d → RecordsMore taken p q d e → RecordsLead taken p q history e
   leads_on p q history d e led more =
       let t = more.leads led.0 led.1 in
       let first = led.2 in

@@ -9,7 +9,7 @@ use Rattle.accounts.specs.Ledgers.{Ledger}
 use Rattle.recovery.specs.Histories.{IsAfter, ReplaysChanges}
 use Rattle.desk_journal.specs.DeskSteps.{DeskState, IsNewDesk, MakesBytes}
 use Rattle.sessions.specs.Grammar.{Asked}
-use Rattle.desk_recorder.specs.Histories.{AnswersInTurn, IsHistoryOf, none_yet, one_more, RecordsLead}
+use Rattle.desk_recorder.specs.Histories.{AnswersInTurn, IsDeskHistory, none_yet, one_more, RecordsLead}
 use Rattle.desk_recorder.specs.Recording.{HoldsOpen, RecordsMore}
 use Rattle.desk_recorder.specs.RecordedAnswers.{answers_recorded}
 use Rattle.desk_recorder.specs.declared.recording_handler.RecordingHandler.{RecordingHandler}
@@ -35,7 +35,7 @@ new_held state is number there =
     absurd (none_open number there.0 (subst (λ (js : List JobEntry). job_at js number ≡ Some there.0) jobs there.1))
 
 -- what a history leads to holds its open jobs
-pub history_of : (history : List (List ℕ)) (state : DeskState) → IsAfter IsNewDesk MakesBytes history state → IsHistoryOf history state.desk
+pub history_of : (history : List (List ℕ)) (state : DeskState) → IsAfter IsNewDesk MakesBytes history state → IsDeskHistory history state.desk
 history_of history state after = (state.held, replays_held history after.0 state after.2 (new_held after.0 after.1), after)
 
 module _ {R Q : Type 0} (starts : R → ℕ → AdmittedJob → Result (Unit {0}) ℕ → R → Type 0) (looks : R → ℕ → Progress → R → Type 0)
@@ -50,6 +50,6 @@ module _ {R Q : Type 0} (starts : R → ℕ → AdmittedJob → Result (Unit {0}
       let last = answered.0 in
       more_then taken failed s.1.recorder.queue m.1.recorder.queue end.1.recorder.queue s.0 m.0 end.0 (in_turn s m turns (last.going on)) (last.records on)
 
-  pub turns_lead : (history : List (List ℕ)) (s t : Ledger × RecordingHandler R Q) → IsHistoryOf history s.0 → AnswersInTurn answers s t → t.1.recorder.is_stopped ≡ false
+  pub turns_lead : (history : List (List ℕ)) (s t : Ledger × RecordingHandler R Q) → IsDeskHistory history s.0 → AnswersInTurn answers s t → t.1.recorder.is_stopped ≡ false
       → RecordsLead taken s.1.recorder.queue t.1.recorder.queue history t.0
   turns_lead history s t led turns on = leads_on taken failed s.1.recorder.queue t.1.recorder.queue history s.0 t.0 led (in_turn s t turns on)

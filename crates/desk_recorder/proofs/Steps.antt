@@ -12,19 +12,19 @@ use Rattle.desk_journal.specs.DeskSteps.{DeskState, EndsJob, Makes, MakesBytes}
 use Rattle.desk_journal.specs.declared.change.DeskChange.{DeskChange}
 use Rattle.desk_journal.specs.declared.change.DeskChange.TheVariants.{Granted, Submitted, Finished, Failed, Forgotten}
 use Rattle.desk_journal.specs.declared.journaled_desk.OpenJob.{OpenJob}
-use Rattle.desk_recorder.specs.Recording.{HoldsOpen, IsEndRecord, IsForgettingRecord, IsGrantRecord, IsRecordOf, IsSubmitRecord, LeadsTo}
+use Rattle.desk_recorder.specs.Recording.{HoldsOpen, IsEndRecord, IsForgettingRecord, IsGrantRecord, IsChangeRecord, IsSubmitRecord, ChangesLead}
 use Rattle.desk_recorder.proofs.Held.{Without, ended_held, ended_there, forgotten_held, held_without, left_held, same_open, taken_held}
 
 -- a change that is made of a desk and its open jobs leads from one to the other
 by_change : (old new : Ledger) (change : DeskChange) → ((held : List OpenJob) → HoldsOpen held old → (after : List OpenJob) × HoldsOpen after new
-    × Makes change (record { desk = old; held = held }) (record { desk = new; held = after })) → LeadsTo old (change_bytes change ∷ []) new
+    × Makes change (record { desk = old; held = held }) (record { desk = new; held = after })) → ChangesLead old (change_bytes change ∷ []) new
 by_change old new change makes held holds =
     let t = makes held holds in
     (t.0, t.1, (record { desk = new; held = t.0 }, (change, refl, t.2), refl))
 
 -- the record of such a change
-recorded : (bytes : List ℕ) (change : DeskChange) (old new : Ledger) → FitsRecord (change_bytes change) × (bytes ≡ record_of (change_bytes change)) → LeadsTo old (change_bytes change ∷ []) new
-    → IsRecordOf bytes old new
+recorded : (bytes : List ℕ) (change : DeskChange) (old new : Ledger) → FitsRecord (change_bytes change) × (bytes ≡ record_of (change_bytes change)) → ChangesLead old (change_bytes change ∷ []) new
+    → IsChangeRecord bytes old new
 recorded bytes change old new are leads = record { payload = change_bytes change; are = are.1; fits = are.0; leads = leads }
 
 pub records_grant : (bytes : List ℕ) (tenant : Vec ℕ Global) (amount : ℕ) (name : List ℕ) → FitsRecord (change_bytes (Granted tenant amount)) × (bytes ≡ record_of (change_bytes (Granted tenant amount)))

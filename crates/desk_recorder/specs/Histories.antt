@@ -9,8 +9,8 @@ use Rattle.desk_journal.specs.declared.journaled_desk.OpenJob.{OpenJob}
 use Rattle.desk_recorder.specs.Recording.{HoldsOpen}
 
 -- a history of changes leads from a new desk to this one, with its open jobs
-abbrev pub IsHistoryOf : List (List ℕ) → Ledger → Type 0
-IsHistoryOf history desk = (held : List OpenJob) × HoldsOpen held desk
+abbrev pub IsDeskHistory : List (List ℕ) → Ledger → Type 0
+IsDeskHistory history desk = (held : List OpenJob) × HoldsOpen held desk
     × IsAfter IsNewDesk MakesBytes history (record { desk = desk; held = held })
 
 -- A queue has taken the records of some more changes, in order. A history and these behind it lead
@@ -20,7 +20,7 @@ pub record RecordsLead {Q : Type 0} (taken : Q → List ℕ) (before after : Q)
   pub payloads : List (List ℕ)
   pub fit : AllFitRecords payloads
   pub more : taken after ≡ taken before ++ journal_of payloads
-  pub lead : IsHistoryOf (history ++ payloads) desk
+  pub lead : IsDeskHistory (history ++ payloads) desk
 
 -- so many frames are answered, one after the other
 pub data AnswersInTurn {S : Type 0} (answers : S → Result Asked ℕ → List ℕ → S → Type 0)

@@ -7,7 +7,7 @@ use Rattle.accounts.specs.Ledgers.{Ledger, KeepsLast}
 use Rattle.sessions.specs.Grammar.{Asked}
 use Rattle.streams.specs.Answering.{Answers}
 use Rattle.desk_recorder.specs.Recording.{RecordsMore}
-use Rattle.desk_recorder.specs.declared.recorder.Recorder.{Recorder}
+use Rattle.desk_recorder.specs.declared.recorder.ChangeRecorder.{ChangeRecorder}
 use Rattle.desk_recorder.specs.declared.recording_handler.RecordingHandler.{RecordingHandler}
 
 -- A frame is answered as by the desk and the runner, and then the desk forgets, unless nothing has
@@ -17,8 +17,8 @@ pub record AnswersRecorded {R Q : Type 0}
     (starts : R → ℕ → AdmittedJob → Result (Unit {0}) ℕ → R → Type 0)
     (looks : R → ℕ → Progress → R → Type 0)
     (takes : R → Option (ℕ × Result Report ℕ) → R → Type 0) (taken : Q → List ℕ)
-    (failed : Q → Type 0) (keep : ℕ) (old : Ledger) (runner : R) (before : Recorder Q)
-    (query : Result Asked ℕ) (reply : List ℕ) (new : Ledger) (left : R) (after : Recorder Q) :
+    (failed : Q → Type 0) (keep : ℕ) (old : Ledger) (runner : R) (before : ChangeRecorder Q)
+    (query : Result Asked ℕ) (reply : List ℕ) (new : Ledger) (left : R) (after : ChangeRecorder Q) :
     Type 0 where
   pub mid : Ledger
   pub answered : Answers starts looks takes old runner query reply mid left

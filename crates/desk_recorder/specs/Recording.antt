@@ -12,7 +12,7 @@ use Rattle.recovery.specs.Histories.{ReplaysChanges}
 use Rattle.desk_journal.specs.DeskSteps.{MakesBytes}
 use Rattle.desk_journal.specs.declared.journaled_desk.OpenJob.{OpenJob}
 use Rattle.streams.specs.Answering.{IsOpenJob}
-use Rattle.desk_recorder.specs.declared.recorder.Recorder.{Recorder}
+use Rattle.desk_recorder.specs.declared.recorder.ChangeRecorder.{ChangeRecorder}
 
 -- one of the jobs has the number
 abbrev pub HasJobNumber : ℕ → List OpenJob → Type 0
@@ -25,36 +25,36 @@ HoldsOpen held desk = (number : ℕ) → IsOpenJob desk number → HasJobNumber 
 
 -- The changes with these payloads lead from a desk to another, whatever list holds the first one's
 -- open jobs, and to a list that holds the other one's.
-abbrev pub LeadsTo : Ledger → List (List ℕ) → Ledger → Type 0
-LeadsTo old payloads new = (held : List OpenJob) → HoldsOpen held old
+abbrev pub ChangesLead : Ledger → List (List ℕ) → Ledger → Type 0
+ChangesLead old payloads new = (held : List OpenJob) → HoldsOpen held old
     → (after : List OpenJob) × HoldsOpen after new
     × ReplaysChanges MakesBytes (record { desk = old; held = held }) payloads
     (record { desk = new; held = after })
 
 -- these bytes are the record of what changed a desk
-pub record IsRecordOf (bytes : List ℕ) (old new : Ledger) : Type 0 where
+pub record IsChangeRecord (bytes : List ℕ) (old new : Ledger) : Type 0 where
   pub payload : List ℕ
   pub are : bytes ≡ record_of payload
   pub fits : FitsRecord payload
-  pub leads : LeadsTo old (payload ∷ []) new
+  pub leads : ChangesLead old (payload ∷ []) new
 
 -- the bytes are the record of such a grant, of a job that was taken so, of such an end, and of what
 -- was forgotten, at every desk
 abbrev pub IsGrantRecord : List ℕ → List ℕ → ℕ → Type 0
 IsGrantRecord bytes name amount =
-    (old new : Ledger) → GrantsMore old name amount new → IsRecordOf bytes old new
+    (old new : Ledger) → GrantsMore old name amount new → IsChangeRecord bytes old new
 
 abbrev pub IsSubmitRecord : List ℕ → List ℕ → List ProgramBytes → ℕ → List ℕ → Type 0
 IsSubmitRecord bytes name programs credit buffer =
     (old new : Ledger) (job : AdmittedJob) → Takes old name credit new
-    → IsAdmittedFrom programs credit buffer job → IsRecordOf bytes old new
+    → IsAdmittedFrom programs credit buffer job → IsChangeRecord bytes old new
 
 abbrev pub IsEndRecord : List ℕ → ℕ → Result Report ℕ → Type 0
 IsEndRecord bytes number outcome =
-    (old new : Ledger) → Finishes old number outcome new → IsRecordOf bytes old new
+    (old new : Ledger) → Finishes old number outcome new → IsChangeRecord bytes old new
 
 abbrev pub IsForgettingRecord : List ℕ → ℕ → Type 0
-IsForgettingRecord bytes keep = (old new : Ledger) → Forgets old keep new → IsRecordOf bytes old new
+IsForgettingRecord bytes keep = (old new : Ledger) → Forgets old keep new → IsChangeRecord bytes old new
 
 -- A queue has taken the records of some more changes, in order, and these lead from a desk to
 -- another.
@@ -63,13 +63,13 @@ pub record RecordsMore {Q : Type 0} (taken : Q → List ℕ) (before after : Q) 
   pub payloads : List (List ℕ)
   pub fit : AllFitRecords payloads
   pub more : taken after ≡ taken before ++ journal_of payloads
-  pub leads : LeadsTo old payloads new
+  pub leads : ChangesLead old payloads new
 
 -- What a recorder took while a desk changed. Where it notes no change, the desk is the same. Unless
 -- it has stopped, it has the records of all changes; it stops for ever, and only once its queue is
 -- told so.
-pub record Records {Q : Type 0} (taken : Q → List ℕ) (failed : Q → Type 0)
-    (before after : Recorder Q) (old new : Ledger) : Type 0 where
+pub record RecordsChanges {Q : Type 0} (taken : Q → List ℕ) (failed : Q → Type 0)
+    (before after : ChangeRecorder Q) (old new : Ledger) : Type 0 where
   pub going : after.is_stopped ≡ false → before.is_stopped ≡ false
   pub unchanged : after.has_changed ≡ false → (before.has_changed ≡ false) × (new ≡ old)
   pub told : (before.is_stopped ≡ true → failed before.queue) → after.is_stopped ≡ true

@@ -4,10 +4,10 @@ ghost use Rattle.std.specs.Prelude.{◌≡◌, ℕ, List, false};
 ghost use Rattle.accounts.specs.Ledgers.{Ledger};
 ghost use Rattle.recovery.specs.Histories.{IsAfter};
 ghost use Rattle.desk_journal.specs.DeskSteps.{DeskState, IsNewDesk, MakesBytes};
-ghost use Rattle.desk_recorder.specs.Histories.{AnswersInTurn, IsHistoryOf, RecordsLead};
-ghost use Rattle.desk_recorder.specs.Recording.{Records};
+ghost use Rattle.desk_recorder.specs.Histories.{AnswersInTurn, IsDeskHistory, RecordsLead};
+ghost use Rattle.desk_recorder.specs.Recording.{RecordsChanges};
 ghost use Rattle.desk_recorder.specs.RecordedAnswers.{answers_recorded};
-ghost use Rattle.desk_recorder.specs.declared.recorder.Recorder.{Recorder};
+ghost use Rattle.desk_recorder.specs.declared.recorder.ChangeRecorder.{ChangeRecorder};
 ghost use Rattle.desk_recorder.specs.declared.recording_handler.RecordingHandler.{RecordingHandler};
 
 use crate::record_queue::RecordQueue;
@@ -18,13 +18,13 @@ use streams::Runner;
 /// and so they do where open jobs are started again.
 pub fn records_lead_to_desk<N: Runner, Q: RecordQueue>()
     ensures opened { (history : List (List ℕ)) (state : DeskState)
-        → IsAfter IsNewDesk MakesBytes history state → IsHistoryOf history state.desk }
-    ensures restarted { (history : List (List ℕ)) (before after : Recorder Q) (old new : Ledger)
-        → IsHistoryOf history old → Records Q.taken Q.has_failed before after old new
+        → IsAfter IsNewDesk MakesBytes history state → IsDeskHistory history state.desk }
+    ensures restarted { (history : List (List ℕ)) (before after : ChangeRecorder Q) (old new : Ledger)
+        → IsDeskHistory history old → RecordsChanges Q.taken Q.has_failed before after old new
         → after.is_stopped ≡ false
         → RecordsLead Q.taken before.queue after.queue history new }
     ensures answered { (history : List (List ℕ)) (s t : Ledger × RecordingHandler N Q)
-        → IsHistoryOf history s.0
+        → IsDeskHistory history s.0
         → AnswersInTurn (answers_recorded N.starts N.looks N.takes Q.taken Q.has_failed) s t
         → t.1.recorder.is_stopped ≡ false
         → RecordsLead Q.taken s.1.recorder.queue t.1.recorder.queue history t.0 }

@@ -6,14 +6,14 @@ ghost use Rattle.sessions.specs.Grammar.{request_asked};
 ghost use Rattle.streams.specs.Answering.{Framed, Grants, GrantsNone, Replies};
 ghost use Rattle.streams.specs.Prepared.{asked_of};
 ghost use Rattle.streams.specs.Refusing.{TellsRefusal};
-ghost use Rattle.desk_recorder.specs.Recording.{Records};
+ghost use Rattle.desk_recorder.specs.Recording.{RecordsChanges};
 ghost use Rattle.desk_recorder.specs.RecordedAnswers.{AnswersRecorded};
 
 use crate::change_records::{forgetting_record, grant_record};
 use crate::record_queue::RecordQueue;
 use crate::recorded_ends::pass_recorded;
 use crate::recorded_submit::{answer_admitted_recorded, answer_submit_recorded};
-use crate::recorder::Recorder;
+use crate::recorder::ChangeRecorder;
 use accounts::{Account, Desk, DeskFault};
 use refusal::NoMemory;
 use sessions::Request;
@@ -27,7 +27,7 @@ use streams::{
 fn grant_recorded<Q: RecordQueue>(
     alloc: Global,
     desk: &mut Desk,
-    recorder: &mut Recorder<Q>,
+    recorder: &mut ChangeRecorder<Q>,
     tenant: &str,
     amount: u32,
 ) -> Result<Account, DeskFault>
@@ -37,7 +37,7 @@ fn grant_recorded<Q: RecordQueue>(
     ensures account { IfOk result (λ _. result ≡ account_at desk.new tenant.now) }
     ensures refused { IfErr result (λ e. RefusesGrant desk.old tenant.now amount e) }
     ensures unchanged { OnErr result (desk.new ≡ desk.old) }
-    ensures records { Records Q.taken Q.has_failed recorder.old recorder.new desk.old desk.new }
+    ensures records { RecordsChanges Q.taken Q.has_failed recorder.old recorder.new desk.old desk.new }
 {
     let record = grant_record(alloc, tenant, amount);
     match desk.grant(alloc, tenant, amount) {
@@ -53,13 +53,13 @@ fn grant_recorded<Q: RecordQueue>(
 fn answer_grant_recorded<Q: RecordQueue>(
     alloc: Global,
     desk: &mut Desk,
-    recorder: &mut Recorder<Q>,
+    recorder: &mut ChangeRecorder<Q>,
     tenant: &str,
     amount: u32,
 ) -> Result<PendingReply, NoMemory>
     ensures done { Framed result (λ told. Grants desk.old tenant.now amount told desk.new
         ⊎ GrantsNone desk.old tenant.now amount told desk.new) }
-    ensures records { Records Q.taken Q.has_failed recorder.old recorder.new desk.old desk.new }
+    ensures records { RecordsChanges Q.taken Q.has_failed recorder.old recorder.new desk.old desk.new }
 {
     let account = grant_recorded(alloc, desk, recorder, tenant, amount);
     PendingReply::of_reply(alloc, &account_reply(account))
@@ -71,7 +71,7 @@ fn carry_out_recorded<N: Runner, Q: RecordQueue>(
     alloc: Global,
     desk: &mut Desk,
     runner: &mut N,
-    recorder: &mut Recorder<Q>,
+    recorder: &mut ChangeRecorder<Q>,
     request: Request,
 ) -> (Option<SubmitRefusal>, Result<PendingReply, NoMemory>)
     requires { N.ready runner.old }
@@ -81,7 +81,7 @@ fn carry_out_recorded<N: Runner, Q: RecordQueue>(
         (λ told. Replies N.starts N.looks desk.old runner.old
         (Ok (request_asked request)) told desk.new
         runner.new) }
-    ensures records { Records Q.taken Q.has_failed recorder.old recorder.new desk.old desk.new }
+    ensures records { RecordsChanges Q.taken Q.has_failed recorder.old recorder.new desk.old desk.new }
 {
     match request {
         Request::Grant { tenant, amount } => {
@@ -107,7 +107,7 @@ fn reply_recorded<N: Runner, Q: RecordQueue>(
     alloc: Global,
     desk: &mut Desk,
     runner: &mut N,
-    recorder: &mut Recorder<Q>,
+    recorder: &mut ChangeRecorder<Q>,
     request: PreparedRequest,
 ) -> (Option<SubmitRefusal>, Result<PendingReply, NoMemory>)
     requires { N.ready runner.old }
@@ -116,7 +116,7 @@ fn reply_recorded<N: Runner, Q: RecordQueue>(
     ensures done { Framed result.1
         (λ told. Replies N.starts N.looks desk.old runner.old (asked_of request) told desk.new
         runner.new) }
-    ensures records { Records Q.taken Q.has_failed recorder.old recorder.new desk.old desk.new }
+    ensures records { RecordsChanges Q.taken Q.has_failed recorder.old recorder.new desk.old desk.new }
 {
     match request {
         PreparedRequest::AsItCame(Ok(request)) => {
@@ -135,12 +135,12 @@ fn reply_recorded<N: Runner, Q: RecordQueue>(
 fn keep_recorded<Q: RecordQueue>(
     alloc: Global,
     desk: &mut Desk,
-    recorder: &mut Recorder<Q>,
+    recorder: &mut ChangeRecorder<Q>,
     keep: u32,
 )
     ensures kept { KeepsLast keep desk.old desk.new
         ⊎ ((desk.new ≡ desk.old) × (recorder.old.has_changed ≡ false)) }
-    ensures records { Records Q.taken Q.has_failed recorder.old recorder.new desk.old desk.new }
+    ensures records { RecordsChanges Q.taken Q.has_failed recorder.old recorder.new desk.old desk.new }
 {
     if !recorder.has_changed {
         return;
@@ -159,7 +159,7 @@ pub fn answer_recorded<N: Runner, Q: RecordQueue>(
     alloc: Global,
     desk: &mut Desk,
     runner: &mut N,
-    recorder: &mut Recorder<Q>,
+    recorder: &mut ChangeRecorder<Q>,
     keep: u32,
     request: PreparedRequest,
 ) -> (Option<SubmitRefusal>, Result<PendingReply, NoMemory>)

@@ -4,11 +4,11 @@ ghost use Rattle.std.specs.Prelude.{ℕ};
 ghost use Rattle.accounts.specs.Ledgers.{Ledger};
 ghost use Rattle.streams.specs.Passing.{Notes, Passes};
 ghost use Rattle.streams.specs.Refusing.{TellsStart};
-ghost use Rattle.desk_recorder.specs.Recording.{Records};
+ghost use Rattle.desk_recorder.specs.Recording.{RecordsChanges};
 
 use crate::change_records::{end_record, failure_record};
 use crate::record_queue::RecordQueue;
-use crate::recorder::Recorder;
+use crate::recorder::ChangeRecorder;
 use accounts::Desk;
 use credit_book::Report;
 use std::alloc::Global;
@@ -18,12 +18,12 @@ use streams::{Runner, SubmitRefusal};
 pub fn end_job<Q: RecordQueue>(
     alloc: Global,
     desk: &mut Desk,
-    recorder: &mut Recorder<Q>,
+    recorder: &mut ChangeRecorder<Q>,
     number: u64,
     outcome: Result<Report, u8>,
 )
     ensures noted { Notes desk.old number outcome desk.new }
-    ensures records { Records Q.taken Q.has_failed recorder.old recorder.new desk.old desk.new }
+    ensures records { RecordsChanges Q.taken Q.has_failed recorder.old recorder.new desk.old desk.new }
 {
     let (record, outcome) = end_record(alloc, number, outcome);
     match desk.finish(number, outcome) {
@@ -37,12 +37,12 @@ pub fn pass_recorded<N: Runner, Q: RecordQueue>(
     alloc: Global,
     desk: &mut Desk,
     runner: &mut N,
-    recorder: &mut Recorder<Q>,
+    recorder: &mut ChangeRecorder<Q>,
 )
     requires { N.ready runner.old }
     ensures ready { N.ready runner.new }
     ensures passed { Passes N.takes desk.old runner.old desk.new runner.new }
-    ensures records { Records Q.taken Q.has_failed recorder.old recorder.new desk.old desk.new }
+    ensures records { RecordsChanges Q.taken Q.has_failed recorder.old recorder.new desk.old desk.new }
 {
     'jobs: loop {
         match runner.take() {
@@ -55,11 +55,11 @@ pub fn pass_recorded<N: Runner, Q: RecordQueue>(
 /// Records the end of a job whose start was refused.
 pub fn note_start<Q: RecordQueue>(
     alloc: Global,
-    recorder: &mut Recorder<Q>,
+    recorder: &mut ChangeRecorder<Q>,
     refusal: Option<SubmitRefusal>,
 )
     ensures { (old new : Ledger) (number : ℕ) → TellsStart old number refusal new
-        → Records Q.taken Q.has_failed recorder.old recorder.new old new }
+        → RecordsChanges Q.taken Q.has_failed recorder.old recorder.new old new }
 {
     match refusal {
         Some(why) => match why {

@@ -8,12 +8,12 @@ ghost use Rattle.job_core.specs.declared.admission.ProgramBytes.{ProgramBytes};
 ghost use Rattle.streams.specs.Answering.{Framed, Replies, StartsTaken, submit_refused};
 ghost use Rattle.streams.specs.Refusing.{IsJustTaken, SaysRefusal, TellsRefusal};
 ghost use Rattle.streams.specs.Submits.{submit_asked};
-ghost use Rattle.desk_recorder.specs.Recording.{IsRecordedAdmission, Records};
+ghost use Rattle.desk_recorder.specs.Recording.{IsRecordedAdmission, RecordsChanges};
 
 use crate::change_records::submit_record;
 use crate::record_queue::RecordQueue;
 use crate::recorded_ends::note_start;
-use crate::recorder::Recorder;
+use crate::recorder::ChangeRecorder;
 use accounts::{Desk, SubmitFault};
 use job_core::{AdmitFault, Job, ProgramBytes};
 use refusal::NoMemory;
@@ -24,7 +24,7 @@ use streams::{AdmittedSubmit, PendingReply, Runner, SubmitParts, SubmitRefusal, 
 // job.
 fn record_ahead<Q: RecordQueue>(
     alloc: Global,
-    recorder: &mut Recorder<Q>,
+    recorder: &mut ChangeRecorder<Q>,
     tenant: &str,
     programs: Vec<ProgramBytes>,
     credit: u32,
@@ -35,7 +35,7 @@ fn record_ahead<Q: RecordQueue>(
         → IfOk copy (λ bytes. bytes.items ≡ buffer)
         → IsRecordedAdmission tenant.now programs.items credit buffer result }
     ensures records { (desk : Ledger)
-        → Records Q.taken Q.has_failed recorder.old recorder.new desk desk }
+        → RecordsChanges Q.taken Q.has_failed recorder.old recorder.new desk desk }
 {
     let job = match admitted {
         Ok(job) => job,
@@ -59,7 +59,7 @@ fn record_ahead<Q: RecordQueue>(
 fn take_recorded<Q: RecordQueue>(
     alloc: Global,
     desk: &mut Desk,
-    recorder: &mut Recorder<Q>,
+    recorder: &mut ChangeRecorder<Q>,
     tenant: &str,
     credit: u32,
     admission: Result<(Job, Vec<u8>), AdmitFault>,
@@ -75,7 +75,7 @@ fn take_recorded<Q: RecordQueue>(
     ensures unchanged { OnErr result (desk.new ≡ desk.old) }
     ensures records { (programs : List ProgramBytes) (buffer : List ℕ)
         → IsRecordedAdmission tenant.now programs credit buffer admission
-        → Records Q.taken Q.has_failed recorder.old recorder.new desk.old desk.new }
+        → RecordsChanges Q.taken Q.has_failed recorder.old recorder.new desk.old desk.new }
 {
     let (job, record) = match admission {
         Ok(made) => made,
@@ -95,7 +95,7 @@ fn start_recorded<N: Runner, Q: RecordQueue>(
     alloc: Global,
     desk: &mut Desk,
     runner: &mut N,
-    recorder: &mut Recorder<Q>,
+    recorder: &mut ChangeRecorder<Q>,
     taken: Result<(u64, Job), SubmitFault>,
 ) -> (Option<SubmitRefusal>, Result<PendingReply, NoMemory>)
     requires ready { N.ready runner.old }
@@ -106,7 +106,7 @@ fn start_recorded<N: Runner, Q: RecordQueue>(
         (λ fault. (desk.new ≡ desk.old) × (runner.new ≡ runner.old)
         × (told ≡ submit_refused fault))) }
     ensures refusal { IfOk result.1 (λ frame. SaysRefusal desk.new result.0 frame) }
-    ensures records { Records Q.taken Q.has_failed recorder.old recorder.new desk.old desk.new }
+    ensures records { RecordsChanges Q.taken Q.has_failed recorder.old recorder.new desk.old desk.new }
 {
     match taken {
         Ok(job) => {
@@ -124,7 +124,7 @@ pub fn answer_admitted_recorded<N: Runner, Q: RecordQueue>(
     alloc: Global,
     desk: &mut Desk,
     runner: &mut N,
-    recorder: &mut Recorder<Q>,
+    recorder: &mut ChangeRecorder<Q>,
     submit: AdmittedSubmit,
 ) -> (Option<SubmitRefusal>, Result<PendingReply, NoMemory>)
     requires { N.ready runner.old }
@@ -132,7 +132,7 @@ pub fn answer_admitted_recorded<N: Runner, Q: RecordQueue>(
     ensures done { Framed result.1
         (λ told. Replies N.starts N.looks desk.old runner.old (Ok submit) told desk.new runner.new) }
     ensures refusal { TellsRefusal desk.new (Ok submit) result.0 result.1 }
-    ensures records { Records Q.taken Q.has_failed recorder.old recorder.new desk.old desk.new }
+    ensures records { RecordsChanges Q.taken Q.has_failed recorder.old recorder.new desk.old desk.new }
 {
     let SubmitParts {
         tenant,
@@ -153,7 +153,7 @@ pub fn answer_submit_recorded<N: Runner, Q: RecordQueue>(
     alloc: Global,
     desk: &mut Desk,
     runner: &mut N,
-    recorder: &mut Recorder<Q>,
+    recorder: &mut ChangeRecorder<Q>,
     tenant: String,
     programs: Vec<ProgramBytes>,
     credit: u32,
@@ -165,7 +165,7 @@ pub fn answer_submit_recorded<N: Runner, Q: RecordQueue>(
         (Ok (submit_asked tenant programs.items credit buffer.items)) told desk.new runner.new) }
     ensures refusal { TellsRefusal desk.new
         (Ok (submit_asked tenant programs.items credit buffer.items)) result.0 result.1 }
-    ensures records { Records Q.taken Q.has_failed recorder.old recorder.new desk.old desk.new }
+    ensures records { RecordsChanges Q.taken Q.has_failed recorder.old recorder.new desk.old desk.new }
 {
     match desk.may_submit(&tenant, credit) {
         Ok(()) => {

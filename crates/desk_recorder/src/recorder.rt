@@ -2,7 +2,7 @@
 
 ghost use Rattle.std.specs.Prelude.{◌≡◌, IfOk, true, false};
 ghost use Rattle.accounts.specs.Ledgers.{Ledger};
-ghost use Rattle.desk_recorder.specs.Recording.{IsRecordOf, Records};
+ghost use Rattle.desk_recorder.specs.Recording.{IsChangeRecord, RecordsChanges};
 
 use crate::record_queue::RecordQueue;
 use recovery::RecordFault;
@@ -11,18 +11,18 @@ use refusal::NoMemory;
 /// Puts the records of changes into a queue. Once one is missing it has stopped: the queue has no
 /// later ones, and is told so.
 #[derive(Drop)]
-pub struct Recorder<Q> {
+pub struct ChangeRecorder<Q> {
     pub(crate) queue: Q,
     pub(crate) is_stopped: bool,
     pub(crate) has_changed: bool,
 }
 
-impl<Q: RecordQueue> Recorder<Q> {
+impl<Q: RecordQueue> ChangeRecorder<Q> {
     /// A recorder that goes on.
-    pub fn new(queue: Q) -> Recorder<Q>
+    pub fn new(queue: Q) -> ChangeRecorder<Q>
         ensures { (result.queue ≡ queue) × (result.is_stopped ≡ false) }
     {
-        Recorder {
+        ChangeRecorder {
             queue,
             is_stopped: false,
             has_changed: false,
@@ -40,7 +40,7 @@ impl<Q: RecordQueue> Recorder<Q> {
 
     /// Makes room for a record of so many bytes.
     pub fn reserve(&mut self, len: usize) -> Result<(), NoMemory>
-        ensures { (desk : Ledger) → Records Q.taken Q.has_failed self.old self.new desk desk }
+        ensures { (desk : Ledger) → RecordsChanges Q.taken Q.has_failed self.old self.new desk desk }
     {
         if self.is_stopped {
             return Ok(());
@@ -50,8 +50,8 @@ impl<Q: RecordQueue> Recorder<Q> {
 
     /// Takes the record of a change that was made, or stops where there is none.
     pub fn note(&mut self, made: Result<Vec<u8>, RecordFault>)
-        ensures { (old new : Ledger) → IfOk made (λ bytes. IsRecordOf bytes.items old new)
-            → Records Q.taken Q.has_failed self.old self.new old new }
+        ensures { (old new : Ledger) → IfOk made (λ bytes. IsChangeRecord bytes.items old new)
+            → RecordsChanges Q.taken Q.has_failed self.old self.new old new }
     {
         self.has_changed = true;
         if self.is_stopped {
@@ -67,8 +67,8 @@ impl<Q: RecordQueue> Recorder<Q> {
     fn put(&mut self, bytes: &[u8])
         requires going { self.old.is_stopped ≡ false }
         requires changed { self.old.has_changed ≡ true }
-        ensures { (old new : Ledger) → IsRecordOf bytes.now old new
-            → Records Q.taken Q.has_failed self.old self.new old new }
+        ensures { (old new : Ledger) → IsChangeRecord bytes.now old new
+            → RecordsChanges Q.taken Q.has_failed self.old self.new old new }
     {
         match self.queue.add(bytes) {
             Ok(()) => {}

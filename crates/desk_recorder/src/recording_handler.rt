@@ -2,7 +2,7 @@
 
 use crate::record_queue::RecordQueue;
 use crate::recorded_answers::answer_recorded;
-use crate::recorder::Recorder;
+use crate::recorder::ChangeRecorder;
 use crate::restarting::restart_jobs;
 use accounts::Desk;
 use desk_journal::OpenJob;
@@ -19,12 +19,12 @@ use streams::{
 pub struct RecordingHandler<N, Q> {
     runner: N,
     keep: u32,
-    recorder: Recorder<Q>,
+    recorder: ChangeRecorder<Q>,
 }
 
 impl<N: Runner, Q: RecordQueue> RecordingHandler<N, Q> {
     ghost use Rattle.std.specs.Prelude.{◌≡◌, false};
-    ghost use Rattle.desk_recorder.specs.Recording.{Records};
+    ghost use Rattle.desk_recorder.specs.Recording.{RecordsChanges};
     ghost use Rattle.desk_recorder.specs.Restarts.{StartsEach};
 
     /// A runner, how many jobs' reports are kept, and the queue of the records.
@@ -35,7 +35,7 @@ impl<N: Runner, Q: RecordQueue> RecordingHandler<N, Q> {
         RecordingHandler {
             runner,
             keep,
-            recorder: Recorder::new(queue),
+            recorder: ChangeRecorder::new(queue),
         }
     }
 
@@ -46,7 +46,7 @@ impl<N: Runner, Q: RecordQueue> RecordingHandler<N, Q> {
         ensures ready { N.ready self.new.runner }
         ensures starts { StartsEach N.starts desk.old self.old.runner jobs.items desk.new
             self.new.runner }
-        ensures records { Records Q.taken Q.has_failed self.old.recorder self.new.recorder
+        ensures records { RecordsChanges Q.taken Q.has_failed self.old.recorder self.new.recorder
             desk.old desk.new }
         ensures same_keep { self.new.keep ≡ self.old.keep }
     {

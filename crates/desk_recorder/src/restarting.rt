@@ -1,12 +1,12 @@
 //! Open jobs of a recovered desk, started again.
 
 ghost use Rattle.std.specs.Prelude.{ℕ};
-ghost use Rattle.desk_recorder.specs.Recording.{Records};
+ghost use Rattle.desk_recorder.specs.Recording.{RecordsChanges};
 ghost use Rattle.desk_recorder.specs.Restarts.{NotesStart, StartsEach};
 
 use crate::record_queue::RecordQueue;
 use crate::recorded_ends::end_job;
-use crate::recorder::Recorder;
+use crate::recorder::ChangeRecorder;
 use accounts::Desk;
 use desk_journal::OpenJob;
 use std::alloc::Global;
@@ -17,14 +17,14 @@ fn restart_job<N: Runner, Q: RecordQueue>(
     alloc: Global,
     desk: &mut Desk,
     runner: &mut N,
-    recorder: &mut Recorder<Q>,
+    recorder: &mut ChangeRecorder<Q>,
     job: OpenJob,
 ) -> Result<(), u8>
     requires { N.ready runner.old }
     ensures ready { N.ready runner.new }
     ensures starts { N.starts runner.old job.number job.job result runner.new }
     ensures noted { NotesStart desk.old job.number result desk.new }
-    ensures records { Records Q.taken Q.has_failed recorder.old recorder.new desk.old desk.new }
+    ensures records { RecordsChanges Q.taken Q.has_failed recorder.old recorder.new desk.old desk.new }
 {
     let OpenJob { number, job } = job;
     match runner.start(alloc, number, job) {
@@ -41,13 +41,13 @@ pub fn restart_jobs<N: Runner, Q: RecordQueue>(
     alloc: Global,
     desk: &mut Desk,
     runner: &mut N,
-    recorder: &mut Recorder<Q>,
+    recorder: &mut ChangeRecorder<Q>,
     jobs: Vec<OpenJob>,
 )
     requires { N.ready runner.old }
     ensures ready { N.ready runner.new }
     ensures starts { StartsEach N.starts desk.old runner.old jobs.items desk.new runner.new }
-    ensures records { Records Q.taken Q.has_failed recorder.old recorder.new desk.old desk.new }
+    ensures records { RecordsChanges Q.taken Q.has_failed recorder.old recorder.new desk.old desk.new }
 {
     'jobs: for job in jobs {
         let _ = restart_job(alloc, desk, runner, recorder, job);

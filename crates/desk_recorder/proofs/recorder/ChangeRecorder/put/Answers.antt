@@ -1,6 +1,6 @@
 use Rattle.std.proofs.Common.{refl, rules}
 use Rattle.desk_recorder.proofs.Composed.{records_one, records_stop}
-use Rattle.desk_recorder.proofs.recorder.Recorder.put.Goals as goal
+use Rattle.desk_recorder.proofs.recorder.ChangeRecorder.put.Goals as goal
 
 pub returns-in-Ok : goal.returns-in-Ok
 returns-in-Ok g c old new is = records_one g.Q.RecordQueue.taken g.Q.RecordQueue.has_failed c.args.self.now _ old new c.args.bytes.now c.requires.going c.requires.going c.requires.changed (search rules) is

@@ -1,6 +1,6 @@
 use Rattle.std.proofs.Common.{refl, rules}
 use Rattle.desk_recorder.proofs.Composed.{records_nothing, records_room}
-use Rattle.desk_recorder.proofs.recorder.Recorder.reserve.Goals as goal
+use Rattle.desk_recorder.proofs.recorder.ChangeRecorder.reserve.Goals as goal
 
 pub returns-then-self : goal.returns-then-self
 returns-then-self g c desk = records_nothing g.Q.RecordQueue.taken g.Q.RecordQueue.has_failed c.args.self.now desk desk refl

@@ -1,6 +1,6 @@
 use Rattle.std.proofs.Common.{refl, rules}
 use Rattle.desk_recorder.proofs.Composed.{records_marked, records_stop, records_stopped}
-use Rattle.desk_recorder.proofs.recorder.Recorder.note.Goals as goal
+use Rattle.desk_recorder.proofs.recorder.ChangeRecorder.note.Goals as goal
 
 pub returns-then-self : goal.returns-then-self
 returns-then-self g c old new is = records_stopped g.Q.RecordQueue.taken g.Q.RecordQueue.has_failed c.args.self.now _ old new (search rules) (search rules) refl refl
