@@ -1,5 +1,5 @@
 -- What was answered, with the records of what it changed.
-use Rattle.std.proofs.Common.{◌≡◌, ◌⊎◌, ◌≤◌, ℕ, zero, suc, List, [], ◌∷◌, ◌++◌, append_assoc, length, length-append, replicate, true, false, refl, sym, ap, subst, ◌∙◌, arith, inl, inr, IfOk, OnErr, OnOk, IfErr, Option, Some, None, Result, Ok, Err}
+use Rattle.std.proofs.Common.{◌≡◌, ◌⊎◌, ◌≤◌, ℕ, zero, suc, List, [], ◌∷◌, ◌++◌, append_assoc, length, length-append, replicate, false, refl, sym, ap, subst, ◌∙◌, arith, inl, inr, IfOk, OnErr, Option, Some, None, Result, Ok, Err}
 use Rattle.std.proofs.lemmas.List.{length-replicate}
 use Rattle.refusal.specs.declared.NoMemory.{NoMemory}
 use Rattle.credit_book.specs.declared.book.Report.{Report}

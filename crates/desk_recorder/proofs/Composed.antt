@@ -1,11 +1,10 @@
 -- Records of changes, one behind the other.
-use Rattle.std.proofs.Common.{◌≡◌, ℕ, List, [], ◌∷◌, ◌++◌, append_assoc, true, false, refl, sym, ap, subst, ◌∙◌, IfOk, Result, Ok, Err}
+use Rattle.std.proofs.Common.{◌≡◌, ℕ, List, [], ◌∷◌, ◌++◌, append_assoc, true, false, refl, sym, ap, subst, ◌∙◌}
 use Rattle.std.proofs.lemmas.List.{append-nil}
 use Rattle.accounts.specs.Ledgers.{Ledger}
 use Rattle.journal.specs.Records.{record_of, journal_of, AllFitRecords}
 use Rattle.recovery.specs.Histories.{ReplaysChanges}
 use Rattle.desk_journal.specs.DeskSteps.{DeskState, MakesBytes}
-use Rattle.desk_journal.specs.declared.journaled_desk.OpenJob.{OpenJob}
 use Rattle.desk_recorder.specs.Recording.{HoldsOpen, IsChangeRecord, ChangesLead, RecordsChanges, RecordsMore}
 use Rattle.desk_recorder.specs.Histories.{IsDeskHistory, RecordsLead}
 use Rattle.desk_recorder.specs.declared.recorder.ChangeRecorder.{ChangeRecorder}

@@ -1,12 +1,11 @@
 -- What is told of a start, and the desk after it.
-use Rattle.std.proofs.Common.{◌≡◌, ℕ, sym, subst, Some, None, Option, Result, Ok, Err, OnErr, IfOk}
+use Rattle.std.proofs.Common.{◌≡◌, ℕ, sym, subst, Some, None, Result, Ok, Err, OnErr, IfOk}
 use Rattle.job_core.specs.Admitted.{AdmittedJob}
 use Rattle.job_core.specs.declared.admission.AdmitFault.{AdmitFault}
 use Rattle.accounts.specs.declared.fault.SubmitFault.{SubmitFault}
 use Rattle.accounts.specs.Ledgers.{Ledger, Finishes}
 use Rattle.streams.specs.Answering.{Settles}
 use Rattle.streams.specs.Refusing.{TellsStart, start_refused}
-use Rattle.streams.specs.declared.submit_refusal.SubmitRefusal.{SubmitRefusal}
 use Rattle.streams.specs.declared.submit_refusal.SubmitRefusal.TheVariants.{NotTaken, NotStarted}
 
 pub refused_ends : (old new : Ledger) (number job code : ℕ) → TellsStart old number (Some (NotStarted job code)) new → Finishes old job (Err code) new

@@ -2,18 +2,16 @@
 use Rattle.std.proofs.Common.{◌≡◌, ℕ, List, [], ◌∷◌, ◌++◌, length, Result, Ok, Err, Vec, refl, sym, subst}
 use Rattle.std.specs.declared.alloc.Global.{Global}
 use Rattle.credit_book.specs.declared.book.Report.{Report}
-use Rattle.job_core.specs.Admitted.{AdmittedJob}
-use Rattle.job_core.specs.Admission.{IsAdmittedFrom}
 use Rattle.job_core.specs.declared.admission.ProgramBytes.{ProgramBytes}
 use Rattle.journal.specs.Records.{record_of, FitsRecord}
-use Rattle.accounts.specs.Ledgers.{Ledger, Finishes, Forgets, GrantsMore, Takes}
+use Rattle.accounts.specs.Ledgers.{Ledger, Finishes, GrantsMore, Takes}
 use Rattle.desk_journal.specs.DeskChanges.{change_bytes}
-use Rattle.desk_journal.specs.DeskSteps.{DeskState, EndsJob, Makes, MakesBytes}
+use Rattle.desk_journal.specs.DeskSteps.{DeskState, EndsJob, Makes}
 use Rattle.desk_journal.specs.declared.change.DeskChange.{DeskChange}
 use Rattle.desk_journal.specs.declared.change.DeskChange.TheVariants.{Granted, Submitted, Finished, Failed, Forgotten}
 use Rattle.desk_journal.specs.declared.journaled_desk.OpenJob.{OpenJob}
 use Rattle.desk_recorder.specs.Recording.{HoldsOpen, IsEndRecord, IsForgettingRecord, IsGrantRecord, IsChangeRecord, IsSubmitRecord, ChangesLead}
-use Rattle.desk_recorder.proofs.Held.{Without, ended_held, ended_there, forgotten_held, held_without, left_held, same_open, taken_held}
+use Rattle.desk_recorder.proofs.Held.{ended_held, ended_there, forgotten_held, held_without, left_held, same_open, taken_held}
 
 -- a change that is made of a desk and its open jobs leads from one to the other
 by_change : (old new : Ledger) (change : DeskChange) → ((held : List OpenJob) → HoldsOpen held old → (after : List OpenJob) × HoldsOpen after new

@@ -1,5 +1,4 @@
 use Rattle.std.proofs.Common.{arith, inl, inr, refl, rules}
-use Rattle.std.proofs.lemmas.Result.{IfOk-weaker}
 use Rattle.desk_recorder.proofs.Composed.{records_nothing}
 use Rattle.desk_recorder.proofs.recorded_answers.keep_recorded.Goals as goal
 

@@ -1,4 +1,4 @@
-use Rattle.std.proofs.Common.{Ok, refl, sym, subst, inr, rules}
+use Rattle.std.proofs.Common.{Ok, refl, subst, inr, rules}
 use Rattle.sessions.specs.Grammar.{Asked}
 use Rattle.streams.specs.Answering.{Replies}
 use Rattle.streams.specs.Refusing.{TellsRefusal}

@@ -1,4 +1,4 @@
-use Rattle.std.proofs.Common.{refl, rules}
+use Rattle.std.proofs.Common.{rules}
 use Rattle.desk_recorder.proofs.Composed.{records_one, records_stop}
 use Rattle.desk_recorder.proofs.recorder.ChangeRecorder.put.Goals as goal
 
