@@ -7,6 +7,7 @@ use Rattle.accounts.specs.declared.jobs.JobStanding.TheVariants.{Open, Failed}
 use Rattle.accounts.specs.Ledgers.{Ledger}
 use Rattle.sessions.specs.Grammar.{Asked, submit}
 use Rattle.sessions.specs.Replies.{frame_or_refusal, refusal_data, submit_data}
+use Rattle.streams.specs.Answering.{Settles}
 use Rattle.streams.specs.declared.submit_refusal.SubmitRefusal.{SubmitRefusal}
 use Rattle.streams.specs.declared.submit_refusal.SubmitRefusal.TheVariants.{NotTaken, NotStarted}
 
@@ -25,6 +26,14 @@ IsJustTaken desk number = (number ≡ length desk.jobs) × LastStands desk Open
 abbrev pub start_refused : ℕ → Result (Unit {0}) ℕ → Option SubmitRefusal
 start_refused number (Ok started) = None
 start_refused number (Err code) = Some (NotStarted number code)
+
+-- This is told of the start of the job of this number, whether the reply finds memory or not, and
+-- the desk is so after it.
+pub record TellsStart (desk : Ledger) (number : ℕ) (refusal : Option SubmitRefusal)
+    (after : Ledger) : Type 0 where
+  pub outcome : Result (Unit {0}) ℕ
+  pub tells : refusal ≡ start_refused number outcome
+  pub settles : Settles desk number outcome after
 
 -- Nothing is told where the desk's last job, whose number is replied, is open. A start was refused
 -- where that job has failed with this code. Otherwise no job was taken, and the reply says so.

@@ -6,7 +6,7 @@ ghost use Rattle.accounts.specs.Ledgers.{account_at, progress_at, report_at};
 ghost use Rattle.sessions.specs.Replies.{reply_data};
 ghost use Rattle.sessions.specs.declared.reply.Reply.TheVariants.{Refused};
 ghost use Rattle.streams.specs.Answering.{Framed, Grants, GrantsNone, IsOpenJob, Replies, Settles, StartsTaken, Submits, account_told, progress_told, report_told, submit_refused};
-ghost use Rattle.streams.specs.Refusing.{IsJustTaken, SaysRefusal, TellsRefusal, start_refused};
+ghost use Rattle.streams.specs.Refusing.{IsJustTaken, SaysRefusal, TellsRefusal, TellsStart, start_refused};
 
 use crate::admitted_submit::AdmittedSubmit;
 use crate::pending_reply::PendingReply;
@@ -29,8 +29,8 @@ pub fn refused<'a>(code: u8) -> Reply<'a>
     }
 }
 
-// What is told of an account.
-fn account_reply<'a>(account: Result<Account, DeskFault>) -> Reply<'a>
+/// What is told of an account.
+pub fn account_reply<'a>(account: Result<Account, DeskFault>) -> Reply<'a>
     ensures { reply_data result ≡ account_told account }
 {
     match account {
@@ -98,8 +98,9 @@ fn refused_start(job: u64, started: Result<(), u8>) -> Option<SubmitRefusal>
     }
 }
 
-// Starts a job that was taken, and tells its number; or tells why it wasn't.
-fn answer_taken<N: Runner>(
+/// Starts a job that was taken, and tells its number; or tells why it wasn't. Beside the reply it
+/// tells why the job doesn't run.
+pub fn answer_taken<N: Runner>(
     alloc: Global,
     desk: &mut Desk,
     runner: &mut N,
@@ -113,6 +114,7 @@ fn answer_taken<N: Runner>(
         (λ fault. (desk.new ≡ desk.old) × (runner.new ≡ runner.old)
         × (told ≡ submit_refused fault))) }
     ensures refusal { IfOk result.1 (λ frame. SaysRefusal desk.new result.0 frame) }
+    ensures start { IfOk taken (λ t. TellsStart desk.old t.0 result.0 desk.new) }
 {
     match taken {
         Ok((number, job)) => {

@@ -28,8 +28,11 @@ mod prepared_request;
 mod runner;
 mod submit_refusal;
 
-pub use admitted_submit::AdmittedSubmit;
+pub use admitted_submit::{AdmittedSubmit, SubmitParts};
 pub use finished::pass_finished;
+pub use forms::{
+    account_reply, answer_account, answer_result, answer_status, answer_taken, refused,
+};
 pub use pending_reply::{PendingReply, written_frame};
 pub use prepared_request::{PreparedRequest, prepare, wants_admission};
 pub use runner::Runner;

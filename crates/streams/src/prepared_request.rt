@@ -6,10 +6,8 @@ ghost use Rattle.streams.specs.Prepared.{IsWithinBalance, asked_of};
 
 use crate::admitted_submit::AdmittedSubmit;
 use accounts::Desk;
-use job_core::admit;
 use sessions::Request;
 use std::alloc::Global;
-use std::snapshot::Snapshot;
 
 /// A request as it came, or the number of its refusal; or one for a job, which was admitted or
 /// refused ahead.
@@ -43,17 +41,9 @@ pub fn prepare(alloc: Global, request: Request) -> PreparedRequest
             programs,
             credit,
             buffer,
-        } => {
-            let before = Snapshot::of(&buffer);
-            let admitted = admit(alloc, &programs, credit, buffer);
-            PreparedRequest::Submit(AdmittedSubmit {
-                tenant,
-                programs,
-                credit,
-                admitted,
-                buffer: before,
-            })
-        }
+        } => PreparedRequest::Submit(AdmittedSubmit::admit(
+            alloc, tenant, programs, credit, buffer,
+        )),
         other => PreparedRequest::AsItCame(Ok(other)),
     }
 }

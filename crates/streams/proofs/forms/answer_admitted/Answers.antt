@@ -15,6 +15,6 @@ returns-clause-done g c =
     framed_as c.answer_taken.result.1 _ _
     (λ told h. to_admitted g.N.Runner.starts g.N.Runner.looks _ _ _ _ told _ s.tenant s.programs.items s.credit s.buffer.value.items _ (sym c.submit.view_is) (search rules)
     (submits_by g.N.Runner.starts t.result _ t.new.self _ _ s.programs.items s.credit s.buffer.value.items t.ensures.taken t.ensures.number
-    (admitted_if s.programs.items s.credit s.buffer.value.items s.admitted t.result c.submit.invariant t.ensures.job)
-    (t.ensures.refused s.programs.items s.buffer.value.items c.submit.invariant) t.ensures.unchanged told _ _ h))
+    (admitted_if s.programs.items s.credit s.buffer.value.items s.admitted t.result c.submit.invariant.0 t.ensures.job)
+    (t.ensures.refused s.programs.items s.buffer.value.items c.submit.invariant.0) t.ensures.unchanged told _ _ h))
     c.answer_taken.ensures.done

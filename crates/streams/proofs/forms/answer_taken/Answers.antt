@@ -39,3 +39,10 @@ pub returns-in-Err-clause-refusal : goal.returns-in-Err-clause-refusal
 returns-in-Err-clause-refusal g c =
     IfOk-weaker c.of_reply-reply-in-Err.result _ _ (λ frame is. (c.program.result, c.slot.result, is ∙ is_frame (Refused c.code-code.result c.program.result c.slot.result)))
     c.of_reply-reply-in-Err.ensures
+
+pub returns-in-Ok-clause-start : goal.returns-in-Ok-clause-start
+returns-in-Ok-clause-start g c = rw c.in-Ok.is (record {
+  outcome = c.start_job-started.result;
+  tells = c.refused_start.ensures;
+  settles = c.start_job-started.ensures.started.1;
+})

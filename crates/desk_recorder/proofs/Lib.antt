@@ -1,0 +1,6 @@
+mod Answered
+mod Composed
+mod Held
+mod Histories
+mod Starts
+mod Steps

@@ -1,0 +1,86 @@
+-- Where one change of a desk leads, with the jobs that are held.
+use Rattle.std.proofs.Common.{◌≡◌, ℕ, List, [], ◌∷◌, ◌++◌, length, Result, Ok, Err, Vec, refl, sym, subst}
+use Rattle.std.specs.declared.alloc.Global.{Global}
+use Rattle.credit_book.specs.declared.book.Report.{Report}
+use Rattle.job_core.specs.declared.admission.ProgramBytes.{ProgramBytes}
+use Rattle.journal.specs.Records.{record_of, FitsRecord}
+use Rattle.accounts.specs.Ledgers.{Ledger, Finishes, GrantsMore, Takes}
+use Rattle.desk_journal.specs.DeskChanges.{change_bytes}
+use Rattle.desk_journal.specs.DeskSteps.{DeskState, EndsJob, Makes}
+use Rattle.desk_journal.specs.declared.change.DeskChange.{DeskChange}
+use Rattle.desk_journal.specs.declared.change.DeskChange.TheVariants.{Granted, Submitted, Finished, Failed, Forgotten}
+use Rattle.desk_journal.specs.declared.journaled_desk.OpenJob.{OpenJob}
+use Rattle.desk_recorder.specs.Recording.{HoldsOpen, IsEndRecord, IsForgettingRecord, IsGrantRecord, IsChangeRecord, IsSubmitRecord, ChangesLead}
+use Rattle.desk_recorder.proofs.Held.{ended_held, ended_there, forgotten_held, held_without, left_held, same_open, taken_held}
+
+-- a change that is made of a desk and its open jobs leads from one to the other
+by_change : (old new : Ledger) (change : DeskChange) → ((held : List OpenJob) → HoldsOpen held old → (after : List OpenJob) × HoldsOpen after new
+    × Makes change (record { desk = old; held = held }) (record { desk = new; held = after })) → ChangesLead old (change_bytes change ∷ []) new
+by_change old new change makes held holds =
+    let t = makes held holds in
+    (t.0, t.1, (record { desk = new; held = t.0 }, (change, refl, t.2), refl))
+
+-- the record of such a change
+recorded : (bytes : List ℕ) (change : DeskChange) (old new : Ledger) → FitsRecord (change_bytes change) × (bytes ≡ record_of (change_bytes change)) → ChangesLead old (change_bytes change ∷ []) new
+    → IsChangeRecord bytes old new
+recorded bytes change old new are leads = record { payload = change_bytes change; are = are.1; fits = are.0; leads = leads }
+
+pub records_grant : (bytes : List ℕ) (tenant : Vec ℕ Global) (amount : ℕ) (name : List ℕ) → FitsRecord (change_bytes (Granted tenant amount)) × (bytes ≡ record_of (change_bytes (Granted tenant amount)))
+    → tenant.items ≡ name → IsGrantRecord bytes name amount
+records_grant bytes tenant amount name are same old new grants =
+    let more = subst (λ (n : List ℕ). GrantsMore old n amount new) (sym same) grants in
+    recorded bytes (Granted tenant amount) old new are (by_change old new (Granted tenant amount) (λ held holds. (held, same_open old new held more.jobs holds, (more, refl))))
+
+pub records_submit : (bytes : List ℕ) (tenant : Vec ℕ Global) (programs : Vec ProgramBytes Global) (credit : ℕ) (buffer : Vec ℕ Global) (name : List ℕ)
+    → FitsRecord (change_bytes (Submitted tenant programs credit buffer)) × (bytes ≡ record_of (change_bytes (Submitted tenant programs credit buffer)))
+    → tenant.items ≡ name → IsSubmitRecord bytes name programs.items credit buffer.items
+records_submit bytes tenant programs credit buffer name are same old new job takes admitted =
+    let taken = subst (λ (n : List ℕ). Takes old n credit new) (sym same) takes in
+    recorded bytes (Submitted tenant programs credit buffer) old new are (by_change old new (Submitted tenant programs credit buffer) (held_then taken))
+  where
+    open_job : OpenJob
+    open_job = record { number = length new.jobs; job = job }
+
+    held_then : Takes old tenant.items credit new → (held : List OpenJob) → HoldsOpen held old → (after : List OpenJob) × HoldsOpen after new
+        × Makes (Submitted tenant programs credit buffer) (record { desk = old; held = held }) (record { desk = new; held = after })
+    held_then taken held holds =
+        (held ++ open_job ∷ [], taken_held old new tenant.items credit held open_job taken refl holds, (taken, (open_job, admitted, refl, refl)))
+
+-- a job that ends is held no more
+ends : (old new : Ledger) (number : ℕ) (outcome : Result Report ℕ) → Finishes old number outcome new → (held : List OpenJob) → HoldsOpen held old
+    → (after : List OpenJob) × HoldsOpen after new × EndsJob number outcome (record { desk = old; held = held }) (record { desk = new; held = after })
+ends old new number outcome over held holds =
+    let without = held_without number held (holds number (ended_there old new number outcome over)) in
+    (without.rest, ended_held old new number outcome held without over holds, (over, without.is))
+
+pub records_report : (bytes : List ℕ) (number : ℕ) (report : Report) → FitsRecord (change_bytes (Finished number report)) × (bytes ≡ record_of (change_bytes (Finished number report)))
+    → IsEndRecord bytes number (Ok report)
+records_report bytes number report are old new over =
+    recorded bytes (Finished number report) old new are (by_change old new (Finished number report)
+    (λ held holds. let t = ends old new number (Ok report) over held holds in (t.0, t.1, (report, refl, t.2))))
+
+pub records_failure : (bytes : List ℕ) (number code : ℕ) → FitsRecord (change_bytes (Failed number code)) × (bytes ≡ record_of (change_bytes (Failed number code)))
+    → IsEndRecord bytes number (Err code)
+records_failure bytes number code are old new over =
+    recorded bytes (Failed number code) old new are (by_change old new (Failed number code) (ends old new number (Err code) over))
+
+pub records_forgetting : (bytes : List ℕ) (keep : ℕ) → FitsRecord (change_bytes (Forgotten keep)) × (bytes ≡ record_of (change_bytes (Forgotten keep))) → IsForgettingRecord bytes keep
+records_forgetting bytes keep are old new forgets =
+    recorded bytes (Forgotten keep) old new are (by_change old new (Forgotten keep) (λ held holds. (held, forgotten_held old new keep held forgets.jobs holds, (forgets, refl))))
+
+-- ---- any change keeps the open jobs held
+
+-- whichever job of the number is gone, it is the one that ended
+ended_so : (number : ℕ) (outcome : Result Report ℕ) (old new : DeskState) → EndsJob number outcome old new → HoldsOpen old.held old.desk → HoldsOpen new.held new.desk
+ended_so number outcome old new over holds =
+    ended_held old.desk new.desk number outcome old.held (record { rest = new.held; is = over.1; others = left_held number old.held new.held over.1 }) over.0 holds
+
+pub makes_held : (change : DeskChange) (old new : DeskState) → Makes change old new → HoldsOpen old.held old.desk → HoldsOpen new.held new.desk
+makes_held (Granted tenant amount) old new made holds =
+    subst (λ (l : List OpenJob). HoldsOpen l new.desk) (sym made.1) (same_open old.desk new.desk old.held made.0.jobs holds)
+makes_held (Submitted tenant programs credit buffer) old new made holds =
+    subst (λ (l : List OpenJob). HoldsOpen l new.desk) (sym made.1.3) (taken_held old.desk new.desk tenant.items credit old.held made.1.0 made.0 made.1.2 holds)
+makes_held (Finished number report) old new made holds = ended_so number (Ok made.0) old new made.2 holds
+makes_held (Failed number code) old new made holds = ended_so number (Err code) old new made holds
+makes_held (Forgotten keep) old new made holds =
+    subst (λ (l : List OpenJob). HoldsOpen l new.desk) (sym made.1) (forgotten_held old.desk new.desk keep old.held made.0.jobs holds)

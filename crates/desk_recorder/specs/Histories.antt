@@ -1,0 +1,30 @@
+-- The history of a desk: all changes that led to it.
+use Rattle.std.specs.Prelude.{◌≡◌, ℕ, List, ◌++◌, Result}
+use Rattle.accounts.specs.Ledgers.{Ledger}
+use Rattle.sessions.specs.Grammar.{Asked}
+use Rattle.journal.specs.Records.{journal_of, AllFitRecords}
+use Rattle.recovery.specs.Histories.{IsAfter}
+use Rattle.desk_journal.specs.DeskSteps.{IsNewDesk, MakesBytes}
+use Rattle.desk_journal.specs.declared.journaled_desk.OpenJob.{OpenJob}
+use Rattle.desk_recorder.specs.Recording.{HoldsOpen}
+
+-- a history of changes leads from a new desk to this one, with its open jobs
+abbrev pub IsDeskHistory : List (List ℕ) → Ledger → Type 0
+IsDeskHistory history desk = (held : List OpenJob) × HoldsOpen held desk
+    × IsAfter IsNewDesk MakesBytes history (record { desk = desk; held = held })
+
+-- A queue has taken the records of some more changes, in order. A history and these behind it lead
+-- to the desk.
+pub record RecordsLead {Q : Type 0} (taken : Q → List ℕ) (before after : Q)
+    (history : List (List ℕ)) (desk : Ledger) : Type 0 where
+  pub payloads : List (List ℕ)
+  pub fit : AllFitRecords payloads
+  pub more : taken after ≡ taken before ++ journal_of payloads
+  pub lead : IsDeskHistory (history ++ payloads) desk
+
+-- so many frames are answered, one after the other
+pub data AnswersInTurn {S : Type 0} (answers : S → Result Asked ℕ → List ℕ → S → Type 0)
+    (start : S) : S → Type 0 where
+  none_yet : AnswersInTurn answers start start
+  one_more : (s : S) (query : Result Asked ℕ) (reply : List ℕ) (t : S)
+      → AnswersInTurn answers start s → answers s query reply t → AnswersInTurn answers start t

@@ -1,0 +1,4 @@
+pub mod Histories
+pub mod Recording
+pub mod RecordedAnswers
+pub mod Restarts

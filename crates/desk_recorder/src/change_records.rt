@@ -1,0 +1,103 @@
+//! The record of each change, made from what is there before the change.
+
+ghost use Rattle.std.specs.Prelude.{◌≡◌, Err, IfOk, Ok};
+ghost use Rattle.desk_recorder.specs.Recording.{IsEndRecord, IsForgettingRecord, IsGrantRecord, IsSubmitRecord};
+
+use credit_book::Report;
+use desk_journal::DeskChange;
+use job_core::ProgramBytes;
+use recovery::{RecordFault, record_bytes};
+use std::alloc::Global;
+
+/// The record of a grant.
+pub fn grant_record(alloc: Global, tenant: &str, amount: u32) -> Result<Vec<u8>, RecordFault>
+    ensures { IfOk result (λ bytes. IsGrantRecord bytes.items tenant.now amount) }
+{
+    let Ok(tenant) = tenant.as_bytes().to_vec(alloc) else {
+        return Err(RecordFault::NoMemory);
+    };
+    record_bytes(alloc, &DeskChange::Granted { tenant, amount })
+}
+
+/// The record of a job that is taken.
+pub fn submit_record(
+    alloc: Global,
+    tenant: &str,
+    programs: Vec<ProgramBytes>,
+    credit: u32,
+    buffer: Vec<u8>,
+) -> Result<Vec<u8>, RecordFault>
+    ensures { IfOk result
+        (λ bytes. IsSubmitRecord bytes.items tenant.now programs.items credit buffer.items) }
+{
+    let Ok(tenant) = tenant.as_bytes().to_vec(alloc) else {
+        return Err(RecordFault::NoMemory);
+    };
+    let change = DeskChange::Submitted {
+        tenant,
+        programs,
+        credit,
+        buffer,
+    };
+    record_bytes(alloc, &change)
+}
+
+// The record of an open job's report, and the report, which isn't copied. (An arm that left parts of
+// its variant behind would be beyond the proof's borrow checker.)
+fn report_record(alloc: Global, job: u64, report: Report) -> (Result<Vec<u8>, RecordFault>, Report)
+    ensures record { IfOk result.0 (λ bytes. IsEndRecord bytes.items job (Ok report)) }
+    ensures same { result.1 ≡ report }
+{
+    let change = DeskChange::Finished { job, report };
+    let record = record_bytes(alloc, &change);
+    match change {
+        DeskChange::Finished { job: _job, report } => (record, report),
+        DeskChange::Granted {
+            tenant: _tenant,
+            amount: _amount,
+        } => unreachable!(),
+        DeskChange::Submitted {
+            tenant: _tenant,
+            programs: _programs,
+            credit: _credit,
+            buffer: _buffer,
+        } => unreachable!(),
+        DeskChange::Failed {
+            job: _job,
+            code: _code,
+        } => unreachable!(),
+        DeskChange::Forgotten { keep: _keep } => unreachable!(),
+    }
+}
+
+/// The record of an open job's failure.
+pub fn failure_record(alloc: Global, job: u64, code: u8) -> Result<Vec<u8>, RecordFault>
+    ensures { IfOk result (λ bytes. IsEndRecord bytes.items job (Err code)) }
+{
+    record_bytes(alloc, &DeskChange::Failed { job, code })
+}
+
+/// The record of an open job's end, and what the job came to.
+pub fn end_record(
+    alloc: Global,
+    job: u64,
+    outcome: Result<Report, u8>,
+) -> (Result<Vec<u8>, RecordFault>, Result<Report, u8>)
+    ensures record { IfOk result.0 (λ bytes. IsEndRecord bytes.items job outcome) }
+    ensures same { result.1 ≡ outcome }
+{
+    match outcome {
+        Ok(report) => {
+            let (record, report) = report_record(alloc, job, report);
+            (record, Ok(report))
+        }
+        Err(code) => (failure_record(alloc, job, code), Err(code)),
+    }
+}
+
+/// The record of what a desk forgets.
+pub fn forgetting_record(alloc: Global, keep: u64) -> Result<Vec<u8>, RecordFault>
+    ensures { IfOk result (λ bytes. IsForgettingRecord bytes.items keep) }
+{
+    record_bytes(alloc, &DeskChange::Forgotten { keep })
+}

@@ -1,0 +1,181 @@
+//! One answer of a desk and a runner, with the records of what it changes.
+
+ghost use Rattle.std.specs.Prelude.{◌≡◌, ◌⊎◌, ◌≤◌, ◌+◌, ℕ, List, IfErr, IfOk, OnErr, OnOk, Ok, false, unwrap_or};
+ghost use Rattle.accounts.specs.Ledgers.{GrantsMore, KeepsLast, RefusesGrant, account_at, granted_to, most_granted};
+ghost use Rattle.sessions.specs.Grammar.{request_asked};
+ghost use Rattle.streams.specs.Answering.{Framed, Grants, GrantsNone, Replies};
+ghost use Rattle.streams.specs.Prepared.{asked_of};
+ghost use Rattle.streams.specs.Refusing.{TellsRefusal};
+ghost use Rattle.desk_recorder.specs.Recording.{RecordsChanges};
+ghost use Rattle.desk_recorder.specs.RecordedAnswers.{AnswersRecorded};
+
+use crate::change_records::{forgetting_record, grant_record};
+use crate::record_queue::RecordQueue;
+use crate::recorded_ends::pass_recorded;
+use crate::recorded_submit::{answer_admitted_recorded, answer_submit_recorded};
+use crate::recorder::ChangeRecorder;
+use accounts::{Account, Desk, DeskFault};
+use refusal::NoMemory;
+use sessions::Request;
+use std::alloc::Global;
+use streams::{
+    PendingReply, PreparedRequest, Runner, SubmitRefusal, account_reply, answer_account,
+    answer_result, answer_status, refused,
+};
+
+// Grants credit as the desk does, and records that.
+fn grant_recorded<Q: RecordQueue>(
+    alloc: Global,
+    desk: &mut Desk,
+    recorder: &mut ChangeRecorder<Q>,
+    tenant: &str,
+    amount: u32,
+) -> Result<Account, DeskFault>
+    ensures granted { OnOk result (GrantsMore desk.old tenant.now amount desk.new) }
+    ensures within { OnOk result (unwrap_or (granted_to desk.old tenant.now) 0 + amount
+        ≤ most_granted) }
+    ensures account { IfOk result (λ _. result ≡ account_at desk.new tenant.now) }
+    ensures refused { IfErr result (λ e. RefusesGrant desk.old tenant.now amount e) }
+    ensures unchanged { OnErr result (desk.new ≡ desk.old) }
+    ensures records { RecordsChanges Q.taken Q.has_failed recorder.old recorder.new desk.old desk.new }
+{
+    let record = grant_record(alloc, tenant, amount);
+    match desk.grant(alloc, tenant, amount) {
+        Ok(account) => {
+            recorder.note(record);
+            Ok(account)
+        }
+        Err(fault) => Err(fault),
+    }
+}
+
+// Grants and records, and tells the account as it is then.
+fn answer_grant_recorded<Q: RecordQueue>(
+    alloc: Global,
+    desk: &mut Desk,
+    recorder: &mut ChangeRecorder<Q>,
+    tenant: &str,
+    amount: u32,
+) -> Result<PendingReply, NoMemory>
+    ensures done { Framed result (λ told. Grants desk.old tenant.now amount told desk.new
+        ⊎ GrantsNone desk.old tenant.now amount told desk.new) }
+    ensures records { RecordsChanges Q.taken Q.has_failed recorder.old recorder.new desk.old desk.new }
+{
+    let account = grant_recorded(alloc, desk, recorder, tenant, amount);
+    PendingReply::of_reply(alloc, &account_reply(account))
+}
+
+// Carries a request out and records what it changes. Gives the frame of its reply, and why a job
+// that was asked for doesn't run.
+fn carry_out_recorded<N: Runner, Q: RecordQueue>(
+    alloc: Global,
+    desk: &mut Desk,
+    runner: &mut N,
+    recorder: &mut ChangeRecorder<Q>,
+    request: Request,
+) -> (Option<SubmitRefusal>, Result<PendingReply, NoMemory>)
+    requires { N.ready runner.old }
+    ensures ready { N.ready runner.new }
+    ensures refusal { TellsRefusal desk.new (Ok (request_asked request)) result.0 result.1 }
+    ensures done { Framed result.1
+        (λ told. Replies N.starts N.looks desk.old runner.old
+        (Ok (request_asked request)) told desk.new
+        runner.new) }
+    ensures records { RecordsChanges Q.taken Q.has_failed recorder.old recorder.new desk.old desk.new }
+{
+    match request {
+        Request::Grant { tenant, amount } => {
+            let reply = answer_grant_recorded(alloc, desk, recorder, &tenant, amount);
+            (None, reply)
+        }
+        Request::Account { tenant } => (None, answer_account(alloc, desk, &tenant)),
+        Request::Submit {
+            tenant,
+            programs,
+            credit,
+            buffer,
+        } => answer_submit_recorded(
+            alloc, desk, runner, recorder, tenant, programs, credit, buffer,
+        ),
+        Request::Status { job } => (None, answer_status(alloc, desk, runner, job)),
+        Request::Result { job } => (None, answer_result(alloc, desk, job)),
+    }
+}
+
+// Carries a request out and records what it changes, or tells the number of its refusal.
+fn reply_recorded<N: Runner, Q: RecordQueue>(
+    alloc: Global,
+    desk: &mut Desk,
+    runner: &mut N,
+    recorder: &mut ChangeRecorder<Q>,
+    request: PreparedRequest,
+) -> (Option<SubmitRefusal>, Result<PendingReply, NoMemory>)
+    requires { N.ready runner.old }
+    ensures ready { N.ready runner.new }
+    ensures refusal { TellsRefusal desk.new (asked_of request) result.0 result.1 }
+    ensures done { Framed result.1
+        (λ told. Replies N.starts N.looks desk.old runner.old (asked_of request) told desk.new
+        runner.new) }
+    ensures records { RecordsChanges Q.taken Q.has_failed recorder.old recorder.new desk.old desk.new }
+{
+    match request {
+        PreparedRequest::AsItCame(Ok(request)) => {
+            carry_out_recorded(alloc, desk, runner, recorder, request)
+        }
+        PreparedRequest::AsItCame(Err(code)) => {
+            (None, PendingReply::of_reply(alloc, &refused(code)))
+        }
+        PreparedRequest::Submit(submit) => {
+            answer_admitted_recorded(alloc, desk, runner, recorder, submit)
+        }
+    }
+}
+
+// Forgets the reports of all but the last jobs, and records that, unless nothing has changed.
+fn keep_recorded<Q: RecordQueue>(
+    alloc: Global,
+    desk: &mut Desk,
+    recorder: &mut ChangeRecorder<Q>,
+    keep: u32,
+)
+    ensures kept { KeepsLast keep desk.old desk.new
+        ⊎ ((desk.new ≡ desk.old) × (recorder.old.has_changed ≡ false)) }
+    ensures records { RecordsChanges Q.taken Q.has_failed recorder.old recorder.new desk.old desk.new }
+{
+    if !recorder.has_changed {
+        return;
+    }
+    if keep == 0 {
+        return;
+    }
+    let keep = u64::from(keep);
+    desk.forget(keep);
+    recorder.note(forgetting_record(alloc, keep));
+}
+
+/// Passes every finished job to the desk, answers a request, and then has the desk forget the
+/// reports of all but the last jobs. Records each change.
+pub fn answer_recorded<N: Runner, Q: RecordQueue>(
+    alloc: Global,
+    desk: &mut Desk,
+    runner: &mut N,
+    recorder: &mut ChangeRecorder<Q>,
+    keep: u32,
+    request: PreparedRequest,
+) -> (Option<SubmitRefusal>, Result<PendingReply, NoMemory>)
+    requires { N.ready runner.old }
+    ensures ready { N.ready runner.new }
+    ensures refusal { TellsRefusal desk.new (asked_of request) result.0 result.1 }
+    ensures ok { IfOk result.1 (λ reply. AnswersRecorded N.starts N.looks N.takes Q.taken
+        Q.has_failed keep desk.old runner.old recorder.old (asked_of request) reply desk.new
+        runner.new recorder.new) }
+    ensures err { OnErr result.1 ((reply : List ℕ) × AnswersRecorded N.starts N.looks N.takes
+        Q.taken Q.has_failed keep desk.old runner.old recorder.old (asked_of request) reply
+        desk.new runner.new recorder.new) }
+{
+    recorder.begin();
+    pass_recorded(alloc, desk, runner, recorder);
+    let (refusal, reply) = reply_recorded(alloc, desk, runner, recorder, request);
+    keep_recorded(alloc, desk, recorder, keep);
+    (refusal, reply)
+}

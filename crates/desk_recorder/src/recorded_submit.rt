@@ -1,0 +1,177 @@
+//! A job that is taken, recorded and started.
+
+ghost use Rattle.std.specs.Prelude.{◌≡◌, ℕ, List, IfErr, IfOk, MatchResult, Ok, OnErr, OnOk, length};
+ghost use Rattle.accounts.specs.Ahead.{IsAdmissionOf};
+ghost use Rattle.accounts.specs.Ledgers.{Ledger, RefusesSubmit, Takes};
+ghost use Rattle.job_core.specs.Admission.{IsAdmittedFrom};
+ghost use Rattle.job_core.specs.declared.admission.ProgramBytes.{ProgramBytes};
+ghost use Rattle.streams.specs.Answering.{Framed, Replies, StartsTaken, submit_refused};
+ghost use Rattle.streams.specs.Refusing.{IsJustTaken, SaysRefusal, TellsRefusal};
+ghost use Rattle.streams.specs.Submits.{submit_asked};
+ghost use Rattle.desk_recorder.specs.Recording.{IsRecordedAdmission, RecordsChanges};
+
+use crate::change_records::submit_record;
+use crate::record_queue::RecordQueue;
+use crate::recorded_ends::note_start;
+use crate::recorder::ChangeRecorder;
+use accounts::{Desk, SubmitFault};
+use job_core::{AdmitFault, Job, ProgramBytes};
+use refusal::NoMemory;
+use std::alloc::Global;
+use streams::{AdmittedSubmit, PendingReply, Runner, SubmitParts, SubmitRefusal, answer_taken};
+
+// The record of a job that was admitted, and room for it in the queue. Want of memory refuses the
+// job.
+fn record_ahead<Q: RecordQueue>(
+    alloc: Global,
+    recorder: &mut ChangeRecorder<Q>,
+    tenant: &str,
+    programs: Vec<ProgramBytes>,
+    credit: u32,
+    admitted: Result<Job, AdmitFault>,
+    copy: Result<Vec<u8>, NoMemory>,
+) -> Result<(Job, Vec<u8>), AdmitFault>
+    ensures admission { (buffer : List ℕ) → IsAdmissionOf programs.items credit buffer admitted
+        → IfOk copy (λ bytes. bytes.items ≡ buffer)
+        → IsRecordedAdmission tenant.now programs.items credit buffer result }
+    ensures records { (desk : Ledger)
+        → RecordsChanges Q.taken Q.has_failed recorder.old recorder.new desk desk }
+{
+    let job = match admitted {
+        Ok(job) => job,
+        Err(fault) => return Err(fault),
+    };
+    let buffer = match copy {
+        Ok(buffer) => buffer,
+        Err(NoMemory) => return Err(AdmitFault::NoMemory),
+    };
+    let record = match submit_record(alloc, tenant, programs, credit, buffer) {
+        Ok(record) => record,
+        Err(_) => return Err(AdmitFault::NoMemory),
+    };
+    match recorder.reserve(record.len()) {
+        Ok(()) => Ok((job, record)),
+        Err(NoMemory) => Err(AdmitFault::NoMemory),
+    }
+}
+
+// Takes a job as the desk does, and records that.
+fn take_recorded<Q: RecordQueue>(
+    alloc: Global,
+    desk: &mut Desk,
+    recorder: &mut ChangeRecorder<Q>,
+    tenant: &str,
+    credit: u32,
+    admission: Result<(Job, Vec<u8>), AdmitFault>,
+) -> Result<(u64, Job), SubmitFault>
+    ensures taken { OnOk result (Takes desk.old tenant.now credit desk.new) }
+    ensures number { IfOk result (λ taken. taken.0 ≡ length desk.new.jobs) }
+    ensures admitted { (programs : List ProgramBytes) (buffer : List ℕ)
+        → IsRecordedAdmission tenant.now programs credit buffer admission
+        → IfOk result (λ taken. IsAdmittedFrom programs credit buffer taken.1) }
+    ensures refused { (programs : List ProgramBytes) (buffer : List ℕ)
+        → IsRecordedAdmission tenant.now programs credit buffer admission
+        → IfErr result (λ e. RefusesSubmit desk.old tenant.now programs credit buffer e) }
+    ensures unchanged { OnErr result (desk.new ≡ desk.old) }
+    ensures records { (programs : List ProgramBytes) (buffer : List ℕ)
+        → IsRecordedAdmission tenant.now programs credit buffer admission
+        → RecordsChanges Q.taken Q.has_failed recorder.old recorder.new desk.old desk.new }
+{
+    let (job, record) = match admission {
+        Ok(made) => made,
+        Err(fault) => return desk.take(alloc, tenant, credit, Err(fault)),
+    };
+    match desk.take(alloc, tenant, credit, Ok(job)) {
+        Ok(taken) => {
+            recorder.note(Ok(record));
+            Ok(taken)
+        }
+        Err(fault) => Err(fault),
+    }
+}
+
+// Starts a job that was taken and recorded, or tells why it wasn't. Records a start that is refused.
+fn start_recorded<N: Runner, Q: RecordQueue>(
+    alloc: Global,
+    desk: &mut Desk,
+    runner: &mut N,
+    recorder: &mut ChangeRecorder<Q>,
+    taken: Result<(u64, Job), SubmitFault>,
+) -> (Option<SubmitRefusal>, Result<PendingReply, NoMemory>)
+    requires ready { N.ready runner.old }
+    requires last { IfOk taken (λ t. IsJustTaken desk.old t.0) }
+    ensures ready { N.ready runner.new }
+    ensures done { Framed result.1 (λ told. MatchResult taken
+        (λ t. StartsTaken N.starts desk.old runner.old t.0 t.1 told desk.new runner.new)
+        (λ fault. (desk.new ≡ desk.old) × (runner.new ≡ runner.old)
+        × (told ≡ submit_refused fault))) }
+    ensures refusal { IfOk result.1 (λ frame. SaysRefusal desk.new result.0 frame) }
+    ensures records { RecordsChanges Q.taken Q.has_failed recorder.old recorder.new desk.old desk.new }
+{
+    match taken {
+        Ok(job) => {
+            let (refusal, reply) = answer_taken(alloc, desk, runner, Ok(job));
+            note_start(alloc, recorder, refusal);
+            (refusal, reply)
+        }
+        Err(fault) => answer_taken(alloc, desk, runner, Err(fault)),
+    }
+}
+
+/// Takes a job that was admitted or refused ahead, records it and starts it, and tells its number.
+/// Want of memory for the record refuses it by 99, behind 74 and 75.
+pub fn answer_admitted_recorded<N: Runner, Q: RecordQueue>(
+    alloc: Global,
+    desk: &mut Desk,
+    runner: &mut N,
+    recorder: &mut ChangeRecorder<Q>,
+    submit: AdmittedSubmit,
+) -> (Option<SubmitRefusal>, Result<PendingReply, NoMemory>)
+    requires { N.ready runner.old }
+    ensures ready { N.ready runner.new }
+    ensures done { Framed result.1
+        (λ told. Replies N.starts N.looks desk.old runner.old (Ok submit) told desk.new runner.new) }
+    ensures refusal { TellsRefusal desk.new (Ok submit) result.0 result.1 }
+    ensures records { RecordsChanges Q.taken Q.has_failed recorder.old recorder.new desk.old desk.new }
+{
+    let SubmitParts {
+        tenant,
+        programs,
+        credit,
+        admitted,
+        copy,
+        ..
+    } = submit.into_parts();
+    let name = tenant.as_str();
+    let admission = record_ahead(alloc, recorder, name, programs, credit, admitted, copy);
+    let taken = take_recorded(alloc, desk, recorder, name, credit, admission);
+    start_recorded(alloc, desk, runner, recorder, taken)
+}
+
+/// The same of a job that is admitted now, unless the desk refuses it whatever it is.
+pub fn answer_submit_recorded<N: Runner, Q: RecordQueue>(
+    alloc: Global,
+    desk: &mut Desk,
+    runner: &mut N,
+    recorder: &mut ChangeRecorder<Q>,
+    tenant: String,
+    programs: Vec<ProgramBytes>,
+    credit: u32,
+    buffer: Vec<u8>,
+) -> (Option<SubmitRefusal>, Result<PendingReply, NoMemory>)
+    requires { N.ready runner.old }
+    ensures ready { N.ready runner.new }
+    ensures done { Framed result.1 (λ told. Replies N.starts N.looks desk.old runner.old
+        (Ok (submit_asked tenant programs.items credit buffer.items)) told desk.new runner.new) }
+    ensures refusal { TellsRefusal desk.new
+        (Ok (submit_asked tenant programs.items credit buffer.items)) result.0 result.1 }
+    ensures records { RecordsChanges Q.taken Q.has_failed recorder.old recorder.new desk.old desk.new }
+{
+    match desk.may_submit(&tenant, credit) {
+        Ok(()) => {
+            let submit = AdmittedSubmit::admit(alloc, tenant, programs, credit, buffer);
+            answer_admitted_recorded(alloc, desk, runner, recorder, submit)
+        }
+        Err(fault) => answer_taken(alloc, desk, runner, Err(fault)),
+    }
+}

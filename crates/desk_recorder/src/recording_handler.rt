@@ -1,0 +1,91 @@
+//! A desk that answers, keeps the reports of its last jobs alone, and records what changes it.
+
+use crate::record_queue::RecordQueue;
+use crate::recorded_answers::answer_recorded;
+use crate::recorder::ChangeRecorder;
+use crate::restarting::restart_jobs;
+use accounts::Desk;
+use desk_journal::OpenJob;
+use refusal::NoMemory;
+use sessions::Request;
+use std::alloc::Global;
+use streams::{
+    Handler, PendingReply, PreparedRequest, Runner, SubmitRefusal, TellingHandler, written_frame,
+};
+
+/// Answers a request as the runner does, and then has the desk forget the reports of all but the
+/// last `keep` jobs; 0: it forgets none. Puts the record of each change of the desk into a queue.
+#[derive(Drop)]
+pub struct RecordingHandler<N, Q> {
+    runner: N,
+    keep: u32,
+    recorder: ChangeRecorder<Q>,
+}
+
+impl<N: Runner, Q: RecordQueue> RecordingHandler<N, Q> {
+    ghost use Rattle.std.specs.Prelude.{◌≡◌, false};
+    ghost use Rattle.desk_recorder.specs.Recording.{RecordsChanges};
+    ghost use Rattle.desk_recorder.specs.Restarts.{StartsEach};
+
+    /// A runner, how many jobs' reports are kept, and the queue of the records.
+    pub fn new(runner: N, keep: u32, queue: Q) -> RecordingHandler<N, Q>
+        ensures { (result.runner ≡ runner) × (result.keep ≡ keep)
+            × (result.recorder.queue ≡ queue) × (result.recorder.is_stopped ≡ false) }
+    {
+        RecordingHandler {
+            runner,
+            keep,
+            recorder: ChangeRecorder::new(queue),
+        }
+    }
+
+    /// Starts the open jobs of a recovered desk, each once and in this order. A refused start ends
+    /// the job by its number, which is recorded.
+    pub fn restart(&mut self, alloc: Global, desk: &mut Desk, jobs: Vec<OpenJob>)
+        requires { N.ready self.old.runner }
+        ensures ready { N.ready self.new.runner }
+        ensures starts { StartsEach N.starts desk.old self.old.runner jobs.items desk.new
+            self.new.runner }
+        ensures records { RecordsChanges Q.taken Q.has_failed self.old.recorder self.new.recorder
+            desk.old desk.new }
+        ensures same_keep { self.new.keep ≡ self.old.keep }
+    {
+        restart_jobs(alloc, desk, &mut self.runner, &mut self.recorder, jobs);
+    }
+}
+
+impl<N: Runner, Q: RecordQueue> Handler<Desk> for RecordingHandler<N, Q> {
+    ghost use Rattle.desk_recorder.specs.RecordedAnswers.{answers_recorded};
+
+    ghost ready = { λ h. N.ready h.runner };
+
+    ghost answers = { answers_recorded N.starts N.looks N.takes Q.taken Q.has_failed };
+
+    fn answer(
+        &mut self,
+        alloc: Global,
+        desk: &mut Desk,
+        request: Result<Request, u8>,
+    ) -> Result<Vec<u8>, NoMemory> {
+        let (_, reply) = self.answer_and_tell(alloc, desk, PreparedRequest::AsItCame(request));
+        written_frame(alloc, reply)
+    }
+}
+
+impl<N: Runner, Q: RecordQueue> TellingHandler for RecordingHandler<N, Q> {
+    fn answer_and_tell(
+        &mut self,
+        alloc: Global,
+        desk: &mut Desk,
+        request: PreparedRequest,
+    ) -> (Option<SubmitRefusal>, Result<PendingReply, NoMemory>) {
+        answer_recorded(
+            alloc,
+            desk,
+            &mut self.runner,
+            &mut self.recorder,
+            self.keep,
+            request,
+        )
+    }
+}
