@@ -1,5 +1,6 @@
 -- The command that a subcommand and its matches are.
-use Rattle.std.specs.Prelude.{◌≡◌, ◌==◌, ◌↔◌, ◌⊎◌, ℕ, ◌≤◌, if◌then◌else◌, IfSome, Bool, IsTrue, List, [], codes, Ok, unwrap_or, Option, Some, None, is_some, option_map, string_bytes, true}
+use Rattle.std.specs.Prelude.{◌≡◌, ◌==◌, ◌↔◌, ◌⊎◌, ℕ, ◌≤◌, if◌then◌else◌, IfSome, Bool, IsTrue, List, [], codes, Ok, unwrap_or, Option, Some, None, is_some, option_map, String, string_bytes, true}
+use Rattle.std.specs.declared.alloc.Global.{Global}
 use Rattle.std.specs.Str.Parse.{IsNumeral, digits_value, without_leading_plus}
 use Rattle.clap.specs.Faults.{fault_of}
 use Rattle.clap.specs.Words.{HasKind, Row, Text, all_of, first_of, kind_of, one_of, subcommand_of, takes}
@@ -9,7 +10,7 @@ use Rattle.bpfjobs_cli.specs.declared.commands.Command.TheVariants.{Assemble, Di
 use Rattle.bpfjobs_cli.specs.declared.commands.Endpoint.{Endpoint}
 use Rattle.bpfjobs_cli.specs.declared.commands.Endpoint.TheVariants.{Port, Socket}
 use Rattle.bpfjobs_cli.specs.declared.commands.EndpointFault.{EndpointFault}
-use Rattle.bpfjobs_cli.specs.declared.commands.EndpointFault.TheVariants.{Missing, Two, GrantsWithPort, TenantsWithPort, JobsOfNoTenant}
+use Rattle.bpfjobs_cli.specs.declared.commands.EndpointFault.TheVariants.{Missing, Two, GrantsWithPort, TenantsWithPort, JobsOfNoTenant, JournalWithTenants}
 use Rattle.bpfjobs_cli.specs.declared.commands.Serve.{Serve as Server}
 use Rattle.bpfjobs_cli.specs.declared.commands.ServeOptions.{ServeOptions}
 use Rattle.bpfjobs_cli.specs.declared.commands.Shown.{Shown}
@@ -85,7 +86,13 @@ AreTenantsOf rows (Socket path grants) tenants =
     × (first_of (codes "tenants") rows ≡ option_map string_bytes tenants.file)
     × AreJobsOf rows tenants.open_jobs
 
--- the words name no endpoint
+-- the path of the journal, if the words name one: then they name no tenants
+abbrev pub IsJournalOf : List Row → Option (String Global) → Type 0
+IsJournalOf rows journal =
+    (first_of (codes "journal") rows ≡ option_map string_bytes journal)
+    × ((journal ≡ None) ⊎ NameNoTenant rows)
+
+-- the words name no endpoint, or what doesn't go with it
 abbrev pub IsEndpointFault : List Row → EndpointFault → Type 0
 IsEndpointFault rows Missing =
     (one_of (codes "port") rows ≡ None) × (first_of (codes "socket") rows ≡ None)
@@ -98,6 +105,7 @@ IsEndpointFault rows TenantsWithPort =
     × (first_of (codes "grants") rows ≡ None) × NameTenants rows
 IsEndpointFault rows JobsOfNoTenant =
     ((jobs : ℕ) × IsNumberIn rows (codes "tenant-jobs") 1 1000000 jobs) × NameNoTenant rows
+IsEndpointFault rows JournalWithTenants = HasText rows (codes "journal") × NameTenants rows
 
 -- a word names no tenant, beside a socket
 pub record IsTenantFault (rows : List Row) (word : Text) (f : TenantFault) : Type 0 where
@@ -131,6 +139,7 @@ pub record AreOptionsOf (rows : List Row) (options : ServeOptions) : Type 0 wher
 pub record IsServeOf (rows : List Row) (serve : Server) : Type 0 where
   pub endpoint : IsEndpointOf rows serve.endpoint
   pub tenants : AreTenantsOf rows serve.endpoint serve.tenants
+  pub journal : IsJournalOf rows serve.journal
   pub options : AreOptionsOf rows serve.options
 
 abbrev pub IsCommandOf : Text → List Row → Command → Type 0
@@ -172,10 +181,15 @@ abbrev pub IsEndpointInRange : Endpoint → Type 0
 IsEndpointInRange (Port port) = (1 ≤ port) × (port ≤ 65535)
 IsEndpointInRange (Socket path grants) = Unit {0}
 
--- a server's numbers are in range
+-- there are no tenants with sockets of their own, and no file of them
+abbrev pub HaveNone : TenantWords → Type 0
+HaveNone tenants = (tenants.tenants.items ≡ []) × (tenants.file ≡ None)
+
+-- a server's numbers are in range, and it has a journal without tenants alone
 pub record IsServeInRange (serve : Server) : Type 0 where
   pub endpoint : IsEndpointInRange serve.endpoint
   pub tenants : AreTenants (tenants_in serve.tenants.tenants.items)
+  pub journal : (serve.journal ≡ None) ⊎ HaveNone serve.tenants
   pub tenant_jobs : IfSome serve.tenants.open_jobs (λ n. (1 ≤ n) × (n ≤ 1000000))
   pub workers : (1 ≤ serve.options.workers) × (serve.options.workers ≤ 16)
   pub sessions : IfSome serve.options.sessions (λ n. (1 ≤ n) × (n ≤ 1000000))

@@ -92,6 +92,12 @@ keep_rule = record (new_rule (codes "keep")) {
   parser = Some (vp.Signed (pos 0) (pos 1000000));
 }
 
+abbrev pub journal_rule : Rule
+journal_rule = record (new_rule (codes "journal")) {
+  long = Some (codes "journal");
+  value_names = 1;
+}
+
 abbrev pub until_eof_rule : Rule
 until_eof_rule = record (new_rule (codes "until-eof")) {
   long = Some (codes "until-eof");
@@ -128,9 +134,10 @@ run_app = with_rule (with_rule (new_app (codes "run")) workers_rule) tree_rule
 abbrev pub serve_app : App
 serve_app =
     with_rule (with_rule (with_rule (with_rule (with_rule (with_rule (with_rule (with_rule
-    (with_rule (with_rule (with_rule (with_rule (with_rule (with_rule (new_app (codes "serve"))
-    port_rule) socket_rule) grants_rule) tenant_rule) tenants_rule) tenant_jobs_rule) workers_rule)
-    sessions_rule) clients_rule) timeout_rule) open_jobs_rule) keep_rule) until_eof_rule) log_rule
+    (with_rule (with_rule (with_rule (with_rule (with_rule (with_rule (with_rule
+    (new_app (codes "serve")) port_rule) socket_rule) grants_rule) tenant_rule) tenants_rule)
+    tenant_jobs_rule) workers_rule) sessions_rule) clients_rule) timeout_rule) open_jobs_rule)
+    keep_rule) journal_rule) until_eof_rule) log_rule
 
 -- the program without its commands, which tells its version
 abbrev pub named_app : App

@@ -21,12 +21,14 @@ pub enum Command {
     Serve(Serve),
 }
 
-/// A server: where it listens, for which tenants apart, and its options.
+/// A server: where it listens, for which tenants apart, its journal and its options.
 #[derive(Debug, PartialEq, Eq, Drop)]
 pub struct Serve {
     pub endpoint: Endpoint,
-    /// The tenants with sockets of their own: none beside a port.
+    /// The tenants with sockets of their own: none beside a port, and none beside a journal.
     pub tenants: TenantWords,
+    /// The path of the file that keeps its journal, if the words name one.
+    pub journal: Option<String>,
     pub options: ServeOptions,
 }
 
@@ -82,7 +84,7 @@ pub struct CommandRequest<'a> {
     pub shown: Shown<'a>,
 }
 
-/// The reason why the options of `serve` name no endpoint.
+/// The reason why the options of `serve` name no endpoint, or don't go with it.
 #[derive(Clone, Copy, Debug, PartialEq, Eq)]
 pub enum EndpointFault {
     /// Neither a port nor a socket.
@@ -95,6 +97,8 @@ pub enum EndpointFault {
     TenantsWithPort,
     /// A limit for each tenant, where no tenant is named.
     JobsOfNoTenant,
+    /// A journal beside tenants with sockets of their own.
+    JournalWithTenants,
 }
 
 impl EndpointFault {
@@ -107,6 +111,9 @@ impl EndpointFault {
             EndpointFault::TenantsWithPort => "error: serve takes tenants with --socket alone",
             EndpointFault::JobsOfNoTenant => {
                 "error: serve takes --tenant-jobs with --tenant or --tenants alone"
+            }
+            EndpointFault::JournalWithTenants => {
+                "error: serve takes --journal or tenants with sockets, and not both"
             }
         }
     }

@@ -3,7 +3,7 @@
 ghost use Rattle.std.specs.Prelude.{◌≡◌, false, codes, IfOk};
 ghost use Rattle.clap.specs.Words.{app_of, new_app, rule_of};
 ghost use Rattle.clap.specs.declared.builder.command.Command.TheViews.{out-Command as fields_of};
-ghost use Rattle.bpfjobs_cli.specs.Program.{need_rule, port_rule, socket_rule, grants_rule, tenant_rule, tenants_rule, tenant_jobs_rule, workers_rule, sessions_rule, clients_rule, timeout_rule, open_jobs_rule, keep_rule, until_eof_rule, log_rule, trace_rule, trace_json_rule, tree_rule, named_app, verify_app, play_app, run_app, serve_app, bpfjobs_app, with_text_commands};
+ghost use Rattle.bpfjobs_cli.specs.Program.{need_rule, port_rule, socket_rule, grants_rule, tenant_rule, tenants_rule, tenant_jobs_rule, workers_rule, sessions_rule, clients_rule, timeout_rule, open_jobs_rule, keep_rule, journal_rule, until_eof_rule, log_rule, trace_rule, trace_json_rule, tree_rule, named_app, verify_app, play_app, run_app, serve_app, bpfjobs_app, with_text_commands};
 
 use crate::texts;
 use clap::{Arg, ArgAction, Command};
@@ -155,6 +155,16 @@ fn keep<'a>(alloc: Global) -> Arg<'a>
         .default_value("0")
 }
 
+fn journal<'a>(alloc: Global) -> Arg<'a>
+    ensures rule { rule_of result ≡ journal_rule }
+    ensures local { result.global ≡ false }
+{
+    Arg::new(alloc, "journal")
+        .long("journal")
+        .value_name("FILE")
+        .help(texts::JOURNAL)
+}
+
 fn until_eof<'a>(alloc: Global) -> Arg<'a>
     ensures rule { rule_of result ≡ until_eof_rule }
     ensures local { result.global ≡ false }
@@ -274,6 +284,7 @@ fn serve<'a>(alloc: Global) -> Result<Command<'a>, AllocError>
         .arg(timeout(alloc))?
         .arg(open_jobs(alloc))?
         .arg(keep(alloc))?
+        .arg(journal(alloc))?
         .arg(until_eof(alloc))?
         .arg(log(alloc))
 }

@@ -7,7 +7,7 @@ ghost use Rattle.bpfjobs_cli.specs.Program.{bpfjobs_app};
 ghost use Rattle.bpfjobs_cli.specs.declared.commands.Endpoint.TheVariants.{Port};
 ghost use Rattle.bpfjobs_cli.specs.Tenants.{entered, tenants_in, words_said};
 ghost use Rattle.bpfjobs_cli.specs.Entries.{IsWordUsage};
-ghost use Rattle.bpfjobs_cli.specs.Commands.{AreJobsOf, AreOptionsOf, AreTenantsOf, IsCommandOf, IsEndpointOf, IsEndpointUsage, IsFlagOf, IsInRange, IsMaybeNumber, IsNumberIn, IsServeOf, IsShownOf, IsUsage, NameNoTenant, NameTenants, SaysCommand, SaysServe, sessions_said, tenant_words};
+ghost use Rattle.bpfjobs_cli.specs.Commands.{AreJobsOf, AreOptionsOf, AreTenantsOf, IsCommandOf, IsEndpointOf, IsEndpointUsage, IsFlagOf, IsInRange, IsJournalOf, IsMaybeNumber, IsNumberIn, IsServeOf, IsShownOf, IsUsage, NameNoTenant, NameTenants, SaysCommand, SaysServe, sessions_said, tenant_words};
 
 use crate::commands::{
     Command, CommandRequest, Endpoint, EndpointFault, Serve, ServeOptions, Shown, Usage,
@@ -200,6 +200,24 @@ fn tenants(
     }
 }
 
+// The path of a server's journal, if the words name one.
+fn journal(alloc: Global, matches: &ArgMatches<'_>) -> Result<Option<String>, Usage>
+    ensures ok { IfOk result (λ journal. IsJournalOf (rows_of (found_of matches.now)) journal) }
+    ensures err { IfErr result (λ usage.
+        IsEndpointUsage (rows_of (found_of matches.now)) usage) }
+{
+    let names = names_tenants(matches);
+    match text(alloc, matches, "journal")? {
+        Some(path) => {
+            if names {
+                return Err(Usage::Endpoint(EndpointFault::JournalWithTenants));
+            }
+            Ok(Some(path))
+        }
+        None => Ok(None),
+    }
+}
+
 // The options of a server.
 fn options(matches: &ArgMatches<'_>) -> ServeOptions
     requires { (o : ServeOptions) × AreOptionsOf (rows_of (found_of matches.now)) o }
@@ -225,18 +243,24 @@ fn serve_of(alloc: Global, matches: &ArgMatches<'_>) -> Result<Serve, Usage>
     ensures ok { IfOk result (λ serve. IsServeOf (rows_of (found_of matches.now)) serve) }
     ensures err { IfErr result (λ usage. IsEndpointUsage (rows_of (found_of matches.now)) usage) }
 {
-    match endpoint(alloc, matches) {
-        Ok(endpoint) => match tenants(alloc, matches, &endpoint) {
-            Ok(tenants) => {
-                let options = options(matches);
-                Ok(Serve {
-                    endpoint,
-                    tenants,
-                    options,
-                })
-            }
-            Err(usage) => Err(usage),
-        },
+    let endpoint = match endpoint(alloc, matches) {
+        Ok(endpoint) => endpoint,
+        Err(usage) => return Err(usage),
+    };
+    let tenants = match tenants(alloc, matches, &endpoint) {
+        Ok(tenants) => tenants,
+        Err(usage) => return Err(usage),
+    };
+    match journal(alloc, matches) {
+        Ok(journal) => {
+            let options = options(matches);
+            Ok(Serve {
+                endpoint,
+                tenants,
+                journal,
+                options,
+            })
+        }
         Err(usage) => Err(usage),
     }
 }
@@ -282,7 +306,7 @@ fn shown_of<'a>(matches: &ArgMatches<'a>) -> Shown<'a>
 /// The command that the words ask for, and what is shown beside its answer. The first word is the
 /// program's name. The subcommand, its numbers and paths are those that clap's matches of the words
 /// give. Words that clap takes are refused for want of memory, and where a server's options name no
-/// endpoint.
+/// endpoint, or don't go with it.
 pub fn request<'a>(alloc: Global, words: &'a [String]) -> Result<CommandRequest<'a>, Usage>
     ensures ok { IfOk result (λ request. (name : Text) × (rows : List Row)
         × (subcommand_of bpfjobs_app (map string_bytes words.now) ≡ Some (name, rows))

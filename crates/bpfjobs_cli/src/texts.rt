@@ -96,7 +96,13 @@ there makes no grant (73), and knows no other tenant (74) and no other's job (76
 NAME PATH of --tenants FILE too, where `#` begins a comment. With --tenant-jobs COUNT each tenant, and
 everybody else as one, may have so many jobs open; a line NAME PATH open-jobs COUNT, from 0 for any
 number to 1000000, has its tenant's own.
-Status: 0 once so many connections have ended, 3 where one of them or a socket failed.
+
+With --journal FILE each change of the desk is a record of FILE, which is made where there is none. A
+reply is sent once the records of what it tells are on the disk. A server that starts with FILE goes
+on from its records: with their accounts, reports and numbers, and the jobs that were open begin
+anew. A torn record at the end is cut off; FILE is not used where it is damaged, or another server
+has it (3). FILE only grows.
+Status: 0 once so many connections have ended, 3 where one of them, a socket or the journal failed.
 
 Example:
   $ bpfjobs serve --port 7070 --sessions 1 &
@@ -132,6 +138,9 @@ pub(crate) const OPEN_JOBS: &str =
 
 pub(crate) const KEEP: &str =
     "Last jobs whose reports are kept, 0 for all, to 1000000: earlier ones are told as 76";
+
+pub(crate) const JOURNAL: &str =
+    "Without tenants: a file that keeps each grant and job, from which a later server goes on";
 
 pub(crate) const UNTIL_EOF: &str =
     "Takes no more connections once standard input has ended, and ends with those it has";

@@ -17,8 +17,9 @@ returns-clause-app c =
     let tenth = c.in_ok-arg-10.ensures.shape c.timeout.ensures.local ∙ ap₂ with_rule ninth c.timeout.ensures.rule in
     let eleventh = c.in_ok-arg-11.ensures.shape c.open_jobs.ensures.local ∙ ap₂ with_rule tenth c.open_jobs.ensures.rule in
     let twelfth = c.in_ok-arg-12.ensures.shape c.keep.ensures.local ∙ ap₂ with_rule eleventh c.keep.ensures.rule in
-    let thirteenth = c.in_ok-arg-13.ensures.shape c.until_eof.ensures.local ∙ ap₂ with_rule twelfth c.until_eof.ensures.rule in
-    IfOk-weaker c.arg-14.result _ _ (λ r h. h.shape c.log.ensures.local ∙ ap₂ with_rule thirteenth c.log.ensures.rule) c.arg-14.ensures
+    let thirteenth = c.in_ok-arg-13.ensures.shape c.journal.ensures.local ∙ ap₂ with_rule twelfth c.journal.ensures.rule in
+    let fourteenth = c.in_ok-arg-14.ensures.shape c.until_eof.ensures.local ∙ ap₂ with_rule thirteenth c.until_eof.ensures.rule in
+    IfOk-weaker c.arg-15.result _ _ (λ r h. h.shape c.log.ensures.local ∙ ap₂ with_rule fourteenth c.log.ensures.rule) c.arg-15.ensures
 
 pub returns-clause-local : goal.returns-clause-local
 returns-clause-local c =
@@ -35,5 +36,6 @@ returns-clause-local c =
     let tenth = c.in_ok-arg-10.ensures.globals ∙ ap₂ either ninth c.timeout.ensures.local in
     let eleventh = c.in_ok-arg-11.ensures.globals ∙ ap₂ either tenth c.open_jobs.ensures.local in
     let twelfth = c.in_ok-arg-12.ensures.globals ∙ ap₂ either eleventh c.keep.ensures.local in
-    let thirteenth = c.in_ok-arg-13.ensures.globals ∙ ap₂ either twelfth c.until_eof.ensures.local in
-    IfOk-weaker c.arg-14.result _ _ (λ r h. h.globals ∙ ap₂ either thirteenth c.log.ensures.local) c.arg-14.ensures
+    let thirteenth = c.in_ok-arg-13.ensures.globals ∙ ap₂ either twelfth c.journal.ensures.local in
+    let fourteenth = c.in_ok-arg-14.ensures.globals ∙ ap₂ either thirteenth c.until_eof.ensures.local in
+    IfOk-weaker c.arg-15.result _ _ (λ r h. h.globals ∙ ap₂ either fourteenth c.log.ensures.local) c.arg-15.ensures

@@ -1,4 +1,4 @@
-use Rattle.std.proofs.Common.{◌∙◌, List, ap, codes, inl, inr, is_some, option_map, refl}
+use Rattle.std.proofs.Common.{◌∙◌, List, ap, codes, inl, inr, is_some, option_map}
 use Rattle.std.specs.Borrow.{Bor}
 use Rattle.clap.specs.Words.{Text, found_of}
 use Rattle.bpfjobs_cli.proofs.FlagLemmas.{all_is, first_is, first_some}

@@ -1,0 +1,275 @@
+"""Clients of a server with a journal, which is killed at any moment, and what has to be there afterwards."""
+
+import hashlib
+import json
+import os
+import random
+import threading
+import time
+
+from journals import Book, Keeper, book_of, change_of, payloads_of, read
+from trees import Planter, comparable
+
+# How many results are asked for at once.
+AT_ONCE = 100
+
+
+class Good:
+    """A job that a server takes: what is asked for, and what it has to come to."""
+
+    def __init__(self, tree):
+        programs = [{"need": need, "code": code.hex()} for need, code in tree.programs]
+        self.request = {"op": "submit", "programs": programs, "credit": tree.credit, "buffer": tree.buffer.hex()}
+        self.asked = tree.programs, tree.credit, tree.buffer
+        self.report = tree.report()
+        self.spent = self.report["spent"]
+
+    def is_right(self, reply):
+        return bool(reply.get("ok")) and comparable(reply) == self.report
+
+
+def good_jobs(assemble, seed, count=10):
+    planter = Planter(seed, assemble)
+    return [Good(planter.tree()) for _ in range(count)]
+
+
+class Tenant:
+    """What a tenant was told, and what it asked for without a reply."""
+
+    def __init__(self, load, number):
+        self.load, self.name = load, f"tenant-{number}"
+        self.random = random.Random(load.seed * 1_000_003 + number)
+        self.granted, self.grants_unsure = 0, []
+        # the jobs of which the number was told, those of which it wasn't, and the results that were told
+        self.jobs, self.unsure, self.results = {}, [], {}
+        self.asked = []
+
+    def visit(self, client):
+        """Requests until the server is gone."""
+        while True:
+            requests = [self.random.choice(self.ACTS)(self) for _ in range(self.random.choice((1, 1, 1, 4)))]
+            self.asked = list(requests)
+            client.stream.sendall(b"".join(framed({**request, "tenant": self.name}) for request, _ in requests))
+            for request, good in requests:
+                self.take(request, good, client.next_told())
+                self.asked.pop(0)
+                self.load.told += 1
+
+    def give_up(self):
+        """The requests without a reply: each may have been carried out."""
+        for request, good in self.asked:
+            if request["op"] == "grant":
+                self.grants_unsure.append(request["amount"])
+            elif request["op"] == "submit":
+                self.unsure.append(good)
+        self.asked = []
+
+    # ---- requests
+
+    def grant(self):
+        return {"op": "grant", "amount": self.random.randint(1, 200_000)}, None
+
+    def submit(self):
+        good = self.random.choice(self.load.good)
+        return good.request, good
+
+    def look(self):
+        return {"op": "account"}, None
+
+    def result(self):
+        if not self.jobs:
+            return self.look()
+        return {"op": "result", "job": self.random.choice(list(self.jobs)[-20:])}, None
+
+    ACTS = [grant, submit, submit, look, result, result]
+
+    # ---- replies
+
+    def take(self, request, good, told):
+        reply = json.loads(told)
+        if request["op"] == "grant":
+            self.granted += request["amount"]
+            self.expect(reply.get("ok") and reply["granted"] == self.granted, f"a grant: {reply}, of {self.granted}")
+        elif request["op"] == "submit":
+            self.expect(reply.get("ok") or reply.get("code") in (74, 75), f"a job: {reply}")
+            if reply.get("ok"):
+                self.take_number(reply["job"], good)
+        elif request["op"] == "result":
+            self.take_result(request["job"], told)
+        elif reply.get("ok"):
+            adds = reply["balance"] + reply["open"] + reply["spent"] == reply["granted"] == self.granted
+            self.expect(adds, f"an account: {reply}, of {self.granted}")
+
+    def take_number(self, number, good):
+        self.expect(self.load.is_new(number), f"the number {number} of a job is that of another one")
+        self.jobs[number] = good
+
+    def take_result(self, number, told):
+        """A result is told once the job is over, and then the same for ever."""
+        reply = json.loads(told)
+        if reply.get("code") == 77:
+            self.expect(number not in self.results, f"job {number} is open again")
+            return
+        self.expect(self.jobs[number].is_right(reply), f"the result of job {number}: {reply}")
+        digest = hashlib.sha256(told).digest()
+        before = self.results.setdefault(number, digest)
+        self.expect(before == digest, f"the result of job {number} is another one")
+
+    def place(self, number, job):
+        """A job that was recorded as this tenant's is one that it asked for."""
+        if number in self.jobs:
+            self.expect(self.jobs[number].asked == job[1:], f"job {number} is recorded as another one")
+            return
+        for good in self.unsure:
+            if good.asked == job[1:]:
+                self.unsure.remove(good)
+                self.load.is_new(number)
+                self.load.found += 1
+                self.jobs[number] = good
+                return
+        self.expect(False, f"job {number} was recorded, and not asked for")
+
+    def expect(self, holds, what):
+        if not holds:
+            self.load.wrong.append(f"{self.name}: {what}")
+
+
+def framed(request):
+    text = json.dumps(request).encode()
+    return len(text).to_bytes(4, "big") + text
+
+
+class Load:
+    """A server that is killed and started anew, and the tenants that keep it busy."""
+
+    def __init__(self, folder, seed, good, clients=4, workers=2, words=()):
+        self.seed, self.good, self.random = seed, good, random.Random(seed)
+        self.server = Keeper(folder, *words, clients=clients + 1, workers=workers)
+        self.tenants = [Tenant(self, number) for number in range(clients)]
+        self.numbers, self.lock = set(), threading.Lock()
+        self.floor, self.told, self.wrong, self.kills = 0, 0, [], 0
+        # how many jobs were found that nobody was told of, and how many kills left a torn record
+        self.found, self.torn = 0, 0
+        # the records that were read, up to which place, and how many jobs they have
+        self.book, self.at, self.followed = Book(), 0, 0
+
+    def is_new(self, number):
+        """Whether a number is told for the first time, and is over all that were told by earlier servers."""
+        with self.lock:
+            is_new = number not in self.numbers and number > self.floor
+            self.numbers.add(number)
+            return is_new
+
+    def end(self):
+        self.server.end()
+
+    def round(self, longest, everything=True):
+        """Starts the server, looks for what was told, has the tenants at work, and kills it."""
+        self.server.start()
+        if self.random.random() < 0.15:
+            # while it reads its journal, or its jobs begin
+            time.sleep(self.random.uniform(0, 0.03))
+            self.kill()
+            self.server.start()
+        with self.server.connect() as client:
+            self.audit(client, everything)
+        self.floor = max(self.numbers, default=0)
+        threads = [threading.Thread(target=self.work, args=(tenant,)) for tenant in self.tenants]
+        for thread in threads:
+            thread.start()
+        time.sleep(self.random.uniform(0, longest))
+        self.kill()
+        for thread in threads:
+            thread.join()
+
+    def kill(self):
+        self.server.kill()
+        self.kills += 1
+        if os.path.exists(self.server.journal):
+            with open(self.server.journal, "rb") as file:
+                file.seek(self.at)
+                self.torn += bool(payloads_of(file.read())[1])
+
+    def work(self, tenant):
+        try:
+            with self.server.connect() as client:
+                tenant.visit(client)
+        except OSError:
+            tenant.give_up()
+        except Exception as error:  # noqa: B902  (it fails the test, in whose thread it is told)
+            self.wrong.append(f"{tenant.name}: {error!r}")
+
+    # ---- what has to be there
+
+    def audit(self, client, everything=True):
+        """Looks for all that was told, in the records and in replies."""
+        self.follow()
+        for tenant in self.tenants:
+            self.audit_grants(client, tenant)
+            self.audit_results(client, tenant, everything)
+            self.audit_account(client, tenant)
+
+    def follow(self):
+        """Reads the records that are new, and finds the jobs whose numbers nobody was told."""
+        with open(self.server.journal, "rb") as file:
+            file.seek(self.at)
+            data = file.read()
+        payloads, rest = payloads_of(data)
+        self.at += len(data) - len(rest)
+        for payload in payloads:
+            self.book.add(change_of(payload))
+        named = {tenant.name: tenant for tenant in self.tenants}
+        for number in range(self.followed + 1, len(self.book.jobs) + 1):
+            job = self.book.jobs[number - 1]
+            named[job[0]].place(number, job)
+        self.followed = len(self.book.jobs)
+        for tenant in self.tenants:
+            tenant.unsure = []
+            lost = [number for number in tenant.jobs if number > self.followed]
+            tenant.expect(not lost, f"the jobs {lost} were told, and are no records")
+
+    def audit_grants(self, client, tenant):
+        """All that was told was granted, and of the rest the first ones."""
+        reply = client.ask({"op": "account", "tenant": tenant.name})
+        told = reply.get("granted", 0)
+        may_be = [tenant.granted + sum(tenant.grants_unsure[:count]) for count in range(len(tenant.grants_unsure) + 1)]
+        tenant.expect(told in may_be, f"{reply}, of {tenant.granted} granted, and perhaps {tenant.grants_unsure}")
+        by_records = self.book.granted.get(tenant.name, 0)
+        tenant.expect(told == by_records, f"{reply}, and {by_records} by the records")
+        tenant.granted, tenant.grants_unsure = told, []
+
+    def audit_results(self, client, tenant, everything):
+        """Each job that wasn't seen over, and of the others all or some."""
+        over = list(tenant.results)
+        if not everything:
+            over = self.random.sample(over, min(len(over), AT_ONCE))
+        numbers = [number for number in tenant.jobs if number not in tenant.results] + over
+        for at in range(0, len(numbers), AT_ONCE):
+            part = numbers[at : at + AT_ONCE]
+            for number, told in zip(part, client.told_all([{"op": "result", "job": number} for number in part])):
+                tenant.take_result(number, told)
+        for number in tenant.jobs:
+            if number not in tenant.results:
+                tenant.take_result(number, client.over(number))
+
+    def audit_account(self, client, tenant):
+        """The account of a tenant whose jobs are all over."""
+        reply = client.ask({"op": "account", "tenant": tenant.name})
+        spent = sum(good.spent for good in tenant.jobs.values())
+        balance = tenant.granted - spent
+        told = {"balance": balance, "granted": tenant.granted, "ok": True, "open": 0, "spent": spent}
+        tenant.expect(reply == told or not tenant.granted, f"{reply}, in place of {told}")
+
+    def audit_all(self):
+        """The same once more, and of the records once all jobs are over."""
+        self.server.start()
+        with self.server.connect() as client:
+            self.audit(client)
+        self.kill()
+        data = read(self.server.journal)
+        book = book_of(data)
+        if payloads_of(data)[1] or sorted(book.ends) != list(range(1, len(book.jobs) + 1)):
+            self.wrong.append("the records leave a job open, or bytes stand behind them")
+        for tenant in self.tenants:
+            for number, good in tenant.jobs.items():
+                tenant.expect(good.is_right(book.ends[number]), f"the record of job {number}")

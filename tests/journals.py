@@ -1,0 +1,239 @@
+"""A journal's records, read and made without the program, and the servers that keep it."""
+
+import json
+import os
+import signal
+import struct
+import subprocess
+import time
+import zlib
+
+from programs import BPFJOBS, PATIENCE, frame, is_read
+from test_local import Client
+
+HEADER = 8
+
+
+class NotARecord(Exception):
+    """The bytes of a payload that say no change."""
+
+
+def record(payload):
+    """A payload behind its length and its checksum."""
+    length = struct.pack("<I", len(payload))
+    return length + struct.pack("<I", zlib.crc32(length + payload)) + payload
+
+
+def payloads_of(data):
+    """The payloads of the whole records at the front, and what stands behind them."""
+    payloads, at = [], 0
+    while len(data) - at >= HEADER:
+        (length,) = struct.unpack_from("<I", data, at)
+        payload = data[at + HEADER : at + HEADER + length]
+        if len(payload) < length or record(payload) != data[at : at + HEADER + length]:
+            break
+        payloads.append(payload)
+        at += HEADER + length
+    return payloads, data[at:]
+
+
+def starts_of(data):
+    """The places at which the records begin, and that behind the last."""
+    places = [0]
+    for payload in payloads_of(data)[0]:
+        places.append(places[-1] + HEADER + len(payload))
+    return places
+
+
+class Payload:
+    """The parts of a payload, one after the other."""
+
+    def __init__(self, data):
+        self.data, self.at = data, 0
+
+    def bytes(self, count):
+        part = self.data[self.at : self.at + count]
+        if len(part) < count:
+            raise NotARecord
+        self.at += count
+        return part
+
+    def number(self, count):
+        return int.from_bytes(self.bytes(count), "little")
+
+    def counted(self):
+        return self.bytes(self.number(8))
+
+    def listed(self, one):
+        return [one() for _ in range(self.number(8))]
+
+
+def _program(parts):
+    return parts.number(4), parts.counted()
+
+
+def _task(parts):
+    number, program, _, _, spent, rest, r0, ran = (parts.number(size) for size in (4, 2, 8, 4, 4, 4, 8, 1))
+    return {"number": number, "program": program, "r0": r0, "ran": bool(ran), "rest": rest, "spent": spent}
+
+
+def change_of(payload):
+    """The change that a payload says: its kind, and its parts."""
+    parts = Payload(payload)
+    kind = parts.number(1)
+    if kind == 1:
+        change = "granted", parts.counted().decode(), parts.number(4)
+    elif kind == 2:
+        tenant, programs = parts.counted().decode(), parts.listed(lambda: _program(parts))
+        change = "submitted", tenant, programs, parts.number(4), parts.counted()
+    elif kind == 3:
+        job, spent, returned, buffer = parts.number(8), parts.number(4), parts.number(4), parts.counted()
+        tasks = parts.listed(lambda: _task(parts))
+        report = {"buffer": buffer.hex(), "ok": True, "returned": returned, "spent": spent, "tasks": tasks}
+        change = "finished", job, report
+    elif kind == 4:
+        change = "failed", parts.number(8), parts.number(1)
+    elif kind == 5:
+        change = "forgotten", parts.number(8)
+    else:
+        raise NotARecord
+    if parts.at != len(payload):
+        raise NotARecord
+    return change
+
+
+def granted(tenant, amount):
+    """The payload of a grant."""
+    return b"\x01" + struct.pack("<Q", len(tenant)) + tenant.encode() + struct.pack("<I", amount)
+
+
+def submitted(tenant, code, credit):
+    """The payload of a job of one program, without a buffer."""
+    start = b"\x02" + struct.pack("<Q", len(tenant)) + tenant.encode()
+    return start + struct.pack("<QIQ", 1, 0, len(code)) + code + struct.pack("<IQ", credit, 0)
+
+
+def failed(job, code):
+    """The payload of a job's failure."""
+    return b"\x04" + struct.pack("<QB", job, code)
+
+
+class Book:
+    """What the changes of a desk come to: its accounts, and its jobs by number."""
+
+    def __init__(self):
+        self.granted, self.jobs, self.ends = {}, [], {}
+
+    def add(self, change):
+        """One change more."""
+        getattr(self, change[0] + "_")(*change[1:])
+
+    def granted_(self, tenant, amount):
+        self.granted[tenant] = self.granted.get(tenant, 0) + amount
+
+    def submitted_(self, tenant, programs, credit, buffer):
+        assert tenant in self.granted
+        self.jobs.append((tenant, programs, credit, buffer))
+
+    def finished_(self, job, report):
+        assert 1 <= job <= len(self.jobs) and job not in self.ends
+        self.ends[job] = report
+
+    def failed_(self, job, code):
+        self.finished_(job, {"code": code, "ok": False})
+
+    def forgotten_(self, _keep):
+        pass
+
+    def account(self, tenant):
+        """The account as a server tells it."""
+        mine = [(number, job) for number, job in enumerate(self.jobs, 1) if job[0] == tenant]
+        is_open = sum(credit for number, (_, _, credit, _) in mine if number not in self.ends)
+        spent = sum(self.ends[number].get("spent", 0) for number, _ in mine if number in self.ends)
+        given = self.granted[tenant]
+        return {"balance": given - is_open - spent, "granted": given, "ok": True, "open": is_open, "spent": spent}
+
+
+def book_of(data):
+    """The book of a journal's whole records."""
+    book = Book()
+    for payload in payloads_of(data)[0]:
+        book.add(change_of(payload))
+    return book
+
+
+def read(path):
+    with open(path, "rb") as file:
+        return file.read()
+
+
+class Raw(Client):
+    """A connection whose replies are told byte for byte."""
+
+    def told(self, request):
+        return self.told_all([request])[0]
+
+    def told_all(self, requests):
+        """The replies to requests that are sent at once. It raises where the server closes the stream."""
+        self.stream.sendall(b"".join(frame(json.dumps(request)) for request in requests))
+        return [self.next_told() for _ in requests]
+
+    def next_told(self):
+        length = is_read(self.stream, 4)
+        text = is_read(self.stream, int.from_bytes(length, "big"))
+        if len(length) < 4 or len(text) < int.from_bytes(length, "big"):
+            raise ConnectionResetError
+        return text
+
+    def ask(self, request):
+        return json.loads(self.told(request))
+
+    def over(self, job):
+        """The result of a job, once it isn't open, byte for byte."""
+        until = time.monotonic() + PATIENCE
+        while (reply := self.told({"op": "result", "job": job})) == b'{"code":77,"ok":false}':
+            assert time.monotonic() < until
+            time.sleep(0.001)
+        return reply
+
+
+class Keeper:
+    """A server that keeps a journal, at a socket in the same folder. It may be killed, and started anew."""
+
+    def __init__(self, folder, *words, name="journal", clients=8, workers=2):
+        self.socket, self.journal = os.path.join(folder, "all"), os.path.join(folder, name)
+        self.words = ["--clients", clients, "--workers", workers, *words]
+        self.process = None
+
+    def command(self, *more):
+        words = ["serve", "--socket", self.socket, "--journal", self.journal, *self.words, *more]
+        return [BPFJOBS, *map(str, words)]
+
+    def start(self, *more, stdin=subprocess.DEVNULL, stderr=subprocess.DEVNULL, ahead=(), **how):
+        self.end()
+        words = [*ahead, *self.command(*more)]
+        self.process = subprocess.Popen(words, stdin=stdin, stdout=subprocess.DEVNULL, stderr=stderr, **how)
+        return self.process
+
+    def connect(self):
+        return Raw(self.socket, self.process)
+
+    def kill(self):
+        self.process.send_signal(signal.SIGKILL)
+        self.process.wait(PATIENCE)
+
+    def end(self):
+        if self.process:
+            self.kill()
+            if self.process.stdin:
+                self.process.stdin.close()
+            if self.process.stderr:
+                self.process.stderr.close()
+            self.process = None
+
+    def run(self, *more):
+        """Starts it and has it end at once: its status, and what it tells on standard error."""
+        words = self.command("--until-eof", *more)
+        ran = subprocess.run(words, stdin=subprocess.DEVNULL, capture_output=True, text=True, timeout=PATIENCE, check=False)
+        assert ran.stdout == ""
+        return ran.returncode, ran.stderr
