@@ -15,14 +15,7 @@ use std::io::{Seek, SeekFrom, Write};
 /// is trusted: no contract speaks of a file's contents.
 #[derive(Drop)]
 pub struct FileLog {
-    parts: LogParts<File>,
-}
-
-// What a log over a file has. It has a parameter so that a log may go to another thread: of a file
-// and ghost bytes side by side the checker doesn't find that.
-#[derive(Drop)]
-struct LogParts<F> {
-    file: F,
+    file: File,
     durable: GhostBytes,
     pending: Vec<u8>,
     has_failed: bool,
@@ -47,12 +40,10 @@ impl FileLog {
         ensures { file_state result ≡ record { durable = bytes.now; pending = [] } }
     {
         FileLog {
-            parts: LogParts {
-                file,
-                durable: GhostBytes::new().then(bytes),
-                pending: Vec::new(alloc),
-                has_failed: false,
-            },
+            file,
+            durable: GhostBytes::new().then(bytes),
+            pending: Vec::new(alloc),
+            has_failed: false,
         }
     }
 }
@@ -77,34 +68,34 @@ impl Log for FileLog {
 
     ghost state = { file_state };
 
-    ghost fails = { λ _ new. new.parts.has_failed ≡ true };
+    ghost fails = { λ _ new. new.has_failed ≡ true };
 
     fn append(&mut self, bytes: &[u8]) -> Result<(), LogFault> {
-        if self.parts.has_failed {
+        if self.has_failed {
             return Err(LogFault);
         }
-        match self.parts.pending.extend_from_slice(bytes) {
+        match self.pending.extend_from_slice(bytes) {
             Ok(()) => Ok(()),
             Err(_) => {
-                self.parts.has_failed = true;
+                self.has_failed = true;
                 Err(LogFault)
             }
         }
     }
 
     fn sync(&mut self) -> Result<(), LogFault> {
-        if self.parts.has_failed {
+        if self.has_failed {
             return Err(LogFault);
         }
-        if self.parts.pending.is_empty() {
+        if self.pending.is_empty() {
             return Ok(());
         }
-        if put_on_disk(&mut self.parts.file, &self.parts.pending).is_err() {
-            self.parts.has_failed = true;
+        if put_on_disk(&mut self.file, &self.pending).is_err() {
+            self.has_failed = true;
             return Err(LogFault);
         }
-        self.parts.durable = self.parts.durable.then(&self.parts.pending);
-        self.parts.pending.clear();
+        self.durable = self.durable.then(&self.pending);
+        self.pending.clear();
         Ok(())
     }
 }
