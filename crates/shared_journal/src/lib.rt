@@ -2,8 +2,17 @@
 //! syncs all that wait first.
 #![tactic(auto)]
 
-// the log, and what is being written to it
+// the records that wait, and the log that they go to
 mod commit_log;
+mod group_journal;
 mod shared_journal;
+mod waiting_records;
 
 pub use shared_journal::SharedJournal;
+
+// what puts records into it, and what writes replies behind them
+mod committing_sink;
+mod journal_queue;
+
+pub use committing_sink::CommittingSink;
+pub use journal_queue::JournalQueue;

@@ -4,13 +4,25 @@ ghost use Rattle.std.specs.Prelude.{◌≡◌, []};
 ghost use Rattle.journal_file.specs.FileLogs.{file_state};
 
 use crate::commit_log::CommitLog;
+use crate::group_journal::GroupJournal;
+use crate::waiting_records::put_behind;
 use journal::LogFault;
 use journal_file::FileLog;
+use refusal::NoMemory;
 use std::alloc::Global;
 use std::sync::atomic::{AtomicBool, Ordering};
 use std::sync::{Mutex, Wait};
 
 /// A journal that the threads of a server share.
+///
+/// Records wait in memory until somebody commits. Who commits takes all that wait, writes them and
+/// syncs, while others add further records; who comes meanwhile waits for that, and finds nothing
+/// to do where its records went along. So one sync serves all that waited for it.
+///
+/// A lock forgets what lies under it, so no clause says that a record which was added before a
+/// commit is durable behind it. That rests on the order of three steps: a record is added behind
+/// the lock of those that wait, a commit takes all of these, and it answers `Ok` once they are
+/// synced. Clauses say of each step what it does.
 #[derive(Drop)]
 pub struct SharedJournal {
     waiting: Mutex<Vec<u8>>,
@@ -29,67 +41,57 @@ impl SharedJournal {
             failed: AtomicBool::new(false),
         }
     }
+
+    /// Whether it has failed. From then on no commit answers `Ok`, and no record is taken.
+    pub fn has_failed(&self) -> bool {
+        self.failed.load(Ordering::SeqCst)
+    }
+
+    /// A record is missing: nothing is to be committed from now on.
+    pub fn fail(&self) {
+        self.failed.store(true, Ordering::SeqCst);
+    }
+
+    /// Makes all records durable that were added before. After an error none that follows answers
+    /// `Ok`.
+    pub fn commit<R: Wait>(&self, rt: &R) -> Result<(), LogFault> {
+        if self.log.lock(rt).commit(rt, &self.waiting).is_err() {
+            self.fail();
+        }
+        if self.has_failed() {
+            return Err(LogFault);
+        }
+        Ok(())
+    }
+
+    /// Makes room for so many bytes more among those that wait. A journal that has failed has none.
+    pub fn reserve<R: Wait>(&self, rt: &R, len: usize) -> Result<(), NoMemory> {
+        if self.has_failed() || self.waiting.lock(rt).reserve(len).is_err() {
+            return Err(NoMemory);
+        }
+        Ok(())
+    }
+
+    /// Puts a record behind those that wait. One that has failed takes none.
+    pub fn add<R: Wait>(&self, rt: &R, bytes: &[u8]) -> Result<(), NoMemory> {
+        if self.has_failed() {
+            return Err(NoMemory);
+        }
+        put_behind(&mut self.waiting.lock(rt), bytes)
+    }
 }
 
-fn needs_send<T: Send>(_x: &T) {}
+impl GroupJournal for SharedJournal {
+    // What lies under its locks has no clause.
+    ghost took = { λ _ _. Unit {0} };
 
-fn needs_sync<T: Sync>(_x: &T) {}
+    ghost committed = { λ _. Unit {0} };
 
+    fn take_record<R: Wait>(&self, rt: &R, bytes: &[u8]) -> Result<(), NoMemory> {
+        self.add(rt, bytes)
+    }
 
-
-
-
-
-#[derive(Drop)]
-pub struct P3 { file: std::fs::File, v: Vec<u8>, f: bool }
-
-#[derive(Drop)]
-pub struct P5 { file: std::fs::File, g: journal_file::GhostBytes, v: Vec<u8>, f: bool }
-
-#[derive(Drop)]
-pub struct P6 { g: journal_file::GhostBytes, file: std::fs::File, v: Vec<u8>, f: bool }
-
-#[derive(Drop)]
-pub struct P7 { p: P3, g: journal_file::GhostBytes }
-
-#[derive(Drop)]
-pub struct P8 { g: journal_file::GhostBytes, v: Vec<u8> }
-
-#[derive(Drop)]
-pub struct P9 { p: P8, file: std::fs::File }
-
-#[derive(Drop)]
-pub struct Q5 { p: P5, f: bool }
-
-#[derive(Drop)]
-pub struct Q6 { p: P6, f: bool }
-
-#[derive(Drop)]
-pub struct Q7 { p: P7, f: bool }
-
-#[derive(Drop)]
-pub struct Q8 { p: P8, f: bool }
-
-#[derive(Drop)]
-pub struct Q9 { p: P9, f: bool }
-
-fn probe5(j: &Q5) {
-    needs_send(j);
+    fn commit_all<R: Wait>(&self, rt: &R) -> Result<(), LogFault> {
+        self.commit(rt)
+    }
 }
-
-fn probe6(j: &Q6) {
-    needs_send(j);
-}
-
-fn probe7(j: &Q7) {
-    needs_send(j);
-}
-
-fn probe8(j: &Q8) {
-    needs_send(j);
-}
-
-fn probe9(j: &Q9) {
-    needs_send(j);
-}
-
