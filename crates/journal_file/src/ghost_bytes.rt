@@ -31,3 +31,6 @@ impl GhostBytes {
         GhostBytes {}
     }
 }
+
+// Nothing is there, so nothing is left behind. That is proved; the checker doesn't find it itself.
+unsafe impl Send for GhostBytes {}

@@ -3,9 +3,9 @@ use Rattle.std.specs.Prelude.{◌≡◌, flat_map, ℕ, List, [], ◌++◌, code
 use Rattle.std.specs.Fmt.{decimal}
 use Rattle.shared_desk.specs.Doors.{door_text}
 use Rattle.server_log.specs.declared.log_line.ConnectionEnd.{ConnectionEnd}
-use Rattle.server_log.specs.declared.log_line.ConnectionEnd.TheVariants.{Input, Stopped, TooLarge, ReadTimeout, ReadCut, WriteTimeout, WriteCut, NoMemory}
+use Rattle.server_log.specs.declared.log_line.ConnectionEnd.TheVariants.{Input, Stopped, TooLarge, ReadTimeout, ReadCut, WriteTimeout, WriteCut, Journal, NoMemory}
 use Rattle.server_log.specs.declared.log_line.LogEvent.{LogEvent}
-use Rattle.server_log.specs.declared.log_line.LogEvent.TheVariants.{Ready, Stopping, Opened, Closed, Started, Ended, Failed, Refused}
+use Rattle.server_log.specs.declared.log_line.LogEvent.TheVariants.{Ready, Stopping, JournalFailed, Opened, Closed, Started, Ended, Failed, Refused}
 use Rattle.server_log.specs.declared.log_line.LogLine.{LogLine}
 
 -- the number of the refusal, and 0 where there is none
@@ -17,6 +17,7 @@ ending_code ReadTimeout = 83
 ending_code ReadCut = 83
 ending_code WriteTimeout = 84
 ending_code WriteCut = 84
+ending_code Journal = 84
 ending_code NoMemory = 99
 
 abbrev pub ending_text : ConnectionEnd → List ℕ
@@ -27,12 +28,14 @@ ending_text ReadTimeout = codes "timeout"
 ending_text ReadCut = codes "cut"
 ending_text WriteTimeout = codes "timeout"
 ending_text WriteCut = codes "cut"
+ending_text Journal = codes "journal"
 ending_text NoMemory = codes "memory"
 
 -- what happened: a word of ours, and numbers
 abbrev pub event_text : LogEvent → List ℕ
 event_text Ready = codes "\"ready\",\"version\":\"0.1.0\""
 event_text Stopping = codes "\"stopping\""
+event_text JournalFailed = codes "\"journal failed\""
 event_text (Opened connection by) =
     codes "\"opened\",\"connection\":" ++ (decimal connection
     ++ (codes ",\"socket\":\"" ++ (door_text by ++ codes "\"")))

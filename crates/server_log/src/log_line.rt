@@ -22,6 +22,8 @@ pub enum ConnectionEnd {
     WriteTimeout,
     /// A write failed: 84.
     WriteCut,
+    /// The journal failed, so that nothing was written: 84.
+    Journal,
     /// There was no memory: 99.
     NoMemory,
 }
@@ -41,6 +43,7 @@ impl ConnectionEnd {
             ConnectionEnd::ReadCut => 83,
             ConnectionEnd::WriteTimeout => 84,
             ConnectionEnd::WriteCut => 84,
+            ConnectionEnd::Journal => 84,
             ConnectionEnd::NoMemory => 99,
         }
     }
@@ -61,6 +64,7 @@ impl fmt::Display for ConnectionEnd {
             ConnectionEnd::ReadCut => write!(f, "cut"),
             ConnectionEnd::WriteTimeout => write!(f, "timeout"),
             ConnectionEnd::WriteCut => write!(f, "cut"),
+            ConnectionEnd::Journal => write!(f, "journal"),
             ConnectionEnd::NoMemory => write!(f, "memory"),
         }
     }
@@ -73,6 +77,8 @@ pub enum LogEvent {
     Ready,
     /// It takes no more connections.
     Stopping,
+    /// Its journal failed, so that it tells nobody anything from now on.
+    JournalFailed,
     /// A connection was taken.
     Opened {
         connection: u64,
@@ -121,6 +127,7 @@ impl fmt::Display for LogEvent {
         match *self {
             LogEvent::Ready => write!(f, "\"ready\",\"version\":\"0.1.0\""),
             LogEvent::Stopping => write!(f, "\"stopping\""),
+            LogEvent::JournalFailed => write!(f, "\"journal failed\""),
             LogEvent::Opened { connection, by } => {
                 write!(
                     f,
