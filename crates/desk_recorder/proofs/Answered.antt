@@ -16,7 +16,7 @@ use Rattle.streams.specs.declared.submit_refusal.SubmitRefusal.TheVariants.{NotT
 use Rattle.streams.specs.Answering.{Answers, Framed, Replies}
 use Rattle.streams.specs.Passing.{Passes}
 use Rattle.streams.specs.Refusing.{LastStands, SaysRefusal, TellsRefusal}
-use Rattle.desk_recorder.specs.Recording.{RecordsChanges, RecordsMore}
+use Rattle.desk_recorder.specs.Recording.{IsRecorded, RecordsMore}
 use Rattle.desk_recorder.specs.RecordedAnswers.{AnswersRecorded}
 use Rattle.desk_recorder.specs.declared.recorder.ChangeRecorder.{ChangeRecorder}
 use Rattle.desk_recorder.proofs.Composed.{records_then}
@@ -90,13 +90,13 @@ module _ {R Q : Type 0} (starts : R → ℕ → AdmittedJob → Result (Unit {0}
     (takes : R → Option (ℕ × Result Report ℕ) → R → Type 0) (taken : Q → List ℕ) (failed : Q → Type 0) (keep : ℕ) (query : Result Asked ℕ)
     (old passed_desk mid new : Ledger) (runner rest left : R) (before begun passed answered after : ChangeRecorder Q)
     (queue : begun.queue ≡ before.queue) (stopped : begun.is_stopped ≡ before.is_stopped) (unchanged : begun.has_changed ≡ false)
-    (passes : Passes takes old runner passed_desk rest) (first : RecordsChanges taken failed begun passed old passed_desk)
-    (second : RecordsChanges taken failed passed answered passed_desk mid)
-    (kept : KeepsLast keep mid new ⊎ ((new ≡ mid) × (answered.has_changed ≡ false))) (third : RecordsChanges taken failed answered after mid new) where
-  replied : RecordsChanges taken failed begun answered old mid
+    (passes : Passes takes old runner passed_desk rest) (first : IsRecorded taken failed begun passed old passed_desk)
+    (second : IsRecorded taken failed passed answered passed_desk mid)
+    (kept : KeepsLast keep mid new ⊎ ((new ≡ mid) × (answered.has_changed ≡ false))) (third : IsRecorded taken failed answered after mid new) where
+  replied : IsRecorded taken failed begun answered old mid
   replied = records_then taken failed begun passed answered old passed_desk mid first second
 
-  all : RecordsChanges taken failed begun after old new
+  all : IsRecorded taken failed begun after old new
   all = records_then taken failed begun answered after old mid new replied third
 
   kept_so : (KeepsLast keep mid new ⊎ ((new ≡ mid) × (answered.has_changed ≡ false))) → KeepsLast keep mid new ⊎ ((new ≡ mid) × (mid ≡ old))

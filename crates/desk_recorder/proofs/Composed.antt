@@ -5,7 +5,7 @@ use Rattle.accounts.specs.Ledgers.{Ledger}
 use Rattle.journal.specs.Records.{record_of, journal_of, AllFitRecords}
 use Rattle.recovery.specs.Histories.{ReplaysChanges}
 use Rattle.desk_journal.specs.DeskSteps.{DeskState, MakesBytes}
-use Rattle.desk_recorder.specs.Recording.{HoldsOpen, IsChangeRecord, ChangesLead, RecordsChanges, RecordsMore}
+use Rattle.desk_recorder.specs.Recording.{HoldsOpen, IsChangeRecord, ChangesLead, IsRecorded, RecordsMore}
 use Rattle.desk_recorder.specs.Histories.{IsDeskHistory, RecordsLead}
 use Rattle.desk_recorder.specs.declared.recorder.ChangeRecorder.{ChangeRecorder}
 
@@ -58,7 +58,7 @@ module _ {Q : Type 0} (taken : Q → List ℕ) (failed : Q → Type 0) where
     leads = is.leads;
   }
 
-  pub records_then : (p q r : ChangeRecorder Q) (d m e : Ledger) → RecordsChanges taken failed p q d m → RecordsChanges taken failed q r m e → RecordsChanges taken failed p r d e
+  pub records_then : (p q r : ChangeRecorder Q) (d m e : Ledger) → IsRecorded taken failed p q d m → IsRecorded taken failed q r m e → IsRecorded taken failed p r d e
   records_then p q r d m e first second = record {
     going = λ on. first.going (second.going on);
     unchanged = λ none. let later = second.unchanged none in let early = first.unchanged later.0 in (early.0, later.1 ∙ early.1);
@@ -66,7 +66,7 @@ module _ {Q : Type 0} (taken : Q → List ℕ) (failed : Q → Type 0) where
     records = λ on. more_then p.queue q.queue r.queue d m e (first.records (second.going on)) (second.records on);
   }
 
-  pub records_nothing : (p : ChangeRecorder Q) (d e : Ledger) → e ≡ d → RecordsChanges taken failed p p d e
+  pub records_nothing : (p : ChangeRecorder Q) (d e : Ledger) → e ≡ d → IsRecorded taken failed p p d e
   records_nothing p d e same = record {
     going = λ on. on;
     unchanged = λ none. (none, same);
@@ -78,7 +78,7 @@ module _ {Q : Type 0} (taken : Q → List ℕ) (failed : Q → Type 0) where
   clash X is = absurd cc
 
   -- a recorder that has stopped takes nothing
-  pub records_stopped : (p q : ChangeRecorder Q) (d e : Ledger) → p.is_stopped ≡ true → q.is_stopped ≡ true → q.queue ≡ p.queue → q.has_changed ≡ true → RecordsChanges taken failed p q d e
+  pub records_stopped : (p q : ChangeRecorder Q) (d e : Ledger) → p.is_stopped ≡ true → q.is_stopped ≡ true → q.queue ≡ p.queue → q.has_changed ≡ true → IsRecorded taken failed p q d e
   records_stopped p q d e was is queue changed = record {
     going = λ on. clash (p.is_stopped ≡ false) (sym is ∙ on);
     unchanged = λ none. clash ((p.has_changed ≡ false) × (e ≡ d)) (sym changed ∙ none);
@@ -87,7 +87,7 @@ module _ {Q : Type 0} (taken : Q → List ℕ) (failed : Q → Type 0) where
   }
 
   -- it stops, and its queue is told so
-  pub records_stop : (p q : ChangeRecorder Q) (d e : Ledger) → q.is_stopped ≡ true → failed q.queue → q.has_changed ≡ true → RecordsChanges taken failed p q d e
+  pub records_stop : (p q : ChangeRecorder Q) (d e : Ledger) → q.is_stopped ≡ true → failed q.queue → q.has_changed ≡ true → IsRecorded taken failed p q d e
   records_stop p q d e is told changed = record {
     going = λ on. clash (p.is_stopped ≡ false) (sym is ∙ on);
     unchanged = λ none. clash ((p.has_changed ≡ false) × (e ≡ d)) (sym changed ∙ none);
@@ -97,7 +97,7 @@ module _ {Q : Type 0} (taken : Q → List ℕ) (failed : Q → Type 0) where
 
   -- a record is added
   pub records_one : (p q : ChangeRecorder Q) (d e : Ledger) (bytes : List ℕ) → p.is_stopped ≡ false → q.is_stopped ≡ false → q.has_changed ≡ true → taken q.queue ≡ taken p.queue ++ bytes → IsChangeRecord bytes d e
-      → RecordsChanges taken failed p q d e
+      → IsRecorded taken failed p q d e
   records_one p q d e bytes was is changed added are = record {
     going = λ on. was;
     unchanged = λ none. clash ((p.has_changed ≡ false) × (e ≡ d)) (sym changed ∙ none);
@@ -106,7 +106,7 @@ module _ {Q : Type 0} (taken : Q → List ℕ) (failed : Q → Type 0) where
   }
 
   -- a change is marked ahead of its record
-  pub records_marked : (p marked q : ChangeRecorder Q) (d e : Ledger) → marked.queue ≡ p.queue → marked.is_stopped ≡ p.is_stopped → marked.has_changed ≡ true → RecordsChanges taken failed marked q d e → RecordsChanges taken failed p q d e
+  pub records_marked : (p marked q : ChangeRecorder Q) (d e : Ledger) → marked.queue ≡ p.queue → marked.is_stopped ≡ p.is_stopped → marked.has_changed ≡ true → IsRecorded taken failed marked q d e → IsRecorded taken failed p q d e
   records_marked p marked q d e queue stopped changed records = record {
     going = λ on. sym stopped ∙ records.going on;
     unchanged = λ none. clash ((p.has_changed ≡ false) × (e ≡ d)) (sym changed ∙ (records.unchanged none).0);
@@ -115,7 +115,7 @@ module _ {Q : Type 0} (taken : Q → List ℕ) (failed : Q → Type 0) where
   }
 
   -- room is made
-  pub records_room : (p q : ChangeRecorder Q) (d : Ledger) → p.is_stopped ≡ false → q.is_stopped ≡ false → q.has_changed ≡ p.has_changed → taken q.queue ≡ taken p.queue → RecordsChanges taken failed p q d d
+  pub records_room : (p q : ChangeRecorder Q) (d : Ledger) → p.is_stopped ≡ false → q.is_stopped ≡ false → q.has_changed ≡ p.has_changed → taken q.queue ≡ taken p.queue → IsRecorded taken failed p q d d
   records_room p q d was is changed same = record {
     going = λ on. was;
     unchanged = λ none. (sym changed ∙ none, refl);

@@ -54,7 +54,8 @@ IsEndRecord bytes number outcome =
     (old new : Ledger) → Finishes old number outcome new → IsChangeRecord bytes old new
 
 abbrev pub IsForgettingRecord : List ℕ → ℕ → Type 0
-IsForgettingRecord bytes keep = (old new : Ledger) → Forgets old keep new → IsChangeRecord bytes old new
+IsForgettingRecord bytes keep =
+    (old new : Ledger) → Forgets old keep new → IsChangeRecord bytes old new
 
 -- A queue has taken the records of some more changes, in order, and these lead from a desk to
 -- another.
@@ -68,7 +69,7 @@ pub record RecordsMore {Q : Type 0} (taken : Q → List ℕ) (before after : Q) 
 -- What a recorder took while a desk changed. Where it notes no change, the desk is the same. Unless
 -- it has stopped, it has the records of all changes; it stops for ever, and only once its queue is
 -- told so.
-pub record RecordsChanges {Q : Type 0} (taken : Q → List ℕ) (failed : Q → Type 0)
+pub record IsRecorded {Q : Type 0} (taken : Q → List ℕ) (failed : Q → Type 0)
     (before after : ChangeRecorder Q) (old new : Ledger) : Type 0 where
   pub going : after.is_stopped ≡ false → before.is_stopped ≡ false
   pub unchanged : after.has_changed ≡ false → (before.has_changed ≡ false) × (new ≡ old)

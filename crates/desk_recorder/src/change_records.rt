@@ -42,8 +42,8 @@ pub fn submit_record(
     record_bytes(alloc, &change)
 }
 
-// The record of an open job's report, and the report, which isn't copied. (An arm that left parts of
-// its variant behind would be beyond the proof's borrow checker.)
+// The record of an open job's report, and the report, which isn't copied. (The proof's borrow checker
+// wants each arm to take its variant's parts.)
 fn report_record(alloc: Global, job: u64, report: Report) -> (Result<Vec<u8>, RecordFault>, Report)
     ensures record { IfOk result.0 (λ bytes. IsEndRecord bytes.items job (Ok report)) }
     ensures same { result.1 ≡ report }

@@ -5,7 +5,7 @@ ghost use Rattle.accounts.specs.Ledgers.{Ledger};
 ghost use Rattle.recovery.specs.Histories.{IsAfter};
 ghost use Rattle.desk_journal.specs.DeskSteps.{DeskState, IsNewDesk, MakesBytes};
 ghost use Rattle.desk_recorder.specs.Histories.{AnswersInTurn, IsDeskHistory, RecordsLead};
-ghost use Rattle.desk_recorder.specs.Recording.{RecordsChanges};
+ghost use Rattle.desk_recorder.specs.Recording.{IsRecorded};
 ghost use Rattle.desk_recorder.specs.RecordedAnswers.{answers_recorded};
 ghost use Rattle.desk_recorder.specs.declared.recorder.ChangeRecorder.{ChangeRecorder};
 ghost use Rattle.desk_recorder.specs.declared.recording_handler.RecordingHandler.{RecordingHandler};
@@ -20,7 +20,7 @@ pub fn records_lead_to_desk<N: Runner, Q: RecordQueue>()
     ensures opened { (history : List (List ℕ)) (state : DeskState)
         → IsAfter IsNewDesk MakesBytes history state → IsDeskHistory history state.desk }
     ensures restarted { (history : List (List ℕ)) (before after : ChangeRecorder Q) (old new : Ledger)
-        → IsDeskHistory history old → RecordsChanges Q.taken Q.has_failed before after old new
+        → IsDeskHistory history old → IsRecorded Q.taken Q.has_failed before after old new
         → after.is_stopped ≡ false
         → RecordsLead Q.taken before.queue after.queue history new }
     ensures answered { (history : List (List ℕ)) (s t : Ledger × RecordingHandler N Q)

@@ -6,7 +6,7 @@ ghost use Rattle.sessions.specs.Grammar.{request_asked};
 ghost use Rattle.streams.specs.Answering.{Framed, Grants, GrantsNone, Replies};
 ghost use Rattle.streams.specs.Prepared.{asked_of};
 ghost use Rattle.streams.specs.Refusing.{TellsRefusal};
-ghost use Rattle.desk_recorder.specs.Recording.{RecordsChanges};
+ghost use Rattle.desk_recorder.specs.Recording.{IsRecorded};
 ghost use Rattle.desk_recorder.specs.RecordedAnswers.{AnswersRecorded};
 
 use crate::change_records::{forgetting_record, grant_record};
@@ -37,7 +37,7 @@ fn grant_recorded<Q: RecordQueue>(
     ensures account { IfOk result (λ _. result ≡ account_at desk.new tenant.now) }
     ensures refused { IfErr result (λ e. RefusesGrant desk.old tenant.now amount e) }
     ensures unchanged { OnErr result (desk.new ≡ desk.old) }
-    ensures records { RecordsChanges Q.taken Q.has_failed recorder.old recorder.new desk.old desk.new }
+    ensures records { IsRecorded Q.taken Q.has_failed recorder.old recorder.new desk.old desk.new }
 {
     let record = grant_record(alloc, tenant, amount);
     match desk.grant(alloc, tenant, amount) {
@@ -59,7 +59,7 @@ fn answer_grant_recorded<Q: RecordQueue>(
 ) -> Result<PendingReply, NoMemory>
     ensures done { Framed result (λ told. Grants desk.old tenant.now amount told desk.new
         ⊎ GrantsNone desk.old tenant.now amount told desk.new) }
-    ensures records { RecordsChanges Q.taken Q.has_failed recorder.old recorder.new desk.old desk.new }
+    ensures records { IsRecorded Q.taken Q.has_failed recorder.old recorder.new desk.old desk.new }
 {
     let account = grant_recorded(alloc, desk, recorder, tenant, amount);
     PendingReply::of_reply(alloc, &account_reply(account))
@@ -81,7 +81,7 @@ fn carry_out_recorded<N: Runner, Q: RecordQueue>(
         (λ told. Replies N.starts N.looks desk.old runner.old
         (Ok (request_asked request)) told desk.new
         runner.new) }
-    ensures records { RecordsChanges Q.taken Q.has_failed recorder.old recorder.new desk.old desk.new }
+    ensures records { IsRecorded Q.taken Q.has_failed recorder.old recorder.new desk.old desk.new }
 {
     match request {
         Request::Grant { tenant, amount } => {
@@ -116,7 +116,7 @@ fn reply_recorded<N: Runner, Q: RecordQueue>(
     ensures done { Framed result.1
         (λ told. Replies N.starts N.looks desk.old runner.old (asked_of request) told desk.new
         runner.new) }
-    ensures records { RecordsChanges Q.taken Q.has_failed recorder.old recorder.new desk.old desk.new }
+    ensures records { IsRecorded Q.taken Q.has_failed recorder.old recorder.new desk.old desk.new }
 {
     match request {
         PreparedRequest::AsItCame(Ok(request)) => {
@@ -140,7 +140,7 @@ fn keep_recorded<Q: RecordQueue>(
 )
     ensures kept { KeepsLast keep desk.old desk.new
         ⊎ ((desk.new ≡ desk.old) × (recorder.old.has_changed ≡ false)) }
-    ensures records { RecordsChanges Q.taken Q.has_failed recorder.old recorder.new desk.old desk.new }
+    ensures records { IsRecorded Q.taken Q.has_failed recorder.old recorder.new desk.old desk.new }
 {
     if !recorder.has_changed {
         return;

@@ -8,7 +8,7 @@ ghost use Rattle.job_core.specs.declared.admission.ProgramBytes.{ProgramBytes};
 ghost use Rattle.streams.specs.Answering.{Framed, Replies, StartsTaken, submit_refused};
 ghost use Rattle.streams.specs.Refusing.{IsJustTaken, SaysRefusal, TellsRefusal};
 ghost use Rattle.streams.specs.Submits.{submit_asked};
-ghost use Rattle.desk_recorder.specs.Recording.{IsRecordedAdmission, RecordsChanges};
+ghost use Rattle.desk_recorder.specs.Recording.{IsRecordedAdmission, IsRecorded};
 
 use crate::change_records::submit_record;
 use crate::record_queue::RecordQueue;
@@ -35,7 +35,7 @@ fn record_ahead<Q: RecordQueue>(
         → IfOk copy (λ bytes. bytes.items ≡ buffer)
         → IsRecordedAdmission tenant.now programs.items credit buffer result }
     ensures records { (desk : Ledger)
-        → RecordsChanges Q.taken Q.has_failed recorder.old recorder.new desk desk }
+        → IsRecorded Q.taken Q.has_failed recorder.old recorder.new desk desk }
 {
     let job = match admitted {
         Ok(job) => job,
@@ -75,7 +75,7 @@ fn take_recorded<Q: RecordQueue>(
     ensures unchanged { OnErr result (desk.new ≡ desk.old) }
     ensures records { (programs : List ProgramBytes) (buffer : List ℕ)
         → IsRecordedAdmission tenant.now programs credit buffer admission
-        → RecordsChanges Q.taken Q.has_failed recorder.old recorder.new desk.old desk.new }
+        → IsRecorded Q.taken Q.has_failed recorder.old recorder.new desk.old desk.new }
 {
     let (job, record) = match admission {
         Ok(made) => made,
@@ -90,7 +90,7 @@ fn take_recorded<Q: RecordQueue>(
     }
 }
 
-// Starts a job that was taken and recorded, or tells why it wasn't. Records a start that is refused.
+// Starts a job that was taken and recorded, or tells why it wasn't. Records a refused start.
 fn start_recorded<N: Runner, Q: RecordQueue>(
     alloc: Global,
     desk: &mut Desk,
@@ -106,7 +106,7 @@ fn start_recorded<N: Runner, Q: RecordQueue>(
         (λ fault. (desk.new ≡ desk.old) × (runner.new ≡ runner.old)
         × (told ≡ submit_refused fault))) }
     ensures refusal { IfOk result.1 (λ frame. SaysRefusal desk.new result.0 frame) }
-    ensures records { RecordsChanges Q.taken Q.has_failed recorder.old recorder.new desk.old desk.new }
+    ensures records { IsRecorded Q.taken Q.has_failed recorder.old recorder.new desk.old desk.new }
 {
     match taken {
         Ok(job) => {
@@ -132,7 +132,7 @@ pub fn answer_admitted_recorded<N: Runner, Q: RecordQueue>(
     ensures done { Framed result.1
         (λ told. Replies N.starts N.looks desk.old runner.old (Ok submit) told desk.new runner.new) }
     ensures refusal { TellsRefusal desk.new (Ok submit) result.0 result.1 }
-    ensures records { RecordsChanges Q.taken Q.has_failed recorder.old recorder.new desk.old desk.new }
+    ensures records { IsRecorded Q.taken Q.has_failed recorder.old recorder.new desk.old desk.new }
 {
     let SubmitParts {
         tenant,
@@ -165,7 +165,7 @@ pub fn answer_submit_recorded<N: Runner, Q: RecordQueue>(
         (Ok (submit_asked tenant programs.items credit buffer.items)) told desk.new runner.new) }
     ensures refusal { TellsRefusal desk.new
         (Ok (submit_asked tenant programs.items credit buffer.items)) result.0 result.1 }
-    ensures records { RecordsChanges Q.taken Q.has_failed recorder.old recorder.new desk.old desk.new }
+    ensures records { IsRecorded Q.taken Q.has_failed recorder.old recorder.new desk.old desk.new }
 {
     match desk.may_submit(&tenant, credit) {
         Ok(()) => {

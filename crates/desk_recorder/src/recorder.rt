@@ -2,7 +2,7 @@
 
 ghost use Rattle.std.specs.Prelude.{◌≡◌, IfOk, true, false};
 ghost use Rattle.accounts.specs.Ledgers.{Ledger};
-ghost use Rattle.desk_recorder.specs.Recording.{IsChangeRecord, RecordsChanges};
+ghost use Rattle.desk_recorder.specs.Recording.{IsChangeRecord, IsRecorded};
 
 use crate::record_queue::RecordQueue;
 use recovery::RecordFault;
@@ -40,7 +40,7 @@ impl<Q: RecordQueue> ChangeRecorder<Q> {
 
     /// Makes room for a record of so many bytes.
     pub fn reserve(&mut self, len: usize) -> Result<(), NoMemory>
-        ensures { (desk : Ledger) → RecordsChanges Q.taken Q.has_failed self.old self.new desk desk }
+        ensures { (desk : Ledger) → IsRecorded Q.taken Q.has_failed self.old self.new desk desk }
     {
         if self.is_stopped {
             return Ok(());
@@ -51,7 +51,7 @@ impl<Q: RecordQueue> ChangeRecorder<Q> {
     /// Takes the record of a change that was made, or stops where there is none.
     pub fn note(&mut self, made: Result<Vec<u8>, RecordFault>)
         ensures { (old new : Ledger) → IfOk made (λ bytes. IsChangeRecord bytes.items old new)
-            → RecordsChanges Q.taken Q.has_failed self.old self.new old new }
+            → IsRecorded Q.taken Q.has_failed self.old self.new old new }
     {
         self.has_changed = true;
         if self.is_stopped {
@@ -68,7 +68,7 @@ impl<Q: RecordQueue> ChangeRecorder<Q> {
         requires going { self.old.is_stopped ≡ false }
         requires changed { self.old.has_changed ≡ true }
         ensures { (old new : Ledger) → IsChangeRecord bytes.now old new
-            → RecordsChanges Q.taken Q.has_failed self.old self.new old new }
+            → IsRecorded Q.taken Q.has_failed self.old self.new old new }
     {
         match self.queue.add(bytes) {
             Ok(()) => {}

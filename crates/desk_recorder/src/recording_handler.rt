@@ -24,7 +24,7 @@ pub struct RecordingHandler<N, Q> {
 
 impl<N: Runner, Q: RecordQueue> RecordingHandler<N, Q> {
     ghost use Rattle.std.specs.Prelude.{◌≡◌, false};
-    ghost use Rattle.desk_recorder.specs.Recording.{RecordsChanges};
+    ghost use Rattle.desk_recorder.specs.Recording.{IsRecorded};
     ghost use Rattle.desk_recorder.specs.Restarts.{StartsEach};
 
     /// A runner, how many jobs' reports are kept, and the queue of the records.
@@ -46,7 +46,7 @@ impl<N: Runner, Q: RecordQueue> RecordingHandler<N, Q> {
         ensures ready { N.ready self.new.runner }
         ensures starts { StartsEach N.starts desk.old self.old.runner jobs.items desk.new
             self.new.runner }
-        ensures records { RecordsChanges Q.taken Q.has_failed self.old.recorder self.new.recorder
+        ensures records { IsRecorded Q.taken Q.has_failed self.old.recorder self.new.recorder
             desk.old desk.new }
         ensures same_keep { self.new.keep ≡ self.old.keep }
     {

@@ -8,8 +8,8 @@ use std::alloc::Global;
 use std::marker::Model;
 use std::snapshot::Snapshot;
 
-/// A request for a job, which was admitted or refused, with a copy of its buffer, if there was memory
-/// for one: a job doesn't lend its own. Contracts see it as what was asked.
+/// A request for a job, which was admitted or refused, with a copy of its buffer, if there was
+/// memory for one: a job doesn't lend its own. Contracts see it as what was asked.
 #[derive(Drop)]
 pub struct AdmittedSubmit {
     pub(crate) tenant: String,
