@@ -84,6 +84,10 @@ class Doors(unittest.TestCase):
     def path(self, kind, tenant):
         return os.path.join(self.room, kind, tenant, "door")
 
+    def state(self, tenant):
+        """The folder of the journal, in the place of /var/lib/telgovan."""
+        return os.path.join(os.path.dirname(self.room), "state", tenant)
+
     def call(self, tenant, line, **more):
         """A line of the unit as systemd runs it: as the server's user, or with a + as root."""
         line = line.replace("-g %i ", f"-g {TENANTS[tenant][1]} ").replace("%i", tenant).replace("%%", "%")
@@ -91,6 +95,7 @@ class Doors(unittest.TestCase):
         user = TENANTS[tenant][0]
         become = None if line.startswith("+") else as_user(user, [user])
         names = {"RUNTIME_DIRECTORY": os.path.join(self.room, "servers", tenant), "PATH": os.environ["PATH"]}
+        names["STATE_DIRECTORY"] = self.state(tenant)
         names["MAINPID"] = str(self.processes[tenant].pid) if tenant in self.processes else ""
         words = ["/bin/sh", "-c", "exec " + line.lstrip("+")]
         umask = int(*unit_lines("UMask"), 8)
@@ -102,6 +107,10 @@ class Doors(unittest.TestCase):
         os.makedirs(folder)
         os.chmod(folder, int(*unit_lines("RuntimeDirectoryMode"), 8))
         os.chown(folder, user, user)
+        if not os.path.exists(self.state(tenant)):
+            os.makedirs(self.state(tenant))
+            os.chmod(self.state(tenant), int(*unit_lines("StateDirectoryMode"), 8))
+        os.chown(self.state(tenant), user, user)
         for line in unit_lines("ExecStartPre"):
             self.assertEqual(self.call(tenant, line).wait(PATIENCE), 0, line)
         self.processes[tenant] = self.call(tenant, *unit_lines("ExecStart"), stderr=subprocess.DEVNULL)
@@ -192,6 +201,25 @@ class Doors(unittest.TestCase):
         shutil.rmtree(os.path.join(self.room, "servers/alice"))
         self.start("alice")
         self.check(MEMBER, [TENANTS["alice"][1]], {("tenants", "alice"): self.IN, ("grants", "alice"): self.OUT})
+
+    def test_accounts_are_kept(self):
+        """What was granted is there again after a stop, and after a kill."""
+        granted = {("grants", "bob"): [74, "ok"]}
+        self.start("bob")
+        self.check(STRANGER, [ROOT_GROUP], granted)
+        for end in (self.end, self.kill):
+            end("bob")
+            shutil.rmtree(os.path.join(self.room, "servers/bob"))
+            self.start("bob")
+            self.check(STRANGER, [TENANTS["bob"][1]], {("tenants", "bob"): ["ok", 73]})
+        self.assertEqual(stat.S_IMODE(os.stat(os.path.join(self.state("bob"), "journal")).st_mode), 0o600)
+
+    def kill(self, tenant):
+        process = self.processes.pop(tenant)
+        process.kill()
+        process.wait(PATIENCE)
+        for line in unit_lines("ExecStopPost"):
+            self.assertEqual(self.call(tenant, line).wait(PATIENCE), 0)
 
 
 @unittest.skipUnless(os.geteuid() == 0, "only root can be two users: run tests/run test_doors as root")

@@ -19,7 +19,7 @@ from journal_load import Load, good_jobs
 from journals import Keeper, book_of, payloads_of, read, record, starts_of
 from programs import BPFJOBS, IS_SLOW, PATIENCE, assemble, submit_text
 from rows import code_of
-from test_clients import long_job
+from test_clients import spawner
 
 ADD = code_of("mov64 r0, 40 / add64 r0, 2 / exit")
 ACCOUNT = {"op": "account", "tenant": "t"}
@@ -28,6 +28,15 @@ RESULT = {"buffer": "", "ok": True, "returned": 0, "spent": 3}
 
 def grant(amount, tenant="t"):
     return {"op": "grant", "tenant": tenant, "amount": amount}
+
+
+def open_job():
+    """Programs and a credit that keep a worker busy for a quarter of a second or more: tasks of 4,001 steps."""
+    count = 500 if IS_SLOW else 30_000
+    leaf = " / ".join(["mov64 r0, 0"] * 4000 + ["exit"])
+    middle = 100 * 4001 + 100 * 100
+    programs = [spawner(count // 100, 1, middle), spawner(100, 2, 4001), leaf]
+    return [(0, code_of(text)) for text in programs], count // 100 * (middle + 100)
 
 
 def submit(credit=3, tenant="t"):
@@ -120,7 +129,7 @@ class Kept(Room):
         self.assertEqual(client.ask(ACCOUNT)["spent"], 3)
 
     def test_open_jobs_begin_anew(self):
-        programs, credit = long_job()
+        programs, credit = open_job()
         client = self.start()
         client.ask(grant(credit + 10))
         long = json.loads(submit_text(programs, credit, b""))
@@ -161,7 +170,7 @@ class Kept(Room):
 
     def test_a_job_that_failed(self):
         """A job over the bound of open ones fails by 81, also once the server was killed."""
-        programs, credit = long_job()
+        programs, credit = open_job()
         client = self.start("--open-jobs", 1)
         client.ask(grant(credit + 10))
         client.ask(json.loads(submit_text(programs, credit, b"")))

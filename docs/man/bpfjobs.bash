@@ -34,10 +34,10 @@ _bpfjobs() {
         ;;
     serve)
         case $previous in
-        --socket | --grants | --tenants) mapfile -t COMPREPLY < <(compgen -f -- "$word"); return ;;
+        --socket | --grants | --tenants | --journal) mapfile -t COMPREPLY < <(compgen -f -- "$word"); return ;;
         --port | --tenant | --tenant-jobs | --workers | --sessions | --clients | --timeout | --open-jobs | --keep) return ;;
         esac
-        mapfile -t COMPREPLY < <(compgen -W "--port --socket --grants --tenant --tenants --tenant-jobs --workers --sessions --clients --timeout --open-jobs --keep --until-eof --log --help" -- "$word")
+        mapfile -t COMPREPLY < <(compgen -W "--port --socket --grants --tenant --tenants --tenant-jobs --workers --sessions --clients --timeout --open-jobs --keep --journal --until-eof --log --help" -- "$word")
         ;;
     help) mapfile -t COMPREPLY < <(compgen -W "assemble disassemble verify play run serve" -- "$word") ;;
     esac
