@@ -226,8 +226,9 @@ where
                 tenants: &[],
                 stop: None,
                 log: None,
+                journal: None,
             };
-            serve_listener(&rt, alloc, &listener, plan)
+            serve_listener(&rt, alloc, &listener, plan, None)
         },
         || (
             one_by_one(&rt, address, &frame),

@@ -19,3 +19,6 @@ pub mod Renumbered
 pub mod SeenHolds
 pub mod OwnSubmits
 pub mod OwnPayloads
+pub mod RecordedAlike
+pub mod ByJournal
+pub mod Restarting

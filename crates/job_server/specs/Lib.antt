@@ -9,3 +9,4 @@ pub mod Stopping
 pub mod TenantSockets
 pub mod TenantLimits
 pub mod TenantServing
+pub mod Recorded

@@ -11,7 +11,7 @@ use crate::listener::Listener;
 use crate::noted_ends::{NotedReader, NotedWriter, ending_of};
 use crate::plan::Plan;
 use crate::shares::{Shares, leave, shares_of};
-use crate::stop_flag::ended_by;
+use crate::stop_flag::{ended_by, raise_if};
 use crate::timed_reader::{TimedReader, Waiting};
 use refusal::NoMemory;
 use server_log::{LogEvent, ServerLog, millis_since};
@@ -19,6 +19,7 @@ use shared_desk::{
     ClientSeat, HistoryId, NewHistory, Origin, Passage, SharedDesk, SharedHandler, SharedHistory,
     serve_opened,
 };
+use shared_journal::{CommittingSink, SharedJournal};
 use std::alloc::Global;
 use std::marker::Brand;
 use std::net::TcpStream;
@@ -31,7 +32,8 @@ use streams::{StreamFault, Tap};
 /// The fault where there is no memory.
 pub(crate) const NO_MEMORY: ServeFault = ServeFault::Connection(StreamFault::NoMemory);
 
-// Serves a connection that was taken, and gives its two ends.
+// Serves a connection that was taken. Gives its two ends, and whether a reply was refused since the
+// journal has failed.
 fn answer_connection<'s, R: Wait + Clock, D, H: SharedHandler<D>, J: Origin<D, H>>(
     rt: &'s R,
     alloc: Global,
@@ -41,17 +43,20 @@ fn answer_connection<'s, R: Wait + Clock, D, H: SharedHandler<D>, J: Origin<D, H
     passage: Passage,
     stream: &'s TcpStream,
     waiting: Waiting<'s>,
+    journal: Option<&'s SharedJournal>,
     notes: bool,
 ) -> (
     NotedReader<'s, TimedReader<'s, R>>,
     NotedWriter<&'s TcpStream>,
+    bool,
 )
     requires fresh { seat.part ≡ [] }
     requires comes { J.comes passage }
 {
     let timed = TimedReader::new(rt, stream, waiting);
     let mut reader = Tap::new(NotedReader::new(timed, waiting.stop, notes));
-    let mut writer = Tap::new(NotedWriter::new(stream));
+    let tap = Tap::new(NotedWriter::new(stream));
+    let mut writer = CommittingSink::new(rt, journal, tap);
     serve_opened(
         rt,
         alloc,
@@ -62,7 +67,12 @@ fn answer_connection<'s, R: Wait + Clock, D, H: SharedHandler<D>, J: Origin<D, H
         &mut reader,
         &mut writer,
     );
-    (reader.into_inner(), writer.into_inner())
+    let is_refused = writer.is_refused();
+    (
+        reader.into_inner(),
+        writer.into_inner().into_inner(),
+        is_refused,
+    )
 }
 
 // The next connection. A log is told once that no more are taken.
@@ -106,6 +116,7 @@ fn take_turns<
     lock: &Mutex<SharedDesk<D, H, J>>,
     waiting: Waiting<'_>,
     shares: Option<&Shares>,
+    journal: Option<&SharedJournal>,
     log: Option<&ServerLog>,
 ) {
     for _ in rt.forever() {
@@ -115,9 +126,10 @@ fn take_turns<
         };
         let begun = tell_opened(rt, log, connection, passage);
         let notes = log.is_some();
-        let (reader, writer) = answer_connection(
-            rt, alloc, history, lock, seat, passage, &stream, waiting, notes,
+        let (reader, writer, is_refused) = answer_connection(
+            rt, alloc, history, lock, seat, passage, &stream, waiting, journal, notes,
         );
+        raise_if(waiting.stop, is_refused);
         leave(shares, passage.door);
         if let Some(log) = log {
             let closed = LogEvent::Closed {
@@ -207,6 +219,7 @@ fn serve_named<
         tenants: _,
         stop,
         log,
+        journal,
     } = plan;
     let waiting = Waiting {
         seconds: bounds.timeout,
@@ -214,12 +227,16 @@ fn serve_named<
     };
     let (history, recorder, opener) = new_history.named::<J>();
     let lock = Mutex::new(SharedDesk::new(desk, handler, recorder));
-    let entrance = Mutex::new(Entrance::new(listener, opener, stop, shares, sessions));
+    let entrance = Mutex::new(Entrance::new(listener, opener, stop, journal, shares, sessions));
     let known = &history;
     let door = &entrance;
     let shared = &lock;
     tell(rt, log, LogEvent::Ready);
-    let serve = |_: usize| take_turns(rt, alloc, known, door, shared, waiting, shares, log);
+    let serve = |_: usize| {
+        take_turns(
+            rt, alloc, known, door, shared, waiting, shares, journal, log,
+        )
+    };
     let _ = thread::map_indices(rt, alloc, bounds.clients as usize, &serve);
     let mut shared = lock.into_inner();
     let (opened, failed, ended, mut opener) = entrance.into_inner().into_parts();

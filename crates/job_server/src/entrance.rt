@@ -6,8 +6,9 @@ ghost use Rattle.shared_desk.specs.declared.passage.Passage.{Passage};
 
 use crate::listener::Listener;
 use crate::shares::{Shares, may_enter};
-use crate::stop_flag::{StopFlag, is_stopped};
+use crate::stop_flag::{StopFlag, is_ended};
 use shared_desk::{ClientSeat, HistoryId, Opener, Passage, SharedHistory};
+use shared_journal::SharedJournal;
 use std::marker::{Brand, Model};
 use std::net::TcpStream;
 use std::thread;
@@ -32,6 +33,7 @@ pub(crate) struct Entrance<'a, L: Listener, J: HistoryId + FirstListener<L>> {
     listener: L,
     opener: Opener<J>,
     stop: Option<&'a StopFlag>,
+    journal: Option<&'a SharedJournal>,
     shares: Option<&'a Shares>,
     left: u64,
     opened: u64,
@@ -56,11 +58,13 @@ impl<'a, L: Listener, J: HistoryId + FirstListener<L>> Model for Entrance<'a, L,
 }
 
 impl<'a, L: Listener + Drop, J: HistoryId + FirstListener<L>> Entrance<'a, L, J> {
-    /// Nothing was taken yet. Where the flag is raised, nothing more is taken.
+    /// Nothing was taken yet. Where the flag is raised, or the journal has failed, nothing more is
+    /// taken.
     pub fn new(
         listener: L,
         opener: Opener<J>,
         stop: Option<&'a StopFlag>,
+        journal: Option<&'a SharedJournal>,
         shares: Option<&'a Shares>,
         sessions: u64,
     ) -> Entrance<'a, L, J>
@@ -73,6 +77,7 @@ impl<'a, L: Listener + Drop, J: HistoryId + FirstListener<L>> Entrance<'a, L, J>
             listener,
             opener,
             stop,
+            journal,
             shares,
             left: sessions.min(u64::MAX - 1),
             opened: 0,
@@ -97,14 +102,14 @@ impl<'a, L: Listener + Drop, J: HistoryId + FirstListener<L>> Entrance<'a, L, J>
         ensures passage { IfSome result (λ taken. J.comes taken.2) }
     {
         'taking: while self.left > 0 {
-            if is_stopped(self.stop) {
+            if is_ended(self.stop, self.journal) {
                 self.stopped = true;
                 return None;
             }
             self.left -= 1;
             match self.listener.accept() {
                 Ok(stream) => {
-                    if is_stopped(self.stop) {
+                    if is_ended(self.stop, self.journal) {
                         self.stopped = true;
                         return None;
                     }

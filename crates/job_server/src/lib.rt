@@ -39,6 +39,7 @@ mod entrance;
 mod plan;
 mod serving;
 mod serving_desks;
+mod serving_recorded;
 mod shares;
 mod tenant_door;
 

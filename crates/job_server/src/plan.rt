@@ -1,10 +1,11 @@
-//! A server's plan: its workers and connections, its host's bounds, its tenants, its flag and its
-//! log.
+//! A server's plan: its workers and connections, its host's bounds, its tenants, its flag, its log
+//! and its journal.
 
 use crate::bounds::Bounds;
 use crate::stop_flag::StopFlag;
 use crate::tenant_door::TenantDoor;
 use server_log::ServerLog;
+use shared_journal::SharedJournal;
 
 /// A server's plan.
 #[derive(Clone, Copy)]
@@ -25,4 +26,7 @@ pub struct Plan<'a> {
     pub stop: Option<&'a StopFlag>,
     /// The log that is told of each connection and each job. Nothing waits for it.
     pub log: Option<&'a ServerLog>,
+    /// The journal of its desk's changes, only where no tenant has a door. A reply goes out once it
+    /// was committed. Once it has failed no reply goes out, and the server ends.
+    pub journal: Option<&'a SharedJournal>,
 }

@@ -1,7 +1,7 @@
 //! A server, whose jobs a pool runs that lasts.
 
-ghost use Rattle.std.specs.Prelude.{◌≡◌, ◌≤◌, ◌⊎◌, [], Err, is_some, length};
-ghost use Rattle.job_server.specs.TenantServing.{IsServingAt, IsServingBy};
+ghost use Rattle.std.specs.Prelude.{◌≡◌, ◌≤◌, ◌⊎◌, [], Err, true, false, is_some, length};
+ghost use Rattle.job_server.specs.Recorded.{IsServingWith, IsServingWithAt, queue_taken, queue_told};
 ghost use Rattle.job_server.specs.declared.fault.ServeFault.TheVariants as fault;
 ghost use Rattle.streams.specs.declared.fault.StreamFault.TheVariants as stream;
 
@@ -11,8 +11,10 @@ use crate::fault::ServeFault;
 use crate::listener::Listener;
 use crate::plan::Plan;
 use crate::serving_desks::{serve_at_desk, serve_at_desks};
+use crate::serving_recorded::serve_recorded;
 use crate::timed_listener::TimedListener;
 use crate::timed_reader::Waiting;
+use desk_journal::JournaledDesk;
 use job_pools::{
     EndedJob, Inlet, JobRegister, Keeper, LastingPool, LimitedRunner, NewQueueHistory, NewRegister,
     Outlet, QueuedJob, RegisterId, TurnCloser, TurnInlet, TurnOutlet, queue_in_turns, queue_to_one,
@@ -53,11 +55,15 @@ fn serve_on_pool<
     queues: Queues<J>,
     listener: L,
     plan: Plan<'s>,
+    state: Option<JournaledDesk>,
 ) -> Result<(), ServeFault>
     requires keeper { keeper ≡ [] }
     requires workers { (1 ≤ plan.workers) × (plan.workers ≤ 16) }
     requires tenants { length plan.tenants.now ≤ 256 }
-    ensures { IsServingAt L.opens L.fails L.passage listener plan.entry.tenants.now plan.entry.bounds
+    requires journal { is_some plan.journal ≡ true → plan.tenants.now ≡ [] }
+    requires state { is_some plan.journal ≡ false → is_some state ≡ false }
+    ensures { IsServingWithAt L.opens L.fails L.passage listener (queue_taken {R = R}) (queue_told {R = R})
+        (is_some plan.entry.journal) state plan.entry.tenants.now plan.entry.bounds
         plan.entry.sessions (is_some plan.entry.stop) result }
 {
     let Queues {
@@ -70,7 +76,15 @@ fn serve_on_pool<
     let started = start_workers(rt, scope, jobs, endings, plan.workers, plan.log);
     let pool = LastingPool::new(rt, alloc, register, keeper, queue, ended, started > 0);
     let runner = LimitedRunner::new(pool, plan.bounds.open_jobs);
-    // the queue is closed behind both, so that the workers end once nothing waits
+    // the queue is closed behind each, so that the workers end once nothing waits
+    match plan.journal {
+        Some(journal) => {
+            let served = serve_recorded(rt, alloc, listener, runner, plan, journal, state);
+            closer.close(rt);
+            return served;
+        }
+        None => {}
+    }
     if plan.tenants.is_empty() {
         let served = serve_at_desk(rt, alloc, listener, runner, plan);
         closer.close(rt);
@@ -94,11 +108,15 @@ fn serve_in_scope<
     queues: Queues<J>,
     listener: L,
     plan: Plan<'_>,
+    state: Option<JournaledDesk>,
 ) -> Result<(), ServeFault>
     requires keeper { keeper ≡ [] }
     requires workers { (1 ≤ plan.workers) × (plan.workers ≤ 16) }
     requires tenants { length plan.tenants.now ≤ 256 }
-    ensures { IsServingAt L.opens L.fails L.passage listener plan.entry.tenants.now plan.entry.bounds
+    requires journal { is_some plan.journal ≡ true → plan.tenants.now ≡ [] }
+    requires state { is_some plan.journal ≡ false → is_some state ≡ false }
+    ensures { IsServingWithAt L.opens L.fails L.passage listener (queue_taken {R = R}) (queue_told {R = R})
+        (is_some plan.entry.journal) state plan.entry.tenants.now plan.entry.bounds
         plan.entry.sessions (is_some plan.entry.stop) result }
 {
     let Plan {
@@ -108,13 +126,17 @@ fn serve_in_scope<
         tenants,
         stop,
         log,
+        journal,
     } = plan;
     thread::scope(
         thread::scope_env(),
         rt,
         |scope| -> Result<(), ServeFault>
-            requires { (1 ≤ workers) × (workers ≤ 16) × (keeper ≡ []) × (length tenants.now ≤ 256) }
-            ensures { IsServingAt L.opens L.fails L.passage listener tenants.entry.now bounds sessions
+            requires { (1 ≤ workers) × (workers ≤ 16) × (keeper ≡ []) × (length tenants.now ≤ 256)
+                × (is_some journal ≡ true → tenants.now ≡ [])
+                × (is_some journal ≡ false → is_some state ≡ false) }
+            ensures { IsServingWithAt L.opens L.fails L.passage listener (queue_taken {R = R}) (queue_told {R = R})
+                (is_some journal.entry) state tenants.entry.now bounds sessions
                 (is_some stop.entry) result }
         {
             let plan = Plan {
@@ -124,8 +146,11 @@ fn serve_in_scope<
                 tenants,
                 stop,
                 log,
+                journal,
             };
-            serve_on_pool(rt, scope, alloc, register, keeper, queues, listener, plan)
+            serve_on_pool(
+                rt, scope, alloc, register, keeper, queues, listener, plan, state,
+            )
         },
     )
 }
@@ -142,12 +167,16 @@ fn serve_registered<
     new_history: NewQueueHistory,
     listener: L,
     plan: Plan<'_>,
+    state: Option<JournaledDesk>,
 ) -> Result<(), ServeFault>
     requires named { new_register ≡ J.table }
     requires named_turns { new_history ≡ J.turns }
     requires workers { (1 ≤ plan.workers) × (plan.workers ≤ 16) }
     requires tenants { length plan.tenants.now ≤ 256 }
-    ensures { IsServingAt L.opens L.fails L.passage listener plan.entry.tenants.now plan.entry.bounds
+    requires journal { is_some plan.journal ≡ true → plan.tenants.now ≡ [] }
+    requires state { is_some plan.journal ≡ false → is_some state ≡ false }
+    ensures { IsServingWithAt L.opens L.fails L.passage listener (queue_taken {R = R}) (queue_told {R = R})
+        (is_some plan.entry.journal) state plan.entry.tenants.now plan.entry.bounds
         plan.entry.sessions (is_some plan.entry.stop) result
         ⊎ (result ≡ Err (fault.Connection stream.NoMemory)) }
 {
@@ -169,7 +198,7 @@ fn serve_registered<
         endings,
         closer,
     };
-    serve_in_scope(rt, alloc, &register, keeper, queues, listener, plan)
+    serve_in_scope(rt, alloc, &register, keeper, queues, listener, plan, state)
 }
 
 /// Serves so many connections of the listener as the plan says, in as many threads at once as its
@@ -182,6 +211,10 @@ fn serve_registered<
 /// the last jobs are forgotten, as many as the bounds keep. A connection whose reads wait longer than
 /// they allow, between frames or within one, is given up by 83.
 ///
+/// Where the plan has a journal, its desk is the one that was recovered, if one was, and that desk's
+/// open jobs are started again first, once each. A refused start ends its job by the refusal's
+/// number. The journal takes the record of each change.
+///
 /// A connection that could not be taken, or that was given up by 83, 84 or 99, counts as served.
 /// Such a fault is answered at the end, as is 99 where there is no memory to begin with.
 pub fn serve_listener<R: Threads + Wait + Clock + Sync, L: Listener + Send + Drop>(
@@ -189,10 +222,14 @@ pub fn serve_listener<R: Threads + Wait + Clock + Sync, L: Listener + Send + Dro
     alloc: Global,
     listener: L,
     plan: Plan<'_>,
+    state: Option<JournaledDesk>,
 ) -> Result<(), ServeFault>
     requires workers { (1 ≤ plan.workers) × (plan.workers ≤ 16) }
     requires tenants { length plan.tenants.now ≤ 256 }
-    ensures { IsServingAt L.opens L.fails L.passage listener plan.entry.tenants.now plan.entry.bounds
+    requires journal { is_some plan.journal ≡ true → plan.tenants.now ≡ [] }
+    requires state { is_some plan.journal ≡ false → is_some state ≡ false }
+    ensures { IsServingWithAt L.opens L.fails L.passage listener (queue_taken {R = R}) (queue_told {R = R})
+        (is_some plan.entry.journal) state plan.entry.tenants.now plan.entry.bounds
         plan.entry.sessions (is_some plan.entry.stop) result
         ⊎ (result ≡ Err (fault.Connection stream.NoMemory)) }
 {
@@ -202,7 +239,7 @@ pub fn serve_listener<R: Threads + Wait + Clock + Sync, L: Listener + Send + Dro
     let Ok(new_history) = NewQueueHistory::new(alloc) else {
         return Err(NO_MEMORY);
     };
-    serve_registered::<R, L, Brand>(rt, alloc, new_register, new_history, listener, plan)
+    serve_registered::<R, L, Brand>(rt, alloc, new_register, new_history, listener, plan, state)
 }
 
 /// Listens on this port of 127.0.0.1, and serves as [`serve_listener`] does. A write that takes as
@@ -210,16 +247,24 @@ pub fn serve_listener<R: Threads + Wait + Clock + Sync, L: Listener + Send + Dro
 /// where the port can't be listened on.
 pub fn serve_port<
     R: Net<Stream = TcpStream, Listener = TcpListener> + Threads + Wait + Clock + Sync,
->(rt: &R, alloc: Global, port: u16, plan: Plan<'_>) -> Result<(), ServeFault>
+>(
+    rt: &R,
+    alloc: Global,
+    port: u16,
+    plan: Plan<'_>,
+    state: Option<JournaledDesk>,
+) -> Result<(), ServeFault>
     requires workers { (1 ≤ plan.workers) × (plan.workers ≤ 16) }
     requires tenants { length plan.tenants.now ≤ 256 }
-    ensures { IsServingBy plan.entry.tenants.now plan.entry.bounds plan.entry.sessions
-        (is_some plan.entry.stop) result
+    requires journal { is_some plan.journal ≡ true → plan.tenants.now ≡ [] }
+    requires state { is_some plan.journal ≡ false → is_some state ≡ false }
+    ensures { IsServingWith (queue_taken {R = R}) (queue_told {R = R}) (is_some plan.entry.journal) state
+        plan.entry.tenants.now plan.entry.bounds plan.entry.sessions (is_some plan.entry.stop) result
         ⊎ (result ≡ Err (fault.Connection stream.NoMemory)) ⊎ (result ≡ Err fault.Socket) }
 {
     let Ok(listener) = TcpListener::bind(rt, address_of(port)) else {
         return Err(ServeFault::Socket);
     };
     let timed = TimedListener::new(&listener, plan.bounds.timeout);
-    serve_listener(rt, alloc, timed, plan)
+    serve_listener(rt, alloc, timed, plan, state)
 }

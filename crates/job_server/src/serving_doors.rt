@@ -1,7 +1,7 @@
 //! A server by sockets in the file system, some of them of one tenant each.
 
-ghost use Rattle.std.specs.Prelude.{◌≡◌, ◌≤◌, ◌+◌, ◌⊎◌, Err, is_some, length, vec_len};
-ghost use Rattle.job_server.specs.TenantServing.{IsServingBy};
+ghost use Rattle.std.specs.Prelude.{◌≡◌, ◌≤◌, ◌+◌, ◌⊎◌, [], Err, true, false, is_some, length, vec_len};
+ghost use Rattle.job_server.specs.Recorded.{IsServingWith, queue_taken, queue_told};
 ghost use Rattle.job_server.specs.declared.fault.ServeFault.TheVariants as fault;
 ghost use Rattle.streams.specs.declared.fault.StreamFault.TheVariants as stream;
 
@@ -12,6 +12,7 @@ use crate::serving::serve_listener;
 use crate::tenant_door::TenantDoor;
 use crate::tenants_listener::TenantsListener;
 use crate::timed_listener::TimedListener;
+use desk_journal::JournaledDesk;
 use std::alloc::Global;
 use std::fs;
 use std::fs::Files;
@@ -60,11 +61,14 @@ fn serve_tenants<R: Net + Files + Threads + Wait + Clock + Sync>(
     all: UnixListener,
     grants: Option<UnixListener>,
     plan: Plan<'_>,
+    state: Option<JournaledDesk>,
 ) -> Result<(), ServeFault>
     requires workers { (1 ≤ plan.workers) × (plan.workers ≤ 16) }
     requires tenants { length plan.tenants.now ≤ 256 }
-    ensures { IsServingBy plan.entry.tenants.now plan.entry.bounds plan.entry.sessions
-        (is_some plan.entry.stop) result
+    requires journal { is_some plan.journal ≡ true → plan.tenants.now ≡ [] }
+    requires state { is_some plan.journal ≡ false → is_some state ≡ false }
+    ensures { IsServingWith (queue_taken {R = R}) (queue_told {R = R}) (is_some plan.entry.journal) state
+        plan.entry.tenants.now plan.entry.bounds plan.entry.sessions (is_some plan.entry.stop) result
         ⊎ (result ≡ Err (fault.Connection stream.NoMemory)) ⊎ (result ≡ Err fault.Socket) }
 {
     let Ok(mut listener) = TenantsListener::new(rt, alloc, all, grants) else {
@@ -74,7 +78,7 @@ fn serve_tenants<R: Net + Files + Threads + Wait + Clock + Sync>(
     let count = listen_at_doors(rt, &mut listener, doors);
     let served = if count == doors.len() {
         let timed = TimedListener::new(listener, plan.bounds.timeout);
-        serve_listener(rt, alloc, timed, plan)
+        serve_listener(rt, alloc, timed, plan, state)
     } else {
         Err(ServeFault::Socket)
     };
@@ -89,20 +93,23 @@ fn serve_beside<R: Net + Files + Threads + Wait + Clock + Sync>(
     all: UnixListener,
     grants: Option<&str>,
     plan: Plan<'_>,
+    state: Option<JournaledDesk>,
 ) -> Result<(), ServeFault>
     requires workers { (1 ≤ plan.workers) × (plan.workers ≤ 16) }
     requires tenants { length plan.tenants.now ≤ 256 }
-    ensures { IsServingBy plan.entry.tenants.now plan.entry.bounds plan.entry.sessions
-        (is_some plan.entry.stop) result
+    requires journal { is_some plan.journal ≡ true → plan.tenants.now ≡ [] }
+    requires state { is_some plan.journal ≡ false → is_some state ≡ false }
+    ensures { IsServingWith (queue_taken {R = R}) (queue_told {R = R}) (is_some plan.entry.journal) state
+        plan.entry.tenants.now plan.entry.bounds plan.entry.sessions (is_some plan.entry.stop) result
         ⊎ (result ≡ Err (fault.Connection stream.NoMemory)) ⊎ (result ≡ Err fault.Socket) }
 {
     let Some(path) = grants else {
-        return serve_tenants(rt, alloc, all, None, plan);
+        return serve_tenants(rt, alloc, all, None, plan, state);
     };
     let Ok(granting) = listen_at(rt, path) else {
         return Err(ServeFault::Socket);
     };
-    let served = serve_tenants(rt, alloc, all, Some(granting), plan);
+    let served = serve_tenants(rt, alloc, all, Some(granting), plan, state);
     let _ = fs::remove_file(rt, path);
     served
 }
@@ -114,17 +121,20 @@ pub(crate) fn serve_doors<R: Net + Files + Threads + Wait + Clock + Sync>(
     socket: &str,
     grants: Option<&str>,
     plan: Plan<'_>,
+    state: Option<JournaledDesk>,
 ) -> Result<(), ServeFault>
     requires workers { (1 ≤ plan.workers) × (plan.workers ≤ 16) }
     requires tenants { length plan.tenants.now ≤ 256 }
-    ensures { IsServingBy plan.entry.tenants.now plan.entry.bounds plan.entry.sessions
-        (is_some plan.entry.stop) result
+    requires journal { is_some plan.journal ≡ true → plan.tenants.now ≡ [] }
+    requires state { is_some plan.journal ≡ false → is_some state ≡ false }
+    ensures { IsServingWith (queue_taken {R = R}) (queue_told {R = R}) (is_some plan.entry.journal) state
+        plan.entry.tenants.now plan.entry.bounds plan.entry.sessions (is_some plan.entry.stop) result
         ⊎ (result ≡ Err (fault.Connection stream.NoMemory)) ⊎ (result ≡ Err fault.Socket) }
 {
     let Ok(all) = listen_at(rt, socket) else {
         return Err(ServeFault::Socket);
     };
-    let served = serve_beside(rt, alloc, all, grants, plan);
+    let served = serve_beside(rt, alloc, all, grants, plan, state);
     let _ = fs::remove_file(rt, socket);
     served
 }

@@ -2,6 +2,7 @@
 
 ghost use Rattle.std.specs.Prelude.{◌≡◌, false, is_some};
 
+use shared_journal::SharedJournal;
 use std::sync::atomic::{AtomicBool, Ordering};
 
 /// A flag that a host raises where its server is to take no further connection. Any thread may raise
@@ -37,6 +38,21 @@ pub(crate) fn is_stopped(stop: Option<&StopFlag>) -> bool
     match stop {
         Some(flag) => flag.is_raised(),
         None => false,
+    }
+}
+
+/// Whether no further connection is to be taken: a flag was raised, or a journal has failed.
+pub(crate) fn is_ended(stop: Option<&StopFlag>, journal: Option<&SharedJournal>) -> bool {
+    match journal {
+        Some(journal) if journal.has_failed() => true,
+        _ => is_stopped(stop),
+    }
+}
+
+/// Raises a flag, if there is one, where a reply was refused since a journal has failed.
+pub(crate) fn raise_if(stop: Option<&StopFlag>, is_refused: bool) {
+    if let (Some(flag), true) = (stop, is_refused) {
+        flag.raise();
     }
 }
 

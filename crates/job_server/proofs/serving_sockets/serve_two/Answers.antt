@@ -1,5 +1,5 @@
 use Rattle.std.proofs.Common.{refl, inr}
-use Rattle.job_server.proofs.ByDoors.{served_plain}
+use Rattle.job_server.proofs.ByJournal.{served_alone}
 use Rattle.job_server.proofs.serving_sockets.serve_two.Goals.{in-Ok-new, in-Err}
 use Rattle.job_server.proofs.serving_sockets.serve_two.Goals as goal
 
@@ -13,6 +13,6 @@ pub returns : goal.returns
 returns g c =
     elim c.match-new.branch [
       | in-Ok-new w ↦
-          rw w.served-is (served_plain _ _ _ _ _ _ _ _ _ c.requires.tenants w.serve_listener-served.ensures)
+          rw w.served-is (served_alone _ _ _ _ _ _ _ _ _ _ _ _ c.requires.tenants _ w.serve_listener-served.ensures)
       | in-Err w ↦ rw w.served-is (inr (inr refl))
     ]

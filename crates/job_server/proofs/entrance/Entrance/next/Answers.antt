@@ -36,11 +36,11 @@ taking-preserved-then-self g c =
 pub invariant_of-self : goal.invariant_of-self
 invariant_of-self g c = c.taking.invariant
 
-pub invariant_of-self-then-is_stopped : goal.invariant_of-self-then-is_stopped
-invariant_of-self-then-is_stopped g c = c.taking.invariant
+pub invariant_of-self-then-is_ended : goal.invariant_of-self-then-is_ended
+invariant_of-self-then-is_ended g c = c.taking.invariant
 
-pub invariant_of-self-then-is_stopped-2 : goal.invariant_of-self-then-is_stopped-2
-invariant_of-self-then-is_stopped-2 g c =
+pub invariant_of-self-then-is_ended-2 : goal.invariant_of-self-then-is_ended-2
+invariant_of-self-then-is_ended-2 g c =
     let few = c.taking.invariant.0 in
     let since = c.taking.invariant.2 in (
       omega (arith, few),

@@ -1,0 +1,72 @@
+//! A server's one desk whose changes a journal keeps.
+
+ghost use Rattle.std.specs.Prelude.{◌≡◌, All, is_some};
+ghost use Rattle.accounts.specs.Ledgers.{Ledger};
+ghost use Rattle.desk_recorder.specs.RecordedAnswers.{answers_recorded};
+ghost use Rattle.desk_recorder.specs.declared.recording_handler.RecordingHandler.{RecordingHandler};
+ghost use Rattle.shared_desk.specs.Histories.{by_any_passage};
+ghost use Rattle.shared_journal.specs.declared.journal_queue.JournalQueue.{JournalQueue};
+ghost use Rattle.job_server.specs.AtOnce.{IsServingFrom};
+ghost use Rattle.job_server.specs.Listening.{AreOf, CameBy};
+ghost use Rattle.job_server.specs.Recorded.{IsRestarted, queue_taken, queue_told, recovered_state};
+
+use crate::at_once::serve_at_once;
+use crate::fault::ServeFault;
+use crate::listener::Listener;
+use crate::plan::Plan;
+use accounts::Desk;
+use desk_journal::{JournaledDesk, OpenJob};
+use desk_recorder::RecordingHandler;
+use server_log::LoggedHandler;
+use shared_journal::{JournalQueue, SharedJournal};
+use std::alloc::Global;
+use std::sync::Wait;
+use std::thread::Threads;
+use std::time::Clock;
+use streams::Runner;
+
+// The desk that was recovered, and its open jobs; where nothing was, a new desk.
+fn parts_of(alloc: Global, state: Option<JournaledDesk>) -> (Desk, Vec<OpenJob>)
+    ensures { (result.0 ≡ (recovered_state state).desk)
+        × (result.1.items ≡ (recovered_state state).held) }
+{
+    match state {
+        Some(state) => state.into_parts(),
+        None => (Desk::new(alloc), Vec::new(alloc)),
+    }
+}
+
+/// Serves the connections at a recovered desk, whose jobs this runner runs. First its open jobs are
+/// started again. The journal takes the record of each change.
+pub(crate) fn serve_recorded<
+    's,
+    R: Threads + Wait + Clock + Sync,
+    L: Listener + Send + Drop,
+    N: Runner + Send + Drop,
+>(
+    rt: &'s R,
+    alloc: Global,
+    listener: L,
+    runner: N,
+    plan: Plan<'s>,
+    journal: &'s SharedJournal,
+    state: Option<JournaledDesk>,
+) -> Result<(), ServeFault>
+    requires { N.ready runner }
+    ensures { (begun : Ledger × RecordingHandler N (JournalQueue R))
+        × (end : Ledger × RecordingHandler N (JournalQueue R))
+        × IsRestarted N.starts queue_taken queue_told (recovered_state state) runner
+        plan.entry.bounds.keep begun
+        × (s : IsServingFrom (by_any_passage (answers_recorded N.starts N.looks N.takes queue_taken
+        queue_told)) (λ s. s ≡ begun) end plan.entry.sessions (is_some plan.entry.stop) result)
+        × AreOf L.opens L.fails listener s.opened
+        × All (λ c. CameBy L.opens L.passage c.passage) s.closed }
+{
+    let (mut desk, jobs) = parts_of(alloc, state);
+    let queue = JournalQueue::new(rt, journal);
+    let mut recording = RecordingHandler::new(runner, plan.bounds.keep, queue);
+    recording.restart(alloc, &mut desk, jobs);
+    let handler = LoggedHandler::new(rt, plan.log, recording);
+    let served = serve_at_once(rt, alloc, listener, desk, handler, plan);
+    served.2
+}
