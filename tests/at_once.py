@@ -18,6 +18,8 @@ from concurrent.futures import ThreadPoolExecutor, as_completed
 LONGEST = (
     "test_clients.Bounds",
     "test_log.Log",
+    "test_journal.Damage",
+    "test_journal.Kills",
     "test_jobs.Many",
     "test_asyncio_server.Served",
     "test_jobs.Chance",

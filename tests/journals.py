@@ -107,10 +107,10 @@ def granted(tenant, amount):
     return b"\x01" + struct.pack("<Q", len(tenant)) + tenant.encode() + struct.pack("<I", amount)
 
 
-def submitted(tenant, code, credit):
-    """The payload of a job of one program, without a buffer."""
+def submitted(tenant, code, credit, buffer=b""):
+    """The payload of a job of one program."""
     start = b"\x02" + struct.pack("<Q", len(tenant)) + tenant.encode()
-    return start + struct.pack("<QIQ", 1, 0, len(code)) + code + struct.pack("<IQ", credit, 0)
+    return start + struct.pack("<QIQ", 1, 0, len(code)) + code + struct.pack("<IQ", credit, len(buffer)) + buffer
 
 
 def failed(job, code):

@@ -357,6 +357,19 @@ class Damage(Room):
             told = f"damaged at byte {len(data)}: the record there doesn't follow from those ahead"
             self.assertEqual(self.refused(), told)
 
+    def test_a_record_within_a_torn_one(self):
+        """Bytes of a whole record within a payload that is cut short can't be told from damage."""
+        data = self.small()
+        inner = record(journals.granted("t", 1000))
+        outer = record(journals.submitted("t", ADD, 3, inner + bytes(5)))
+        for cut in (1, 5):
+            self.write(data + outer[:-cut])
+            told = f"damaged at byte {len(data)}: a whole record stands at byte {len(data) + outer.index(inner)}"
+            self.assertEqual(self.refused(), told)
+        self.check_cut(data + outer[:-6], len(data))
+        self.write(data + outer)
+        self.assertEqual(self.start().ask(ACCOUNT)["granted"], 9)
+
     def test_a_journal_that_is_put_together(self):
         """Records of another hand are records, as long as they follow."""
         self.write(record(journals.granted("t", 5)) + record(journals.granted("t", 6)))

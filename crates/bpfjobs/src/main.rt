@@ -6,6 +6,7 @@ ghost use Rattle.bpfjobs_cli.specs.Commands.{IsInRange};
 ghost use Rattle.bpfjobs_cli.specs.Performing.{NeedsNoThread};
 ghost use Rattle.std.specs.Prelude.{◌≤◌};
 
+mod journal_opening;
 mod server_threads;
 mod serving;
 mod showing;
@@ -14,6 +15,7 @@ mod tenant_file;
 use bpfjobs_cli::{
     Command, CommandRequest, FAILED, UNREAD, perform, perform_alone, print_usage, request, words,
 };
+use journal_opening::open_server_journal;
 use server_threads::handles_of;
 use serving::serve;
 use showing::{play_shown, run_shown};
@@ -97,7 +99,15 @@ fn main(rt: HostRuntime) -> ExitCode {
         Ok(server) => server,
         Err(status) => return ExitCode::from(status),
     };
-    let Ok((handles, helpers)) = handles_of(alloc, &server) else {
+    let opened = match open_server_journal(&rt, alloc, &server) {
+        Ok(opened) => opened,
+        Err(status) => return ExitCode::from(status),
+    };
+    let journal = match &opened {
+        Some(opened) => Some(&opened.journal),
+        None => None,
+    };
+    let Ok((handles, helpers)) = handles_of(alloc, &server, journal) else {
         return ExitCode::from(FAILED);
     };
     for helper in helpers {
@@ -105,7 +115,7 @@ fn main(rt: HostRuntime) -> ExitCode {
             return ExitCode::from(FAILED);
         };
     }
-    let status = serve(&rt, alloc, &server, handles.stop(), handles.log());
+    let status = serve(&rt, alloc, &server, handles.stop(), handles.log(), opened);
     handles.close(&rt);
     ExitCode::from(status)
 }

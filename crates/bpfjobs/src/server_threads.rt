@@ -1,15 +1,21 @@
-//! The threads beside a server: one that waits for the end of the input, and one that writes a log.
+//! The threads beside a server: one that waits for the end of the input, one that looks at the journal,
+//! and one that writes a log.
 
 use bpfjobs_cli::{Endpoint, Serve};
 use job_server::{StopFlag, address_of};
 use refusal::NoMemory;
 use server_log::{LogLines, ServerLog, open_log, write_lines};
+use shared_journal::SharedJournal;
 use std::alloc::Global;
 use std::io::Read;
 use std::net::{Net, TcpStream};
 use std::os::unix::net::UnixStream;
 use std::sync::{Arc, Wait};
-use std::time::Clock;
+use std::thread;
+use std::time::{Clock, Duration};
+
+// How many milliseconds go by between two looks at a journal.
+const BETWEEN_LOOKS: u64 = 20;
 
 /// The place of a server that a connection wakes.
 #[derive(Drop)]
@@ -49,11 +55,35 @@ fn stop_at_end<R: Input + Net>(rt: &R, place: &ListenAddress, stop: &StopFlag) {
     place.wake(rt);
 }
 
+// Looks at the journal until it has failed. Then raises the flag, and wakes the thread that waits for
+// a connection.
+fn stop_at_failure<R: Net + Wait + Clock>(
+    rt: &R,
+    place: &ListenAddress,
+    stop: &StopFlag,
+    journal: &SharedJournal,
+) {
+    for _ in rt.forever() {
+        if journal.has_failed() {
+            break;
+        }
+        thread::sleep(rt, Duration::from_millis(BETWEEN_LOOKS));
+    }
+    stop.raise();
+    place.wake(rt);
+}
+
 /// The task of a thread beside a server.
 #[derive(Drop)]
 pub enum Helper {
     /// It stops the server that listens there once the input has ended.
     Stops(ListenAddress, Arc<StopFlag, Global>),
+    /// It stops the server once its journal has failed.
+    Watches(
+        ListenAddress,
+        Arc<StopFlag, Global>,
+        Arc<SharedJournal, Global>,
+    ),
     /// It writes the lines of a log on standard error.
     Writes(LogLines),
 }
@@ -63,6 +93,9 @@ impl Helper {
     pub fn help<R: Input + Eprint + Net + Wait + Clock + AllocGlobal>(self, rt: &R) {
         match self {
             Helper::Stops(place, stop) => stop_at_end(rt, &place, &stop),
+            Helper::Watches(place, stop, journal) => {
+                stop_at_failure(rt, &place, &stop, &journal);
+            }
             Helper::Writes(lines) => write_lines(rt, rt.alloc(), lines),
         }
     }
@@ -85,18 +118,41 @@ fn place_of(alloc: Global, endpoint: &Endpoint) -> Result<ListenAddress, NoMemor
     }
 }
 
-/// The flag and the log that a server's options ask for, and what their threads do.
-pub fn handles_of(alloc: Global, server: &Serve) -> Result<(ServerHandles, Vec<Helper>), NoMemory> {
+// Adds the threads that raise a server's flag: at the end of the input, where its options say so, and
+// once its journal has failed, if it has one.
+fn add_stopping(
+    alloc: Global,
+    server: &Serve,
+    stop: &Arc<StopFlag, Global>,
+    journal: Option<&Arc<SharedJournal, Global>>,
+    helpers: &mut Vec<Helper>,
+) -> Result<(), NoMemory> {
+    if server.options.until_eof {
+        let place = place_of(alloc, &server.endpoint)?;
+        helpers.push(Helper::Stops(place, Arc::try_clone(stop)?))?;
+    }
+    if let Some(journal) = journal {
+        let place = place_of(alloc, &server.endpoint)?;
+        let journal = Arc::try_clone(journal)?;
+        helpers.push(Helper::Watches(place, Arc::try_clone(stop)?, journal))?;
+    }
+    Ok(())
+}
+
+/// The flag and the log that a server's options and its journal ask for, and what their threads do.
+pub fn handles_of(
+    alloc: Global,
+    server: &Serve,
+    journal: Option<&Arc<SharedJournal, Global>>,
+) -> Result<(ServerHandles, Vec<Helper>), NoMemory> {
     let mut helpers = Vec::new(alloc);
     let mut handles = ServerHandles {
         stop: None,
         log: None,
     };
-    if server.options.until_eof {
-        let place = place_of(alloc, &server.endpoint)?;
+    if server.options.until_eof || journal.is_some() {
         let stop = Arc::new(alloc, StopFlag::new())?;
-        let theirs = Arc::try_clone(&stop)?;
-        helpers.push(Helper::Stops(place, theirs))?;
+        add_stopping(alloc, server, &stop, journal, &mut helpers)?;
         handles.stop = Some(stop);
     }
     if server.options.logs {

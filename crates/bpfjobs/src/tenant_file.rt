@@ -42,7 +42,7 @@ pub fn with_file<R: Files + Eprint + AllocGlobal>(
     requires { IsServeInRange server }
     ensures range { IfOk result (λ new. IsServeInRange new) }
     ensures rest { IfOk result (λ new. (new.endpoint ≡ server.endpoint)
-        × (new.options ≡ server.options)
+        × (new.journal ≡ server.journal) × (new.options ≡ server.options)
         × (new.tenants.open_jobs ≡ server.tenants.open_jobs)) }
     ensures lines { IfOk result (λ new. (text : List ℕ)
         × (entered (tenants_in server.tenants.tenants.items) 1 (lines_said text)
@@ -55,6 +55,7 @@ pub fn with_file<R: Files + Eprint + AllocGlobal>(
             file,
             open_jobs,
         },
+        journal,
         options,
     } = server;
     let tenants = match &file {
@@ -76,6 +77,7 @@ pub fn with_file<R: Files + Eprint + AllocGlobal>(
             file,
             open_jobs,
         },
+        journal,
         options,
     })
 }

@@ -1,0 +1,227 @@
+//! The file of a server's journal: opened or made, locked, read, and replayed.
+
+ghost use Rattle.std.specs.Prelude.{◌≡◌, ℕ, List, [], IfOk, is_some, take, true};
+ghost use Rattle.journal.specs.Records.{DecodesTo, journal_of};
+ghost use Rattle.journal_file.specs.FileLogs.{file_state};
+ghost use Rattle.recovery.specs.Histories.{IsAfter};
+ghost use Rattle.desk_journal.specs.DeskSteps.{IsNewDesk, MakesBytes};
+
+use bpfjobs_cli::{FAILED, Serve};
+use desk_journal::{DeskChange, JournaledDesk, open_desk_journal};
+use journal::{HEADER_LEN, first_record};
+use journal_file::FileLog;
+use recovery::{OpenFault, RecoverFault, Recovered, StateChange, StateMachine};
+use shared_journal::SharedJournal;
+use std::alloc::Global;
+use std::fs::{File, Files, TryLockError};
+use std::io;
+use std::io::Read;
+use std::os::unix::fs::OpenOptionsExt;
+use std::path::Path;
+use std::sync::Arc;
+
+// The permissions of a new journal, which has what tenants submitted: its owner alone reads it.
+const OF_OWNER: u32 = 0o600;
+
+// Bytes of checksum that a search for records behind a torn one may take: some ten seconds.
+const SEARCH_BUDGET: usize = 1 << 32;
+
+/// A journal that is open, and the desk that its records lead to.
+#[derive(Drop)]
+pub struct OpenedJournal {
+    pub journal: Arc<SharedJournal, Global>,
+    pub desk: JournaledDesk,
+}
+
+// The reason why a file isn't gone on with.
+#[derive(Drop)]
+enum FileFault {
+    System(io::Error),
+    NoRegularFile,
+    InUse,
+    NoMemory,
+    Damaged { at: usize, record_at: usize },
+    Unsearched { at: usize },
+    NotAChange { at: usize },
+    NotAllowed { at: usize },
+    NotCut,
+}
+
+impl From<io::Error> for FileFault {
+    fn from(error: io::Error) -> FileFault {
+        FileFault::System(error)
+    }
+}
+
+// Tells why a file isn't gone on with.
+fn tell_fault<R: Eprint>(rt: &R, path: &str, fault: FileFault) {
+    let _ = match fault {
+        FileFault::System(error) => eprintln!(rt; "bpfjobs: {path}: {error}"),
+        FileFault::NoRegularFile => eprintln!(rt; "bpfjobs: {path}: no regular file"),
+        FileFault::InUse => eprintln!(rt; "bpfjobs: {path}: in use by another server"),
+        FileFault::NoMemory => eprintln!(rt; "bpfjobs: {path}: no memory for what it has"),
+        FileFault::Damaged { at, record_at } => eprintln!(
+            rt;
+            "bpfjobs: {path}: damaged at byte {at}: a whole record stands at byte {record_at}"
+        ),
+        FileFault::Unsearched { at } => eprintln!(
+            rt;
+            "bpfjobs: {path}: no record at byte {at}, and too much behind it to look for one"
+        ),
+        FileFault::NotAChange { at } => eprintln!(
+            rt;
+            "bpfjobs: {path}: damaged at byte {at}: the record there is no change of a desk"
+        ),
+        FileFault::NotAllowed { at } => eprintln!(
+            rt;
+            "bpfjobs: {path}: damaged at byte {at}: the record there doesn't follow from those ahead"
+        ),
+        FileFault::NotCut => eprintln!(rt; "bpfjobs: {path}: it can't be cut, or not be synced"),
+    };
+}
+
+// The file, which nobody else has locked. It is made if it isn't there.
+fn locked_file<R: Files<File = File>>(rt: &R, path: &str) -> Result<File, FileFault> {
+    let file = File::options()
+        .read(true)
+        .write(true)
+        .create(true)
+        .mode(OF_OWNER)
+        .open(rt, path)?;
+    if !file.metadata()?.is_file() {
+        return Err(FileFault::NoRegularFile);
+    }
+    match file.try_lock() {
+        Ok(()) => Ok(file),
+        Err(TryLockError::WouldBlock) => Err(FileFault::InUse),
+        Err(TryLockError::Error(error)) => Err(FileFault::System(error)),
+    }
+}
+
+// Syncs the folder of a file, so that the file's name is on the disk.
+fn sync_name<R: Files<File = File>>(rt: &R, path: &str) -> io::Result<()> {
+    let folder = match Path::new(path).parent() {
+        Some(folder) => folder.as_str(),
+        None => "/",
+    };
+    let folder = if folder.is_empty() { "." } else { folder };
+    File::open(rt, folder)?.sync_all()
+}
+
+// Whether the change with this payload is applied to the desk.
+fn is_applied(alloc: Global, desk: &mut JournaledDesk, payload: &[u8]) -> bool {
+    match DeskChange::decode(alloc, payload) {
+        Ok(change) => desk.apply(alloc, &change).is_ok(),
+        Err(_) => false,
+    }
+}
+
+// The place of the first record that isn't replayed.
+fn place_of_refusal(alloc: Global, bytes: &[u8]) -> usize {
+    let mut desk = JournaledDesk::start(alloc);
+    let mut rest = bytes;
+    while let Some(payload) = first_record(rest) {
+        if !is_applied(alloc, &mut desk, payload) {
+            break;
+        }
+        rest = rest.split_at(HEADER_LEN + payload.len()).1;
+    }
+    bytes.len() - rest.len()
+}
+
+// What is told of a journal that isn't opened.
+fn fault_of(alloc: Global, bytes: &[u8], fault: OpenFault) -> FileFault {
+    match fault {
+        OpenFault::Damaged { len, record_at } => FileFault::Damaged {
+            at: len,
+            record_at: usize::saturating_add(len, record_at),
+        },
+        OpenFault::Unsearched { len } => FileFault::Unsearched { at: len },
+        OpenFault::NotReplayed(RecoverFault::NoMemory) => FileFault::NoMemory,
+        OpenFault::NotReplayed(RecoverFault::NotAChange) => FileFault::NotAChange {
+            at: place_of_refusal(alloc, bytes),
+        },
+        OpenFault::NotReplayed(RecoverFault::Refused) => FileFault::NotAllowed {
+            at: place_of_refusal(alloc, bytes),
+        },
+    }
+}
+
+// The bytes ahead of this place, and those behind it, if there are any.
+fn parts_at(bytes: &[u8], place: usize) -> (&[u8], &[u8])
+    ensures { result.0.now ≡ take place bytes.now }
+{
+    match bytes.split_at_checked(place) {
+        Some(parts) => parts,
+        None => (bytes, &[]),
+    }
+}
+
+// The desk that a file's records lead to, and a log that goes on right behind them: what stands
+// there is cut off.
+fn replayed<R: Eprint>(
+    rt: &R,
+    alloc: Global,
+    path: &str,
+    file: File,
+    bytes: &[u8],
+) -> Result<(FileLog, JournaledDesk), FileFault>
+    ensures { IfOk result (λ opened. (payloads : List (List ℕ)) × (tail : List ℕ)
+        × DecodesTo bytes.now payloads tail × IsAfter IsNewDesk MakesBytes payloads opened.1
+        × (file_state opened.0 ≡ record { durable = journal_of payloads; pending = [] })) }
+{
+    let Recovered { machine, len } = match open_desk_journal(alloc, bytes, SEARCH_BUDGET) {
+        Ok(recovered) => recovered,
+        Err(fault) => return Err(fault_of(alloc, bytes, fault)),
+    };
+    let (whole, torn) = parts_at(bytes, len);
+    if !torn.is_empty() {
+        let cut = torn.len();
+        let _ = eprintln!(rt; "bpfjobs: {path}: cut off {cut} bytes of a torn record");
+    }
+    match FileLog::open(alloc, file, whole) {
+        Ok(log) => Ok((log, machine)),
+        Err(_) => Err(FileFault::NotCut),
+    }
+}
+
+// The same from the file's path.
+fn opened<R: Files<File = File> + Eprint>(
+    rt: &R,
+    alloc: Global,
+    path: &str,
+) -> Result<OpenedJournal, FileFault> {
+    let mut file = locked_file(rt, path)?;
+    sync_name(rt, path)?;
+    let mut bytes = Vec::new(alloc);
+    file.read_to_end(&mut bytes)?;
+    let (log, desk) = replayed(rt, alloc, path, file, &bytes)?;
+    match Arc::new(alloc, SharedJournal::new(alloc, log)) {
+        Ok(journal) => Ok(OpenedJournal { journal, desk }),
+        Err(_) => Err(FileFault::NoMemory),
+    }
+}
+
+/// The journal in the file that a server's words name, if they do, and the desk that its records lead
+/// to. Where there is no file, it is made. A torn record at its end is cut off, which a line tells.
+///
+/// Where it isn't gone on with, a line tells why, and the program ends with this status. The file is
+/// then as it was.
+pub fn open_server_journal<R: Files<File = File> + Eprint>(
+    rt: &R,
+    alloc: Global,
+    server: &Serve,
+) -> Result<Option<OpenedJournal>, u8>
+    ensures { IfOk result (λ opened. is_some opened ≡ true → is_some server.now.journal ≡ true) }
+{
+    let Some(path) = &server.journal else {
+        return Ok(None);
+    };
+    match opened(rt, alloc, path) {
+        Ok(opened) => Ok(Some(opened)),
+        Err(fault) => {
+            tell_fault(rt, path, fault);
+            Err(FAILED)
+        }
+    }
+}
