@@ -1,8 +1,8 @@
 //! Compaction: a snapshot of the state takes the place of the journal that led to it.
 //!
 //! The snapshot is written beside the journal, synced, renamed over it, and the folder is synced.
-//! A crash at any moment leaves the old journal or the new one, and both lead to one state. The
-//! server has no journal yet.
+//! A crash at any moment leaves the old journal or the new one, and both lead to one state. No
+//! program compacts its journal yet.
 #![tactic(auto)]
 
 // two files

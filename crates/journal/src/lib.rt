@@ -1,7 +1,6 @@
 //! A journal: records one behind the other in a log, each with its length and a checksum.
 //!
 //! A crash may leave a torn tail behind the whole records. It is found and dropped, never read.
-//! The server has no journal yet.
 #![tactic(auto)]
 
 // records as bytes

@@ -1,7 +1,6 @@
 //! A journal's log in a file, and the two files of a compaction.
 //!
-//! No contract says what a file keeps: a sync is trusted to reach the disk. The server has no
-//! journal yet.
+//! No contract says what a file keeps: a sync is trusted to reach the disk.
 #![tactic(auto)]
 
 mod file_log;

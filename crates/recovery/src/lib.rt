@@ -1,7 +1,7 @@
 //! A state machine with its journal: changes are recorded, committed, and replayed after a crash.
 //!
 //! Recovery gives the state after the first changes of the history, in order, with each that was
-//! committed. The server has no journal yet.
+//! committed.
 #![tactic(auto)]
 
 // what is journaled
