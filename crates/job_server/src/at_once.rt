@@ -11,7 +11,7 @@ use crate::listener::Listener;
 use crate::noted_ends::{NotedReader, NotedWriter, ending_of};
 use crate::plan::Plan;
 use crate::shares::{Shares, leave, shares_of};
-use crate::stop_flag::{ended_by, raise_if};
+use crate::stop_flag::{ended_by, has_failed, raise_if};
 use crate::timed_reader::{TimedReader, Waiting};
 use refusal::NoMemory;
 use server_log::{LogEvent, ServerLog, millis_since};
@@ -75,11 +75,12 @@ fn answer_connection<'s, R: Wait + Clock, D, H: SharedHandler<D>, J: Origin<D, H
     )
 }
 
-// The next connection. A log is told once that no more are taken.
+// The next connection. A log is told once that no more are taken, and where a journal has failed.
 fn next_connection<R: Wait + Clock, L: Listener + Drop, J: HistoryId + FirstListener<L>>(
     rt: &R,
     history: &SharedHistory<J>,
     entrance: &Mutex<Entrance<'_, L, J>>,
+    journal: Option<&SharedJournal>,
     log: Option<&ServerLog>,
 ) -> Option<(TcpStream, ClientSeat<J>, Passage, u64)>
     ensures fresh { IfSome result (λ taken. taken.1.part ≡ []) }
@@ -88,6 +89,9 @@ fn next_connection<R: Wait + Clock, L: Listener + Drop, J: HistoryId + FirstList
     let mut entrance = entrance.lock(rt);
     let next = entrance.next(rt, history);
     if next.is_none() && entrance.is_first_at_end() {
+        if has_failed(journal) {
+            tell(rt, log, LogEvent::JournalFailed);
+        }
         tell(rt, log, LogEvent::Stopping);
     }
     next
@@ -120,8 +124,9 @@ fn take_turns<
     log: Option<&ServerLog>,
 ) {
     for _ in rt.forever() {
-        let Some((stream, seat, passage, connection)) = next_connection(rt, history, entrance, log)
-        else {
+        let Some((stream, seat, passage, connection)) = next_connection(
+            rt, history, entrance, journal, log,
+        ) else {
             return;
         };
         let begun = tell_opened(rt, log, connection, passage);
@@ -135,7 +140,7 @@ fn take_turns<
             let closed = LogEvent::Closed {
                 connection,
                 requests: reader.requests(),
-                end: ending_of(&reader, &writer),
+                end: ending_of(&reader, &writer, is_refused),
                 ms: millis_since(rt, begun),
             };
             log.tell(rt, closed);

@@ -131,11 +131,16 @@ impl<W: Write> Write for NotedWriter<W> {
     }
 }
 
-/// How a connection ended, by its two ends. Where neither tells, there was no memory.
+/// How a connection ended, by its two ends, and by whether a reply was refused since the journal has
+/// failed. Where none tells, there was no memory.
 pub(crate) fn ending_of<T, W>(
     reader: &NotedReader<'_, T>,
     writer: &NotedWriter<W>,
+    is_refused: bool,
 ) -> ConnectionEnd {
+    if is_refused {
+        return ConnectionEnd::Journal;
+    }
     match (writer.ending, reader.ending) {
         (Some(ending), _) => ending,
         (None, Some(ending)) => ending,

@@ -41,12 +41,17 @@ pub(crate) fn is_stopped(stop: Option<&StopFlag>) -> bool
     }
 }
 
+/// Whether there is a journal that has failed.
+pub(crate) fn has_failed(journal: Option<&SharedJournal>) -> bool {
+    match journal {
+        Some(journal) => journal.has_failed(),
+        None => false,
+    }
+}
+
 /// Whether no further connection is to be taken: a flag was raised, or a journal has failed.
 pub(crate) fn is_ended(stop: Option<&StopFlag>, journal: Option<&SharedJournal>) -> bool {
-    match journal {
-        Some(journal) if journal.has_failed() => true,
-        _ => is_stopped(stop),
-    }
+    has_failed(journal) || is_stopped(stop)
 }
 
 /// Raises a flag, if there is one, where a reply was refused since a journal has failed.

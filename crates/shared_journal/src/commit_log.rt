@@ -94,3 +94,29 @@ impl<L: Log> CommitLog<L> {
         }
     }
 }
+
+#[cfg(test)]
+mod tests {
+    use super::CommitLog;
+    use crate::waiting_records::put_behind;
+    use journal::MemoryLog;
+    use std::sync::Mutex;
+
+    // What waits is durable behind a commit. A commit that fails is the last one.
+    #[test]
+    fn commits_up_to_a_failure(rt: HostRuntime) {
+        let alloc = rt.alloc();
+        let log = MemoryLog::new(alloc, Vec::new(alloc), 3);
+        let mut commits = CommitLog::new(alloc, log);
+        let waiting = Mutex::new(Vec::new(alloc));
+        assert!(rt; commits.commit(&rt, &waiting).is_ok());
+        assert!(rt; put_behind(&mut waiting.lock(&rt), &[1, 2]).is_ok());
+        assert!(rt; put_behind(&mut waiting.lock(&rt), &[3]).is_ok());
+        assert!(rt; commits.commit(&rt, &waiting).is_ok());
+        assert!(rt; commits.log.durable.as_slice() == [1, 2, 3].as_slice());
+        assert!(rt; put_behind(&mut waiting.lock(&rt), &[4, 5]).is_ok());
+        assert!(rt; commits.commit(&rt, &waiting).is_err());
+        assert!(rt; commits.commit(&rt, &waiting).is_err());
+        assert!(rt; commits.log.durable.as_slice() == [1, 2, 3].as_slice());
+    }
+}
