@@ -60,20 +60,16 @@ fn tell_fault<R: Eprint>(rt: &R, path: &str, fault: FileFault) {
         FileFault::NoRegularFile => eprintln!(rt; "bpfjobs: {path}: no regular file"),
         FileFault::InUse => eprintln!(rt; "bpfjobs: {path}: in use by another server"),
         FileFault::NoMemory => eprintln!(rt; "bpfjobs: {path}: no memory for what it has"),
-        FileFault::Damaged { at, record_at } => eprintln!(
-            rt;
+        FileFault::Damaged { at, record_at } => eprintln!(rt;
             "bpfjobs: {path}: damaged at byte {at}: a whole record stands at byte {record_at}"
         ),
-        FileFault::Unsearched { at } => eprintln!(
-            rt;
+        FileFault::Unsearched { at } => eprintln!(rt;
             "bpfjobs: {path}: no record at byte {at}, and too much behind it to look for one"
         ),
-        FileFault::NotAChange { at } => eprintln!(
-            rt;
+        FileFault::NotAChange { at } => eprintln!(rt;
             "bpfjobs: {path}: damaged at byte {at}: the record there is no change of a desk"
         ),
-        FileFault::NotAllowed { at } => eprintln!(
-            rt;
+        FileFault::NotAllowed { at } => eprintln!(rt;
             "bpfjobs: {path}: damaged at byte {at}: the record there doesn't follow from those ahead"
         ),
         FileFault::NotCut => eprintln!(rt; "bpfjobs: {path}: it can't be cut, or not be synced"),

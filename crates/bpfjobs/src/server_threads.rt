@@ -79,11 +79,7 @@ pub enum Helper {
     /// It stops the server that listens there once the input has ended.
     Stops(ListenAddress, Arc<StopFlag, Global>),
     /// It stops the server once its journal has failed.
-    Watches(
-        ListenAddress,
-        Arc<StopFlag, Global>,
-        Arc<SharedJournal, Global>,
-    ),
+    Watches(ListenAddress, Arc<StopFlag, Global>, Arc<SharedJournal, Global>),
     /// It writes the lines of a log on standard error.
     Writes(LogLines),
 }
