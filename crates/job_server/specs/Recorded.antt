@@ -4,7 +4,7 @@ use Rattle.credit_book.specs.declared.book.Report.{Report}
 use Rattle.job_core.specs.Admitted.{AdmittedJob}
 use Rattle.accounts.specs.Ledgers.{Ledger}
 use Rattle.desk_journal.specs.DeskSteps.{DeskState}
-use Rattle.desk_recorder.specs.Recording.{RecordsChanges}
+use Rattle.desk_recorder.specs.Recording.{IsRecorded}
 use Rattle.desk_recorder.specs.RecordedAnswers.{answers_recorded}
 use Rattle.desk_recorder.specs.Restarts.{StartsEach}
 use Rattle.desk_recorder.specs.declared.recorder.ChangeRecorder.{ChangeRecorder}
@@ -45,7 +45,7 @@ pub record IsRestarted {R Q : Type 0}
   pub fresh : ChangeRecorder Q
   pub none : (taken fresh.queue ≡ []) × (fresh.is_stopped ≡ false)
   pub started : StartsEach starts state.desk runner state.held begun.0 begun.1.runner
-  pub recorded : RecordsChanges taken failed fresh begun.1.recorder state.desk begun.0
+  pub recorded : IsRecorded taken failed fresh begun.1.recorder state.desk begun.0
   pub kept : begun.1.keep ≡ keep
 
 -- a desk, and a pool within its host's bounds, with the queue of the desk's changes
