@@ -175,7 +175,8 @@ class Raw(Client):
 
     def told_all(self, requests):
         """The replies to requests that are sent at once. It raises where the server closes the stream."""
-        self.stream.sendall(b"".join(frame(json.dumps(request)) for request in requests))
+        texts = (request if isinstance(request, str) else json.dumps(request) for request in requests)
+        self.stream.sendall(b"".join(frame(text) for text in texts))
         return [self.next_told() for _ in requests]
 
     def next_told(self):

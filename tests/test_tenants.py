@@ -11,10 +11,11 @@ import threading
 import time
 import unittest
 
+from journals import Raw
 from programs import BPFJOBS, IS_SLOW, PATIENCE, assemble, frame, free_port, is_read, submit_text
 from rows import code_of
 from test_clients import long_job
-from test_local import Client, told
+from test_local import told
 from test_log import told as told_of
 from trees import Planter, comparable
 
@@ -35,25 +36,6 @@ def grant(tenant, amount=1000):
 
 def submit(tenant, credit=3, buffer=b""):
     return submit_text([(0, ADD)], credit, buffer, tenant=tenant)
-
-
-class Raw(Client):
-    """A connection whose replies are told byte for byte."""
-
-    def told(self, request):
-        self.stream.sendall(frame(request if isinstance(request, str) else json.dumps(request)))
-        return is_read(self.stream, int.from_bytes(is_read(self.stream, 4), "big"))
-
-    def ask(self, request):
-        return json.loads(self.told(request))
-
-    def over(self, job):
-        """The result of a job, once it isn't open."""
-        until = time.monotonic() + PATIENCE
-        while (reply := self.told({"op": "result", "job": job})) == b'{"code":77,"ok":false}':
-            assert time.monotonic() < until
-            time.sleep(0.001)
-        return reply
 
 
 class Room(unittest.TestCase):
