@@ -495,8 +495,8 @@ def main():
     reader.add_argument("--program", default=os.path.join(TOP, "crates/bpfjobs/out/bpfjobs"))
     words = reader.parse_args()
     words.seconds = words.seconds or (3600 if words.jobs else 60)
-    if not (1 <= words.seconds <= 3600 and 1 <= words.clients <= 64):
-        reader.error("--seconds is 1 to 3600, --clients 1 to 64")
+    if not (1 <= words.seconds <= 3600 and 1 <= words.clients <= 1024):
+        reader.error("--seconds is 1 to 3600, --clients 1 to 1024")
     if not (0 <= words.jobs and 0 <= words.trees and 1 <= words.burst):
         reader.error("--jobs and --trees are 0 or more, --burst 1 or more")
     port = free_port()

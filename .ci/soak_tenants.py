@@ -95,7 +95,7 @@ class Server:
         doors = [word for name in names for word in ("--tenant", f"{name}={self.path(name)}")]
         places = 2 + AT_ONCE * len(names)
         line = [words.program, "serve", "--socket", f"{room}/all", "--grants", self.granter, *doors]
-        line += ["--workers", str(words.workers), "--clients", str(min(places, 64)), "--timeout", str(TIMEOUT)]
+        line += ["--workers", str(words.workers), "--clients", str(places), "--timeout", str(TIMEOUT)]
         self.process = subprocess.Popen(line, stdin=subprocess.DEVNULL, stdout=subprocess.DEVNULL, stderr=subprocess.PIPE)
         until = time.monotonic() + 20
         while not all(os.path.exists(self.path(name)) for name in names):
@@ -265,14 +265,14 @@ def told_alone(words, room, names, client, good):
 def main():
     reader = argparse.ArgumentParser(description="Honest tenants among others.")
     reader.add_argument("--seconds", type=int, default=60)
-    reader.add_argument("--tenants", type=int, default=31)
+    reader.add_argument("--tenants", type=int, default=32)
     reader.add_argument("--trees", type=int, default=12)
     reader.add_argument("--workers", type=int, default=2)
     reader.add_argument("--seed", type=int, default=1)
     reader.add_argument("--program", default=os.path.join(TOP, "crates/bpfjobs/out/bpfjobs"))
     words = reader.parse_args()
-    if not (3 <= words.tenants <= 31 and 1 <= words.seconds <= 3600):
-        reader.error("--tenants is 3 to 31, --seconds 1 to 3600")
+    if not (3 <= words.tenants <= 256 and 1 <= words.seconds <= 3600):
+        reader.error("--tenants is 3 to 256, --seconds 1 to 3600")
     good = good_jobs(words)
     names = [f"t{number}" for number in range(words.tenants)]
     with tempfile.TemporaryDirectory() as room:

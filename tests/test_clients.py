@@ -435,7 +435,7 @@ class Clients(unittest.TestCase):
 
     def test_a_third_silent_a_third_cutting_and_a_third_working(self):
         clients = 63
-        with Server(sessions=10_000, workers=4, more=("--clients", 64)) as server:
+        with Server(sessions=1_000_000, workers=4, more=("--clients", 64)) as server:
             Client(server).stream.close()
             silent = [server.connect() for _ in range(clients // 3)]
             is_over = threading.Event()

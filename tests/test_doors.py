@@ -249,12 +249,17 @@ class Shared(unittest.TestCase):
     def own(self, name):
         return os.path.join(self.room, "shared", name)
 
+    def state(self):
+        """The folder of the journals, in the place of /var/lib/telgovan-doors."""
+        return os.path.join(os.path.dirname(self.room), "state")
+
     def call(self, line, **more):
         """A line of the unit as systemd runs it: as the server's user, or with a + as root."""
         line = line.replace('-g "$name"', f'-g "$(sed -n "s/^$name //p" {self.groups})"').replace("%%", "%")
         line = line.replace("/etc/telgovan/tenants", self.lines).replace("/run/telgovan", self.room).replace("/usr/local/bin/bpfjobs", self.program)
         become = None if line.startswith("+") else as_user(self.USER, [self.USER])
         names = {"RUNTIME_DIRECTORY": os.path.join(self.room, "shared"), "PATH": os.environ["PATH"]}
+        names["STATE_DIRECTORY"] = self.state()
         names["MAINPID"] = str(self.process.pid) if self.process else ""
         words = ["/bin/sh", "-c", "exec " + line.lstrip("+")]
         umask = int(*unit_lines("UMask", SHARED), 8)
@@ -264,6 +269,8 @@ class Shared(unittest.TestCase):
         os.mkdir(os.path.join(self.room, "shared"))
         os.chmod(os.path.join(self.room, "shared"), int(*unit_lines("RuntimeDirectoryMode", SHARED), 8))
         os.chown(os.path.join(self.room, "shared"), self.USER, self.USER)
+        os.makedirs(self.state(), int(*unit_lines("StateDirectoryMode", SHARED), 8), exist_ok=True)
+        os.chown(self.state(), self.USER, self.USER)
         for line in unit_lines("ExecStartPre", SHARED):
             self.assertEqual(self.call(line).wait(PATIENCE), 0, line)
         self.process = self.call(*unit_lines("ExecStart", SHARED), stderr=subprocess.DEVNULL)
@@ -307,6 +314,19 @@ class Shared(unittest.TestCase):
             for place, mode in ((self.path(tenant), 0o770), (os.path.dirname(self.path(tenant)), 0o2750)):
                 found = os.stat(place)
                 self.assertEqual((stat.S_IMODE(found.st_mode), found.st_uid, found.st_gid), (mode, self.USER, group), place)
+
+    def test_accounts_are_kept(self):
+        """Each tenant's are there again, from a file of its own, which the server's user alone may read."""
+        self.start()
+        for tenant in TENANTS:
+            self.assertEqual(self.kinds(0, [ROOT_GROUP], self.own("grants"), tenant), [74, "ok"])
+        self.assertEqual(self.end(), 0)
+        shutil.rmtree(os.path.join(self.room, "shared"))
+        self.start()
+        for tenant, (_, group) in TENANTS.items():
+            self.assertEqual(self.kinds(MEMBER, [group], self.path(tenant), tenant), ["ok", 73])
+            found = os.stat(os.path.join(self.state(), f"journal.{tenant}"))
+            self.assertEqual((stat.S_IMODE(found.st_mode), found.st_uid), (0o600, self.USER))
 
     def test_stop(self):
         self.start()

@@ -268,13 +268,8 @@ class Files(Room):
             self.assertEqual(os.listdir(self.room), [])
 
     def test_words(self):
-        tenants = ["--tenant", f"a={self.room}/a"], ["--tenants", f"{self.room}/none"]
-        line = "error: serve takes --journal or tenants with sockets, and not both\n"
-        for more in tenants:
-            self.assertEqual(self.server.run(*more), (2, line))
-        for more in (["--journal", "x"],):
-            status, lines = self.server.run(*more)
-            self.assertEqual((status, lines[:7]), (2, "error: "))
+        status, lines = self.server.run("--journal", "x")
+        self.assertEqual((status, lines[:7]), (2, "error: "))
         self.assertEqual(os.listdir(self.room), [])
 
 

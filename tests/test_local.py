@@ -243,7 +243,7 @@ class Local(unittest.TestCase):
 
     def test_wrong_words(self):
         """Without a path, with two, and without a number."""
-        for words in (["--socket"], ["--socket", self.path, "--socket", self.path], ["--socket", self.path, "--clients", "65"],
+        for words in (["--socket"], ["--socket", self.path, "--socket", self.path], ["--socket", self.path, "--clients", "1025"],
                       ["--socket", self.path, "--port", "0"]):
             with self.subTest(words):
                 self.assertTrue(self.refused(words).startswith("error: "))

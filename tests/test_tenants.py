@@ -110,6 +110,7 @@ class Clients:
 FORM, NAME = "it wants a name and a path", "a name has 1 to 32 of a to z, 0 to 9, _ and -"
 NO_PATH, NO_TEXT = "the path is empty", "it is no UTF-8"
 NO_NUMBER = "open-jobs wants a number from 0 to 1000000"
+NO_CREDIT = "credit wants a number from 1 to 2147483647"
 NAME_TWICE, PATH_TWICE, TOO_MANY = "the name is there already", "the path is there already", "256 tenants are there already"
 
 
@@ -183,6 +184,11 @@ class Lines(Room):
             self.check(f"a /a\nb /b {rest}\n", 2, FORM)
         for rest in ("open-jobs", "open-jobs #", "open-jobs x", "open-jobs -1", "open-jobs +1", "open-jobs 1000001", "open-jobs 99999999999999999999"):
             self.check(f"a /a open-jobs 0\nb /b {rest}\n", 2, NO_NUMBER)
+        for rest in ("credit 1 2", "credit 1 open-jobs 2", "Credit 1", "open-jobs 1 credit 1 x", "open-jobs x credit 1 x"):
+            self.check(f"a /a credit 1\nb /b {rest}\n", 2, FORM)
+        for rest in ("credit", "credit #", "credit 0", "credit -1", "credit 2147483648", "credit 99999999999999999999", "open-jobs 1 credit x"):
+            self.check(f"a /a open-jobs 0 credit 1\nb /b {rest}\n", 2, NO_CREDIT)
+        self.check("a /a open-jobs x credit x\n", 1, NO_NUMBER)
         for line in ("Alice /x", "a" * 33 + " /x", "a.b /x", "=a /x", "é /x", "alice=/x /y"):
             self.check(f"a /a\n{line}", 2, NAME)
         self.check("a /a\n\nb /b\na /c\n", 4, NAME_TWICE)
@@ -419,6 +425,31 @@ class OpenJobs(Room):
         for job in (2, 3):
             self.check_room(alice, "alice", job)
         self.check_room(bob, "bob", 1)
+
+
+class Credit(Room):
+    """Credit that a file's line grants at first."""
+
+    def test_each_tenant_begins_with_its_own(self):
+        lines = [f"alice {self.path('alice')} credit 100", f"bob {self.path('bob')} open-jobs 2 credit 2147483647 # most", f"carol {self.path('carol')}"]
+        process = self.start("--grants", self.path("grants"), "--sessions", 5, "--clients", 5, "--tenants", self.write("\n".join(lines)))
+        clients = {name: self.connect(process, name) for name in ("alice", "bob", "carol", "grants")}
+        for name, granted in (("alice", 100), ("bob", 2147483647)):
+            for asked_by in (name, "grants"):
+                told = clients[asked_by].ask(account(name))
+                self.assertEqual((told["granted"], told["balance"], told["open"], told["spent"]), (granted, granted, 0, 0), asked_by)
+        self.assertEqual(clients["carol"].ask(account("carol"))["code"], 74)
+        self.assertEqual(clients["alice"].ask(submit("alice", credit=101))["code"], 75)
+        self.assertEqual(clients["alice"].ask(submit("alice", credit=3))["job"], 1)
+        self.assertEqual(clients["grants"].ask(grant("alice", 5))["granted"], 105)
+        self.assertEqual(clients["grants"].ask(grant("carol", 5))["granted"], 5)
+
+    def test_without_a_socket_for_grants(self):
+        """Nobody else is granted anything by it."""
+        process = self.start("--sessions", 2, "--clients", 2, "--tenants", self.write(f"alice {self.path('alice')} credit 7\n"))
+        everybody, alice = self.connect(process), self.connect(process, "alice")
+        self.assertEqual(everybody.ask(account("bob"))["code"], 74)
+        self.assertEqual(alice.ask(account("alice"))["balance"], 7)
 
 
 class Together(Room):

@@ -226,9 +226,9 @@ where
                 tenants: &[],
                 stop: None,
                 log: None,
-                journal: None,
+                journals: &[],
             };
-            serve_listener(&rt, alloc, &listener, plan, None)
+            serve_listener(&rt, alloc, &listener, plan, Vec::new(alloc))
         },
         || (
             one_by_one(&rt, address, &frame),

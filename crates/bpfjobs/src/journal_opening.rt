@@ -1,12 +1,13 @@
-//! The file of a server's journal: opened or made, locked, read, and replayed.
+//! The files of a server's journals: each opened or made, locked, read, and replayed.
 
-ghost use Rattle.std.specs.Prelude.{◌≡◌, ℕ, List, [], IfOk, is_some, take, true};
+ghost use Rattle.std.specs.Prelude.{◌≡◌, ◌+◌, ℕ, List, [], IfOk, IfSome, length, take};
+ghost use Rattle.std.specs.Arc.{arc_value};
 ghost use Rattle.journal.specs.Records.{DecodesTo, journal_of};
 ghost use Rattle.journal_file.specs.FileLogs.{file_state};
 ghost use Rattle.recovery.specs.Histories.{IsAfter};
 ghost use Rattle.desk_journal.specs.DeskSteps.{IsNewDesk, MakesBytes};
 
-use bpfjobs_cli::{FAILED, Serve};
+use bpfjobs_cli::{FAILED, Serve, journal_paths};
 use desk_journal::{DeskChange, JournaledDesk, open_desk_journal};
 use journal::{HEADER_LEN, first_record};
 use journal_file::FileLog;
@@ -26,11 +27,21 @@ const OF_OWNER: u32 = 0o600;
 // Bytes of checksum that a search for records behind a torn one may take: some ten seconds.
 const SEARCH_BUDGET: usize = 1 << 32;
 
-/// A journal that is open, and the desk that its records lead to.
+// A journal that is open, and the desk that its records lead to.
 #[derive(Drop)]
-pub struct OpenedJournal {
-    pub journal: Arc<SharedJournal, Global>,
-    pub desk: JournaledDesk,
+struct OpenedJournal {
+    journal: SharedJournal,
+    desk: JournaledDesk,
+}
+
+/// The journals of a server that are open, one for each desk, with the paths of their files, and the
+/// desks that their records lead to.
+#[derive(Drop)]
+pub struct OpenedJournals {
+    pub paths: Vec<String>,
+    pub journals: Arc<Vec<SharedJournal>, Global>,
+    pub desks: Vec<JournaledDesk>,
+    ghost paired: { length desks.items ≡ length (arc_value journals).items },
 }
 
 // The reason why a file isn't gone on with.
@@ -192,32 +203,112 @@ fn opened<R: Files<File = File> + Eprint>(
     let mut bytes = Vec::new(alloc);
     file.read_to_end(&mut bytes)?;
     let (log, desk) = replayed(rt, alloc, path, file, &bytes)?;
-    match Arc::new(alloc, SharedJournal::new(alloc, log)) {
-        Ok(journal) => Ok(OpenedJournal { journal, desk }),
-        Err(_) => Err(FileFault::NoMemory),
+    let journal = SharedJournal::new(alloc, log);
+    Ok(OpenedJournal { journal, desk })
+}
+
+// Looks whether a file may be gone on with. It is made if it isn't there, and else stays as it is.
+fn examine<R: Files<File = File>>(rt: &R, alloc: Global, path: &str) -> Result<(), FileFault> {
+    let mut file = locked_file(rt, path)?;
+    let mut bytes = Vec::new(alloc);
+    file.read_to_end(&mut bytes)?;
+    match open_desk_journal(alloc, &bytes, SEARCH_BUDGET) {
+        Ok(_) => Ok(()),
+        Err(fault) => Err(fault_of(alloc, &bytes, fault)),
     }
 }
 
-/// The journal in the file that a server's words name, if they do, and the desk that its records lead
-/// to. Where there is no file, it is made. A torn record at its end is cut off, which a line tells.
+// Tells why a file isn't gone on with, and gives the status.
+fn refused<R: Eprint>(rt: &R, path: &str, fault: FileFault) -> u8 {
+    tell_fault(rt, path, fault);
+    FAILED
+}
+
+// Looks whether each of several files may be gone on with, before any of them is changed.
+fn examine_all<R: Files<File = File> + Eprint>(
+    rt: &R,
+    alloc: Global,
+    paths: &[String],
+) -> Result<(), u8> {
+    for path in paths {
+        if let Err(fault) = examine(rt, alloc, path) {
+            return Err(refused(rt, path, fault));
+        }
+    }
+    Ok(())
+}
+
+// The journals in these files, and the desks that their records lead to.
+fn open_each<R: Files<File = File> + Eprint>(
+    rt: &R,
+    alloc: Global,
+    paths: &[String],
+) -> Result<(Vec<SharedJournal>, Vec<JournaledDesk>), u8>
+    ensures { IfOk result (λ opened. (length opened.0.items ≡ length paths.now)
+        × (length opened.1.items ≡ length paths.now)) }
+{
+    let mut journals = Vec::new(alloc);
+    let mut desks = Vec::new(alloc);
+    for path in paths {
+        let OpenedJournal { journal, desk } = match opened(rt, alloc, path) {
+            Ok(opened) => opened,
+            Err(fault) => return Err(refused(rt, path, fault)),
+        };
+        let Ok(()) = journals.push(journal) else {
+            return Err(refused(rt, path, FileFault::NoMemory));
+        };
+        let Ok(()) = desks.push(desk) else {
+            return Err(refused(rt, path, FileFault::NoMemory));
+        };
+    }
+    Ok((journals, desks))
+}
+
+// The journals in these files, the first of which is named so.
+fn open_journals<R: Files<File = File> + Eprint>(
+    rt: &R,
+    alloc: Global,
+    path: &str,
+    paths: Vec<String>,
+) -> Result<OpenedJournals, u8>
+    ensures { IfOk result (λ opened. length (arc_value opened.journals).items ≡ length paths.items) }
+{
+    if paths.len() > 1 {
+        examine_all(rt, alloc, &paths)?;
+    }
+    let (journals, desks) = open_each(rt, alloc, &paths)?;
+    match Arc::new(alloc, journals) {
+        Ok(journals) => Ok(OpenedJournals {
+            paths,
+            journals,
+            desks,
+        }),
+        Err(_) => Err(refused(rt, path, FileFault::NoMemory)),
+    }
+}
+
+/// The journals in the files that a server's words name, if they do, and the desks that their records
+/// lead to: first that of everybody else, and then one for each tenant. Where there is no file, it is
+/// made. A torn record at the end of one is cut off, which a line tells.
 ///
-/// Where it isn't gone on with, a line tells why, and the program ends with this status. The file is
-/// then as it was.
-pub fn open_server_journal<R: Files<File = File> + Eprint>(
+/// Where one of them isn't gone on with, a line names it and tells why, and the program ends with this
+/// status. A file that was there is then as it was, unless one changed while they were opened.
+pub fn open_server_journals<R: Files<File = File> + Eprint>(
     rt: &R,
     alloc: Global,
     server: &Serve,
-) -> Result<Option<OpenedJournal>, u8>
-    ensures { IfOk result (λ opened. is_some opened ≡ true → is_some server.now.journal ≡ true) }
+) -> Result<Option<OpenedJournals>, u8>
+    ensures { IfOk result (λ opened. IfSome opened (λ some. length (arc_value some.journals).items
+        ≡ length server.now.tenants.tenants.items + 1)) }
 {
     let Some(path) = &server.journal else {
         return Ok(None);
     };
-    match opened(rt, alloc, path) {
+    let Ok(paths) = journal_paths(alloc, path, &server.tenants.tenants) else {
+        return Err(refused(rt, path, FileFault::NoMemory));
+    };
+    match open_journals(rt, alloc, path, paths) {
         Ok(opened) => Ok(Some(opened)),
-        Err(fault) => {
-            tell_fault(rt, path, fault);
-            Err(FAILED)
-        }
+        Err(status) => Err(status),
     }
 }

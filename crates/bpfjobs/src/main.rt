@@ -6,6 +6,7 @@ ghost use Rattle.bpfjobs_cli.specs.Commands.{IsInRange};
 ghost use Rattle.bpfjobs_cli.specs.Performing.{NeedsNoThread};
 ghost use Rattle.std.specs.Prelude.{◌≤◌};
 
+mod first_credits;
 mod journal_opening;
 mod server_threads;
 mod serving;
@@ -15,7 +16,7 @@ mod tenant_file;
 use bpfjobs_cli::{
     Command, CommandRequest, FAILED, UNREAD, perform, perform_alone, print_usage, request, words,
 };
-use journal_opening::open_server_journal;
+use journal_opening::open_server_journals;
 use server_threads::handles_of;
 use serving::serve;
 use showing::{play_shown, run_shown};
@@ -99,15 +100,15 @@ fn main(rt: HostRuntime) -> ExitCode {
         Ok(server) => server,
         Err(status) => return ExitCode::from(status),
     };
-    let opened = match open_server_journal(&rt, alloc, &server) {
+    let opened = match open_server_journals(&rt, alloc, &server) {
         Ok(opened) => opened,
         Err(status) => return ExitCode::from(status),
     };
-    let journal = match &opened {
-        Some(opened) => Some(&opened.journal),
+    let journals = match &opened {
+        Some(opened) => Some(&opened.journals),
         None => None,
     };
-    let Ok((handles, helpers)) = handles_of(alloc, &server, journal) else {
+    let Ok((handles, helpers)) = handles_of(alloc, &server, journals) else {
         return ExitCode::from(FAILED);
     };
     for helper in helpers {

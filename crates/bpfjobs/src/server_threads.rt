@@ -1,5 +1,5 @@
-//! The threads beside a server: one that waits for the end of the input, one that looks at the journal,
-//! and one that writes a log.
+//! The threads beside a server: one that waits for the end of the input, one that looks at the
+//! journals, and one that writes a log.
 
 use bpfjobs_cli::{Endpoint, Serve};
 use job_server::{StopFlag, address_of};
@@ -14,7 +14,7 @@ use std::sync::{Arc, Wait};
 use std::thread;
 use std::time::{Clock, Duration};
 
-// How many milliseconds go by between two looks at a journal.
+// How many milliseconds go by between two looks at the journals.
 const BETWEEN_LOOKS: u64 = 20;
 
 /// The place of a server that a connection wakes.
@@ -55,16 +55,26 @@ fn stop_at_end<R: Input + Net>(rt: &R, place: &ListenAddress, stop: &StopFlag) {
     place.wake(rt);
 }
 
-// Looks at the journal until it has failed. Then raises the flag, and wakes the thread that waits for
-// a connection.
+// Whether one of the journals has failed.
+fn has_one_failed(journals: &[SharedJournal]) -> bool {
+    for journal in journals {
+        if journal.has_failed() {
+            return true;
+        }
+    }
+    false
+}
+
+// Looks at the journals until one has failed. Then raises the flag, and wakes the thread that waits
+// for a connection.
 fn stop_at_failure<R: Net + Wait + Clock>(
     rt: &R,
     place: &ListenAddress,
     stop: &StopFlag,
-    journal: &SharedJournal,
+    journals: &[SharedJournal],
 ) {
     for _ in rt.forever() {
-        if journal.has_failed() {
+        if has_one_failed(journals) {
             break;
         }
         thread::sleep(rt, Duration::from_millis(BETWEEN_LOOKS));
@@ -78,8 +88,8 @@ fn stop_at_failure<R: Net + Wait + Clock>(
 pub enum Helper {
     /// It stops the server that listens there once the input has ended.
     Stops(ListenAddress, Arc<StopFlag, Global>),
-    /// It stops the server once its journal has failed.
-    Watches(ListenAddress, Arc<StopFlag, Global>, Arc<SharedJournal, Global>),
+    /// It stops the server once one of its journals has failed.
+    Watches(ListenAddress, Arc<StopFlag, Global>, Arc<Vec<SharedJournal>, Global>),
     /// It writes the lines of a log on standard error.
     Writes(LogLines),
 }
@@ -89,8 +99,8 @@ impl Helper {
     pub fn help<R: Input + Eprint + Net + Wait + Clock + AllocGlobal>(self, rt: &R) {
         match self {
             Helper::Stops(place, stop) => stop_at_end(rt, &place, &stop),
-            Helper::Watches(place, stop, journal) => {
-                stop_at_failure(rt, &place, &stop, &journal);
+            Helper::Watches(place, stop, journals) => {
+                stop_at_failure(rt, &place, &stop, &journals);
             }
             Helper::Writes(lines) => write_lines(rt, rt.alloc(), lines),
         }
@@ -115,40 +125,40 @@ fn place_of(alloc: Global, endpoint: &Endpoint) -> Result<ListenAddress, NoMemor
 }
 
 // Adds the threads that raise a server's flag: at the end of the input, where its options say so, and
-// once its journal has failed, if it has one.
+// once one of its journals has failed, if it has them.
 fn add_stopping(
     alloc: Global,
     server: &Serve,
     stop: &Arc<StopFlag, Global>,
-    journal: Option<&Arc<SharedJournal, Global>>,
+    journals: Option<&Arc<Vec<SharedJournal>, Global>>,
     helpers: &mut Vec<Helper>,
 ) -> Result<(), NoMemory> {
     if server.options.until_eof {
         let place = place_of(alloc, &server.endpoint)?;
         helpers.push(Helper::Stops(place, Arc::try_clone(stop)?))?;
     }
-    if let Some(journal) = journal {
+    if let Some(journals) = journals {
         let place = place_of(alloc, &server.endpoint)?;
-        let journal = Arc::try_clone(journal)?;
-        helpers.push(Helper::Watches(place, Arc::try_clone(stop)?, journal))?;
+        let journals = Arc::try_clone(journals)?;
+        helpers.push(Helper::Watches(place, Arc::try_clone(stop)?, journals))?;
     }
     Ok(())
 }
 
-/// The flag and the log that a server's options and its journal ask for, and what their threads do.
+/// The flag and the log that a server's options and its journals ask for, and what their threads do.
 pub fn handles_of(
     alloc: Global,
     server: &Serve,
-    journal: Option<&Arc<SharedJournal, Global>>,
+    journals: Option<&Arc<Vec<SharedJournal>, Global>>,
 ) -> Result<(ServerHandles, Vec<Helper>), NoMemory> {
     let mut helpers = Vec::new(alloc);
     let mut handles = ServerHandles {
         stop: None,
         log: None,
     };
-    if server.options.until_eof || journal.is_some() {
+    if server.options.until_eof || journals.is_some() {
         let stop = Arc::new(alloc, StopFlag::new())?;
-        add_stopping(alloc, server, &stop, journal, &mut helpers)?;
+        add_stopping(alloc, server, &stop, journals, &mut helpers)?;
         handles.stop = Some(stop);
     }
     if server.options.logs {

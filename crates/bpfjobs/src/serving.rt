@@ -1,11 +1,13 @@
-//! The command `serve`: requests over TCP, or over a socket in the file system, and perhaps a journal.
+//! The command `serve`: requests over TCP, or over a socket in the file system, and perhaps journals.
 
-ghost use Rattle.std.specs.Prelude.{◌≡◌, [], false, true, IfOk, is_some, map, string_bytes, unwrap_or};
+ghost use Rattle.std.specs.Prelude.{◌≡◌, ◌⊎◌, ◌+◌, [], IfOk, IfSome, length, map, string_bytes, unwrap_or};
+ghost use Rattle.std.specs.Arc.{arc_value};
 ghost use Rattle.bpfjobs_cli.specs.Commands.{IsServeInRange};
 ghost use Rattle.bpfjobs_cli.specs.Tenants.{tenants_in};
 
-use crate::journal_opening::OpenedJournal;
-use bpfjobs_cli::{Endpoint, FAILED, Serve, ServeOptions, TenantSocket};
+use crate::first_credits::with_first_credits;
+use crate::journal_opening::OpenedJournals;
+use bpfjobs_cli::{Endpoint, FAILED, Serve, ServeOptions, TenantSettings, TenantSocket};
 use desk_journal::JournaledDesk;
 use job_server::{Bounds, Plan, StopFlag, TenantDoor, serve_port, serve_sockets, status_of};
 use refusal::NoMemory;
@@ -45,10 +47,14 @@ fn sessions_of(options: ServeOptions) -> u64 {
     }
 }
 
-// The doors of tenants, in their order: each has its tenant's name, path and number of open jobs.
+// The doors of tenants, in their order: each has its tenant's name, path and settings.
 fn doors_of(alloc: Global, tenants: &[TenantSocket]) -> Result<Vec<TenantDoor>, NoMemory>
     ensures { IfOk result (λ doors. map
-        (λ d. (string_bytes d.name, string_bytes d.path, d.open_jobs)) doors.items
+        (λ d. (
+          string_bytes d.name,
+          string_bytes d.path,
+          record { open_jobs = d.open_jobs; credit = d.credit },
+        )) doors.items
         ≡ tenants_in tenants.now) }
 {
     let mut doors = Vec::new(alloc);
@@ -59,11 +65,12 @@ fn doors_of(alloc: Global, tenants: &[TenantSocket]) -> Result<Vec<TenantDoor>, 
         let Ok(path) = String::from_str(alloc, &tenant.path) else {
             return Err(NoMemory);
         };
-        let open_jobs = tenant.open_jobs;
+        let TenantSettings { open_jobs, credit } = tenant.settings;
         let door = TenantDoor {
             name,
             path,
             open_jobs,
+            credit,
         };
         let Ok(()) = doors.push(door) else {
             return Err(NoMemory);
@@ -72,21 +79,22 @@ fn doors_of(alloc: Global, tenants: &[TenantSocket]) -> Result<Vec<TenantDoor>, 
     Ok(doors)
 }
 
-// Serves with a journal, if there is one, from the desk that its records lead to.
+// Serves with journals, if there are any, from the desks that their records lead to.
 fn serve_from<R>(
     rt: &R,
     alloc: Global,
     server: &Serve,
     stop: Option<&StopFlag>,
     log: Option<&ServerLog>,
-    journal: Option<&SharedJournal>,
-    state: Option<JournaledDesk>,
+    journals: &[SharedJournal],
+    states: Vec<JournaledDesk>,
 ) -> u8
 where
     R: Net<Stream = TcpStream, Listener = TcpListener> + Files + Threads + Wait + Clock + Sync,
     requires range { IsServeInRange server.now }
-    requires alone { is_some journal ≡ true → server.now.tenants.tenants.items ≡ [] }
-    requires state { is_some journal ≡ false → is_some state ≡ false }
+    requires journals { (journals.now ≡ [])
+        ⊎ (length journals.now ≡ length server.now.tenants.tenants.items + 1) }
+    requires states { length states.items ≡ length journals.now }
 {
     let options = server.options;
     let Ok(doors) = doors_of(alloc, &server.tenants.tenants) else {
@@ -99,49 +107,50 @@ where
         tenants: &doors,
         stop,
         log,
-        journal,
+        journals,
     };
     let outcome = match &server.endpoint {
-        Endpoint::Port(port) => serve_port(rt, alloc, *port, plan, state),
+        Endpoint::Port(port) => serve_port(rt, alloc, *port, plan, states),
         Endpoint::Socket { path, grants } => {
             let grants = match grants {
                 Some(path) => Some(path.as_str()),
                 None => None,
             };
-            serve_sockets(rt, alloc, path.as_str(), grants, plan, state)
+            serve_sockets(rt, alloc, path.as_str(), grants, plan, states)
         }
     };
     status_of(outcome)
 }
 
-// Makes the last records durable. Where the journal fails, or has failed, a line tells it, and the
+// Makes the last records durable. Where a journal fails, or has failed, a line names it, and the
 // status is 3.
-fn close_journal<R: Wait + Eprint>(
+fn close_journals<R: Wait + Eprint>(
     rt: &R,
-    server: &Serve,
-    journal: &SharedJournal,
+    paths: &[String],
+    journals: &[SharedJournal],
     status: u8,
 ) -> u8 {
-    if journal.commit(rt).is_ok() {
-        return status;
+    let mut status = status;
+    for (path, journal) in paths.iter().zip(journals) {
+        if journal.commit(rt).is_err() {
+            let _ = eprintln!(rt; "bpfjobs: {path}: it can't be written, or not be synced");
+            status = FAILED;
+        }
     }
-    if let Some(path) = &server.journal {
-        let _ = eprintln!(rt; "bpfjobs: {path}: it can't be written, or not be synced");
-    }
-    FAILED
+    status
 }
 
 /// Takes as many connections as the options say, and gives the status: 0 once all have ended, 3 where
-/// one of them, a socket or the journal failed. It ends earlier once the flag is raised, if there is
-/// one. A log, if there is one, is told of it. Where there is a journal, it goes on from the desk that
-/// the journal's records lead to.
+/// one of them, a socket or a journal failed. It ends earlier once the flag is raised, if there is
+/// one. A log, if there is one, is told of it. Where there are journals, it goes on from the desks that
+/// their records lead to, at which tenants have their first credit.
 pub fn serve<R>(
     rt: &R,
     alloc: Global,
     server: &Serve,
     stop: Option<&StopFlag>,
     log: Option<&ServerLog>,
-    opened: Option<OpenedJournal>,
+    opened: Option<OpenedJournals>,
 ) -> u8
 where
     R: Net<Stream = TcpStream, Listener = TcpListener>
@@ -152,13 +161,24 @@ where
         + Eprint
         + Sync,
     requires range { IsServeInRange server.now }
-    requires named { is_some opened ≡ true → is_some server.now.journal ≡ true }
+    requires opened { IfSome opened (λ some. length (arc_value some.journals).items
+        ≡ length server.now.tenants.tenants.items + 1) }
 {
     match opened {
-        Some(OpenedJournal { journal, desk }) => {
-            let status = serve_from(rt, alloc, server, stop, log, Some(&journal), Some(desk));
-            close_journal(rt, server, &journal, status)
+        Some(
+            OpenedJournals {
+                paths,
+                journals,
+                desks,
+            },
+        ) => {
+            let tenants = &server.tenants.tenants;
+            let Ok(desks) = with_first_credits(rt, alloc, tenants, &journals, desks) else {
+                return FAILED;
+            };
+            let status = serve_from(rt, alloc, server, stop, log, &journals, desks);
+            close_journals(rt, &paths, &journals, status)
         }
-        None => serve_from(rt, alloc, server, stop, log, None, None),
+        None => serve_from(rt, alloc, server, stop, log, &[], Vec::new(alloc)),
     }
 }

@@ -9,10 +9,11 @@ use Rattle.std.proofs.lemmas.List.Folds.{list_all-append}
 use Rattle.sessions.specs.Grammar.{is_name}
 use Rattle.bpfjobs_cli.specs.declared.tenant_socket.TenantFault.{TenantFault}
 use Rattle.bpfjobs_cli.specs.declared.tenant_socket.TenantFault.TheVariants as fault
+use Rattle.bpfjobs_cli.specs.declared.tenant_socket.TenantSettings.{TenantSettings}
 use Rattle.bpfjobs_cli.specs.declared.tenant_socket.TenantSocket.{TenantSocket}
 use Rattle.bpfjobs_cli.specs.declared.tenant_text.Said.{Said}
 use Rattle.bpfjobs_cli.specs.declared.tenant_text.Said.TheVariants as said
-use Rattle.bpfjobs_cli.specs.TenantLines.{SaidText, said_by, says_nothing, says_other, says_no_number, says_tenant}
+use Rattle.bpfjobs_cli.specs.TenantLines.{SaidText, said_by, says_nothing, says_other, says_no_jobs, says_no_credit, says_tenant}
 use Rattle.bpfjobs_cli.specs.Tenants.{AreTenants, Entered, NamedTenant, entered, fault_beside, fault_said, has_name, has_path, tenant_of, tenants_in, tenants_of, unless_fault}
 use Rattle.bpfjobs_cli.specs.Entries.{TakesSaid}
 
@@ -61,9 +62,9 @@ fits_beside ts name path e =
     let last = passes (nat_le 256 (length ts)) fault.TooMany _ fourth.1 in
     record { name_is = not_false _ first.0; path_is = second.0; new_name = third.0; new_path = fourth.0; room = last.0 }
 
-fits_tenant : (ts : List NamedTenant) (name path : List ℕ) (jobs : Option ℕ) → fault_said ts (says_tenant name path jobs) ≡ None → Fits ts name path
+fits_tenant : (ts : List NamedTenant) (name path : List ℕ) (settings : TenantSettings) → fault_said ts (says_tenant name path settings) ≡ None → Fits ts name path
 unfolding fault_said
-fits_tenant ts name path jobs e = go (is_utf8 name && is_utf8 path) e
+fits_tenant ts name path settings e = go (is_utf8 name && is_utf8 path) e
   where
     go : (b : Bool) → cond b (fault_beside ts name path) (Some fault.NotText) ≡ None → Fits ts name path
     go true h = fits_beside ts name path h
@@ -92,20 +93,21 @@ all_more p ts t all one = list_all-append p ts (t ∷ []) ∙ rw (all, one) refl
 under : (n : ℕ) → nat_le 256 n ≡ false → n + 1 ≤ 256
 under n e = grind (arith, nat_tests)
 
-tenants_more : (ts : List NamedTenant) (name path : List ℕ) (jobs : Option ℕ) → AreTenants ts → Fits ts name path → AreTenants (ts ++ (name, path, jobs) ∷ [])
-tenants_more ts name path jobs are fits = record {
-  names = all_more (λ t. is_name t.0) ts (name, path, jobs) are.names fits.name_is;
-  paths = all_more (λ t. not (length t.1 == 0)) ts (name, path, jobs) are.paths (ap not fits.path_is);
-  names_apart = apart_more (λ t. t.0) name ts (name, path, jobs) refl fits.new_name are.names_apart;
-  paths_apart = apart_more (λ t. t.1) path ts (name, path, jobs) refl fits.new_path are.paths_apart;
-  count = subst (λ n. n ≤ 256) (sym (length-append ts ((name, path, jobs) ∷ []))) (under (length ts) fits.room);
+tenants_more : (ts : List NamedTenant) (name path : List ℕ) (settings : TenantSettings) → AreTenants ts → Fits ts name path → AreTenants (ts ++ (name, path, settings) ∷ [])
+tenants_more ts name path settings are fits = record {
+  names = all_more (λ t. is_name t.0) ts (name, path, settings) are.names fits.name_is;
+  paths = all_more (λ t. not (length t.1 == 0)) ts (name, path, settings) are.paths (ap not fits.path_is);
+  names_apart = apart_more (λ t. t.0) name ts (name, path, settings) refl fits.new_name are.names_apart;
+  paths_apart = apart_more (λ t. t.1) path ts (name, path, settings) refl fits.new_path are.paths_apart;
+  count = subst (λ n. n ≤ 256) (sym (length-append ts ((name, path, settings) ∷ []))) (under (length ts) fits.room);
 }
 
 said_more : (ts : List NamedTenant) (said : SaidText) → fault_said ts said ≡ None → AreTenants ts → AreTenants (ts ++ tenants_of said)
 said_more ts says_nothing e are = subst AreTenants (sym (append-nil ts)) are
 said_more ts says_other e are = subst AreTenants (sym (append-nil ts)) are
-said_more ts says_no_number e are = subst AreTenants (sym (append-nil ts)) are
-said_more ts (says_tenant name path jobs) e are = tenants_more ts name path jobs are (fits_tenant ts name path jobs e)
+said_more ts says_no_jobs e are = subst AreTenants (sym (append-nil ts)) are
+said_more ts says_no_credit e are = subst AreTenants (sym (append-nil ts)) are
+said_more ts (says_tenant name path settings) e are = tenants_more ts name path settings are (fits_tenant ts name path settings e)
 
 never : (n : ℕ) (f : TenantFault) (all : List NamedTenant) → ◌≡◌ {A = Entered} (Err (n, f)) (Ok all) → ⊥
 never n f all e = cc
@@ -137,25 +139,29 @@ pub refuses_other : (ts : List NamedTenant) (s : Said) → s ≡ said.Other → 
 unfolding fault_said
 refuses_other ts s is = rw is refl
 
-pub refuses_number : (ts : List NamedTenant) (s : Said) → s ≡ said.NoNumber → fault_said ts (said_by s) ≡ Some fault.OpenJobs
+pub refuses_jobs : (ts : List NamedTenant) (s : Said) → s ≡ said.NoJobs → fault_said ts (said_by s) ≡ Some fault.OpenJobs
 unfolding fault_said
-refuses_number ts s is = rw is refl
+refuses_jobs ts s is = rw is refl
 
-module _ (ts : List NamedTenant) (name path : List ℕ) (jobs : Option ℕ) where
-  pub refuses_bytes : false ≡ is_utf8 name && is_utf8 path → fault_said ts (says_tenant name path jobs) ≡ Some fault.NotText
+pub refuses_credit : (ts : List NamedTenant) (s : Said) → s ≡ said.NoCredit → fault_said ts (said_by s) ≡ Some fault.Credit
+unfolding fault_said
+refuses_credit ts s is = rw is refl
+
+module _ (ts : List NamedTenant) (name path : List ℕ) (settings : TenantSettings) where
+  pub refuses_bytes : false ≡ is_utf8 name && is_utf8 path → fault_said ts (says_tenant name path settings) ≡ Some fault.NotText
   unfolding fault_said
   refuses_bytes test = rw (sym test) refl
 
-  pub refuses_tenant : (f : TenantFault) → true ≡ is_utf8 name && is_utf8 path → Some f ≡ fault_beside ts name path → fault_said ts (says_tenant name path jobs) ≡ Some f
+  pub refuses_tenant : (f : TenantFault) → true ≡ is_utf8 name && is_utf8 path → Some f ≡ fault_beside ts name path → fault_said ts (says_tenant name path settings) ≡ Some f
   unfolding fault_said
   refuses_tenant f test why = rw (sym test) (sym why)
 
-  pub takes_tenant : (after : List NamedTenant) → true ≡ is_utf8 name && is_utf8 path → None ≡ fault_beside ts name path → after ≡ ts ++ (name, path, jobs) ∷ []
-      → TakesSaid ts (says_tenant name path jobs) after
+  pub takes_tenant : (after : List NamedTenant) → true ≡ is_utf8 name && is_utf8 path → None ≡ fault_beside ts name path → after ≡ ts ++ (name, path, settings) ∷ []
+      → TakesSaid ts (says_tenant name path settings) after
   unfolding fault_said
   takes_tenant after test none more = record { faultless = rw (sym test) (sym none); more = more }
 
 pub pushed_tenant : (ts after : List TenantSocket) (t : TenantSocket) (name path : List ℕ) → after ≡ ts ++ t ∷ [] → string_bytes t.name ≡ name → string_bytes t.path ≡ path
-    → tenants_in after ≡ tenants_in ts ++ (name, path, t.open_jobs) ∷ []
+    → tenants_in after ≡ tenants_in ts ++ (name, path, t.settings) ∷ []
 pushed_tenant ts after t name path is a b =
-    ap tenants_in is ∙ map-append tenant_of ts (t ∷ []) ∙ ap₂ (λ (x y : List ℕ). tenants_in ts ++ (x, y, t.open_jobs) ∷ []) a b
+    ap tenants_in is ∙ map-append tenant_of ts (t ∷ []) ∙ ap₂ (λ (x y : List ℕ). tenants_in ts ++ (x, y, t.settings) ∷ []) a b

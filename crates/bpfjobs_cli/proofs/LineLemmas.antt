@@ -100,7 +100,7 @@ serve words own none =
     (other, (other, (other, (other, (other, (other, ((λ same. refl), (other, (other, (other, (other, (other, (other, (other, (other, (other, tt)))))))))))))))) (inr (inr (inr (inr (inr (inr (inl refl))))))) none (omega arith) in
     let sessions = may_be (rule sessions_rule) 1 1000000 refl (omega arith) refl (leaf serve_app.top) words
     (other, (other, (other, (other, (other, (other, (other, ((λ same. refl), (other, (other, (other, (other, (other, (other, (other, (other, tt)))))))))))))))) none in
-    let clients = left_out (rule clients_rule) 1 64 refl (omega arith) refl (leaf serve_app.top) words
+    let clients = left_out (rule clients_rule) 1 1024 refl (omega arith) refl (leaf serve_app.top) words
     (other, (other, (other, (other, (other, (other, (other, (other, ((λ same. refl), (other, (other, (other, (other, (other, (other, (other, tt)))))))))))))))) (inr (inr (inr (inr (inr (inr (inr (inr (inl refl))))))))) none (omega arith) in
     let timeout = left_out (rule timeout_rule) 0 3600 refl (omega arith) refl (leaf serve_app.top) words
     (other, (other, (other, (other, (other, (other, (other, (other, (other, ((λ same. refl), (other, (other, (other, (other, (other, (other, tt)))))))))))))))) (inr (inr (inr (inr (inr (inr (inr (inr (inr (inl refl)))))))))) none (omega arith) in

@@ -8,8 +8,8 @@ use Rattle.bpfjobs_cli.specs.declared.commands.Endpoint.{Endpoint}
 use Rattle.bpfjobs_cli.specs.declared.commands.Endpoint.TheVariants.{Port, Socket}
 use Rattle.bpfjobs_cli.specs.declared.tenant_socket.TenantSocket.{TenantSocket}
 use Rattle.bpfjobs_cli.specs.declared.tenant_socket.TenantWords.{TenantWords}
-use Rattle.bpfjobs_cli.specs.Commands.{AreTenantsOf, HaveNone, IsCommandOf, IsEndpointInRange, IsEndpointOf, IsInRange, IsJournalOf, IsMaybeNumber, NameNoTenant, sessions_said, tenant_words}
-use Rattle.bpfjobs_cli.specs.Tenants.{AreTenants, Entered, NamedTenant, entered, tenants_in, words_said}
+use Rattle.bpfjobs_cli.specs.Commands.{AreTenantsOf, IsCommandOf, IsEndpointInRange, IsEndpointOf, IsInRange, IsMaybeNumber, sessions_said, tenant_words}
+use Rattle.bpfjobs_cli.specs.Tenants.{AreTenants, tenants_in, words_said}
 use Rattle.bpfjobs_cli.proofs.EnteredLemmas.{all_apart, none_apart}
 
 tenants_range : (rows : List Row) (endpoint : Endpoint) (tenants : TenantWords) → AreTenantsOf rows endpoint tenants → AreTenants (tenants_in tenants.tenants.items)
@@ -23,39 +23,6 @@ between low high rows id None number = tt
 jobs_range : (rows : List Row) (endpoint : Endpoint) (tenants : TenantWords) → AreTenantsOf rows endpoint tenants → IfSome tenants.open_jobs (λ n. (1 ≤ n) × (n ≤ 1000000))
 jobs_range rows (Port port) tenants are = between 1 1000000 rows (codes "tenant-jobs") tenants.open_jobs are.1.0
 jobs_range rows (Socket path grants) tenants are = between 1 1000000 rows (codes "tenant-jobs") tenants.open_jobs are.2.0
-
--- no word names a tenant
-no_words : (rows : List Row) → all_of (codes "tenant") rows ≡ None → tenant_words rows ≡ []
-no_words rows e = ap (λ (o : Option (List Text)). unwrap_or o []) e
-
-no_more : (ts : List TenantSocket) → tenants_in ts ≡ [] → ts ≡ []
-no_more [] e = refl
-no_more (t ∷ ts) e = let clash = e in absurd cc
-
-no_path : (path : Option (String Global)) → option_map string_bytes path ≡ None → path ≡ None
-no_path None e = refl
-no_path (Some text) e = let clash = e in absurd cc
-
-abbrev ok_of : List NamedTenant → Entered
-ok_of ts = Ok ts
-
-abbrev taken : Entered → List NamedTenant
-taken (Ok ts) = ts
-taken (Err fault) = []
-
-none_named : (rows : List Row) (endpoint : Endpoint) (tenants : TenantWords) → AreTenantsOf rows endpoint tenants → NameNoTenant rows → HaveNone tenants
-none_named rows (Port port) tenants are without = (are.2, are.3)
-none_named rows (Socket path grants) tenants are without =
-    let said : ok_of [] ≡ ok_of (tenants_in tenants.tenants.items) = sym (ap (λ (ws : List Text). entered [] 0 (words_said ws)) (no_words rows without.0)) ∙ are.0 in
-    (no_more tenants.tenants.items (sym (ap taken said)), no_path tenants.file (sym are.1 ∙ without.1))
-
-journal_range : (rows : List Row) (endpoint : Endpoint) (tenants : TenantWords) (journal : Option (String Global)) → AreTenantsOf rows endpoint tenants → IsJournalOf rows journal
-    → (journal ≡ None) ⊎ HaveNone tenants
-journal_range rows endpoint tenants journal are is = go is.1
-  where
-    go : (journal ≡ None) ⊎ NameNoTenant rows → (journal ≡ None) ⊎ HaveNone tenants
-    go (inl none) = inl none
-    go (inr without) = inr (none_named rows endpoint tenants are without)
 
 endpoint_range : (rows : List Row) (endpoint : Endpoint) → IsEndpointOf rows endpoint → IsEndpointInRange endpoint
 endpoint_range rows (Port port) is = (is.0.least, is.0.most)
@@ -78,7 +45,6 @@ command_range name rows (Run workers) is = (is.1.least, is.1.most)
 command_range name rows (Serve serve) is = record {
   endpoint = endpoint_range rows serve.endpoint is.1.endpoint;
   tenants = tenants_range rows serve.endpoint serve.tenants is.1.tenants;
-  journal = journal_range rows serve.endpoint serve.tenants serve.journal is.1.tenants is.1.journal;
   tenant_jobs = jobs_range rows serve.endpoint serve.tenants is.1.tenants;
   workers = (is.1.options.workers.least, is.1.options.workers.most);
   sessions = subst (λ (o : Option ℕ). IfSome o (λ n. (1 ≤ n) × (n ≤ 1000000))) (sym is.1.options.sessions.2)

@@ -10,7 +10,7 @@ use Rattle.bpfjobs_cli.specs.declared.commands.Command.TheVariants.{Assemble, Di
 use Rattle.bpfjobs_cli.specs.declared.commands.Endpoint.{Endpoint}
 use Rattle.bpfjobs_cli.specs.declared.commands.Endpoint.TheVariants.{Port, Socket}
 use Rattle.bpfjobs_cli.specs.declared.commands.EndpointFault.{EndpointFault}
-use Rattle.bpfjobs_cli.specs.declared.commands.EndpointFault.TheVariants.{Missing, Two, GrantsWithPort, TenantsWithPort, JobsOfNoTenant, JournalWithTenants}
+use Rattle.bpfjobs_cli.specs.declared.commands.EndpointFault.TheVariants.{Missing, Two, GrantsWithPort, TenantsWithPort, JobsOfNoTenant}
 use Rattle.bpfjobs_cli.specs.declared.commands.Serve.{Serve as Server}
 use Rattle.bpfjobs_cli.specs.declared.commands.ServeOptions.{ServeOptions}
 use Rattle.bpfjobs_cli.specs.declared.commands.Shown.{Shown}
@@ -86,11 +86,10 @@ AreTenantsOf rows (Socket path grants) tenants =
     × (first_of (codes "tenants") rows ≡ option_map string_bytes tenants.file)
     × AreJobsOf rows tenants.open_jobs
 
--- the path of the journal, if the words name one: then they name no tenants
+-- the path of the journal, if the words name one
 abbrev pub IsJournalOf : List Row → Option (String Global) → Type 0
 IsJournalOf rows journal =
-    (first_of (codes "journal") rows ≡ option_map string_bytes journal)
-    × ((journal ≡ None) ⊎ NameNoTenant rows)
+    first_of (codes "journal") rows ≡ option_map string_bytes journal
 
 -- the words name no endpoint, or what doesn't go with it
 abbrev pub IsEndpointFault : List Row → EndpointFault → Type 0
@@ -105,7 +104,6 @@ IsEndpointFault rows TenantsWithPort =
     × (first_of (codes "grants") rows ≡ None) × NameTenants rows
 IsEndpointFault rows JobsOfNoTenant =
     ((jobs : ℕ) × IsNumberIn rows (codes "tenant-jobs") 1 1000000 jobs) × NameNoTenant rows
-IsEndpointFault rows JournalWithTenants = HasText rows (codes "journal") × NameTenants rows
 
 -- a word names no tenant, beside a socket
 pub record IsTenantFault (rows : List Row) (word : Text) (f : TenantFault) : Type 0 where
@@ -128,7 +126,7 @@ AreSessionsOf rows clients sessions =
 pub record AreOptionsOf (rows : List Row) (options : ServeOptions) : Type 0 where
   pub workers : IsNumberIn rows (codes "workers") 1 16 options.workers
   pub sessions : AreSessionsOf rows options.clients options.sessions
-  pub clients : IsNumberIn rows (codes "clients") 1 64 options.clients
+  pub clients : IsNumberIn rows (codes "clients") 1 1024 options.clients
   pub timeout : IsNumberIn rows (codes "timeout") 0 3600 options.timeout
   pub open_jobs : IsNumberIn rows (codes "open-jobs") 0 1000000 options.open_jobs
   pub keep : IsNumberIn rows (codes "keep") 0 1000000 options.keep
@@ -181,19 +179,14 @@ abbrev pub IsEndpointInRange : Endpoint → Type 0
 IsEndpointInRange (Port port) = (1 ≤ port) × (port ≤ 65535)
 IsEndpointInRange (Socket path grants) = Unit {0}
 
--- there are no tenants with sockets of their own, and no file of them
-abbrev pub HaveNone : TenantWords → Type 0
-HaveNone tenants = (tenants.tenants.items ≡ []) × (tenants.file ≡ None)
-
--- a server's numbers are in range, and it has a journal without tenants alone
+-- a server's numbers are in range
 pub record IsServeInRange (serve : Server) : Type 0 where
   pub endpoint : IsEndpointInRange serve.endpoint
   pub tenants : AreTenants (tenants_in serve.tenants.tenants.items)
-  pub journal : (serve.journal ≡ None) ⊎ HaveNone serve.tenants
   pub tenant_jobs : IfSome serve.tenants.open_jobs (λ n. (1 ≤ n) × (n ≤ 1000000))
   pub workers : (1 ≤ serve.options.workers) × (serve.options.workers ≤ 16)
   pub sessions : IfSome serve.options.sessions (λ n. (1 ≤ n) × (n ≤ 1000000))
-  pub clients : (1 ≤ serve.options.clients) × (serve.options.clients ≤ 64)
+  pub clients : (1 ≤ serve.options.clients) × (serve.options.clients ≤ 1024)
   pub timeout : serve.options.timeout ≤ 3600
   pub open_jobs : serve.options.open_jobs ≤ 1000000
   pub keep : serve.options.keep ≤ 1000000

@@ -65,7 +65,7 @@ clients_rule = record (new_rule (codes "clients")) {
   long = Some (codes "clients");
   value_names = 1;
   defaults = codes "1" ∷ [];
-  parser = Some (vp.Signed (pos 1) (pos 64));
+  parser = Some (vp.Signed (pos 1) (pos 1024));
 }
 
 abbrev pub timeout_rule : Rule

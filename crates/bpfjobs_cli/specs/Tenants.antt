@@ -4,19 +4,20 @@ use Rattle.std.specs.List.{IsDistinct, list_any, list_all, slice_split}
 use Rattle.std.specs.Str.{bytes_eq, is_utf8}
 use Rattle.sessions.specs.Grammar.{is_name}
 use Rattle.bpfjobs_cli.specs.declared.tenant_socket.TenantSocket.{TenantSocket}
+use Rattle.bpfjobs_cli.specs.declared.tenant_socket.TenantSettings.{TenantSettings}
 use Rattle.bpfjobs_cli.specs.declared.tenant_socket.TenantFault.{TenantFault}
 use Rattle.bpfjobs_cli.specs.declared.tenant_socket.TenantFault.TheVariants as fault
 use Rattle.bpfjobs_cli.specs.declared.tenant_socket.WrongTenant.{WrongTenant}
 use Rattle.bpfjobs_cli.specs.declared.tenant_socket.WrongTenant.TheVariants as wrong
 use Rattle.bpfjobs_cli.specs.declared.tenant_text.Delimiter.TheVariants.{LineEnd}
-use Rattle.bpfjobs_cli.specs.TenantLines.{SaidText, is_delimiter, line_says, says_nothing, says_other, says_no_number, says_tenant, word_says}
+use Rattle.bpfjobs_cli.specs.TenantLines.{SaidText, is_delimiter, line_says, says_nothing, says_other, says_no_jobs, says_no_credit, says_tenant, word_says}
 
--- a tenant's name, the path of its socket, and the jobs that it may have open, where that is said
+-- a tenant's name, the path of its socket, and what is said beside them
 abbrev pub NamedTenant : Type 0
-NamedTenant = List ℕ × List ℕ × Option ℕ
+NamedTenant = List ℕ × List ℕ × TenantSettings
 
 abbrev pub tenant_of : TenantSocket → NamedTenant
-tenant_of t = (string_bytes t.name, string_bytes t.path, t.open_jobs)
+tenant_of t = (string_bytes t.name, string_bytes t.path, t.settings)
 
 abbrev pub tenants_in : List TenantSocket → List NamedTenant
 tenants_in ts = map tenant_of ts
@@ -43,16 +44,18 @@ fault_beside ts name path =
 unfoldable pub fault_said : List NamedTenant → SaidText → Option TenantFault
 fault_said ts says_nothing = None
 fault_said ts says_other = Some fault.Form
-fault_said ts says_no_number = Some fault.OpenJobs
-fault_said ts (says_tenant name path jobs) =
+fault_said ts says_no_jobs = Some fault.OpenJobs
+fault_said ts says_no_credit = Some fault.Credit
+fault_said ts (says_tenant name path settings) =
     if is_utf8 name && is_utf8 path then fault_beside ts name path else Some fault.NotText
 
 -- the tenant that is said, if one is
 abbrev pub tenants_of : SaidText → List NamedTenant
 tenants_of says_nothing = []
 tenants_of says_other = []
-tenants_of says_no_number = []
-tenants_of (says_tenant name path jobs) = (name, path, jobs) ∷ []
+tenants_of says_no_jobs = []
+tenants_of says_no_credit = []
+tenants_of (says_tenant name path settings) = (name, path, settings) ∷ []
 
 abbrev pub Entered : Type 0
 Entered = Result (List NamedTenant) (ℕ × TenantFault)

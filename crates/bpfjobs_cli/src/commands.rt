@@ -25,9 +25,10 @@ pub enum Command {
 #[derive(Debug, PartialEq, Eq, Drop)]
 pub struct Serve {
     pub endpoint: Endpoint,
-    /// The tenants with sockets of their own: none beside a port, and none beside a journal.
+    /// The tenants with sockets of their own: none beside a port.
     pub tenants: TenantWords,
-    /// The path of the file that keeps its journal, if the words name one.
+    /// The path of the file that keeps its journal, if the words name one. Each tenant with a socket of
+    /// its own has one beside it.
     pub journal: Option<String>,
     pub options: ServeOptions,
 }
@@ -51,7 +52,7 @@ pub struct ServeOptions {
     pub workers: u32,
     /// Connections that are taken until it ends, 1 to 1,000,000; `None`: any number.
     pub sessions: Option<u32>,
-    /// Connections at once, 1 to 64.
+    /// Connections at once, 1 to 1,024.
     pub clients: u32,
     /// Seconds, 1 to 3600, after which a client is given up that keeps a read or a write waiting, or
     /// a frame. 0: none is.
@@ -97,8 +98,6 @@ pub enum EndpointFault {
     TenantsWithPort,
     /// A limit for each tenant, where no tenant is named.
     JobsOfNoTenant,
-    /// A journal beside tenants with sockets of their own.
-    JournalWithTenants,
 }
 
 impl EndpointFault {
@@ -111,9 +110,6 @@ impl EndpointFault {
             EndpointFault::TenantsWithPort => "error: serve takes tenants with --socket alone",
             EndpointFault::JobsOfNoTenant => {
                 "error: serve takes --tenant-jobs with --tenant or --tenants alone"
-            }
-            EndpointFault::JournalWithTenants => {
-                "error: serve takes --journal or tenants with sockets, and not both"
             }
         }
     }

@@ -4,6 +4,7 @@
 #![tactic(auto)]
 
 mod commands;
+mod desk_paths;
 mod process;
 mod program;
 mod reading;
@@ -16,9 +17,10 @@ mod texts;
 pub use commands::{
     Command, CommandRequest, Endpoint, EndpointFault, Serve, ServeOptions, Shown, Usage,
 };
+pub use desk_paths::journal_paths;
 pub use process::{FAILED, UNREAD, print_usage, words};
 pub use reading::{command, request};
-pub use tenant_socket::{TenantFault, TenantSocket, TenantWords, WrongTenant};
+pub use tenant_socket::{TenantFault, TenantSettings, TenantSocket, TenantWords, WrongTenant};
 pub use tenants::with_lines;
 
 // what is printed

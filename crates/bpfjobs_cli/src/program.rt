@@ -115,7 +115,7 @@ fn clients<'a>(alloc: Global) -> Arg<'a>
         .long("clients")
         .value_name("COUNT")
         .help(texts::CLIENTS)
-        .value_parser(clap::value_parser!(u32).range(1..=64))
+        .value_parser(clap::value_parser!(u32).range(1..=1024))
         .default_value("1")
 }
 

@@ -206,16 +206,7 @@ fn journal(alloc: Global, matches: &ArgMatches<'_>) -> Result<Option<String>, Us
     ensures err { IfErr result (λ usage.
         IsEndpointUsage (rows_of (found_of matches.now)) usage) }
 {
-    let names = names_tenants(matches);
-    match text(alloc, matches, "journal")? {
-        Some(path) => {
-            if names {
-                return Err(Usage::Endpoint(EndpointFault::JournalWithTenants));
-            }
-            Ok(Some(path))
-        }
-        None => Ok(None),
-    }
+    Ok(text(alloc, matches, "journal")?)
 }
 
 // The options of a server.
@@ -223,7 +214,7 @@ fn options(matches: &ArgMatches<'_>) -> ServeOptions
     requires { (o : ServeOptions) × AreOptionsOf (rows_of (found_of matches.now)) o }
     ensures { AreOptionsOf (rows_of (found_of matches.now)) result }
 {
-    let clients = number(matches, "clients", 1, 64);
+    let clients = number(matches, "clients", 1, 1024);
     let said = maybe_number(matches, "sessions", 1, 1000000);
     ServeOptions {
         workers: number(matches, "workers", 1, 16),

@@ -1,28 +1,29 @@
-//! The number of jobs that a line says.
+//! A number that a line says.
 
 ghost use Rattle.std.specs.Prelude.{◌≡◌};
 ghost use Rattle.bpfjobs_cli.specs.TenantLines.{number_said};
 
-const MOST_JOBS: u32 = 1000000;
-
-/// The number that digits write, where it is at most 1,000,000.
+/// The number that digits write, where it is from `low` to `high`.
 #[tactic(auto, unfolding(crate::specs::TenantLines::number_said))]
-pub(crate) fn jobs_said(digits: &[u8]) -> Option<u32>
-    ensures { result ≡ number_said digits.now }
+pub(crate) fn number_said(digits: &[u8], low: u32, high: u32) -> Option<u32>
+    ensures { result ≡ number_said low high digits.now }
 {
     if digits.is_empty() {
         return None;
     }
-    let mut number = 0u32;
+    let mut number = 0u64;
     for &byte in digits {
         if !byte.is_ascii_digit() {
             return None;
         }
-        let next = number * 10 + u32::from(byte - b'0');
-        if next > MOST_JOBS {
+        let next = number * 10 + u64::from(byte - b'0');
+        if next > u64::from(high) {
             return None;
         }
         number = next;
     }
-    Some(number)
+    if number < u64::from(low) {
+        return None;
+    }
+    Some(number as u32)
 }

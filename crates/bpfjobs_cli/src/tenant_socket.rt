@@ -1,13 +1,22 @@
 //! A tenant with a socket of its own, and the reasons why words or lines name none.
 
+/// What a line says of a tenant beside its name and its path.
+#[derive(Clone, Copy, Debug, PartialEq, Eq)]
+pub struct TenantSettings {
+    /// Jobs, up to 1,000,000, that it may have open at once, where its line says so. 0: any number.
+    pub open_jobs: Option<u32>,
+    /// Credit, 1 to 2,147,483,647, that it is granted where nothing was granted to it yet, if its line
+    /// says so.
+    pub credit: Option<u32>,
+}
+
 /// A tenant with a socket of its own.
 #[derive(Debug, PartialEq, Eq, Drop)]
 pub struct TenantSocket {
     pub name: String,
     /// The path of its socket.
     pub path: String,
-    /// Jobs, up to 1,000,000, that it may have open at once, where its line says so. 0: any number.
-    pub open_jobs: Option<u32>,
+    pub settings: TenantSettings,
 }
 
 /// The tenants with sockets of their own that the words of `serve` name.
@@ -41,6 +50,8 @@ pub enum TenantFault {
     TooMany,
     /// No number from 0 to 1,000,000 is behind `open-jobs`.
     OpenJobs,
+    /// No number from 1 to 2,147,483,647 is behind `credit`.
+    Credit,
 }
 
 impl TenantFault {
@@ -55,6 +66,7 @@ impl TenantFault {
             TenantFault::PathTwice => "the path is there already",
             TenantFault::TooMany => "256 tenants are there already",
             TenantFault::OpenJobs => "open-jobs wants a number from 0 to 1000000",
+            TenantFault::Credit => "credit wants a number from 1 to 2147483647",
         }
     }
 }

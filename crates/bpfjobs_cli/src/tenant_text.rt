@@ -1,10 +1,15 @@
 //! The name and the path that a word or a line has.
 
-ghost use Rattle.std.specs.Prelude.{◌≡◌, codes};
+ghost use Rattle.std.specs.Prelude.{◌≡◌};
 ghost use Rattle.std.specs.Str.{bytes_eq};
-ghost use Rattle.bpfjobs_cli.specs.TenantLines.{before_delimiter, from_delimiter, line_says, past_blanks, said_by, says_behind, word_says};
+ghost use Rattle.bpfjobs_cli.specs.TenantLines.{before_delimiter, behind_setting, from_delimiter, line_says, past_blanks, said_by, says_behind, setting_at, word_says};
 
-use crate::tenant_number::jobs_said;
+use crate::tenant_number::number_said;
+use crate::tenant_socket::TenantSettings;
+
+const MOST_JOBS: u32 = 1_000_000;
+
+const MOST_CREDIT: u32 = 2_147_483_647;
 
 /// What ends a part of a text.
 #[derive(Clone, Copy)]
@@ -25,9 +30,22 @@ pub(crate) enum Said<'a> {
     /// Something else than a tenant.
     Other,
     /// A tenant, with no number of open jobs where it should be.
-    NoNumber,
-    /// A name and a path, and the jobs that it may have open, where that is said.
-    Tenant(&'a [u8], &'a [u8], Option<u32>),
+    NoJobs,
+    /// A tenant, with no number of its credit where it should be.
+    NoCredit,
+    /// A name and a path, and what is said beside them.
+    Tenant(&'a [u8], &'a [u8], TenantSettings),
+}
+
+/// What stands at the front of a text where a word and a number may stand.
+#[derive(Clone, Copy)]
+pub(crate) enum Setting {
+    /// Something else than the word, or nothing.
+    LeftOut,
+    /// The word, and no such number.
+    Wrong,
+    /// The word and a number.
+    Number(u32),
 }
 
 fn is_delimiter(delimiter: Delimiter, byte: u8) -> bool
@@ -71,11 +89,11 @@ fn past_blanks(text: &[u8]) -> &[u8]
     rest
 }
 
-// Whether the text is `open-jobs`.
-fn is_open_jobs(text: &[u8]) -> bool
-    ensures { result ≡ bytes_eq text.now (codes "open-jobs") }
+// Whether the two are the same.
+fn are_same(text: &[u8], word: &[u8]) -> bool
+    ensures { result ≡ bytes_eq text.now word.now }
 {
-    text == b"open-jobs".as_slice()
+    text == word
 }
 
 // Whether nothing is left of a line but a comment.
@@ -94,7 +112,30 @@ pub(crate) fn said_by_word(word: &[u8]) -> Said<'_>
     if rest.is_empty() {
         return Said::Other;
     }
-    Said::Tenant(name, rest.split_at(1).1, None)
+    let settings = TenantSettings {
+        open_jobs: None,
+        credit: None,
+    };
+    Said::Tenant(name, rest.split_at(1).1, settings)
+}
+
+// The number from `low` to `high` behind a word at the front of a text, and what is behind both. The
+// text itself, where the word isn't there.
+#[tactic(auto, unfolding(crate::specs::TenantLines::setting_at, crate::specs::TenantLines::behind_setting))]
+fn setting_behind<'a>(text: &'a [u8], word: &[u8], low: u32, high: u32) -> (Setting, &'a [u8])
+    ensures says { result.0 ≡ setting_at word.now low high text.now }
+    ensures behind { result.1.now ≡ behind_setting word.now text.now }
+{
+    let (first, rest) = cut_at(text, Delimiter::Blank);
+    if !are_same(first, word) {
+        return (Setting::LeftOut, text);
+    }
+    let (digits, rest) = cut_at(past_blanks(rest), Delimiter::Blank);
+    let behind = past_blanks(rest);
+    match number_said(digits, low, high) {
+        Some(number) => (Setting::Number(number), behind),
+        None => (Setting::Wrong, behind),
+    }
 }
 
 // What a line says, by what is behind its name and its path.
@@ -102,25 +143,26 @@ pub(crate) fn said_by_word(word: &[u8]) -> Said<'_>
 fn said_behind<'a>(name: &'a [u8], path: &'a [u8], rest: &[u8]) -> Said<'a>
     ensures { said_by result ≡ says_behind name.now path.now rest.now }
 {
-    if is_over(rest) {
-        return Said::Tenant(name, path, None);
-    }
-    let (word, behind) = cut_at(rest, Delimiter::Blank);
-    if !is_open_jobs(word) {
+    let (jobs, rest) = setting_behind(rest, b"open-jobs".as_slice(), 0, MOST_JOBS);
+    let (credit, rest) = setting_behind(rest, b"credit".as_slice(), 1, MOST_CREDIT);
+    if !is_over(rest) {
         return Said::Other;
     }
-    let (digits, behind) = cut_at(past_blanks(behind), Delimiter::Blank);
-    if !is_over(past_blanks(behind)) {
-        return Said::Other;
-    }
-    match jobs_said(digits) {
-        Some(jobs) => Said::Tenant(name, path, Some(jobs)),
-        None => Said::NoNumber,
-    }
+    let open_jobs = match jobs {
+        Setting::LeftOut => None,
+        Setting::Wrong => return Said::NoJobs,
+        Setting::Number(number) => Some(number),
+    };
+    let credit = match credit {
+        Setting::LeftOut => None,
+        Setting::Wrong => return Said::NoCredit,
+        Setting::Number(number) => Some(number),
+    };
+    Said::Tenant(name, path, TenantSettings { open_jobs, credit })
 }
 
-/// What a line `NAME PATH` or `NAME PATH open-jobs N` says. Blanks stand around its parts, and a
-/// comment begins with `#`.
+/// What a line `NAME PATH` says, behind which may stand `open-jobs N`, and then `credit N`. Blanks
+/// stand around its parts, and a comment begins with `#`.
 #[tactic(auto, unfolding(crate::specs::TenantLines::line_says))]
 pub(crate) fn said_by_line(line: &[u8]) -> Said<'_>
     ensures { said_by result ≡ line_says line.now }

@@ -9,7 +9,7 @@ ghost use Rattle.bpfjobs_cli.specs.TenantLines.{said_by, says_tenant};
 ghost use Rattle.bpfjobs_cli.specs.Entries.{IsWordUsage, RefusesSaid, TakesSaid, TellsWord, wrong_at};
 
 use crate::commands::Usage;
-use crate::tenant_socket::{TenantFault, TenantSocket, WrongTenant};
+use crate::tenant_socket::{TenantFault, TenantSettings, TenantSocket, WrongTenant};
 use crate::tenant_text::{Delimiter, Said, cut_at, said_by_line, said_by_word};
 use std::alloc::{AllocError, Global};
 
@@ -112,18 +112,18 @@ fn texts<'a>(name: &'a [u8], path: &'a [u8]) -> Option<(&'a str, &'a str)>
     }
 }
 
-// The tenants, and one more of this name and this path, which may have so many jobs open.
+// The tenants, and one more of this name, this path and these settings.
 fn with_tenant(
     alloc: Global,
     mut tenants: Vec<TenantSocket>,
     name: &[u8],
     path: &[u8],
-    open_jobs: Option<u32>,
+    settings: TenantSettings,
 ) -> Result<Vec<TenantSocket>, EntryFault>
     ensures ok { IfOk result (λ all. TakesSaid (tenants_in tenants.items)
-        (says_tenant name.now path.now open_jobs) (tenants_in all.items)) }
+        (says_tenant name.now path.now settings) (tenants_in all.items)) }
     ensures err { IfErr result (λ e. RefusesSaid (tenants_in tenants.items)
-        (says_tenant name.now path.now open_jobs) e) }
+        (says_tenant name.now path.now settings) e) }
 {
     let (name, path) = match texts(name, path) {
         Some(both) => both,
@@ -137,7 +137,7 @@ fn with_tenant(
     tenants.push_reserved(TenantSocket {
         name: String::from_str(alloc, name)?,
         path: String::from_str(alloc, path)?,
-        open_jobs,
+        settings,
     });
     Ok(tenants)
 }
@@ -156,8 +156,9 @@ fn with_said(
     match said {
         Said::Nothing => Ok(tenants),
         Said::Other => Err(EntryFault::Wrong(TenantFault::Form)),
-        Said::NoNumber => Err(EntryFault::Wrong(TenantFault::OpenJobs)),
-        Said::Tenant(name, path, jobs) => with_tenant(alloc, tenants, name, path, jobs),
+        Said::NoJobs => Err(EntryFault::Wrong(TenantFault::OpenJobs)),
+        Said::NoCredit => Err(EntryFault::Wrong(TenantFault::Credit)),
+        Said::Tenant(name, path, settings) => with_tenant(alloc, tenants, name, path, settings),
     }
 }
 

@@ -95,13 +95,15 @@ are submitted there count from 1, and no other socket submits in the tenant's na
 there makes no grant (73), and knows no other tenant (74) and no other's job (76). A tenant is a line
 NAME PATH of --tenants FILE too, where `#` begins a comment. With --tenant-jobs COUNT each tenant, and
 everybody else as one, may have so many jobs open; a line NAME PATH open-jobs COUNT, from 0 for any
-number to 1000000, has its tenant's own.
+number to 1000000, has its tenant's own. Behind that may stand credit AMOUNT, from 1 to 2147483647:
+the tenant is granted so much at first.
 
 With --journal FILE each change of the desk is a record of FILE, which is made where there is none. A
 reply is sent once the records of what it tells are on the disk. A server that starts with FILE goes
 on from its records: with their accounts, reports and numbers, and the jobs that were open begin
 anew. A torn record at the end is cut off; FILE is not used where it is damaged, or another server
-has it (3). FILE only grows.
+has it (3). FILE only grows. With tenants FILE is that of everybody else, and FILE.NAME that of the
+tenant NAME.
 Status: 0 once so many connections have ended, 3 where one of them, a socket or the journal failed.
 
 Example:
@@ -118,7 +120,7 @@ pub(crate) const TENANT: &str =
     "With --socket: a tenant, and the path of a socket for it alone; up to 256 times";
 
 pub(crate) const TENANTS: &str =
-    "With --socket: a file with a tenant NAME PATH a line, and perhaps open-jobs COUNT behind it";
+    "With --socket: a file with a tenant a line: NAME PATH [open-jobs COUNT] [credit AMOUNT]";
 
 pub(crate) const TENANT_JOBS: &str =
     "With tenants: jobs that each may have open at once, 1 to 1000000: others fail by 81";
@@ -128,7 +130,7 @@ pub(crate) const PORT: &str = "The port to listen on, 1 to 65535";
 pub(crate) const SESSIONS: &str =
     "Connections to take in all, 1 to 1000000 [default: 1, or any number with --clients above 1]";
 
-pub(crate) const CLIENTS: &str = "Connections to serve at once, 1 to 64";
+pub(crate) const CLIENTS: &str = "Connections to serve at once, 1 to 1024";
 
 pub(crate) const TIMEOUT: &str =
     "Seconds within which a client sends, takes, and ends a frame, 0 for any time, to 3600";
@@ -140,7 +142,7 @@ pub(crate) const KEEP: &str =
     "Last jobs whose reports are kept, 0 for all, to 1000000: earlier ones are told as 76";
 
 pub(crate) const JOURNAL: &str =
-    "Without tenants: a file that keeps each grant and job, from which a later server goes on";
+    "A file that keeps each grant and job, from which a later server goes on; a tenant's is FILE.NAME";
 
 pub(crate) const UNTIL_EOF: &str =
     "Takes no more connections once standard input has ended, and ends with those it has";

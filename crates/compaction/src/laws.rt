@@ -3,26 +3,41 @@
 ghost use Rattle.std.specs.Prelude.{◌≡◌, ◌++◌, ◌∷◌, [], ℕ, List};
 ghost use Rattle.journal.specs.Records.{DecodesTo};
 ghost use Rattle.recovery.specs.Histories.{IsAfter};
-ghost use Rattle.compaction.specs.Snapshots.{Restores, LeadsToHistory};
+ghost use Rattle.compaction.specs.Snapshots.{IsAlikeAfter, LeadsToHistory, Restores, StandsForHistory};
 
+use crate::snapshot::Snapshot;
 use journal::one_reading;
-use recovery::StateMachine;
 
-/// Whatever a crash leaves of a compaction, each state that it is recovered to is one after the
-/// history.
-pub fn compaction_keeps_state<M: StateMachine>()
+/// Whatever a crash leaves of a compaction, each state that it is recovered to is alike one after
+/// the history.
+pub fn compaction_keeps_state<M: Snapshot>()
     ensures { (bytes tail : List ℕ) (history payloads : List (List ℕ)) (machine recovered : M)
-        → LeadsToHistory M.starts M.steps bytes history machine
+        → LeadsToHistory M.starts M.steps M.alike bytes history machine
         → DecodesTo bytes payloads tail → IsAfter M.starts M.steps payloads recovered
-        → IsAfter M.starts M.steps history recovered }
+        → IsAlikeAfter M.starts M.steps M.alike history recovered }
 {
     one_reading();
 }
 
-/// Changes behind a snapshot lead where they lead behind the history that it stands for.
-pub fn snapshot_stands_for_history<M: StateMachine>()
-    ensures { (history more : List (List ℕ)) (payload : List ℕ) (machine later : M)
-        → IsAfter M.starts M.steps history machine → Restores M.starts M.steps payload machine
-        → IsAfter M.starts M.steps (payload ∷ more) later
-        → IsAfter M.starts M.steps (history ++ more) later }
+/// A snapshot stands for the history that led to its state, also with the same changes behind both.
+pub fn snapshot_stands_for_history<M: Snapshot>()
+    ensures { (history more : List (List ℕ)) (payload : List ℕ) (machine : M)
+        → IsAfter M.starts M.steps history machine
+        → Restores M.starts M.steps M.alike payload machine
+        → StandsForHistory M.starts M.steps M.alike (payload ∷ more) (history ++ more) }
+{}
+
+/// Changes that stand for a history do so with the same changes behind both.
+pub fn later_changes_stand_too<M: Snapshot>()
+    ensures { (changes history more : List (List ℕ))
+        → StandsForHistory M.starts M.steps M.alike changes history
+        → StandsForHistory M.starts M.steps M.alike (changes ++ more) (history ++ more) }
+{}
+
+/// So a journal that was compacted any number of times stands for the whole history.
+pub fn compactions_compose<M: Snapshot>()
+    ensures { (changes between history : List (List ℕ))
+        → StandsForHistory M.starts M.steps M.alike changes between
+        → StandsForHistory M.starts M.steps M.alike between history
+        → StandsForHistory M.starts M.steps M.alike changes history }
 {}

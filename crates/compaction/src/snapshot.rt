@@ -7,6 +7,7 @@ ghost use Rattle.recovery.specs.Journals.{IsJournaled};
 ghost use Rattle.compaction.specs.Files.{MayLeave, KeepsOldJournal, HasNewJournal, newly_opened};
 ghost use Rattle.compaction.specs.Snapshots.{Restores, LeadsToHistory, IsCompacted};
 ghost use Rattle.compaction.specs.declared.snapshot.CompactFault.TheVariants as compact_fault;
+ghost use Rattle.compaction.specs.declared.snapshot.SnapshotFault.TheVariants as snapshot_fault;
 
 use crate::files::JournalFiles;
 use crate::replacement::{ReplaceFault, replace_journal};
@@ -16,12 +17,40 @@ use std::alloc::{AllocError, Global};
 
 const LONGEST_PAYLOAD: usize = (1 << 32) - 1;
 
-/// A state machine whose state one change restores.
+/// Why there is no snapshot of a state.
+#[derive(Clone, Copy, Debug, PartialEq, Eq)]
+pub enum SnapshotFault {
+    /// A growth was refused.
+    NoMemory,
+    /// No change restores this state.
+    NoChange,
+}
+
+/// A state machine whose state one change restores, up to what can be told of it.
 pub trait Snapshot: StateMachine {
-    /// Adds to `out` the payload of a change that leads from the start to this state alone.
-    fn snapshot(&self, out: &mut Vec<u8>) -> Result<(), AllocError>
-        ensures { OnOk result ((payload : List ℕ) × (out.new.items ≡ out.old.items ++ payload)
-            × Restores Self.starts Self.steps payload self.now) };
+    // What can be told of one state, now and after any changes, can be told of the other.
+    ghost alike: { Self → Self → Type 0 };
+
+    // A state that no change restores.
+    ghost is_unrestored: { Self → Type 0 };
+
+    /// Adds to `out` the payload of a change that leads from the start to this state, and to states
+    /// that are alike it alone.
+    fn snapshot(&self, alloc: Global, out: &mut Vec<u8>) -> Result<(), SnapshotFault>
+        ensures ok { OnOk result ((payload : List ℕ)
+            × (out.new.items ≡ out.old.items ++ payload)
+            × Restores Self.starts Self.steps alike payload self.now) }
+        ensures refused { IsErrOf result snapshot_fault.NoChange → is_unrestored self.now };
+
+    // Each state is alike itself.
+    ghost alike_self: { (s : Self) → alike s s };
+
+    // States that are alike a third one are so in turn.
+    ghost alike_through: { (s t u : Self) → alike s t → alike t u → alike s u };
+
+    // Where a change leads from a state, it leads from one that this is alike, to one that is.
+    ghost alike_step: { (s t u : Self) (change : List ℕ) → alike s t → Self.steps s change u
+        → (v : Self) × Self.steps t change v × alike u v };
 }
 
 /// Why a journal was not compacted.
@@ -29,6 +58,8 @@ pub trait Snapshot: StateMachine {
 pub enum CompactFault {
     /// A growth was refused. The journal is the old one.
     NoMemory,
+    /// No change restores the state. The journal is the old one.
+    NoChange,
     /// The snapshot has 2 ^ 32 bytes or more. The journal is the old one.
     TooLarge,
     /// A call failed. The journal is the old one.
@@ -40,13 +71,16 @@ pub enum CompactFault {
 // The journal that has a snapshot of this state alone.
 fn snapshot_bytes<M: Snapshot>(alloc: Global, machine: &M) -> Result<Vec<u8>, CompactFault>
     ensures bytes { IfOk result (λ bytes. (payload : List ℕ) × FitsRecord payload
-        × Restores M.starts M.steps payload machine.now
+        × Restores M.starts M.steps M.alike payload machine.now
         × (bytes.items ≡ journal_of (payload ∷ []))) }
-    ensures err { IfErr result (λ e. (e ≡ compact_fault.NoMemory) ⊎ (e ≡ compact_fault.TooLarge)) }
+    ensures err { IfErr result (λ e. (e ≡ compact_fault.NoMemory) ⊎ (e ≡ compact_fault.TooLarge)
+        ⊎ ((e ≡ compact_fault.NoChange) × M.is_unrestored machine.now)) }
 {
     let mut payload = Vec::new(alloc);
-    if machine.snapshot(&mut payload).is_err() {
-        return Err(CompactFault::NoMemory);
+    match machine.snapshot(alloc, &mut payload) {
+        Ok(()) => {}
+        Err(SnapshotFault::NoMemory) => return Err(CompactFault::NoMemory),
+        Err(SnapshotFault::NoChange) => return Err(CompactFault::NoChange),
     }
     if payload.len() > LONGEST_PAYLOAD {
         return Err(CompactFault::TooLarge);
@@ -60,14 +94,15 @@ fn snapshot_bytes<M: Snapshot>(alloc: Global, machine: &M) -> Result<Vec<u8>, Co
 
 /// Puts a snapshot of the state in place of the journal that led to it, and answers its bytes.
 ///
-/// Whatever a crash at any moment leaves of it, recovery gives a state after the same history.
+/// Whatever a crash at any moment leaves of it, recovery gives a state that is alike one after the
+/// same history.
 pub fn compact<M: Snapshot, F: JournalFiles>(
     alloc: Global,
     machine: &M,
     files: &mut F,
 ) -> Result<Vec<u8>, CompactFault>
     ensures compacted { (journal : List ℕ) → F.moments files.old ≡ newly_opened journal
-        → IfOk result (λ bytes. IsCompacted M.starts M.steps machine.now bytes.items
+        → IfOk result (λ bytes. IsCompacted M.starts M.steps M.alike machine.now bytes.items
         (F.moments files.new)) }
     ensures kept { (journal : List ℕ) → F.moments files.old ≡ newly_opened journal
         → IfErr result (λ e. e ≢ compact_fault.Unknown
@@ -76,7 +111,8 @@ pub fn compact<M: Snapshot, F: JournalFiles>(
         → IsAfter M.starts M.steps history machine.now
         → F.moments files.old ≡ newly_opened (journal_of history)
         → MayLeave (F.moments files.new) left
-        → LeadsToHistory M.starts M.steps left history machine.now }
+        → LeadsToHistory M.starts M.steps M.alike left history machine.now }
+    ensures refused { IsErrOf result compact_fault.NoChange → M.is_unrestored machine.now }
     ensures failed { IsErrOf result compact_fault.Kept ⊎ IsErrOf result compact_fault.Unknown
         → (before : F) × F.fails before files.new }
 {
@@ -98,8 +134,8 @@ pub fn resume_compacted<M: Snapshot, F: JournalFiles>(
     files: F,
     bytes: &[u8],
 ) -> Journaled<M, F::NextLog>
-    ensures journaled { IsCompacted M.starts M.steps machine bytes.now (F.moments files)
-        → (payload : List ℕ) × Restores M.starts M.steps payload machine
+    ensures journaled { IsCompacted M.starts M.steps M.alike machine bytes.now (F.moments files)
+        → (payload : List ℕ) × Restores M.starts M.steps M.alike payload machine
         × IsJournaled M.starts M.steps F.NextLog.state (payload ∷ []) 1 result }
     ensures machine { result.machine ≡ machine }
     ensures goes_on { result.writer.stopped ≡ false }

@@ -1,5 +1,5 @@
 mod Answered
-mod Composed
+pub mod Composed
 mod Held
 mod Histories
 mod Starts

@@ -6,6 +6,7 @@ mod record_queue;
 mod recorder;
 
 pub use record_queue::RecordQueue;
+pub use recorder::ChangeRecorder;
 
 // the records of changes
 mod change_records;
@@ -17,7 +18,10 @@ mod recorded_submit;
 mod recording_handler;
 mod restarting;
 
+pub use recorded_answers::{keep_recorded, reply_recorded};
+pub use recorded_ends::end_job;
 pub use recording_handler::RecordingHandler;
+pub use restarting::restart_jobs;
 
 // what the records lead to
 mod laws;

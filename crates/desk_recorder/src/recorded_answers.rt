@@ -102,8 +102,9 @@ fn carry_out_recorded<N: Runner, Q: RecordQueue>(
     }
 }
 
-// Carries a request out and records what it changes, or tells the number of its refusal.
-fn reply_recorded<N: Runner, Q: RecordQueue>(
+/// Carries a request out and records what it changes, or tells the number of its refusal. Ends of
+/// jobs are passed by the caller.
+pub fn reply_recorded<N: Runner, Q: RecordQueue>(
     alloc: Global,
     desk: &mut Desk,
     runner: &mut N,
@@ -131,8 +132,9 @@ fn reply_recorded<N: Runner, Q: RecordQueue>(
     }
 }
 
-// Forgets the reports of all but the last jobs, and records that, unless nothing has changed.
-fn keep_recorded<Q: RecordQueue>(
+/// Forgets the reports of all but the last jobs, and records that, unless the recorder has noted no
+/// change.
+pub fn keep_recorded<Q: RecordQueue>(
     alloc: Global,
     desk: &mut Desk,
     recorder: &mut ChangeRecorder<Q>,

@@ -18,14 +18,15 @@ pub struct ChangeRecorder<Q> {
 }
 
 impl<Q: RecordQueue> ChangeRecorder<Q> {
-    /// A recorder that goes on.
+    /// A recorder that goes on. It has noted that the desk may have changed.
     pub fn new(queue: Q) -> ChangeRecorder<Q>
-        ensures { (result.queue ≡ queue) × (result.is_stopped ≡ false) }
+        ensures { (result.queue ≡ queue) × (result.is_stopped ≡ false)
+            × (result.has_changed ≡ true) }
     {
         ChangeRecorder {
             queue,
             is_stopped: false,
-            has_changed: false,
+            has_changed: true,
         }
     }
 

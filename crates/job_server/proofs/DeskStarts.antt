@@ -1,11 +1,19 @@
 -- What a server begins with: a desk or desks, and what answers there.
-use Rattle.std.proofs.Common.{◌≡◌, ℕ, Bool, List, [], All, Result, Err, refl, inr, ap, ◌∙◌, subst, arith}
+use Rattle.std.proofs.Common.{◌≡◌, ◌+◌, ℕ, Bool, cond, true, false, List, [], ◌∷◌, All, map, Option, Some, None, Result, Err, refl, sym, inr, ap, ◌∙◌, subst, arith}
+use Rattle.std.proofs.lemmas.Slice.Eq.{bytes_eq-Decides}
+use Rattle.std.specs.Str.{bytes_eq}
 use Rattle.streams.specs.declared.fault.StreamFault.TheVariants.{NoMemory}
 use Rattle.accounts.specs.Ledgers.{Ledger}
 use Rattle.shared_desk.specs.declared.passage.Passage.{Passage}
 use Rattle.shared_desk.specs.Histories.{Query, none_yet}
-use Rattle.tenant_desks.specs.Tenancies.{Tenancy, fresh_tenancy}
+use Rattle.tenant_desks.specs.Tenancies.{AreFirstDesks, IsFirstDesk, IsFirstTenancy, Tenancy, fresh_desk}
 use Rattle.tenant_desks.specs.Answering.{KeptRunner}
+use Rattle.job_pools.specs.LineBounded.{new_by_line}
+use Rattle.job_pools.specs.declared.line_limited_runner.LineLimitedRunner.{LineLimitedRunner}
+use Rattle.job_server.specs.declared.bounds.Bounds.{Bounds}
+use Rattle.job_server.specs.declared.tenant_door.TenantDoor.{TenantDoor}
+use Rattle.job_server.specs.TenantLimits.{door_limits}
+use Rattle.job_server.specs.TenantServing.{BeginsAtDesks, door_credits}
 use Rattle.job_server.specs.declared.fault.ServeFault.{ServeFault}
 use Rattle.job_server.specs.declared.fault.ServeFault.TheVariants.{Connection}
 use Rattle.job_server.specs.declared.keeping_handler.KeepingHandler.{KeepingHandler}
@@ -20,15 +28,52 @@ desk_begins {N} desk handler kept runner keep is_new same is_runner is_keep =
     ap (λ (d : Ledger). both d handler) is_new ∙ ap (both new_desk) same
     ∙ ap (both new_desk) (λ i. record { runner = is_runner i; keep = is_keep i })
 
+-- a desk on which a tenant was granted its first credit
+abbrev granted_desk : List ℕ → Option ℕ → Ledger
+granted_desk name None = fresh_desk
+granted_desk name (Some credit) = record { grants = (name, credit) ∷ []; past = []; jobs = [] }
+
+none_ahead : (n : ℕ) → 0 + n ≡ n
+none_ahead n = omega arith
+
+-- a name is another one as that is it
+bytes_turn : (x y : List ℕ) → bytes_eq x y ≡ bytes_eq y x
+bytes_turn x y = by_tests (bytes_eq x y) (bytes_eq y x) refl refl
+  where
+    by_tests : (a b : Bool) → bytes_eq x y ≡ a → bytes_eq y x ≡ b → a ≡ b
+    by_tests true true first second = refl
+    by_tests false false first second = refl
+    by_tests true false first second = let same = (bytes_eq-Decides y x).1 (sym ((bytes_eq-Decides x y).0 first)) in let clash = sym same ∙ second in cc
+    by_tests false true first second = let same = (bytes_eq-Decides x y).1 (sym ((bytes_eq-Decides y x).0 second)) in let clash = sym same ∙ first in cc
+
+granted_first : (name : List ℕ) (credit : Option ℕ) → IsFirstDesk name credit (granted_desk name credit)
+granted_first name None = refl
+granted_first name (Some credit) = record {
+  grants = λ q. ap (λ (b : Bool). cond b (Some credit) None) (bytes_turn q name) ∙ sym (ap (λ (n : ℕ). cond (bytes_eq name q) (Some n) None) (none_ahead credit));
+  past = λ q. refl;
+  jobs = refl;
+}
+
+abbrev granted_desks : List (List ℕ × Option ℕ) → List Ledger
+granted_desks [] = []
+granted_desks (t ∷ tenants) = granted_desk t.0 t.1 ∷ granted_desks tenants
+
+granted_all : (tenants : List (List ℕ × Option ℕ)) → AreFirstDesks tenants (granted_desks tenants)
+granted_all [] = tt
+granted_all (t ∷ tenants) = (granted_first t.0 t.1, granted_all tenants)
+
+-- there are such desks
+first_tenancy : (tenants : List (List ℕ × Option ℕ)) → (t : Tenancy) × IsFirstTenancy tenants t
+first_tenancy tenants = (
+  record { names = map (λ (x : List ℕ × Option ℕ). x.0) tenants; desks = fresh_desk ∷ granted_desks tenants },
+  record { names = refl; firsts = granted_desks tenants; granted = granted_all tenants; desks = refl },
+)
+
 -- a desk for each tenant
-pub tenants_begin : {N : Type 0} (desks : Tenancy) (names names1 : List (List ℕ)) (handler : KeptRunner N) (runner runner1 : N) (keep : ℕ) → desks ≡ fresh_tenancy names → names ≡ names1
-    → handler ≡ record { runner = runner; keep = keep } → runner ≡ runner1
-    → ◌≡◌ {A = Tenancy × KeptRunner N} (desks, handler) (fresh_tenancy names1, record { runner = runner1; keep = keep })
-tenants_begin {N} desks names names1 handler runner runner1 keep is_new named same limited =
-    let both : Tenancy → KeptRunner N → Tenancy × KeptRunner N = λ d h. (d, h) in
-    let kept : N → KeptRunner N = λ r. record { runner = r; keep = keep } in
-    ap (λ (d : Tenancy). both d handler) is_new ∙ ap (λ (ns : List (List ℕ)). both (fresh_tenancy ns) handler) named
-    ∙ ap (both (fresh_tenancy names1)) same ∙ ap (λ (r : N). both (fresh_tenancy names1) (kept r)) limited
+pub tenants_begin : {N : Type 0} (doors : List TenantDoor) (bounds : Bounds) (runner : N) → (begun : Tenancy × KeptRunner (LineLimitedRunner N)) × BeginsAtDesks doors bounds runner begun
+tenants_begin doors bounds runner =
+    let t = first_tenancy (door_credits doors) in
+    ((t.0, record { runner = new_by_line (door_limits bounds.tenant_jobs doors) runner; keep = bounds.keep }), (t.1, refl))
 
 module _ {S L : Type 0} (answers : S → Query → List ℕ → S → Type 0) (opens fails : L → L → Type 0) (passage_of : L → Passage) (listener : L) (sessions : ℕ) (may_stop : Bool) where
   -- so many were served, from here on

@@ -22,3 +22,5 @@ pub mod OwnPayloads
 pub mod RecordedAlike
 pub mod ByJournal
 pub mod Restarting
+pub mod TenantRestarting
+pub mod TenantRecordedAlike

@@ -1,19 +1,24 @@
 -- A tenant's part of a history has entries of the whole, whose payloads went through connections.
-use Rattle.std.proofs.Common.{◌≡◌, ◌≤◌, ℕ, Bool, true, false, List, [], ◌∷◌, ◌++◌, length, Result, Ok, ap, subst, ◌∙◌, arith}
+use Rattle.std.proofs.Common.{◌≡◌, ◌≤◌, ◌+◌, ℕ, zero, suc, Bool, true, false, List, [], ◌∷◌, ◌++◌, length, map, slice_get, Option, Some, None, Result, Ok, refl, sym, ap, subst, ◌∙◌, arith}
 use Rattle.std.specs.Prelude.{string_bytes}
 use Rattle.std.proofs.lemmas.List.{length-map}
 use Rattle.sessions.specs.Grammar.{Asked, result}
 use Rattle.shared_desk.specs.Histories.{HistoryEntry, Replays, none_yet, one_more, put_if}
 use Rattle.shared_desk.specs.Closed.{AreClosed}
 use Rattle.tenant_desks.specs.Alone.{goes_to, sent_to}
-use Rattle.tenant_desks.specs.Tenancies.{fresh_tenancy}
+use Rattle.accounts.specs.Ledgers.{Ledger}
+use Rattle.tenant_desks.specs.Answering.{KeptRunner}
+use Rattle.tenant_desks.specs.Tenancies.{AreFirstDesks, IsFirstDesk, fresh_desk}
+use Rattle.job_pools.specs.declared.limited_runner.LimitedRunner.{LimitedRunner}
+use Rattle.job_pools.specs.declared.line_limited_runner.LineLimitedRunner.{LineLimitedRunner}
+use Rattle.job_server.specs.AtOnce.{Pool}
 use Rattle.job_server.specs.declared.bounds.Bounds.{Bounds}
 use Rattle.job_server.specs.declared.fault.ServeFault.{ServeFault}
 use Rattle.job_server.specs.declared.tenant_door.TenantDoor.{TenantDoor}
 use Rattle.job_server.specs.EndToEnd.{ComesFromSubmit, IsResultFrame, submit_of}
 use Rattle.job_server.specs.Payloads.{ComesFromPayload, IsEntryOf}
 use Rattle.job_server.specs.TenantResults.{IsTenantHostHistory}
-use Rattle.job_server.specs.TenantServing.{IsServingTenants, TenantHosted, door_names, hosted_tenant_answers, new_tenant_host}
+use Rattle.job_server.specs.TenantServing.{IsServingTenants, TenantHosted, door_credits, door_names, hosted_tenant_answers}
 use Rattle.job_server.proofs.FromSubmit.{each_served}
 use Rattle.job_server.proofs.ListEnds.{joined_again}
 use Rattle.job_server.proofs.OwnSubmits.{own_comes}
@@ -42,6 +47,33 @@ sent_in names place (x ∷ history) before after e is = put (goes_to names place
     put true [] later is = first_of x e history (sent_to names place history) after is
     put true (y ∷ before) later is = behind x e history (later before (rest_of x y (sent_to names place history) (before ++ e ∷ after) is))
 
+-- ---- the desks that a server begins with
+
+names_of_credits : (doors : List TenantDoor) → map (λ (x : List ℕ × Option ℕ). x.0) (door_credits doors) ≡ door_names doors
+names_of_credits [] = refl
+names_of_credits (d ∷ doors) = ap (λ ns. string_bytes d.name ∷ ns) (names_of_credits doors)
+
+as_many_first : (tenants : List (List ℕ × Option ℕ)) (desks : List Ledger) → AreFirstDesks tenants desks → length desks ≡ length tenants
+as_many_first [] [] are = refl
+as_many_first [] (d ∷ desks) are = absurd are
+as_many_first (t ∷ tenants) [] are = absurd are
+as_many_first (t ∷ tenants) (d ∷ desks) are = ap suc (as_many_first tenants desks are.1)
+
+none_on_first : (name : List ℕ) (credit : Option ℕ) (d : Ledger) → IsFirstDesk name credit d → d.jobs ≡ []
+none_on_first name None d is = ap (λ (l : Ledger). l.jobs) is
+none_on_first name (Some amount) d more = more.jobs
+
+none_behind : (tenants : List (List ℕ × Option ℕ)) (desks : List Ledger) → AreFirstDesks tenants desks → (place : ℕ) (first : Ledger) → slice_get desks place ≡ Some first → first.jobs ≡ []
+none_behind [] [] are place first at = absurd cc
+none_behind [] (d ∷ desks) are place first at = absurd are
+none_behind (t ∷ tenants) [] are place first at = absurd are
+none_behind (t ∷ tenants) (d ∷ desks) are zero first at = let same : d ≡ first = cc in ap (λ (l : Ledger). l.jobs) (sym same) ∙ none_on_first t.0 t.1 d are.0
+none_behind (t ∷ tenants) (d ∷ desks) are (suc place) first at = none_behind tenants desks are.1 place first at
+
+none_at_first : (tenants : List (List ℕ × Option ℕ)) (desks : List Ledger) → AreFirstDesks tenants desks → (place : ℕ) (first : Ledger) → slice_get (fresh_desk ∷ desks) place ≡ Some first → first.jobs ≡ []
+none_at_first tenants desks are zero first at = let same : fresh_desk ≡ first = cc in ap (λ (l : Ledger). l.jobs) (sym same)
+none_at_first tenants desks are (suc place) first at = none_behind tenants desks are place first at
+
 -- ---- and its payload went through its connection
 
 module _ (doors : List TenantDoor) (bounds : Bounds) (sessions : ℕ) (may_stop : Bool) (outcome : Result (Unit {0}) ServeFault) (s : IsServingTenants doors bounds sessions may_stop outcome) where
@@ -50,13 +82,36 @@ module _ (doors : List TenantDoor) (bounds : Bounds) (sessions : ℕ) (may_stop 
       is_entry_of s.serving.opened t.before t.after e s.serving.closed asks (subst (λ h. AreClosed s.serving.opened h s.serving.closed) t.is s.serving.parts)
       (each_served s.serving.closed s.serving.served) own
 
-  begun : (history : List HistoryEntry) (x : TenantHosted) → Replays hosted_tenant_answers (λ y. y ≡ new_tenant_host doors bounds s.first) history x
-      → Replays hosted_tenant_answers (λ y. (y.0 ≡ fresh_tenancy (door_names doors)) × (y.1.keep ≡ bounds.keep)) history x
-  begun _ x (none_yet y is) = none_yet y (ap (λ (h : TenantHosted). h.0) is, ap (λ (h : TenantHosted). h.1.keep) is)
+  -- the desks that it begins with
+  abbrev firsts : List Ledger
+  firsts = fresh_desk ∷ s.begins.0.firsts
+
+  first_tenancy : s.begun.0 ≡ record { names = door_names doors; desks = firsts }
+  first_tenancy =
+      let named : s.begun.0.names ≡ door_names doors = s.begins.0.names ∙ names_of_credits doors in
+      λ i. record { names = named i; desks = s.begins.0.desks i }
+
+  begun : (history : List HistoryEntry) (x : TenantHosted) → Replays hosted_tenant_answers (λ y. y ≡ s.begun) history x
+      → Replays hosted_tenant_answers (λ y. (y.0 ≡ record { names = door_names doors; desks = firsts }) × (y.1.keep ≡ bounds.keep)) history x
+  begun _ x (none_yet y is) = none_yet y (
+    ap (λ (h : TenantHosted). h.0) is ∙ first_tenancy,
+    ap (λ (h : TenantHosted). h.1.keep) is ∙ ap (λ (k : KeptRunner (LineLimitedRunner (LimitedRunner Pool))). k.keep) s.begins.1,
+  )
   begun _ x (one_more h y d z before answered) = one_more h y d z (begun h y before) answered
 
   host : length doors ≤ 256 → IsTenantHostHistory bounds.keep (door_names doors) s.serving.history
-  host few = record { few = omega (arith, few, length-map doors (λ (d : TenantDoor). string_bytes d.name)); end = s.end; legal = begun s.serving.history s.end s.serving.legal }
+  host few =
+      let many = length-map doors (λ (d : TenantDoor). string_bytes d.name) in
+      let credits : length (door_credits doors) ≡ length doors = length-map {B = List ℕ × Option ℕ} doors (λ (d : TenantDoor). (string_bytes d.name, d.credit)) in
+      let behind = as_many_first (door_credits doors) s.begins.0.firsts s.begins.0.granted in
+      record {
+        few = omega (arith, few, many);
+        firsts = firsts;
+        as_many = omega (arith, many, credits, behind);
+        no_job = none_at_first (door_credits doors) s.begins.0.firsts s.begins.0.granted;
+        end = s.end;
+        legal = begun s.serving.history s.end s.serving.legal;
+      }
 
   pub own_payloads : (place : ℕ) (before after : List HistoryEntry) (e : HistoryEntry) (number : ℕ) → length doors ≤ 256 → place ≤ length doors → sent_to (door_names doors) place s.serving.history ≡ before ++ e ∷ after
       → e.query.asked ≡ Ok (result number) → IsResultFrame e.reply → ComesFromPayload s.serving.closed before number e

@@ -1,5 +1,5 @@
 -- A tenant's result comes from a submit of its own before it.
-use Rattle.std.proofs.Common.{◌≡◌, ◌≤◌, ◌<◌, ◌-◌, ◌^◌, ℕ, List, [], ◌∷◌, ◌++◌, length, Option, Result, Ok, refl, ap, subst, arith}
+use Rattle.std.proofs.Common.{◌≡◌, ◌≤◌, ◌<◌, ◌-◌, ◌^◌, ◌+◌, ℕ, zero, suc, List, [], ◌∷◌, ◌++◌, length, slice_get, Option, Some, Result, Ok, refl, ap, subst, ◌∙◌, arith}
 use Rattle.credit_book.specs.declared.book.Report.{Report}
 use Rattle.credit_book.specs.declared.board.Progress.{Progress}
 use Rattle.job_core.specs.Admitted.{AdmittedJob}
@@ -8,7 +8,6 @@ use Rattle.sessions.specs.Grammar.{result}
 use Rattle.sessions.specs.Replies.{submit_data}
 use Rattle.streams.specs.Answering.{refused}
 use Rattle.shared_desk.specs.Histories.{HistoryEntry, Replays, by_any_passage, none_yet, one_more}
-use Rattle.tenant_desks.specs.Tenancies.{fresh_desk}
 use Rattle.tenant_desks.specs.Alone.{sent_to}
 use Rattle.tenant_desks.proofs.SeenLemmas.{plain_part}
 use Rattle.tenant_desks.specs.Seen.{starts_seen, looks_seen, takes_seen, answers_seen}
@@ -33,18 +32,23 @@ use Rattle.job_server.proofs.StaysOver.{results_stay}
 
 -- ---- a plain desk that forgets, as a desk and a handler that keeps the last jobs
 
-abbrev Begins : {R : Type 0} → ℕ → Ledger × KeepingHandler R → Type 0
-Begins keep x = (x.0 ≡ fresh_desk) × (x.1.keep ≡ keep)
+abbrev Begins : {R : Type 0} → Ledger → ℕ → Ledger × KeepingHandler R → Type 0
+Begins begun keep x = (x.0 ≡ begun) × (x.1.keep ≡ keep)
 
-module _ {R : Type 0} (starts : R → ℕ → AdmittedJob → Result (Unit {0}) ℕ → R → Type 0) (looks : R → ℕ → Progress → R → Type 0) (takes : R → Option (ℕ × Result Report ℕ) → R → Type 0) (place keep : ℕ) where
-  as_kept : (history : List HistoryEntry) (s : Ledger × R) → Replays (answers_seen starts looks takes place keep) (λ x. x.0 ≡ fresh_desk) history s
-      → Replays (by_any_passage (answers_keeping (starts_seen starts looks takes place) (looks_seen starts looks takes place) (takes_seen starts looks takes place))) (Begins keep) history (s.0, record { runner = s.1; keep = keep })
+module _ {R : Type 0} (starts : R → ℕ → AdmittedJob → Result (Unit {0}) ℕ → R → Type 0) (looks : R → ℕ → Progress → R → Type 0) (takes : R → Option (ℕ × Result Report ℕ) → R → Type 0) (place : ℕ) (begun : Ledger) (keep : ℕ) where
+  as_kept : (history : List HistoryEntry) (s : Ledger × R) → Replays (answers_seen starts looks takes place keep) (λ x. x.0 ≡ begun) history s
+      → Replays (by_any_passage (answers_keeping (starts_seen starts looks takes place) (looks_seen starts looks takes place) (takes_seen starts looks takes place))) (Begins begun keep) history (s.0, record { runner = s.1; keep = keep })
   as_kept history s (none_yet t begins) = none_yet (s.0, record { runner = s.1; keep = keep }) (begins, refl)
   as_kept history s (one_more h t e u before answered) =
       one_more h (t.0, record { runner = t.1; keep = keep }) e (s.0, record { runner = s.1; keep = keep }) (as_kept h t before) ((answered.0, answered.1, answered.2), refl)
 
-fresh_begins : {R : Type 0} (keep : ℕ) (x : Ledger × KeepingHandler R) → Begins keep x → (x.0.jobs ≡ []) × (x.1.keep ≡ keep)
-fresh_begins keep x begins = (ap (λ (d : Ledger). d.jobs) begins.0, begins.1)
+jobless_begins : {R : Type 0} (begun : Ledger) (keep : ℕ) → begun.jobs ≡ [] → (x : Ledger × KeepingHandler R) → Begins begun keep x → (x.0.jobs ≡ []) × (x.1.keep ≡ keep)
+jobless_begins begun keep none x begins = (ap (λ (d : Ledger). d.jobs) begins.0 ∙ none, begins.1)
+
+at_place : (xs : List Ledger) (i : ℕ) → i < length xs → (x : Ledger) × (slice_get xs i ≡ Some x)
+at_place [] i lt = absurd (omega (arith, lt))
+at_place (x ∷ xs) zero lt = (x, refl)
+at_place (x ∷ xs) (suc i) lt = at_place xs i (omega (arith, lt))
 
 -- ---- a host of tenants
 
@@ -70,36 +74,45 @@ holds_by =
     (job_held pooled_at pooled_count) (limited_holds pooled_at pooled_count)
 
 -- a tenant's part is legal
-part : (keep place : ℕ) (names : List (List ℕ)) (history : List HistoryEntry) → IsTenantHostHistory keep names history → place ≤ length names
-    → (s : Ledger × Runner) × Replays (answers_seen starts_by looks_by takes_by place keep) (λ x. x.0 ≡ fresh_desk) (sent_to names place history) s
-part keep place names history h there = plain_part starts_by looks_by takes_by place names keep history h.end h.few there h.legal
+part : (keep place : ℕ) (names : List (List ℕ)) (history : List HistoryEntry) (h : IsTenantHostHistory keep names history) (begun : Ledger) → slice_get h.firsts place ≡ Some begun
+    → (s : Ledger × Runner) × Replays (answers_seen starts_by looks_by takes_by place keep) (λ x. x.0 ≡ begun) (sent_to names place history) s
+part keep place names history h begun at =
+    let few = h.few in let many = h.as_many in
+    plain_part starts_by looks_by takes_by place h.firsts begun names keep history h.end (omega (arith, few, many)) at h.legal
 
 module _ (keep place : ℕ) (names : List (List ℕ)) (history : List HistoryEntry) (h : IsTenantHostHistory keep names history) (there : place ≤ length names) where
+  -- the desk that the tenant begins with
+  abbrev own : (d : Ledger) × (slice_get h.firsts place ≡ Some d)
+  own = let many = h.as_many in at_place h.firsts place (omega (arith, there, many))
+
+  begins : (x : Ledger × KeepingHandler Runner) → Begins own.0 keep x → (x.0.jobs ≡ []) × (x.1.keep ≡ keep)
+  begins = jobless_begins own.0 keep (h.no_job place own.0 own.1)
+
   small : place < 1000
   small = let few = h.few in omega (arith, there, few)
 
   state : Ledger × KeepingHandler Runner
-  state = let p = part keep place names history h there in (p.0.0, record { runner = p.0.1; keep = keep })
+  state = let p = part keep place names history h own.0 own.1 in (p.0.0, record { runner = p.0.1; keep = keep })
 
-  legal : (own : List HistoryEntry) → sent_to names place history ≡ own
-      → Replays (by_any_passage (answers_keeping (starts_seen starts_by looks_by takes_by place) (looks_seen starts_by looks_by takes_by place) (takes_seen starts_by looks_by takes_by place))) (Begins keep) own state
+  legal : (entries : List HistoryEntry) → sent_to names place history ≡ entries
+      → Replays (by_any_passage (answers_keeping (starts_seen starts_by looks_by takes_by place) (looks_seen starts_by looks_by takes_by place) (takes_seen starts_by looks_by takes_by place))) (Begins own.0 keep) entries state
   unfolding state
-  legal own is =
-      let p = part keep place names history h there in
-      subst (λ l. Replays (by_any_passage (answers_keeping (starts_seen starts_by looks_by takes_by place) (looks_seen starts_by looks_by takes_by place) (takes_seen starts_by looks_by takes_by place))) (Begins keep) l state) is
-      (as_kept starts_by looks_by takes_by place keep (sent_to names place history) p.0 p.1)
+  legal entries is =
+      let p = part keep place names history h own.0 own.1 in
+      subst (λ l. Replays (by_any_passage (answers_keeping (starts_seen starts_by looks_by takes_by place) (looks_seen starts_by looks_by takes_by place) (takes_seen starts_by looks_by takes_by place))) (Begins own.0 keep) l state) is
+      (as_kept starts_by looks_by takes_by place own.0 keep (sent_to names place history) p.0 p.1)
 
   pub own_tells : (before after : List HistoryEntry) (e : HistoryEntry) (number : ℕ) → sent_to names place history ≡ before ++ e ∷ after → e.query.asked ≡ Ok (result number) → IsToldResult keep before number e
   own_tells before after e number is asks =
       history_tells (starts_seen starts_by looks_by takes_by place) (looks_seen starts_by looks_by takes_by place) (takes_seen starts_by looks_by takes_by place)
       (held_seen starts_by looks_by takes_by held_by holds_by place small)
-      (seen_holds starts_by looks_by takes_by held_by holds_by place small) (Begins keep) keep (fresh_begins keep) before after e number state
+      (seen_holds starts_by looks_by takes_by held_by holds_by place small) (Begins own.0 keep) keep begins before after e number state
       (legal (before ++ e ∷ after) is) asks
 
   pub own_stays : (before between after : List HistoryEntry) (e f : HistoryEntry) (number : ℕ) → sent_to names place history ≡ before ++ e ∷ (between ++ f ∷ after) → e.query.asked ≡ Ok (result number) → f.query.asked ≡ Ok (result number)
       → StaysTold e f
   own_stays before between after e f number is asks_e asks_f =
-      results_stay (starts_seen starts_by looks_by takes_by place) (looks_seen starts_by looks_by takes_by place) (takes_seen starts_by looks_by takes_by place) (Begins keep) before between after e f number state
+      results_stay (starts_seen starts_by looks_by takes_by place) (looks_seen starts_by looks_by takes_by place) (takes_seen starts_by looks_by takes_by place) (Begins own.0 keep) before between after e f number state
       (legal (before ++ e ∷ (between ++ f ∷ after)) is) asks_e asks_f
 
   pub own_rises : (before between after : List HistoryEntry) (e f : HistoryEntry) (m n : ℕ) → sent_to names place history ≡ before ++ e ∷ (between ++ f ∷ after) → length (before ++ e ∷ between) < 2 ^ 64 - 1
@@ -107,7 +120,7 @@ module _ (keep place : ℕ) (names : List (List ℕ)) (history : List HistoryEnt
   own_rises before between after e f m n is short asks_e tells_e small_m asks_f tells_f small_n =
       let stands = history_stands (starts_seen starts_by looks_by takes_by place) (looks_seen starts_by looks_by takes_by place) (takes_seen starts_by looks_by takes_by place)
       (held_seen starts_by looks_by takes_by held_by holds_by place small)
-      (seen_holds starts_by looks_by takes_by held_by holds_by place small) (Begins keep) keep (fresh_begins keep)
+      (seen_holds starts_by looks_by takes_by held_by holds_by place small) (Begins own.0 keep) keep begins
       (before ++ e ∷ (between ++ f ∷ after)) state (legal (before ++ e ∷ (between ++ f ∷ after)) is) in
       numbers_rise before between after e f stands.1.0 m n stands.1.1 short asks_e tells_e small_m asks_f tells_f small_n
 

@@ -53,7 +53,7 @@ module _ {R T Q : Type 0} (f : R → T) (taken : Q → List ℕ) (failed : Q →
       restarts.one_more earlier d (f r) job outcome (f s) e (each_alike desk runner earlier d r before) (starts_alike r job.number job.job outcome s starts_one) noted
 
 -- the limited runner is the one that was made of the pool and the bounds
-limited_is : {R : Type 0} (f : R → Pool) (bounds : Bounds) (l : LimitedRunner R) (pool : R) → l.runner ≡ pool → l.limit ≡ bounds.open_jobs
+pub limited_is : {R : Type 0} (f : R → Pool) (bounds : Bounds) (l : LimitedRunner R) (pool : R) → l.runner ≡ pool → l.limit ≡ bounds.open_jobs
     → ◌≡◌ {A = LimitedRunner Pool} (limited f l) (record { runner = f pool; limit = bounds.open_jobs })
 limited_is {R} f bounds l pool is_pool is_limit =
     let made : Pool → ℕ → LimitedRunner Pool = λ p n. record { runner = p; limit = n } in

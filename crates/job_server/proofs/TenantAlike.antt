@@ -22,7 +22,9 @@ use Rattle.job_server.specs.declared.bounds.Bounds.{Bounds}
 use Rattle.job_server.specs.declared.fault.ServeFault.{ServeFault}
 use Rattle.job_server.specs.declared.tenant_door.TenantDoor.{TenantDoor}
 use Rattle.job_server.specs.AtOnce.{IsServingFrom, Pool}
-use Rattle.job_server.specs.TenantServing.{TenantHosted, hosted_tenant_answers, new_desks, new_tenant_host}
+use Rattle.job_pools.specs.LineBounded.{new_by_line}
+use Rattle.job_server.specs.TenantLimits.{door_limits}
+use Rattle.job_server.specs.TenantServing.{BeginsAtDesks, TenantHosted, hosted_tenant_answers}
 use Rattle.job_server.proofs.Alike.{replies_alike}
 use Rattle.job_server.proofs.AtOnceAlike.{limited, serving_kept, within_alike}
 
@@ -142,37 +144,42 @@ module _ {R Q : Type 0} (g : R → Q) where
 abbrev pub hosted_as : {R : Type 0} → (R → Pool) → Tenancy × KeptRunner (LineLimitedRunner (LimitedRunner R)) → TenantHosted
 hosted_as f s = (s.0, record { runner = in_lines (limited f) s.1.runner; keep = s.1.keep })
 
-host_is : {R : Type 0} (f : R → Pool) (doors : List TenantDoor) (bounds : Bounds) (l : LimitedRunner R) (pool : R) → l.runner ≡ pool → l.limit ≡ bounds.open_jobs
-    → hosted_as f (new_desks doors bounds l) ≡ new_tenant_host doors bounds (f pool)
-host_is {R} f doors bounds l pool is_pool is_limit =
-    let host : Pool → ℕ → TenantHosted = λ p n. new_desks doors bounds (record { runner = p; limit = n }) in
-    ap (λ (p : R). host (f p) l.limit) is_pool ∙ ap (λ (n : ℕ). host (f pool) n) is_limit
+pub begins_as : {R : Type 0} (f : R → Pool) (doors : List TenantDoor) (bounds : Bounds) (l : LimitedRunner R) (pool : R) (begun : Tenancy × KeptRunner (LineLimitedRunner (LimitedRunner R)))
+    → l.runner ≡ pool → l.limit ≡ bounds.open_jobs → BeginsAtDesks doors bounds l begun
+    → BeginsAtDesks doors bounds (record { runner = f pool; limit = bounds.open_jobs }) (hosted_as f begun)
+begins_as {R} f doors bounds l pool begun is_pool is_limit begins =
+    let host : Pool → ℕ → KeptRunner (LineLimitedRunner (LimitedRunner Pool)) = λ p n.
+    record { runner = new_by_line (door_limits bounds.tenant_jobs doors) (record { runner = p; limit = n }); keep = bounds.keep } in (
+      begins.0,
+      ap (λ (k : KeptRunner (LineLimitedRunner (LimitedRunner R))). (hosted_as f (begun.0, k)).1) begins.1
+          ∙ ap (λ (p : R). host (f p) l.limit) is_pool ∙ ap (λ (n : ℕ). host (f pool) n) is_limit,
+    )
 
 module _ {R : Type 0} (f : R → Pool) (starts : R → ℕ → AdmittedJob → Result (Unit {0}) ℕ → R → Type 0) (looks : R → ℕ → Progress → R → Type 0) (takes : R → Option (ℕ × Result Report ℕ) → R → Type 0)
     (starts_alike : (r : R) (n : ℕ) (j : AdmittedJob) (x : Result (Unit {0}) ℕ) (s : R) → starts r n j x s → StartsBy pooled_at pooled_count (f r) n j x (f s))
     (looks_alike : (r : R) (n : ℕ) (p : Progress) (s : R) → looks r n p s → TellsBy pooled_at pooled_count (f r) n p (f s))
     (takes_alike : (r : R) (x : Option (ℕ × Result Report ℕ)) (s : R) → takes r x s → TakesBy pooled_at pooled_count (f r) x (f s)) where
   -- a pool within its host's bounds
-  abbrev starts_in : LimitedRunner R → ℕ → AdmittedJob → Result (Unit {0}) ℕ → LimitedRunner R → Type 0
+  abbrev pub starts_in : LimitedRunner R → ℕ → AdmittedJob → Result (Unit {0}) ℕ → LimitedRunner R → Type 0
   starts_in = starts_within (λ r. pooled_count (f r)) starts
 
-  abbrev starts_of : LimitedRunner Pool → ℕ → AdmittedJob → Result (Unit {0}) ℕ → LimitedRunner Pool → Type 0
+  abbrev pub starts_of : LimitedRunner Pool → ℕ → AdmittedJob → Result (Unit {0}) ℕ → LimitedRunner Pool → Type 0
   starts_of = starts_within pooled_count (StartsBy pooled_at pooled_count)
 
-  abbrev looks_of : LimitedRunner Pool → ℕ → Progress → LimitedRunner Pool → Type 0
+  abbrev pub looks_of : LimitedRunner Pool → ℕ → Progress → LimitedRunner Pool → Type 0
   looks_of = looks_within (TellsBy pooled_at pooled_count)
 
-  abbrev takes_of : LimitedRunner Pool → Option (ℕ × Result Report ℕ) → LimitedRunner Pool → Type 0
+  abbrev pub takes_of : LimitedRunner Pool → Option (ℕ × Result Report ℕ) → LimitedRunner Pool → Type 0
   takes_of = takes_within (TakesBy pooled_at pooled_count)
 
-  pool_starts : (l : LimitedRunner R) (n : ℕ) (j : AdmittedJob) (x : Result (Unit {0}) ℕ) (m : LimitedRunner R) → starts_in l n j x m → starts_of (limited f l) n j x (limited f m)
+  pub pool_starts : (l : LimitedRunner R) (n : ℕ) (j : AdmittedJob) (x : Result (Unit {0}) ℕ) (m : LimitedRunner R) → starts_in l n j x m → starts_of (limited f l) n j x (limited f m)
   pool_starts =
       within_alike f pooled_count (StartsBy pooled_at pooled_count) (TellsBy pooled_at pooled_count) (TakesBy pooled_at pooled_count) starts looks takes starts_alike looks_alike takes_alike
 
-  pool_looks : (l : LimitedRunner R) (n : ℕ) (p : Progress) (m : LimitedRunner R) → looks_within looks l n p m → looks_of (limited f l) n p (limited f m)
+  pub pool_looks : (l : LimitedRunner R) (n : ℕ) (p : Progress) (m : LimitedRunner R) → looks_within looks l n p m → looks_of (limited f l) n p (limited f m)
   pool_looks l n p m h = (looks_alike l.runner n p m.runner h.0, h.1)
 
-  pool_takes : (l : LimitedRunner R) (x : Option (ℕ × Result Report ℕ)) (m : LimitedRunner R) → takes_within takes l x m → takes_of (limited f l) x (limited f m)
+  pub pool_takes : (l : LimitedRunner R) (x : Option (ℕ × Result Report ℕ)) (m : LimitedRunner R) → takes_within takes l x m → takes_of (limited f l) x (limited f m)
   pool_takes l x m h = (takes_alike l.runner x m.runner h.0, h.1)
 
   -- the same with a limit for each tenant
@@ -187,12 +194,8 @@ module _ {R : Type 0} (f : R → Pool) (starts : R → ℕ → AdmittedJob → R
       (line_takes (limited f) starts_in (looks_within looks) (takes_within takes) starts_of looks_of takes_of pool_starts pool_looks pool_takes) s query reply t
 
   -- the pool's own state is forgotten, but for the jobs that it was given and the boards that it watches
-  pub tenants_serving : (doors : List TenantDoor) (bounds : Bounds) (l : LimitedRunner R) (pool : R) (end : Tenancy × KeptRunner (LineLimitedRunner (LimitedRunner R))) (sessions : ℕ) (may_stop : Bool) (outcome : Result (Unit {0}) ServeFault)
-      → l.runner ≡ pool → l.limit ≡ bounds.open_jobs
-      → (serving : IsServingFrom (tenant_answers (starts_by_line starts_in) (looks_by_line (looks_within looks)) (takes_by_line (takes_within takes))) (λ s. s ≡ new_desks doors bounds l) end sessions may_stop outcome)
-      → (hosted : IsServingFrom hosted_tenant_answers (λ s. s ≡ new_tenant_host doors bounds (f pool)) (hosted_as f end) sessions may_stop outcome) × (hosted.opened ≡ serving.opened) × (hosted.closed ≡ serving.closed)
-  tenants_serving doors bounds l pool end sessions may_stop outcome is_pool is_limit serving =
-      serving_kept (hosted_as f) _ hosted_tenant_answers hosted_alike
-      (λ s. s ≡ new_desks doors bounds l) (λ s. s ≡ new_tenant_host doors bounds (f pool))
-      (λ s is. ap (hosted_as f) is ∙ host_is f doors bounds l pool is_pool is_limit)
-      end sessions may_stop outcome serving
+  pub tenants_serving : (begun end : Tenancy × KeptRunner (LineLimitedRunner (LimitedRunner R))) (sessions : ℕ) (may_stop : Bool) (outcome : Result (Unit {0}) ServeFault)
+      → (serving : IsServingFrom (tenant_answers (starts_by_line starts_in) (looks_by_line (looks_within looks)) (takes_by_line (takes_within takes))) (λ s. s ≡ begun) end sessions may_stop outcome)
+      → (hosted : IsServingFrom hosted_tenant_answers (λ s. s ≡ hosted_as f begun) (hosted_as f end) sessions may_stop outcome) × (hosted.opened ≡ serving.opened) × (hosted.closed ≡ serving.closed)
+  tenants_serving begun end sessions may_stop outcome serving =
+      serving_kept (hosted_as f) _ hosted_tenant_answers hosted_alike (λ s. s ≡ begun) (λ s. s ≡ hosted_as f begun) (λ s is. ap (hosted_as f) is) end sessions may_stop outcome serving

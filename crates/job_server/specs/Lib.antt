@@ -9,4 +9,6 @@ pub mod Stopping
 pub mod TenantSockets
 pub mod TenantLimits
 pub mod TenantServing
+pub mod ReplyJournals
+pub mod TenantRecorded
 pub mod Recorded

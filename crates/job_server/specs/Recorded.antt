@@ -1,5 +1,5 @@
--- A server whose desk's changes a journal keeps.
-use Rattle.std.specs.Prelude.{◌≡◌, ℕ, Bool, true, false, List, [], All, Option, Some, None, Result}
+-- A server whose desks' changes journals keep.
+use Rattle.std.specs.Prelude.{◌≡◌, ◌⊎◌, ◌+◌, ℕ, Bool, true, false, List, [], ◌∷◌, All, length, Result}
 use Rattle.credit_book.specs.declared.book.Report.{Report}
 use Rattle.job_core.specs.Admitted.{AdmittedJob}
 use Rattle.accounts.specs.Ledgers.{Ledger}
@@ -10,6 +10,7 @@ use Rattle.desk_recorder.specs.Restarts.{StartsEach}
 use Rattle.desk_recorder.specs.declared.recorder.ChangeRecorder.{ChangeRecorder}
 use Rattle.desk_recorder.specs.declared.recording_handler.RecordingHandler.{RecordingHandler}
 use Rattle.shared_journal.specs.declared.journal_queue.JournalQueue.{JournalQueue}
+use Rattle.shared_journal.specs.declared.shared_journal.SharedJournal.{SharedJournal}
 use Rattle.shared_desk.specs.Histories.{by_any_passage}
 use Rattle.shared_desk.specs.declared.passage.Passage.{Passage}
 use Rattle.sessions.specs.Grammar.{Asked}
@@ -22,7 +23,12 @@ use Rattle.job_server.specs.declared.fault.ServeFault.{ServeFault}
 use Rattle.job_server.specs.declared.tenant_door.TenantDoor.{TenantDoor}
 use Rattle.job_server.specs.AtOnce.{IsServingFrom, Pool, new_desk}
 use Rattle.job_server.specs.Listening.{AreOf, CameBy}
-use Rattle.job_server.specs.TenantServing.{IsServingAt, IsServingBy}
+use Rattle.job_server.specs.TenantServing.{GrantsByNoTenant, IsServingAt, IsServingBy}
+use Rattle.job_server.specs.TenantRecorded.{IsServingTenantsRecorded}
+
+-- no desk has a journal, or each has one: that of everybody else, and that of each of these tenants
+abbrev pub HasJournalEach : {J D : Type 0} → List J → List D → Type 0
+HasJournalEach journals doors = (journals ≡ []) ⊎ (length journals ≡ length doors + 1)
 
 -- the records that a journal's queue has taken, and whether it was told that one is missing
 abbrev pub queue_taken : {R : Type 0} → JournalQueue R → List ℕ
@@ -31,10 +37,14 @@ queue_taken queue = queue.taken.bytes
 abbrev pub queue_told : {R : Type 0} → JournalQueue R → Type 0
 queue_told queue = queue.was_told ≡ true
 
--- the desk that was recovered, with its open jobs; where nothing was, a new desk
-abbrev pub recovered_state : Option DeskState → DeskState
-recovered_state None = record { desk = new_desk; held = [] }
-recovered_state (Some state) = state
+-- the journal to which a queue's records go
+abbrev pub queue_journal : {R : Type 0} → JournalQueue R → SharedJournal
+queue_journal queue = queue.journal.now
+
+-- the one desk that was recovered, with its open jobs; where nothing was, a new desk
+abbrev pub recovered_state : List DeskState → DeskState
+recovered_state [] = record { desk = new_desk; held = [] }
+recovered_state (state ∷ states) = state
 
 -- A server begins here: at a recovered desk, each of whose open jobs was started again, once and in
 -- order. Those that were refused are over. The records of that are the first that its queue takes.
@@ -74,21 +84,30 @@ pub record IsServingRecorded {Q : Type 0} (taken : Q → List ℕ) (failed : Q �
   pub serving : IsServingFrom (by_any_passage (recorded_answers taken failed)) (λ s. s ≡ begun) end
       sessions may_stop outcome
 
--- A server with a journal, or without one.
-abbrev pub IsServingWith : {Q : Type 0} → (Q → List ℕ) → (Q → Type 0) → Bool → Option DeskState
-    → List TenantDoor → Bounds → ℕ → Bool → Result (Unit {0}) ServeFault → Type 0
-IsServingWith taken failed true state doors bounds sessions may_stop outcome =
-    IsServingRecorded taken failed (recovered_state state) bounds sessions may_stop outcome
-IsServingWith taken failed false state doors bounds sessions may_stop outcome =
+-- A server with journals, or without one: of one desk, or of one for each of these doors' tenants.
+abbrev pub IsServingWith : {Q J : Type 0} → (Q → List ℕ) → (Q → Type 0) → (Q → J) → List J
+    → List DeskState → List TenantDoor → Bounds → ℕ → Bool → Result (Unit {0}) ServeFault → Type 0
+IsServingWith taken failed journal_of [] states doors bounds sessions may_stop outcome =
     IsServingBy doors bounds sessions may_stop outcome
+IsServingWith taken failed journal_of (j ∷ js) states [] bounds sessions may_stop outcome =
+    IsServingRecorded taken failed (recovered_state states) bounds sessions may_stop outcome
+IsServingWith taken failed journal_of (j ∷ js) states (d ∷ ds) bounds sessions may_stop outcome =
+    (s : IsServingTenantsRecorded taken failed journal_of (j ∷ js) states (d ∷ ds) bounds sessions
+    may_stop outcome)
+    × All (λ c. GrantsByNoTenant c.passage) s.serving.closed
 
 -- The same, and the connections are this listener's, each by a passage that it gave.
-abbrev pub IsServingWithAt : {L Q : Type 0} → (L → L → Type 0) → (L → L → Type 0) → (L → Passage)
-    → L → (Q → List ℕ) → (Q → Type 0) → Bool → Option DeskState → List TenantDoor → Bounds → ℕ
-    → Bool → Result (Unit {0}) ServeFault → Type 0
-IsServingWithAt opens fails passage_of listener taken failed true state doors bounds sessions may_stop outcome =
-    (s : IsServingRecorded taken failed (recovered_state state) bounds sessions may_stop outcome)
+abbrev pub IsServingWithAt : {L Q J : Type 0} → (L → L → Type 0) → (L → L → Type 0)
+    → (L → Passage) → L → (Q → List ℕ) → (Q → Type 0) → (Q → J) → List J → List DeskState
+    → List TenantDoor → Bounds → ℕ → Bool → Result (Unit {0}) ServeFault → Type 0
+IsServingWithAt opens fails passage_of listener taken failed journal_of [] states doors bounds sessions may_stop outcome =
+    IsServingAt opens fails passage_of listener doors bounds sessions may_stop outcome
+IsServingWithAt opens fails passage_of listener taken failed journal_of (j ∷ js) states [] bounds sessions may_stop outcome =
+    (s : IsServingRecorded taken failed (recovered_state states) bounds sessions may_stop outcome)
     × AreOf opens fails listener s.serving.opened
     × All (λ c. CameBy opens passage_of c.passage) s.serving.closed
-IsServingWithAt opens fails passage_of listener taken failed false state doors bounds sessions may_stop outcome =
-    IsServingAt opens fails passage_of listener doors bounds sessions may_stop outcome
+IsServingWithAt opens fails passage_of listener taken failed journal_of (j ∷ js) states (d ∷ ds) bounds sessions may_stop outcome =
+    (s : IsServingTenantsRecorded taken failed journal_of (j ∷ js) states (d ∷ ds) bounds sessions
+    may_stop outcome)
+    × AreOf opens fails listener s.serving.opened
+    × All (λ c. CameBy opens passage_of c.passage) s.serving.closed

@@ -1,9 +1,9 @@
 -- Servers of which some tenants may have a door, and a desk, of their own.
-use Rattle.std.specs.Prelude.{◌≡◌, ℕ, Bool, false, List, [], ◌∷◌, All, map, string_bytes, Result}
+use Rattle.std.specs.Prelude.{◌≡◌, ℕ, Bool, false, List, [], ◌∷◌, All, map, string_bytes, Option, Result}
 use Rattle.shared_desk.specs.Histories.{Query}
 use Rattle.shared_desk.specs.declared.door.Door.TheVariants.{Tenant}
 use Rattle.shared_desk.specs.declared.passage.Passage.{Passage}
-use Rattle.tenant_desks.specs.Tenancies.{Tenancy, fresh_tenancy}
+use Rattle.tenant_desks.specs.Tenancies.{IsFirstTenancy, Tenancy}
 use Rattle.tenant_desks.specs.Answering.{KeptRunner, tenant_answers}
 use Rattle.job_pools.specs.Holds.{StartsBy, TellsBy, TakesBy}
 use Rattle.job_pools.specs.Started.{pooled_at, pooled_count}
@@ -22,6 +22,10 @@ use Rattle.job_server.specs.Listening.{AreOf, CameBy}
 abbrev pub door_names : List TenantDoor → List (List ℕ)
 door_names doors = map (λ (d : TenantDoor). string_bytes d.name) doors
 
+-- each with the credit that it is granted at first, if it is
+abbrev pub door_credits : List TenantDoor → List (List ℕ × Option ℕ)
+door_credits doors = map (λ (d : TenantDoor). (string_bytes d.name, d.credit)) doors
+
 -- the desks, and a pool within its host's bounds, of all and of each tenant, that runs all jobs
 abbrev pub TenantHosted : Type 0
 TenantHosted = Tenancy × KeptRunner (LineLimitedRunner (LimitedRunner Pool))
@@ -33,32 +37,27 @@ hosted_tenant_answers =
     (looks_by_line (looks_within (TellsBy pooled_at pooled_count)))
     (takes_by_line (takes_within (TakesBy pooled_at pooled_count)))
 
--- a new desk for each of these doors' tenants and one for everybody else, and this runner with no
--- job, within the limits of each
-abbrev pub new_desks : {R : Type 0} → List TenantDoor → Bounds → R
-    → Tenancy × KeptRunner (LineLimitedRunner R)
-new_desks doors bounds runner = (
-  fresh_tenancy (door_names doors),
-  record {
-    runner = new_by_line (door_limits bounds.tenant_jobs doors) runner;
-    keep = bounds.keep;
-  },
-)
+-- a new desk for each of these doors' tenants, with its first credit, and one for everybody else; and
+-- this runner with no job, within the limits of each
+abbrev pub BeginsAtDesks : {R : Type 0} → List TenantDoor → Bounds → R
+    → Tenancy × KeptRunner (LineLimitedRunner R) → Type 0
+BeginsAtDesks doors bounds runner begun =
+    IsFirstTenancy (door_credits doors) begun.0
+    × (begun.1 ≡ record {
+      runner = new_by_line (door_limits bounds.tenant_jobs doors) runner;
+      keep = bounds.keep;
+    })
 
--- the same with a pool within the bounds
-abbrev pub new_tenant_host : List TenantDoor → Bounds → Pool → TenantHosted
-new_tenant_host doors bounds pool =
-    new_desks doors bounds (record { runner = pool; limit = bounds.open_jobs })
-
--- So many connections are served, first on new desks and with no job. Jobs run on a pool that lasts,
--- within the bounds.
+-- So many connections are served, first on new desks, where tenants have their first credit, and with
+-- no job. Jobs run on a pool that lasts, within the bounds.
 pub record IsServingTenants (doors : List TenantDoor) (bounds : Bounds) (sessions : ℕ)
     (may_stop : Bool) (outcome : Result (Unit {0}) ServeFault) : Type 0 where
   pub first : Pool
   pub none : (first.0 ≡ []) × (first.1.entries ≡ [])
+  pub begun : TenantHosted
+  pub begins : BeginsAtDesks doors bounds (record { runner = first; limit = bounds.open_jobs }) begun
   pub end : TenantHosted
-  pub serving : IsServingFrom hosted_tenant_answers (λ s. s ≡ new_tenant_host doors bounds first) end
-      sessions may_stop outcome
+  pub serving : IsServingFrom hosted_tenant_answers (λ s. s ≡ begun) end sessions may_stop outcome
 
 -- what comes by a tenant's own door may not grant
 abbrev pub GrantsByNoTenant : Passage → Type 0

@@ -10,6 +10,7 @@ use crate::fault::ServeFault;
 use crate::listener::Listener;
 use crate::noted_ends::{NotedReader, NotedWriter, ending_of};
 use crate::plan::Plan;
+use crate::reply_journals::journals_behind;
 use crate::shares::{Shares, leave, shares_of};
 use crate::stop_flag::{ended_by, has_failed, raise_if};
 use crate::timed_reader::{TimedReader, Waiting};
@@ -32,8 +33,8 @@ use streams::{StreamFault, Tap};
 /// The fault where there is no memory.
 pub(crate) const NO_MEMORY: ServeFault = ServeFault::Connection(StreamFault::NoMemory);
 
-// Serves a connection that was taken. Gives its two ends, and whether a reply was refused since the
-// journal has failed.
+// Serves a connection that was taken, whose replies rest on these journals. Gives its two ends, and
+// whether a reply was refused since a journal has failed.
 fn answer_connection<'s, R: Wait + Clock, D, H: SharedHandler<D>, J: Origin<D, H>>(
     rt: &'s R,
     alloc: Global,
@@ -43,7 +44,7 @@ fn answer_connection<'s, R: Wait + Clock, D, H: SharedHandler<D>, J: Origin<D, H
     passage: Passage,
     stream: &'s TcpStream,
     waiting: Waiting<'s>,
-    journal: Option<&'s SharedJournal>,
+    journals: &'s [SharedJournal],
     notes: bool,
 ) -> (
     NotedReader<'s, TimedReader<'s, R>>,
@@ -56,7 +57,7 @@ fn answer_connection<'s, R: Wait + Clock, D, H: SharedHandler<D>, J: Origin<D, H
     let timed = TimedReader::new(rt, stream, waiting);
     let mut reader = Tap::new(NotedReader::new(timed, waiting.stop, notes));
     let tap = Tap::new(NotedWriter::new(stream));
-    let mut writer = CommittingSink::new(rt, journal, tap);
+    let mut writer = CommittingSink::new(rt, journals, tap);
     serve_opened(
         rt,
         alloc,
@@ -80,7 +81,7 @@ fn next_connection<R: Wait + Clock, L: Listener + Drop, J: HistoryId + FirstList
     rt: &R,
     history: &SharedHistory<J>,
     entrance: &Mutex<Entrance<'_, L, J>>,
-    journal: Option<&SharedJournal>,
+    journals: &[SharedJournal],
     log: Option<&ServerLog>,
 ) -> Option<(TcpStream, ClientSeat<J>, Passage, u64)>
     ensures fresh { IfSome result (λ taken. taken.1.part ≡ []) }
@@ -89,7 +90,7 @@ fn next_connection<R: Wait + Clock, L: Listener + Drop, J: HistoryId + FirstList
     let mut entrance = entrance.lock(rt);
     let next = entrance.next(rt, history);
     if next.is_none() && entrance.is_first_at_end() {
-        if has_failed(journal) {
+        if has_failed(journals) {
             tell(rt, log, LogEvent::JournalFailed);
         }
         tell(rt, log, LogEvent::Stopping);
@@ -120,19 +121,20 @@ fn take_turns<
     lock: &Mutex<SharedDesk<D, H, J>>,
     waiting: Waiting<'_>,
     shares: Option<&Shares>,
-    journal: Option<&SharedJournal>,
+    journals: &[SharedJournal],
     log: Option<&ServerLog>,
 ) {
     for _ in rt.forever() {
         let Some((stream, seat, passage, connection)) = next_connection(
-            rt, history, entrance, journal, log,
+            rt, history, entrance, journals, log,
         ) else {
             return;
         };
         let begun = tell_opened(rt, log, connection, passage);
         let notes = log.is_some();
+        let own = journals_behind(journals, passage);
         let (reader, writer, is_refused) = answer_connection(
-            rt, alloc, history, lock, seat, passage, &stream, waiting, journal, notes,
+            rt, alloc, history, lock, seat, passage, &stream, waiting, own, notes,
         );
         raise_if(waiting.stop, is_refused);
         leave(shares, passage.door);
@@ -224,7 +226,7 @@ fn serve_named<
         tenants: _,
         stop,
         log,
-        journal,
+        journals,
     } = plan;
     let waiting = Waiting {
         seconds: bounds.timeout,
@@ -232,14 +234,14 @@ fn serve_named<
     };
     let (history, recorder, opener) = new_history.named::<J>();
     let lock = Mutex::new(SharedDesk::new(desk, handler, recorder));
-    let entrance = Mutex::new(Entrance::new(listener, opener, stop, journal, shares, sessions));
+    let entrance = Mutex::new(Entrance::new(listener, opener, stop, journals, shares, sessions));
     let known = &history;
     let door = &entrance;
     let shared = &lock;
     tell(rt, log, LogEvent::Ready);
     let serve = |_: usize| {
         take_turns(
-            rt, alloc, known, door, shared, waiting, shares, journal, log,
+            rt, alloc, known, door, shared, waiting, shares, journals, log,
         )
     };
     let _ = thread::map_indices(rt, alloc, bounds.clients as usize, &serve);

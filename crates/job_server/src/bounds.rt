@@ -3,7 +3,7 @@
 /// What a host bounds of its server.
 #[derive(Clone, Copy, Debug, PartialEq, Eq)]
 pub struct Bounds {
-    /// Connections at once, 1 to 64.
+    /// Connections at once, 1 to 1,024.
     pub clients: u32,
     /// Seconds, 1 to 3600, after which a client is given up that keeps a read or a write waiting, or
     /// a frame. 0: none is.

@@ -33,7 +33,7 @@ pub(crate) struct Entrance<'a, L: Listener, J: HistoryId + FirstListener<L>> {
     listener: L,
     opener: Opener<J>,
     stop: Option<&'a StopFlag>,
-    journal: Option<&'a SharedJournal>,
+    journals: &'a [SharedJournal],
     shares: Option<&'a Shares>,
     left: u64,
     opened: u64,
@@ -58,13 +58,13 @@ impl<'a, L: Listener, J: HistoryId + FirstListener<L>> Model for Entrance<'a, L,
 }
 
 impl<'a, L: Listener + Drop, J: HistoryId + FirstListener<L>> Entrance<'a, L, J> {
-    /// Nothing was taken yet. Where the flag is raised, or the journal has failed, nothing more is
+    /// Nothing was taken yet. Where the flag is raised, or a journal has failed, nothing more is
     /// taken.
     pub fn new(
         listener: L,
         opener: Opener<J>,
         stop: Option<&'a StopFlag>,
-        journal: Option<&'a SharedJournal>,
+        journals: &'a [SharedJournal],
         shares: Option<&'a Shares>,
         sessions: u64,
     ) -> Entrance<'a, L, J>
@@ -77,7 +77,7 @@ impl<'a, L: Listener + Drop, J: HistoryId + FirstListener<L>> Entrance<'a, L, J>
             listener,
             opener,
             stop,
-            journal,
+            journals,
             shares,
             left: sessions.min(u64::MAX - 1),
             opened: 0,
@@ -102,14 +102,14 @@ impl<'a, L: Listener + Drop, J: HistoryId + FirstListener<L>> Entrance<'a, L, J>
         ensures passage { IfSome result (λ taken. J.comes taken.2) }
     {
         'taking: while self.left > 0 {
-            if is_ended(self.stop, self.journal) {
+            if is_ended(self.stop, self.journals) {
                 self.stopped = true;
                 return None;
             }
             self.left -= 1;
             match self.listener.accept() {
                 Ok(stream) => {
-                    if is_ended(self.stop, self.journal) {
+                    if is_ended(self.stop, self.journals) {
                         self.stopped = true;
                         return None;
                     }

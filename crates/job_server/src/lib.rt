@@ -37,11 +37,15 @@ pub use timed_reader::Waiting;
 mod at_once;
 mod entrance;
 mod plan;
+mod reply_journals;
 mod serving;
 mod serving_desks;
+mod serving_pooled;
 mod serving_recorded;
+mod serving_tenants_recorded;
 mod shares;
 mod tenant_door;
+mod tenant_recording;
 
 pub use at_once::serve_at_once;
 pub use plan::Plan;

@@ -1,5 +1,5 @@
 //! A server's plan: its workers and connections, its host's bounds, its tenants, its flag, its log
-//! and its journal.
+//! and its journals.
 
 use crate::bounds::Bounds;
 use crate::stop_flag::StopFlag;
@@ -26,7 +26,9 @@ pub struct Plan<'a> {
     pub stop: Option<&'a StopFlag>,
     /// The log that is told of each connection and each job. Nothing waits for it.
     pub log: Option<&'a ServerLog>,
-    /// The journal of its desk's changes, only where no tenant has a door. A reply goes out once it
-    /// was committed. Once it has failed no reply goes out, and the server ends.
-    pub journal: Option<&'a SharedJournal>,
+    /// The journals of its desks' changes: none, or one for each desk, first that of everybody else,
+    /// and behind it one for each tenant, in order. A reply goes out once the journals were committed
+    /// of the desks that it may tell of: all, or the one behind a door that may not grant. Once one
+    /// has failed no reply goes out that it was to be committed for, and the server ends.
+    pub journals: &'a [SharedJournal],
 }

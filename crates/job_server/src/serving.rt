@@ -1,7 +1,7 @@
 //! A server, whose jobs a pool runs that lasts.
 
-ghost use Rattle.std.specs.Prelude.{◌≡◌, ◌≤◌, ◌⊎◌, [], Err, true, false, is_some, length};
-ghost use Rattle.job_server.specs.Recorded.{IsServingWith, IsServingWithAt, queue_taken, queue_told};
+ghost use Rattle.std.specs.Prelude.{◌≡◌, ◌≤◌, ◌⊎◌, [], Err, is_some, length};
+ghost use Rattle.job_server.specs.Recorded.{HasJournalEach, IsServingWith, IsServingWithAt, queue_journal, queue_taken, queue_told};
 ghost use Rattle.job_server.specs.declared.fault.ServeFault.TheVariants as fault;
 ghost use Rattle.streams.specs.declared.fault.StreamFault.TheVariants as stream;
 
@@ -10,8 +10,7 @@ use crate::at_once::NO_MEMORY;
 use crate::fault::ServeFault;
 use crate::listener::Listener;
 use crate::plan::Plan;
-use crate::serving_desks::{serve_at_desk, serve_at_desks};
-use crate::serving_recorded::serve_recorded;
+use crate::serving_pooled::{serve_journaled, serve_unrecorded};
 use crate::timed_listener::TimedListener;
 use crate::timed_reader::Waiting;
 use desk_journal::JournaledDesk;
@@ -55,16 +54,17 @@ fn serve_on_pool<
     queues: Queues<J>,
     listener: L,
     plan: Plan<'s>,
-    state: Option<JournaledDesk>,
+    states: Vec<JournaledDesk>,
 ) -> Result<(), ServeFault>
     requires keeper { keeper ≡ [] }
     requires workers { (1 ≤ plan.workers) × (plan.workers ≤ 16) }
     requires tenants { length plan.tenants.now ≤ 256 }
-    requires journal { is_some plan.journal ≡ true → plan.tenants.now ≡ [] }
-    requires state { is_some plan.journal ≡ false → is_some state ≡ false }
+    requires journals { HasJournalEach plan.journals.now plan.tenants.now }
+    requires states { length states.items ≡ length plan.journals.now }
     ensures { IsServingWithAt L.opens L.fails L.passage listener (queue_taken {R = R}) (queue_told {R = R})
-        (is_some plan.entry.journal) state plan.entry.tenants.now plan.entry.bounds
-        plan.entry.sessions (is_some plan.entry.stop) result }
+        (queue_journal {R = R}) plan.entry.journals.now states.items plan.entry.tenants.now
+        plan.entry.bounds plan.entry.sessions (is_some plan.entry.stop) result
+        ⊎ (result ≡ Err (fault.Connection stream.NoMemory)) }
 {
     let Queues {
         queue,
@@ -77,20 +77,12 @@ fn serve_on_pool<
     let pool = LastingPool::new(rt, alloc, register, keeper, queue, ended, started > 0);
     let runner = LimitedRunner::new(pool, plan.bounds.open_jobs);
     // the queue is closed behind each, so that the workers end once nothing waits
-    match plan.journal {
-        Some(journal) => {
-            let served = serve_recorded(rt, alloc, listener, runner, plan, journal, state);
-            closer.close(rt);
-            return served;
-        }
-        None => {}
-    }
-    if plan.tenants.is_empty() {
-        let served = serve_at_desk(rt, alloc, listener, runner, plan);
+    if plan.journals.is_empty() {
+        let served = serve_unrecorded(rt, alloc, listener, runner, plan);
         closer.close(rt);
         return served;
     }
-    let served = serve_at_desks(rt, alloc, listener, runner, plan);
+    let served = serve_journaled(rt, alloc, listener, runner, plan, states);
     closer.close(rt);
     served
 }
@@ -108,16 +100,17 @@ fn serve_in_scope<
     queues: Queues<J>,
     listener: L,
     plan: Plan<'_>,
-    state: Option<JournaledDesk>,
+    states: Vec<JournaledDesk>,
 ) -> Result<(), ServeFault>
     requires keeper { keeper ≡ [] }
     requires workers { (1 ≤ plan.workers) × (plan.workers ≤ 16) }
     requires tenants { length plan.tenants.now ≤ 256 }
-    requires journal { is_some plan.journal ≡ true → plan.tenants.now ≡ [] }
-    requires state { is_some plan.journal ≡ false → is_some state ≡ false }
+    requires journals { HasJournalEach plan.journals.now plan.tenants.now }
+    requires states { length states.items ≡ length plan.journals.now }
     ensures { IsServingWithAt L.opens L.fails L.passage listener (queue_taken {R = R}) (queue_told {R = R})
-        (is_some plan.entry.journal) state plan.entry.tenants.now plan.entry.bounds
-        plan.entry.sessions (is_some plan.entry.stop) result }
+        (queue_journal {R = R}) plan.entry.journals.now states.items plan.entry.tenants.now
+        plan.entry.bounds plan.entry.sessions (is_some plan.entry.stop) result
+        ⊎ (result ≡ Err (fault.Connection stream.NoMemory)) }
 {
     let Plan {
         workers,
@@ -126,18 +119,18 @@ fn serve_in_scope<
         tenants,
         stop,
         log,
-        journal,
+        journals,
     } = plan;
     thread::scope(
         thread::scope_env(),
         rt,
         |scope| -> Result<(), ServeFault>
             requires { (1 ≤ workers) × (workers ≤ 16) × (keeper ≡ []) × (length tenants.now ≤ 256)
-                × (is_some journal ≡ true → tenants.now ≡ [])
-                × (is_some journal ≡ false → is_some state ≡ false) }
+                × HasJournalEach journals.now tenants.now
+                × (length states.items ≡ length journals.now) }
             ensures { IsServingWithAt L.opens L.fails L.passage listener (queue_taken {R = R}) (queue_told {R = R})
-                (is_some journal.entry) state tenants.entry.now bounds sessions
-                (is_some stop.entry) result }
+                (queue_journal {R = R}) journals.entry.now states.items tenants.entry.now bounds sessions
+                (is_some stop.entry) result ⊎ (result ≡ Err (fault.Connection stream.NoMemory)) }
         {
             let plan = Plan {
                 workers,
@@ -146,10 +139,10 @@ fn serve_in_scope<
                 tenants,
                 stop,
                 log,
-                journal,
+                journals,
             };
             serve_on_pool(
-                rt, scope, alloc, register, keeper, queues, listener, plan, state,
+                rt, scope, alloc, register, keeper, queues, listener, plan, states,
             )
         },
     )
@@ -167,17 +160,17 @@ fn serve_registered<
     new_history: NewQueueHistory,
     listener: L,
     plan: Plan<'_>,
-    state: Option<JournaledDesk>,
+    states: Vec<JournaledDesk>,
 ) -> Result<(), ServeFault>
     requires named { new_register ≡ J.table }
     requires named_turns { new_history ≡ J.turns }
     requires workers { (1 ≤ plan.workers) × (plan.workers ≤ 16) }
     requires tenants { length plan.tenants.now ≤ 256 }
-    requires journal { is_some plan.journal ≡ true → plan.tenants.now ≡ [] }
-    requires state { is_some plan.journal ≡ false → is_some state ≡ false }
+    requires journals { HasJournalEach plan.journals.now plan.tenants.now }
+    requires states { length states.items ≡ length plan.journals.now }
     ensures { IsServingWithAt L.opens L.fails L.passage listener (queue_taken {R = R}) (queue_told {R = R})
-        (is_some plan.entry.journal) state plan.entry.tenants.now plan.entry.bounds
-        plan.entry.sessions (is_some plan.entry.stop) result
+        (queue_journal {R = R}) plan.entry.journals.now states.items plan.entry.tenants.now
+        plan.entry.bounds plan.entry.sessions (is_some plan.entry.stop) result
         ⊎ (result ≡ Err (fault.Connection stream.NoMemory)) }
 {
     let (register, keeper) = new_register.named::<J>();
@@ -198,7 +191,7 @@ fn serve_registered<
         endings,
         closer,
     };
-    serve_in_scope(rt, alloc, &register, keeper, queues, listener, plan, state)
+    serve_in_scope(rt, alloc, &register, keeper, queues, listener, plan, states)
 }
 
 /// Serves so many connections of the listener as the plan says, in as many threads at once as its
@@ -211,9 +204,9 @@ fn serve_registered<
 /// the last jobs are forgotten, as many as the bounds keep. A connection whose reads wait longer than
 /// they allow, between frames or within one, is given up by 83.
 ///
-/// Where the plan has a journal, its desk is the one that was recovered, if one was, and that desk's
-/// open jobs are started again first, once each. A refused start ends its job by the refusal's
-/// number. The journal takes the record of each change.
+/// Where the plan has journals, its desks are the ones that were recovered, and each desk's open jobs
+/// are started again first, once each and in order. A refused start ends its job by the refusal's
+/// number. Each desk's journal takes the record of each change of the desk.
 ///
 /// A connection that could not be taken, or that was given up by 83, 84 or 99, counts as served.
 /// Such a fault is answered at the end, as is 99 where there is no memory to begin with.
@@ -222,15 +215,15 @@ pub fn serve_listener<R: Threads + Wait + Clock + Sync, L: Listener + Send + Dro
     alloc: Global,
     listener: L,
     plan: Plan<'_>,
-    state: Option<JournaledDesk>,
+    states: Vec<JournaledDesk>,
 ) -> Result<(), ServeFault>
     requires workers { (1 ≤ plan.workers) × (plan.workers ≤ 16) }
     requires tenants { length plan.tenants.now ≤ 256 }
-    requires journal { is_some plan.journal ≡ true → plan.tenants.now ≡ [] }
-    requires state { is_some plan.journal ≡ false → is_some state ≡ false }
+    requires journals { HasJournalEach plan.journals.now plan.tenants.now }
+    requires states { length states.items ≡ length plan.journals.now }
     ensures { IsServingWithAt L.opens L.fails L.passage listener (queue_taken {R = R}) (queue_told {R = R})
-        (is_some plan.entry.journal) state plan.entry.tenants.now plan.entry.bounds
-        plan.entry.sessions (is_some plan.entry.stop) result
+        (queue_journal {R = R}) plan.entry.journals.now states.items plan.entry.tenants.now
+        plan.entry.bounds plan.entry.sessions (is_some plan.entry.stop) result
         ⊎ (result ≡ Err (fault.Connection stream.NoMemory)) }
 {
     let Ok(new_register) = NewRegister::new(alloc) else {
@@ -239,7 +232,7 @@ pub fn serve_listener<R: Threads + Wait + Clock + Sync, L: Listener + Send + Dro
     let Ok(new_history) = NewQueueHistory::new(alloc) else {
         return Err(NO_MEMORY);
     };
-    serve_registered::<R, L, Brand>(rt, alloc, new_register, new_history, listener, plan, state)
+    serve_registered::<R, L, Brand>(rt, alloc, new_register, new_history, listener, plan, states)
 }
 
 /// Listens on this port of 127.0.0.1, and serves as [`serve_listener`] does. A write that takes as
@@ -252,19 +245,20 @@ pub fn serve_port<
     alloc: Global,
     port: u16,
     plan: Plan<'_>,
-    state: Option<JournaledDesk>,
+    states: Vec<JournaledDesk>,
 ) -> Result<(), ServeFault>
     requires workers { (1 ≤ plan.workers) × (plan.workers ≤ 16) }
     requires tenants { length plan.tenants.now ≤ 256 }
-    requires journal { is_some plan.journal ≡ true → plan.tenants.now ≡ [] }
-    requires state { is_some plan.journal ≡ false → is_some state ≡ false }
-    ensures { IsServingWith (queue_taken {R = R}) (queue_told {R = R}) (is_some plan.entry.journal) state
-        plan.entry.tenants.now plan.entry.bounds plan.entry.sessions (is_some plan.entry.stop) result
+    requires journals { HasJournalEach plan.journals.now plan.tenants.now }
+    requires states { length states.items ≡ length plan.journals.now }
+    ensures { IsServingWith (queue_taken {R = R}) (queue_told {R = R}) (queue_journal {R = R})
+        plan.entry.journals.now states.items plan.entry.tenants.now plan.entry.bounds plan.entry.sessions
+        (is_some plan.entry.stop) result
         ⊎ (result ≡ Err (fault.Connection stream.NoMemory)) ⊎ (result ≡ Err fault.Socket) }
 {
     let Ok(listener) = TcpListener::bind(rt, address_of(port)) else {
         return Err(ServeFault::Socket);
     };
     let timed = TimedListener::new(&listener, plan.bounds.timeout);
-    serve_listener(rt, alloc, timed, plan, state)
+    serve_listener(rt, alloc, timed, plan, states)
 }

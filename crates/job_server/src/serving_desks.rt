@@ -11,7 +11,7 @@ ghost use Rattle.job_server.specs.Listening.{AreOf, CameBy};
 ghost use Rattle.job_pools.specs.LineBounded.{looks_by_line, new_by_line, starts_by_line, takes_by_line};
 ghost use Rattle.job_pools.specs.declared.line_limited_runner.LineLimitedRunner.{LineLimitedRunner};
 ghost use Rattle.job_server.specs.TenantLimits.{door_limits};
-ghost use Rattle.job_server.specs.TenantServing.{new_desks};
+ghost use Rattle.job_server.specs.TenantServing.{BeginsAtDesks};
 ghost use Rattle.job_server.specs.declared.keeping_handler.KeepingHandler.{KeepingHandler};
 
 use crate::at_once::{NO_MEMORY, serve_at_once};
@@ -19,7 +19,7 @@ use crate::fault::ServeFault;
 use crate::keeping_handler::KeepingHandler;
 use crate::listener::Listener;
 use crate::plan::Plan;
-use crate::tenant_door::{TenantDoor, limits_of, names_of};
+use crate::tenant_door::{TenantDoor, credits_of, limits_of};
 use accounts::Desk;
 use job_pools::LineLimitedRunner;
 use refusal::NoMemory;
@@ -53,8 +53,8 @@ pub(crate) fn serve_at_desk<
     served.2
 }
 
-// The runner, which holds as many jobs of each desk as its limit allows.
-fn limited_by_door<N: Runner + Drop>(
+/// The runner, which holds as many jobs of each desk as its limit allows.
+pub(crate) fn limited_by_door<N: Runner + Drop>(
     alloc: Global,
     runner: N,
     all: u32,
@@ -66,8 +66,8 @@ fn limited_by_door<N: Runner + Drop>(
     LineLimitedRunner::new(alloc, runner, limits)
 }
 
-/// Serves the connections at new desks: one for each of the plan's tenants, and one for everybody
-/// else. The runner runs the jobs of all, as many of each desk as its limit allows.
+/// Serves the connections at new desks: one for each of the plan's tenants, with the credit that it is
+/// granted at first, and one for everybody else. The runner runs the jobs of all, as many of each desk as its limit allows.
 pub(crate) fn serve_at_desks<
     's,
     R: Threads + Wait + Clock + Sync,
@@ -76,18 +76,19 @@ pub(crate) fn serve_at_desks<
 >(rt: &'s R, alloc: Global, listener: L, runner: N, plan: Plan<'s>) -> Result<(), ServeFault>
     requires ready { N.ready runner }
     requires tenants { length plan.tenants.now ≤ 256 }
-    ensures { (end : Tenancy × KeptRunner (LineLimitedRunner N))
+    ensures { (begun : Tenancy × KeptRunner (LineLimitedRunner N))
+        × (end : Tenancy × KeptRunner (LineLimitedRunner N))
+        × BeginsAtDesks plan.entry.tenants.now plan.entry.bounds runner begun
         × (s : IsServingFrom (tenant_answers (starts_by_line N.starts) (looks_by_line N.looks)
-        (takes_by_line N.takes))
-        (λ s. s ≡ new_desks plan.entry.tenants.now plan.entry.bounds runner) end
+        (takes_by_line N.takes)) (λ s. s ≡ begun) end
         plan.entry.sessions (is_some plan.entry.stop) result)
         × AreOf L.opens L.fails listener s.opened
         × All (λ c. CameBy L.opens L.passage c.passage) s.closed }
 {
-    let Ok(names) = names_of(alloc, plan.tenants) else {
+    let Ok(tenants) = credits_of(alloc, plan.tenants) else {
         return Err(NO_MEMORY);
     };
-    let Ok(desks) = TenantDesks::new(alloc, &names) else {
+    let Ok(desks) = TenantDesks::first(alloc, &tenants) else {
         return Err(NO_MEMORY);
     };
     let Ok(limited) = limited_by_door(alloc, runner, plan.bounds.tenant_jobs, plan.tenants) else {

@@ -1,7 +1,7 @@
 //! A server by sockets in the file system, some of them of one tenant each.
 
-ghost use Rattle.std.specs.Prelude.{◌≡◌, ◌≤◌, ◌+◌, ◌⊎◌, [], Err, true, false, is_some, length, vec_len};
-ghost use Rattle.job_server.specs.Recorded.{IsServingWith, queue_taken, queue_told};
+ghost use Rattle.std.specs.Prelude.{◌≡◌, ◌≤◌, ◌+◌, ◌⊎◌, [], Err, is_some, length, vec_len};
+ghost use Rattle.job_server.specs.Recorded.{HasJournalEach, IsServingWith, queue_journal, queue_taken, queue_told};
 ghost use Rattle.job_server.specs.declared.fault.ServeFault.TheVariants as fault;
 ghost use Rattle.streams.specs.declared.fault.StreamFault.TheVariants as stream;
 
@@ -61,14 +61,15 @@ fn serve_tenants<R: Net + Files + Threads + Wait + Clock + Sync>(
     all: UnixListener,
     grants: Option<UnixListener>,
     plan: Plan<'_>,
-    state: Option<JournaledDesk>,
+    states: Vec<JournaledDesk>,
 ) -> Result<(), ServeFault>
     requires workers { (1 ≤ plan.workers) × (plan.workers ≤ 16) }
     requires tenants { length plan.tenants.now ≤ 256 }
-    requires journal { is_some plan.journal ≡ true → plan.tenants.now ≡ [] }
-    requires state { is_some plan.journal ≡ false → is_some state ≡ false }
-    ensures { IsServingWith (queue_taken {R = R}) (queue_told {R = R}) (is_some plan.entry.journal) state
-        plan.entry.tenants.now plan.entry.bounds plan.entry.sessions (is_some plan.entry.stop) result
+    requires journals { HasJournalEach plan.journals.now plan.tenants.now }
+    requires states { length states.items ≡ length plan.journals.now }
+    ensures { IsServingWith (queue_taken {R = R}) (queue_told {R = R}) (queue_journal {R = R})
+        plan.entry.journals.now states.items plan.entry.tenants.now plan.entry.bounds plan.entry.sessions
+        (is_some plan.entry.stop) result
         ⊎ (result ≡ Err (fault.Connection stream.NoMemory)) ⊎ (result ≡ Err fault.Socket) }
 {
     let Ok(mut listener) = TenantsListener::new(rt, alloc, all, grants) else {
@@ -78,7 +79,7 @@ fn serve_tenants<R: Net + Files + Threads + Wait + Clock + Sync>(
     let count = listen_at_doors(rt, &mut listener, doors);
     let served = if count == doors.len() {
         let timed = TimedListener::new(listener, plan.bounds.timeout);
-        serve_listener(rt, alloc, timed, plan, state)
+        serve_listener(rt, alloc, timed, plan, states)
     } else {
         Err(ServeFault::Socket)
     };
@@ -93,23 +94,24 @@ fn serve_beside<R: Net + Files + Threads + Wait + Clock + Sync>(
     all: UnixListener,
     grants: Option<&str>,
     plan: Plan<'_>,
-    state: Option<JournaledDesk>,
+    states: Vec<JournaledDesk>,
 ) -> Result<(), ServeFault>
     requires workers { (1 ≤ plan.workers) × (plan.workers ≤ 16) }
     requires tenants { length plan.tenants.now ≤ 256 }
-    requires journal { is_some plan.journal ≡ true → plan.tenants.now ≡ [] }
-    requires state { is_some plan.journal ≡ false → is_some state ≡ false }
-    ensures { IsServingWith (queue_taken {R = R}) (queue_told {R = R}) (is_some plan.entry.journal) state
-        plan.entry.tenants.now plan.entry.bounds plan.entry.sessions (is_some plan.entry.stop) result
+    requires journals { HasJournalEach plan.journals.now plan.tenants.now }
+    requires states { length states.items ≡ length plan.journals.now }
+    ensures { IsServingWith (queue_taken {R = R}) (queue_told {R = R}) (queue_journal {R = R})
+        plan.entry.journals.now states.items plan.entry.tenants.now plan.entry.bounds plan.entry.sessions
+        (is_some plan.entry.stop) result
         ⊎ (result ≡ Err (fault.Connection stream.NoMemory)) ⊎ (result ≡ Err fault.Socket) }
 {
     let Some(path) = grants else {
-        return serve_tenants(rt, alloc, all, None, plan, state);
+        return serve_tenants(rt, alloc, all, None, plan, states);
     };
     let Ok(granting) = listen_at(rt, path) else {
         return Err(ServeFault::Socket);
     };
-    let served = serve_tenants(rt, alloc, all, Some(granting), plan, state);
+    let served = serve_tenants(rt, alloc, all, Some(granting), plan, states);
     let _ = fs::remove_file(rt, path);
     served
 }
@@ -121,20 +123,21 @@ pub(crate) fn serve_doors<R: Net + Files + Threads + Wait + Clock + Sync>(
     socket: &str,
     grants: Option<&str>,
     plan: Plan<'_>,
-    state: Option<JournaledDesk>,
+    states: Vec<JournaledDesk>,
 ) -> Result<(), ServeFault>
     requires workers { (1 ≤ plan.workers) × (plan.workers ≤ 16) }
     requires tenants { length plan.tenants.now ≤ 256 }
-    requires journal { is_some plan.journal ≡ true → plan.tenants.now ≡ [] }
-    requires state { is_some plan.journal ≡ false → is_some state ≡ false }
-    ensures { IsServingWith (queue_taken {R = R}) (queue_told {R = R}) (is_some plan.entry.journal) state
-        plan.entry.tenants.now plan.entry.bounds plan.entry.sessions (is_some plan.entry.stop) result
+    requires journals { HasJournalEach plan.journals.now plan.tenants.now }
+    requires states { length states.items ≡ length plan.journals.now }
+    ensures { IsServingWith (queue_taken {R = R}) (queue_told {R = R}) (queue_journal {R = R})
+        plan.entry.journals.now states.items plan.entry.tenants.now plan.entry.bounds plan.entry.sessions
+        (is_some plan.entry.stop) result
         ⊎ (result ≡ Err (fault.Connection stream.NoMemory)) ⊎ (result ≡ Err fault.Socket) }
 {
     let Ok(all) = listen_at(rt, socket) else {
         return Err(ServeFault::Socket);
     };
-    let served = serve_beside(rt, alloc, all, grants, plan, state);
+    let served = serve_beside(rt, alloc, all, grants, plan, states);
     let _ = fs::remove_file(rt, socket);
     served
 }

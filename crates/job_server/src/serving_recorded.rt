@@ -1,6 +1,6 @@
 //! A server's one desk whose changes a journal keeps.
 
-ghost use Rattle.std.specs.Prelude.{◌≡◌, All, is_some};
+ghost use Rattle.std.specs.Prelude.{◌≡◌, All, is_some, length};
 ghost use Rattle.accounts.specs.Ledgers.{Ledger};
 ghost use Rattle.desk_recorder.specs.RecordedAnswers.{answers_recorded};
 ghost use Rattle.desk_recorder.specs.declared.recording_handler.RecordingHandler.{RecordingHandler};
@@ -18,26 +18,28 @@ use accounts::Desk;
 use desk_journal::{JournaledDesk, OpenJob};
 use desk_recorder::RecordingHandler;
 use server_log::LoggedHandler;
-use shared_journal::{JournalQueue, SharedJournal};
+use shared_journal::JournalQueue;
 use std::alloc::Global;
 use std::sync::Wait;
 use std::thread::Threads;
 use std::time::Clock;
 use streams::Runner;
 
-// The desk that was recovered, and its open jobs; where nothing was, a new desk.
-fn parts_of(alloc: Global, state: Option<JournaledDesk>) -> (Desk, Vec<OpenJob>)
-    ensures { (result.0 ≡ (recovered_state state).desk)
-        × (result.1.items ≡ (recovered_state state).held) }
+// The one desk that was recovered, and its open jobs.
+fn parts_of(alloc: Global, states: Vec<JournaledDesk>) -> (Desk, Vec<OpenJob>)
+    requires { length states.items ≡ 1 }
+    ensures { (result.0 ≡ (recovered_state states.items).desk)
+        × (result.1.items ≡ (recovered_state states.items).held) }
 {
-    match state {
+    let mut states = states;
+    match states.pop() {
         Some(state) => state.into_parts(),
         None => (Desk::new(alloc), Vec::new(alloc)),
     }
 }
 
 /// Serves the connections at a recovered desk, whose jobs this runner runs. First its open jobs are
-/// started again. The journal takes the record of each change.
+/// started again. The plan's one journal takes the record of each change.
 pub(crate) fn serve_recorded<
     's,
     R: Threads + Wait + Clock + Sync,
@@ -49,21 +51,22 @@ pub(crate) fn serve_recorded<
     listener: L,
     runner: N,
     plan: Plan<'s>,
-    journal: &'s SharedJournal,
-    state: Option<JournaledDesk>,
+    states: Vec<JournaledDesk>,
 ) -> Result<(), ServeFault>
-    requires { N.ready runner }
+    requires ready { N.ready runner }
+    requires journal { length plan.journals.now ≡ 1 }
+    requires state { length states.items ≡ 1 }
     ensures { (begun : Ledger × RecordingHandler N (JournalQueue R))
         × (end : Ledger × RecordingHandler N (JournalQueue R))
-        × IsRestarted N.starts queue_taken queue_told (recovered_state state) runner
+        × IsRestarted N.starts queue_taken queue_told (recovered_state states.items) runner
         plan.entry.bounds.keep begun
         × (s : IsServingFrom (by_any_passage (answers_recorded N.starts N.looks N.takes queue_taken
         queue_told)) (λ s. s ≡ begun) end plan.entry.sessions (is_some plan.entry.stop) result)
         × AreOf L.opens L.fails listener s.opened
         × All (λ c. CameBy L.opens L.passage c.passage) s.closed }
 {
-    let (mut desk, jobs) = parts_of(alloc, state);
-    let queue = JournalQueue::new(rt, journal);
+    let (mut desk, jobs) = parts_of(alloc, states);
+    let queue = JournalQueue::new(rt, &plan.journals[0]);
     let mut recording = RecordingHandler::new(runner, plan.bounds.keep, queue);
     recording.restart(alloc, &mut desk, jobs);
     let handler = LoggedHandler::new(rt, plan.log, recording);

@@ -1,7 +1,7 @@
 //! A server by sockets in the file system.
 
-ghost use Rattle.std.specs.Prelude.{◌≡◌, ◌≤◌, ◌⊎◌, [], Err, true, false, is_some, length};
-ghost use Rattle.job_server.specs.Recorded.{IsServingWith, queue_taken, queue_told};
+ghost use Rattle.std.specs.Prelude.{◌≡◌, ◌≤◌, ◌⊎◌, [], Err, is_some, length};
+ghost use Rattle.job_server.specs.Recorded.{HasJournalEach, IsServingWith, queue_journal, queue_taken, queue_told};
 ghost use Rattle.job_server.specs.declared.fault.ServeFault.TheVariants as fault;
 ghost use Rattle.streams.specs.declared.fault.StreamFault.TheVariants as stream;
 
@@ -26,20 +26,22 @@ fn serve_one<R: Net + Files + Threads + Wait + Clock + Sync>(
     alloc: Global,
     socket: &str,
     plan: Plan<'_>,
-    state: Option<JournaledDesk>,
+    states: Vec<JournaledDesk>,
 ) -> Result<(), ServeFault>
     requires workers { (1 ≤ plan.workers) × (plan.workers ≤ 16) }
     requires tenants { plan.tenants.now ≡ [] }
-    requires state { is_some plan.journal ≡ false → is_some state ≡ false }
-    ensures { IsServingWith (queue_taken {R = R}) (queue_told {R = R}) (is_some plan.entry.journal) state
-        plan.entry.tenants.now plan.entry.bounds plan.entry.sessions (is_some plan.entry.stop) result
+    requires journals { HasJournalEach plan.journals.now plan.tenants.now }
+    requires states { length states.items ≡ length plan.journals.now }
+    ensures { IsServingWith (queue_taken {R = R}) (queue_told {R = R}) (queue_journal {R = R})
+        plan.entry.journals.now states.items plan.entry.tenants.now plan.entry.bounds plan.entry.sessions
+        (is_some plan.entry.stop) result
         ⊎ (result ≡ Err (fault.Connection stream.NoMemory)) ⊎ (result ≡ Err fault.Socket) }
 {
     let Ok(all) = listen_at(rt, socket) else {
         return Err(ServeFault::Socket);
     };
     let one = TimedListener::new(LocalListener::new(all), plan.bounds.timeout);
-    let served = serve_listener(rt, alloc, one, plan, state);
+    let served = serve_listener(rt, alloc, one, plan, states);
     let _ = fs::remove_file(rt, socket);
     served
 }
@@ -51,13 +53,15 @@ fn serve_two<R: Net + Files + Threads + Wait + Clock + Sync>(
     socket: &str,
     grants: &str,
     plan: Plan<'_>,
-    state: Option<JournaledDesk>,
+    states: Vec<JournaledDesk>,
 ) -> Result<(), ServeFault>
     requires workers { (1 ≤ plan.workers) × (plan.workers ≤ 16) }
     requires tenants { plan.tenants.now ≡ [] }
-    requires state { is_some plan.journal ≡ false → is_some state ≡ false }
-    ensures { IsServingWith (queue_taken {R = R}) (queue_told {R = R}) (is_some plan.entry.journal) state
-        plan.entry.tenants.now plan.entry.bounds plan.entry.sessions (is_some plan.entry.stop) result
+    requires journals { HasJournalEach plan.journals.now plan.tenants.now }
+    requires states { length states.items ≡ length plan.journals.now }
+    ensures { IsServingWith (queue_taken {R = R}) (queue_told {R = R}) (queue_journal {R = R})
+        plan.entry.journals.now states.items plan.entry.tenants.now plan.entry.bounds plan.entry.sessions
+        (is_some plan.entry.stop) result
         ⊎ (result ≡ Err (fault.Connection stream.NoMemory)) ⊎ (result ≡ Err fault.Socket) }
 {
     let Ok(all) = listen_at(rt, socket) else {
@@ -70,7 +74,7 @@ fn serve_two<R: Net + Files + Threads + Wait + Clock + Sync>(
     let served = match GrantsListener::new(rt, alloc, all, granting) {
         Ok(both) => {
             let two = TimedListener::new(both, plan.bounds.timeout);
-            serve_listener(rt, alloc, two, plan, state)
+            serve_listener(rt, alloc, two, plan, states)
         }
         Err(_) => Err(ServeFault::Socket),
     };
@@ -91,21 +95,22 @@ pub fn serve_sockets<R: Net + Files + Threads + Wait + Clock + Sync>(
     socket: &str,
     grants: Option<&str>,
     plan: Plan<'_>,
-    state: Option<JournaledDesk>,
+    states: Vec<JournaledDesk>,
 ) -> Result<(), ServeFault>
     requires workers { (1 ≤ plan.workers) × (plan.workers ≤ 16) }
     requires tenants { length plan.tenants.now ≤ 256 }
-    requires journal { is_some plan.journal ≡ true → plan.tenants.now ≡ [] }
-    requires state { is_some plan.journal ≡ false → is_some state ≡ false }
-    ensures { IsServingWith (queue_taken {R = R}) (queue_told {R = R}) (is_some plan.entry.journal) state
-        plan.entry.tenants.now plan.entry.bounds plan.entry.sessions (is_some plan.entry.stop) result
+    requires journals { HasJournalEach plan.journals.now plan.tenants.now }
+    requires states { length states.items ≡ length plan.journals.now }
+    ensures { IsServingWith (queue_taken {R = R}) (queue_told {R = R}) (queue_journal {R = R})
+        plan.entry.journals.now states.items plan.entry.tenants.now plan.entry.bounds plan.entry.sessions
+        (is_some plan.entry.stop) result
         ⊎ (result ≡ Err (fault.Connection stream.NoMemory)) ⊎ (result ≡ Err fault.Socket) }
 {
     if !plan.tenants.is_empty() {
-        return serve_doors(rt, alloc, socket, grants, plan, state);
+        return serve_doors(rt, alloc, socket, grants, plan, states);
     }
     match grants {
-        Some(grants) => serve_two(rt, alloc, socket, grants, plan, state),
-        None => serve_one(rt, alloc, socket, plan, state),
+        Some(grants) => serve_two(rt, alloc, socket, grants, plan, states),
+        None => serve_one(rt, alloc, socket, plan, states),
     }
 }

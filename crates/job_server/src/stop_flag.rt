@@ -41,17 +41,19 @@ pub(crate) fn is_stopped(stop: Option<&StopFlag>) -> bool
     }
 }
 
-/// Whether there is a journal that has failed.
-pub(crate) fn has_failed(journal: Option<&SharedJournal>) -> bool {
-    match journal {
-        Some(journal) => journal.has_failed(),
-        None => false,
+/// Whether one of the journals has failed.
+pub(crate) fn has_failed(journals: &[SharedJournal]) -> bool {
+    for journal in journals {
+        if journal.has_failed() {
+            return true;
+        }
     }
+    false
 }
 
 /// Whether no further connection is to be taken: a flag was raised, or a journal has failed.
-pub(crate) fn is_ended(stop: Option<&StopFlag>, journal: Option<&SharedJournal>) -> bool {
-    has_failed(journal) || is_stopped(stop)
+pub(crate) fn is_ended(stop: Option<&StopFlag>, journals: &[SharedJournal]) -> bool {
+    has_failed(journals) || is_stopped(stop)
 }
 
 /// Raises a flag, if there is one, where a reply was refused since a journal has failed.

@@ -2,6 +2,7 @@
 
 ghost use Rattle.std.specs.Prelude.{◌≡◌, IfOk, map, string_bytes};
 ghost use Rattle.job_server.specs.TenantLimits.{door_limits};
+ghost use Rattle.job_server.specs.TenantServing.{door_credits};
 
 use job_pools::LineLimits;
 use refusal::NoMemory;
@@ -16,6 +17,9 @@ pub struct TenantDoor {
     pub path: String,
     /// Jobs that it may have open at once, in place of what the bounds say. 0: any number.
     pub open_jobs: Option<u32>,
+    /// Credit that it is granted at first. (Where a plan has journals, it begins with what these lead
+    /// to.)
+    pub credit: Option<u32>,
 }
 
 /// The tenants' names, in order.
@@ -33,6 +37,26 @@ pub(crate) fn names_of(alloc: Global, doors: &[TenantDoor]) -> Result<Vec<String
         };
     }
     Ok(names)
+}
+
+/// The tenants' names, in order, each with the credit that it is granted at first.
+pub(crate) fn credits_of(
+    alloc: Global,
+    doors: &[TenantDoor],
+) -> Result<Vec<(String, Option<u32>)>, NoMemory>
+    ensures { IfOk result (λ tenants. map (λ x. (string_bytes x.0, x.1)) tenants.items
+        ≡ door_credits doors.now) }
+{
+    let mut tenants = Vec::new(alloc);
+    for door in doors {
+        let Ok(name) = String::from_str(alloc, &door.name) else {
+            return Err(NoMemory);
+        };
+        let Ok(()) = tenants.push((name, door.credit)) else {
+            return Err(NoMemory);
+        };
+    }
+    Ok(tenants)
 }
 
 /// The limits of open jobs: one for all desks, and that of each tenant that has its own. The desk of

@@ -1,19 +1,21 @@
-//! A sink whose bytes go out behind a commit.
+//! A sink whose bytes go out behind commits.
 
 ghost use Rattle.std.specs.Prelude.{◌≡◌, ◌≤◌, ◌<◌, ◌++◌, true, false, if◌then◌else◌, length, take, is_err, IfOk, OnErr, OnOk};
 ghost use Rattle.std.specs.Io.KnownBytes.{WriteAppends};
+ghost use Rattle.shared_journal.specs.Commits.{AreCommitted};
 
 use crate::group_journal::GroupJournal;
 use crate::shared_journal::SharedJournal;
+use journal::LogFault;
 use std::sync::Wait;
 use streams::{Failed, Sink};
 
-/// Writes to a sink, each piece behind a commit of the journal, if there is one. Where a commit
-/// fails nothing is written, and the write fails.
+/// Writes to a sink, each piece behind a commit of each of the journals, in order. Where a commit
+/// fails nothing is written, and the write fails. Without journals it writes as the sink does.
 #[derive(Drop)]
 pub struct CommittingSink<'a, R, W> {
     rt: &'a R,
-    journal: Option<&'a SharedJournal>,
+    journals: &'a [SharedJournal],
     sink: W,
     is_refused: bool,
 }
@@ -22,12 +24,12 @@ impl<'a, R, W: Drop> CommittingSink<'a, R, W> {
     ghost use Rattle.std.specs.Prelude.{◌≡◌, false};
 
     /// A sink to which nothing was refused.
-    pub fn new(rt: &'a R, journal: Option<&'a SharedJournal>, sink: W) -> CommittingSink<'a, R, W>
+    pub fn new(rt: &'a R, journals: &'a [SharedJournal], sink: W) -> CommittingSink<'a, R, W>
         ensures { (result.sink ≡ sink) × (result.is_refused ≡ false) }
     {
         CommittingSink {
             rt,
-            journal,
+            journals,
             sink,
             is_refused: false,
         }
@@ -47,17 +49,29 @@ impl<'a, R, W: Drop> CommittingSink<'a, R, W> {
     }
 }
 
-// Commits, and then writes the piece. Where the commit fails, nothing is written.
+// Commits each journal, in order, up to the first whose commit fails.
+fn commit_each<R: Wait, J: GroupJournal>(rt: &R, journals: &[J]) -> Result<(), LogFault>
+    ensures { OnOk result (AreCommitted J.committed journals.now) }
+{
+    let mut rest = journals;
+    'journals: while let Some((first, others)) = rest.split_first() {
+        first.commit_all(rt)?;
+        rest = others;
+    }
+    Ok(())
+}
+
+// Commits each journal, and then writes the piece. Where a commit fails, nothing is written.
 fn write_behind<R: Wait, J: GroupJournal, W: Sink>(
     rt: &R,
-    journal: &J,
+    journals: &[J],
     sink: &mut W,
     piece: &[u8],
     is_refused: &mut bool,
 ) -> Result<usize, Failed>
     requires sink { W.has_failed sink.old ≡ false }
     requires goes_on { is_refused.old ≡ false }
-    ensures committed { OnOk result (J.committed journal.now) }
+    ensures committed { OnOk result (AreCommitted J.committed journals.now) }
     ensures count { IfOk result (λ n. n ≤ length piece.now) }
     ensures some { IfOk result (λ n. 0 < length piece.now → 0 < n) }
     ensures bytes { IfOk result (λ n. W.transcript sink.new ≡ W.transcript sink.old
@@ -66,7 +80,7 @@ fn write_behind<R: Wait, J: GroupJournal, W: Sink>(
     ensures err { OnErr result (W.transcript sink.new ≡ W.transcript sink.old) }
     ensures failed { (if is_refused.new then true else W.has_failed sink.new) ≡ is_err result }
 {
-    if journal.commit_all(rt).is_err() {
+    if commit_each(rt, journals).is_err() {
         *is_refused = true;
         return Err(Failed);
     }
@@ -83,12 +97,9 @@ impl<R: Wait, W: Sink> Sink for CommittingSink<'_, R, W> {
     ghost holds = { λ s. W.holds s.sink };
 
     fn write(&mut self, piece: &[u8]) -> Result<usize, Failed> {
-        let Some(journal) = self.journal else {
-            return self.sink.write(piece);
-        };
         write_behind(
             self.rt,
-            journal,
+            self.journals,
             &mut self.sink,
             piece,
             &mut self.is_refused,

@@ -21,9 +21,10 @@ pub struct JournalQueue<'a, R> {
 impl<'a, R> JournalQueue<'a, R> {
     ghost use Rattle.std.specs.Prelude.{◌≡◌, [], false};
 
-    /// A queue that has taken nothing.
+    /// A queue of this journal, that has taken nothing.
     pub fn new(rt: &'a R, journal: &'a SharedJournal) -> JournalQueue<'a, R>
-        ensures { (result.taken.bytes ≡ []) × (result.was_told ≡ false) }
+        ensures none { (result.taken.bytes ≡ []) × (result.was_told ≡ false) }
+        ensures journal { result.journal.now ≡ journal.entry.now }
     {
         JournalQueue {
             rt,

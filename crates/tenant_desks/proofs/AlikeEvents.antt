@@ -4,17 +4,17 @@ use Rattle.credit_book.specs.declared.book.Report.{Report}
 use Rattle.credit_book.specs.declared.board.Progress.{Progress}
 use Rattle.job_core.specs.Admitted.{AdmittedJob}
 use Rattle.accounts.specs.Ledgers.{Ledger, Finishes}
+use Rattle.accounts.specs.declared.jobs.JobEntry.{JobEntry}
 use Rattle.sessions.specs.Grammar.{Asked}
 use Rattle.sessions.specs.Replies.{frame_of, frame_or_refusal, reply_data}
 use Rattle.sessions.specs.declared.reply.Reply.{Reply}
 use Rattle.streams.specs.Answering.{Replies}
 use Rattle.shared_desk.specs.Histories.{HistoryEntry}
 use Rattle.tenant_desks.specs.PlacedRunners.{starts_placed, looks_placed}
-use Rattle.tenant_desks.specs.Tenancies.{fresh_desk}
 use Rattle.tenant_desks.specs.Answering.{AnswersAlone, for_place, refusal_frame}
 use Rattle.tenant_desks.specs.Alone.{DeskEvent, was_asked, has_ended, starts_to, HappensAlone, none_yet, one_ended, one_asked}
 use Rattle.tenant_desks.specs.Events.{EachTwo, HappensAlike, IsToldAlike}
-use Rattle.tenant_desks.proofs.AlikeDesks.{AlikeDesks, finishes_alike}
+use Rattle.tenant_desks.proofs.AlikeDesks.{AlikeDesks, AlikeEntries, AlikeJobs, finishes_alike}
 use Rattle.tenant_desks.proofs.AlikeReplies.{OneAdmission, HadMemory, AlikeReplies, carried, replies_alike}
 
 -- ---- two lists that are longer by one
@@ -68,30 +68,37 @@ module _ {P : Type 0} (starts : P → ℕ → AdmittedJob → Result (Unit {0}) 
 
 -- ---- all that happens
 
-same_desks : AlikeDesks fresh_desk fresh_desk
-same_desks = record { grants = λ q. refl; past = λ q. refl; jobs = tt }
+same_entry : (x : JobEntry) → AlikeEntries x x
+same_entry x = record { tenant = refl; credit = refl; standing = refl }
+
+same_entries : (xs : List JobEntry) → AlikeJobs xs xs
+same_entries [] = tt
+same_entries (x ∷ xs) = (same_entry x, same_entries xs)
+
+same_desks : (d : Ledger) → AlikeDesks d d
+same_desks d = record { grants = λ q. refl; past = λ q. refl; jobs = same_entries d.jobs }
 
 module _ {R : Type 0} (starts : R → ℕ → AdmittedJob → Result (Unit {0}) ℕ → R → Type 0) (looks : R → ℕ → Progress → R → Type 0) (takes : R → Option (ℕ × Result Report ℕ) → R → Type 0) (one : OneAdmission) where
-  all_alike : (place : ℕ) (first second : List DeskEvent) (d e : Ledger) → HappensAlone starts looks takes place 0 first d → HappensAlone starts looks takes place 0 second e → EachTwo HappensAlike first second
+  all_alike : (place : ℕ) (begun : Ledger) (first second : List DeskEvent) (d e : Ledger) → HappensAlone starts looks takes place 0 begun first d → HappensAlone starts looks takes place 0 begun second e → EachTwo HappensAlike first second
       → AlikeDesks d e × EachTwo IsToldAlike first second
-  all_alike place first second d e none_yet none_yet same = (same_desks, tt)
-  all_alike place first second d e none_yet (one_ended ys c' e' n p r' s' hs step' ends') same = absurd (none_and_more HappensAlike ys _ same)
-  all_alike place first second d e none_yet (one_asked ys c' e' y q r' s' hs alone') same = absurd (none_and_more HappensAlike ys _ same)
-  all_alike place first second d e (one_ended xs c d' m o r s h step ends) none_yet same = absurd (more_and_none HappensAlike xs _ same)
-  all_alike place first second d e (one_asked xs c d' x p r s h alone) none_yet same = absurd (more_and_none HappensAlike xs _ same)
-  all_alike place first second d e (one_ended xs c d' m o r s h step ends) (one_asked ys c' e' y q r' s' hs alone') same = absurd (each_last HappensAlike xs ys _ _ same).1
-  all_alike place first second d e (one_asked xs c d' x p r s h alone) (one_ended ys c' e' n q r' s' hs step' ends') same = absurd (each_last HappensAlike xs ys _ _ same).1
-  all_alike place first second d e (one_ended xs c d' m o r s h step ends) (one_ended ys c' e' n p r' s' hs step' ends') same =
+  all_alike place begun first second d e none_yet none_yet same = (same_desks begun, tt)
+  all_alike place begun first second d e none_yet (one_ended ys c' e' n p r' s' hs step' ends') same = absurd (none_and_more HappensAlike ys _ same)
+  all_alike place begun first second d e none_yet (one_asked ys c' e' y q r' s' hs alone') same = absurd (none_and_more HappensAlike ys _ same)
+  all_alike place begun first second d e (one_ended xs c d' m o r s h step ends) none_yet same = absurd (more_and_none HappensAlike xs _ same)
+  all_alike place begun first second d e (one_asked xs c d' x p r s h alone) none_yet same = absurd (more_and_none HappensAlike xs _ same)
+  all_alike place begun first second d e (one_ended xs c d' m o r s h step ends) (one_asked ys c' e' y q r' s' hs alone') same = absurd (each_last HappensAlike xs ys _ _ same).1
+  all_alike place begun first second d e (one_asked xs c d' x p r s h alone) (one_ended ys c' e' n q r' s' hs step' ends') same = absurd (each_last HappensAlike xs ys _ _ same).1
+  all_alike place begun first second d e (one_ended xs c d' m o r s h step ends) (one_ended ys c' e' n p r' s' hs step' ends') same =
       let last = each_last HappensAlike xs ys (has_ended m o) (has_ended n p) same in
-      let was = all_alike place xs ys c c' h hs last.0 in
+      let was = all_alike place begun xs ys c c' h hs last.0 in
       let T : ℕ × Result Report ℕ → Type 0 = λ t. Finishes c t.0 t.1 d' in
       (finishes_alike c c' d' e' n p was.0 (subst T (λ k. (last.1.0 k, last.1.1 k)) ends) ends', each_pushed IsToldAlike xs ys (has_ended m o) (has_ended n p) was.1 tt)
-  all_alike place first second d e (one_asked xs c d' x p r s h alone) (one_asked ys c' e' y q r' s' hs alone') same =
+  all_alike place begun first second d e (one_asked xs c d' x p r s h alone) (one_asked ys c' e' y q r' s' hs alone') same =
       let last = each_last HappensAlike xs ys (was_asked x p) (was_asked y q) same in
-      let was = all_alike place xs ys c c' h hs last.0 in
+      let was = all_alike place begun xs ys c c' h hs last.0 in
       let now = answers_alike (starts_placed starts) (looks_placed looks) one c c' d' e' x y p q (for_place place r) (for_place place r') (for_place place s) (for_place place s') was.0 alone alone' last.1 in
       (now.0, each_pushed IsToldAlike xs ys (was_asked x p) (was_asked y q) was.1 now.1)
 
-  pub told_alike : (place : ℕ) (first second : List DeskEvent) (d e : Ledger) → HappensAlone starts looks takes place 0 first d → HappensAlone starts looks takes place 0 second e → EachTwo HappensAlike first second
+  pub told_alike : (place : ℕ) (begun : Ledger) (first second : List DeskEvent) (d e : Ledger) → HappensAlone starts looks takes place 0 begun first d → HappensAlone starts looks takes place 0 begun second e → EachTwo HappensAlike first second
       → EachTwo IsToldAlike first second
-  told_alike place first second d e h hs same = (all_alike place first second d e h hs same).1
+  told_alike place begun first second d e h hs same = (all_alike place begun first second d e h hs same).1

@@ -1,6 +1,5 @@
 -- After every history, each desk is one that its entries lead to alone.
-use Rattle.std.proofs.Common.{◌≡◌, ◌≢◌, ◌+◌, ℕ, List, [], ◌∷◌, ◌++◌, length, replicate, slice_get, Option, Some, Result, Ok, Err, refl, sym, ap, subst, ◌∙◌, inl, inr, zero, suc}
-use Rattle.std.proofs.lemmas.List.{length-replicate}
+use Rattle.std.proofs.Common.{◌≡◌, ◌≢◌, ℕ, List, [], ◌∷◌, ◌++◌, length, slice_get, unwrap_or, Option, Some, Result, Ok, Err, refl, sym, ap, subst, ◌∙◌, inl, inr}
 use Rattle.credit_book.specs.declared.book.Report.{Report}
 use Rattle.credit_book.specs.declared.board.Progress.{Progress}
 use Rattle.job_core.specs.Admitted.{AdmittedJob}
@@ -18,10 +17,9 @@ use Rattle.tenant_desks.proofs.ChangedDesks.{EachDesk, each_changed, count_chang
 use Rattle.tenant_desks.proofs.StartedTo.{answered_to}
 use Rattle.tenant_desks.proofs.SentEntries.{sent_here, sent_elsewhere, another_place}
 
-is_fresh : (n place : ℕ) (desk : Ledger) → slice_get (replicate n fresh_desk) place ≡ Some desk → fresh_desk ≡ desk
-is_fresh zero place desk at = cc
-is_fresh (suc n) zero desk at = cc
-is_fresh (suc n) (suc place) desk at = is_fresh n place desk at
+-- the first desk at a place
+abbrev pub first_of : List Ledger → ℕ → Ledger
+first_of firsts place = unwrap_or (slice_get firsts place) fresh_desk
 
 entries_ended : (events : List DeskEvent) (number : ℕ) (outcome : Result Report ℕ) → entries_in (events ++ has_ended number outcome ∷ []) ≡ entries_in events
 entries_ended [] number outcome = refl
@@ -33,25 +31,25 @@ entries_asked [] e started = refl
 entries_asked (was_asked f other ∷ events) e started = ap (λ es. f ∷ es) (entries_asked events e started)
 entries_asked (has_ended n o ∷ events) e started = entries_asked events e started
 
-module _ {R : Type 0} (starts : R → ℕ → AdmittedJob → Result (Unit {0}) ℕ → R → Type 0) (looks : R → ℕ → Progress → R → Type 0) (takes : R → Option (ℕ × Result Report ℕ) → R → Type 0) where
-  -- the desk at the place is one that these entries lead to alone
+module _ {R : Type 0} (starts : R → ℕ → AdmittedJob → Result (Unit {0}) ℕ → R → Type 0) (looks : R → ℕ → Progress → R → Type 0) (takes : R → Option (ℕ × Result Report ℕ) → R → Type 0) (firsts : List Ledger) where
+  -- the desk at the place is one that these entries lead to alone, from the first desk there
   abbrev Alone : List (List ℕ) → ℕ → List HistoryEntry → ℕ → Ledger → Type 0
-  Alone names keep history place desk = IsAloneHistory starts looks takes place keep (sent_to names place history) desk
+  Alone names keep history place desk = IsAloneHistory starts looks takes place keep (first_of firsts place) (sent_to names place history) desk
 
   -- ---- ends of jobs are passed to the desks
 
   -- what happens more at the desk
 
-  alone_ended : (place keep : ℕ) (entries : List HistoryEntry) (d e : Ledger) (number : ℕ) (outcome : Result Report ℕ) (r s : R) → IsAloneHistory starts looks takes place keep entries d
-      → takes r (Some (placed number place, outcome)) s → Finishes d number outcome e → IsAloneHistory starts looks takes place keep entries e
+  alone_ended : (place keep : ℕ) (entries : List HistoryEntry) (d e : Ledger) (number : ℕ) (outcome : Result Report ℕ) (r s : R) → IsAloneHistory starts looks takes place keep (first_of firsts place) entries d
+      → takes r (Some (placed number place, outcome)) s → Finishes d number outcome e → IsAloneHistory starts looks takes place keep (first_of firsts place) entries e
   alone_ended place keep entries d e number outcome r s h step finishes = record {
     events = h.events ++ has_ended number outcome ∷ [];
     same = entries_ended h.events number outcome ∙ h.same;
     happens = one_ended h.events d e number outcome r s h.happens step finishes;
   }
 
-  alone_asked : (place keep : ℕ) (entries : List HistoryEntry) (d a : Ledger) (e : HistoryEntry) (r s : R) → IsAloneHistory starts looks takes place keep entries d
-      → AnswersAlone (starts_placed starts) (looks_placed looks) keep (for_place place r) (for_place place s) e.query.asked e.reply d a → IsAloneHistory starts looks takes place keep (entries ++ e ∷ []) a
+  alone_asked : (place keep : ℕ) (entries : List HistoryEntry) (d a : Ledger) (e : HistoryEntry) (r s : R) → IsAloneHistory starts looks takes place keep (first_of firsts place) entries d
+      → AnswersAlone (starts_placed starts) (looks_placed looks) keep (for_place place r) (for_place place s) e.query.asked e.reply d a → IsAloneHistory starts looks takes place keep (first_of firsts place) (entries ++ e ∷ []) a
   alone_asked place keep entries d a e r s h alone =
       let told = answered_to (starts_placed starts) (looks_placed looks) keep (for_place place r) (for_place place s) e.query.asked e.reply d a alone in
       record {
@@ -85,7 +83,7 @@ module _ {R : Type 0} (starts : R → ℕ → AdmittedJob → Result (Unit {0}) 
       → EachDesk (Alone names keep history) ds → EachDesk (Alone names keep (history ++ e ∷ [])) es
   after_where names keep history e (Err code) ds r es s goes answered was =
       λ i desk at.
-      subst (λ es. IsAloneHistory starts looks takes i keep es desk) (sym (sent_elsewhere names i history e (ap (is_place i) goes)))
+      subst (λ es. IsAloneHistory starts looks takes i keep (first_of firsts i) es desk) (sym (sent_elsewhere names i history e (ap (is_place i) goes)))
       (was i desk (ap (λ l. slice_get l i) (sym answered.1) ∙ at))
   after_where names keep history e (Ok place) ds r es s goes answered was =
       each_changed (Alone names keep history) (Alone names keep (history ++ e ∷ [])) place (AnswersAlone (starts_placed starts) (looks_placed looks) keep (for_place place r) (for_place place s) e.query.asked e.reply)
@@ -94,12 +92,12 @@ module _ {R : Type 0} (starts : R → ℕ → AdmittedJob → Result (Unit {0}) 
       here : (d a : Ledger) → Alone names keep history place d → AnswersAlone (starts_placed starts) (looks_placed looks) keep (for_place place r) (for_place place s) e.query.asked e.reply d a
           → Alone names keep (history ++ e ∷ []) place a
       here d a h alone =
-          subst (λ es. IsAloneHistory starts looks takes place keep es a) (sym (sent_here names place history e goes))
+          subst (λ es. IsAloneHistory starts looks takes place keep (first_of firsts place) es a) (sym (sent_here names place history e goes))
           (alone_asked place keep (sent_to names place history) d a e r s h alone)
 
       others : (i : ℕ) (d : Ledger) → i ≢ place → Alone names keep history i d → Alone names keep (history ++ e ∷ []) i d
       others i d apart h =
-          subst (λ es. IsAloneHistory starts looks takes i keep es d) (sym (sent_elsewhere names i history e (ap (is_place i) goes ∙ another_place i place apart))) h
+          subst (λ es. IsAloneHistory starts looks takes i keep (first_of firsts i) es d) (sym (sent_elsewhere names i history e (ap (is_place i) goes ∙ another_place i place apart))) h
 
   pub count_where : (keep : ℕ) (place : Result ℕ ℕ) (query : Result Asked ℕ) (ds : List Ledger) (r : R) (reply : List ℕ) (es : List Ledger) (s : R)
       → AnswersWhere starts looks keep place query ds r reply es s → length es ≡ length ds
@@ -112,7 +110,7 @@ module _ {R : Type 0} (starts : R → ℕ → AdmittedJob → Result (Unit {0}) 
   pub record Stands (names : List (List ℕ)) (keep : ℕ) (history : List HistoryEntry) (s : Tenancy × KeptRunner R) : Type 0 where
     pub named : s.0.names ≡ names
     pub keeps : s.1.keep ≡ keep
-    pub count : length s.0.desks ≡ length names + 1
+    pub count : length s.0.desks ≡ length firsts
     pub each : EachDesk (Alone names keep history) s.0.desks
 
   after_answer : (names : List (List ℕ)) (keep : ℕ) (history : List HistoryEntry) (s : Tenancy × KeptRunner R) (e : HistoryEntry) (t : Tenancy × KeptRunner R)
@@ -129,21 +127,25 @@ module _ {R : Type 0} (starts : R → ℕ → AdmittedJob → Result (Unit {0}) 
             (after_taken names keep history s.0.desks s.1.runner a.mid a.passed.last a.passed.taken was.each);
       }
 
-  pub stands : (names : List (List ℕ)) (keep : ℕ) (history : List HistoryEntry) (s : Tenancy × KeptRunner R) → IsTenantHistory starts looks takes names keep history s → Stands names keep history s
+  pub stands : (names : List (List ℕ)) (keep : ℕ) (history : List HistoryEntry) (s : Tenancy × KeptRunner R) → IsTenantHistory starts looks takes names firsts keep history s → Stands names keep history s
   stands names keep history s (nothing_replayed t begins) = record {
     named = ap (λ (x : Tenancy). x.names) begins.0;
     keeps = begins.1;
-    count = ap (λ (x : Tenancy). length x.desks) begins.0 ∙ length-replicate (length names + 1) fresh_desk;
-    each = λ place desk at. subst (IsAloneHistory starts looks takes place keep []) (is_fresh (length names + 1) place desk (ap (λ (x : Tenancy). slice_get x.desks place) (sym begins.0) ∙ at)) (record { events = []; same = refl; happens = none_yet });
+    count = ap (λ (x : Tenancy). length x.desks) begins.0;
+    each = λ place desk at. let first : first_of firsts place ≡ desk = ap (λ (o : Option Ledger). unwrap_or o fresh_desk) (ap (λ (x : Tenancy). slice_get x.desks place) (sym begins.0) ∙ at) in
+        subst (IsAloneHistory starts looks takes place keep (first_of firsts place) []) first (record { events = []; same = refl; happens = none_yet });
   }
   stands names keep history s (one_replayed h t e u before answered) = after_answer names keep h t e u answered (stands names keep h t before)
 
-  pub as_many_desks : (names : List (List ℕ)) (keep : ℕ) (history : List HistoryEntry) (end : Tenancy × KeptRunner R) → IsTenantHistory starts looks takes names keep history end → length end.0.desks ≡ length names + 1
+  pub as_many_desks : (names : List (List ℕ)) (keep : ℕ) (history : List HistoryEntry) (end : Tenancy × KeptRunner R) → IsTenantHistory starts looks takes names firsts keep history end → length end.0.desks ≡ length firsts
   as_many_desks names keep history end legal = (stands names keep history end legal).count
 
-  pub each_alone : (names : List (List ℕ)) (keep : ℕ) (history : List HistoryEntry) (end : Tenancy × KeptRunner R) (place : ℕ) (desk : Ledger)
-      → IsTenantHistory starts looks takes names keep history end → slice_get end.0.desks place ≡ Some desk → IsAloneHistory starts looks takes place keep (sent_to names place history) desk
-  each_alone names keep history end place desk legal at = (stands names keep history end legal).each place desk at
+  pub each_alone : (names : List (List ℕ)) (keep : ℕ) (history : List HistoryEntry) (end : Tenancy × KeptRunner R) (place : ℕ) (first desk : Ledger)
+      → IsTenantHistory starts looks takes names firsts keep history end → slice_get firsts place ≡ Some first → slice_get end.0.desks place ≡ Some desk
+      → IsAloneHistory starts looks takes place keep first (sent_to names place history) desk
+  each_alone names keep history end place first desk legal begun at =
+      let same : first_of firsts place ≡ first = ap (λ (o : Option Ledger). unwrap_or o fresh_desk) begun in
+      subst (λ (d : Ledger). IsAloneHistory starts looks takes place keep d (sent_to names place history) desk) same ((stands names keep history end legal).each place desk at)
 
   -- ---- what goes nowhere
 
@@ -160,7 +162,7 @@ module _ {R : Type 0} (starts : R → ℕ → AdmittedJob → Result (Unit {0}) 
   told_joined names [] e was last = (last, tt)
   told_joined names (x ∷ history) e was last = (was.0, told_joined names history e was.1 last)
 
-  pub are_told_why : (names : List (List ℕ)) (keep : ℕ) (history : List HistoryEntry) (end : Tenancy × KeptRunner R) → IsTenantHistory starts looks takes names keep history end → AreToldWhy names history
+  pub are_told_why : (names : List (List ℕ)) (keep : ℕ) (history : List HistoryEntry) (end : Tenancy × KeptRunner R) → IsTenantHistory starts looks takes names firsts keep history end → AreToldWhy names history
   are_told_why names keep history end (nothing_replayed t begins) = tt
   are_told_why names keep history end (one_replayed h s e t before answered) =
       let named = (stands names keep h s before).named in

@@ -13,21 +13,23 @@ use Rattle.tenant_desks.proofs.PlacedLemmas.{at_its_place}
 
 module _ {R : Type 0} (starts : R → ℕ → AdmittedJob → Result (Unit {0}) ℕ → R → Type 0) (looks : R → ℕ → Progress → R → Type 0) (takes : R → Option (ℕ × Result Report ℕ) → R → Type 0) where
   -- it goes nowhere
+  pub nowhere : (keep code : ℕ) (to : Result ℕ ℕ) (query : Result Asked ℕ) (desks : List Ledger) (runner : R) (mid : List Ledger) (rest : R)
+      → to ≡ Err code → PassesEnds takes desks runner mid rest → DeskAnswer starts looks takes keep to query desks runner (refusal_frame code) mid rest
+  nowhere keep code to query desks runner mid rest goes passed = record {
+    mid = mid;
+    rest = rest;
+    passed = passed;
+    answered = subst (λ w. AnswersWhere starts looks keep w query mid rest (refusal_frame code) mid rest) (sym goes) (refl, refl, refl);
+  }
+
   pub nowhere_err : (keep code : ℕ) (to : Result ℕ ℕ) (query : Result Asked ℕ) (desks : List Ledger) (runner : R) (mid : List Ledger) (rest : R) (told : Result (List ℕ) NoMemory)
       → to ≡ Err code → PassesEnds takes desks runner mid rest → OnErr told ((reply : List ℕ) × DeskAnswer starts looks takes keep to query desks runner reply mid rest)
   nowhere_err keep code to query desks runner mid rest (Ok frame) goes passed = tt
-  nowhere_err keep code to query desks runner mid rest (Err e) goes passed = (
-    refusal_frame code,
-    record {
-      mid = mid;
-      rest = rest;
-      passed = passed;
-      answered = subst (λ w. AnswersWhere starts looks keep w query mid rest (refusal_frame code) mid rest) (sym goes) (refl, refl, refl);
-    },
-  )
+  nowhere_err keep code to query desks runner mid rest (Err e) goes passed =
+      (refusal_frame code, nowhere keep code to query desks runner mid rest goes passed)
 
   -- it goes to the desk at a place
-  at_desk : (keep place : ℕ) (to : Result ℕ ℕ) (query : Result Asked ℕ) (desks : List Ledger) (runner : R) (mid : List Ledger) (rest : R) (before after : Ledger) (s : PlacedRunner R) (reply : List ℕ)
+  pub at_desk : (keep place : ℕ) (to : Result ℕ ℕ) (query : Result Asked ℕ) (desks : List Ledger) (runner : R) (mid : List Ledger) (rest : R) (before after : Ledger) (s : PlacedRunner R) (reply : List ℕ)
       → to ≡ Ok place → PassesEnds takes desks runner mid rest → slice_get mid place ≡ Some before → AnswersAlone (starts_placed starts) (looks_placed looks) keep (for_place place rest) s query reply before after
       → DeskAnswer starts looks takes keep to query desks runner reply (slice_set mid place after) s.runner
   at_desk keep place to query desks runner mid rest before after s reply goes passed there alone = record {

@@ -10,7 +10,8 @@ use Rattle.tenant_desks.specs.Tenancies.{ChangesAt}
 abbrev pub EachDesk : (ℕ → Ledger → Type 0) → List Ledger → Type 0
 EachDesk P desks = (place : ℕ) (desk : Ledger) → slice_get desks place ≡ Some desk → P place desk
 
-set_at : {X : Type 0} (xs : List X) (i : ℕ) (x : X) (j : ℕ) (y : X) → slice_get (slice_set xs i x) j ≡ Some y → ((j ≡ i) × (x ≡ y)) ⊎ ((j ≢ i) × (slice_get xs j ≡ Some y))
+-- what is at a place, where one place was set
+pub set_at : {X : Type 0} (xs : List X) (i : ℕ) (x : X) (j : ℕ) (y : X) → slice_get (slice_set xs i x) j ≡ Some y → ((j ≡ i) × (x ≡ y)) ⊎ ((j ≢ i) × (slice_get xs j ≡ Some y))
 set_at [] i x j y at = cc
 set_at (z ∷ xs) zero x zero y at = inl (refl, cc)
 set_at (z ∷ xs) zero x (suc j) y at = inr ((λ same. absurd (omega (arith, same))), at)

@@ -1,6 +1,6 @@
-mod PlacedLemmas
-mod AmongLemmas
-mod ChangedDesks
+pub mod PlacedLemmas
+pub mod AmongLemmas
+pub mod ChangedDesks
 mod SentEntries
 mod StartedTo
 mod AloneLemmas
@@ -9,3 +9,4 @@ mod AlikeDesks
 mod AlikeReplies
 mod AdmissionLemmas
 mod AlikeEvents
+mod FirstDesks

@@ -1,5 +1,5 @@
 -- After every history, a tenant's part is one of a plain desk.
-use Rattle.std.proofs.Common.{◌≡◌, ◌≢◌, ◌⊎◌, ◌+◌, ◌≤◌, ◌<◌, ℕ, zero, suc, false, List, [], ◌∷◌, ◌++◌, length, replicate, slice_get, slice_set, Option, Some, None, Result, Ok, Err, refl, sym, ap, subst, ◌∙◌, inl, inr, arith}
+use Rattle.std.proofs.Common.{◌≡◌, ◌≢◌, ◌⊎◌, ◌+◌, ◌≤◌, ◌<◌, ℕ, zero, suc, false, List, [], ◌∷◌, ◌++◌, length, slice_get, slice_set, Option, Some, None, Result, Ok, Err, refl, sym, ap, subst, ◌∙◌, inl, inr, arith}
 use Rattle.std.proofs.lemmas.Bool.{cases_lt}
 use Rattle.credit_book.specs.declared.book.Report.{Report}
 use Rattle.credit_book.specs.declared.board.Progress.{Progress}
@@ -16,7 +16,7 @@ use Rattle.tenant_desks.specs.declared.placed_runner.PlacedRunner.{PlacedRunner}
 use Rattle.tenant_desks.specs.Placing.{placed}
 use Rattle.tenant_desks.specs.PlacedRunners.{starts_placed, looks_placed}
 use Rattle.tenant_desks.specs.Routing.{desk_for}
-use Rattle.tenant_desks.specs.Tenancies.{Tenancy, ChangesAt, fresh_desk}
+use Rattle.tenant_desks.specs.Tenancies.{Tenancy, ChangesAt}
 use Rattle.tenant_desks.specs.Answering.{KeptRunner, NotesAtPlace, EndsTaken, AnswersAlone, AnswersWhere, for_place, tenant_answers, none_yet as none_ended, one_more as one_ended}
 use Rattle.tenant_desks.specs.Alone.{IsTenantHistory, is_place, sent_to}
 use Rattle.tenant_desks.specs.Seen.{OthersSteps, no_step, one_start, one_look, one_end, no_end, starts_seen, looks_seen, takes_seen, answers_seen}
@@ -71,7 +71,7 @@ module _ (change : Ledger → Ledger → Type 0) (place : ℕ) (old new : List L
   changed_apart : (k : ℕ) → place ≢ k → ChangesAt k change old new → slice_get new place ≡ Some d
   changed_apart k apart c = ap (λ (l : List Ledger). slice_get l place) c.is ∙ set_apart old k place c.after apart ∙ at
 
-module _ {R : Type 0} (starts : R → ℕ → AdmittedJob → Result (Unit {0}) ℕ → R → Type 0) (looks : R → ℕ → Progress → R → Type 0) (takes : R → Option (ℕ × Result Report ℕ) → R → Type 0) (place : ℕ) where
+module _ {R : Type 0} (starts : R → ℕ → AdmittedJob → Result (Unit {0}) ℕ → R → Type 0) (looks : R → ℕ → Progress → R → Type 0) (takes : R → Option (ℕ × Result Report ℕ) → R → Type 0) (place : ℕ) (firsts : List Ledger) (begun : Ledger) where
   abbrev Others : R → R → Type 0
   Others r s = OthersSteps starts looks takes place r s
 
@@ -144,7 +144,7 @@ module _ {R : Type 0} (starts : R → ℕ → AdmittedJob → Result (Unit {0}) 
   record Part (names : List (List ℕ)) (keep : ℕ) (history : List HistoryEntry) (desks : List Ledger) (r : R) : Type 0 where
     first : Ledger
     from : R
-    legal : Replays (answers_seen starts looks takes place keep) (λ s. s.0 ≡ fresh_desk) (sent_to names place history) (first, from)
+    legal : Replays (answers_seen starts looks takes place keep) (λ s. s.0 ≡ begun) (sent_to names place history) (first, from)
     desk : Ledger
     at : slice_get desks place ≡ Some desk
     since : R
@@ -206,7 +206,7 @@ module _ {R : Type 0} (starts : R → ℕ → AdmittedJob → Result (Unit {0}) 
     elsewhere goes there others = record {
       first = was.first;
       from = was.from;
-      legal = subst (λ l. Replays (answers_seen starts looks takes place keep) (λ x. x.0 ≡ fresh_desk) l (was.first, was.from)) (sym (sent_elsewhere names place history e goes)) was.legal;
+      legal = subst (λ l. Replays (answers_seen starts looks takes place keep) (λ x. x.0 ≡ begun) l (was.first, was.from)) (sym (sent_elsewhere names place history e goes)) was.legal;
       desk = was.desk;
       at = there;
       since = was.since;
@@ -219,7 +219,7 @@ module _ {R : Type 0} (starts : R → ℕ → AdmittedJob → Result (Unit {0}) 
     here after goes a there = record {
       first = after;
       from = s;
-      legal = subst (λ l. Replays (answers_seen starts looks takes place keep) (λ x. x.0 ≡ fresh_desk) l (after, s)) (sym (sent_here names place history e goes))
+      legal = subst (λ l. Replays (answers_seen starts looks takes place keep) (λ x. x.0 ≡ begun) l (after, s)) (sym (sent_here names place history e goes))
           (one_replayed (sent_to names place history) (was.first, was.from) e (after, s) was.legal (
             a.mid,
             record {
@@ -257,8 +257,8 @@ module _ {R : Type 0} (starts : R → ℕ → AdmittedJob → Result (Unit {0}) 
 
   -- ---- whole histories
 
-  after_answer : (names : List (List ℕ)) (keep : ℕ) (history : List HistoryEntry) (s : Tenancy × KeptRunner R) (e : HistoryEntry) (t : Tenancy × KeptRunner R) → length names ≤ 256
-      → tenant_answers starts looks takes s e.query e.reply t → Stands starts looks takes names keep history s → Part names keep history s.0.desks s.1.runner → Part names keep (history ++ e ∷ []) t.0.desks t.1.runner
+  after_answer : (names : List (List ℕ)) (keep : ℕ) (history : List HistoryEntry) (s : Tenancy × KeptRunner R) (e : HistoryEntry) (t : Tenancy × KeptRunner R) → length firsts ≤ 257
+      → tenant_answers starts looks takes s e.query e.reply t → Stands starts looks takes firsts names keep history s → Part names keep history s.0.desks s.1.runner → Part names keep (history ++ e ∷ []) t.0.desks t.1.runner
   after_answer names keep history s e t few answers stood was =
       let a = answers.0 in
       let P : List (List ℕ) × ℕ → Type 0 = λ p. AnswersWhere starts looks p.1 (desk_for p.0 e.query.passage e.query.asked) e.query.asked a.mid a.rest e.reply t.0.desks t.1.runner in
@@ -268,21 +268,22 @@ module _ {R : Type 0} (starts : R → ℕ → AdmittedJob → Result (Unit {0}) 
       answered names keep history e a.mid a.passed.last a.rest t.0.desks t.1.runner a.passed.none_left (after_ends names keep history s.0.desks s.1.runner a.mid a.passed.last a.passed.taken was)
       (desk_for names e.query.passage e.query.asked) (omega (arith, count, same, few)) refl told
 
-  part : (names : List (List ℕ)) (keep : ℕ) (history : List HistoryEntry) (s : Tenancy × KeptRunner R) → length names ≤ 256 → place ≤ length names → IsTenantHistory starts looks takes names keep history s
+  part : (names : List (List ℕ)) (keep : ℕ) (history : List HistoryEntry) (s : Tenancy × KeptRunner R) → length firsts ≤ 257 → slice_get firsts place ≡ Some begun → IsTenantHistory starts looks takes names firsts keep history s
       → Part names keep history s.0.desks s.1.runner
   part names keep history s few there (nothing_replayed t begins) =
-      record { first = fresh_desk; from = s.1.runner; legal = nothing_replayed (fresh_desk, s.1.runner) refl; desk = fresh_desk; at = fresh_at; since = s.1.runner; taken = nothing_taken; others = no_step }
-    where
-      fresh : (n i : ℕ) → i < n → slice_get (replicate n fresh_desk) i ≡ Some fresh_desk
-      fresh zero i lt = absurd (omega (arith, lt))
-      fresh (suc n) zero lt = refl
-      fresh (suc n) (suc i) lt = fresh n i (omega (arith, lt))
-
-      fresh_at : slice_get s.0.desks place ≡ Some fresh_desk
-      fresh_at = ap (λ (x : Tenancy). slice_get x.desks place) begins.0 ∙ fresh (length names + 1) place (omega (arith, there))
+      record {
+        first = begun;
+        from = s.1.runner;
+        legal = nothing_replayed (begun, s.1.runner) refl;
+        desk = begun;
+        at = ap (λ (x : Tenancy). slice_get x.desks place) begins.0 ∙ there;
+        since = s.1.runner;
+        taken = nothing_taken;
+        others = no_step;
+      }
   part names keep history s few there (one_replayed h t e u before told) =
-      after_answer names keep h t e u few told (stands starts looks takes names keep h t before) (part names keep h t few there before)
+      after_answer names keep h t e u few told (stands starts looks takes firsts names keep h t before) (part names keep h t few there before)
 
-  pub plain_part : (names : List (List ℕ)) (keep : ℕ) (history : List HistoryEntry) (end : Tenancy × KeptRunner R) → length names ≤ 256 → place ≤ length names → IsTenantHistory starts looks takes names keep history end
-      → (s : Ledger × R) × Replays (answers_seen starts looks takes place keep) (λ x. x.0 ≡ fresh_desk) (sent_to names place history) s
+  pub plain_part : (names : List (List ℕ)) (keep : ℕ) (history : List HistoryEntry) (end : Tenancy × KeptRunner R) → length firsts ≤ 257 → slice_get firsts place ≡ Some begun → IsTenantHistory starts looks takes names firsts keep history end
+      → (s : Ledger × R) × Replays (answers_seen starts looks takes place keep) (λ x. x.0 ≡ begun) (sent_to names place history) s
   plain_part names keep history end few there legal = let p = part names keep history end few there legal in ((p.first, p.from), p.legal)

@@ -8,7 +8,7 @@ use Rattle.shared_desk.specs.Histories.{HistoryEntry, Query, Replays, put_if}
 use Rattle.tenant_desks.specs.Placing.{placed}
 use Rattle.tenant_desks.specs.PlacedRunners.{starts_placed, looks_placed}
 use Rattle.tenant_desks.specs.Routing.{desk_for}
-use Rattle.tenant_desks.specs.Tenancies.{Tenancy, fresh_desk, fresh_tenancy}
+use Rattle.tenant_desks.specs.Tenancies.{Tenancy}
 use Rattle.tenant_desks.specs.Answering.{AnswersAlone, KeptRunner, for_place, refusal_frame, tenant_answers}
 
 -- whether this is the place
@@ -43,43 +43,43 @@ abbrev pub starts_to : {P : Type 0} → Result (Unit {0}) ℕ → (P → ℕ →
 starts_to outcome starts old number job result new =
     starts old number job result new × (result ≡ outcome)
 
--- What happened at a new desk leads to this one. The desk at the place is the only one here: it
+-- What happened at a first desk leads to this one. The desk at the place is the only one here: it
 -- answers each entry as if it were alone, and its open jobs end, each as the runner of all jobs
 -- tells under the job's number there.
 pub data HappensAlone {R : Type 0} (starts : R → ℕ → AdmittedJob → Result (Unit {0}) ℕ → R
     → Type 0) (looks : R → ℕ → Progress → R → Type 0)
-    (takes : R → Option (ℕ × Result Report ℕ) → R → Type 0) (place keep : ℕ) : List DeskEvent
-    → Ledger → Type 0 where
-  none_yet : HappensAlone starts looks takes place keep [] fresh_desk
+    (takes : R → Option (ℕ × Result Report ℕ) → R → Type 0) (place keep : ℕ) (first : Ledger) :
+    List DeskEvent → Ledger → Type 0 where
+  none_yet : HappensAlone starts looks takes place keep first [] first
   one_ended : (events : List DeskEvent) (before after : Ledger) (number : ℕ)
       (outcome : Result Report ℕ) (r s : R)
-      → HappensAlone starts looks takes place keep events before
+      → HappensAlone starts looks takes place keep first events before
       → takes r (Some (placed number place, outcome)) s → Finishes before number outcome after
-      → HappensAlone starts looks takes place keep (events ++ has_ended number outcome ∷ []) after
+      → HappensAlone starts looks takes place keep first (events ++ has_ended number outcome ∷ []) after
   one_asked : (events : List DeskEvent) (before after : Ledger) (e : HistoryEntry)
       (started : Result (Unit {0}) ℕ) (r s : R)
-      → HappensAlone starts looks takes place keep events before
+      → HappensAlone starts looks takes place keep first events before
       → AnswersAlone (starts_to started (starts_placed starts)) (looks_placed looks) keep
       (for_place place r) (for_place place s) e.query.asked e.reply before after
-      → HappensAlone starts looks takes place keep (events ++ was_asked e started ∷ []) after
+      → HappensAlone starts looks takes place keep first (events ++ was_asked e started ∷ []) after
 
--- these entries, with ends of jobs between them, lead to the desk alone
+-- these entries, with ends of jobs between them, lead from a first desk to this one, alone
 pub record IsAloneHistory {R : Type 0} (starts : R → ℕ → AdmittedJob → Result (Unit {0}) ℕ → R
     → Type 0) (looks : R → ℕ → Progress → R → Type 0)
-    (takes : R → Option (ℕ × Result Report ℕ) → R → Type 0) (place keep : ℕ)
+    (takes : R → Option (ℕ × Result Report ℕ) → R → Type 0) (place keep : ℕ) (first : Ledger)
     (entries : List HistoryEntry) (desk : Ledger) : Type 0 where
   pub events : List DeskEvent
   pub same : entries_in events ≡ entries
-  pub happens : HappensAlone starts looks takes place keep events desk
+  pub happens : HappensAlone starts looks takes place keep first events desk
 
 -- A history that a server may have whose tenants of these names have desks of their own, each of
--- which keeps so many reports. It begins with new desks.
+-- which keeps so many reports. It begins with these desks.
 abbrev pub IsTenantHistory : {R : Type 0} → (R → ℕ → AdmittedJob → Result (Unit {0}) ℕ → R
     → Type 0) → (R → ℕ → Progress → R → Type 0) → (R → Option (ℕ × Result Report ℕ) → R → Type 0)
-    → List (List ℕ) → ℕ → List HistoryEntry → Tenancy × KeptRunner R → Type 0
-IsTenantHistory starts looks takes names keep =
+    → List (List ℕ) → List Ledger → ℕ → List HistoryEntry → Tenancy × KeptRunner R → Type 0
+IsTenantHistory starts looks takes names firsts keep =
     Replays (tenant_answers starts looks takes)
-    (λ s. (s.0 ≡ fresh_tenancy names) × (s.1.keep ≡ keep))
+    (λ s. (s.0 ≡ record { names = names; desks = firsts }) × (s.1.keep ≡ keep))
 
 -- Where the entry's query goes nowhere, the reply tells why.
 abbrev pub IsToldWhy : List (List ℕ) → HistoryEntry → Type 0

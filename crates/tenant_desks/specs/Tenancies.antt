@@ -1,6 +1,6 @@
 -- Desks of many tenants, each with its own.
-use Rattle.std.specs.Prelude.{◌≡◌, ℕ, ◌+◌, List, [], length, replicate, slice_get, slice_set, Some}
-use Rattle.accounts.specs.Ledgers.{Ledger}
+use Rattle.std.specs.Prelude.{◌≡◌, ℕ, List, [], ◌∷◌, map, slice_get, slice_set, Option, Some, None}
+use Rattle.accounts.specs.Ledgers.{Ledger, GrantsMore}
 
 -- The names of the tenants that have a desk of their own, and the desks: first that of everybody
 -- else, and behind it one for each name.
@@ -12,10 +12,25 @@ pub record Tenancy : Type 0 where
 abbrev pub fresh_desk : Ledger
 fresh_desk = record { grants = []; past = []; jobs = [] }
 
--- new desks for these tenants, and for everybody else
-abbrev pub fresh_tenancy : List (List ℕ) → Tenancy
-fresh_tenancy names =
-    record { names = names; desks = replicate (length names + 1) fresh_desk }
+-- a desk on which nothing happened but that its tenant was granted this credit, if it was
+abbrev pub IsFirstDesk : List ℕ → Option ℕ → Ledger → Type 0
+IsFirstDesk name None desk = desk ≡ fresh_desk
+IsFirstDesk name (Some credit) desk = GrantsMore fresh_desk name credit desk
+
+-- the first desks of these tenants, each with its credit
+abbrev pub AreFirstDesks : List (List ℕ × Option ℕ) → List Ledger → Type 0
+AreFirstDesks [] [] = Unit {0}
+AreFirstDesks [] (desk ∷ desks) = ⊥
+AreFirstDesks (tenant ∷ tenants) [] = ⊥
+AreFirstDesks (tenant ∷ tenants) (desk ∷ desks) =
+    IsFirstDesk tenant.0 tenant.1 desk × AreFirstDesks tenants desks
+
+-- the desks of these tenants as they begin, behind a new one for everybody else
+pub record IsFirstTenancy (tenants : List (List ℕ × Option ℕ)) (t : Tenancy) : Type 0 where
+  pub names : t.names ≡ map (λ x. x.0) tenants
+  pub firsts : List Ledger
+  pub granted : AreFirstDesks tenants firsts
+  pub desks : t.desks ≡ fresh_desk ∷ firsts
 
 -- the desk at a place changes so, and no other
 pub record ChangesAt (place : ℕ) (change : Ledger → Ledger → Type 0) (old new : List Ledger) :

@@ -7,48 +7,50 @@ ghost use Rattle.tenant_desks.specs.Alone.{AreToldWhy, DeskEvent, HappensAlone, 
 ghost use Rattle.tenant_desks.specs.Answering.{KeptRunner};
 ghost use Rattle.tenant_desks.specs.Events.{EachTwo, HappensAlike, IsToldAlike};
 ghost use Rattle.tenant_desks.specs.Seen.{answers_seen};
-ghost use Rattle.tenant_desks.specs.Tenancies.{Tenancy, fresh_desk};
+ghost use Rattle.tenant_desks.specs.Tenancies.{Tenancy};
 
 use streams::Runner;
 
-/// Each tenant has the server to itself. After every history there is one desk for each tenant, and
-/// one for everybody else. The entries that go to one of them, in order, are a history of that desk
-/// alone, which leads to it. A request that goes nowhere is told why.
+/// Each tenant has the server to itself. After every history there are as many desks as at first.
+/// The entries that go to one of them, in order, are a history of that desk alone, which leads from
+/// the first desk at its place to it. A request that goes nowhere is told why.
 pub fn each_tenant_is_alone<N: Runner>()
-    ensures desks { (names : List (List ℕ)) (keep : ℕ) (history : List HistoryEntry)
-        (end : Tenancy × KeptRunner N)
-        → IsTenantHistory N.starts N.looks N.takes names keep history end
-        → length end.0.desks ≡ length names + 1 }
-    ensures alone { (names : List (List ℕ)) (keep : ℕ) (history : List HistoryEntry)
-        (end : Tenancy × KeptRunner N) (place : ℕ) (desk : Ledger)
-        → IsTenantHistory N.starts N.looks N.takes names keep history end
-        → slice_get end.0.desks place ≡ Some desk
-        → IsAloneHistory N.starts N.looks N.takes place keep (sent_to names place history) desk }
-    ensures refused { (names : List (List ℕ)) (keep : ℕ) (history : List HistoryEntry)
-        (end : Tenancy × KeptRunner N)
-        → IsTenantHistory N.starts N.looks N.takes names keep history end
+    ensures desks { (names : List (List ℕ)) (firsts : List Ledger) (keep : ℕ)
+        (history : List HistoryEntry) (end : Tenancy × KeptRunner N)
+        → IsTenantHistory N.starts N.looks N.takes names firsts keep history end
+        → length end.0.desks ≡ length firsts }
+    ensures alone { (names : List (List ℕ)) (firsts : List Ledger) (keep : ℕ)
+        (history : List HistoryEntry) (end : Tenancy × KeptRunner N) (place : ℕ)
+        (first desk : Ledger)
+        → IsTenantHistory N.starts N.looks N.takes names firsts keep history end
+        → slice_get firsts place ≡ Some first → slice_get end.0.desks place ≡ Some desk
+        → IsAloneHistory N.starts N.looks N.takes place keep first (sent_to names place history)
+        desk }
+    ensures refused { (names : List (List ℕ)) (firsts : List Ledger) (keep : ℕ)
+        (history : List HistoryEntry) (end : Tenancy × KeptRunner N)
+        → IsTenantHistory N.starts N.looks N.takes names firsts keep history end
         → AreToldWhy names history }
 {}
 
-/// A tenant is told nothing of others. Where the same happens at its desk in two histories, the
+/// A tenant is told nothing of others. Where the same happens at one first desk in two histories, the
 /// same is told, or how far a job is. The same happens where the same is asked, the starts of its
 /// jobs come to the same, and its jobs end the same. Neither history forgets a report, or refuses
 /// for want of memory.
 pub fn others_are_not_told<N: Runner>()
-    ensures { (place : ℕ) (first second : List DeskEvent) (d e : Ledger)
-        → HappensAlone N.starts N.looks N.takes place 0 first d
-        → HappensAlone N.starts N.looks N.takes place 0 second e
+    ensures { (place : ℕ) (begun : Ledger) (first second : List DeskEvent) (d e : Ledger)
+        → HappensAlone N.starts N.looks N.takes place 0 begun first d
+        → HappensAlone N.starts N.looks N.takes place 0 begun second e
         → EachTwo HappensAlike first second → EachTwo IsToldAlike first second }
 {}
 
 /// A tenant's part is a legal history of a plain desk, which a runner serves whose steps for others
 /// can't be seen.
 pub fn each_part_is_plain<N: Runner>()
-    ensures { (names : List (List ℕ)) (keep place : ℕ) (history : List HistoryEntry)
-        (end : Tenancy × KeptRunner N)
-        → length names ≤ 256 → place ≤ length names
-        → IsTenantHistory N.starts N.looks N.takes names keep history end
+    ensures { (names : List (List ℕ)) (firsts : List Ledger) (keep place : ℕ) (first : Ledger)
+        (history : List HistoryEntry) (end : Tenancy × KeptRunner N)
+        → length firsts ≤ 257 → slice_get firsts place ≡ Some first
+        → IsTenantHistory N.starts N.looks N.takes names firsts keep history end
         → (s : Ledger × N)
-        × Replays (answers_seen N.starts N.looks N.takes place keep) (λ x. x.0 ≡ fresh_desk)
+        × Replays (answers_seen N.starts N.looks N.takes place keep) (λ x. x.0 ≡ first)
         (sent_to names place history) s }
 {}

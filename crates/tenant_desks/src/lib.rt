@@ -3,20 +3,22 @@
 
 // the desks, and which of them a request goes to
 mod desks;
+mod first_desks;
 mod routing;
 
 pub use desks::TenantDesks;
+pub use routing::desk_for;
 
 // the runner that all desks share
 mod ends;
 mod placed_runner;
 
-pub use placed_runner::PlacedRunner;
+pub use placed_runner::{PlacedRunner, own_number, placed_number};
 
 // what answers
 mod tenant_handler;
 
-pub use tenant_handler::TenantHandler;
+pub use tenant_handler::{TenantHandler, refuse, refused_at, wants_admission_among};
 
 // what each tenant has of it
 mod laws;

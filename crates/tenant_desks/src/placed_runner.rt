@@ -21,12 +21,12 @@ const TOO_MANY: u8 = 81;
 /// runner of all jobs alone.
 #[derive(Drop)]
 pub struct PlacedRunner<N> {
-    pub(crate) runner: N,
-    pub(crate) place: u16,
+    pub runner: N,
+    pub place: u16,
 }
 
 /// A job's number at the runner of all jobs; none where it passes 64 bits.
-pub(crate) fn placed_number(number: u64, place: u16) -> Option<u64>
+pub fn placed_number(number: u64, place: u16) -> Option<u64>
     ensures fits { IfSome result (λ n. (n ≡ placed number place) × (placed number place < 2 ^ 64)) }
     ensures none { result ≡ None → 2 ^ 64 ≤ placed number place }
 {
@@ -37,7 +37,7 @@ pub(crate) fn placed_number(number: u64, place: u16) -> Option<u64>
 }
 
 /// A job's number at its own desk, and the desk's place.
-pub(crate) fn own_number(number: u64) -> (u64, usize)
+pub fn own_number(number: u64) -> (u64, usize)
     ensures is { number ≡ placed result.0 result.1 }
     ensures small { result.1 < 1000 }
 {

@@ -101,11 +101,7 @@ fn desk_for_request(names: &[String], passage: Passage, request: &Request) -> Re
 }
 
 /// The place of the desk that answers a request of this passage, or the number of its refusal.
-pub(crate) fn desk_for(
-    names: &[String],
-    passage: Passage,
-    request: &PreparedRequest,
-) -> Result<usize, u8>
+pub fn desk_for(names: &[String], passage: Passage, request: &PreparedRequest) -> Result<usize, u8>
     requires { length names.now ≤ 256 }
     ensures desk { result ≡ routing.desk_for (map string_bytes names.now) passage
         (asked_of request.now) }

@@ -65,8 +65,8 @@ impl<'a, R, N: Drop> TenantHandler<'a, R, N> {
     }
 }
 
-// The frame of a refusal that has a number alone.
-fn refuse(alloc: Global, code: u8) -> Result<PendingReply, NoMemory>
+/// The frame of a refusal that has a number alone.
+pub fn refuse(alloc: Global, code: u8) -> Result<PendingReply, NoMemory>
     ensures { IfOk result (λ frame. frame ≡ refusal_frame code) }
 {
     let refusal = Reply::Refused {
@@ -77,8 +77,8 @@ fn refuse(alloc: Global, code: u8) -> Result<PendingReply, NoMemory>
     PendingReply::of_reply(alloc, &refusal)
 }
 
-// The same refusal, with the job's number at the runner of all jobs.
-fn refused_at(refusal: Option<SubmitRefusal>, place: u16) -> Option<SubmitRefusal>
+/// The same refusal, with the job's number at the runner of all jobs.
+pub fn refused_at(refusal: Option<SubmitRefusal>, place: u16) -> Option<SubmitRefusal>
     ensures { result ≡ option_map (placed_refusal place) refusal }
 {
     match refusal {
@@ -144,6 +144,17 @@ fn answer_among<N: Runner>(
     (refused_at(refusal, place as u16), reply)
 }
 
+/// Whether it is worth to admit the job of this request ahead of the answer, at the desk of its
+/// tenant.
+pub fn wants_admission_among(desks: &TenantDesks, request: &Request) -> bool {
+    match request {
+        Request::Submit { tenant, .. } => {
+            wants_admission(&desks.desks[tenant_place(&desks.names, tenant)], request)
+        }
+        _ => false,
+    }
+}
+
 impl<R: Wait + Clock, N: Runner> SharedHandler<TenantDesks> for TenantHandler<'_, R, N> {
     ghost use Rattle.tenant_desks.specs.Answering.{tenant_answers};
 
@@ -152,12 +163,7 @@ impl<R: Wait + Clock, N: Runner> SharedHandler<TenantDesks> for TenantHandler<'_
     ghost answers = { tenant_answers N.starts N.looks N.takes };
 
     fn wants_admission(&self, desk: &TenantDesks, request: &Request) -> bool {
-        match request {
-            Request::Submit { tenant, .. } => {
-                wants_admission(&desk.desks[tenant_place(&desk.names, tenant)], request)
-            }
-            _ => false,
-        }
+        wants_admission_among(desk, request)
     }
 
     fn answer_by(

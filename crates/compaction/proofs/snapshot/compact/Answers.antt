@@ -19,19 +19,19 @@ returns-in-Ok-replace_journal-clause-compacted g c journal opened =
 pub returns-in-Ok-replace_journal-clause-any_moment : goal.returns-in-Ok-replace_journal-clause-any_moment
 returns-in-Ok-replace_journal-clause-any_moment g c history left fit after opened may =
     let b = c.in-Ok.ensures.bytes in
-    either_leads g.M.StateMachine.starts g.M.StateMachine.steps c.round_trip.ensures left c.deref.result.now history b.0 c.args.machine.now fit b.1 b.2 after (c.deref.ensures.value ∙ b.3)
+    either_leads g.M.StateMachine.starts g.M.StateMachine.steps g.M.Snapshot.alike g.met.M.Snapshot.alike_self c.round_trip.ensures left c.deref.result.now history b.0 c.args.machine.now fit b.1 b.2 after (c.deref.ensures.value ∙ b.3)
     (c.in-Ok-replace_journal.ensures.any_moment (journal_of history) left opened may)
 
 pub returns-in-Err-Kept-clause-any_moment : goal.returns-in-Err-Kept-clause-any_moment
 returns-in-Err-Kept-clause-any_moment g c history left fit after opened may =
     let b = c.in-Ok.ensures.bytes in
-    either_leads g.M.StateMachine.starts g.M.StateMachine.steps c.round_trip.ensures left c.deref.result.now history b.0 c.args.machine.now fit b.1 b.2 after (c.deref.ensures.value ∙ b.3)
+    either_leads g.M.StateMachine.starts g.M.StateMachine.steps g.M.Snapshot.alike g.met.M.Snapshot.alike_self c.round_trip.ensures left c.deref.result.now history b.0 c.args.machine.now fit b.1 b.2 after (c.deref.ensures.value ∙ b.3)
     (c.in-Err-Kept.ensures.any_moment (journal_of history) left opened may)
 
 pub returns-clause-any_moment : goal.returns-clause-any_moment
 returns-clause-any_moment g c history left fit after opened may =
     let b = c.in-Ok.ensures.bytes in
-    either_leads g.M.StateMachine.starts g.M.StateMachine.steps c.round_trip.ensures left c.deref.result.now history b.0 c.args.machine.now fit b.1 b.2 after (c.deref.ensures.value ∙ b.3)
+    either_leads g.M.StateMachine.starts g.M.StateMachine.steps g.M.Snapshot.alike g.met.M.Snapshot.alike_self c.round_trip.ensures left c.deref.result.now history b.0 c.args.machine.now fit b.1 b.2 after (c.deref.ensures.value ∙ b.3)
     (c.in-Err-Unknown.ensures.any_moment (journal_of history) left opened may)
 
 pub returns-in-Err-Kept-clause-kept : goal.returns-in-Err-Kept-clause-kept

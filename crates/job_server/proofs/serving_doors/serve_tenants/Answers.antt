@@ -8,6 +8,6 @@ pub returns : goal.returns
 returns g c =
     elim c.if-count-doors.branch [
       | then-count-doors w ↦
-          rw w.served-is (served_with _ _ _ _ _ _ _ _ _ _ _ _ (sockets_grant _) _ w.serve_listener-served.ensures)
+          rw w.served-is (served_with _ _ _ _ _ _ _ _ _ _ _ _ _ _ (sockets_grant _) w.serve_listener-served.ensures)
       | else-count-doors w ↦ rw w.served-is (inr (inr refl))
     ]

@@ -6,4 +6,4 @@ pub returns-in_default : goal.returns-in_default
 returns-in_default g c = inr (inr refl)
 
 pub returns : goal.returns
-returns g c = served_alone _ _ _ _ _ _ _ _ _ _ _ _ c.requires.tenants _ c.serve_listener-served.ensures
+returns g c = served_alone _ _ _ _ _ _ _ _ _ _ _ _ _ _ c.requires.tenants c.serve_listener-served.ensures

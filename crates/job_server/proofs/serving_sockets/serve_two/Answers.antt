@@ -13,6 +13,6 @@ pub returns : goal.returns
 returns g c =
     elim c.match-new.branch [
       | in-Ok-new w ↦
-          rw w.served-is (served_alone _ _ _ _ _ _ _ _ _ _ _ _ c.requires.tenants _ w.serve_listener-served.ensures)
+          rw w.served-is (served_alone _ _ _ _ _ _ _ _ _ _ _ _ _ _ c.requires.tenants w.serve_listener-served.ensures)
       | in-Err w ↦ rw w.served-is (inr (inr refl))
     ]

@@ -1,0 +1,31 @@
+use Rattle.std.proofs.Common.{inl, ap, map, sym, ◌∙◌, Vec, Global}
+use Rattle.desk_journal.specs.declared.journaled_desk.OpenJob.{OpenJob}
+use Rattle.job_pools.specs.LineBounded.{new_by_line, starts_by_line}
+use Rattle.job_server.specs.Recorded.{queue_journal, queue_taken, queue_told}
+use Rattle.job_server.specs.TenantLimits.{door_limits}
+use Rattle.job_server.specs.TenantRecorded.{open_jobs_of, recovered_tenancy}
+use Rattle.job_server.proofs.DeskStarts.{begun_as}
+use Rattle.job_server.proofs.TenantRestarting.{tenants_restarted}
+use Rattle.job_server.proofs.serving_tenants_recorded.serve_tenants_recorded.Goals as goal
+
+pub returns : goal.returns
+returns g c =
+    let served = c.serve_at_once-served in
+    let plan = c.args.plan in
+    let states = c.args.states.items in
+    let made = c.in-Ok-recording_handler in
+    let parts = c.in-Ok in
+    let again = c.restart.ensures in
+    let desks = c.restart.new.desks in
+    let handler = c.restart.new.self in
+    let t = begun_as _ _ _ _ _ _ _ (desks, c.of-recording.result) (desks, handler) (served.result.0, served.result.1) served.result.2 (ap (λ h. (desks, h)) c.of-recording.ensures) served.ensures in
+    inl (
+      (desks, handler),
+      t.0,
+      tenants_restarted (starts_by_line g.N.Runner.starts) (queue_taken {R = g.row.R.Denot}) (queue_told {R = g.row.R.Denot}) (queue_journal {R = g.row.R.Denot}) plan.journals.now (recovered_tenancy plan.tenants.now states) (open_jobs_of states)
+          (new_by_line (door_limits plan.bounds.tenant_jobs plan.tenants.now) c.args.runner) plan.bounds.keep parts.desks (map (λ (jobs : Vec OpenJob Global). jobs.items) parts.jobs.items) made.handler desks handler
+          parts.ensures.desks parts.ensures.jobs made.ensures.runner made.ensures.keep made.ensures.own made.ensures.fresh (made.ensures.count ∙ sym c.requires.states ∙ sym parts.ensures.count.0) again.starts again.records again.forgotten again.same.0 again.same.1,
+      t.1,
+      t.2,
+      t.3,
+    )

@@ -1,0 +1,164 @@
+//! A server's desks of tenants, whose changes journals keep, one for each desk.
+
+ghost use Rattle.std.specs.Prelude.{◌≡◌, ◌≤◌, ◌+◌, ◌⊎◌, [], All, Err, IfOk, Vec, false, is_some, length, map};
+ghost use Rattle.std.specs.declared.alloc.Global.{Global};
+ghost use Rattle.desk_journal.specs.DeskSteps.{DeskState};
+ghost use Rattle.desk_journal.specs.declared.journaled_desk.OpenJob.{OpenJob};
+ghost use Rattle.shared_journal.specs.declared.journal_queue.JournalQueue.{JournalQueue};
+ghost use Rattle.streams.specs.declared.fault.StreamFault.TheVariants as stream;
+ghost use Rattle.tenant_desks.specs.Tenancies.{Tenancy};
+ghost use Rattle.tenant_recorder.specs.TenantsRecorded.{RecordedRunner, tenant_answers_recorded};
+ghost use Rattle.job_pools.specs.LineBounded.{looks_by_line, new_by_line, starts_by_line, takes_by_line};
+ghost use Rattle.job_pools.specs.declared.line_limited_runner.LineLimitedRunner.{LineLimitedRunner};
+ghost use Rattle.job_server.specs.AtOnce.{IsServingFrom};
+ghost use Rattle.job_server.specs.Listening.{AreOf, CameBy};
+ghost use Rattle.job_server.specs.Recorded.{queue_journal, queue_taken, queue_told};
+ghost use Rattle.job_server.specs.TenantLimits.{door_limits};
+ghost use Rattle.job_server.specs.TenantRecorded.{AreFresh, AreRestarted, open_jobs_of, recovered_tenancy};
+ghost use Rattle.job_server.specs.declared.fault.ServeFault.TheVariants as fault;
+
+use crate::at_once::{NO_MEMORY, serve_at_once};
+use crate::fault::ServeFault;
+use crate::listener::Listener;
+use crate::plan::Plan;
+use crate::serving_desks::limited_by_door;
+use crate::tenant_door::{TenantDoor, names_of};
+use crate::tenant_recording::TenantRecording;
+use accounts::Desk;
+use desk_journal::{JournaledDesk, OpenJob};
+use job_pools::LineLimitedRunner;
+use refusal::NoMemory;
+use shared_journal::{JournalQueue, SharedJournal};
+use std::alloc::Global;
+use std::sync::Wait;
+use std::thread::Threads;
+use std::time::Clock;
+use streams::Runner;
+use tenant_desks::TenantDesks;
+use tenant_recorder::RecordingTenantHandler;
+
+// The desks that were recovered, and the open jobs of each.
+fn parts_of_each(
+    alloc: Global,
+    states: Vec<JournaledDesk>,
+) -> Result<(Vec<Desk>, Vec<Vec<OpenJob>>), NoMemory>
+    ensures desks { IfOk result (λ parts. parts.0.items
+        ≡ map (λ (s : DeskState). s.desk) states.items) }
+    ensures jobs { IfOk result (λ parts. map (λ (jobs : Vec OpenJob Global). jobs.items) parts.1.items
+        ≡ open_jobs_of states.items) }
+    ensures count { IfOk result (λ parts. (length parts.0.items ≡ length states.items)
+        × (length parts.1.items ≡ length states.items)) }
+{
+    let mut desks = Vec::new(alloc);
+    let mut jobs = Vec::new(alloc);
+    'states: for state in states {
+        let (desk, held) = state.into_parts();
+        desks.push(desk)?;
+        jobs.push(held)?;
+    }
+    Ok((desks, jobs))
+}
+
+// The same, as desks of these doors' tenants and of everybody else.
+fn recovered_desks(
+    alloc: Global,
+    doors: &[TenantDoor],
+    states: Vec<JournaledDesk>,
+) -> Result<(TenantDesks, Vec<Vec<OpenJob>>), NoMemory>
+    requires doors { length doors.now ≤ 256 }
+    requires states { length states.items ≡ length doors.now + 1 }
+    ensures desks { IfOk result (λ parts. parts.0 ≡ recovered_tenancy doors.now states.items) }
+    ensures jobs { IfOk result (λ parts. map (λ (jobs : Vec OpenJob Global). jobs.items) parts.1.items
+        ≡ open_jobs_of states.items) }
+    ensures count { IfOk result (λ parts. (length parts.0.desks ≡ length states.items)
+        × (length parts.1.items ≡ length states.items)) }
+{
+    let names = names_of(alloc, doors)?;
+    let (desks, jobs) = parts_of_each(alloc, states)?;
+    Ok((TenantDesks::of(names, desks), jobs))
+}
+
+// A queue for each journal, in order, which has taken nothing.
+fn queues_of<'s, R>(
+    rt: &'s R,
+    alloc: Global,
+    journals: &'s [SharedJournal],
+) -> Result<Vec<JournalQueue<'s, R>>, NoMemory>
+    ensures own { IfOk result (λ queues. map (queue_journal {R = R}) queues.items
+        ≡ journals.entry.now) }
+    ensures count { IfOk result (λ queues. length queues.items ≡ length journals.entry.now) }
+    ensures none { IfOk result (λ queues. All (λ q. queue_taken {R = R} q ≡ []) queues.items) }
+{
+    let mut queues = Vec::new(alloc);
+    for journal in journals {
+        queues.push(JournalQueue::new(rt, journal))?;
+    }
+    Ok(queues)
+}
+
+// What answers at the desks of a plan, with a queue for each of its journals.
+fn recording_handler<'s, R: Wait, N: Runner + Drop>(
+    rt: &'s R,
+    alloc: Global,
+    runner: N,
+    plan: Plan<'s>,
+) -> Result<RecordingTenantHandler<'s, R, LineLimitedRunner<N>, JournalQueue<'s, R>>, NoMemory>
+    ensures runner { IfOk result (λ made. made.runner
+        ≡ new_by_line (door_limits plan.entry.bounds.tenant_jobs plan.entry.tenants.now) runner) }
+    ensures keep { IfOk result (λ made. made.keep ≡ plan.entry.bounds.keep) }
+    ensures own { IfOk result (λ made. map (λ r. queue_journal {R = R} r.queue) made.recorders
+        ≡ plan.entry.journals.now) }
+    ensures count { IfOk result (λ made. length made.recorders ≡ length plan.entry.journals.now) }
+    ensures fresh { IfOk result (λ made. AreFresh (queue_taken {R = R}) made.recorders) }
+{
+    let limited = limited_by_door(alloc, runner, plan.bounds.tenant_jobs, plan.tenants)?;
+    let queues = queues_of(rt, alloc, plan.journals)?;
+    RecordingTenantHandler::new(alloc, rt, plan.log, limited, plan.bounds.keep, queues)
+}
+
+/// Serves the connections at recovered desks: one for each of the plan's tenants, and one for
+/// everybody else. First the open jobs of each are started again. The journal of each desk takes the
+/// record of each of its changes. The runner runs the jobs of all, as many of each desk as its limit
+/// allows. Refused where there is no memory for what this takes, ahead of the first start.
+pub(crate) fn serve_tenants_recorded<
+    's,
+    R: Threads + Wait + Clock + Sync,
+    L: Listener + Send + Drop,
+    N: Runner + Send + Drop,
+>(
+    rt: &'s R,
+    alloc: Global,
+    listener: L,
+    runner: N,
+    plan: Plan<'s>,
+    states: Vec<JournaledDesk>,
+) -> Result<(), ServeFault>
+    requires ready { N.ready runner }
+    requires tenants { length plan.tenants.now ≤ 256 }
+    requires journals { length plan.journals.now ≡ length plan.tenants.now + 1 }
+    requires states { length states.items ≡ length plan.journals.now }
+    ensures { ((begun : Tenancy × RecordedRunner (LineLimitedRunner N) (JournalQueue R))
+        × (end : Tenancy × RecordedRunner (LineLimitedRunner N) (JournalQueue R))
+        × AreRestarted (starts_by_line N.starts) queue_taken queue_told queue_journal
+        plan.entry.journals.now (recovered_tenancy plan.entry.tenants.now states.items)
+        (open_jobs_of states.items)
+        (new_by_line (door_limits plan.entry.bounds.tenant_jobs plan.entry.tenants.now) runner)
+        plan.entry.bounds.keep begun
+        × (s : IsServingFrom (tenant_answers_recorded (starts_by_line N.starts)
+        (looks_by_line N.looks) (takes_by_line N.takes) queue_taken queue_told) (λ s. s ≡ begun) end
+        plan.entry.sessions (is_some plan.entry.stop) result)
+        × AreOf L.opens L.fails listener s.opened
+        × All (λ c. CameBy L.opens L.passage c.passage) s.closed)
+        ⊎ (result ≡ Err (fault.Connection stream.NoMemory)) }
+{
+    let Ok((mut desks, jobs)) = recovered_desks(alloc, plan.tenants, states) else {
+        return Err(NO_MEMORY);
+    };
+    let Ok(mut handler) = recording_handler(rt, alloc, runner, plan) else {
+        return Err(NO_MEMORY);
+    };
+    handler.restart(alloc, &mut desks, jobs);
+    let recording = TenantRecording::of(handler);
+    let served = serve_at_once(rt, alloc, listener, desks, recording, plan);
+    served.2
+}

@@ -1,0 +1,64 @@
+//! What answers at the desks of tenants, and records what changes each in its own journal.
+
+use refusal::NoMemory;
+use sessions::Request;
+use shared_desk::{Passage, SharedHandler};
+use shared_journal::JournalQueue;
+use std::alloc::Global;
+use std::marker::Model;
+use std::sync::Wait;
+use std::time::Clock;
+use streams::{PendingReply, PreparedRequest, Runner};
+use tenant_desks::TenantDesks;
+use tenant_recorder::RecordingTenantHandler;
+
+/// A handler whose journals are lent for as long as it is. Contracts see the handler itself.
+#[derive(Drop)]
+pub(crate) struct TenantRecording<'s, R, N> {
+    handler: RecordingTenantHandler<'s, R, N, JournalQueue<'s, R>>,
+}
+
+impl<'s, R, N> Model for TenantRecording<'s, R, N> {
+    ghost use Rattle.shared_journal.specs.declared.journal_queue.JournalQueue.{JournalQueue};
+    ghost use Rattle.tenant_recorder.specs.TenantsRecorded.{RecordedRunner};
+
+    ghost Value = { RecordedRunner N (JournalQueue R) };
+
+    ghost view = { λ h. h.handler };
+}
+
+impl<'s, R, N: Drop> TenantRecording<'s, R, N> {
+    ghost use Rattle.std.specs.Prelude.{◌≡◌};
+
+    /// This handler.
+    pub fn of(
+        handler: RecordingTenantHandler<'s, R, N, JournalQueue<'s, R>>,
+    ) -> TenantRecording<'s, R, N>
+        ensures { result ≡ handler.entry }
+    {
+        TenantRecording { handler }
+    }
+}
+
+impl<R: Wait + Clock, N: Runner> SharedHandler<TenantDesks> for TenantRecording<'_, R, N> {
+    ghost use Rattle.tenant_recorder.specs.TenantsRecorded.{tenant_answers_recorded};
+    ghost use Rattle.job_server.specs.Recorded.{queue_taken, queue_told};
+
+    ghost ready = { λ h. N.ready h.runner };
+
+    ghost answers = { tenant_answers_recorded N.starts N.looks N.takes queue_taken queue_told };
+
+    fn wants_admission(&self, desk: &TenantDesks, request: &Request) -> bool {
+        self.handler.wants_admission(desk, request)
+    }
+
+    fn answer_by(
+        &mut self,
+        alloc: Global,
+        desk: &mut TenantDesks,
+        passage: Passage,
+        request: PreparedRequest,
+    ) -> Result<PendingReply, NoMemory> {
+        self.handler.answer_by(alloc, desk, passage, request)
+    }
+}

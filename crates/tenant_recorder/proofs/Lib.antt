@@ -1,0 +1,6 @@
+mod EachPlace
+pub mod Forgotten
+mod AnsweredAt
+mod Handled
+mod Restarted
+mod Recovered

@@ -1,0 +1,47 @@
+use Rattle.std.proofs.Common.{ℕ, List, length, map, string_bytes, IfOk, OnErr, sym, ap, subst, ◌∙◌}
+use Rattle.streams.specs.Prepared.{asked_of}
+use Rattle.shared_desk.specs.Histories.{Query}
+use Rattle.tenant_desks.specs.Tenancies.{Tenancy}
+use Rattle.tenant_recorder.specs.TenantsRecorded.{RecordedRunner, tenant_answers_recorded}
+use Rattle.tenant_recorder.proofs.Handled.{answered_err, answered_ok, apart_err, apart_ok}
+use Rattle.tenant_recorder.proofs.recording_tenants.RecordingTenantHandlerSharedHandlerTenantDesks.answer_by.Goals as goal
+
+pub returns-then-len-clause-ok : goal.returns-then-len-clause-ok
+returns-then-len-clause-ok g c =
+    apart_ok g.N.Runner.starts g.N.Runner.looks g.N.Runner.takes g.Q.RecordQueue.taken g.Q.RecordQueue.has_failed (record { passage = c.args.passage; asked = asked_of c.args.request })
+    (c.args.desk.now, c.args.self.now) c.refuse.result
+    (λ same. c.if-len.true (c.len.ensures ∙ c.self.inside.recorders.ok.0 ∙ ap (λ (v : RecordedRunner g.row.N.Denot g.row.Q.Denot). length v.recorders) c.self.view_is ∙ same
+    ∙ sym (c.len-2.ensures ∙ c.desk.inside.desks.ok.0 ∙ ap (λ (v : Tenancy). length v.desks) c.desk.view_is)))
+
+pub returns-then-len-clause-err : goal.returns-then-len-clause-err
+returns-then-len-clause-err g c =
+    apart_err g.N.Runner.starts g.N.Runner.looks g.N.Runner.takes g.Q.RecordQueue.taken g.Q.RecordQueue.has_failed (record { passage = c.args.passage; asked = asked_of c.args.request })
+    (c.args.desk.now, c.args.self.now) c.refuse.result
+    (λ same. c.if-len.true (c.len.ensures ∙ c.self.inside.recorders.ok.0 ∙ ap (λ (v : RecordedRunner g.row.N.Denot g.row.Q.Denot). length v.recorders) c.self.view_is ∙ same
+    ∙ sym (c.len-2.ensures ∙ c.desk.inside.desks.ok.0 ∙ ap (λ (v : Tenancy). length v.desks) c.desk.view_is)))
+
+pub returns-clause-ok : goal.returns-clause-ok
+returns-clause-ok g c =
+    let a = c.answer_among-refusal in
+    let query : Query = record { passage = c.args.passage; asked = asked_of c.args.request } in
+    let T : Tenancy × RecordedRunner g.row.N.Denot g.row.Q.Denot → Type 0 =
+    λ s. IfOk a.result.1 (λ reply. tenant_answers_recorded g.N.Runner.starts g.N.Runner.looks g.N.Runner.takes g.Q.RecordQueue.taken g.Q.RecordQueue.has_failed s query reply (
+      record { names = map string_bytes c.desk.inside.names.items; desks = a.new.desks.items },
+      record { runner = a.new.runner.runner; keep = c.self.inside.keep; recorders = a.new.recorders.items },
+    )) in
+    subst T (λ k. (c.desk.view_is k, c.self.view_is k))
+    (answered_ok g.N.Runner.starts g.N.Runner.looks g.N.Runner.takes g.Q.RecordQueue.taken g.Q.RecordQueue.has_failed query c.self.inside.keep c.deref.result.now c.desk.inside.names.items c.deref.ensures.value
+    c.desk.inside.desks.items a.new.desks.items c.self.inside.runner.runner a.new.runner.runner c.self.inside.recorders.items a.new.recorders.items a.ensures.forgotten a.ensures.records a.result.1 a.ensures.ok)
+
+pub returns-clause-err : goal.returns-clause-err
+returns-clause-err g c =
+    let a = c.answer_among-refusal in
+    let query : Query = record { passage = c.args.passage; asked = asked_of c.args.request } in
+    let T : Tenancy × RecordedRunner g.row.N.Denot g.row.Q.Denot → Type 0 =
+    λ s. OnErr a.result.1 ((reply : List ℕ) × tenant_answers_recorded g.N.Runner.starts g.N.Runner.looks g.N.Runner.takes g.Q.RecordQueue.taken g.Q.RecordQueue.has_failed s query reply (
+      record { names = map string_bytes c.desk.inside.names.items; desks = a.new.desks.items },
+      record { runner = a.new.runner.runner; keep = c.self.inside.keep; recorders = a.new.recorders.items },
+    )) in
+    subst T (λ k. (c.desk.view_is k, c.self.view_is k))
+    (answered_err g.N.Runner.starts g.N.Runner.looks g.N.Runner.takes g.Q.RecordQueue.taken g.Q.RecordQueue.has_failed query c.self.inside.keep c.deref.result.now c.desk.inside.names.items c.deref.ensures.value
+    c.desk.inside.desks.items a.new.desks.items c.self.inside.runner.runner a.new.runner.runner c.self.inside.recorders.items a.new.recorders.items a.ensures.forgotten a.ensures.records a.result.1 a.ensures.err)

@@ -1,0 +1,61 @@
+//! What the records of each desk's changes lead to, and that they change no answer.
+
+ghost use Rattle.std.specs.Prelude.{◌≡◌, ℕ, List, Some, false, length, slice_get};
+ghost use Rattle.std.specs.List.{AllZip};
+ghost use Rattle.accounts.specs.Ledgers.{Ledger};
+ghost use Rattle.shared_desk.specs.Histories.{HistoryEntry, Replays};
+ghost use Rattle.tenant_desks.specs.Alone.{IsTenantHistory};
+ghost use Rattle.tenant_desks.specs.Answering.{tenant_answers};
+ghost use Rattle.tenant_desks.specs.Tenancies.{Tenancy};
+ghost use Rattle.desk_recorder.specs.Histories.{IsDeskHistory, RecordsLead};
+ghost use Rattle.desk_recorder.specs.declared.recorder.ChangeRecorder.{ChangeRecorder};
+ghost use Rattle.tenant_recorder.specs.Recorders.{AreRecorded, HaveForgotten, IsNewRecorder};
+ghost use Rattle.tenant_recorder.specs.TenantsRecorded.{AreInStep, RecordedRunner, tenant_answers_recorded, unrecorded};
+
+use desk_recorder::RecordQueue;
+use streams::Runner;
+
+/// Whatever is answered, each desk's recorder takes what changes that desk. A history that leads to a
+/// desk, and the records behind it that the desk's own queue took since, lead to the desk as it is, as
+/// long as its recorder goes on. So they do where open jobs are started again.
+pub fn records_lead_to_desks<N: Runner, Q: RecordQueue>()
+    ensures restarted { (before after : List (ChangeRecorder Q)) (old new : List Ledger) (place : ℕ)
+        (p q : ChangeRecorder Q) (d e : Ledger) (history : List (List ℕ))
+        → AreRecorded Q.taken Q.has_failed before after old new
+        → slice_get before place ≡ Some p → slice_get after place ≡ Some q
+        → slice_get old place ≡ Some d → slice_get new place ≡ Some e
+        → IsDeskHistory history d → q.is_stopped ≡ false
+        → RecordsLead Q.taken p.queue q.queue history e }
+    ensures recorded { (answers : List HistoryEntry) (s t : Tenancy × RecordedRunner N Q)
+        → Replays (tenant_answers_recorded N.starts N.looks N.takes Q.taken Q.has_failed)
+        (λ x. x ≡ s) answers t
+        → AreRecorded Q.taken Q.has_failed s.1.recorders t.1.recorders s.0.desks t.0.desks }
+    ensures answered { (answers : List HistoryEntry) (s t : Tenancy × RecordedRunner N Q)
+        (place : ℕ) (p q : ChangeRecorder Q) (d e : Ledger) (history : List (List ℕ))
+        → Replays (tenant_answers_recorded N.starts N.looks N.takes Q.taken Q.has_failed)
+        (λ x. x ≡ s) answers t
+        → slice_get s.1.recorders place ≡ Some p → slice_get t.1.recorders place ≡ Some q
+        → slice_get s.0.desks place ≡ Some d → slice_get t.0.desks place ≡ Some e
+        → IsDeskHistory history d → q.is_stopped ≡ false
+        → RecordsLead Q.taken p.queue q.queue history e }
+{}
+
+/// The recorders change no answer: a history of a handler with recorders is one of the desks and the
+/// runner alone, of which the laws of tenants hold. New recorders, one for each desk, are in step with any desks.
+pub fn recorders_change_no_answer<N: Runner, Q: RecordQueue>()
+    ensures begun { (queues : List Q) (recorders : List (ChangeRecorder Q)) (keep : ℕ)
+        (desks : List Ledger) → AllZip IsNewRecorder queues recorders
+        → length desks ≡ length queues → HaveForgotten keep desks recorders }
+    ensures answered { (answers : List HistoryEntry) (s t : Tenancy × RecordedRunner N Q)
+        → AreInStep s
+        → Replays (tenant_answers_recorded N.starts N.looks N.takes Q.taken Q.has_failed)
+        (λ x. x ≡ s) answers t
+        → Replays (tenant_answers N.starts N.looks N.takes) (λ x. x ≡ unrecorded s) answers
+        (unrecorded t) × AreInStep t }
+    ensures history { (answers : List HistoryEntry) (s t : Tenancy × RecordedRunner N Q)
+        → AreInStep s
+        → Replays (tenant_answers_recorded N.starts N.looks N.takes Q.taken Q.has_failed)
+        (λ x. x ≡ s) answers t
+        → IsTenantHistory N.starts N.looks N.takes s.0.names s.0.desks s.1.keep answers
+        (unrecorded t) }
+{}

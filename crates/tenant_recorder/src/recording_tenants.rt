@@ -1,0 +1,145 @@
+//! What answers the requests of tenants, each at its own desk, and records what changes each desk.
+
+use crate::desk_answers::answer_among;
+use crate::desk_restarts::restart_each;
+use crate::recorders::recorders_of;
+use desk_journal::OpenJob;
+use desk_recorder::{ChangeRecorder, RecordQueue};
+use refusal::NoMemory;
+use server_log::{ServerLog, event_of_refusal};
+use sessions::Request;
+use shared_desk::{Passage, SharedHandler};
+use std::alloc::Global;
+use std::marker::Model;
+use std::sync::Wait;
+use std::time::Clock;
+use streams::{PendingReply, PreparedRequest, Runner};
+use tenant_desks::{PlacedRunner, TenantDesks, refuse, wants_admission_among};
+
+// The number of the refusal of what has no desk here.
+const NO_TENANT: u8 = 74;
+
+/// Answers each request at the desk that it goes to, by one runner of all jobs, and then has that
+/// desk forget the reports of all but its last `keep` jobs; 0: it forgets none. Puts the record of
+/// each change of a desk into that desk's queue. Where there is a log, that is told of each job that
+/// is refused. Contracts see the runner, how many reports are kept, and the recorders.
+///
+/// It is for as many desks as it has queues. At others it answers nothing: 74.
+#[derive(Drop)]
+pub struct RecordingTenantHandler<'a, R, N, Q> {
+    rt: &'a R,
+    log: Option<&'a ServerLog>,
+    runner: PlacedRunner<N>,
+    keep: u32,
+    recorders: Vec<ChangeRecorder<Q>>,
+}
+
+impl<'a, R, N, Q> Model for RecordingTenantHandler<'a, R, N, Q> {
+    ghost use Rattle.tenant_recorder.specs.TenantsRecorded.{RecordedRunner};
+
+    ghost Value = { RecordedRunner N Q };
+
+    ghost view = { λ h. record {
+      runner = h.runner.runner;
+      keep = h.keep;
+      recorders = h.recorders.items;
+    } };
+}
+
+impl<'a, R, N: Runner + Drop, Q: RecordQueue> RecordingTenantHandler<'a, R, N, Q> {
+    ghost use Rattle.std.specs.Prelude.{◌≡◌, IfOk, length, map, Vec};
+    ghost use Rattle.std.specs.List.{AllZip};
+    ghost use Rattle.std.specs.declared.alloc.Global.{Global};
+    ghost use Rattle.desk_journal.specs.declared.journaled_desk.OpenJob.{OpenJob};
+    ghost use Rattle.tenant_recorder.specs.Recorders.{AreRecorded, HaveForgotten, IsNewRecorder};
+    ghost use Rattle.tenant_recorder.specs.TenantRestarts.{RestartsEach};
+
+    /// A handler with a runner of all jobs, and with a log if there is one. The queues are those of
+    /// the desks, in order. Refused where there is no memory.
+    pub fn new(
+        alloc: Global,
+        rt: &'a R,
+        log: Option<&'a ServerLog>,
+        runner: N,
+        keep: u32,
+        queues: Vec<Q>,
+    ) -> Result<RecordingTenantHandler<'a, R, N, Q>, NoMemory>
+        ensures { IfOk result (λ made. (made.runner ≡ runner) × (made.keep ≡ keep)
+            × AllZip IsNewRecorder queues.items made.recorders) }
+    {
+        let recorders = recorders_of(alloc, queues)?;
+        Ok(RecordingTenantHandler {
+            rt,
+            log,
+            runner: PlacedRunner { runner, place: 0 },
+            keep,
+            recorders,
+        })
+    }
+
+    /// Starts the open jobs of each recovered desk again, desk after desk, each job once and in
+    /// order. A refused start ends the job by its number, which is recorded.
+    pub fn restart(&mut self, alloc: Global, desks: &mut TenantDesks, jobs: Vec<Vec<OpenJob>>)
+        requires ready { N.ready self.old.runner }
+        requires paired { length self.old.recorders ≡ length desks.old.desks }
+        requires jobs { length jobs.items ≡ length desks.old.desks }
+        ensures ready { N.ready self.new.runner }
+        ensures starts { RestartsEach N.starts desks.old.desks self.old.runner
+            (map (λ (v : Vec OpenJob Global). v.items) jobs.items) desks.new.desks
+            self.new.runner }
+        ensures records { AreRecorded Q.taken Q.has_failed self.old.recorders
+            self.new.recorders desks.old.desks desks.new.desks }
+        ensures forgotten { HaveForgotten self.old.keep desks.old.desks
+            self.old.recorders
+            → HaveForgotten self.new.keep desks.new.desks self.new.recorders }
+        ensures same { (self.new.keep ≡ self.old.keep)
+            × (desks.new.names ≡ desks.old.names) }
+    {
+        restart_each(
+            alloc,
+            &mut desks.desks,
+            &mut self.runner,
+            &mut self.recorders,
+            jobs,
+        );
+    }
+}
+
+impl<R: Wait + Clock, N: Runner, Q: RecordQueue> SharedHandler<TenantDesks>
+    for RecordingTenantHandler<'_, R, N, Q> {
+    ghost use Rattle.tenant_recorder.specs.TenantsRecorded.{tenant_answers_recorded};
+
+    ghost ready = { λ h. N.ready h.runner };
+
+    ghost answers = { tenant_answers_recorded N.starts N.looks N.takes Q.taken Q.has_failed };
+
+    fn wants_admission(&self, desk: &TenantDesks, request: &Request) -> bool {
+        wants_admission_among(desk, request)
+    }
+
+    fn answer_by(
+        &mut self,
+        alloc: Global,
+        desk: &mut TenantDesks,
+        passage: Passage,
+        request: PreparedRequest,
+    ) -> Result<PendingReply, NoMemory> {
+        if self.recorders.len() != desk.desks.len() {
+            return refuse(alloc, NO_TENANT);
+        }
+        let (refusal, reply) = answer_among(
+            alloc,
+            &desk.names,
+            &mut desk.desks,
+            &mut self.runner,
+            &mut self.recorders,
+            self.keep,
+            passage,
+            request,
+        );
+        if let (Some(log), Some(refusal)) = (self.log, refusal) {
+            log.tell(self.rt, event_of_refusal(refusal));
+        }
+        reply
+    }
+}
