@@ -4,6 +4,7 @@ ghost use Rattle.std.specs.Prelude.{◌≡◌, ◌+◌, ℕ, List, [], IfOk, IfS
 ghost use Rattle.std.specs.Arc.{arc_value};
 ghost use Rattle.journal.specs.Records.{DecodesTo, journal_of};
 ghost use Rattle.journal_file.specs.FileLogs.{file_state};
+ghost use Rattle.shared_journal.specs.Places.{AreAtTheirPlaces};
 ghost use Rattle.recovery.specs.Histories.{IsAfter};
 ghost use Rattle.desk_journal.specs.DeskSteps.{IsNewDesk, MakesBytes};
 
@@ -34,14 +35,15 @@ struct OpenedJournal {
     desk: JournaledDesk,
 }
 
-/// The journals of a server that are open, one for each desk, with the paths of their files, and the
-/// desks that their records lead to.
+/// The journals of a server that are open, one for each desk in order, with the paths of their files,
+/// and the desks that their records lead to.
 #[derive(Drop)]
 pub struct OpenedJournals {
     pub paths: Vec<String>,
     pub journals: Arc<Vec<SharedJournal>, Global>,
     pub desks: Vec<JournaledDesk>,
     ghost paired: { length desks.items ≡ length (arc_value journals).items },
+    ghost placed: { AreAtTheirPlaces (arc_value journals).items },
 }
 
 // The reason why a file isn't gone on with.
@@ -192,18 +194,21 @@ fn replayed<R: Eprint>(
     }
 }
 
-// The same from the file's path.
+// The same from the file's path, for the desk at a place.
 fn opened<R: Files<File = File> + Eprint>(
     rt: &R,
     alloc: Global,
+    place: usize,
     path: &str,
-) -> Result<OpenedJournal, FileFault> {
+) -> Result<OpenedJournal, FileFault>
+    ensures { IfOk result (λ opened. opened.journal.place ≡ place) }
+{
     let mut file = locked_file(rt, path)?;
     sync_name(rt, path)?;
     let mut bytes = Vec::new(alloc);
     file.read_to_end(&mut bytes)?;
     let (log, desk) = replayed(rt, alloc, path, file, &bytes)?;
-    let journal = SharedJournal::new(alloc, log);
+    let journal = SharedJournal::new(alloc, place, log);
     Ok(OpenedJournal { journal, desk })
 }
 
@@ -244,13 +249,14 @@ fn open_each<R: Files<File = File> + Eprint>(
     alloc: Global,
     paths: &[String],
 ) -> Result<(Vec<SharedJournal>, Vec<JournaledDesk>), u8>
-    ensures { IfOk result (λ opened. (length opened.0.items ≡ length paths.now)
+    ensures count { IfOk result (λ opened. (length opened.0.items ≡ length paths.now)
         × (length opened.1.items ≡ length paths.now)) }
+    ensures placed { IfOk result (λ opened. AreAtTheirPlaces opened.0.items) }
 {
     let mut journals = Vec::new(alloc);
     let mut desks = Vec::new(alloc);
     for path in paths {
-        let OpenedJournal { journal, desk } = match opened(rt, alloc, path) {
+        let OpenedJournal { journal, desk } = match opened(rt, alloc, journals.len(), path) {
             Ok(opened) => opened,
             Err(fault) => return Err(refused(rt, path, fault)),
         };

@@ -6,7 +6,6 @@ ghost use Rattle.bpfjobs_cli.specs.Commands.{IsInRange};
 ghost use Rattle.bpfjobs_cli.specs.Performing.{NeedsNoThread};
 ghost use Rattle.std.specs.Prelude.{◌≤◌};
 
-mod first_credits;
 mod journal_opening;
 mod server_threads;
 mod serving;

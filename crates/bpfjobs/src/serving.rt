@@ -5,7 +5,6 @@ ghost use Rattle.std.specs.Arc.{arc_value};
 ghost use Rattle.bpfjobs_cli.specs.Commands.{IsServeInRange};
 ghost use Rattle.bpfjobs_cli.specs.Tenants.{tenants_in};
 
-use crate::first_credits::with_first_credits;
 use crate::journal_opening::OpenedJournals;
 use bpfjobs_cli::{Endpoint, FAILED, Serve, ServeOptions, TenantSettings, TenantSocket};
 use desk_journal::JournaledDesk;
@@ -143,7 +142,7 @@ fn close_journals<R: Wait + Eprint>(
 /// Takes as many connections as the options say, and gives the status: 0 once all have ended, 3 where
 /// one of them, a socket or a journal failed. It ends earlier once the flag is raised, if there is
 /// one. A log, if there is one, is told of it. Where there are journals, it goes on from the desks that
-/// their records lead to, at which tenants have their first credit.
+/// their records lead to.
 pub fn serve<R>(
     rt: &R,
     alloc: Global,
@@ -172,10 +171,6 @@ where
                 desks,
             },
         ) => {
-            let tenants = &server.tenants.tenants;
-            let Ok(desks) = with_first_credits(rt, alloc, tenants, &journals, desks) else {
-                return FAILED;
-            };
             let status = serve_from(rt, alloc, server, stop, log, &journals, desks);
             close_journals(rt, &paths, &journals, status)
         }

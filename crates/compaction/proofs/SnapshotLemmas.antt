@@ -101,3 +101,9 @@ pub keeps_state : {M : Type 0} (starts : M → Type 0) (steps : M → List ℕ �
 keeps_state {M} starts steps alike law bytes tail history payloads machine recovered leads reads after =
     let same = (law bytes payloads leads.payloads tail [] reads leads.reads).0 in
     leads.only recovered (subst (λ (ps : List (List ℕ)). IsAfter starts steps ps recovered) same after)
+
+pub equal_after : {M : Type 0} (starts : M → Type 0) (steps : M → List ℕ → M → Type 0) (alike : M → M → Type 0) (changes history : List (List ℕ)) (machine : M) → ((s t : M) → alike s t → s ≡ t)
+    → StandsForHistory starts steps alike changes history → IsAfter starts steps changes machine → IsAfter starts steps history machine
+equal_after {M} starts steps alike changes history machine equal stands after =
+    let twin = stands machine after in
+    subst (λ (m : M). IsAfter starts steps history m) (sym (equal machine twin.0 twin.2)) twin.1

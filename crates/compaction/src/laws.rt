@@ -41,3 +41,13 @@ pub fn compactions_compose<M: Snapshot>()
         → StandsForHistory M.starts M.steps M.alike between history
         → StandsForHistory M.starts M.steps M.alike changes history }
 {}
+
+/// Where only equal states are alike, a state after changes that stand for a history is one after that
+/// history.
+pub fn equal_states_keep_history<M: Snapshot>()
+    ensures { (payloads history : List (List ℕ)) (machine : M)
+        → ((s t : M) → M.alike s t → s ≡ t)
+        → StandsForHistory M.starts M.steps M.alike payloads history
+        → IsAfter M.starts M.steps payloads machine
+        → IsAfter M.starts M.steps history machine }
+{}

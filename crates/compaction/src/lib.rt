@@ -20,6 +20,6 @@ pub use snapshot::{CompactFault, Snapshot, SnapshotFault, compact, resume_compac
 mod laws;
 
 pub use laws::{
-    compaction_keeps_state, compactions_compose, later_changes_stand_too,
-    snapshot_stands_for_history,
+    compaction_keeps_state, compactions_compose, equal_states_keep_history,
+    later_changes_stand_too, snapshot_stands_for_history,
 };

@@ -18,7 +18,7 @@ mod recorded_submit;
 mod recording_handler;
 mod restarting;
 
-pub use recorded_answers::{keep_recorded, reply_recorded};
+pub use recorded_answers::{grant_recorded, keep_recorded, reply_recorded};
 pub use recorded_ends::end_job;
 pub use recording_handler::RecordingHandler;
 pub use restarting::restart_jobs;

@@ -23,8 +23,8 @@ use streams::{
     answer_result, answer_status, refused,
 };
 
-// Grants credit as the desk does, and records that.
-fn grant_recorded<Q: RecordQueue>(
+/// Grants credit as the desk does, and records that.
+pub fn grant_recorded<Q: RecordQueue>(
     alloc: Global,
     desk: &mut Desk,
     recorder: &mut ChangeRecorder<Q>,

@@ -27,6 +27,7 @@ use Rattle.job_server.specs.declared.fault.ServeFault.{ServeFault}
 use Rattle.job_server.specs.declared.tenant_door.TenantDoor.{TenantDoor}
 use Rattle.job_server.specs.AtOnce.{IsServingFrom, Pool}
 use Rattle.job_server.specs.TenantLimits.{door_limits}
+use Rattle.job_server.specs.TenantServing.{door_credits}
 use Rattle.job_server.specs.TenantRecorded.{AreRestarted, IsServingTenantsRecorded, hosted_answers_recorded, open_jobs_of, recovered_tenancy}
 use Rattle.job_server.proofs.AtOnceAlike.{limited, serving_kept}
 use Rattle.job_server.proofs.RecordedAlike.{limited_is}
@@ -120,7 +121,7 @@ module _ {R Q J : Type 0} (f : R → Pool) (taken : Q → List ℕ) (failed : Q 
   -- the pool's own state is forgotten, but for the jobs that it was given and the boards that it watches
   pub tenants_recorded_serving : (journals : List J) (states : List DeskState) (doors : List TenantDoor) (bounds : Bounds) (l : LimitedRunner R) (pool : R) (begun end : Tenancy × RecordedRunner (LineLimitedRunner (LimitedRunner R)) Q) (sessions : ℕ) (may_stop : Bool)
       (outcome : Result (Unit {0}) ServeFault) → l.runner ≡ pool → l.limit ≡ bounds.open_jobs → ((f pool).0 ≡ []) × ((f pool).1.entries ≡ [])
-      → AreRestarted starts_lined taken failed journal_of journals (recovered_tenancy doors states) (open_jobs_of states) (new_by_line (door_limits bounds.tenant_jobs doors) l) bounds.keep begun
+      → AreRestarted starts_lined taken failed journal_of journals (recovered_tenancy doors states) (door_credits doors) (open_jobs_of states) (new_by_line (door_limits bounds.tenant_jobs doors) l) bounds.keep begun
       → (serving : IsServingFrom (tenant_answers_recorded starts_lined (looks_by_line (looks_within looks)) (takes_by_line (takes_within takes)) taken failed) (λ s. s ≡ begun) end sessions may_stop outcome)
       → (recorded : IsServingTenantsRecorded taken failed journal_of journals states doors bounds sessions may_stop outcome) × (recorded.serving.opened ≡ serving.opened) × (recorded.serving.closed ≡ serving.closed)
   tenants_recorded_serving journals states doors bounds l pool begun end sessions may_stop outcome is_pool is_limit none restarted serving =
@@ -138,10 +139,12 @@ module _ {R Q J : Type 0} (f : R → Pool) (taken : Q → List ℕ) (failed : Q 
             none = restarted.none;
             own = restarted.own;
             paired = restarted.paired;
+            granted = restarted.granted;
+            credited = restarted.credited;
             started = subst
-                (λ (x : LimitedRunner Pool). RestartsEach (starts_by_line (starts_within pooled_count (StartsBy pooled_at pooled_count))) (recovered_tenancy doors states).desks (new_by_line (door_limits bounds.tenant_jobs doors) x) (open_jobs_of states) begun.0.desks (pooled begun.1.runner))
+                (λ (x : LimitedRunner Pool). RestartsEach (starts_by_line (starts_within pooled_count (StartsBy pooled_at pooled_count))) restarted.granted (new_by_line (door_limits bounds.tenant_jobs doors) x) (open_jobs_of states) begun.0.desks (pooled begun.1.runner))
                 (limited_is f bounds l pool is_pool is_limit)
-                (restarts_alike pooled starts_lined (starts_by_line (starts_within pooled_count (StartsBy pooled_at pooled_count))) lined_starts (recovered_tenancy doors states).desks (new_by_line (door_limits bounds.tenant_jobs doors) l) (open_jobs_of states) begun.0.desks begun.1.runner restarted.started);
+                (restarts_alike pooled starts_lined (starts_by_line (starts_within pooled_count (StartsBy pooled_at pooled_count))) lined_starts restarted.granted (new_by_line (door_limits bounds.tenant_jobs doors) l) (open_jobs_of states) begun.0.desks begun.1.runner restarted.started);
             recorded = restarted.recorded;
             names = restarted.names;
             kept = restarted.kept;

@@ -8,8 +8,10 @@ use Rattle.desk_journal.specs.declared.journaled_desk.OpenJob.{OpenJob}
 use Rattle.desk_recorder.specs.declared.recorder.ChangeRecorder.{ChangeRecorder}
 use Rattle.tenant_desks.specs.Tenancies.{Tenancy}
 use Rattle.tenant_recorder.specs.Recorders.{AreRecorded, HaveForgotten, IsNewRecorder}
+use Rattle.tenant_recorder.specs.TenantCredits.{AreCredited}
 use Rattle.tenant_recorder.specs.TenantRestarts.{RestartsEach}
 use Rattle.tenant_recorder.specs.TenantsRecorded.{RecordedRunner}
+use Rattle.tenant_recorder.proofs.EachPlace.{recorded_then}
 use Rattle.job_server.specs.TenantRecorded.{AreFresh, AreRestarted}
 
 module _ {Q : Type 0} (taken : Q → List ℕ) where
@@ -73,22 +75,30 @@ pub made_fresh : {R Q E : Type 0} (queues : List Q) (runner : R) (keep : ℕ) (t
 made_fresh queues runner keep taken (Ok m) is none = fresh_of taken queues m.recorders is.2 none
 made_fresh queues runner keep taken (Err e) is none = tt
 
--- recovered desks, whose open jobs a new handler has started again
-pub tenants_restarted : {R Q J : Type 0} (starts : R → ℕ → AdmittedJob → Result (Unit {0}) ℕ → R → Type 0) (taken : Q → List ℕ) (failed : Q → Type 0) (journal_of : Q → J) (journals : List J) (recovered : Tenancy) (held : List (List OpenJob)) (runner : R) (keep : ℕ)
-    (desks : Tenancy) (jobs : List (List OpenJob)) (handler : RecordedRunner R Q) (after : Tenancy) (left : RecordedRunner R Q) → desks ≡ recovered → jobs ≡ held → handler.runner ≡ runner → handler.keep ≡ keep
+-- recovered desks, at which a new handler has granted each tenant its first credit, and has started the open jobs again
+pub tenants_restarted : {R Q J : Type 0} (starts : R → ℕ → AdmittedJob → Result (Unit {0}) ℕ → R → Type 0) (taken : Q → List ℕ) (failed : Q → Type 0) (journal_of : Q → J) (journals : List J) (recovered : Tenancy)
+    (tenants : List (List ℕ × Option ℕ)) (held : List (List OpenJob)) (runner : R) (keep : ℕ)
+    (desks : Tenancy) (said : List (List ℕ × Option ℕ)) (jobs : List (List OpenJob)) (handler : RecordedRunner R Q) (mid : Tenancy) (granting : RecordedRunner R Q) (after : Tenancy) (left : RecordedRunner R Q)
+    → desks ≡ recovered → said ≡ tenants → jobs ≡ held → handler.runner ≡ runner → handler.keep ≡ keep
     → map (λ (r : ChangeRecorder Q). journal_of r.queue) handler.recorders ≡ journals → AreFresh taken handler.recorders → length handler.recorders ≡ length desks.desks
-    → RestartsEach starts desks.desks handler.runner jobs after.desks left.runner → AreRecorded taken failed handler.recorders left.recorders desks.desks after.desks
-    → (HaveForgotten handler.keep desks.desks handler.recorders → HaveForgotten left.keep after.desks left.recorders) → left.keep ≡ handler.keep → after.names ≡ desks.names
-    → AreRestarted starts taken failed journal_of journals recovered held runner keep (after, left)
-tenants_restarted {R} {Q} starts taken failed journal_of journals recovered held runner keep desks jobs handler after left are_desks are_held is_runner is_keep own fresh paired started recorded forgotten kept names = record {
-  fresh = handler.recorders;
-  none = fresh;
-  own = own;
-  paired = paired ∙ ap (λ (t : Tenancy). length t.desks) are_desks;
-  started = subst (λ (t : Tenancy). RestartsEach starts t.desks runner held after.desks left.runner) are_desks
-      (subst (λ (r : R). RestartsEach starts desks.desks r held after.desks left.runner) is_runner (subst (λ (js : List (List OpenJob)). RestartsEach starts desks.desks handler.runner js after.desks left.runner) are_held started));
-  recorded = subst (λ (t : Tenancy). AreRecorded taken failed handler.recorders left.recorders t.desks after.desks) are_desks recorded;
-  names = names ∙ ap (λ (t : Tenancy). t.names) are_desks;
-  kept = kept ∙ is_keep;
-  in_step = forgotten (fresh_forgotten taken handler.recorders handler.keep desks.desks fresh paired);
-}
+    → AreCredited said desks.desks mid.desks → AreRecorded taken failed handler.recorders granting.recorders desks.desks mid.desks
+    → (HaveForgotten handler.keep desks.desks handler.recorders → HaveForgotten granting.keep mid.desks granting.recorders) → granting.runner ≡ handler.runner → granting.keep ≡ handler.keep → mid.names ≡ desks.names
+    → RestartsEach starts mid.desks granting.runner jobs after.desks left.runner → AreRecorded taken failed granting.recorders left.recorders mid.desks after.desks
+    → (HaveForgotten granting.keep mid.desks granting.recorders → HaveForgotten left.keep after.desks left.recorders) → left.keep ≡ granting.keep → after.names ≡ mid.names
+    → AreRestarted starts taken failed journal_of journals recovered tenants held runner keep (after, left)
+tenants_restarted {R} {Q} starts taken failed journal_of journals recovered tenants held runner keep desks said jobs handler mid granting after left are_desks are_said are_held is_runner is_keep own fresh paired
+    credited first kept_first same_runner same_keep same_names started recorded forgotten kept names = record {
+      fresh = handler.recorders;
+      none = fresh;
+      own = own;
+      paired = paired ∙ ap (λ (t : Tenancy). length t.desks) are_desks;
+      granted = mid.desks;
+      credited = subst (λ (t : Tenancy). AreCredited tenants t.desks mid.desks) are_desks (subst (λ (ts : List (List ℕ × Option ℕ)). AreCredited ts desks.desks mid.desks) are_said credited);
+      started = subst (λ (r : R). RestartsEach starts mid.desks r held after.desks left.runner) (same_runner ∙ is_runner)
+          (subst (λ (js : List (List OpenJob)). RestartsEach starts mid.desks granting.runner js after.desks left.runner) are_held started);
+      recorded = subst (λ (t : Tenancy). AreRecorded taken failed handler.recorders left.recorders t.desks after.desks) are_desks
+          (recorded_then taken failed handler.recorders granting.recorders left.recorders desks.desks mid.desks after.desks first recorded);
+      names = names ∙ same_names ∙ ap (λ (t : Tenancy). t.names) are_desks;
+      kept = kept ∙ same_keep ∙ is_keep;
+      in_step = forgotten (kept_first (fresh_forgotten taken handler.recorders handler.keep desks.desks fresh paired));
+    }

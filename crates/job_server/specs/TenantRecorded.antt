@@ -1,12 +1,14 @@
 -- A server whose tenants have doors, and each of whose desks has a journal.
-use Rattle.std.specs.Prelude.{◌≡◌, ℕ, Bool, false, true, List, [], ◌∷◌, length, map, Result}
+use Rattle.std.specs.Prelude.{◌≡◌, ℕ, Bool, false, true, List, [], ◌∷◌, length, map, Option, Result}
 use Rattle.job_core.specs.Admitted.{AdmittedJob}
+use Rattle.accounts.specs.Ledgers.{Ledger}
 use Rattle.desk_journal.specs.DeskSteps.{DeskState}
 use Rattle.desk_journal.specs.declared.journaled_desk.OpenJob.{OpenJob}
 use Rattle.desk_recorder.specs.declared.recorder.ChangeRecorder.{ChangeRecorder}
 use Rattle.shared_desk.specs.Histories.{Query}
 use Rattle.tenant_desks.specs.Tenancies.{Tenancy}
 use Rattle.tenant_recorder.specs.Recorders.{AreRecorded}
+use Rattle.tenant_recorder.specs.TenantCredits.{AreCredited}
 use Rattle.tenant_recorder.specs.TenantRestarts.{RestartsEach}
 use Rattle.tenant_recorder.specs.TenantsRecorded.{AreInStep, RecordedRunner, tenant_answers_recorded}
 use Rattle.job_pools.specs.Holds.{StartsBy, TellsBy, TakesBy}
@@ -20,7 +22,7 @@ use Rattle.job_server.specs.declared.fault.ServeFault.{ServeFault}
 use Rattle.job_server.specs.declared.tenant_door.TenantDoor.{TenantDoor}
 use Rattle.job_server.specs.AtOnce.{IsServingFrom, Pool}
 use Rattle.job_server.specs.TenantLimits.{door_limits}
-use Rattle.job_server.specs.TenantServing.{door_names}
+use Rattle.job_server.specs.TenantServing.{door_credits, door_names}
 
 -- the desks that were recovered: that of everybody else, and behind it that of each of these doors'
 -- tenants
@@ -40,19 +42,21 @@ AreFresh taken (r ∷ recorders) =
     (taken r.queue ≡ []) × (r.is_stopped ≡ false) × (r.has_changed ≡ true)
     × AreFresh taken recorders
 
--- A server of tenants begins here: at recovered desks, each of whose open jobs was started again,
--- once and in order. Those that were refused are over. Each desk's records go to its own journal, and
--- those of that are the first that its queue takes.
+-- A server of tenants begins here: at recovered desks, where each tenant has its first credit, and
+-- each of whose open jobs was started again, once and in order. Those that were refused are over. Each
+-- desk's records go to its own journal, and those of that are the first that its queue takes.
 pub record AreRestarted {R Q J : Type 0}
     (starts : R → ℕ → AdmittedJob → Result (Unit {0}) ℕ → R → Type 0) (taken : Q → List ℕ)
     (failed : Q → Type 0) (journal_of : Q → J) (journals : List J) (recovered : Tenancy)
-    (held : List (List OpenJob)) (runner : R) (keep : ℕ) (begun : Tenancy × RecordedRunner R Q) :
-    Type 0 where
+    (tenants : List (List ℕ × Option ℕ)) (held : List (List OpenJob)) (runner : R) (keep : ℕ)
+    (begun : Tenancy × RecordedRunner R Q) : Type 0 where
   pub fresh : List (ChangeRecorder Q)
   pub none : AreFresh taken fresh
   pub own : map (λ (r : ChangeRecorder Q). journal_of r.queue) fresh ≡ journals
   pub paired : length fresh ≡ length recovered.desks
-  pub started : RestartsEach starts recovered.desks runner held begun.0.desks begun.1.runner
+  pub granted : List Ledger
+  pub credited : AreCredited tenants recovered.desks granted
+  pub started : RestartsEach starts granted runner held begun.0.desks begun.1.runner
   pub recorded : AreRecorded taken failed fresh begun.1.recorders recovered.desks begun.0.desks
   pub names : begun.0.names ≡ recovered.names
   pub kept : begun.1.keep ≡ keep
@@ -82,7 +86,8 @@ pub record IsServingTenantsRecorded {Q J : Type 0} (taken : Q → List ℕ) (fai
   pub begun : RecordedTenantHosted Q
   pub restarted :
       AreRestarted (starts_by_line (starts_within pooled_count (StartsBy pooled_at pooled_count)))
-      taken failed journal_of journals (recovered_tenancy doors states) (open_jobs_of states)
+      taken failed journal_of journals (recovered_tenancy doors states) (door_credits doors)
+      (open_jobs_of states)
       (new_by_line (door_limits bounds.tenant_jobs doors)
       (record { runner = first; limit = bounds.open_jobs }))
       bounds.keep begun

@@ -15,6 +15,7 @@ ghost use Rattle.job_server.specs.Listening.{AreOf, CameBy};
 ghost use Rattle.job_server.specs.Recorded.{queue_journal, queue_taken, queue_told};
 ghost use Rattle.job_server.specs.TenantLimits.{door_limits};
 ghost use Rattle.job_server.specs.TenantRecorded.{AreFresh, AreRestarted, open_jobs_of, recovered_tenancy};
+ghost use Rattle.job_server.specs.TenantServing.{door_credits};
 ghost use Rattle.job_server.specs.declared.fault.ServeFault.TheVariants as fault;
 
 use crate::at_once::{NO_MEMORY, serve_at_once};
@@ -22,7 +23,7 @@ use crate::fault::ServeFault;
 use crate::listener::Listener;
 use crate::plan::Plan;
 use crate::serving_desks::limited_by_door;
-use crate::tenant_door::{TenantDoor, names_of};
+use crate::tenant_door::{TenantDoor, credits_of, names_of};
 use crate::tenant_recording::TenantRecording;
 use accounts::Desk;
 use desk_journal::{JournaledDesk, OpenJob};
@@ -117,7 +118,8 @@ fn recording_handler<'s, R: Wait, N: Runner + Drop>(
 }
 
 /// Serves the connections at recovered desks: one for each of the plan's tenants, and one for
-/// everybody else. First the open jobs of each are started again. The journal of each desk takes the
+/// everybody else. First each tenant has its first credit, unless something was granted to it before,
+/// and the open jobs of each desk are started again. The journal of each desk takes the
 /// record of each of its changes. The runner runs the jobs of all, as many of each desk as its limit
 /// allows. Refused where there is no memory for what this takes, ahead of the first start.
 pub(crate) fn serve_tenants_recorded<
@@ -141,7 +143,7 @@ pub(crate) fn serve_tenants_recorded<
         × (end : Tenancy × RecordedRunner (LineLimitedRunner N) (JournalQueue R))
         × AreRestarted (starts_by_line N.starts) queue_taken queue_told queue_journal
         plan.entry.journals.now (recovered_tenancy plan.entry.tenants.now states.items)
-        (open_jobs_of states.items)
+        (door_credits plan.entry.tenants.now) (open_jobs_of states.items)
         (new_by_line (door_limits plan.entry.bounds.tenant_jobs plan.entry.tenants.now) runner)
         plan.entry.bounds.keep begun
         × (s : IsServingFrom (tenant_answers_recorded (starts_by_line N.starts)
@@ -154,7 +156,13 @@ pub(crate) fn serve_tenants_recorded<
     let Ok((mut desks, jobs)) = recovered_desks(alloc, plan.tenants, states) else {
         return Err(NO_MEMORY);
     };
+    let Ok(tenants) = credits_of(alloc, plan.tenants) else {
+        return Err(NO_MEMORY);
+    };
     let Ok(mut handler) = recording_handler(rt, alloc, runner, plan) else {
+        return Err(NO_MEMORY);
+    };
+    let Ok(()) = handler.grant_first(alloc, &mut desks, &tenants) else {
         return Err(NO_MEMORY);
     };
     handler.restart(alloc, &mut desks, jobs);

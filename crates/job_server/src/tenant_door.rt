@@ -17,8 +17,8 @@ pub struct TenantDoor {
     pub path: String,
     /// Jobs that it may have open at once, in place of what the bounds say. 0: any number.
     pub open_jobs: Option<u32>,
-    /// Credit that it is granted at first. (Where a plan has journals, it begins with what these lead
-    /// to.)
+    /// Credit that it is granted once, unless the plan's journals tell that something was granted to
+    /// it before.
     pub credit: Option<u32>,
 }
 

@@ -23,19 +23,25 @@ use std::sync::{Mutex, Wait};
 /// commit is durable behind it. That rests on the order of three steps: a record is added behind
 /// the lock of those that wait, a commit takes all of these, and it answers `Ok` once they are
 /// synced. Clauses say of each step what it does.
+///
+/// A server has one for each desk. Its place is that of the desk whose changes it keeps: so clauses
+/// tell one journal from another.
 #[derive(Drop)]
 pub struct SharedJournal {
+    place: usize,
     waiting: Mutex<Vec<u8>>,
     log: Mutex<CommitLog<FileLog>>,
     failed: AtomicBool,
 }
 
 impl SharedJournal {
-    /// A journal over a log of which all is durable.
-    pub fn new(alloc: Global, log: FileLog) -> SharedJournal
+    /// A journal of the desk at a place, over a log of which all is durable.
+    pub fn new(alloc: Global, place: usize, log: FileLog) -> SharedJournal
         requires { (file_state log).pending ≡ [] }
+        ensures { result.place ≡ place }
     {
         SharedJournal {
+            place,
             waiting: Mutex::new(Vec::new(alloc)),
             log: Mutex::new(CommitLog::new(alloc, log)),
             failed: AtomicBool::new(false),

@@ -1,3 +1,4 @@
 pub mod Recorders
 pub mod TenantsRecorded
 pub mod TenantRestarts
+pub mod TenantCredits

@@ -3,6 +3,7 @@
 
 // the recorders of the desks, and what they record
 mod desk_answers;
+mod desk_credits;
 mod desk_ends;
 mod desk_restarts;
 mod recorders;

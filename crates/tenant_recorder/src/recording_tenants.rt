@@ -1,6 +1,7 @@
 //! What answers the requests of tenants, each at its own desk, and records what changes each desk.
 
 use crate::desk_answers::answer_among;
+use crate::desk_credits::credit_each;
 use crate::desk_restarts::restart_each;
 use crate::recorders::recorders_of;
 use desk_journal::OpenJob;
@@ -47,11 +48,12 @@ impl<'a, R, N, Q> Model for RecordingTenantHandler<'a, R, N, Q> {
 }
 
 impl<'a, R, N: Runner + Drop, Q: RecordQueue> RecordingTenantHandler<'a, R, N, Q> {
-    ghost use Rattle.std.specs.Prelude.{◌≡◌, IfOk, length, map, Vec};
+    ghost use Rattle.std.specs.Prelude.{◌≡◌, ◌+◌, IfOk, OnOk, length, map, string_bytes, Vec};
     ghost use Rattle.std.specs.List.{AllZip};
     ghost use Rattle.std.specs.declared.alloc.Global.{Global};
     ghost use Rattle.desk_journal.specs.declared.journaled_desk.OpenJob.{OpenJob};
     ghost use Rattle.tenant_recorder.specs.Recorders.{AreRecorded, HaveForgotten, IsNewRecorder};
+    ghost use Rattle.tenant_recorder.specs.TenantCredits.{AreCredited};
     ghost use Rattle.tenant_recorder.specs.TenantRestarts.{RestartsEach};
 
     /// A handler with a runner of all jobs, and with a log if there is one. The queues are those of
@@ -75,6 +77,30 @@ impl<'a, R, N: Runner + Drop, Q: RecordQueue> RecordingTenantHandler<'a, R, N, Q
             keep,
             recorders,
         })
+    }
+
+    /// Grants each of these tenants its first credit at its own desk, unless something was granted to
+    /// it before, and records that. The desk of everybody else is the first. Refused where there is no
+    /// memory: then some may have theirs.
+    pub fn grant_first(
+        &mut self,
+        alloc: Global,
+        desks: &mut TenantDesks,
+        tenants: &[(String, Option<u32>)],
+    ) -> Result<(), NoMemory>
+        requires paired { length self.old.recorders ≡ length desks.old.desks }
+        requires tenants { length desks.old.desks ≡ length tenants.now + 1 }
+        ensures credited { OnOk result (AreCredited
+            (map (λ x. (string_bytes x.0, x.1)) tenants.now) desks.old.desks desks.new.desks) }
+        ensures records { AreRecorded Q.taken Q.has_failed self.old.recorders
+            self.new.recorders desks.old.desks desks.new.desks }
+        ensures forgotten { HaveForgotten self.old.keep desks.old.desks
+            self.old.recorders
+            → HaveForgotten self.new.keep desks.new.desks self.new.recorders }
+        ensures same { (self.new.runner ≡ self.old.runner) × (self.new.keep ≡ self.old.keep)
+            × (desks.new.names ≡ desks.old.names) }
+    {
+        credit_each(alloc, &mut desks.desks, &mut self.recorders, tenants)
     }
 
     /// Starts the open jobs of each recovered desk again, desk after desk, each job once and in
