@@ -1,7 +1,6 @@
 -- How a conversation ends.
-use Rattle.std.specs.Prelude.{◌≡◌, ℕ, List, ◌++◌, Result}
+use Rattle.std.specs.Prelude.{◌≡◌, ℕ, List, ◌++◌}
 use Rattle.sessions.specs.Frames.{front, too_large}
-use Rattle.sessions.specs.Grammar.{Asked}
 use Rattle.streams.specs.Serves.{Serves}
 use Rattle.streams.specs.Stops.{IsStarved, too_large_reply}
 use Rattle.conversation.specs.declared.ended.Ended.{Ended}
@@ -20,7 +19,7 @@ IsRefused NoMemory before after = after ≡ before
 -- every frame ahead of it is answered, and so is the length. Or there was no memory: frames are
 -- answered up to some frame, by whole replies, and the reply to the next one is lost, if that was
 -- heard.
-abbrev pub IsEnded : {S : Type 0} → Ended → (S → Result Asked ℕ → List ℕ → S → Type 0) → S
+abbrev pub IsEnded : {S : Type 0} → Ended → (S → List ℕ → List ℕ → S → Type 0) → S
     → List ℕ → List ℕ → S → List ℕ → Type 0
 IsEnded TooLarge answers start bytes before end after =
     (count : ℕ) × (left : List ℕ) × (out : List ℕ)

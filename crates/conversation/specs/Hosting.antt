@@ -4,6 +4,7 @@ use Rattle.std.specs.BTreeMap.{get, Updates}
 use Rattle.std.specs.Ordering.{nat_cmp}
 use Rattle.sessions.specs.Frames.{front, partial}
 use Rattle.sessions.specs.Session.{unread}
+use Rattle.streams.specs.Hearing.{by_reading}
 use Rattle.streams.specs.Serves.{Serves}
 use Rattle.conversation.specs.Clerks.{clerk_answers}
 use Rattle.conversation.specs.Conversations.{IsNewConversation, IsOpenConversation}
@@ -30,13 +31,13 @@ IsAsBefore old new = (new.conversations.entries ≡ old.conversations.entries)
 pub record Feeds (clerk : Clerk) (old : Conversation) (piece : List ℕ)
     (result : Result (Unit {0}) Ended) (after : Clerk) (new : Conversation) : Type 0 where
   pub served : OnOk result ((count : ℕ)
-      × Serves clerk_answers (tt, clerk) (unread old.session ++ piece) old.due.items count
+      × Serves (by_reading clerk_answers) (tt, clerk) (unread old.session ++ piece) old.due.items count
       (tt, after)
       (unread new.session) new.due.items)
   pub left : OnOk result (front (unread new.session) ≡ partial)
   pub goes_on : OnOk result (IsOpenConversation new)
   pub ended : IsOpenConversation old → IfErr result (λ ended.
-      IsEnded ended clerk_answers (tt, clerk) (unread old.session ++ piece) old.due.items
+      IsEnded ended (by_reading clerk_answers) (tt, clerk) (unread old.session ++ piece) old.due.items
       (tt, after)
       new.due.items)
   pub told : IfErr result (λ ended. new.ended ≡ Some ended)

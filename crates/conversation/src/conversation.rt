@@ -21,6 +21,7 @@ impl Conversation {
     ghost use Rattle.std.specs.Prelude.{◌++◌, ℕ, length, min, take, drop, None, Some, Err, OnOk, IfErr, IfSome};
     ghost use Rattle.sessions.specs.Frames.{front, partial};
     ghost use Rattle.sessions.specs.Session.{unread};
+    ghost use Rattle.streams.specs.Hearing.{by_reading};
     ghost use Rattle.streams.specs.Serves.{Serves};
     ghost use Rattle.conversation.specs.Conversations.{IsNewConversation, IsOpenConversation};
     ghost use Rattle.conversation.specs.Endings.{IsEnded};
@@ -53,13 +54,13 @@ impl Conversation {
         requires { H.ready handler.old }
         ensures ready { H.ready handler.new }
         ensures served { OnOk result ((count : ℕ)
-            × Serves H.answers (desk.old, handler.old) (unread self.old.session ++ piece.now)
+            × Serves (by_reading H.answers) (desk.old, handler.old) (unread self.old.session ++ piece.now)
             self.old.due.items count (desk.new, handler.new) (unread self.new.session)
             self.new.due.items) }
         ensures left { OnOk result (front (unread self.new.session) ≡ partial) }
         ensures goes_on { OnOk result (IsOpenConversation self.new) }
         ensures ended { IsOpenConversation self.old → IfErr result (λ ended.
-            IsEnded ended H.answers (desk.old, handler.old)
+            IsEnded ended (by_reading H.answers) (desk.old, handler.old)
             (unread self.old.session ++ piece.now) self.old.due.items (desk.new, handler.new)
             self.new.due.items) }
         ensures told { IfErr result (λ ended. self.new.ended ≡ Some ended) }

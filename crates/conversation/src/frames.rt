@@ -4,7 +4,7 @@ ghost use Rattle.std.specs.Prelude.{◌≡◌, ◌≢◌, ◌++◌, ℕ, List, N
 ghost use Rattle.sessions.specs.Frames.{front, partial};
 ghost use Rattle.sessions.specs.Session.{unread, ended_by};
 ghost use Rattle.streams.specs.Serves.{Serves};
-ghost use Rattle.streams.specs.Hearing.{query_of};
+ghost use Rattle.streams.specs.Hearing.{by_reading, query_of};
 ghost use Rattle.conversation.specs.Hearing.{IsArrivedFrame};
 ghost use Rattle.conversation.specs.Endings.{IsEnded, IsRefused};
 
@@ -97,11 +97,11 @@ fn answer_frames<D, H: Handler<D>>(
     requires ready { H.ready handler.old }
     ensures ready { H.ready handler.new }
     ensures served { OnOk result ((count : ℕ)
-        × Serves H.answers (desk.old, handler.old) (unread session.old) due.old.items count
+        × Serves (by_reading H.answers) (desk.old, handler.old) (unread session.old) due.old.items count
         (desk.new, handler.new) (unread session.new) due.new.items) }
     ensures left { OnOk result (front (unread session.new) ≡ partial) }
     ensures well { OnOk result (ended_by session.new ≡ None) }
-    ensures ended { IfErr result (λ ended. IsEnded ended H.answers (desk.old, handler.old)
+    ensures ended { IfErr result (λ ended. IsEnded ended (by_reading H.answers) (desk.old, handler.old)
         (unread session.old) due.old.items (desk.new, handler.new) due.new.items) }
 {
     'frames: loop {
@@ -126,12 +126,12 @@ pub(crate) fn take_frames<D, H: Handler<D>>(
     requires { H.ready handler.old }
     ensures ready { H.ready handler.new }
     ensures served { OnOk result ((count : ℕ)
-        × Serves H.answers (desk.old, handler.old) (unread session.old ++ piece.now) due.old.items
+        × Serves (by_reading H.answers) (desk.old, handler.old) (unread session.old ++ piece.now) due.old.items
         count (desk.new, handler.new) (unread session.new) due.new.items) }
     ensures left { OnOk result (front (unread session.new) ≡ partial) }
     ensures well { OnOk result (ended_by session.new ≡ None) }
     ensures ended { ended_by session.old ≡ None → IfErr result (λ ended.
-        IsEnded ended H.answers (desk.old, handler.old) (unread session.old ++ piece.now)
+        IsEnded ended (by_reading H.answers) (desk.old, handler.old) (unread session.old ++ piece.now)
         due.old.items (desk.new, handler.new) due.new.items) }
     ensures closed { IfSome (ended_by session.old) (λ _. IsErr result
         × (due.new.items ≡ due.old.items) × (desk.new ≡ desk.old)

@@ -1,7 +1,13 @@
 //! What holds of the frames of every stream.
 
-ghost use Rattle.std.specs.Prelude.{◌≡◌, ◌≤◌, ◌++◌, ℕ, List, length};
+ghost use Rattle.std.specs.Prelude.{◌≡◌, ◌≤◌, ◌++◌, ℕ, List, Some, codes, length};
 ghost use Rattle.std.specs.List.{flat_map};
+ghost use Rattle.serde_json.specs.Data.{Data};
+ghost use Rattle.serde_json.specs.Find.{get};
+ghost use Rattle.sessions.specs.Grammar.{request_from};
+ghost use Rattle.sessions.specs.OwnNames.{request_by};
+ghost use Rattle.sessions.specs.declared.tenant_key.TenantKey.{TenantKey};
+ghost use Rattle.sessions.specs.declared.tenant_key.TenantKey.TheVariants.{Required};
 ghost use Rattle.sessions.specs.Frames.{AreBytes, AreShort, Framing, HasNoFrame, Heard, IsStreamOf, framed, frames_of, front, longest_payload, whole};
 
 /// Pieces make no difference: in whatever order a session is fed and asked, all that it was fed is
@@ -27,4 +33,12 @@ pub fn frames_of_bytes()
     ensures written { (payloads : List (List ℕ)) (rest : List ℕ) → AreShort payloads
         → HasNoFrame (front rest) → frames_of (flat_map framed payloads ++ rest)
         ≡ record { payloads = payloads; rest = rest } }
+{}
+
+/// A tenant's name that may be left out changes nothing of a request that has one, nor of the
+/// reading in which it has to be there.
+pub fn named_requests()
+    ensures named { (key : TenantKey) (d value : Data) → get (codes "tenant") d ≡ Some value
+        → request_by key d ≡ request_from d }
+    ensures required { (d : Data) → request_by Required d ≡ request_from d }
 {}

@@ -7,15 +7,17 @@ mod law;
 mod session;
 
 pub use fault::SessionFault;
-pub use law::{frames_of_all_pieces, frames_of_bytes};
+pub use law::{frames_of_all_pieces, frames_of_bytes, named_requests};
 pub use session::Session;
 
 // what its frames ask
 mod hexadecimal;
 mod member;
 mod request;
+mod tenant_key;
 
-pub use request::{JobObject, Request, job_object};
+pub use request::{JobObject, Request, job_object, read_request_by};
+pub use tenant_key::TenantKey;
 
 // what is answered
 mod reply;

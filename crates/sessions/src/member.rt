@@ -4,10 +4,12 @@ ghost use Rattle.std.specs.Prelude.{◌≡◌, ◌≢◌, Some, None, IfOk, IfEr
 ghost use Rattle.std.specs.List.{list_all};
 ghost use Rattle.serde_json.specs.View.{view};
 ghost use Rattle.sessions.specs.Grammar.{text_at_key, number_between, number_at_key, bytes_at_key, list_at_key, tenant_at, is_name, is_name_byte};
+ghost use Rattle.sessions.specs.OwnNames.{tenant_by};
 ghost use Rattle.sessions.specs.declared.fault.SessionFault.TheVariants.{BadRequest, NoMemory};
 
 use crate::fault::SessionFault;
 use crate::hexadecimal::decoded;
+use crate::tenant_key::TenantKey;
 use serde_json::Value;
 use std::alloc::Global;
 
@@ -85,10 +87,23 @@ fn is_name(text: &str) -> bool
     has_name_bytes(text.as_bytes())
 }
 
-/// The name of a tenant, at its key.
-pub(crate) fn tenant_member(value: &Value) -> Option<&str>
+// The name of a tenant, at its key.
+fn name_member(value: &Value) -> Option<&str>
     ensures { option_map (λ s. s.now) result ≡ tenant_at (view value.now) }
 {
     let name = text_member(value, "tenant")?;
     if is_name(name) { Some(name) } else { None }
+}
+
+/// The name of a tenant; where its key may be left out and is, the empty name.
+pub(crate) fn tenant_member(value: &Value, key: TenantKey) -> Option<&str>
+    ensures { option_map (λ s. s.now) result ≡ tenant_by key (view value.now) }
+{
+    match key {
+        TenantKey::Required => name_member(value),
+        TenantKey::Optional => match value.get("tenant") {
+            Some(_) => name_member(value),
+            None => Some(""),
+        },
+    }
 }

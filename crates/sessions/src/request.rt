@@ -2,14 +2,16 @@
 
 ghost use Rattle.std.specs.Prelude.{◌≡◌, ◌≢◌, Some, None, IfOk, IfErr, map};
 ghost use Rattle.serde_json.specs.View.{view};
-ghost use Rattle.sessions.specs.Grammar.{program_from, programs_at, numbers_at, grant_from, account_from, submit_from, status_from, result_from, job_from, form_from, request_from, request_asked, job_asked, program_asked, object_from, object_asked};
+ghost use Rattle.sessions.specs.Grammar.{program_from, programs_at, numbers_at, status_from, result_from, job_from, request_asked, job_asked, program_asked, object_from, object_asked};
 ghost use Rattle.sessions.specs.Answers.{PayloadAnswer, ObjectAnswer};
+ghost use Rattle.sessions.specs.OwnNames.{PayloadAnswerBy, account_by, form_by, grant_by, request_by, submit_by};
 ghost use Rattle.sessions.specs.declared.fault.SessionFault.TheVariants.{BadRequest, NoMemory};
 
 use crate::fault::SessionFault;
 use crate::member::{
     bytes_member, list_member, number_member, number_of, tenant_member, text_member,
 };
+use crate::tenant_key::TenantKey;
 use job_core::ProgramBytes;
 use serde_json::{Category, Value};
 use std::alloc::Global;
@@ -138,13 +140,13 @@ fn read_schedule(alloc: Global, value: &Value) -> Result<Vec<u32>, SessionFault>
     Ok(schedule)
 }
 
-#[tactic(auto, unfolding(crate::specs::Grammar::grant_from))]
-fn read_grant(alloc: Global, value: &Value) -> Result<Request, SessionFault>
-    ensures ok { IfOk result (λ r. grant_from (view value.now) ≡ Some (request_asked r)) }
+#[tactic(auto, unfolding(crate::specs::OwnNames::grant_by))]
+fn read_grant(alloc: Global, value: &Value, key: TenantKey) -> Result<Request, SessionFault>
+    ensures ok { IfOk result (λ r. grant_by key (view value.now) ≡ Some (request_asked r)) }
     ensures err { IfErr result (λ e. (e ≢ NoMemory) → (e ≡ BadRequest)
-        × (grant_from (view value.now) ≡ None)) }
+        × (grant_by key (view value.now) ≡ None)) }
 {
-    let Some(tenant) = tenant_member(value) else {
+    let Some(tenant) = tenant_member(value, key) else {
         return Err(SessionFault::BadRequest);
     };
     let Some(amount) = number_member(value, "amount", 1, MOST_IN_A_GRANT) else {
@@ -156,13 +158,13 @@ fn read_grant(alloc: Global, value: &Value) -> Result<Request, SessionFault>
     })
 }
 
-#[tactic(auto, unfolding(crate::specs::Grammar::account_from))]
-fn read_account(alloc: Global, value: &Value) -> Result<Request, SessionFault>
-    ensures ok { IfOk result (λ r. account_from (view value.now) ≡ Some (request_asked r)) }
+#[tactic(auto, unfolding(crate::specs::OwnNames::account_by))]
+fn read_account(alloc: Global, value: &Value, key: TenantKey) -> Result<Request, SessionFault>
+    ensures ok { IfOk result (λ r. account_by key (view value.now) ≡ Some (request_asked r)) }
     ensures err { IfErr result (λ e. (e ≢ NoMemory) → (e ≡ BadRequest)
-        × (account_from (view value.now) ≡ None)) }
+        × (account_by key (view value.now) ≡ None)) }
 {
-    let Some(tenant) = tenant_member(value) else {
+    let Some(tenant) = tenant_member(value, key) else {
         return Err(SessionFault::BadRequest);
     };
     Ok(Request::Account {
@@ -181,13 +183,13 @@ fn read_status(value: &Value) -> Result<Request, SessionFault>
     }
 }
 
-#[tactic(auto, unfolding(crate::specs::Grammar::submit_from))]
-fn read_submit(alloc: Global, value: &Value) -> Result<Request, SessionFault>
-    ensures ok { IfOk result (λ r. submit_from (view value.now) ≡ Some (request_asked r)) }
+#[tactic(auto, unfolding(crate::specs::OwnNames::submit_by))]
+fn read_submit(alloc: Global, value: &Value, key: TenantKey) -> Result<Request, SessionFault>
+    ensures ok { IfOk result (λ r. submit_by key (view value.now) ≡ Some (request_asked r)) }
     ensures err { IfErr result (λ e. (e ≢ NoMemory) → (e ≡ BadRequest)
-        × (submit_from (view value.now) ≡ None)) }
+        × (submit_by key (view value.now) ≡ None)) }
 {
-    let Some(tenant) = tenant_member(value) else {
+    let Some(tenant) = tenant_member(value, key) else {
         return Err(SessionFault::BadRequest);
     };
     let JobText {
@@ -215,20 +217,25 @@ fn read_result(value: &Value) -> Result<Request, SessionFault>
 }
 
 // The request of the form that `op` names.
-#[tactic(auto, unfolding(crate::specs::Grammar::form_from))]
-fn read_form(alloc: Global, op: &str, value: &Value) -> Result<Request, SessionFault>
-    ensures ok { IfOk result (λ r. form_from op.now (view value.now) ≡ Some (request_asked r)) }
+#[tactic(auto, unfolding(crate::specs::OwnNames::form_by))]
+fn read_form(
+    alloc: Global,
+    op: &str,
+    value: &Value,
+    key: TenantKey,
+) -> Result<Request, SessionFault>
+    ensures ok { IfOk result (λ r. form_by key op.now (view value.now) ≡ Some (request_asked r)) }
     ensures err { IfErr result (λ e. (e ≢ NoMemory) → (e ≡ BadRequest)
-        × (form_from op.now (view value.now) ≡ None)) }
+        × (form_by key op.now (view value.now) ≡ None)) }
 {
     if op == "grant" {
-        return read_grant(alloc, value);
+        return read_grant(alloc, value, key);
     }
     if op == "account" {
-        return read_account(alloc, value);
+        return read_account(alloc, value, key);
     }
     if op == "submit" {
-        return read_submit(alloc, value);
+        return read_submit(alloc, value, key);
     }
     if op == "status" {
         return read_status(value);
@@ -239,14 +246,14 @@ fn read_form(alloc: Global, op: &str, value: &Value) -> Result<Request, SessionF
     Err(SessionFault::BadRequest)
 }
 
-#[tactic(auto, unfolding(crate::specs::Grammar::request_from))]
-fn read_value(alloc: Global, value: &Value) -> Result<Request, SessionFault>
-    ensures ok { IfOk result (λ r. request_from (view value.now) ≡ Some (request_asked r)) }
+#[tactic(auto, unfolding(crate::specs::OwnNames::request_by))]
+fn read_value(alloc: Global, value: &Value, key: TenantKey) -> Result<Request, SessionFault>
+    ensures ok { IfOk result (λ r. request_by key (view value.now) ≡ Some (request_asked r)) }
     ensures err { IfErr result (λ e. (e ≢ NoMemory) → (e ≡ BadRequest)
-        × (request_from (view value.now) ≡ None)) }
+        × (request_by key (view value.now) ≡ None)) }
 {
     match text_member(value, "op") {
-        Some(op) => read_form(alloc, op, value),
+        Some(op) => read_form(alloc, op, value, key),
         None => Err(SessionFault::BadRequest),
     }
 }
@@ -255,8 +262,22 @@ fn read_value(alloc: Global, value: &Value) -> Result<Request, SessionFault>
 pub(crate) fn read_request(alloc: Global, payload: &[u8]) -> Result<Request, SessionFault>
     ensures { PayloadAnswer result payload.now }
 {
+    read_request_by(alloc, payload, TenantKey::Required)
+}
+
+/// The request that a frame's payload says. Where the tenant's name may be left out and is, it is one
+/// of the empty name.
+///
+/// No JSON is 72, JSON that is no request 73, and a growth that was refused 99.
+pub fn read_request_by(
+    alloc: Global,
+    payload: &[u8],
+    key: TenantKey,
+) -> Result<Request, SessionFault>
+    ensures { PayloadAnswerBy key result payload.now }
+{
     match Value::from_slice(alloc, payload) {
-        Ok(value) => read_value(alloc, &value),
+        Ok(value) => read_value(alloc, &value, key),
         Err(e) if e.classify() == Category::Memory => Err(SessionFault::NoMemory),
         Err(_) => Err(SessionFault::NotJson),
     }

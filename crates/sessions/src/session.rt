@@ -179,8 +179,11 @@ impl Session {
         }
     }
 
-    // The payload of the next frame, once it is whole.
-    fn next_frame(&mut self) -> Result<Option<BytesMut>, SessionFault>
+    /// The payload of the next frame, once it is whole; `None` until then.
+    ///
+    /// A frame that is too long is 71 at its turn, and so is every later call. After 99 every later
+    /// call answers 99; no byte behind the frame that found no memory is lost.
+    pub fn next_frame(&mut self) -> Result<Option<BytesMut>, SessionFault>
         ensures answer { ended_by self.old ≡ None
             → FrameAnswer result (unread self.old) (unread self.new) }
         ensures ended { IfSome (ended_by self.old) (λ fault. (result ≡ Err fault)

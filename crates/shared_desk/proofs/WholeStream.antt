@@ -71,8 +71,8 @@ record Entries (may : Passage) (v : ClientView) (bytes before : List ℕ) (count
   pub written : out ≡ before ++ replies_of part
 
 module _ {S : Type 0} (may : Passage) (answers : S → Query → List ℕ → S → Type 0) (begins : S → Type 0) where
-  abbrev pub shared : Unit {0} × ClientView → Result Asked ℕ → List ℕ → Unit {0} × ClientView → Type 0
-  shared s query reply t = IsSharedAnswer answers begins s.1 (admitted_by may query) reply t.1
+  abbrev pub shared : Unit {0} × ClientView → List ℕ → List ℕ → Unit {0} × ClientView → Type 0
+  shared s payload reply t = (heard : Result Asked ℕ) × Hears payload heard × IsSharedAnswer answers begins s.1 (admitted_by may heard) reply t.1
 
   extends_one : (v : ClientView) (query : Query) (reply : List ℕ) (w : ClientView) → IsSharedAnswer answers begins v query reply w → Extends v (entry_for v query reply ∷ []) w
   extends_one v query reply w answer = record {
@@ -85,7 +85,7 @@ module _ {S : Type 0} (may : Passage) (answers : S → Query → List ℕ → S 
       → Serves shared start bytes before count end left out → Entries may start.1 bytes before count end.1 left out
   entries start bytes before count end left out none_yet =
       record { part = []; extends = extends_none start.1; asked = refl; counts = refl; written = sym (append-nil before) }
-  entries start bytes before count end left out (one_more count1 s left1 out1 payload rest reply query t served first heard answer) =
+  entries start bytes before count end left out (one_more count1 s left1 out1 payload rest reply t served first (query, heard, answer)) =
       let r = entries start bytes before count1 s left1 out1 served in
       let e = entry_for s.1 (admitted_by may query) reply in
       record {
@@ -164,7 +164,7 @@ module _ {S : Type 0} (may : Passage) (answers : S → Query → List ℕ → S 
           written = r.written;
         },
       )
-  starved_of start bytes before end after (ahead_of_reply count s left out payload rest reply query t served first heard answer) =
+  starved_of start bytes before end after (ahead_of_reply count s left out payload rest reply t served first (query, heard, answer)) =
       let r = entries start bytes before count s left out served in
       let e = entry_for s.1 (admitted_by may query) reply in (
         r.part ++ e ∷ [],

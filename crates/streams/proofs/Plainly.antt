@@ -15,12 +15,12 @@ use Rattle.accounts.specs.Jobs.{job_at}
 use Rattle.accounts.specs.Ledgers.{Ledger, Finishes, progress_at}
 use Rattle.sessions.specs.Frames.{Front, HasNoFrame, front, frames_of, partial, too_large, whole}
 use Rattle.sessions.specs.Grammar.{Asked, grant, account, submit, status, result}
-use Rattle.sessions.specs.Answers.{Hears}
 use Rattle.sessions.specs.Replies.{frame_of, reply_data}
 use Rattle.sessions.proofs.Framings.{Cuts, cuts_are, cuts_one, frames_are_cut, none_cut, one_cut}
 use Rattle.streams.specs.Passing.{Notes, Passes, Taken}
 use Rattle.streams.specs.Passing as passing
 use Rattle.streams.specs.Answering.{Answers, Grants, GrantsNone, Replies, Settles, Submits, TakesJob, progress_told}
+use Rattle.streams.specs.Hearing.{by_reading}
 use Rattle.streams.specs.Serves.{Serves}
 use Rattle.streams.specs.Serves as serving
 use Rattle.streams.specs.Stops.{EndsWith, IsCutOff, IsDue, IsGrown, IsServed, IsStoppedBy, StopsAt, ahead_of_reply, between, too_large_reply}
@@ -81,6 +81,10 @@ module _ {R : Type 0} (reports : R → List (ℕ × Report)) where
 
   abbrev answers : Ledger × R → Result Asked ℕ → List ℕ → Ledger × R → Type 0
   answers s query reply t = Answers starts looks takes s.0 s.1 query reply t.0 t.1
+
+  -- and to what stands in a payload
+  abbrev read_answers : Ledger × R → List ℕ → List ℕ → Ledger × R → Type 0
+  read_answers = by_reading answers
 
   -- what is taken is noted
   taken_noted : (desk : Ledger) (runner : R) (after : Ledger) (last : R) (ledger : Ledger) → Taken takes desk runner after last → AreNoted after (reports last) ledger → AreNoted desk (reports runner) ledger
@@ -163,7 +167,7 @@ module _ {R : Type 0} (reports : R → List (ℕ × Report)) where
     pub replies : RepliesTo first payloads text ledger
     pub written : out ≡ before ++ text
 
-  pub plain : (start : Ledger × R) (bytes before : List ℕ) (count : ℕ) (s : Ledger × R) (left out : List ℕ) (ledger : Ledger) → Serves answers start bytes before count s left out → AreNoted s.0 (reports s.1) ledger → IsPlain start bytes before count left out ledger
+  pub plain : (start : Ledger × R) (bytes before : List ℕ) (count : ℕ) (s : Ledger × R) (left out : List ℕ) (ledger : Ledger) → Serves read_answers start bytes before count s left out → AreNoted s.0 (reports s.1) ledger → IsPlain start bytes before count left out ledger
   plain start bytes before count s left out ledger serving.none_yet noted = record {
     first = ledger;
     noted = noted;
@@ -178,7 +182,7 @@ module _ {R : Type 0} (reports : R → List (ℕ × Report)) where
       append_nil : (xs : List ℕ) → xs ++ [] ≡ xs
       append_nil [] = refl
       append_nil (x ∷ xs) = ap (λ ys. x ∷ ys) (append_nil xs)
-  plain start bytes before count s left out ledger (serving.one_more n u l o payload rest reply query t served stands heard answer) noted =
+  plain start bytes before count s left out ledger (serving.one_more n u l o payload rest reply t served stands (query, heard, answer)) noted =
       let passed = passes_noted u.0 answer.mid u.1 answer.rest answer.passed in
       let earlier = plain start bytes before n u l o answer.mid served passed.0 in
       let told = plain_reply answer.mid t.0 ledger answer.rest t.1 passed.1 noted query (reply_data answer.told) answer.replies in
@@ -203,7 +207,7 @@ module _ {R : Type 0} (reports : R → List (ℕ × Report)) where
   ends_on partial before out text after is e = (text, refl, e ∙ is)
   ends_on too_large before out text after is e = (text ++ too_large_reply, refl, e ∙ ap (λ xs. xs ++ too_large_reply) is ∙ append_assoc before text too_large_reply)
 
-  pub writes_replies : (start : Ledger × R) (bytes before : List ℕ) (over : Type 0) (end : Ledger × R) (number : ℕ) (after : List ℕ) → IsServed answers start bytes before over end number after →
+  pub writes_replies : (start : Ledger × R) (bytes before : List ℕ) (over : Type 0) (end : Ledger × R) (number : ℕ) (after : List ℕ) → IsServed read_answers start bytes before over end number after →
       WritesReplies start.0 (reports start.1) bytes before over end.0 (reports end.1) number after
   writes_replies start bytes before over end number after served =
       let last = all_noted (reports end.1) end.0 in
@@ -234,7 +238,7 @@ module _ {R : Type 0} (reports : R → List (ℕ × Report)) where
       cuts_are bytes (payloads ++ (frames_of left).payloads) (frames_of left).rest (cuts_then bytes payloads left (frames_of left).payloads (frames_of left).rest cuts (frames_are_cut left).cuts) (frames_are_cut left).none
 
   -- so many frames are answered, and a beginning of their replies is written
-  begun_part : (start : Ledger × R) (bytes before : List ℕ) (count : ℕ) (end : Ledger × R) (left out after lacking : List ℕ) → Serves answers start bytes before count end left out → IsGrown before after → after ++ lacking ≡ out →
+  begun_part : (start : Ledger × R) (bytes before : List ℕ) (count : ℕ) (end : Ledger × R) (left out after lacking : List ℕ) → Serves read_answers start bytes before count end left out → IsGrown before after → after ++ lacking ≡ out →
       BeginsReplies start.0 (reports start.1) bytes before end.0 (reports end.1) after
   begun_part start bytes before count end left out after lacking served grown lacks =
       let last = all_noted (reports end.1) end.0 in
@@ -255,7 +259,7 @@ module _ {R : Type 0} (reports : R → List (ℕ × Report)) where
       }
 
   -- all frames are answered, and of their replies with the last 71 a beginning is written
-  begun_last : (start : Ledger × R) (bytes before : List ℕ) (count : ℕ) (end : Ledger × R) (left out after lacking : List ℕ) → Serves answers start bytes before count end left out → IsGrown before after → front left ≡ too_large → after ++ lacking ≡ out ++ too_large_reply →
+  begun_last : (start : Ledger × R) (bytes before : List ℕ) (count : ℕ) (end : Ledger × R) (left out after lacking : List ℕ) → Serves read_answers start bytes before count end left out → IsGrown before after → front left ≡ too_large → after ++ lacking ≡ out ++ too_large_reply →
       BeginsReplies start.0 (reports start.1) bytes before end.0 (reports end.1) after
   begun_last start bytes before count end left out after lacking served grown stands lacks =
       let last = all_noted (reports end.1) end.0 in
@@ -284,37 +288,37 @@ module _ {R : Type 0} (reports : R → List (ℕ × Report)) where
         );
       }
 
-  begun : (start : Ledger × R) (bytes before : List ℕ) (count : ℕ) (end : Ledger × R) (left out : List ℕ) → Serves answers start bytes before count end left out →
+  begun : (start : Ledger × R) (bytes before : List ℕ) (count : ℕ) (end : Ledger × R) (left out : List ℕ) → Serves read_answers start bytes before count end left out →
       BeginsReplies start.0 (reports start.1) bytes before end.0 (reports end.1) out
   begun start bytes before count end left out served =
-      begun_part start bytes before count end left out out [] served (serves_grow answers start bytes before count end left out served) (append-nil out)
+      begun_part start bytes before count end left out out [] served (serves_grow read_answers start bytes before count end left out served) (append-nil out)
 
   -- one more frame was heard, of whose reply nothing is written
-  begun_ahead : (start : Ledger × R) (bytes before : List ℕ) (count : ℕ) (s : Ledger × R) (left out payload rest reply : List ℕ) (query : Result Asked ℕ) (end : Ledger × R) → Serves answers start bytes before count s left out →
-      front left ≡ whole payload rest → Hears payload query → answers s query reply end → BeginsReplies start.0 (reports start.1) bytes before end.0 (reports end.1) out
-  begun_ahead start bytes before count s left out payload rest reply query end served stands heard answer =
-      begun_part start bytes before (suc count) end rest (out ++ reply) out reply (serving.one_more count s left out payload rest reply query end served stands heard answer)
-      (serves_grow answers start bytes before count s left out served) refl
+  begun_ahead : (start : Ledger × R) (bytes before : List ℕ) (count : ℕ) (s : Ledger × R) (left out payload rest reply : List ℕ) (end : Ledger × R) → Serves read_answers start bytes before count s left out →
+      front left ≡ whole payload rest → read_answers s payload reply end → BeginsReplies start.0 (reports start.1) bytes before end.0 (reports end.1) out
+  begun_ahead start bytes before count s left out payload rest reply end served stands answer =
+      begun_part start bytes before (suc count) end rest (out ++ reply) out reply (serving.one_more count s left out payload rest reply end served stands answer)
+      (serves_grow read_answers start bytes before count s left out served) refl
 
   -- what is due isn't written whole
-  begun_due : (start : Ledger × R) (bytes before : List ℕ) (count : ℕ) (end : Ledger × R) (left out due after lacking : List ℕ) → Serves answers start bytes before count end left out → IsGrown before after → IsDue (front left) out due → after ++ lacking ≡ due →
+  begun_due : (start : Ledger × R) (bytes before : List ℕ) (count : ℕ) (end : Ledger × R) (left out due after lacking : List ℕ) → Serves read_answers start bytes before count end left out → IsGrown before after → IsDue (front left) out due → after ++ lacking ≡ due →
       BeginsReplies start.0 (reports start.1) bytes before end.0 (reports end.1) after
   begun_due start bytes before count end left out due after lacking served grown (inl is) lacks = begun_part start bytes before count end left out after lacking served grown (lacks ∙ is)
   begun_due start bytes before count end left out due after lacking served grown (inr last) lacks = begun_last start bytes before count end left out after lacking served grown last.0 (lacks ∙ last.1)
 
-  begun_cut : (start : Ledger × R) (bytes before : List ℕ) (end : Ledger × R) (after : List ℕ) → IsCutOff answers start bytes before end after → BeginsReplies start.0 (reports start.1) bytes before end.0 (reports end.1) after
+  begun_cut : (start : Ledger × R) (bytes before : List ℕ) (end : Ledger × R) (after : List ℕ) → IsCutOff read_answers start bytes before end after → BeginsReplies start.0 (reports start.1) bytes before end.0 (reports end.1) after
   begun_cut start bytes before end after stop =
       let cut = stop.stop in
-      let early = serves_more answers start stop.early before stop.piece stop.count stop.state stop.left stop.out stop.frames in
-      let all = serves_on answers start (stop.early ++ stop.piece) before stop.count stop.state (stop.left ++ stop.piece) stop.out cut.count end cut.left cut.out early cut.frames in
-      let served = subst (λ (xs : List ℕ). Serves answers start xs before (stop.count + cut.count) end cut.left cut.out) (sym stop.came) all in
-      let grown = grows_on before stop.out after (serves_grow answers start stop.early before stop.count stop.state stop.left stop.out stop.frames) (cut.cut.part, cut.cut.written) in
+      let early = serves_more read_answers start stop.early before stop.piece stop.count stop.state stop.left stop.out stop.frames in
+      let all = serves_on read_answers start (stop.early ++ stop.piece) before stop.count stop.state (stop.left ++ stop.piece) stop.out cut.count end cut.left cut.out early cut.frames in
+      let served = subst (λ (xs : List ℕ). Serves read_answers start xs before (stop.count + cut.count) end cut.left cut.out) (sym stop.came) all in
+      let grown = grows_on before stop.out after (serves_grow read_answers start stop.early before stop.count stop.state stop.left stop.out stop.frames) (cut.cut.part, cut.cut.written) in
       begun_due start bytes before (stop.count + cut.count) end cut.left cut.out cut.due after cut.cut.lacking served grown cut.is_due cut.cut.lacks
 
-  pub begins_replies : (fault : StreamFault) (start : Ledger × R) (bytes before : List ℕ) (end : Ledger × R) (after : List ℕ) → IsStoppedBy fault answers start bytes before end after →
+  pub begins_replies : (fault : StreamFault) (start : Ledger × R) (bytes before : List ℕ) (end : Ledger × R) (after : List ℕ) → IsStoppedBy fault read_answers start bytes before end after →
       BeginsReplies start.0 (reports start.1) bytes before end.0 (reports end.1) after
   begins_replies ReadFailed start bytes before end after stop = begun start bytes before stop.count end stop.left after stop.frames
   begins_replies WriteFailed start bytes before end after stop = begun_cut start bytes before end after stop
   begins_replies NoMemory start bytes before end after (between count s left out served) = begun start bytes before count s left out served
-  begins_replies NoMemory start bytes before end after (ahead_of_reply count s left out payload rest reply query t served stands heard answer) =
-      begun_ahead start bytes before count s left out payload rest reply query t served stands heard answer
+  begins_replies NoMemory start bytes before end after (ahead_of_reply count s left out payload rest reply t served stands answer) =
+      begun_ahead start bytes before count s left out payload rest reply t served stands answer

@@ -2,44 +2,43 @@
 use Rattle.std.proofs.Common.{◌≡◌, ◌⊎◌, inl, inr, length, length-append, ℕ, suc, ◌+◌, ◌-◌, ◌^◌, ◌<◌, ◌≤◌, List, [], ◌++◌, take, drop, min, Bool, Result, Ok, Err, IfOk, IfErr, refl, sym, ap, ◌∙◌, subst, arith, append_assoc, append-nil}
 use Rattle.std.proofs.lemmas.List.{length-drop, take-append-drop}
 use Rattle.sessions.specs.Frames.{Front, front, whole, partial, too_large}
-use Rattle.sessions.specs.Grammar.{Asked}
-use Rattle.sessions.specs.Answers.{Hears}
 use Rattle.sessions.proofs.Fronts.{front_stable}
 use Rattle.streams.specs.Serves.{Serves, none_yet, one_more}
+use Rattle.streams.specs.Unanswered.{IsUnanswered}
 use Rattle.streams.specs.declared.fault.StreamFault.{StreamFault}
 use Rattle.streams.specs.declared.fault.StreamFault.TheVariants.{ReadFailed, WriteFailed, NoMemory}
 use Rattle.streams.specs.Stops.{EndsWith, IsCutShort, IsGivenUp, IsGrown, IsLastUnwritten, IsPartWritten, IsServed, IsStarved, IsStoppedBy, IsUnwritten, StopsAt, ahead_of_reply, between, too_large_reply}
 
 -- more bytes change nothing of what was answered
-pub serves_more : {S : Type 0} (answers : S → Result Asked ℕ → List ℕ → S → Type 0) (start : S) (bytes written more : List ℕ) (count : ℕ) (s : S) (left out : List ℕ) → Serves answers start bytes written count s left out → Serves answers start (bytes ++ more) written count s (left ++ more) out
+pub serves_more : {S : Type 0} (answers : S → List ℕ → List ℕ → S → Type 0) (start : S) (bytes written more : List ℕ) (count : ℕ) (s : S) (left out : List ℕ) → Serves answers start bytes written count s left out → Serves answers start (bytes ++ more) written count s (left ++ more) out
 serves_more answers start bytes written more count s left out none_yet = none_yet
-serves_more answers start bytes written more count s left out (one_more before u left1 out1 payload rest reply query after served first heard answer) =
-    one_more before u (left1 ++ more) out1 payload (rest ++ more) reply query after (serves_more answers start bytes written more before u left1 out1 served) (front_stable left1 more payload rest first) heard answer
+serves_more answers start bytes written more count s left out (one_more before u left1 out1 payload rest reply after served first answer) =
+    one_more before u (left1 ++ more) out1 payload (rest ++ more) reply after (serves_more answers start bytes written more before u left1 out1 served) (front_stable left1 more payload rest first) answer
 
 -- one more frame is answered
-pub serves_one : {S : Type 0} (answers : S → Result Asked ℕ → List ℕ → S → Type 0) (start : S) (bytes written : List ℕ) (count : ℕ) (s : S) (left out payload rest reply : List ℕ) (query : Result Asked ℕ) (t : S) (out1 : List ℕ) → Serves answers start bytes written count s left out → front left ≡ whole payload rest → Hears payload query → answers s query reply t → out1 ≡ out ++ reply → Serves answers start bytes written (suc count) t rest out1
-serves_one answers start bytes written count s left out payload rest reply query t out1 served first heard answer is =
+pub serves_one : {S : Type 0} (answers : S → List ℕ → List ℕ → S → Type 0) (start : S) (bytes written : List ℕ) (count : ℕ) (s : S) (left out payload rest reply : List ℕ) (t : S) (out1 : List ℕ) → Serves answers start bytes written count s left out → front left ≡ whole payload rest → answers s payload reply t → out1 ≡ out ++ reply → Serves answers start bytes written (suc count) t rest out1
+serves_one answers start bytes written count s left out payload rest reply t out1 served first answer is =
     let P : List ℕ → Type 0 = λ o. Serves answers start bytes written (suc count) t rest o in
-    subst P (sym is) (one_more count s left out payload rest reply query t served first heard answer)
+    subst P (sym is) (one_more count s left out payload rest reply t served first answer)
 
-recount : {S : Type 0} (answers : S → Result Asked ℕ → List ℕ → S → Type 0) (start : S) (bytes written : List ℕ) (s : S) (left out : List ℕ) {n m : ℕ} → n ≡ m → Serves answers start bytes written n s left out → Serves answers start bytes written m s left out
+recount : {S : Type 0} (answers : S → List ℕ → List ℕ → S → Type 0) (start : S) (bytes written : List ℕ) (s : S) (left out : List ℕ) {n m : ℕ} → n ≡ m → Serves answers start bytes written n s left out → Serves answers start bytes written m s left out
 recount answers start bytes written s left out is served =
     let P : ℕ → Type 0 = λ n. Serves answers start bytes written n s left out in
     subst P is served
 
-pub serves_on : {S : Type 0} (answers : S → Result Asked ℕ → List ℕ → S → Type 0) (start : S) (bytes written : List ℕ) (first : ℕ) (s : S) (left out : List ℕ) (second : ℕ) (t : S) (left1 out1 : List ℕ) → Serves answers start bytes written first s left out → Serves answers s left out second t left1 out1 → Serves answers start bytes written (first + second) t left1 out1
+pub serves_on : {S : Type 0} (answers : S → List ℕ → List ℕ → S → Type 0) (start : S) (bytes written : List ℕ) (first : ℕ) (s : S) (left out : List ℕ) (second : ℕ) (t : S) (left1 out1 : List ℕ) → Serves answers start bytes written first s left out → Serves answers s left out second t left1 out1 → Serves answers start bytes written (first + second) t left1 out1
 serves_on answers start bytes written first s left out second t left1 out1 earlier none_yet =
     let same : first ≡ first + 0 = omega arith in
     recount answers start bytes written s left out same earlier
-serves_on answers start bytes written first s left out second t left1 out1 earlier (one_more before u left2 out2 payload rest reply query after served stands heard answer) =
+serves_on answers start bytes written first s left out second t left1 out1 earlier (one_more before u left2 out2 payload rest reply after served stands answer) =
     let next : suc (first + before) ≡ first + suc before = omega arith in
     recount answers start bytes written t left1 (out2 ++ reply) next
-    (one_more (first + before) u left2 out2 payload rest reply query after (serves_on answers start bytes written first s left out before u left2 out2 earlier served) stands heard answer)
+    (one_more (first + before) u left2 out2 payload rest reply after (serves_on answers start bytes written first s left out before u left2 out2 earlier served) stands answer)
 
 -- what is written grows
-pub serves_grow : {S : Type 0} (answers : S → Result Asked ℕ → List ℕ → S → Type 0) (start : S) (bytes written : List ℕ) (count : ℕ) (s : S) (left out : List ℕ) → Serves answers start bytes written count s left out → IsGrown written out
+pub serves_grow : {S : Type 0} (answers : S → List ℕ → List ℕ → S → Type 0) (start : S) (bytes written : List ℕ) (count : ℕ) (s : S) (left out : List ℕ) → Serves answers start bytes written count s left out → IsGrown written out
 serves_grow answers start bytes written count s left out none_yet = ([], sym (append-nil written))
-serves_grow answers start bytes written count s left out (one_more before u left1 out1 payload rest reply query after served stands heard answer) =
+serves_grow answers start bytes written count s left out (one_more before u left1 out1 payload rest reply after served stands answer) =
     let earlier = serves_grow answers start bytes written before u left1 out1 served in
     (earlier.0 ++ reply, ap (λ xs. xs ++ reply) earlier.1 ∙ append_assoc written earlier.0 reply)
 
@@ -83,7 +82,7 @@ part_of_write before bytes after n less is = record {
 -- ---- within a piece
 
 -- what is due to the frames that are answered isn't written whole
-pub cut_within : {S : Type 0} (answers : S → Result Asked ℕ → List ℕ → S → Type 0) (start : S) (bytes before : List ℕ) (count : ℕ) (s : S) (left due now after : List ℕ) → Serves answers start bytes before count s left due → IsGrown before now → IsPartWritten now due after → IsCutShort answers start bytes before s after
+pub cut_within : {S : Type 0} (answers : S → List ℕ → List ℕ → S → Type 0) (start : S) (bytes before : List ℕ) (count : ℕ) (s : S) (left due now after : List ℕ) → Serves answers start bytes before count s left due → IsGrown before now → IsPartWritten now due after → IsCutShort answers start bytes before s after
 cut_within answers start bytes before count s left due now after served grown cut = record {
   count = count;
   left = left;
@@ -94,21 +93,21 @@ cut_within answers start bytes before count s left due now after served grown cu
   cut = part_on before now due after grown cut;
 }
 
--- nor is it where one more frame was heard
-pub starved_within : {S : Type 0} (answers : S → Result Asked ℕ → List ℕ → S → Type 0) (start : S) (bytes before : List ℕ) (s : S) (due now after : List ℕ) → IsStarved answers start bytes before s due → IsGrown before now → IsPartWritten now due after → IsCutShort answers start bytes before s after
+-- nor is it where one more frame was answered
+pub starved_within : {S : Type 0} (answers : S → List ℕ → List ℕ → S → Type 0) (start : S) (bytes before : List ℕ) (s : S) (due now after : List ℕ) → IsStarved answers start bytes before s due → IsGrown before now → IsPartWritten now due after → IsCutShort answers start bytes before s after
 starved_within answers start bytes before s due now after (between count u left out served) grown cut = cut_within answers start bytes before count u left out now after served grown cut
-starved_within answers start bytes before s due now after (ahead_of_reply count u left out payload rest reply query t served first heard answer) grown cut = record {
+starved_within answers start bytes before s due now after (ahead_of_reply count u left out payload rest reply t served first answer) grown cut = record {
   count = suc count;
   left = rest;
   out = out ++ reply;
   due = out ++ reply;
-  frames = one_more count u left out payload rest reply query t served first heard answer;
+  frames = one_more count u left out payload rest reply t served first answer;
   is_due = inl refl;
   cut = part_of_more before out reply after (part_on before now out after grown cut);
 }
 
 -- however far the frames of a piece are answered, what waits isn't written whole
-pub waiting_cut : {S : Type 0} (r : Result Bool StreamFault) (answers : S → Result Asked ℕ → List ℕ → S → Type 0) (start : S) (bytes before : List ℕ) (s : S) (left now waiting after : List ℕ) (number : ℕ → Type 0) →
+pub waiting_cut : {S : Type 0} (r : Result Bool StreamFault) (answers : S → List ℕ → List ℕ → S → Type 0) (start : S) (bytes before : List ℕ) (s : S) (left now waiting after : List ℕ) (number : ℕ → Type 0) →
     IfOk r (λ _. (count : ℕ) × Serves answers start bytes before count s left (now ++ waiting) × number count) → IfErr r (λ fault. IsGivenUp fault answers start bytes before s now waiting) → (r ≡ Err WriteFailed → ⊥) →
     IsGrown before now → IsPartWritten now (now ++ waiting) after → IsCutShort answers start bytes before s after
 waiting_cut (Ok goes_on) answers start bytes before s left now waiting after number served stopped not grown cut = cut_within answers start bytes before served.0 s left (now ++ waiting) now after served.1 grown cut
@@ -116,29 +115,36 @@ waiting_cut (Err ReadFailed) answers start bytes before s left now waiting after
 waiting_cut (Err WriteFailed) answers start bytes before s left now waiting after number served stopped not grown cut = absurd (not refl)
 waiting_cut (Err NoMemory) answers start bytes before s left now waiting after number served stopped not grown cut = starved_within answers start bytes before s (now ++ waiting) now after stopped grown cut
 
+-- a frame whose reply isn't given
+starved_at : {S : Type 0} (answers : S → List ℕ → List ℕ → S → Type 0) (start : S) (bytes before : List ℕ) (count : ℕ) (s : S) (left out payload rest : List ℕ) (t : S) → Serves answers start bytes before count s left out → front left ≡ whole payload rest → IsUnanswered answers s payload t → IsStarved answers start bytes before t out
+starved_at answers start bytes before count s left out payload rest t served first (inl same) =
+    subst (λ u. IsStarved answers start bytes before u out) (sym same) (between count s left out served)
+starved_at answers start bytes before count s left out payload rest t served first (inr lost) =
+    ahead_of_reply count s left out payload rest lost.0 t served first lost.1
+
 -- a frame whose reply can't be put behind those that wait
-pub given_up_within : {S : Type 0} (fault : StreamFault) (answers : S → Result Asked ℕ → List ℕ → S → Type 0) (start : S) (bytes before : List ℕ) (count : ℕ) (s : S) (left now waiting payload rest : List ℕ) (query : Result Asked ℕ) (t : S) (now1 waiting1 : List ℕ) →
-    Serves answers start bytes before count s left (now ++ waiting) → IsGrown before now → front left ≡ whole payload rest → Hears payload query → IsUnwritten fault answers s query now waiting t now1 waiting1 →
+pub given_up_within : {S : Type 0} (fault : StreamFault) (answers : S → List ℕ → List ℕ → S → Type 0) (start : S) (bytes before : List ℕ) (count : ℕ) (s : S) (left now waiting payload rest : List ℕ) (t : S) (now1 waiting1 : List ℕ) →
+    Serves answers start bytes before count s left (now ++ waiting) → IsGrown before now → front left ≡ whole payload rest → IsUnwritten fault answers s payload now waiting t now1 waiting1 →
     IsGivenUp fault answers start bytes before t now1 waiting1
-given_up_within ReadFailed answers start bytes before count s left now waiting payload rest query t now1 waiting1 served grown first heard why = absurd why
-given_up_within WriteFailed answers start bytes before count s left now waiting payload rest query t now1 waiting1 served grown first heard why =
-    cut_within answers start bytes before (suc count) t rest ((now ++ waiting) ++ why.0) now now1 (one_more count s left (now ++ waiting) payload rest why.0 query t served first heard why.1) grown why.2
-given_up_within NoMemory answers start bytes before count s left now waiting payload rest query t now1 waiting1 served grown first heard why =
-    let same : now1 ++ waiting1 ≡ now ++ waiting = ap (λ xs. xs ++ waiting1) why.2 ∙ ap (λ xs. now ++ xs) why.3 in
+given_up_within ReadFailed answers start bytes before count s left now waiting payload rest t now1 waiting1 served grown first why = absurd why
+given_up_within WriteFailed answers start bytes before count s left now waiting payload rest t now1 waiting1 served grown first why =
+    cut_within answers start bytes before (suc count) t rest ((now ++ waiting) ++ why.0) now now1 (one_more count s left (now ++ waiting) payload rest why.0 t served first why.1) grown why.2
+given_up_within NoMemory answers start bytes before count s left now waiting payload rest t now1 waiting1 served grown first why =
+    let same : now1 ++ waiting1 ≡ now ++ waiting = ap (λ xs. xs ++ waiting1) why.1 ∙ ap (λ xs. now ++ xs) why.2 in
     let P : List ℕ → Type 0 = λ o. IsStarved answers start bytes before t o in
-    subst P (sym same) (ahead_of_reply count s left (now ++ waiting) payload rest why.0 query t served first heard why.1)
+    subst P (sym same) (starved_at answers start bytes before count s left (now ++ waiting) payload rest t served first why.0)
 
 -- ---- and in all that was read
 
 -- what has no memory within the bytes that are left has none within all of them
-starved_on : {S : Type 0} (answers : S → Result Asked ℕ → List ℕ → S → Type 0) (start : S) (bytes written : List ℕ) (first : ℕ) (s : S) (left out : List ℕ) (t : S) (out1 : List ℕ) → Serves answers start bytes written first s left out → IsStarved answers s left out t out1 → IsStarved answers start bytes written t out1
+starved_on : {S : Type 0} (answers : S → List ℕ → List ℕ → S → Type 0) (start : S) (bytes written : List ℕ) (first : ℕ) (s : S) (left out : List ℕ) (t : S) (out1 : List ℕ) → Serves answers start bytes written first s left out → IsStarved answers s left out t out1 → IsStarved answers start bytes written t out1
 starved_on answers start bytes written first s left out t out1 earlier (between count u left1 out2 served) =
     between (first + count) u left1 out2 (serves_on answers start bytes written first s left out count u left1 out2 earlier served)
-starved_on answers start bytes written first s left out t out1 earlier (ahead_of_reply count u left1 out2 payload rest reply query v served stands heard answer) =
-    ahead_of_reply (first + count) u left1 out2 payload rest reply query v (serves_on answers start bytes written first s left out count u left1 out2 earlier served) stands heard answer
+starved_on answers start bytes written first s left out t out1 earlier (ahead_of_reply count u left1 out2 payload rest reply v served stands answer) =
+    ahead_of_reply (first + count) u left1 out2 payload rest reply v (serves_on answers start bytes written first s left out count u left1 out2 earlier served) stands answer
 
 -- a piece that isn't answered to its end
-pub stops_in_piece : {S : Type 0} (fault : StreamFault) (answers : S → Result Asked ℕ → List ℕ → S → Type 0) (start : S) (early before piece : List ℕ) (count : ℕ) (s : S) (left out : List ℕ) (t : S) (after : List ℕ) →
+pub stops_in_piece : {S : Type 0} (fault : StreamFault) (answers : S → List ℕ → List ℕ → S → Type 0) (start : S) (early before piece : List ℕ) (count : ℕ) (s : S) (left out : List ℕ) (t : S) (after : List ℕ) →
     Serves answers start early before count s left out → front left ≡ partial → length piece ≤ 4096 → IsGivenUp fault answers s (left ++ piece) out t after [] → IsStoppedBy fault answers start (early ++ piece) before t after
 stops_in_piece ReadFailed answers start early before piece count s left out t after served waits short why = absurd why
 stops_in_piece WriteFailed answers start early before piece count s left out t after served waits short why = record {
@@ -159,7 +165,7 @@ stops_in_piece NoMemory answers start early before piece count s left out t afte
     subst P (append-nil after) (starved_on answers start (early ++ piece) before count s (left ++ piece) out t (after ++ []) (serves_more answers start early before piece count s left out served) why)
 
 -- the last 71, that isn't written whole
-pub stops_at_last : {S : Type 0} (fault : StreamFault) (answers : S → Result Asked ℕ → List ℕ → S → Type 0) (start : S) (early before piece : List ℕ) (count : ℕ) (s : S) (left out : List ℕ) (second : ℕ) (t : S) (left1 out1 after : List ℕ) →
+pub stops_at_last : {S : Type 0} (fault : StreamFault) (answers : S → List ℕ → List ℕ → S → Type 0) (start : S) (early before piece : List ℕ) (count : ℕ) (s : S) (left out : List ℕ) (second : ℕ) (t : S) (left1 out1 after : List ℕ) →
     Serves answers start early before count s left out → front left ≡ partial → length piece ≤ 4096 → Serves answers s (left ++ piece) out second t left1 out1 → front left1 ≡ too_large → IsLastUnwritten fault out1 after →
     IsStoppedBy fault answers start (early ++ piece) before t after
 stops_at_last ReadFailed answers start early before piece count s left out second t left1 out1 after served waits short later first why = absurd why
@@ -202,7 +208,7 @@ stops_too_large f over bytes first =
     subst P (sym first) tt
 
 -- all that was read is answered, but for a frame that is cut short
-pub all_served : {S : Type 0} (answers : S → Result Asked ℕ → List ℕ → S → Type 0) (start : S) (all before : List ℕ) (over : Type 0) (count : ℕ) (end : S) (left out : List ℕ) (number : ℕ) → Serves answers start all before count end left out → front left ≡ partial → number ≡ min count (2 ^ 64 - 1) → (over ⊎ (2 ^ 64 - 1 ≤ length all)) → IsServed answers start all before over end number out
+pub all_served : {S : Type 0} (answers : S → List ℕ → List ℕ → S → Type 0) (start : S) (all before : List ℕ) (over : Type 0) (count : ℕ) (end : S) (left out : List ℕ) (number : ℕ) → Serves answers start all before count end left out → front left ≡ partial → number ≡ min count (2 ^ 64 - 1) → (over ⊎ (2 ^ 64 - 1 ≤ length all)) → IsServed answers start all before over end number out
 all_served answers start all before over count end left out number served waits counts stops =
     let P : Front → Type 0 = λ v. EndsWith v out out in
     let Q : Front → Type 0 = λ v. StopsAt v over all in

@@ -1,7 +1,9 @@
 pub mod Faults
 pub mod Serves
 pub mod Stops
+pub mod Unanswered
 pub mod Hearing
+pub mod Fronts
 pub mod Passing
 pub mod Answering
 pub mod Pending

@@ -1,11 +1,10 @@
 -- How a stream ends.
-use Rattle.std.specs.Prelude.{◌≡◌, ◌≤◌, ◌<◌, ◌⊎◌, List, ℕ, ◌++◌, ◌-◌, ◌^◌, length, take, min, None, Result}
+use Rattle.std.specs.Prelude.{◌≡◌, ◌≤◌, ◌<◌, ◌⊎◌, List, ℕ, ◌++◌, ◌-◌, ◌^◌, length, take, min, None}
 use Rattle.sessions.specs.Frames.{Front, front, whole, partial, too_large}
-use Rattle.sessions.specs.Grammar.{Asked}
-use Rattle.sessions.specs.Answers.{Hears}
 use Rattle.sessions.specs.Replies.{frame_of}
 use Rattle.sessions.specs.declared.reply.Reply.TheVariants.{Refused}
 use Rattle.streams.specs.Serves.{Serves}
+use Rattle.streams.specs.Unanswered.{IsUnanswered}
 use Rattle.streams.specs.declared.fault.StreamFault.{StreamFault}
 use Rattle.streams.specs.declared.fault.StreamFault.TheVariants.{ReadFailed, WriteFailed, NoMemory}
 
@@ -29,7 +28,7 @@ StopsAt too_large over bytes = Unit {0}
 
 -- Every frame of the bytes is answered, and the number is that of the frames. `over` says that the
 -- reader has no more.
-pub record IsServed {S : Type 0} (answers : S → Result Asked ℕ → List ℕ → S → Type 0) (start : S)
+pub record IsServed {S : Type 0} (answers : S → List ℕ → List ℕ → S → Type 0) (start : S)
     (bytes before : List ℕ) (over : Type 0) (end : S) (number : ℕ) (after : List ℕ) : Type 0 where
   pub count : ℕ
   pub left : List ℕ
@@ -41,7 +40,7 @@ pub record IsServed {S : Type 0} (answers : S → Result Asked ℕ → List ℕ 
 
 -- The reader failed: every frame that is whole in the bytes is answered, and what was written are
 -- the whole replies.
-pub record IsReadOut {S : Type 0} (answers : S → Result Asked ℕ → List ℕ → S → Type 0) (start : S)
+pub record IsReadOut {S : Type 0} (answers : S → List ℕ → List ℕ → S → Type 0) (start : S)
     (bytes before : List ℕ) (end : S) (after : List ℕ) : Type 0 where
   pub count : ℕ
   pub left : List ℕ
@@ -62,7 +61,7 @@ pub record IsPartWritten (before due after : List ℕ) : Type 0 where
   pub some : 0 < length lacking
 
 -- frames of these bytes are answered, and what is due then isn't written whole
-pub record IsCutShort {S : Type 0} (answers : S → Result Asked ℕ → List ℕ → S → Type 0) (start : S)
+pub record IsCutShort {S : Type 0} (answers : S → List ℕ → List ℕ → S → Type 0) (start : S)
     (bytes before : List ℕ) (end : S) (after : List ℕ) : Type 0 where
   pub count : ℕ
   pub left : List ℕ
@@ -76,7 +75,7 @@ pub record IsCutShort {S : Type 0} (answers : S → Result Asked ℕ → List �
 -- reply written. Of what is due to the frames that are whole with that piece, which has at most
 -- 4,096 bytes, a beginning is written, and not all. The state is that after the frames that were
 -- heard.
-pub record IsCutOff {S : Type 0} (answers : S → Result Asked ℕ → List ℕ → S → Type 0) (start : S)
+pub record IsCutOff {S : Type 0} (answers : S → List ℕ → List ℕ → S → Type 0) (start : S)
     (bytes before : List ℕ) (end : S) (after : List ℕ) : Type 0 where
   pub early : List ℕ
   pub piece : List ℕ
@@ -91,19 +90,19 @@ pub record IsCutOff {S : Type 0} (answers : S → Result Asked ℕ → List ℕ 
   pub stop : IsCutShort answers state (left ++ piece) out end after
 
 -- There was no memory: frames are answered up to some frame, by whole replies, and of the next
--- reply, if its frame was heard, nothing is written.
-pub data IsStarved {S : Type 0} (answers : S → Result Asked ℕ → List ℕ → S → Type 0) (start : S)
+-- reply, if its frame was answered, nothing is written.
+pub data IsStarved {S : Type 0} (answers : S → List ℕ → List ℕ → S → Type 0) (start : S)
     (bytes before : List ℕ) : S → List ℕ → Type 0 where
   between : (count : ℕ) (s : S) (left out : List ℕ)
       → Serves answers start bytes before count s left out
       → IsStarved answers start bytes before s out
-  ahead_of_reply : (count : ℕ) (s : S) (left out payload rest reply : List ℕ)
-      (query : Result Asked ℕ) (t : S) → Serves answers start bytes before count s left out
-      → front left ≡ whole payload rest → Hears payload query → answers s query reply t
+  ahead_of_reply : (count : ℕ) (s : S) (left out payload rest reply : List ℕ) (t : S)
+      → Serves answers start bytes before count s left out
+      → front left ≡ whole payload rest → answers s payload reply t
       → IsStarved answers start bytes before t out
 
 -- what is left of a stream that was given up by this
-abbrev pub IsStoppedBy : {S : Type 0} → StreamFault → (S → Result Asked ℕ → List ℕ → S → Type 0) → S
+abbrev pub IsStoppedBy : {S : Type 0} → StreamFault → (S → List ℕ → List ℕ → S → Type 0) → S
     → List ℕ → List ℕ → S → List ℕ → Type 0
 IsStoppedBy ReadFailed answers start bytes before end after =
     IsReadOut answers start bytes before end after
@@ -115,17 +114,17 @@ IsStoppedBy NoMemory answers start bytes before end after =
 -- ---- within a piece, where replies wait to be written behind what was
 
 -- what is left where a reply can't be put behind those that wait
-abbrev pub IsUnwritten : {S : Type 0} → StreamFault → (S → Result Asked ℕ → List ℕ → S → Type 0) → S
-    → Result Asked ℕ → List ℕ → List ℕ → S → List ℕ → List ℕ → Type 0
-IsUnwritten ReadFailed answers s query before waiting t after waiting' = ⊥
-IsUnwritten WriteFailed answers s query before waiting t after waiting' =
-    (reply : List ℕ) × answers s query reply t
+abbrev pub IsUnwritten : {S : Type 0} → StreamFault → (S → List ℕ → List ℕ → S → Type 0) → S
+    → List ℕ → List ℕ → List ℕ → S → List ℕ → List ℕ → Type 0
+IsUnwritten ReadFailed answers s payload before waiting t after waiting' = ⊥
+IsUnwritten WriteFailed answers s payload before waiting t after waiting' =
+    (reply : List ℕ) × answers s payload reply t
     × IsPartWritten before ((before ++ waiting) ++ reply) after
-IsUnwritten NoMemory answers s query before waiting t after waiting' =
-    (reply : List ℕ) × answers s query reply t × (after ≡ before) × (waiting' ≡ waiting)
+IsUnwritten NoMemory answers s payload before waiting t after waiting' =
+    IsUnanswered answers s payload t × (after ≡ before) × (waiting' ≡ waiting)
 
 -- what is left where a piece isn't answered to its end: some replies may still wait
-abbrev pub IsGivenUp : {S : Type 0} → StreamFault → (S → Result Asked ℕ → List ℕ → S → Type 0) → S
+abbrev pub IsGivenUp : {S : Type 0} → StreamFault → (S → List ℕ → List ℕ → S → Type 0) → S
     → List ℕ → List ℕ → S → List ℕ → List ℕ → Type 0
 IsGivenUp ReadFailed answers start bytes before end after waiting = ⊥
 IsGivenUp WriteFailed answers start bytes before end after waiting =

@@ -11,10 +11,12 @@ pub use tap::Tap;
 // the frames of one, each answered
 mod batch;
 mod fault;
+mod frame_handler;
 mod handler;
 mod serve;
 
 pub use fault::StreamFault;
+pub use frame_handler::{FrameHandler, hear_payload};
 pub use handler::{Handler, TellingHandler};
 pub use serve::serve_stream;
 

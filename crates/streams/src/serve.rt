@@ -5,70 +5,69 @@ ghost use Rattle.sessions.specs.Frames.{front, partial, too_large};
 ghost use Rattle.sessions.specs.Session.{unread, ended_by};
 ghost use Rattle.streams.specs.Serves.{Serves};
 ghost use Rattle.streams.specs.Stops.{IsGivenUp, IsGrown, IsLastUnwritten, IsServed, IsStoppedBy, IsUnwritten, too_large_reply};
-ghost use Rattle.streams.specs.Hearing.{HearsFront, query_of};
+ghost use Rattle.streams.specs.Fronts.{TakesFront};
 
 use crate::batch::{put_reply, write_batch};
 use crate::fault::StreamFault;
-use crate::handler::Handler;
+use crate::frame_handler::FrameHandler;
 use crate::source_and_sink::{Sink, Source, write_all};
+use bytes::BytesMut;
 use refusal::NoMemory;
-use sessions::{Reply, Request, Session, SessionFault, reply_frame};
+use sessions::{Reply, Session, SessionFault, reply_frame};
 use std::alloc::Global;
 
 // The most bytes that a read asks for.
 const PIECE_LEN: usize = 4096;
 
-// What is heard at the front of a stream.
+// What stands at the front of a stream.
 #[derive(Drop)]
 enum NextFrame {
     Waiting,
     TooLarge,
-    Question(Result<Request, u8>),
+    Whole(BytesMut),
 }
 
-fn hear(alloc: Global, session: &mut Session) -> Result<NextFrame, NoMemory>
+fn take_front(session: &mut Session) -> Result<NextFrame, NoMemory>
     requires { ended_by session.old ≡ None }
-    ensures heard { IfOk result (λ heard.
-        HearsFront heard (unread session.old) (unread session.new)) }
-    ensures well { IfOk result (λ heard. heard ≢ NextFrame.TooLarge → ended_by session.new ≡ None) }
+    ensures taken { IfOk result (λ next.
+        TakesFront next (unread session.old) (unread session.new)) }
+    ensures well { IfOk result (λ next. next ≢ NextFrame.TooLarge → ended_by session.new ≡ None) }
 {
-    match session.next_request(alloc) {
+    match session.next_frame() {
         Ok(None) => Ok(NextFrame::Waiting),
-        Ok(Some(request)) => Ok(NextFrame::Question(Ok(request))),
+        Ok(Some(frame)) => Ok(NextFrame::Whole(frame)),
         Err(SessionFault::FrameTooLarge) => Ok(NextFrame::TooLarge),
         Err(SessionFault::NoMemory) => Err(NoMemory),
-        Err(SessionFault::NotJson) => Ok(NextFrame::Question(Err(SessionFault::NotJson.code()))),
-        Err(SessionFault::BadRequest) => Ok(NextFrame::Question(Err(
-            SessionFault::BadRequest.code(),
-        ))),
+        Err(SessionFault::NotJson) => unreachable!(),
+        Err(SessionFault::BadRequest) => unreachable!(),
     }
 }
 
 // Answers one frame, by a reply that waits behind others.
-fn answer_one<W: Sink, D, H: Handler<D>>(
+fn answer_one<W: Sink, D, H: FrameHandler<D>>(
     alloc: Global,
     writer: &mut W,
     batch: &mut Vec<u8>,
     desk: &mut D,
     handler: &mut H,
-    request: Result<Request, u8>,
+    payload: &[u8],
 ) -> Result<(), StreamFault>
     requires sink { W.has_failed writer.old ≡ false }
     requires ready { H.ready handler.old }
     ensures ready { H.ready handler.new }
     ensures ok { OnOk result ((reply : List ℕ)
-        × H.answers (desk.old, handler.old) (query_of request) reply (desk.new, handler.new)
+        × H.answers (desk.old, handler.old) payload.now reply (desk.new, handler.new)
         × (W.transcript writer.new ++ batch.new.items
         ≡ (W.transcript writer.old ++ batch.old.items) ++ reply)) }
     ensures grows { IsGrown (W.transcript writer.old) (W.transcript writer.new) }
     ensures err { IfErr result (λ fault. IsUnwritten fault H.answers (desk.old, handler.old)
-        (query_of request) (W.transcript writer.old) batch.old.items (desk.new, handler.new)
+        payload.now (W.transcript writer.old) batch.old.items (desk.new, handler.new)
         (W.transcript writer.new) batch.new.items) }
     ensures well { OnOk result (W.has_failed writer.new ≡ false) }
     ensures write_failed { result ≡ Err StreamFault.WriteFailed → W.has_failed writer.new ≡ true }
     ensures no_memory { result ≡ Err StreamFault.NoMemory → W.has_failed writer.new ≡ false }
 {
-    let reply = handler.answer(alloc, desk, request)?;
+    let reply = handler.answer_payload(alloc, desk, payload)?;
     match put_reply(writer, batch, &reply) {
         Ok(()) => Ok(()),
         Err(_) => Err(StreamFault::WriteFailed),
@@ -76,7 +75,7 @@ fn answer_one<W: Sink, D, H: Handler<D>>(
 }
 
 // Answers each whole frame. Replies may still wait then. `false`: a length is over the limit.
-fn answer_frames<W: Sink, D, H: Handler<D>>(
+fn answer_frames<W: Sink, D, H: FrameHandler<D>>(
     alloc: Global,
     session: &mut Session,
     writer: &mut W,
@@ -108,18 +107,18 @@ fn answer_frames<W: Sink, D, H: Handler<D>>(
     ensures no_memory { result ≡ Err StreamFault.NoMemory → W.has_failed writer.new ≡ false }
 {
     'frames: loop {
-        let request = match hear(alloc, session)? {
+        let frame = match take_front(session)? {
             NextFrame::Waiting => return Ok(true),
             NextFrame::TooLarge => return Ok(false),
-            NextFrame::Question(request) => request,
+            NextFrame::Whole(frame) => frame,
         };
-        answer_one(alloc, writer, batch, desk, handler, request)?;
+        answer_one(alloc, writer, batch, desk, handler, frame.as_slice())?;
         *number = number.saturating_add(1);
     }
 }
 
 // Answers each whole frame, and writes the replies together. `false`: a length is over the limit.
-fn answer_together<W: Sink, D, H: Handler<D>>(
+fn answer_together<W: Sink, D, H: FrameHandler<D>>(
     alloc: Global,
     session: &mut Session,
     writer: &mut W,
@@ -162,7 +161,7 @@ fn answer_together<W: Sink, D, H: Handler<D>>(
 
 // Takes a piece that came, and answers each frame that is whole now. `false`: a length is over the
 // limit.
-fn take_piece<W: Sink, D, H: Handler<D>>(
+fn take_piece<W: Sink, D, H: FrameHandler<D>>(
     alloc: Global,
     session: &mut Session,
     piece: &[u8],
@@ -240,7 +239,7 @@ fn refuse_length<W: Sink>(alloc: Global, writer: &mut W) -> Result<(), StreamFau
 /// where the writer failed: within the replies of a piece, or the last 71. 99 where a piece, a frame or a
 /// reply found no memory, and neither has failed: what was written are whole replies. The desk is
 /// that after the requests that were heard.
-pub fn serve_stream<R: Source, W: Sink, D, H: Handler<D>>(
+pub fn serve_stream<R: Source, W: Sink, D, H: FrameHandler<D>>(
     alloc: Global,
     reader: &mut R,
     writer: &mut W,

@@ -1,4 +1,4 @@
-use Rattle.std.proofs.Common.{refl, subst, ◌∙◌}
+use Rattle.std.proofs.Common.{refl, ◌∙◌}
 use Rattle.std.proofs.lemmas.Result.{IfOk-weaker}
 use Rattle.sessions.specs.declared.reply.Reply.TheVariants.{Submit, Refused}
 use Rattle.streams.proofs.Answered.{is_frame, open_taken, says_started}

@@ -14,7 +14,7 @@ short_piece n piece within all = omega (arith, length-take-le n piece within, wi
 
 pub reads-init : goal.reads-init
 reads-init g c =
-    let P : List ℕ → Type 0 = λ left. Serves g.H.Handler.answers (c.args.desk.now, c.args.handler.now) [] (g.W.Sink.transcript c.args.writer.now) 0 (c.args.desk.now, c.args.handler.now) left (g.W.Sink.transcript c.args.writer.now) in
+    let P : List ℕ → Type 0 = λ left. Serves g.H.FrameHandler.answers (c.args.desk.now, c.args.handler.now) [] (g.W.Sink.transcript c.args.writer.now) 0 (c.args.desk.now, c.args.handler.now) left (g.W.Sink.transcript c.args.writer.now) in
     let fresh = c.new-session.ensures.unread in
     record {
       served = ([], 0, sym (append-nil (g.R.Source.transcript c.args.reader.now)), subst P (sym fresh) none_yet, refl, omega arith);
@@ -42,7 +42,7 @@ returns-in_err-goes_on-clause-stopped g c =
     rw p.1 (rw p.2 (
       before.0 ++ piece,
       c.in-Ok.ensures.bytes ∙ ap (λ xs. xs ++ piece) before.2 ∙ append_assoc (g.R.Source.transcript c.args.reader.now) before.0 piece,
-      stops_in_piece _ g.H.Handler.answers _ before.0 _ piece before.1 _ _ _ _ _ before.3 c.reads.invariant.left (short_piece c.in-Ok.count c.read.new.piece (search rules) (search rules)) c.in_err-goes_on.ensures.stopped,
+      stops_in_piece _ g.H.FrameHandler.answers _ before.0 _ piece before.1 _ _ _ _ _ before.3 c.reads.invariant.left (short_piece c.in-Ok.count c.read.new.piece (search rules) (search rules)) c.in_err-goes_on.ensures.stopped,
     ))
 
 pub returns-in_err-refuse_length-clause-stopped : goal.returns-in_err-refuse_length-clause-stopped
@@ -54,7 +54,7 @@ returns-in_err-refuse_length-clause-stopped g c =
     rw p.1 (rw p.2 (
       before.0 ++ piece,
       c.in-Ok.ensures.bytes ∙ ap (λ xs. xs ++ piece) before.2 ∙ append_assoc (g.R.Source.transcript c.args.reader.now) before.0 piece,
-      stops_at_last _ g.H.Handler.answers _ before.0 _ piece before.1 _ _ _ next.0 _ (unread c.take_piece.new.session) _ _ before.3 c.reads.invariant.left (short_piece c.in-Ok.count c.read.new.piece (search rules) (search rules)) next.1 (search rules) c.in_err-refuse_length.ensures.err,
+      stops_at_last _ g.H.FrameHandler.answers _ before.0 _ piece before.1 _ _ _ next.0 _ (unread c.take_piece.new.session) _ _ before.3 c.reads.invariant.left (short_piece c.in-Ok.count c.read.new.piece (search rules) (search rules)) next.1 (search rules) c.in_err-refuse_length.ensures.err,
     ))
 
 pub returns-then-not-goes_on-clause-served : goal.returns-then-not-goes_on-clause-served
@@ -68,7 +68,7 @@ returns-then-not-goes_on-clause-served g c =
         count = before.1 + next.0;
         left = unread c.take_piece.new.session;
         out = g.W.Sink.transcript c.take_piece.new.writer;
-        frames = serves_on g.H.Handler.answers _ _ _ _ _ _ _ _ _ _ _ (serves_more g.H.Handler.answers _ _ _ piece _ _ _ _ before.3) next.1;
+        frames = serves_on g.H.FrameHandler.answers _ _ _ _ _ _ _ _ _ _ _ (serves_more g.H.FrameHandler.answers _ _ _ piece _ _ _ _ before.3) next.1;
         counts = counted_on before.1 next.0 _ (let is = before.4 in rw (← is) next.2);
         last = ends_too_large _ _ _ (search rules) c.in_ok-refuse_length.ensures.ok;
         stops = stops_too_large _ _ _ (search rules);
@@ -86,7 +86,7 @@ reads-preserved g c =
         before.0 ++ piece,
         before.1 + next.0,
         c.in-Ok.ensures.bytes ∙ ap (λ xs. xs ++ piece) before.2 ∙ append_assoc (g.R.Source.transcript c.args.reader.now) before.0 piece,
-        serves_on g.H.Handler.answers _ _ _ _ _ _ _ _ _ _ _ (serves_more g.H.Handler.answers _ _ _ piece _ _ _ _ before.3) next.1,
+        serves_on g.H.FrameHandler.answers _ _ _ _ _ _ _ _ _ _ _ (serves_more g.H.FrameHandler.answers _ _ _ piece _ _ _ _ before.3) next.1,
         counted_on before.1 next.0 _ (let is = before.4 in rw (← is) next.2),
         omega (arith, before.5, length-append before.0 piece, length-take-le c.in-Ok.count c.read.new.piece within, c.if-count-eq0.false),
       );
@@ -106,7 +106,7 @@ returns-then-count-eq0-clause-served g c =
     let over = c.in-Ok.ensures.over ∙ ap (λ n. nat_eq n 0) none in (
       before.0,
       c.in-Ok.ensures.bytes ∙ told ∙ before.2,
-      all_served g.H.Handler.answers _ before.0 _ _ before.1 _ (unread c.reads.session) _ _ before.3 c.reads.invariant.left before.4 (inl over),
+      all_served g.H.FrameHandler.answers _ before.0 _ _ before.1 _ (unread c.reads.session) _ _ before.3 c.reads.invariant.left before.4 (inl over),
     )
 
 pub returns-clause-served : goal.returns-clause-served
@@ -114,5 +114,5 @@ returns-clause-served g c =
     let before = c.reads.invariant.served in (
       before.0,
       before.2,
-      all_served g.H.Handler.answers _ before.0 _ _ before.1 _ (unread c.reads.session) _ _ before.3 c.reads.invariant.left before.4 (inr (omega (arith, c.reads-test.false, before.5))),
+      all_served g.H.FrameHandler.answers _ before.0 _ _ before.1 _ (unread c.reads.session) _ _ before.3 c.reads.invariant.left before.4 (inr (omega (arith, c.reads-test.false, before.5))),
     )
