@@ -9,11 +9,13 @@ use Rattle.sessions.specs.Replies.{items, task_data, whole}
 use Rattle.desk_journal.specs.declared.change.DeskChange.{DeskChange}
 use Rattle.desk_journal.specs.declared.change.DeskChange.TheVariants.{Granted, Submitted, Finished, Failed, Forgotten}
 
--- a tenant's name; bytes that are no text, which no desk takes for a name, in hexadecimal
+-- bytes that are no text, in hexadecimal
+abbrev pub bytes_data : List ℕ → Data
+bytes_data bytes = object (member (codes "bytes") (string (encode_lower bytes)) no_members)
+
+-- a tenant's name, or bytes that no desk takes for one
 abbrev pub tenant_data : List ℕ → Data
-tenant_data name =
-    if is_utf8 name then string name
-    else object (member (codes "bytes") (string (encode_lower name)) no_members)
+tenant_data name = if is_utf8 name then string name else bytes_data name
 
 -- a program of a job
 unfoldable pub submitted_program : ProgramBytes → Data

@@ -1,9 +1,10 @@
 //! A change of a desk as a JSON value.
 
 ghost use Rattle.std.specs.Prelude.{◌≡◌, IfOk, map};
+ghost use Rattle.serde_json.specs.Data.{string};
 ghost use Rattle.serde_json.specs.View.{view};
 ghost use Rattle.sessions.specs.Replies.{task_data};
-ghost use Rattle.journal_text.specs.ChangeData.{change_data, failed_data, finished_data, forgotten_data, granted_data, submitted_data, submitted_program, tenant_data};
+ghost use Rattle.journal_text.specs.ChangeData.{bytes_data, change_data, failed_data, finished_data, forgotten_data, granted_data, submitted_data, submitted_program, tenant_data};
 
 use credit_book::{Report, TaskEnd};
 use desk_journal::DeskChange;
@@ -11,16 +12,28 @@ use job_core::ProgramBytes;
 use serde_json::{Value, json};
 use std::alloc::{AllocError, Global};
 
-// A tenant's name.
+fn text_value(alloc: Global, text: &str) -> Result<Value, AllocError>
+    ensures { IfOk result (λ v. view v ≡ string text.now) }
+{
+    let value = Value::String(String::from_str(alloc, text)?);
+    Ok(value)
+}
+
+// Bytes that are no text.
+fn bytes_value(alloc: Global, bytes: &[u8]) -> Result<Value, AllocError>
+    ensures { IfOk result (λ v. view v ≡ bytes_data bytes.now) }
+{
+    let bytes = hex::encode(alloc, bytes)?;
+    json!(in alloc; {"bytes": bytes.as_str()})
+}
+
+// A tenant's name, or bytes that are none.
 fn tenant_value(alloc: Global, tenant: &[u8]) -> Result<Value, AllocError>
     ensures { IfOk result (λ v. view v ≡ tenant_data tenant.now) }
 {
     match str::from_utf8(tenant) {
-        Ok(name) => Ok(Value::String(String::from_str(alloc, name)?)),
-        Err(_) => {
-            let bytes = hex::encode(alloc, tenant)?;
-            json!(in alloc; {"bytes": bytes.as_str()})
-        }
+        Ok(name) => text_value(alloc, name),
+        Err(_) => bytes_value(alloc, tenant),
     }
 }
 

@@ -35,29 +35,31 @@ fn number_behind(number: u64, change: &DeskChange) -> u64
     }
 }
 
-// Writes the line of a change.
+// Writes the line of a change, and gives the number of the next job that is taken.
 fn write_change<W: Sink>(
     alloc: Global,
     at: usize,
     number: u64,
-    change: &DeskChange,
+    change: DeskChange,
     writer: &mut W,
-) -> Result<(), StreamFault>
-    requires { W.has_failed writer.old ≡ false }
+) -> Result<u64, StreamFault>
+    requires sink { W.has_failed writer.old ≡ false }
+    requires few { number < 2 ^ 64 - 1 }
     ensures ok { OnOk result (W.transcript writer.new ≡ W.transcript writer.old
-        ++ change_line at number change.now) }
+        ++ change_line at number change) }
+    ensures next { IfOk result (λ next. next ≡ number_behind number change) }
     ensures well { OnOk result (W.has_failed writer.new ≡ false) }
     ensures err { OnErr result ((n : ℕ) × (W.transcript writer.new ≡ W.transcript writer.old
-        ++ take n (change_line at number change.now))) }
+        ++ take n (change_line at number change))) }
     ensures write_failed { result ≡ Err StreamFault.WriteFailed → W.has_failed writer.new ≡ true }
     ensures no_memory { result ≡ Err StreamFault.NoMemory → W.has_failed writer.new ≡ false }
     ensures no_other { result ≢ Err StreamFault.ReadFailed }
 {
-    let Ok(line) = change_line(alloc, at as u64, number, change) else {
+    let Ok(line) = change_line(alloc, at as u64, number, &change) else {
         return Err(StreamFault::NoMemory);
     };
     match write_all(writer, &line) {
-        Ok(()) => Ok(()),
+        Ok(()) => Ok(number_behind(number, &change)),
         Err(_) => Err(StreamFault::WriteFailed),
     }
 }
@@ -94,11 +96,10 @@ pub fn write_changes<W: Sink>(
             Err(ChangeFault::NoMemory) => return Err(StreamFault::NoMemory),
             Err(ChangeFault::NotAChange) => return Ok(JournalEnd::NotAChange { at }),
         };
-        match write_change(alloc, at, number, &change, writer) {
-            Ok(()) => {}
+        match write_change(alloc, at, number, change, writer) {
+            Ok(next) => number = next,
             Err(fault) => return Err(fault),
         }
-        number = number_behind(number, &change);
         rest = rest.split_at(HEADER_LEN + payload.len()).1;
     }
     let at = bytes.len() - rest.len();
