@@ -20,11 +20,9 @@ fn contents<R: Files + AllocGlobal>(rt: &R, path: &str) -> Result<Vec<u8>, FileF
     Ok(fs::read(rt, path)?)
 }
 
-// Tells a torn record of so many bytes, if there is one, and gives the status.
-fn told_tail<R: Eprint>(rt: &R, path: &str, at: usize, torn: usize) -> u8 {
-    if torn > 0 {
-        let _ = eprintln!(rt; "bpfjobs: {path}: {torn} bytes of a torn record at byte {at}");
-    }
+// Tells a torn record, which begins at this byte and has so many, and gives the status.
+fn told_torn<R: Eprint>(rt: &R, path: &str, at: usize, torn: usize) -> u8 {
+    let _ = eprintln!(rt; "bpfjobs: {path}: {torn} bytes of a torn record at byte {at}");
     TOLD
 }
 
@@ -34,7 +32,7 @@ fn told_end<R: Eprint>(rt: &R, path: &str, len: usize, end: JournalEnd) -> u8 {
         JournalEnd::NotAChange { at } => refused(rt, path, FileFault::NotAChange { at }),
         JournalEnd::Tail { at, kind } => match kind {
             TailKind::Empty => TOLD,
-            TailKind::Torn => told_tail(rt, path, at, len.saturating_sub(at)),
+            TailKind::Torn => told_torn(rt, path, at, len.saturating_sub(at)),
             TailKind::Damaged { record_at } => refused(rt, path, damaged(at, record_at)),
             TailKind::Unsearched => refused(rt, path, FileFault::Unsearched { at }),
         },
@@ -75,10 +73,11 @@ fn print_verdict<R: Print + Eprint>(rt: &R, alloc: Global, path: &str, bytes: &[
     }
 }
 
-/// Prints the records of the journal in a file, up to the first that is none of a desk, or, where it
-/// checks, the verdict on all of them. Gives the status: 0 where a server would go on from it, or would
-/// but for a record that no desk allows after those ahead, which the verdict alone tells; 3 where it is
-/// damaged, or the file or the output failed. A line tells why.
+/// Prints the records of the journal in a file, a JSON object a line, and tells what ends them. Where it
+/// checks, it prints how many records there are instead, if a server would go on from all of them.
+///
+/// Gives the status: 3 where the journal is damaged or the file can't be read, which a line tells, or
+/// where the output fails; and else 0, also where the last record is torn.
 pub fn print_journal<R: Files + Print + Eprint + AllocGlobal>(
     rt: &R,
     alloc: Global,
