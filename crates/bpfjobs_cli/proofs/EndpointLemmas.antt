@@ -1,5 +1,5 @@
 -- The refusal of words that clap takes, and that say no command.
-use Rattle.std.proofs.Common.{◌≡◌, ◌∙◌, List, [], Some, codes, ap}
+use Rattle.std.proofs.Common.{◌≡◌, ◌∙◌, List, [], Some, ap}
 use Rattle.clap.specs.Faults.{fault_of}
 use Rattle.clap.specs.Words.{Row, Text, subcommand_of}
 use Rattle.bpfjobs_cli.specs.declared.commands.Usage.{Usage}
