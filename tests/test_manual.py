@@ -56,7 +56,7 @@ class Manual(unittest.TestCase):
 class Completions(unittest.TestCase):
     def test_commands(self):
         self.assertEqual(completed("bpfjobs", "dis"), ["disassemble"])
-        self.assertEqual(sorted(completed("bpfjobs", "help", "")), ["assemble", "disassemble", "play", "run", "serve", "verify"])
+        self.assertEqual(sorted(completed("bpfjobs", "help", "")), ["assemble", "disassemble", "journal", "play", "run", "serve", "verify"])
 
     def test_options(self):
         self.assertEqual(completed("bpfjobs", "serve", "--p"), ["--port"])
@@ -71,3 +71,4 @@ class Completions(unittest.TestCase):
         self.assertEqual(completed("bpfrun", "a.bpf", "--need", ""), [])
         self.assertEqual(completed("bpfjobs", "run", "--workers", ""), [])
         self.assertEqual(completed("bpfjobs", "serve", "--socket", "examples/byte"), ["examples/byte_at.bpf"])
+        self.assertEqual(completed("bpfjobs", "journal", "examples/byte"), ["examples/byte_at.bpf"])

@@ -3,7 +3,7 @@ _bpfjobs() {
     local word=${COMP_WORDS[COMP_CWORD]} previous=${COMP_WORDS[COMP_CWORD - 1]}
     COMPREPLY=()
     if ((COMP_CWORD == 1)); then
-        mapfile -t COMPREPLY < <(compgen -W "assemble disassemble verify play run serve help --help --version" -- "$word")
+        mapfile -t COMPREPLY < <(compgen -W "assemble disassemble verify play run serve journal help --help --version" -- "$word")
         return
     fi
     case ${COMP_WORDS[1]} in
@@ -39,7 +39,11 @@ _bpfjobs() {
         esac
         mapfile -t COMPREPLY < <(compgen -W "--port --socket --grants --tenant --tenants --tenant-jobs --workers --sessions --clients --timeout --open-jobs --keep --journal --until-eof --log --help" -- "$word")
         ;;
-    help) mapfile -t COMPREPLY < <(compgen -W "assemble disassemble verify play run serve" -- "$word") ;;
+    journal)
+        [[ $word == -* ]] || { mapfile -t COMPREPLY < <(compgen -f -- "$word"); return; }
+        mapfile -t COMPREPLY < <(compgen -W "--check --help" -- "$word")
+        ;;
+    help) mapfile -t COMPREPLY < <(compgen -W "assemble disassemble verify play run serve journal" -- "$word") ;;
     esac
 }
 complete -o filenames -F _bpfjobs bpfjobs

@@ -132,7 +132,7 @@ def command_section(command, told):
     made = [f".SS {roff(command)}", ".P", f".B {roff(told.usage)}", ".P", roff(told.about + ".")]
     for text in parts["text"]:
         made += [".P", roff(text)]
-    made += tagged([entry for entry in told.entries("Options") if "--help" not in entry.names])
+    made += tagged(told.entries("Arguments") + [entry for entry in told.entries("Options") if "--help" not in entry.names])
     if parts["status"]:
         made += [".P", "Status: " + roff(" ".join(parts["status"]))]
     if parts["example"]:

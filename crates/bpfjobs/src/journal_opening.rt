@@ -8,11 +8,11 @@ ghost use Rattle.shared_journal.specs.Places.{AreAtTheirPlaces};
 ghost use Rattle.recovery.specs.Histories.{IsAfter};
 ghost use Rattle.desk_journal.specs.DeskSteps.{IsNewDesk, MakesBytes};
 
-use bpfjobs_cli::{FAILED, Serve, journal_paths};
-use desk_journal::{DeskChange, JournaledDesk, open_desk_journal};
-use journal::{HEADER_LEN, first_record};
+use crate::journal_faults::{FileFault, SEARCH_BUDGET, fault_of, refused};
+use bpfjobs_cli::{Serve, journal_paths};
+use desk_journal::{JournaledDesk, open_desk_journal};
 use journal_file::FileLog;
-use recovery::{OpenFault, RecoverFault, Recovered, StateChange, StateMachine};
+use recovery::Recovered;
 use shared_journal::SharedJournal;
 use std::alloc::Global;
 use std::fs::{File, Files, TryLockError};
@@ -24,9 +24,6 @@ use std::sync::Arc;
 
 // The permissions of a new journal, which has what tenants submitted: its owner alone reads it.
 const OF_OWNER: u32 = 0o600;
-
-// Bytes of checksum that a search for records behind a torn one may take: some ten seconds.
-const SEARCH_BUDGET: usize = 1 << 32;
 
 // A journal that is open, and the desk that its records lead to.
 #[derive(Drop)]
@@ -44,49 +41,6 @@ pub struct OpenedJournals {
     pub desks: Vec<JournaledDesk>,
     ghost paired: { length desks.items ≡ length (arc_value journals).items },
     ghost placed: { AreAtTheirPlaces (arc_value journals).items },
-}
-
-// The reason why a file isn't gone on with.
-#[derive(Drop)]
-enum FileFault {
-    System(io::Error),
-    NoRegularFile,
-    InUse,
-    NoMemory,
-    Damaged { at: usize, record_at: usize },
-    Unsearched { at: usize },
-    NotAChange { at: usize },
-    NotAllowed { at: usize },
-    NotCut,
-}
-
-impl From<io::Error> for FileFault {
-    fn from(error: io::Error) -> FileFault {
-        FileFault::System(error)
-    }
-}
-
-// Tells why a file isn't gone on with.
-fn tell_fault<R: Eprint>(rt: &R, path: &str, fault: FileFault) {
-    let _ = match fault {
-        FileFault::System(error) => eprintln!(rt; "bpfjobs: {path}: {error}"),
-        FileFault::NoRegularFile => eprintln!(rt; "bpfjobs: {path}: no regular file"),
-        FileFault::InUse => eprintln!(rt; "bpfjobs: {path}: in use by another server"),
-        FileFault::NoMemory => eprintln!(rt; "bpfjobs: {path}: no memory for what it has"),
-        FileFault::Damaged { at, record_at } => eprintln!(rt;
-            "bpfjobs: {path}: damaged at byte {at}: a whole record stands at byte {record_at}"
-        ),
-        FileFault::Unsearched { at } => eprintln!(rt;
-            "bpfjobs: {path}: no record at byte {at}, and too much behind it to look for one"
-        ),
-        FileFault::NotAChange { at } => eprintln!(rt;
-            "bpfjobs: {path}: damaged at byte {at}: the record there is no change of a desk"
-        ),
-        FileFault::NotAllowed { at } => eprintln!(rt;
-            "bpfjobs: {path}: damaged at byte {at}: the record there doesn't follow from those ahead"
-        ),
-        FileFault::NotCut => eprintln!(rt; "bpfjobs: {path}: it can't be cut, or not be synced"),
-    };
 }
 
 // The file, which nobody else has locked. It is made if it isn't there.
@@ -115,45 +69,6 @@ fn sync_name<R: Files<File = File>>(rt: &R, path: &str) -> io::Result<()> {
     };
     let folder = if folder.is_empty() { "." } else { folder };
     File::open(rt, folder)?.sync_all()
-}
-
-// Whether the change with this payload is applied to the desk.
-fn is_applied(alloc: Global, desk: &mut JournaledDesk, payload: &[u8]) -> bool {
-    match DeskChange::decode(alloc, payload) {
-        Ok(change) => desk.apply(alloc, &change).is_ok(),
-        Err(_) => false,
-    }
-}
-
-// The place of the first record that isn't replayed.
-fn place_of_refusal(alloc: Global, bytes: &[u8]) -> usize {
-    let mut desk = JournaledDesk::start(alloc);
-    let mut rest = bytes;
-    while let Some(payload) = first_record(rest) {
-        if !is_applied(alloc, &mut desk, payload) {
-            break;
-        }
-        rest = rest.split_at(HEADER_LEN + payload.len()).1;
-    }
-    bytes.len() - rest.len()
-}
-
-// What is told of a journal that isn't opened.
-fn fault_of(alloc: Global, bytes: &[u8], fault: OpenFault) -> FileFault {
-    match fault {
-        OpenFault::Damaged { len, record_at } => FileFault::Damaged {
-            at: len,
-            record_at: usize::saturating_add(len, record_at),
-        },
-        OpenFault::Unsearched { len } => FileFault::Unsearched { at: len },
-        OpenFault::NotReplayed(RecoverFault::NoMemory) => FileFault::NoMemory,
-        OpenFault::NotReplayed(RecoverFault::NotAChange) => FileFault::NotAChange {
-            at: place_of_refusal(alloc, bytes),
-        },
-        OpenFault::NotReplayed(RecoverFault::Refused) => FileFault::NotAllowed {
-            at: place_of_refusal(alloc, bytes),
-        },
-    }
 }
 
 // The bytes ahead of this place, and those behind it, if there are any.
@@ -221,12 +136,6 @@ fn examine<R: Files<File = File>>(rt: &R, alloc: Global, path: &str) -> Result<(
         Ok(_) => Ok(()),
         Err(fault) => Err(fault_of(alloc, &bytes, fault)),
     }
-}
-
-// Tells why a file isn't gone on with, and gives the status.
-fn refused<R: Eprint>(rt: &R, path: &str, fault: FileFault) -> u8 {
-    tell_fault(rt, path, fault);
-    FAILED
 }
 
 // Looks whether each of several files may be gone on with, before any of them is changed.

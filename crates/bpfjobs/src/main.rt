@@ -6,7 +6,9 @@ ghost use Rattle.bpfjobs_cli.specs.Commands.{IsInRange};
 ghost use Rattle.bpfjobs_cli.specs.Performing.{NeedsNoThread};
 ghost use Rattle.std.specs.Prelude.{◌≤◌};
 
+mod journal_faults;
 mod journal_opening;
+mod journal_reading;
 mod server_threads;
 mod serving;
 mod showing;
@@ -16,6 +18,7 @@ use bpfjobs_cli::{
     Command, CommandRequest, FAILED, UNREAD, perform, perform_alone, print_usage, request, words,
 };
 use journal_opening::open_server_journals;
+use journal_reading::print_journal;
 use server_threads::handles_of;
 use serving::serve;
 use showing::{play_shown, run_shown};
@@ -93,6 +96,9 @@ fn main(rt: HostRuntime) -> ExitCode {
     let server = match request.command {
         Command::Serve(server) => server,
         Command::Run { workers } => return ExitCode::from(run(&rt, alloc, workers)),
+        Command::Journal { path, checks } => {
+            return ExitCode::from(print_journal(&rt, alloc, &path, checks));
+        }
         command => return ExitCode::from(answer(&rt, alloc, command)),
     };
     let server = match with_file(&rt, alloc, server) {

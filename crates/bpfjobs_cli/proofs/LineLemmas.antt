@@ -12,9 +12,9 @@ use Rattle.clap.specs.Faults.{fault_of, is_simple_and_free, level_fault}
 use Rattle.clap.specs.declared.builder.action.ArgAction.TheVariants as action
 use Rattle.clap.specs.declared.builder.value_parser.ValueParser.TheVariants as vp
 use Rattle.clap.proofs.OnLiterals.{clap_on_literals}
-use Rattle.bpfjobs_cli.specs.Commands.{AreOptionsOf, IsMaybeNumber, IsNumberIn, SaysCommand, says_assemble, says_disassemble, says_verify, says_play, says_run, says_serve, sessions_said}
+use Rattle.bpfjobs_cli.specs.Commands.{AreOptionsOf, IsMaybeNumber, IsNumberIn, SaysCommand, says_assemble, says_disassemble, says_verify, says_play, says_run, says_serve, says_journal, sessions_said}
 use Rattle.bpfjobs_cli.specs.declared.commands.ServeOptions.{ServeOptions}
-use Rattle.bpfjobs_cli.specs.Program.{bpfjobs_app, need_rule, port_rule, run_app, play_app, serve_app, sessions_rule, tenant_jobs_rule, clients_rule, timeout_rule, open_jobs_rule, keep_rule, verify_app, workers_rule}
+use Rattle.bpfjobs_cli.specs.Program.{bpfjobs_app, journal_app, journal_file_rule, need_rule, port_rule, run_app, play_app, serve_app, sessions_rule, tenant_jobs_rule, clients_rule, timeout_rule, open_jobs_rule, keep_rule, verify_app, workers_rule}
 use Rattle.bpfjobs_cli.proofs.NumberLemmas.{signed_number}
 use Rattle.bpfjobs_cli.proofs.RowLemmas.{Among, Each, HasValue, IsOnly, On, both, default_value, maybe_value, required_value}
 use Rattle.bpfjobs_cli.proofs.SubcommandLemmas.{Gives, HasNoAlias, subcommand_gives}
@@ -131,15 +131,22 @@ serve words own none =
     } in
     says_serve refl (record { port = port; jobs = jobs; options = (options, are_options) })
 
+journal : Gives SaysCommand (leaf journal_app.top)
+journal words own none =
+    let value : HasValue (rule journal_file_rule) (rows_after (leaf journal_app.top).rules [] words) =
+    required_value (rule journal_file_rule) refl (omega arith) (leaf journal_app.top) [] words false []
+    ((λ same. refl), (other, (other, tt))) none refl (inl refl) refl in
+    says_journal refl (ap is_some value.2)
+
 -- clap's own subcommand, which gives help
 help : Gives SaysCommand (built_leaf help_shape)
 help words own none = absurd (true≢false own)
 
 gives : Each (Gives SaysCommand) (built bpfjobs_app).subs
-gives = (assemble, (disassemble, (verify, (play, (run, (serve, (help, tt)))))))
+gives = (assemble, (disassemble, (verify, (play, (run, (serve, (journal, (help, tt))))))))
 
 aliases : Each HasNoAlias (built bpfjobs_app).subs
-aliases = (refl, (refl, (refl, (refl, (refl, (refl, (refl, tt)))))))
+aliases = (refl, (refl, (refl, (refl, (refl, (refl, (refl, (refl, tt))))))))
 
 -- clap fails, or the line says a command
 pub says_command : (words : List Text) → fault_of bpfjobs_app words ≡ [] → (is_some (subcommand_of bpfjobs_app words) ≡ true) × On (λ p. SaysCommand p.0 p.1) (subcommand_of bpfjobs_app words)

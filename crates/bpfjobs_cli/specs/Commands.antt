@@ -6,7 +6,7 @@ use Rattle.clap.specs.Faults.{fault_of}
 use Rattle.clap.specs.Words.{HasKind, Row, Text, all_of, first_of, kind_of, one_of, subcommand_of, takes}
 use Rattle.clap.specs.declared.error.kind.ErrorKind.TheVariants.{DisplayHelp, DisplayVersion, OutOfMemory}
 use Rattle.bpfjobs_cli.specs.declared.commands.Command.{Command}
-use Rattle.bpfjobs_cli.specs.declared.commands.Command.TheVariants.{Assemble, Disassemble, Verify, Play, Run, Serve}
+use Rattle.bpfjobs_cli.specs.declared.commands.Command.TheVariants.{Assemble, Disassemble, Verify, Play, Run, Serve, Journal}
 use Rattle.bpfjobs_cli.specs.declared.commands.Endpoint.{Endpoint}
 use Rattle.bpfjobs_cli.specs.declared.commands.Endpoint.TheVariants.{Port, Socket}
 use Rattle.bpfjobs_cli.specs.declared.commands.EndpointFault.{EndpointFault}
@@ -149,6 +149,9 @@ IsCommandOf name rows Play = name ≡ codes "play"
 IsCommandOf name rows (Run workers) =
     (name ≡ codes "run") × IsNumberIn rows (codes "workers") 1 16 workers
 IsCommandOf name rows (Serve serve) = (name ≡ codes "serve") × IsServeOf rows serve
+IsCommandOf name rows (Journal path checks) =
+    (name ≡ codes "journal") × (first_of (codes "file") rows ≡ Some (string_bytes path))
+    × IsFlagOf rows (codes "check") checks
 
 -- what is shown beside the answer
 pub record IsShownOf (rows : List Row) (shown : Shown) : Type 0 where
@@ -173,6 +176,7 @@ pub data SaysCommand (name : Text) (rows : List Row) : Type 0 where
   says_run : name ≡ codes "run"
       → ((workers : ℕ) × IsNumberIn rows (codes "workers") 1 16 workers) → SaysCommand name rows
   says_serve : name ≡ codes "serve" → SaysServe rows → SaysCommand name rows
+  says_journal : name ≡ codes "journal" → HasText rows (codes "file") → SaysCommand name rows
 
 -- the port is in range
 abbrev pub IsEndpointInRange : Endpoint → Type 0
@@ -199,6 +203,7 @@ IsInRange (Verify need) = Unit {0}
 IsInRange Play = Unit {0}
 IsInRange (Run workers) = (1 ≤ workers) × (workers ≤ 16)
 IsInRange (Serve serve) = IsServeInRange serve
+IsInRange (Journal path checks) = Unit {0}
 
 -- the options of a server are refused for want of memory, for their endpoint, or for a tenant
 abbrev pub IsEndpointUsage : List Row → Usage → Type 0
@@ -206,6 +211,15 @@ IsEndpointUsage rows (usage.Refused error) = ⊥
 IsEndpointUsage rows (usage.Endpoint fault) = IsEndpointFault rows fault
 IsEndpointUsage rows (usage.Tenant word f) = IsTenantFault rows (string_bytes word) f
 IsEndpointUsage rows usage.NoMemory = Unit {0}
+
+-- the words of a command are refused for want of memory, or as the options of a server
+abbrev pub IsCommandUsage : Text → List Row → Usage → Type 0
+IsCommandUsage name rows (usage.Refused error) = ⊥
+IsCommandUsage name rows (usage.Endpoint fault) =
+    (name ≡ codes "serve") × IsEndpointFault rows fault
+IsCommandUsage name rows (usage.Tenant word f) =
+    (name ≡ codes "serve") × IsTenantFault rows (string_bytes word) f
+IsCommandUsage name rows usage.NoMemory = Unit {0}
 
 -- Words that clap takes are refused for want of memory, or where a server's options name no
 -- endpoint or a word names no tenant. Any others are refused for want of memory, or for a fault that clap finds in them.

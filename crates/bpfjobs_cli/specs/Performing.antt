@@ -3,12 +3,12 @@ use Rattle.std.specs.Prelude.{◌≡◌, ◌≤◌, ◌<◌, ◌⊎◌, ◌-◌,
 use Rattle.streams.specs.declared.fault.StreamFault.{StreamFault}
 use Rattle.streams.specs.declared.fault.StreamFault.TheVariants.{ReadFailed, WriteFailed, NoMemory}
 use Rattle.bpfjobs_cli.specs.declared.commands.Command.{Command}
-use Rattle.bpfjobs_cli.specs.declared.commands.Command.TheVariants.{Assemble, Disassemble, Verify, Play, Run, Serve}
+use Rattle.bpfjobs_cli.specs.declared.commands.Command.TheVariants.{Assemble, Disassemble, Verify, Play, Run, Serve, Journal}
 use Rattle.bpfjobs_cli.specs.Jobs.{PrintsPlay}
 use Rattle.bpfjobs_cli.specs.Programs.{PrintsAssembly, PrintsListing, PrintsVerdict}
 use Rattle.bpfjobs_cli.specs.Runs.{PrintsRun}
 
--- the command needs no thread
+-- the command answers its input without a thread
 abbrev pub NeedsNoThread : Command → Type 0
 NeedsNoThread Assemble = Unit {0}
 NeedsNoThread Disassemble = Unit {0}
@@ -16,8 +16,10 @@ NeedsNoThread (Verify need) = Unit {0}
 NeedsNoThread Play = Unit {0}
 NeedsNoThread (Run workers) = ⊥
 NeedsNoThread (Serve serve) = ⊥
+NeedsNoThread (Journal path checks) = ⊥
 
--- the command has an answer: it is no server, and a job has 1 to 16 threads
+-- the command has an answer to its input: it is no server and reads no file, and a job has 1 to 16
+-- threads
 abbrev pub AnswersInput : Command → Type 0
 AnswersInput Assemble = Unit {0}
 AnswersInput Disassemble = Unit {0}
@@ -25,6 +27,7 @@ AnswersInput (Verify need) = Unit {0}
 AnswersInput Play = Unit {0}
 AnswersInput (Run workers) = (1 ≤ workers) × (workers ≤ 16)
 AnswersInput (Serve serve) = ⊥
+AnswersInput (Journal path checks) = ⊥
 
 -- the text and the status that a command answers to its input
 abbrev pub IsAnswer : Command → List ℕ → List ℕ → ℕ → Type 0
@@ -34,6 +37,7 @@ IsAnswer (Verify need) input text status = PrintsVerdict need input text status
 IsAnswer Play input text status = PrintsPlay input text status
 IsAnswer (Run workers) input text status = PrintsRun input text status
 IsAnswer (Serve serve) input text status = ⊥
+IsAnswer (Journal path checks) input text status = ⊥
 
 -- What is left where a command is given up by this. Where the reader failed, or there was no
 -- memory, nothing is written; where the writer failed all input was read, and of the answer a part

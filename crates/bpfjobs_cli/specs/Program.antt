@@ -122,6 +122,15 @@ trace_json_rule = record (new_rule (codes "trace-json")) {
 abbrev pub tree_rule : Rule
 tree_rule = record (new_rule (codes "tree")) { long = Some (codes "tree"); value_names = 1 }
 
+abbrev pub journal_file_rule : Rule
+journal_file_rule = record (new_rule (codes "file")) { value_names = 1; required = true }
+
+abbrev pub check_rule : Rule
+check_rule = record (new_rule (codes "check")) {
+  long = Some (codes "check");
+  action = Some SetTrue;
+}
+
 abbrev pub verify_app : App
 verify_app = with_rule (new_app (codes "verify")) need_rule
 
@@ -138,6 +147,9 @@ serve_app =
     (new_app (codes "serve")) port_rule) socket_rule) grants_rule) tenant_rule) tenants_rule)
     tenant_jobs_rule) workers_rule) sessions_rule) clients_rule) timeout_rule) open_jobs_rule)
     keep_rule) journal_rule) until_eof_rule) log_rule
+
+abbrev pub journal_app : App
+journal_app = with_rule (with_rule (new_app (codes "journal")) journal_file_rule) check_rule
 
 -- the program without its commands, which tells its version
 abbrev pub named_app : App
@@ -158,6 +170,6 @@ with_text_commands a =
 
 abbrev pub bpfjobs_app : App
 bpfjobs_app =
-    with_subcommand (with_subcommand (with_subcommand
+    with_subcommand (with_subcommand (with_subcommand (with_subcommand
     (with_subcommand (with_text_commands (requiring named_app)) verify_app.top) play_app.top)
-    run_app.top) serve_app.top
+    run_app.top) serve_app.top) journal_app.top

@@ -19,6 +19,8 @@ pub enum Command {
     Run { workers: u32 },
     /// A server of accounts and jobs.
     Serve(Serve),
+    /// The records of the journal in a file, or, where it checks, the verdict on it.
+    Journal { path: String, checks: bool },
 }
 
 /// A server: where it listens, for which tenants apart, its journal and its options.

@@ -78,6 +78,7 @@ fn answer_to(alloc: Global, command: Command, input: &[u8]) -> Result<Answer, No
         Command::Play => answer_play(alloc, input),
         Command::Run { .. } => unreachable!(),
         Command::Serve(_) => unreachable!(),
+        Command::Journal { .. } => unreachable!(),
     }
 }
 
@@ -114,9 +115,9 @@ pub fn perform_alone<R: Source, W: Sink>(
     tell(writer, &answer)
 }
 
-/// Reads the whole input, writes the answer of any command but `serve`, and gives the status: 0
-/// answered, 1 refused. A `run` waits for its threads, so that of this call it isn't proved that it
-/// returns; of `perform_alone`, which all others go to, it is. The faults are the same.
+/// Reads the whole input, writes the answer of any command but `serve` and `journal`, and gives the
+/// status: 0 answered, 1 refused. A `run` waits for its threads, so that of this call it isn't proved
+/// that it returns; of `perform_alone`, which all others go to, it is. The faults are the same.
 pub fn perform<T: Threads + Wait + Sync, R: Source, W: Sink>(
     rt: &T,
     alloc: Global,
@@ -147,6 +148,7 @@ pub fn perform<T: Threads + Wait + Sync, R: Source, W: Sink>(
             tell(writer, &answer)
         }
         Command::Serve(_) => unreachable!(),
+        Command::Journal { .. } => unreachable!(),
         alone => perform_alone(alloc, alone, reader, writer),
     }
 }

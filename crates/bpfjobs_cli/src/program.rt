@@ -3,7 +3,7 @@
 ghost use Rattle.std.specs.Prelude.{◌≡◌, false, codes, IfOk};
 ghost use Rattle.clap.specs.Words.{app_of, new_app, rule_of};
 ghost use Rattle.clap.specs.declared.builder.command.Command.TheViews.{out-Command as fields_of};
-ghost use Rattle.bpfjobs_cli.specs.Program.{need_rule, port_rule, socket_rule, grants_rule, tenant_rule, tenants_rule, tenant_jobs_rule, workers_rule, sessions_rule, clients_rule, timeout_rule, open_jobs_rule, keep_rule, journal_rule, until_eof_rule, log_rule, trace_rule, trace_json_rule, tree_rule, named_app, verify_app, play_app, run_app, serve_app, bpfjobs_app, with_text_commands};
+ghost use Rattle.bpfjobs_cli.specs.Program.{need_rule, port_rule, socket_rule, grants_rule, tenant_rule, tenants_rule, tenant_jobs_rule, workers_rule, sessions_rule, clients_rule, timeout_rule, open_jobs_rule, keep_rule, journal_rule, until_eof_rule, log_rule, trace_rule, trace_json_rule, tree_rule, journal_file_rule, check_rule, named_app, verify_app, play_app, run_app, serve_app, journal_app, bpfjobs_app, with_text_commands};
 
 use crate::texts;
 use clap::{Arg, ArgAction, Command};
@@ -215,6 +215,26 @@ fn tree<'a>(alloc: Global) -> Arg<'a>
         .help(texts::TREE)
 }
 
+fn journal_file<'a>(alloc: Global) -> Arg<'a>
+    ensures rule { rule_of result ≡ journal_file_rule }
+    ensures local { result.global ≡ false }
+{
+    Arg::new(alloc, "file")
+        .value_name("FILE")
+        .help(texts::JOURNAL_FILE)
+        .required(true)
+}
+
+fn check<'a>(alloc: Global) -> Arg<'a>
+    ensures rule { rule_of result ≡ check_rule }
+    ensures local { result.global ≡ false }
+{
+    Arg::new(alloc, "check")
+        .long("check")
+        .action(ArgAction::SetTrue)
+        .help(texts::CHECK)
+}
+
 // The program without its commands.
 fn top<'a>(alloc: Global) -> Command<'a>
     ensures app { app_of result ≡ named_app }
@@ -289,6 +309,20 @@ fn serve<'a>(alloc: Global) -> Result<Command<'a>, AllocError>
         .arg(log(alloc))
 }
 
+fn read_journal<'a>(alloc: Global) -> Result<Command<'a>, AllocError>
+    ensures app { IfOk result (λ c. app_of c ≡ journal_app) }
+    ensures local { IfOk result (λ c. (fields_of c).has_globals ≡ false) }
+{
+    named(
+        alloc,
+        "journal",
+        texts::READ_JOURNAL,
+        texts::READ_JOURNAL_MORE,
+    )
+    .arg(journal_file(alloc))?
+    .arg(check(alloc))
+}
+
 // The program with the commands between text and bytes.
 fn with_texts<'a>(alloc: Global, command: Command<'a>) -> Result<Command<'a>, AllocError>
     ensures { IfOk result (λ c. app_of c ≡ with_text_commands (app_of command.entry)) }
@@ -311,5 +345,6 @@ pub(crate) fn bpfjobs<'a>(alloc: Global) -> Result<Command<'a>, AllocError>
     let command = command.subcommand(verify(alloc)?)?;
     let command = command.subcommand(play(alloc)?)?;
     let command = command.subcommand(run(alloc)?)?;
-    command.subcommand(serve(alloc)?)
+    let command = command.subcommand(serve(alloc)?)?;
+    command.subcommand(read_journal(alloc)?)
 }

@@ -7,7 +7,7 @@ ghost use Rattle.bpfjobs_cli.specs.Program.{bpfjobs_app};
 ghost use Rattle.bpfjobs_cli.specs.declared.commands.Endpoint.TheVariants.{Port};
 ghost use Rattle.bpfjobs_cli.specs.Tenants.{entered, tenants_in, words_said};
 ghost use Rattle.bpfjobs_cli.specs.Entries.{IsWordUsage};
-ghost use Rattle.bpfjobs_cli.specs.Commands.{AreJobsOf, AreOptionsOf, AreTenantsOf, IsCommandOf, IsEndpointOf, IsEndpointUsage, IsFlagOf, IsInRange, IsJournalOf, IsMaybeNumber, IsNumberIn, IsServeOf, IsShownOf, IsUsage, NameNoTenant, NameTenants, SaysCommand, SaysServe, sessions_said, tenant_words};
+ghost use Rattle.bpfjobs_cli.specs.Commands.{AreJobsOf, AreOptionsOf, AreTenantsOf, HasText, IsCommandOf, IsCommandUsage, IsEndpointOf, IsEndpointUsage, IsFlagOf, IsInRange, IsJournalOf, IsMaybeNumber, IsNumberIn, IsServeOf, IsShownOf, IsUsage, NameNoTenant, NameTenants, SaysCommand, SaysServe, sessions_said, tenant_words};
 
 use crate::commands::{
     Command, CommandRequest, Endpoint, EndpointFault, Serve, ServeOptions, Shown, Usage,
@@ -256,12 +256,27 @@ fn serve_of(alloc: Global, matches: &ArgMatches<'_>) -> Result<Serve, Usage>
     }
 }
 
+// The journal that the words of `journal` name, and whether they ask for the verdict on it.
+fn journal_command(alloc: Global, matches: &ArgMatches<'_>) -> Result<Command, AllocError>
+    requires { HasText (rows_of (found_of matches.now)) (codes "file") }
+    ensures { IfOk result (λ command.
+        IsCommandOf (codes "journal") (rows_of (found_of matches.now)) command) }
+{
+    match text(alloc, matches, "file")? {
+        Some(path) => {
+            let checks = flag(matches, "check");
+            Ok(Command::Journal { path, checks })
+        }
+        None => unreachable!(),
+    }
+}
+
 fn command_of(alloc: Global, name: &str, matches: &ArgMatches<'_>) -> Result<Command, Usage>
     requires { SaysCommand name.now (rows_of (found_of matches.now)) }
     ensures ok { IfOk result (λ command.
         IsCommandOf name.now (rows_of (found_of matches.now)) command) }
-    ensures err { IfErr result (λ usage. (name.now ≡ codes "serve")
-        × IsEndpointUsage (rows_of (found_of matches.now)) usage) }
+    ensures err { IfErr result (λ usage.
+        IsCommandUsage name.now (rows_of (found_of matches.now)) usage) }
 {
     match name {
         "assemble" => Ok(Command::Assemble),
@@ -278,6 +293,10 @@ fn command_of(alloc: Global, name: &str, matches: &ArgMatches<'_>) -> Result<Com
         "serve" => match serve_of(alloc, matches) {
             Ok(serve) => Ok(Command::Serve(serve)),
             Err(usage) => Err(usage),
+        },
+        "journal" => match journal_command(alloc, matches) {
+            Ok(command) => Ok(command),
+            Err(_) => Err(Usage::NoMemory),
         },
         _ => unreachable!(),
     }

@@ -111,6 +111,26 @@ Example:
   $ python3 examples/client.py 7070 grant t 100
   {\"balance\":100,\"granted\":100,\"ok\":true,\"open\":0,\"spent\":0}";
 
+pub(crate) const READ_JOURNAL: &str = "Tells the records of a server's journal";
+
+pub(crate) const READ_JOURNAL_MORE: &str =
+    "Reads the file of a journal, and leaves it as it is, also while a server uses it.
+Writes a JSON object a record: the byte where it begins, and the change of the desk.
+With --check it writes how many records there are, if a server goes on from all of them.
+A torn record at the end is told; a server that starts cuts it off.
+Status: 0 told, 3 where the journal is damaged, or the file or the output fails.
+
+Example:
+  $ bpfjobs journal journal
+  {\"amount\":100,\"at\":0,\"change\":\"granted\",\"tenant\":\"t\"}
+  $ bpfjobs journal journal --check
+  journal: 1 record, whole";
+
+pub(crate) const JOURNAL_FILE: &str = "The path of the journal";
+
+pub(crate) const CHECK: &str =
+    "Tells no records, and judges the journal as a server does at its start";
+
 pub(crate) const SOCKET: &str = "The path of a socket to listen on, in place of a port";
 
 pub(crate) const GRANTS: &str =

@@ -11,4 +11,5 @@ returns c =
     let second = c.in_ok-command-2.ensures.shape c.in_ok-verify.ensures.local ∙ ap₂ with_subcommand first (ap (λ (a : App). a.top) c.in_ok-verify.ensures.app) in
     let third = c.in_ok-command-3.ensures.shape c.in_ok-play.ensures.local ∙ ap₂ with_subcommand second (ap (λ (a : App). a.top) c.in_ok-play.ensures.app) in
     let fourth = c.in_ok-command-4.ensures.shape c.in_ok-run.ensures.local ∙ ap₂ with_subcommand third (ap (λ (a : App). a.top) c.in_ok-run.ensures.app) in
-    IfOk-weaker c.subcommand-4.result _ _ (λ r h. h.shape c.in_ok-serve.ensures.local ∙ ap₂ with_subcommand fourth (ap (λ (a : App). a.top) c.in_ok-serve.ensures.app)) c.subcommand-4.ensures
+    let fifth = c.in_ok-command-5.ensures.shape c.in_ok-serve.ensures.local ∙ ap₂ with_subcommand fourth (ap (λ (a : App). a.top) c.in_ok-serve.ensures.app) in
+    IfOk-weaker c.subcommand-5.result _ _ (λ r h. h.shape c.in_ok-read_journal.ensures.local ∙ ap₂ with_subcommand fifth (ap (λ (a : App). a.top) c.in_ok-read_journal.ensures.app)) c.subcommand-5.ensures

@@ -1,7 +1,7 @@
 use Rattle.std.proofs.Common.{ap, sym, map, string_bytes, is_some, true, true≢false, ◌≡◌, ◌∙◌}
 use Rattle.clap.specs.Words.{fault_of, found_of, is_simple, is_simple_and_free, rows_of, subcommand_of, subcommand_rows_of, takes}
 use Rattle.clap.proofs.TakesLemmas.{some_rows}
-use Rattle.bpfjobs_cli.proofs.EndpointLemmas.{endpoint_usage}
+use Rattle.bpfjobs_cli.proofs.EndpointLemmas.{command_usage}
 use Rattle.bpfjobs_cli.proofs.LineLemmas.{entered_says, is_entered, is_plain, of_kind, plain}
 use Rattle.bpfjobs_cli.proofs.NumberLemmas.{pair_of, named}
 use Rattle.bpfjobs_cli.proofs.RangeLemmas.{command_range}
@@ -39,9 +39,9 @@ returns-in-Some-clause-err c =
     let entered = (c.in-Ok.ensures.matches (ap is_simple c.in_ok-bpfjobs.ensures ∙ is_plain)).1 in
     let found = pair_of (subcommand_rows_of c.in-Ok.matches) c.in-Some.name.now (rows_of (found_of c.in-Some.inner.now)) (c.in-Some.ensures.name ∙ named _ _ _) c.in-Some.ensures.rows in
     let none = ap (λ a. fault_of a words) (sym c.in_ok-bpfjobs.ensures) ∙ c.in-Ok.ensures.kinds (ap is_simple_and_free c.in_ok-bpfjobs.ensures ∙ plain) in
-    endpoint_usage words c.in-Some.name.now (rows_of (found_of c.in-Some.inner.now)) c.in-Err-command_of.usage none
+    command_usage words c.in-Some.name.now (rows_of (found_of c.in-Some.inner.now)) c.in-Err-command_of.usage none
     (ap (λ a. subcommand_of a words) (sym c.in_ok-bpfjobs.ensures) ∙ sym entered ∙ found)
-    c.in-Err-command_of.ensures.err.0 c.in-Err-command_of.ensures.err.1
+    c.in-Err-command_of.ensures.err
 
 pub returns-in-Err-clause-err : goal.returns-in-Err-clause-err
 returns-in-Err-clause-err c = (

@@ -1,0 +1,2 @@
+mod PlainChanges
+mod ToldLemmas

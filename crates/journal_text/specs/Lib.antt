@@ -1,0 +1,3 @@
+pub mod ChangeData
+pub mod ChangeLines
+pub mod JournalEnds

@@ -1,0 +1,146 @@
+//! A change of a desk as a JSON value.
+
+ghost use Rattle.std.specs.Prelude.{◌≡◌, IfOk, map};
+ghost use Rattle.serde_json.specs.Data.{string};
+ghost use Rattle.serde_json.specs.View.{view};
+ghost use Rattle.sessions.specs.Replies.{task_data};
+ghost use Rattle.journal_text.specs.ChangeData.{bytes_data, change_data, failed_data, finished_data, forgotten_data, granted_data, submitted_data, submitted_program, tenant_data};
+
+use credit_book::{Report, TaskEnd};
+use desk_journal::DeskChange;
+use job_core::ProgramBytes;
+use serde_json::{Value, json};
+use std::alloc::{AllocError, Global};
+
+fn text_value(alloc: Global, text: &str) -> Result<Value, AllocError>
+    ensures { IfOk result (λ v. view v ≡ string text.now) }
+{
+    let value = Value::String(String::from_str(alloc, text)?);
+    Ok(value)
+}
+
+// Bytes that are no text.
+fn bytes_value(alloc: Global, bytes: &[u8]) -> Result<Value, AllocError>
+    ensures { IfOk result (λ v. view v ≡ bytes_data bytes.now) }
+{
+    let bytes = hex::encode(alloc, bytes)?;
+    json!(in alloc; {"bytes": bytes.as_str()})
+}
+
+// A tenant's name, or bytes that are none.
+fn tenant_value(alloc: Global, tenant: &[u8]) -> Result<Value, AllocError>
+    ensures { IfOk result (λ v. view v ≡ tenant_data tenant.now) }
+{
+    match str::from_utf8(tenant) {
+        Ok(name) => text_value(alloc, name),
+        Err(_) => bytes_value(alloc, tenant),
+    }
+}
+
+#[tactic(auto, unfolding(crate::specs::ChangeData::submitted_program))]
+fn program_value(alloc: Global, program: &ProgramBytes) -> Result<Value, AllocError>
+    ensures { IfOk result (λ v. view v ≡ submitted_program program.now) }
+{
+    let code = hex::encode(alloc, &program.code)?;
+    json!(in alloc; {"code": code.as_str(), "need": program.need})
+}
+
+fn program_values(alloc: Global, programs: &[ProgramBytes]) -> Result<Vec<Value>, AllocError>
+    ensures { IfOk result (λ vs. map view vs.items ≡ map submitted_program programs.now) }
+{
+    let mut values = Vec::new(alloc);
+    for program in programs {
+        values.push(program_value(alloc, program)?)?;
+    }
+    Ok(values)
+}
+
+#[tactic(auto, unfolding(sessions::specs::Replies::task_data))]
+fn task_value(alloc: Global, task: &TaskEnd) -> Result<Value, AllocError>
+    ensures { IfOk result (λ v. view v ≡ task_data task.now) }
+{
+    json!(in alloc; {"number": task.number, "program": task.program, "r0": task.r0, "ran": task.ran, "rest": task.rest, "spent": task.spent})
+}
+
+fn task_values(alloc: Global, tasks: &[TaskEnd]) -> Result<Vec<Value>, AllocError>
+    ensures { IfOk result (λ vs. map view vs.items ≡ map task_data tasks.now) }
+{
+    let mut values = Vec::new(alloc);
+    for task in tasks {
+        values.push(task_value(alloc, task)?)?;
+    }
+    Ok(values)
+}
+
+#[tactic(auto, unfolding(crate::specs::ChangeData::granted_data))]
+fn granted_value(alloc: Global, at: u64, tenant: &[u8], amount: u32) -> Result<Value, AllocError>
+    ensures { IfOk result (λ v. view v ≡ granted_data at tenant.now amount) }
+{
+    let tenant = tenant_value(alloc, tenant)?;
+    json!(in alloc; {"amount": amount, "at": at, "change": "granted", "tenant": tenant})
+}
+
+#[tactic(auto, unfolding(crate::specs::ChangeData::submitted_data))]
+fn submitted_value(
+    alloc: Global,
+    at: u64,
+    job: u64,
+    tenant: &[u8],
+    programs: &[ProgramBytes],
+    credit: u32,
+    buffer: &[u8],
+) -> Result<Value, AllocError>
+    ensures { IfOk result (λ v. view v
+        ≡ submitted_data at job tenant.now programs.now credit buffer.now) }
+{
+    let buffer = hex::encode(alloc, buffer)?;
+    let programs = Value::Array(program_values(alloc, programs)?);
+    let tenant = tenant_value(alloc, tenant)?;
+    json!(in alloc; {"at": at, "buffer": buffer.as_str(), "change": "submitted", "credit": credit, "job": job, "programs": programs, "tenant": tenant})
+}
+
+#[tactic(auto, unfolding(crate::specs::ChangeData::finished_data))]
+fn finished_value(alloc: Global, at: u64, job: u64, report: &Report) -> Result<Value, AllocError>
+    ensures { IfOk result (λ v. view v ≡ finished_data at job report.now) }
+{
+    let buffer = hex::encode(alloc, &report.buffer)?;
+    let tasks = Value::Array(task_values(alloc, &report.tasks)?);
+    json!(in alloc; {"at": at, "buffer": buffer.as_str(), "change": "finished", "job": job, "returned": report.returned, "spent": report.spent, "tasks": tasks})
+}
+
+#[tactic(auto, unfolding(crate::specs::ChangeData::failed_data))]
+fn failed_value(alloc: Global, at: u64, job: u64, code: u8) -> Result<Value, AllocError>
+    ensures { IfOk result (λ v. view v ≡ failed_data at job code) }
+{
+    json!(in alloc; {"at": at, "change": "finished", "code": code, "job": job})
+}
+
+#[tactic(auto, unfolding(crate::specs::ChangeData::forgotten_data))]
+fn forgotten_value(alloc: Global, at: u64, keep: u64) -> Result<Value, AllocError>
+    ensures { IfOk result (λ v. view v ≡ forgotten_data at keep) }
+{
+    json!(in alloc; {"at": at, "change": "forgotten", "keep": keep})
+}
+
+/// The change whose record begins at this byte; a job that it takes gets this number.
+pub(crate) fn change_value(
+    alloc: Global,
+    at: u64,
+    job: u64,
+    change: &DeskChange,
+) -> Result<Value, AllocError>
+    ensures { IfOk result (λ v. view v ≡ change_data at job change.now) }
+{
+    match change {
+        DeskChange::Granted { tenant, amount } => granted_value(alloc, at, tenant, *amount),
+        DeskChange::Submitted {
+            tenant,
+            programs,
+            credit,
+            buffer,
+        } => submitted_value(alloc, at, job, tenant, programs, *credit, buffer),
+        DeskChange::Finished { job, report } => finished_value(alloc, at, *job, report),
+        DeskChange::Failed { job, code } => failed_value(alloc, at, *job, *code),
+        DeskChange::Forgotten { keep } => forgotten_value(alloc, at, *keep),
+    }
+}
