@@ -1,5 +1,5 @@
 -- A desk whose changes are recorded, over two state types of its runner.
-use Rattle.std.proofs.Common.{◌≡◌, ℕ, Bool, List, [], All, Option, Result, refl, sym, ap, ◌∙◌, subst}
+use Rattle.std.proofs.Common.{◌≡◌, ℕ, Bool, List, [], Option, Result, ap, ◌∙◌, subst}
 use Rattle.credit_book.specs.declared.book.Report.{Report}
 use Rattle.credit_book.specs.declared.board.Progress.{Progress}
 use Rattle.job_core.specs.Admitted.{AdmittedJob}
@@ -19,7 +19,7 @@ use Rattle.job_pools.specs.Started.{pooled_at, pooled_count}
 use Rattle.job_server.specs.declared.bounds.Bounds.{Bounds}
 use Rattle.job_server.specs.declared.fault.ServeFault.{ServeFault}
 use Rattle.job_server.specs.AtOnce.{IsServingFrom, Pool}
-use Rattle.job_server.specs.Recorded.{IsRestarted, IsServingRecorded, RecordedHosted, recorded_answers}
+use Rattle.job_server.specs.Recorded.{IsRestarted, IsServingRecorded, recorded_answers}
 use Rattle.job_server.proofs.Alike.{answers_alike, beside}
 use Rattle.job_server.proofs.AtOnceAlike.{limited, serving_kept, within_alike}
 

@@ -1,6 +1,5 @@
 -- A server whose desks' changes journals keep.
 use Rattle.std.specs.Prelude.{◌≡◌, ◌⊎◌, ◌+◌, ℕ, Bool, true, false, List, [], ◌∷◌, All, length, Result}
-use Rattle.credit_book.specs.declared.book.Report.{Report}
 use Rattle.job_core.specs.Admitted.{AdmittedJob}
 use Rattle.accounts.specs.Ledgers.{Ledger}
 use Rattle.desk_journal.specs.DeskSteps.{DeskState}

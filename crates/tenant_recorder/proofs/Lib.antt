@@ -1,4 +1,4 @@
-mod EachPlace
+pub mod EachPlace
 pub mod Forgotten
 mod AnsweredAt
 mod Handled

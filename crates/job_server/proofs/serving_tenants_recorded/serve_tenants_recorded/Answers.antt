@@ -1,4 +1,4 @@
-use Rattle.std.proofs.Common.{ℕ, inl, ap, map, sym, string_bytes, ◌∙◌, Option, String, Vec, Global}
+use Rattle.std.proofs.Common.{ℕ, List, inl, ap, map, sym, string_bytes, ◌∙◌, Option, String, Vec, Global}
 use Rattle.desk_journal.specs.declared.journaled_desk.OpenJob.{OpenJob}
 use Rattle.job_pools.specs.LineBounded.{new_by_line, starts_by_line}
 use Rattle.job_server.specs.Recorded.{queue_journal, queue_taken, queue_told}
@@ -17,6 +17,7 @@ returns g c =
     let made = c.in-Ok-recording_handler in
     let parts = c.in-Ok in
     let first = c.grant_first in
+    let said : List (String Global × Option ℕ) → List (List ℕ × Option ℕ) = map (λ x. (string_bytes x.0, x.1)) in
     let again = c.restart.ensures in
     let desks = c.restart.new.desks in
     let handler = c.restart.new.self in
@@ -25,8 +26,8 @@ returns g c =
       (desks, handler),
       t.0,
       tenants_restarted (starts_by_line g.N.Runner.starts) (queue_taken {R = g.row.R.Denot}) (queue_told {R = g.row.R.Denot}) (queue_journal {R = g.row.R.Denot}) plan.journals.now (recovered_tenancy plan.tenants.now states) (door_credits plan.tenants.now) (open_jobs_of states)
-          (new_by_line (door_limits plan.bounds.tenant_jobs plan.tenants.now) c.args.runner) plan.bounds.keep parts.desks (map (λ (x : String Global × Option ℕ). (string_bytes x.0, x.1)) c.in-Ok-credits_of.tenants.items) (map (λ (jobs : Vec OpenJob Global). jobs.items) parts.jobs.items) made.handler first.new.desks first.new.self desks handler
-          parts.ensures.desks c.in-Ok-credits_of.ensures parts.ensures.jobs made.ensures.runner made.ensures.keep made.ensures.own made.ensures.fresh (made.ensures.count ∙ sym c.requires.states ∙ sym parts.ensures.count.0)
+          (new_by_line (door_limits plan.bounds.tenant_jobs plan.tenants.now) c.args.runner) plan.bounds.keep parts.desks (said c.deref.result.now) (map (λ (jobs : Vec OpenJob Global). jobs.items) parts.jobs.items) made.handler first.new.desks first.new.self desks handler
+          parts.ensures.desks (ap said c.deref.ensures.value ∙ c.in-Ok-credits_of.ensures) parts.ensures.jobs made.ensures.runner made.ensures.keep made.ensures.own made.ensures.fresh (made.ensures.count ∙ sym c.requires.states ∙ sym parts.ensures.count.0)
           c.in-Ok-grant_first.ensures.credited first.ensures.records first.ensures.forgotten first.ensures.same.0 first.ensures.same.1 first.ensures.same.2 again.starts again.records again.forgotten again.same.0 again.same.1,
       t.1,
       t.2,

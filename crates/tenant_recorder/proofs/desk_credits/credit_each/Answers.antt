@@ -1,4 +1,4 @@
-use Rattle.std.proofs.Common.{◌≡◌, ◌<◌, ◌+◌, ◌∙◌, ℕ, length, string_bytes, slice_get, Some, List, Option, String, Global, refl, sym, ap, rules, arith}
+use Rattle.std.proofs.Common.{◌<◌, ℕ, length, string_bytes, List, Option, String, Global, refl, rules, arith}
 use Rattle.std.proofs.lemmas.List.{length-map}
 use Rattle.std.proofs.lemmas.Option.{slice_get_read}
 use Rattle.tenant_recorder.proofs.Credited.{all_credited, get_tenant, none_credited, one_credited, tenants_of}
