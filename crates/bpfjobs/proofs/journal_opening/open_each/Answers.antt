@@ -1,6 +1,5 @@
 use Rattle.std.proofs.Common.{◌≡◌, ◌+◌, ℕ, zero, suc, List, [], ◌∷◌, ◌++◌, length, Some, slice_get, arith, ap, subst, unwrap_or, Option}
 use Rattle.std.proofs.lemmas.List.{length-append}
-use Rattle.shared_journal.specs.Places.{AreAtTheirPlaces}
 use Rattle.shared_journal.specs.declared.shared_journal.SharedJournal.{SharedJournal}
 use Rattle.bpfjobs.proofs.journal_opening.open_each.Goals as goal
 
