@@ -6,6 +6,7 @@ use anyhow::bail;
 use job_core::play_lowest;
 use job_server::{Bounds, Plan, serve_listener};
 use sessions::{Reply, Request, Session, reply_frame};
+use shared_journal::ReplySync;
 use std::alloc::Global;
 use std::io::{Read, Write};
 use std::net::{Ipv4Addr, Net, Shutdown, SocketAddr, TcpListener, TcpStream};
@@ -227,6 +228,7 @@ where
                 stop: None,
                 log: None,
                 journals: &[],
+                sync: ReplySync::Always,
             };
             serve_listener(&rt, alloc, &listener, plan, Vec::new(alloc))
         },

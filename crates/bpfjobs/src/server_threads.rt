@@ -1,11 +1,11 @@
 //! The threads beside a server: one that waits for the end of the input, one that looks at the
-//! journals, and one that writes a log.
+//! journals, one that commits them at intervals, and one that writes a log.
 
-use bpfjobs_cli::{Endpoint, Serve};
+use bpfjobs_cli::{Endpoint, JournalSync, Serve};
 use job_server::{StopFlag, address_of};
 use refusal::NoMemory;
 use server_log::{LogLines, ServerLog, open_log, write_lines};
-use shared_journal::SharedJournal;
+use shared_journal::{GroupJournal, SharedJournal, commit_each};
 use std::alloc::Global;
 use std::io::Read;
 use std::net::{Net, TcpStream};
@@ -16,6 +16,9 @@ use std::time::{Clock, Duration};
 
 // How many milliseconds go by between two looks at the journals.
 const BETWEEN_LOOKS: u64 = 20;
+
+// How many milliseconds go by between two commits of the journals.
+const BETWEEN_COMMITS: u64 = 1000;
 
 /// The place of a server that a connection wakes.
 #[derive(Drop)]
@@ -83,6 +86,16 @@ fn stop_at_failure<R: Net + Wait + Clock>(
     place.wake(rt);
 }
 
+// Commits the journals at intervals, until one fails. The server's own end commits them once more.
+fn commit_at_intervals<R: Wait + Clock, J: GroupJournal>(rt: &R, journals: &[J]) {
+    for _ in rt.forever() {
+        thread::sleep(rt, Duration::from_millis(BETWEEN_COMMITS));
+        if commit_each(rt, journals).is_err() {
+            return;
+        }
+    }
+}
+
 /// The task of a thread beside a server.
 #[derive(Drop)]
 pub enum Helper {
@@ -90,6 +103,8 @@ pub enum Helper {
     Stops(ListenAddress, Arc<StopFlag, Global>),
     /// It stops the server once one of its journals has failed.
     Watches(ListenAddress, Arc<StopFlag, Global>, Arc<Vec<SharedJournal>, Global>),
+    /// It commits the server's journals about once a second, until one fails.
+    Commits(Arc<Vec<SharedJournal>, Global>),
     /// It writes the lines of a log on standard error.
     Writes(LogLines),
 }
@@ -102,6 +117,7 @@ impl Helper {
             Helper::Watches(place, stop, journals) => {
                 stop_at_failure(rt, &place, &stop, &journals);
             }
+            Helper::Commits(journals) => commit_at_intervals(rt, &journals),
             Helper::Writes(lines) => write_lines(rt, rt.alloc(), lines),
         }
     }
@@ -145,6 +161,18 @@ fn add_stopping(
     Ok(())
 }
 
+// Adds the thread that commits the journals, if there are any, where no reply does.
+fn add_commits(
+    sync: JournalSync,
+    journals: Option<&Arc<Vec<SharedJournal>, Global>>,
+    helpers: &mut Vec<Helper>,
+) -> Result<(), NoMemory> {
+    if let (JournalSync::Interval, Some(journals)) = (sync, journals) {
+        helpers.push(Helper::Commits(Arc::try_clone(journals)?))?;
+    }
+    Ok(())
+}
+
 /// The flag and the log that a server's options and its journals ask for, and what their threads do.
 pub fn handles_of(
     alloc: Global,
@@ -161,6 +189,7 @@ pub fn handles_of(
         add_stopping(alloc, server, &stop, journals, &mut helpers)?;
         handles.stop = Some(stop);
     }
+    add_commits(server.journal_sync, journals, &mut helpers)?;
     if server.options.logs {
         let (log, lines) = open_log(alloc)?;
         helpers.push(Helper::Writes(lines))?;

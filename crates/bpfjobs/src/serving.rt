@@ -4,14 +4,18 @@ ghost use Rattle.std.specs.Prelude.{◌≡◌, ◌⊎◌, ◌+◌, [], IfOk, IfS
 ghost use Rattle.std.specs.Arc.{arc_value};
 ghost use Rattle.bpfjobs_cli.specs.Commands.{IsServeInRange};
 ghost use Rattle.bpfjobs_cli.specs.Tenants.{tenants_in};
+ghost use Rattle.bpfjobs_cli.specs.declared.journal_sync.JournalSync.TheVariants as said;
+ghost use Rattle.shared_journal.specs.declared.reply_sync.ReplySync.TheVariants as reply;
 
 use crate::journal_opening::OpenedJournals;
-use bpfjobs_cli::{Endpoint, FAILED, Serve, ServeOptions, TenantSettings, TenantSocket};
+use bpfjobs_cli::{
+    Endpoint, FAILED, JournalSync, Serve, ServeOptions, TenantSettings, TenantSocket,
+};
 use desk_journal::JournaledDesk;
 use job_server::{Bounds, Plan, StopFlag, TenantDoor, serve_port, serve_sockets, status_of};
 use refusal::NoMemory;
 use server_log::ServerLog;
-use shared_journal::SharedJournal;
+use shared_journal::{ReplySync, SharedJournal};
 use std::alloc::Global;
 use std::fs::Files;
 use std::net::{Net, TcpListener, TcpStream};
@@ -35,6 +39,17 @@ fn bounds_of(options: ServeOptions, tenant_jobs: Option<u32>) -> Bounds
         open_jobs: options.open_jobs,
         tenant_jobs: tenant_jobs.unwrap_or(0),
         keep: options.keep,
+    }
+}
+
+// The moment of the sync that the words say, as a server has it.
+fn reply_sync_of(sync: JournalSync) -> ReplySync
+    ensures always { sync ≡ said.Always → result ≡ reply.Always }
+    ensures interval { sync ≡ said.Interval → result ≡ reply.Interval }
+{
+    match sync {
+        JournalSync::Always => ReplySync::Always,
+        JournalSync::Interval => ReplySync::Interval,
     }
 }
 
@@ -107,6 +122,7 @@ where
         stop,
         log,
         journals,
+        sync: reply_sync_of(server.journal_sync),
     };
     let outcome = match &server.endpoint {
         Endpoint::Port(port) => serve_port(rt, alloc, *port, plan, states),

@@ -42,7 +42,8 @@ pub fn with_file<R: Files + Eprint + AllocGlobal>(
     requires { IsServeInRange server }
     ensures range { IfOk result (λ new. IsServeInRange new) }
     ensures rest { IfOk result (λ new. (new.endpoint ≡ server.endpoint)
-        × (new.journal ≡ server.journal) × (new.options ≡ server.options)
+        × (new.journal ≡ server.journal) × (new.journal_sync ≡ server.journal_sync)
+        × (new.options ≡ server.options)
         × (new.tenants.open_jobs ≡ server.tenants.open_jobs)) }
     ensures lines { IfOk result (λ new. (text : List ℕ)
         × (entered (tenants_in server.tenants.tenants.items) 1 (lines_said text)
@@ -56,6 +57,7 @@ pub fn with_file<R: Files + Eprint + AllocGlobal>(
             open_jobs,
         },
         journal,
+        journal_sync,
         options,
     } = server;
     let tenants = match &file {
@@ -78,6 +80,7 @@ pub fn with_file<R: Files + Eprint + AllocGlobal>(
             open_jobs,
         },
         journal,
+        journal_sync,
         options,
     })
 }

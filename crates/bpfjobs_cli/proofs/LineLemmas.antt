@@ -93,21 +93,21 @@ flag_given (Some text) = (
 serve : Gives SaysCommand (leaf serve_app.top)
 serve words own none =
     let port = may_be (rule port_rule) 1 65535 refl (omega arith) refl (leaf serve_app.top) words
-    ((λ same. refl), (other, (other, (other, (other, (other, (other, (other, (other, (other, (other, (other, (other, (other, (other, (other, tt)))))))))))))))) none in
+    ((λ same. refl), (other, (other, (other, (other, (other, (other, (other, (other, (other, (other, (other, (other, (other, (other, (other, (other, tt))))))))))))))))) none in
     let jobs = may_be (rule tenant_jobs_rule) 1 1000000 refl (omega arith) refl (leaf serve_app.top) words
-    (other, (other, (other, (other, (other, ((λ same. refl), (other, (other, (other, (other, (other, (other, (other, (other, (other, (other, tt)))))))))))))))) none in
+    (other, (other, (other, (other, (other, ((λ same. refl), (other, (other, (other, (other, (other, (other, (other, (other, (other, (other, (other, tt))))))))))))))))) none in
     let workers = left_out (rule workers_rule) 1 16 refl (omega arith) refl (leaf serve_app.top) words
-    (other, (other, (other, (other, (other, (other, ((λ same. refl), (other, (other, (other, (other, (other, (other, (other, (other, (other, tt)))))))))))))))) (inr (inr (inr (inr (inr (inr (inl refl))))))) none (omega arith) in
+    (other, (other, (other, (other, (other, (other, ((λ same. refl), (other, (other, (other, (other, (other, (other, (other, (other, (other, (other, tt))))))))))))))))) (inr (inr (inr (inr (inr (inr (inl refl))))))) none (omega arith) in
     let sessions = may_be (rule sessions_rule) 1 1000000 refl (omega arith) refl (leaf serve_app.top) words
-    (other, (other, (other, (other, (other, (other, (other, ((λ same. refl), (other, (other, (other, (other, (other, (other, (other, (other, tt)))))))))))))))) none in
+    (other, (other, (other, (other, (other, (other, (other, ((λ same. refl), (other, (other, (other, (other, (other, (other, (other, (other, (other, tt))))))))))))))))) none in
     let clients = left_out (rule clients_rule) 1 1024 refl (omega arith) refl (leaf serve_app.top) words
-    (other, (other, (other, (other, (other, (other, (other, (other, ((λ same. refl), (other, (other, (other, (other, (other, (other, (other, tt)))))))))))))))) (inr (inr (inr (inr (inr (inr (inr (inr (inl refl))))))))) none (omega arith) in
+    (other, (other, (other, (other, (other, (other, (other, (other, ((λ same. refl), (other, (other, (other, (other, (other, (other, (other, (other, tt))))))))))))))))) (inr (inr (inr (inr (inr (inr (inr (inr (inl refl))))))))) none (omega arith) in
     let timeout = left_out (rule timeout_rule) 0 3600 refl (omega arith) refl (leaf serve_app.top) words
-    (other, (other, (other, (other, (other, (other, (other, (other, (other, ((λ same. refl), (other, (other, (other, (other, (other, (other, tt)))))))))))))))) (inr (inr (inr (inr (inr (inr (inr (inr (inr (inl refl)))))))))) none (omega arith) in
+    (other, (other, (other, (other, (other, (other, (other, (other, (other, ((λ same. refl), (other, (other, (other, (other, (other, (other, (other, tt))))))))))))))))) (inr (inr (inr (inr (inr (inr (inr (inr (inr (inl refl)))))))))) none (omega arith) in
     let open_jobs = left_out (rule open_jobs_rule) 0 1000000 refl (omega arith) refl (leaf serve_app.top) words
-    (other, (other, (other, (other, (other, (other, (other, (other, (other, (other, ((λ same. refl), (other, (other, (other, (other, (other, tt)))))))))))))))) (inr (inr (inr (inr (inr (inr (inr (inr (inr (inr (inl refl))))))))))) none (omega arith) in
+    (other, (other, (other, (other, (other, (other, (other, (other, (other, (other, ((λ same. refl), (other, (other, (other, (other, (other, (other, tt))))))))))))))))) (inr (inr (inr (inr (inr (inr (inr (inr (inr (inr (inl refl))))))))))) none (omega arith) in
     let keep = left_out (rule keep_rule) 0 1000000 refl (omega arith) refl (leaf serve_app.top) words
-    (other, (other, (other, (other, (other, (other, (other, (other, (other, (other, (other, ((λ same. refl), (other, (other, (other, (other, tt)))))))))))))))) (inr (inr (inr (inr (inr (inr (inr (inr (inr (inr (inr (inl refl)))))))))))) none (omega arith) in
+    (other, (other, (other, (other, (other, (other, (other, (other, (other, (other, (other, ((λ same. refl), (other, (other, (other, (other, (other, tt))))))))))))))))) (inr (inr (inr (inr (inr (inr (inr (inr (inr (inr (inr (inl refl)))))))))))) none (omega arith) in
     let rows = rows_after (leaf serve_app.top).rules [] words in
     let options : ServeOptions = record {
       workers = workers.0;

@@ -10,14 +10,16 @@ use Rattle.bpfjobs_cli.specs.declared.commands.Command.TheVariants.{Assemble, Di
 use Rattle.bpfjobs_cli.specs.declared.commands.Endpoint.{Endpoint}
 use Rattle.bpfjobs_cli.specs.declared.commands.Endpoint.TheVariants.{Port, Socket}
 use Rattle.bpfjobs_cli.specs.declared.commands.EndpointFault.{EndpointFault}
-use Rattle.bpfjobs_cli.specs.declared.commands.EndpointFault.TheVariants.{Missing, Two, GrantsWithPort, TenantsWithPort, JobsOfNoTenant}
+use Rattle.bpfjobs_cli.specs.declared.commands.EndpointFault.TheVariants.{Missing, Two, GrantsWithPort, TenantsWithPort, JobsOfNoTenant, SyncOfNoJournal, UnknownSync}
 use Rattle.bpfjobs_cli.specs.declared.commands.Serve.{Serve as Server}
 use Rattle.bpfjobs_cli.specs.declared.commands.ServeOptions.{ServeOptions}
 use Rattle.bpfjobs_cli.specs.declared.commands.Shown.{Shown}
 use Rattle.bpfjobs_cli.specs.declared.commands.Usage.{Usage}
+use Rattle.bpfjobs_cli.specs.declared.journal_sync.JournalSync.{JournalSync}
 use Rattle.bpfjobs_cli.specs.declared.tenant_socket.TenantFault.{TenantFault}
 use Rattle.bpfjobs_cli.specs.declared.tenant_socket.TenantWords.{TenantWords}
 use Rattle.bpfjobs_cli.specs.declared.commands.Usage.TheVariants as usage
+use Rattle.bpfjobs_cli.specs.JournalSyncs.{sync_by}
 use Rattle.bpfjobs_cli.specs.Program.{bpfjobs_app}
 use Rattle.bpfjobs_cli.specs.Tenants.{AreTenants, IsWrongWord, entered, tenants_in, words_said}
 
@@ -91,7 +93,14 @@ abbrev pub IsJournalOf : List Row → Option (String Global) → Type 0
 IsJournalOf rows journal =
     first_of (codes "journal") rows ≡ option_map string_bytes journal
 
--- the words name no endpoint, or what doesn't go with it
+-- The journal is synced as the words say, and always ahead of a reply where they say nothing. If they
+-- say it, they name a journal.
+abbrev pub IsSyncOf : List Row → JournalSync → Type 0
+IsSyncOf rows sync =
+    (sync_by (first_of (codes "journal-sync") rows) ≡ Some sync)
+    × ((first_of (codes "journal-sync") rows ≡ None) ⊎ HasText rows (codes "journal"))
+
+-- the words name no endpoint, or what doesn't go together
 abbrev pub IsEndpointFault : List Row → EndpointFault → Type 0
 IsEndpointFault rows Missing =
     (one_of (codes "port") rows ≡ None) × (first_of (codes "socket") rows ≡ None)
@@ -104,6 +113,9 @@ IsEndpointFault rows TenantsWithPort =
     × (first_of (codes "grants") rows ≡ None) × NameTenants rows
 IsEndpointFault rows JobsOfNoTenant =
     ((jobs : ℕ) × IsNumberIn rows (codes "tenant-jobs") 1 1000000 jobs) × NameNoTenant rows
+IsEndpointFault rows SyncOfNoJournal =
+    HasText rows (codes "journal-sync") × (first_of (codes "journal") rows ≡ None)
+IsEndpointFault rows UnknownSync = sync_by (first_of (codes "journal-sync") rows) ≡ None
 
 -- a word names no tenant, beside a socket
 pub record IsTenantFault (rows : List Row) (word : Text) (f : TenantFault) : Type 0 where
@@ -138,6 +150,7 @@ pub record IsServeOf (rows : List Row) (serve : Server) : Type 0 where
   pub endpoint : IsEndpointOf rows serve.endpoint
   pub tenants : AreTenantsOf rows serve.endpoint serve.tenants
   pub journal : IsJournalOf rows serve.journal
+  pub journal_sync : IsSyncOf rows serve.journal_sync
   pub options : AreOptionsOf rows serve.options
 
 abbrev pub IsCommandOf : Text → List Row → Command → Type 0

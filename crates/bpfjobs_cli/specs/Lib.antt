@@ -2,6 +2,7 @@ pub mod Program
 pub mod TenantLines
 pub mod Tenants
 pub mod JournalPaths
+pub mod JournalSyncs
 pub mod Entries
 pub mod Commands
 pub mod Printed

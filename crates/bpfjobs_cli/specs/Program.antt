@@ -98,6 +98,12 @@ journal_rule = record (new_rule (codes "journal")) {
   value_names = 1;
 }
 
+abbrev pub journal_sync_rule : Rule
+journal_sync_rule = record (new_rule (codes "journal-sync")) {
+  long = Some (codes "journal-sync");
+  value_names = 1;
+}
+
 abbrev pub until_eof_rule : Rule
 until_eof_rule = record (new_rule (codes "until-eof")) {
   long = Some (codes "until-eof");
@@ -143,10 +149,10 @@ run_app = with_rule (with_rule (new_app (codes "run")) workers_rule) tree_rule
 abbrev pub serve_app : App
 serve_app =
     with_rule (with_rule (with_rule (with_rule (with_rule (with_rule (with_rule (with_rule
-    (with_rule (with_rule (with_rule (with_rule (with_rule (with_rule (with_rule
+    (with_rule (with_rule (with_rule (with_rule (with_rule (with_rule (with_rule (with_rule
     (new_app (codes "serve")) port_rule) socket_rule) grants_rule) tenant_rule) tenants_rule)
     tenant_jobs_rule) workers_rule) sessions_rule) clients_rule) timeout_rule) open_jobs_rule)
-    keep_rule) journal_rule) until_eof_rule) log_rule
+    keep_rule) journal_rule) journal_sync_rule) until_eof_rule) log_rule
 
 abbrev pub journal_app : App
 journal_app = with_rule (with_rule (new_app (codes "journal")) journal_file_rule) check_rule

@@ -1,5 +1,6 @@
 //! The meaning of a command line's words: a command with its numbers, or why there is none.
 
+use crate::journal_sync::JournalSync;
 use crate::tenant_socket::{TenantFault, TenantWords};
 use clap::Error;
 use std::alloc::AllocError;
@@ -23,7 +24,8 @@ pub enum Command {
     Journal { path: String, checks: bool },
 }
 
-/// A server: where it listens, for which tenants apart, its journal and its options.
+/// A server: where it listens, for which tenants apart, its journal and when that is synced, and its
+/// options.
 #[derive(Debug, PartialEq, Eq, Drop)]
 pub struct Serve {
     pub endpoint: Endpoint,
@@ -32,6 +34,9 @@ pub struct Serve {
     /// The path of the file that keeps its journal, if the words name one. Each tenant with a socket of
     /// its own has one beside it.
     pub journal: Option<String>,
+    /// The moment at which its journals are synced: always ahead of a reply, where the words say
+    /// nothing.
+    pub journal_sync: JournalSync,
     pub options: ServeOptions,
 }
 
@@ -87,7 +92,7 @@ pub struct CommandRequest<'a> {
     pub shown: Shown<'a>,
 }
 
-/// The reason why the options of `serve` name no endpoint, or don't go with it.
+/// The reason why the options of `serve` name no endpoint, or don't go together.
 #[derive(Clone, Copy, Debug, PartialEq, Eq)]
 pub enum EndpointFault {
     /// Neither a port nor a socket.
@@ -100,6 +105,10 @@ pub enum EndpointFault {
     TenantsWithPort,
     /// A limit for each tenant, where no tenant is named.
     JobsOfNoTenant,
+    /// A word on when the journal is synced, where no journal is named.
+    SyncOfNoJournal,
+    /// A word on that which is neither `always` nor `interval`.
+    UnknownSync,
 }
 
 impl EndpointFault {
@@ -112,6 +121,12 @@ impl EndpointFault {
             EndpointFault::TenantsWithPort => "error: serve takes tenants with --socket alone",
             EndpointFault::JobsOfNoTenant => {
                 "error: serve takes --tenant-jobs with --tenant or --tenants alone"
+            }
+            EndpointFault::SyncOfNoJournal => {
+                "error: serve takes --journal-sync with --journal alone"
+            }
+            EndpointFault::UnknownSync => {
+                "error: serve takes --journal-sync always or --journal-sync interval"
             }
         }
     }

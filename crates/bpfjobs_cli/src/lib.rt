@@ -5,6 +5,7 @@
 
 mod commands;
 mod desk_paths;
+mod journal_sync;
 mod process;
 mod program;
 mod reading;
@@ -18,6 +19,7 @@ pub use commands::{
     Command, CommandRequest, Endpoint, EndpointFault, Serve, ServeOptions, Shown, Usage,
 };
 pub use desk_paths::journal_paths;
+pub use journal_sync::JournalSync;
 pub use process::{FAILED, UNREAD, print_usage, words};
 pub use reading::{command, request};
 pub use tenant_socket::{TenantFault, TenantSettings, TenantSocket, TenantWords, WrongTenant};

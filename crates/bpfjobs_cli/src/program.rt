@@ -3,7 +3,7 @@
 ghost use Rattle.std.specs.Prelude.{◌≡◌, false, codes, IfOk};
 ghost use Rattle.clap.specs.Words.{app_of, new_app, rule_of};
 ghost use Rattle.clap.specs.declared.builder.command.Command.TheViews.{out-Command as fields_of};
-ghost use Rattle.bpfjobs_cli.specs.Program.{need_rule, port_rule, socket_rule, grants_rule, tenant_rule, tenants_rule, tenant_jobs_rule, workers_rule, sessions_rule, clients_rule, timeout_rule, open_jobs_rule, keep_rule, journal_rule, until_eof_rule, log_rule, trace_rule, trace_json_rule, tree_rule, journal_file_rule, check_rule, named_app, verify_app, play_app, run_app, serve_app, journal_app, bpfjobs_app, with_text_commands};
+ghost use Rattle.bpfjobs_cli.specs.Program.{need_rule, port_rule, socket_rule, grants_rule, tenant_rule, tenants_rule, tenant_jobs_rule, workers_rule, sessions_rule, clients_rule, timeout_rule, open_jobs_rule, keep_rule, journal_rule, journal_sync_rule, until_eof_rule, log_rule, trace_rule, trace_json_rule, tree_rule, journal_file_rule, check_rule, named_app, verify_app, play_app, run_app, serve_app, journal_app, bpfjobs_app, with_text_commands};
 
 use crate::texts;
 use clap::{Arg, ArgAction, Command};
@@ -165,6 +165,16 @@ fn journal<'a>(alloc: Global) -> Arg<'a>
         .help(texts::JOURNAL)
 }
 
+fn journal_sync<'a>(alloc: Global) -> Arg<'a>
+    ensures rule { rule_of result ≡ journal_sync_rule }
+    ensures local { result.global ≡ false }
+{
+    Arg::new(alloc, "journal-sync")
+        .long("journal-sync")
+        .value_name("WHEN")
+        .help(texts::JOURNAL_SYNC)
+}
+
 fn until_eof<'a>(alloc: Global) -> Arg<'a>
     ensures rule { rule_of result ≡ until_eof_rule }
     ensures local { result.global ≡ false }
@@ -305,6 +315,7 @@ fn serve<'a>(alloc: Global) -> Result<Command<'a>, AllocError>
         .arg(open_jobs(alloc))?
         .arg(keep(alloc))?
         .arg(journal(alloc))?
+        .arg(journal_sync(alloc))?
         .arg(until_eof(alloc))?
         .arg(log(alloc))
 }

@@ -7,11 +7,12 @@ ghost use Rattle.bpfjobs_cli.specs.Program.{bpfjobs_app};
 ghost use Rattle.bpfjobs_cli.specs.declared.commands.Endpoint.TheVariants.{Port};
 ghost use Rattle.bpfjobs_cli.specs.Tenants.{entered, tenants_in, words_said};
 ghost use Rattle.bpfjobs_cli.specs.Entries.{IsWordUsage};
-ghost use Rattle.bpfjobs_cli.specs.Commands.{AreJobsOf, AreOptionsOf, AreTenantsOf, HasText, IsCommandOf, IsCommandUsage, IsEndpointOf, IsEndpointUsage, IsFlagOf, IsInRange, IsJournalOf, IsMaybeNumber, IsNumberIn, IsServeOf, IsShownOf, IsUsage, NameNoTenant, NameTenants, SaysCommand, SaysServe, sessions_said, tenant_words};
+ghost use Rattle.bpfjobs_cli.specs.Commands.{AreJobsOf, AreOptionsOf, AreTenantsOf, HasText, IsCommandOf, IsCommandUsage, IsEndpointOf, IsEndpointUsage, IsFlagOf, IsInRange, IsJournalOf, IsMaybeNumber, IsNumberIn, IsServeOf, IsShownOf, IsSyncOf, IsUsage, NameNoTenant, NameTenants, SaysCommand, SaysServe, sessions_said, tenant_words};
 
 use crate::commands::{
     Command, CommandRequest, Endpoint, EndpointFault, Serve, ServeOptions, Shown, Usage,
 };
+use crate::journal_sync::{JournalSync, sync_said};
 use crate::program::bpfjobs;
 use crate::tenant_socket::{TenantSocket, TenantWords};
 use crate::tenants::tenants_of_words;
@@ -209,6 +210,24 @@ fn journal(alloc: Global, matches: &ArgMatches<'_>) -> Result<Option<String>, Us
     Ok(text(alloc, matches, "journal")?)
 }
 
+// The moment at which a server's journal is synced: always ahead of a reply, where the words say nothing.
+fn journal_sync(matches: &ArgMatches<'_>) -> Result<JournalSync, Usage>
+    ensures ok { IfOk result (λ sync. IsSyncOf (rows_of (found_of matches.now)) sync) }
+    ensures err { IfErr result (λ usage.
+        IsEndpointUsage (rows_of (found_of matches.now)) usage) }
+{
+    match matches.get_str("journal-sync") {
+        Some(word) => match sync_said(word) {
+            Some(sync) => match matches.get_str("journal") {
+                Some(_) => Ok(sync),
+                None => Err(Usage::Endpoint(EndpointFault::SyncOfNoJournal)),
+            },
+            None => Err(Usage::Endpoint(EndpointFault::UnknownSync)),
+        },
+        None => Ok(JournalSync::Always),
+    }
+}
+
 // The options of a server.
 fn options(matches: &ArgMatches<'_>) -> ServeOptions
     requires { (o : ServeOptions) × AreOptionsOf (rows_of (found_of matches.now)) o }
@@ -242,13 +261,18 @@ fn serve_of(alloc: Global, matches: &ArgMatches<'_>) -> Result<Serve, Usage>
         Ok(tenants) => tenants,
         Err(usage) => return Err(usage),
     };
-    match journal(alloc, matches) {
-        Ok(journal) => {
+    let journal = match journal(alloc, matches) {
+        Ok(journal) => journal,
+        Err(usage) => return Err(usage),
+    };
+    match journal_sync(matches) {
+        Ok(journal_sync) => {
             let options = options(matches);
             Ok(Serve {
                 endpoint,
                 tenants,
                 journal,
+                journal_sync,
                 options,
             })
         }

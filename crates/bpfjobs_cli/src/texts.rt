@@ -103,7 +103,8 @@ reply is sent once the records of what it tells are on the disk. A server that s
 on from its records: with their accounts, reports and numbers, and the jobs that were open begin
 anew. A torn record at the end is cut off; FILE is not used where it is damaged, or another server
 has it (3). FILE only grows. With tenants FILE is that of everybody else, and FILE.NAME that of the
-tenant NAME.
+tenant NAME. With --journal-sync interval no reply waits for the disk: what was told in about the last
+second may be gone after a kill or a crash, and a later server goes on from what came before it.
 Status: 0 once so many connections have ended, 3 where one of them, a socket or the journal failed.
 
 Example:
@@ -163,6 +164,9 @@ pub(crate) const KEEP: &str =
 
 pub(crate) const JOURNAL: &str =
     "A file that keeps each grant and job, from which a later server goes on; a tenant's is FILE.NAME";
+
+pub(crate) const JOURNAL_SYNC: &str =
+    "With --journal: always, ahead of each reply, or interval, once a second [default: always]";
 
 pub(crate) const UNTIL_EOF: &str =
     "Takes no more connections once standard input has ended, and ends with those it has";

@@ -20,7 +20,7 @@ use shared_desk::{
     ClientSeat, HistoryId, NewHistory, Origin, Passage, SharedDesk, SharedHandler, SharedHistory,
     serve_opened,
 };
-use shared_journal::{CommittingSink, SharedJournal};
+use shared_journal::{CommittingSink, ReplySync, SharedJournal};
 use std::alloc::Global;
 use std::marker::Brand;
 use std::net::TcpStream;
@@ -33,8 +33,8 @@ use streams::{StreamFault, Tap};
 /// The fault where there is no memory.
 pub(crate) const NO_MEMORY: ServeFault = ServeFault::Connection(StreamFault::NoMemory);
 
-// Serves a connection that was taken, whose replies rest on these journals. Gives its two ends, and
-// whether a reply was refused since a journal has failed.
+// Serves a connection that was taken, whose replies rest on these journals, committed ahead of each
+// or at intervals. Gives its two ends, and whether a reply was refused since a journal has failed.
 fn answer_connection<'s, R: Wait + Clock, D, H: SharedHandler<D>, J: Origin<D, H>>(
     rt: &'s R,
     alloc: Global,
@@ -45,6 +45,7 @@ fn answer_connection<'s, R: Wait + Clock, D, H: SharedHandler<D>, J: Origin<D, H
     stream: &'s TcpStream,
     waiting: Waiting<'s>,
     journals: &'s [SharedJournal],
+    sync: ReplySync,
     notes: bool,
 ) -> (
     NotedReader<'s, TimedReader<'s, R>>,
@@ -57,7 +58,7 @@ fn answer_connection<'s, R: Wait + Clock, D, H: SharedHandler<D>, J: Origin<D, H
     let timed = TimedReader::new(rt, stream, waiting);
     let mut reader = Tap::new(NotedReader::new(timed, waiting.stop, notes));
     let tap = Tap::new(NotedWriter::new(stream));
-    let mut writer = CommittingSink::new(rt, journals, tap);
+    let mut writer = CommittingSink::new(rt, journals, sync, tap);
     serve_opened(
         rt,
         alloc,
@@ -122,6 +123,7 @@ fn take_turns<
     waiting: Waiting<'_>,
     shares: Option<&Shares>,
     journals: &[SharedJournal],
+    sync: ReplySync,
     log: Option<&ServerLog>,
 ) {
     for _ in rt.forever() {
@@ -134,7 +136,7 @@ fn take_turns<
         let notes = log.is_some();
         let own = journals_behind(journals, passage);
         let (reader, writer, is_refused) = answer_connection(
-            rt, alloc, history, lock, seat, passage, &stream, waiting, own, notes,
+            rt, alloc, history, lock, seat, passage, &stream, waiting, own, sync, notes,
         );
         raise_if(waiting.stop, is_refused);
         leave(shares, passage.door);
@@ -227,6 +229,7 @@ fn serve_named<
         stop,
         log,
         journals,
+        sync,
     } = plan;
     let waiting = Waiting {
         seconds: bounds.timeout,
@@ -241,7 +244,7 @@ fn serve_named<
     tell(rt, log, LogEvent::Ready);
     let serve = |_: usize| {
         take_turns(
-            rt, alloc, known, door, shared, waiting, shares, journals, log,
+            rt, alloc, known, door, shared, waiting, shares, journals, sync, log,
         )
     };
     let _ = thread::map_indices(rt, alloc, bounds.clients as usize, &serve);

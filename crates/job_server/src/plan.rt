@@ -5,7 +5,7 @@ use crate::bounds::Bounds;
 use crate::stop_flag::StopFlag;
 use crate::tenant_door::TenantDoor;
 use server_log::ServerLog;
-use shared_journal::SharedJournal;
+use shared_journal::{ReplySync, SharedJournal};
 
 /// A server's plan.
 #[derive(Clone, Copy)]
@@ -31,4 +31,7 @@ pub struct Plan<'a> {
     /// of the desks that it may tell of: all, or the one behind a door that may not grant. Once one
     /// has failed no reply goes out that it was to be committed for, and the server ends.
     pub journals: &'a [SharedJournal],
+    /// The moment of these commits: ahead of each reply, or at intervals, by the host. Then a reply
+    /// goes out unless one of the journals has failed that it rests on.
+    pub sync: ReplySync,
 }

@@ -120,6 +120,7 @@ fn serve_in_scope<
         stop,
         log,
         journals,
+        sync,
     } = plan;
     thread::scope(
         thread::scope_env(),
@@ -140,6 +141,7 @@ fn serve_in_scope<
                 stop,
                 log,
                 journals,
+                sync,
             };
             serve_on_pool(
                 rt, scope, alloc, register, keeper, queues, listener, plan, states,

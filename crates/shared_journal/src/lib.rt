@@ -1,5 +1,5 @@
 //! A journal that the threads of a server share: records wait in memory, and who writes a reply
-//! syncs all that wait first.
+//! syncs all that wait first, or they are synced at intervals.
 #![tactic(auto)]
 
 // the records that wait, and the log that they go to
@@ -8,7 +8,15 @@ mod group_journal;
 mod shared_journal;
 mod waiting_records;
 
+pub use group_journal::GroupJournal;
 pub use shared_journal::SharedJournal;
+
+// when replies go out, and what several journals are asked for that
+mod each_journal;
+mod reply_sync;
+
+pub use each_journal::commit_each;
+pub use reply_sync::ReplySync;
 
 // what puts records into it, and what writes replies behind them
 mod committing_sink;

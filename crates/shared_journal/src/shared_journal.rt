@@ -93,11 +93,22 @@ impl GroupJournal for SharedJournal {
 
     ghost committed = { λ _. Unit {0} };
 
+    ghost sound = { λ _. Unit {0} };
+
+    ghost failed = { λ _. Unit {0} };
+
     fn take_record<R: Wait>(&self, rt: &R, bytes: &[u8]) -> Result<(), NoMemory> {
         self.add(rt, bytes)
     }
 
     fn commit_all<R: Wait>(&self, rt: &R) -> Result<(), LogFault> {
         self.commit(rt)
+    }
+
+    fn look(&self) -> Result<(), LogFault> {
+        if self.has_failed() {
+            return Err(LogFault);
+        }
+        Ok(())
     }
 }

@@ -1,0 +1,289 @@
+"""`bpfjobs serve --journal FILE --journal-sync interval`: replies wait for no sync, and journals are synced once a second."""
+
+import contextlib
+import os
+import re
+import shutil
+import signal
+import subprocess
+import threading
+import time
+import unittest
+
+import test_journal
+from journals import Keeper, Raw, book_of, payloads_of
+from programs import BPFJOBS, PATIENCE
+from test_journal import ACCOUNT, Room, grant, submit
+
+INTERVAL = "--journal-sync", "interval"
+# A second between two syncs, and what a busy machine takes for one.
+SYNCED = 2.5
+
+
+class AtIntervals(Room):
+    """A server whose replies wait for no sync."""
+
+    def keeper(self, *words, **how):
+        return super().keeper(*INTERVAL, *words, **how)
+
+    def granted(self):
+        return book_of(self.data()).granted.get("t", 0)
+
+
+class Kept(AtIntervals):
+    def busy(self, client):
+        """A grant and a job. Gives what is told of them."""
+        self.assertEqual(client.ask(grant(100))["granted"], 100)
+        self.assertEqual(client.ask(submit()), {"job": 1, "ok": True})
+        return client.over(1), client.told(ACCOUNT)
+
+    def check_kept(self, told):
+        client = self.start()
+        self.assertEqual((client.told({"op": "result", "job": 1}), client.told(ACCOUNT)), told)
+
+    def test_a_server_that_was_stopped(self):
+        """It ends at once, and loses nothing."""
+        client = self.start("--until-eof", stdin=subprocess.PIPE)
+        told = self.busy(client)
+        client.stream.close()
+        self.server.process.stdin.close()
+        self.assertEqual(self.server.process.wait(PATIENCE), 0)
+        self.check_kept(told)
+
+    def test_the_last_connection(self):
+        client = self.start("--sessions", 1)
+        told = self.busy(client)
+        client.stream.close()
+        self.assertEqual(self.server.process.wait(PATIENCE), 0)
+        self.check_kept(told)
+
+    def test_a_kill_behind_the_interval(self):
+        told = self.busy(self.start())
+        time.sleep(SYNCED)
+        self.server.kill()
+        self.check_kept(told)
+
+    def test_kills_at_any_moment(self):
+        """A later server goes on from a beginning of what was told, with at most the last second gone."""
+        before = 0
+        for wait in (0, 0.3, 0.6, 0.9, 1.2, 1.5):
+            client = self.start()
+            amount = client.ask(ACCOUNT).get("granted", 0)
+            self.assertGreaterEqual(amount, before)
+            begun = time.monotonic()
+            moments = []
+            while time.monotonic() < begun + wait:
+                amount += 1
+                self.assertEqual(client.ask(grant(1))["granted"], amount)
+                moments.append((time.monotonic(), amount))
+            self.server.kill()
+            end = time.monotonic()
+            before = self.granted()
+            self.assertLessEqual(before, amount)
+            self.assertEqual(payloads_of(self.data())[1], b"")
+            early = [told for moment, told in moments if moment < end - SYNCED]
+            self.assertGreaterEqual(before, max(early, default=0))
+
+    def test_a_record_or_none(self):
+        """What is there is in order, and none of it in part."""
+        client = self.start()
+        for amount in range(1, 200):
+            client.ask(grant(amount))
+        time.sleep(0.5)
+        self.server.kill()
+        payloads, rest = payloads_of(self.data())
+        amounts = [int.from_bytes(payload[-4:], "little") for payload in payloads]
+        self.assertEqual((amounts, rest), (list(range(1, len(amounts) + 1)), b""))
+
+    def test_always_is_the_default(self):
+        """By that word all is there after a kill at once."""
+        for words in ((), ("--journal-sync", "always")):
+            with self.subTest(words=words):
+                server = Keeper(self.room, *words, name=f"journal{len(words)}")
+                self.addCleanup(server.end)
+                server.start()
+                with server.connect() as client:
+                    client.ask(grant(7))
+                server.kill()
+                with open(server.journal, "rb") as file:
+                    self.assertEqual(book_of(file.read()).granted, {"t": 7})
+
+
+class Doors(AtIntervals):
+    """The journals of tenants' desks are synced as well, the last one too."""
+
+    def test_each_journal(self):
+        doors = {name: os.path.join(self.room, name) for name in ("a", "b")}
+        words = [word for name, path in doors.items() for word in ("--tenant", f"{name}={path}")]
+        self.server = self.keeper("--grants", os.path.join(self.room, "grants"), *words)
+        self.server.start()
+        with Raw(os.path.join(self.room, "grants"), self.server.process) as granting:
+            for tenant in ("t", "a", "b"):
+                self.assertTrue(granting.ask(grant(9, tenant))["ok"])
+        time.sleep(SYNCED)
+        self.server.kill()
+        for tenant, name in (("t", "journal"), ("a", "journal.a"), ("b", "journal.b")):
+            with open(os.path.join(self.room, name), "rb") as file:
+                self.assertEqual(book_of(file.read()).granted, {tenant: 9})
+
+
+class Words(Room):
+    def said(self, *words):
+        """The status and the lines of a server by these words, which doesn't begin."""
+        words = [BPFJOBS, "serve", "--socket", self.server.socket, "--until-eof", *words]
+        ran = subprocess.run(words, stdin=subprocess.DEVNULL, capture_output=True, text=True, timeout=PATIENCE, check=False)
+        self.assertEqual(ran.stdout, "")
+        return ran.returncode, ran.stderr
+
+    def test_without_a_journal(self):
+        for word in ("always", "interval"):
+            line = "error: serve takes --journal-sync with --journal alone\n"
+            self.assertEqual(self.said("--journal-sync", word), (2, line))
+
+    def test_other_words(self):
+        line = "error: serve takes --journal-sync always or --journal-sync interval\n"
+        for word in ("", "Always", "interval ", "1", "never"):
+            self.assertEqual(self.said("--journal", self.server.journal, "--journal-sync", word), (2, line))
+        self.assertEqual(self.said("--journal-sync", "never"), (2, line))
+
+    def test_twice_or_without_a_word(self):
+        for words in (["--journal-sync"], ["--journal-sync", "always", "--journal-sync", "always"]):
+            status, lines = self.said("--journal", self.server.journal, *words)
+            self.assertEqual((status, lines[:7]), (2, "error: "), lines)
+        self.assertEqual(os.listdir(self.room), [])
+
+    def test_both_words(self):
+        for word in ("always", "interval"):
+            self.assertEqual(self.said("--journal", self.server.journal, "--journal-sync", word), (0, ""))
+
+    def test_help(self):
+        told = subprocess.run([BPFJOBS, "serve", "--help"], capture_output=True, text=True, check=True, timeout=PATIENCE)
+        self.assertIn("--journal-sync <WHEN>", told.stdout)
+
+
+class FailingAtIntervals(test_journal.Failing):
+    """A journal that can't be written any more: no reply goes out from then on, as where each reply waits for it."""
+
+    def keeper(self, *words, **how):
+        return super().keeper(*INTERVAL, *words, **how)
+
+    def check_failing(self, client):
+        """Grants until the journal fails. What is in it is a beginning of what was told, and nothing is told behind."""
+        told = 0
+        others = [self.connect() for _ in range(3)]
+        for other in others:
+            self.assertIn(other.ask(ACCOUNT).get("code"), (None, 74))
+        until = time.monotonic() + PATIENCE
+        with contextlib.suppress(ConnectionResetError, BrokenPipeError):
+            while time.monotonic() < until:
+                self.assertEqual(client.ask(grant(1))["granted"], told + 1)
+                told += 1
+                # what waits for a second has to end in time
+                time.sleep(0.0002)
+        self.assertLess(time.monotonic(), until)
+        for other in others:
+            with self.assertRaises((ConnectionResetError, BrokenPipeError)):
+                other.told(ACCOUNT)
+        self.assertEqual(self.server.process.wait(PATIENCE), 3)
+        lines = self.server.process.stderr.read().decode()
+        self.assertEqual(lines, self.LINE.format(self.server.journal))
+        self.told = told
+        return book_of(self.data()).granted.get("t", 0)
+
+    def test_a_limit_for_files(self):
+        super().test_a_limit_for_files()
+        self.assertGreater(self.told, 1000 // 22)
+
+
+@unittest.skipUnless(shutil.which("strace"), "there is no strace")
+class Synced(AtIntervals):
+    """Syncs come about once a second, and no reply waits for one."""
+
+    def traced(self, work, *strace):
+        """The calls on the journal, as (second, name), while a client is at work."""
+        told = os.path.join(self.room, "calls")
+        ahead = ["strace", "-f", "-ttt", "-y", "-qq", "-o", told, "-e", "trace=write,fdatasync", *strace]
+        client = self.start(ahead=ahead)
+        with open(f"/proc/{self.server.process.pid}/task/{self.server.process.pid}/children", encoding="utf-8") as file:
+            child = int(file.read().split()[0])
+        work(client)
+        os.kill(child, signal.SIGKILL)
+        self.server.process.wait(PATIENCE)
+        with open(told, encoding="utf-8") as file:
+            lines = file.read().splitlines()
+        pattern = re.compile(r"^\d+ +(\d+\.\d+) (\w+)\(\d+<" + re.escape(os.path.realpath(self.server.journal)))
+        return [(float(found[1]), found[2]) for found in map(pattern.match, lines) if found]
+
+    def test_once_a_second(self):
+        replies = 0
+
+        def work(client):
+            nonlocal replies
+            until = time.monotonic() + 3.5
+            while time.monotonic() < until:
+                client.ask(grant(1))
+                replies += 1
+
+        calls = self.traced(work)
+        syncs = [second for second, name in calls if name == "fdatasync"]
+        self.assertIn(len(syncs), (2, 3), calls)
+        self.assertGreater(replies, 100)
+        # a write ahead of each, in one piece
+        self.assertEqual([name for _, name in calls], ["write", "fdatasync"] * len(syncs))
+        self.assertTrue(all(later - first > 0.9 for first, later in zip(syncs, syncs[1:])), syncs)
+
+    def test_nothing_to_sync(self):
+        """A server that nobody changes syncs nothing."""
+        def work(client):
+            client.ask(grant(1))
+            time.sleep(3.5)
+
+        self.assertEqual([name for _, name in self.traced(work)], ["write", "fdatasync"])
+
+    def test_a_slow_disk(self):
+        """Records are added and replies go out while a sync takes three seconds."""
+        longest = 0
+
+        def work(client):
+            nonlocal longest
+            until = time.monotonic() + 4
+            while (begun := time.monotonic()) < until:
+                client.ask(grant(1))
+                longest = max(longest, time.monotonic() - begun)
+
+        calls = self.traced(work, "-e", "inject=fdatasync:delay_enter=3000000")
+        self.assertEqual([name for _, name in calls][:2], ["write", "fdatasync"])
+        self.assertLess(longest, 1.5)
+
+    def test_a_sync_that_fails(self):
+        """An error of the disk ends it, and nobody is told anything from then on."""
+        with self.assertRaises((ConnectionResetError, BrokenPipeError)):
+            client = self.start(ahead=["strace", "-f", "-qq", "-o", "/dev/null", "-e", "trace=fdatasync",
+                                       "-e", "inject=fdatasync:error=EIO"])
+            until = time.monotonic() + PATIENCE
+            while time.monotonic() < until:
+                client.ask(grant(1))
+        self.assertEqual(self.server.process.wait(PATIENCE), 3)
+
+
+class ManyClients(AtIntervals):
+    def test_many_at_once(self):
+        """Eight clients grant at once. What is there at the end is all that was told."""
+        self.server.start("--until-eof", stdin=subprocess.PIPE)
+        told = [0] * 8
+
+        def work(number):
+            with self.server.connect() as client:
+                for _ in range(100):
+                    self.assertTrue(client.ask(grant(1, f"t{number}"))["ok"])
+                    told[number] += 1
+
+        threads = [threading.Thread(target=work, args=(number,)) for number in range(8)]
+        for thread in threads:
+            thread.start()
+        for thread in threads:
+            thread.join()
+        self.server.process.stdin.close()
+        self.assertEqual(self.server.process.wait(PATIENCE), 0)
+        self.assertEqual(book_of(self.data()).granted, {f"t{number}": 100 for number in range(8)})
+        self.assertEqual(told, [100] * 8)
