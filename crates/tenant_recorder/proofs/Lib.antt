@@ -4,3 +4,4 @@ mod AnsweredAt
 mod Handled
 mod Restarted
 mod Recovered
+mod RecordedNames
