@@ -12,7 +12,7 @@ import time
 import unittest
 
 from journals import Raw
-from programs import BPFJOBS, IS_SLOW, PATIENCE, assemble, frame, free_port, is_read, submit_text
+from programs import BPFJOBS, IS_SLOW, PATIENCE, assemble, frame, free_port, is_read, job_text, submit_text
 from rows import code_of
 from test_clients import long_job
 from test_local import told
@@ -36,6 +36,11 @@ def grant(tenant, amount=1000):
 
 def submit(tenant, credit=3, buffer=b""):
     return submit_text([(0, ADD)], credit, buffer, tenant=tenant)
+
+
+def unnamed_submit(credit=3, buffer=b""):
+    """A request for a job that leaves the tenant's name out."""
+    return '{"op":"submit",' + job_text([(0, ADD)], credit, buffer)[1:]
 
 
 class Room(unittest.TestCase):
@@ -254,6 +259,49 @@ class Doors(Room):
             self.assertEqual(alice.told(submit(tenant)), alice.told(submit("x")))
             self.assertEqual((alice.ask(account(tenant)), alice.ask(submit(tenant))), (NO_TENANT, NO_TENANT))
         self.assertEqual(alice.ask(account("alice")), told(1000, 1000))
+
+    def test_a_name_that_is_left_out(self):
+        """At a tenant's own socket it is that tenant's. A name that is there is read as ever, and so is every name at the other sockets."""
+        process = self.serve("alice", "bob")
+        granter, everybody = self.connect(process, "grants"), self.connect(process)
+        doors = {tenant: self.connect(process, tenant) for tenant in ("alice", "bob")}
+        for amount, tenant in ((1000, "alice"), (2000, "bob")):
+            granter.ask(grant(tenant, amount))
+        unnamed = [{"op": "account"}, unnamed_submit(), {"op": "grant", "amount": 5}]
+        for tenant, granted in (("alice", 1000), ("bob", 2000)):
+            client = doors[tenant]
+            self.assertEqual(client.told({"op": "account"}), client.told(account(tenant)))
+            self.assertEqual(client.ask({"op": "account"}), told(granted, granted))
+            self.assertEqual(client.ask(unnamed_submit(buffer=b"of " + tenant.encode())), {"job": 1, "ok": True})
+            self.assertEqual(client.ask(submit(tenant)), {"job": 2, "ok": True})
+            for number in (1, 2):
+                client.over(number)
+            self.assertEqual(json.loads(client.over(1))["buffer"], (b"of " + tenant.encode()).hex())
+            self.assertEqual(client.ask(account(tenant)), told(granted - 6, granted, 6))
+            self.assertEqual(client.ask({"op": "account"}), told(granted - 6, granted, 6))
+            self.assertEqual(client.ask(unnamed[2]), NO_REQUEST)
+        for other in ("bob", "carol", "x"):
+            self.assertEqual((doors["alice"].ask(account(other)), doors["alice"].ask(submit(other))), (NO_TENANT, NO_TENANT))
+        for client in (granter, everybody):
+            for request in unnamed:
+                self.assertEqual(client.ask(request), NO_REQUEST)
+
+    def test_a_name_that_is_none(self):
+        """It isn't one that is left out."""
+        process = self.serve("alice")
+        granter, alice = self.connect(process, "grants"), self.connect(process, "alice")
+        granter.ask(grant("alice"))
+        for name in ("", None, 7, [], {}, "Alice", "a" * 33):
+            for request in ({"op": "account"}, json.loads(unnamed_submit())):
+                self.assertEqual(alice.ask({**request, "tenant": name}), NO_REQUEST)
+        self.assertEqual(alice.ask({"op": "account"}), told(1000, 1000))
+
+    def test_a_name_left_out_ahead_of_any_grant(self):
+        """It is told as that tenant's own name is."""
+        process = self.serve("alice")
+        alice = self.connect(process, "alice")
+        self.assertEqual((alice.ask({"op": "account"}), alice.ask(unnamed_submit())), (NO_TENANT, NO_TENANT))
+        self.assertEqual(alice.told(unnamed_submit()), alice.told(submit("alice")))
 
     def test_a_grant_by_a_door(self):
         process = self.serve("alice", "bob")

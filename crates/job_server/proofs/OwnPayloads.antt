@@ -5,18 +5,29 @@ use Rattle.std.proofs.lemmas.List.{length-map}
 use Rattle.sessions.specs.Grammar.{Asked, result}
 use Rattle.shared_desk.specs.Histories.{HistoryEntry, Replays, none_yet, one_more, put_if}
 use Rattle.shared_desk.specs.Closed.{AreClosed}
-use Rattle.tenant_desks.specs.Alone.{goes_to, sent_to}
+use Rattle.shared_desk.specs.declared.door.Door.{Door}
+use Rattle.tenant_desks.specs.Alone.{IsTenantHistory, goes_to, sent_to}
+use Rattle.tenant_desks.specs.OwnNamed.{AreAskedByName, IsNamedEntry, IsOwnNamed, named, no_memory, no_request}
+use Rattle.tenant_desks.proofs.NamedHistories.{own_names}
 use Rattle.accounts.specs.Ledgers.{Ledger}
 use Rattle.tenant_desks.specs.Answering.{KeptRunner}
 use Rattle.tenant_desks.specs.Tenancies.{AreFirstDesks, IsFirstDesk, fresh_desk}
 use Rattle.job_pools.specs.declared.limited_runner.LimitedRunner.{LimitedRunner}
 use Rattle.job_pools.specs.declared.line_limited_runner.LineLimitedRunner.{LineLimitedRunner}
+use Rattle.credit_book.specs.declared.book.Report.{Report}
+use Rattle.credit_book.specs.declared.board.Progress.{Progress}
+use Rattle.job_core.specs.Admitted.{AdmittedJob}
+use Rattle.job_pools.specs.LineBounded.{looks_by_line, starts_by_line, takes_by_line}
+use Rattle.job_pools.specs.Bounded.{looks_within, starts_within, takes_within}
+use Rattle.job_pools.specs.Holds.{StartsBy, TellsBy, TakesBy}
+use Rattle.job_pools.specs.Started.{pooled_at, pooled_count}
 use Rattle.job_server.specs.AtOnce.{Pool}
 use Rattle.job_server.specs.declared.bounds.Bounds.{Bounds}
 use Rattle.job_server.specs.declared.fault.ServeFault.{ServeFault}
 use Rattle.job_server.specs.declared.tenant_door.TenantDoor.{TenantDoor}
 use Rattle.job_server.specs.EndToEnd.{ComesFromSubmit, IsResultFrame, submit_of}
-use Rattle.job_server.specs.Payloads.{ComesFromPayload, IsEntryOf}
+use Rattle.job_server.specs.Payloads.{IsEntryOf}
+use Rattle.job_server.specs.OwnPayloads.{ComesFromOwnPayload, IsHeardOf}
 use Rattle.job_server.specs.TenantResults.{IsTenantHostHistory}
 use Rattle.job_server.specs.TenantServing.{IsServingTenants, TenantHosted, door_credits, door_names, hosted_tenant_answers}
 use Rattle.job_server.proofs.FromSubmit.{each_served}
@@ -46,6 +57,24 @@ sent_in names place (x ∷ history) before after e is = put (goes_to names place
     put false before later is = behind x e history (later before is)
     put true [] later is = first_of x e history (sent_to names place history) after is
     put true (y ∷ before) later is = behind x e history (later before (rest_of x y (sent_to names place history) (before ++ e ∷ after) is))
+
+-- ---- an entry of what the desks were asked is one of the history, by name
+
+in_named : (names : List (List ℕ)) (history before after : List HistoryEntry) (f : HistoryEntry) → AreAskedByName names history (before ++ f ∷ after) → (e : HistoryEntry) × IsIn e history × IsNamedEntry names e f
+in_named names [] [] after f are = absurd are
+in_named names [] (y ∷ before) after f are = absurd are
+in_named names (e ∷ history) [] after f are = (e, record { before = []; after = history; is = refl }, are.0)
+in_named names (e ∷ history) (y ∷ before) after f are =
+    let t = in_named names history before after f are.1 in
+    (t.0, behind e t.0 history t.1, t.2)
+
+named_at : (names : List (List ℕ)) (history asked : List HistoryEntry) (f : HistoryEntry) → AreAskedByName names history asked → IsIn f asked → (e : HistoryEntry) × IsIn e history × IsNamedEntry names e f
+named_at names history asked f are t = in_named names history t.before t.after f (subst (λ (l : List HistoryEntry). AreAskedByName names history l) t.is are)
+
+heard_of : (names : List (List ℕ)) (door : Door) (q r : Result Asked ℕ) (asks : Asked) → IsOwnNamed names door q r → r ≡ Ok asks → (heard : Asked) × (q ≡ Ok heard) × IsOwnNamed names door (Ok heard) (Ok asks)
+heard_of names door q r asks (no_request code) is = absurd cc
+heard_of names door q r asks (named a) is = (a, refl, subst (λ (x : Result Asked ℕ). IsOwnNamed names door (Ok a) x) is (named a))
+heard_of names door q r asks (no_memory a unnamed) is = absurd cc
 
 -- ---- the desks that a server begins with
 
@@ -99,7 +128,24 @@ module _ (doors : List TenantDoor) (bounds : Bounds) (sessions : ℕ) (may_stop 
   )
   begun _ x (one_more h y d z before answered) = one_more h y d z (begun h y before) answered
 
-  host : length doors ≤ 256 → IsTenantHostHistory bounds.keep (door_names doors) s.serving.history
+  -- the runner of all jobs
+  abbrev line_starts : LineLimitedRunner (LimitedRunner Pool) → ℕ → AdmittedJob → Result (Unit {0}) ℕ → LineLimitedRunner (LimitedRunner Pool) → Type 0
+  line_starts = starts_by_line (starts_within pooled_count (StartsBy pooled_at pooled_count))
+
+  abbrev line_looks : LineLimitedRunner (LimitedRunner Pool) → ℕ → Progress → LineLimitedRunner (LimitedRunner Pool) → Type 0
+  line_looks = looks_by_line (looks_within (TellsBy pooled_at pooled_count))
+
+  abbrev line_takes : LineLimitedRunner (LimitedRunner Pool) → Option (ℕ × Result Report ℕ) → LineLimitedRunner (LimitedRunner Pool) → Type 0
+  line_takes = takes_by_line (takes_within (TakesBy pooled_at pooled_count))
+
+  -- what the desks were asked
+  abbrev asked_of_desks : (asked : List HistoryEntry) × AreAskedByName (door_names doors) s.serving.history asked × IsTenantHistory line_starts line_looks line_takes (door_names doors) firsts bounds.keep asked s.end
+  asked_of_desks = own_names line_starts line_looks line_takes (door_names doors) firsts bounds.keep s.serving.history s.end (begun s.serving.history s.end s.serving.legal)
+
+  abbrev asked : List HistoryEntry
+  asked = asked_of_desks.0
+
+  host : length doors ≤ 256 → IsTenantHostHistory bounds.keep (door_names doors) asked
   host few =
       let many = length-map doors (λ (d : TenantDoor). string_bytes d.name) in
       let credits : length (door_credits doors) ≡ length doors = length-map {B = List ℕ × Option ℕ} doors (λ (d : TenantDoor). (string_bytes d.name, d.credit)) in
@@ -110,18 +156,29 @@ module _ (doors : List TenantDoor) (bounds : Bounds) (sessions : ℕ) (may_stop 
         as_many = omega (arith, many, credits, behind);
         no_job = none_at_first (door_credits doors) s.begins.0.firsts s.begins.0.granted;
         end = s.end;
-        legal = begun s.serving.history s.end s.serving.legal;
+        legal = asked_of_desks.2;
       }
 
-  pub own_payloads : (place : ℕ) (before after : List HistoryEntry) (e : HistoryEntry) (number : ℕ) → length doors ≤ 256 → place ≤ length doors → sent_to (door_names doors) place s.serving.history ≡ before ++ e ∷ after
-      → e.query.asked ≡ Ok (result number) → IsResultFrame e.reply → ComesFromPayload s.serving.closed before number e
-  own_payloads place before after e number few there is asks f = record {
+  heard_entry : (f : HistoryEntry) (asks : Asked) → IsIn f asked → f.query.asked ≡ Ok asks → IsHeardOf (door_names doors) s.serving.closed f asks
+  heard_entry f asks t own =
+      let n = named_at (door_names doors) s.serving.history asked f asked_of_desks.1 t in
+      let h = heard_of (door_names doors) n.0.query.passage.door n.0.query.asked f.query.asked asks n.2.asked own in
+      record { entry = n.0; same = n.2; heard = h.0; by_name = h.2; went = entry_of n.0 h.0 n.1 h.1 }
+
+  own_payload : (place : ℕ) (before after : List HistoryEntry) (e : HistoryEntry) (number : ℕ) → length doors ≤ 256 → place ≤ length doors → sent_to (door_names doors) place asked ≡ before ++ e ∷ after
+      → e.query.asked ≡ Ok (result number) → IsResultFrame e.reply → ComesFromOwnPayload (door_names doors) s.serving.closed before number e
+  own_payload place before after e number few there is asks f = record {
     comes = comes;
-    submitted = entry_of comes.asked (submit_of comes.is_submit.name comes.is_submit.programs comes.is_submit.credit comes.is_submit.buffer)
-        (sent_in (door_names doors) place s.serving.history comes.earlier (comes.between ++ e ∷ after) comes.asked (is ∙ ap (λ l. l ++ e ∷ after) comes.is_before ∙ joined_again comes.earlier comes.asked comes.between (e ∷ after)))
+    submitted = heard_entry comes.asked (submit_of comes.is_submit.name comes.is_submit.programs comes.is_submit.credit comes.is_submit.buffer)
+        (sent_in (door_names doors) place asked comes.earlier (comes.between ++ e ∷ after) comes.asked (is ∙ ap (λ l. l ++ e ∷ after) comes.is_before ∙ joined_again comes.earlier comes.asked comes.between (e ∷ after)))
         comes.is_submit.asks;
-    told = entry_of e (result number) (sent_in (door_names doors) place s.serving.history before after e is) asks;
+    told = heard_entry e (result number) (sent_in (door_names doors) place asked before after e is) asks;
   }
     where
       comes : ComesFromSubmit before number e
-      comes = own_comes bounds.keep place (door_names doors) s.serving.history (host few) (omega (arith, there, length-map doors (λ (d : TenantDoor). string_bytes d.name))) before after e number is asks f
+      comes = own_comes bounds.keep place (door_names doors) asked (host few) (omega (arith, there, length-map doors (λ (d : TenantDoor). string_bytes d.name))) before after e number is asks f
+
+  pub own_payloads : length doors ≤ 256 → (asked : List HistoryEntry) × AreAskedByName (door_names doors) s.serving.history asked
+      × ((place : ℕ) (before after : List HistoryEntry) (e : HistoryEntry) (number : ℕ) → place ≤ length doors → sent_to (door_names doors) place asked ≡ before ++ e ∷ after
+      → e.query.asked ≡ Ok (result number) → IsResultFrame e.reply → ComesFromOwnPayload (door_names doors) s.serving.closed before number e)
+  own_payloads few = (asked, asked_of_desks.1, λ place before after e number there. own_payload place before after e number few there)

@@ -11,7 +11,7 @@ use Rattle.tenant_desks.specs.Placing.{placed}
 use Rattle.tenant_desks.specs.PlacedRunners.{starts_placed, looks_placed, takes_placed}
 use Rattle.tenant_desks.specs.Routing.{desk_for}
 use Rattle.tenant_desks.specs.Tenancies.{Tenancy}
-use Rattle.tenant_desks.specs.Answering.{AnswersAlone, AnswersWhere, EndsTaken, KeptRunner, PassesEnds, for_place, none_yet, one_more, tenant_answers}
+use Rattle.tenant_desks.specs.Answering.{AnswersAlone, AnswersWhere, EndsTaken, KeptRunner, PassesEnds, for_place, named_answers, none_yet, one_more, tenant_answers}
 use Rattle.job_pools.specs.declared.limited_runner.LimitedRunner.{LimitedRunner}
 use Rattle.job_pools.specs.LineBounded.{looks_by_line, starts_by_line, takes_by_line}
 use Rattle.job_pools.specs.declared.line_limited_runner.LineLimitedRunner.{LineLimitedRunner}
@@ -100,7 +100,7 @@ module _ {R Q : Type 0} (f : R → Q)
   }
 
   pub desks_alike : (s : Tenancy × KeptRunner R) (query : Query) (reply : List ℕ) (t : Tenancy × KeptRunner R)
-      → tenant_answers starts looks takes s query reply t → tenant_answers starts1 looks1 takes1 (desks_as s) query reply (desks_as t)
+      → named_answers starts looks takes s query reply t → named_answers starts1 looks1 takes1 (desks_as s) query reply (desks_as t)
   desks_alike s query reply t a = (
     record {
       mid = a.0.mid;
@@ -186,12 +186,15 @@ module _ {R : Type 0} (f : R → Pool) (starts : R → ℕ → AdmittedJob → R
   hosted_alike : (s : Tenancy × KeptRunner (LineLimitedRunner (LimitedRunner R))) (query : Query) (reply : List ℕ) (t : Tenancy × KeptRunner (LineLimitedRunner (LimitedRunner R)))
       → tenant_answers (starts_by_line starts_in) (looks_by_line (looks_within looks)) (takes_by_line (takes_within takes)) s query reply t
       → hosted_tenant_answers (hosted_as f s) query reply (hosted_as f t)
-  hosted_alike s query reply t =
-      desks_alike (in_lines (limited f)) (starts_by_line starts_in) (looks_by_line (looks_within looks)) (takes_by_line (takes_within takes))
-      (starts_by_line starts_of) (looks_by_line looks_of) (takes_by_line takes_of)
-      (line_starts (limited f) starts_in (looks_within looks) (takes_within takes) starts_of looks_of takes_of pool_starts pool_looks pool_takes)
-      (line_looks (limited f) starts_in (looks_within looks) (takes_within takes) starts_of looks_of takes_of pool_starts pool_looks pool_takes)
-      (line_takes (limited f) starts_in (looks_within looks) (takes_within takes) starts_of looks_of takes_of pool_starts pool_looks pool_takes) s query reply t
+  hosted_alike s query reply t (asked, own, answered) = (
+    asked,
+    own,
+    desks_alike (in_lines (limited f)) (starts_by_line starts_in) (looks_by_line (looks_within looks)) (takes_by_line (takes_within takes))
+        (starts_by_line starts_of) (looks_by_line looks_of) (takes_by_line takes_of)
+        (line_starts (limited f) starts_in (looks_within looks) (takes_within takes) starts_of looks_of takes_of pool_starts pool_looks pool_takes)
+        (line_looks (limited f) starts_in (looks_within looks) (takes_within takes) starts_of looks_of takes_of pool_starts pool_looks pool_takes)
+        (line_takes (limited f) starts_in (looks_within looks) (takes_within takes) starts_of looks_of takes_of pool_starts pool_looks pool_takes) s (record { passage = query.passage; asked = asked }) reply t answered,
+  )
 
   -- the pool's own state is forgotten, but for the jobs that it was given and the boards that it watches
   pub tenants_serving : (begun end : Tenancy × KeptRunner (LineLimitedRunner (LimitedRunner R))) (sessions : ℕ) (may_stop : Bool) (outcome : Result (Unit {0}) ServeFault)

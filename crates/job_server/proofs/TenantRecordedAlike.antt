@@ -15,7 +15,7 @@ use Rattle.tenant_desks.specs.PlacedRunners.{starts_placed}
 use Rattle.tenant_desks.specs.Tenancies.{Tenancy}
 use Rattle.tenant_desks.specs.Answering.{for_place}
 use Rattle.tenant_recorder.specs.TenantRestarts.{RestartsEach, none_yet, one_more}
-use Rattle.tenant_recorder.specs.TenantsRecorded.{RecordedRunner, tenant_answers_recorded, unrecorded}
+use Rattle.tenant_recorder.specs.TenantsRecorded.{RecordedRunner, named_answers_recorded, tenant_answers_recorded, unrecorded}
 use Rattle.job_pools.specs.declared.limited_runner.LimitedRunner.{LimitedRunner}
 use Rattle.job_pools.specs.LineBounded.{looks_by_line, new_by_line, starts_by_line, takes_by_line}
 use Rattle.job_pools.specs.declared.line_limited_runner.LineLimitedRunner.{LineLimitedRunner}
@@ -78,7 +78,7 @@ module _ {R T Q : Type 0} (f : R → T) (taken : Q → List ℕ) (failed : Q →
     (looks_alike : (r : R) (n : ℕ) (p : Progress) (s : R) → looks r n p s → looks1 (f r) n p (f s))
     (takes_alike : (r : R) (x : Option (ℕ × Result Report ℕ)) (s : R) → takes r x s → takes1 (f r) x (f s)) where
   pub tenants_recorded_alike : (s : Tenancy × RecordedRunner R Q) (query : Query) (reply : List ℕ) (t : Tenancy × RecordedRunner R Q)
-      → tenant_answers_recorded starts looks takes taken failed s query reply t → tenant_answers_recorded starts1 looks1 takes1 taken failed (tenants_as f s) query reply (tenants_as f t)
+      → named_answers_recorded starts looks takes taken failed s query reply t → named_answers_recorded starts1 looks1 takes1 taken failed (tenants_as f s) query reply (tenants_as f t)
   tenants_recorded_alike s query reply t h = (
     λ step. (desks_alike f starts looks takes starts1 looks1 takes1 starts_alike looks_alike takes_alike (unrecorded s) query reply (unrecorded t) (h.0 step).0, (h.0 step).1),
     h.1,
@@ -113,10 +113,13 @@ module _ {R Q J : Type 0} (f : R → Pool) (taken : Q → List ℕ) (failed : Q 
   hosted_recorded_alike : (s : Tenancy × RecordedRunner (LineLimitedRunner (LimitedRunner R)) Q) (query : Query) (reply : List ℕ) (t : Tenancy × RecordedRunner (LineLimitedRunner (LimitedRunner R)) Q)
       → tenant_answers_recorded starts_lined (looks_by_line (looks_within looks)) (takes_by_line (takes_within takes)) taken failed s query reply t
       → hosted_answers_recorded taken failed (tenants_as pooled s) query reply (tenants_as pooled t)
-  hosted_recorded_alike =
-      tenants_recorded_alike pooled taken failed starts_lined (looks_by_line (looks_within looks)) (takes_by_line (takes_within takes))
-      (starts_by_line (starts_within pooled_count (StartsBy pooled_at pooled_count))) (looks_by_line (looks_within (TellsBy pooled_at pooled_count))) (takes_by_line (takes_within (TakesBy pooled_at pooled_count)))
-      lined_starts lined_looks lined_takes
+  hosted_recorded_alike s query reply t (asked, own, answered) = (
+    asked,
+    own,
+    tenants_recorded_alike pooled taken failed starts_lined (looks_by_line (looks_within looks)) (takes_by_line (takes_within takes))
+        (starts_by_line (starts_within pooled_count (StartsBy pooled_at pooled_count))) (looks_by_line (looks_within (TellsBy pooled_at pooled_count))) (takes_by_line (takes_within (TakesBy pooled_at pooled_count)))
+        lined_starts lined_looks lined_takes s (record { passage = query.passage; asked = asked }) reply t answered,
+  )
 
   -- the pool's own state is forgotten, but for the jobs that it was given and the boards that it watches
   pub tenants_recorded_serving : (journals : List J) (states : List DeskState) (doors : List TenantDoor) (bounds : Bounds) (l : LimitedRunner R) (pool : R) (begun end : Tenancy × RecordedRunner (LineLimitedRunner (LimitedRunner R)) Q) (sessions : ℕ) (may_stop : Bool)

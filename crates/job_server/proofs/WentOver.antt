@@ -6,11 +6,11 @@ use mathlib.Core.List.{IsPrefix}
 use Rattle.shared_desk.proofs.Parts.{prefix_more}
 use Rattle.sessions.specs.Frames.{Front, front, whole, partial, too_large}
 use Rattle.sessions.specs.Grammar.{Asked, grant, account, submit, status, result}
-use Rattle.sessions.specs.Answers.{Hears}
 use Rattle.streams.specs.declared.fault.StreamFault.{StreamFault}
 use Rattle.streams.specs.declared.fault.StreamFault.TheVariants.{ReadFailed, WriteFailed, NoMemory}
 use Rattle.streams.specs.Stops.{EndsWith, too_large_reply}
 use Rattle.shared_desk.specs.Grants.{admitted}
+use Rattle.shared_desk.specs.HeardAt.{HearsAt}
 use Rattle.shared_desk.specs.Histories.{HistoryEntry, Query, part_of, put_if, queries_of, replies_of}
 use Rattle.shared_desk.specs.Parts.{Asks, IsWritten, IsWrittenUpTo, NamesTheEnd}
 use Rattle.shared_desk.specs.declared.closed.ClosedConnection.{ClosedConnection}
@@ -47,22 +47,22 @@ heard_as false (Ok (submit name job)) asks is = sym is
 heard_as false (Ok (status number)) asks is = sym is
 heard_as false (Ok (result number)) asks is = sym is
 
-record Came (bytes : List ℕ) (number : ℕ) (asks : Asked) : Type 0 where
+record Came (may : Passage) (bytes : List ℕ) (number : ℕ) (asks : Asked) : Type 0 where
   payload : List ℕ
   came : IsPayloadAt payload number bytes
-  hears : Hears payload (Ok asks)
+  hears : HearsAt may.door payload (Ok asks)
 
 length_cons : {X : Type 0} (x : X) (xs : List X) → length xs + 1 ≡ length (x ∷ xs)
 length_cons x xs = omega arith
 
-came_in : (may : Passage) (ahead behind : List HistoryEntry) (e : HistoryEntry) (asks : Asked) (bytes left : List ℕ) → Asks may bytes (queries_of (ahead ++ e ∷ behind)) left → e.query.asked ≡ Ok asks → Came bytes (length ahead) asks
+came_in : (may : Passage) (ahead behind : List HistoryEntry) (e : HistoryEntry) (asks : Asked) (bytes left : List ℕ) → Asks may bytes (queries_of (ahead ++ e ∷ behind)) left → e.query.asked ≡ Ok asks → Came may bytes (length ahead) asks
 came_in may [] behind e asks bytes left (payload, rest, heard, cut, hears, is, others) own =
-    record { payload = payload; came = first bytes rest cut; hears = subst (Hears payload) (heard_as may.may_grant heard asks (sym own ∙ ap (λ (q : Query). q.asked) is)) hears }
+    record { payload = payload; came = first bytes rest cut; hears = subst (HearsAt may.door payload) (heard_as may.may_grant heard asks (sym own ∙ ap (λ (q : Query). q.asked) is)) hears }
 came_in may (x ∷ ahead) behind e asks bytes left (payload, rest, heard, cut, hears, is, others) own =
     let t = came_in may ahead behind e asks rest left others own in
     record { payload = t.payload; came = subst (λ (n : ℕ). IsPayloadAt t.payload n bytes) (length_cons x ahead) (later (length ahead) bytes payload rest cut t.came); hears = t.hears }
 
-came_on : (may : Passage) (part : List HistoryEntry) (e : HistoryEntry) (asks : Asked) (bytes left : List ℕ) → (t : IsIn e part) → Asks may bytes (queries_of part) left → e.query.asked ≡ Ok asks → Came bytes (length t.before) asks
+came_on : (may : Passage) (part : List HistoryEntry) (e : HistoryEntry) (asks : Asked) (bytes left : List ℕ) → (t : IsIn e part) → Asks may bytes (queries_of part) left → e.query.asked ≡ Ok asks → Came may bytes (length t.before) asks
 came_on may part e asks bytes left t all own = came_in may t.before t.after e asks bytes left (subst (λ p. Asks may bytes (queries_of p) left) t.is all) own
 
 -- ---- the replies that were written
@@ -84,7 +84,7 @@ went_through : (c : ClosedConnection) (e : HistoryEntry) (asks : Asked) (outcome
     → MatchResult outcome
     (λ number. IsWritten c.passage c.part c.read [] (c.is_over ≡ true) number c.written × (c.read_failed ≡ false) × (c.write_failed ≡ false))
     (λ fault. IsWrittenUpTo c.passage fault c.part c.read [] c.written × NamesTheEnd fault c.read_failed c.write_failed)
-    → Came c.read (length t.before) asks × OnOk outcome (IsPrefix (replies_of t.before ++ e.reply) c.written)
+    → Came c.passage c.read (length t.before) asks × OnOk outcome (IsPrefix (replies_of t.before ++ e.reply) c.written)
 went_through c e asks (Ok number) t own served =
     let w = served.0 in (
       came_on c.passage c.part e asks c.read w.left t w.asked own,

@@ -4,6 +4,7 @@ pub mod Addresses
 pub mod Listening
 pub mod EndToEnd
 pub mod Payloads
+pub mod OwnPayloads
 pub mod TenantResults
 pub mod Stopping
 pub mod TenantSockets

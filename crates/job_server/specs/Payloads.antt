@@ -3,7 +3,7 @@ use Rattle.std.specs.Prelude.{◌≡◌, ◌+◌, ℕ, List, ◌∷◌, ◌++◌
 use mathlib.Core.List.{IsPrefix}
 use Rattle.sessions.specs.Frames.{front, whole}
 use Rattle.sessions.specs.Grammar.{Asked, result}
-use Rattle.sessions.specs.Answers.{Hears}
+use Rattle.shared_desk.specs.HeardAt.{HearsAt}
 use Rattle.shared_desk.specs.Histories.{HistoryEntry, replies_of}
 use Rattle.shared_desk.specs.declared.closed.ClosedConnection.{ClosedConnection}
 use Rattle.job_server.specs.EndToEnd.{ComesFromSubmit, submit_of}
@@ -15,15 +15,15 @@ pub data IsPayloadAt (payload : List ℕ) : ℕ → List ℕ → Type 0 where
       → IsPayloadAt payload number rest → IsPayloadAt payload (number + 1) bytes
 
 -- The connection's part has this entry behind so many others. The frame that came behind as many
--- has a payload that asks this. Unless the connection was given up, the entry's reply was written
--- behind those of the entries ahead.
+-- has a payload that asks this by its door. Unless the connection was given up, the entry's reply was
+-- written behind those of the entries ahead.
 pub record WentThrough (c : ClosedConnection) (e : HistoryEntry) (asks : Asked) : Type 0 where
   pub ahead : List HistoryEntry
   pub behind : List HistoryEntry
   pub is_part : c.part ≡ ahead ++ e ∷ behind
   pub payload : List ℕ
   pub came : IsPayloadAt payload (length ahead) c.read
-  pub hears : Hears payload (Ok asks)
+  pub hears : HearsAt c.passage.door payload (Ok asks)
   pub written : OnOk c.outcome (IsPrefix (replies_of ahead ++ e.reply) c.written)
 
 -- if the entry's connection is over, the entry went through it

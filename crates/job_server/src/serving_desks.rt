@@ -29,7 +29,7 @@ use std::sync::Wait;
 use std::thread::Threads;
 use std::time::Clock;
 use streams::Runner;
-use tenant_desks::{TenantDesks, TenantHandler};
+use tenant_desks::{OwnNaming, TenantDesks, TenantHandler};
 
 /// Serves the connections at one new desk, whose jobs this runner runs.
 pub(crate) fn serve_at_desk<
@@ -94,7 +94,7 @@ pub(crate) fn serve_at_desks<
     let Ok(limited) = limited_by_door(alloc, runner, plan.bounds.tenant_jobs, plan.tenants) else {
         return Err(NO_MEMORY);
     };
-    let handler = TenantHandler::new(rt, plan.log, limited, plan.bounds.keep);
+    let handler = OwnNaming::of(TenantHandler::new(rt, plan.log, limited, plan.bounds.keep));
     let served = serve_at_once(rt, alloc, listener, desks, handler, plan);
     served.2
 }

@@ -5,8 +5,9 @@ ghost use Rattle.sessions.specs.Replies.{submit_data};
 ghost use Rattle.streams.specs.Answering.{refused};
 ghost use Rattle.shared_desk.specs.Histories.{HistoryEntry};
 ghost use Rattle.tenant_desks.specs.Alone.{sent_to};
+ghost use Rattle.tenant_desks.specs.OwnNamed.{AreAskedByName};
 ghost use Rattle.job_server.specs.EndToEnd.{AsksForJob, AsksForResult, ComesFromSubmit, HasReply, IsResultFrame, IsToldRefusal, IsToldResult, StaysTold};
-ghost use Rattle.job_server.specs.Payloads.{ComesFromPayload};
+ghost use Rattle.job_server.specs.OwnPayloads.{ComesFromOwnPayload};
 ghost use Rattle.job_server.specs.TenantResults.{IsTenantHostHistory};
 ghost use Rattle.job_server.specs.TenantServing.{IsServingTenants, door_names};
 ghost use Rattle.job_server.specs.declared.bounds.Bounds.{Bounds};
@@ -47,16 +48,18 @@ pub fn results_come_from_own_submits()
         → AsksForJob f.query.asked → HasReply f (submit_data n) → n < 2 ^ 64 → m < n }
 {}
 
-/// From payload to payload, at a server whose tenants have doors of their own: a tenant's result
-/// comes from a submit by its door, and the payload of each came on its connection, where its reply
-/// was written.
+/// From payload to payload, at a server whose tenants have doors of their own. What the desks were
+/// asked is the server's history by names, where a tenant's name may be left out at its own door. A
+/// tenant's result comes from a submit by its door, and the payload of each came on its connection,
+/// where its reply was written.
 pub fn payloads_lead_to_own_payloads()
     ensures { (doors : List TenantDoor) (bounds : Bounds) (sessions : ℕ) (may_stop : Bool)
         (outcome : Result (Unit {0}) ServeFault)
-        (s : IsServingTenants doors bounds sessions may_stop outcome) (place : ℕ)
-        (before after : List HistoryEntry) (e : HistoryEntry) (number : ℕ)
-        → length doors ≤ 256 → place ≤ length doors
-        → sent_to (door_names doors) place s.serving.history ≡ before ++ e ∷ after
+        (s : IsServingTenants doors bounds sessions may_stop outcome)
+        → length doors ≤ 256 → (asked : List HistoryEntry)
+        × AreAskedByName (door_names doors) s.serving.history asked
+        × ((place : ℕ) (before after : List HistoryEntry) (e : HistoryEntry) (number : ℕ)
+        → place ≤ length doors → sent_to (door_names doors) place asked ≡ before ++ e ∷ after
         → AsksForResult number e.query.asked → IsResultFrame e.reply
-        → ComesFromPayload s.serving.closed before number e }
+        → ComesFromOwnPayload (door_names doors) s.serving.closed before number e) }
 {}

@@ -9,10 +9,11 @@ use std::marker::Model;
 use std::sync::Wait;
 use std::time::Clock;
 use streams::{PendingReply, PreparedRequest, Runner};
-use tenant_desks::TenantDesks;
+use tenant_desks::{TenantDesks, own_named};
 use tenant_recorder::RecordingTenantHandler;
 
-/// A handler whose journals are lent for as long as it is. Contracts see the handler itself.
+/// A handler whose journals are lent for as long as it is. What leaves its tenant's name out is asked by
+/// the name of the door's own tenant. Contracts see the handler itself.
 #[derive(Drop)]
 pub(crate) struct TenantRecording<'s, R, N> {
     handler: RecordingTenantHandler<'s, R, N, JournalQueue<'s, R>>,
@@ -48,8 +49,8 @@ impl<R: Wait + Clock, N: Runner> SharedHandler<TenantDesks> for TenantRecording<
 
     ghost answers = { tenant_answers_recorded N.starts N.looks N.takes queue_taken queue_told };
 
-    fn wants_admission(&self, desk: &TenantDesks, request: &Request) -> bool {
-        self.handler.wants_admission(desk, request)
+    fn wants_admission(&self, desk: &TenantDesks, passage: Passage, request: &Request) -> bool {
+        self.handler.wants_admission(desk, passage, request)
     }
 
     fn answer_by(
@@ -59,6 +60,7 @@ impl<R: Wait + Clock, N: Runner> SharedHandler<TenantDesks> for TenantRecording<
         passage: Passage,
         request: PreparedRequest,
     ) -> Result<PendingReply, NoMemory> {
-        self.handler.answer_by(alloc, desk, passage, request)
+        let named = own_named(alloc, &desk.names, passage.door, request);
+        self.handler.answer_by(alloc, desk, passage, named)
     }
 }

@@ -60,7 +60,7 @@ impl<R: Wait + Clock, H: TellingHandler> SharedHandler<Desk> for LoggedHandler<'
 
     ghost answers = { by_any_passage (λ s query reply t. H.answers s query reply t) };
 
-    fn wants_admission(&self, desk: &Desk, request: &Request) -> bool {
+    fn wants_admission(&self, desk: &Desk, _passage: Passage, request: &Request) -> bool {
         wants_admission(desk, request)
     }
 

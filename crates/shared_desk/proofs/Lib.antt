@@ -2,5 +2,6 @@ pub mod Parts
 pub mod Closing
 pub mod Steps
 pub mod OneAnswer
+pub mod HeardAnswer
 pub mod WholeStream
 pub mod Opening

@@ -3,7 +3,6 @@ use Rattle.std.proofs.Common.{◌≡◌, ◌^◌, ◌-◌, ◌+◌, ℕ, List, [
 use Rattle.std.specs.Prelude.{IfOk, IfErr, OnOk}
 use Rattle.sessions.specs.Frames.{front, whole}
 use Rattle.sessions.specs.Grammar.{Asked}
-use Rattle.sessions.specs.Answers.{Hears}
 use Rattle.sessions.proofs.Fronts.{front_stable}
 use Rattle.streams.specs.declared.fault.StreamFault.{StreamFault}
 use Rattle.streams.specs.declared.fault.StreamFault.TheVariants.{ReadFailed, WriteFailed, NoMemory}
@@ -13,6 +12,7 @@ use Rattle.shared_desk.specs.declared.passage.Passage.{Passage}
 use Rattle.shared_desk.specs.Histories.{HistoryEntry, Query, queries_of, replies_of, part_of}
 use Rattle.shared_desk.specs.ClientViews.{ClientView, Extends}
 use Rattle.shared_desk.specs.Grants.{admitted_by}
+use Rattle.shared_desk.specs.HeardAt.{HearsAt}
 use Rattle.shared_desk.specs.Answered.{IsSharedAnswer, entry_for}
 use Rattle.shared_desk.specs.Parts.{Asks, IsWritten, IsWrittenToTheFault, IsWrittenInPart, IsWrittenButOne, IsWrittenUpTo, NamesTheEnd, IsServedPart, IsServedClient}
 use Rattle.shared_desk.proofs.Parts.{prefix_self, prefix_trans}
@@ -43,7 +43,7 @@ extends_on v m w first second a b = record {
 -- ---- frames that ask, one after the other
 
 asks_one : (may : Passage) (bytes : List ℕ) (queries : List Query) (left payload rest : List ℕ) (query : Result Asked ℕ) → Asks may bytes queries left → front left ≡ whole payload rest
-    → Hears payload query → Asks may bytes (queries ++ admitted_by may query ∷ []) rest
+    → HearsAt may.door payload query → Asks may bytes (queries ++ admitted_by may query ∷ []) rest
 asks_one may bytes [] left payload rest query asked first heard = (payload, rest, query, ap front (sym asked) ∙ first, heard, refl, refl)
 asks_one may bytes (q ∷ qs) left payload rest query asked first heard =
     (asked.0, asked.1, asked.2, asked.3, asked.4, asked.5, asks_one may asked.1 qs left payload rest query asked.6 first heard)
@@ -72,7 +72,7 @@ record Entries (may : Passage) (v : ClientView) (bytes before : List ℕ) (count
 
 module _ {S : Type 0} (may : Passage) (answers : S → Query → List ℕ → S → Type 0) (begins : S → Type 0) where
   abbrev pub shared : Unit {0} × ClientView → List ℕ → List ℕ → Unit {0} × ClientView → Type 0
-  shared s payload reply t = (heard : Result Asked ℕ) × Hears payload heard × IsSharedAnswer answers begins s.1 (admitted_by may heard) reply t.1
+  shared s payload reply t = (heard : Result Asked ℕ) × HearsAt may.door payload heard × IsSharedAnswer answers begins s.1 (admitted_by may heard) reply t.1
 
   extends_one : (v : ClientView) (query : Query) (reply : List ℕ) (w : ClientView) → IsSharedAnswer answers begins v query reply w → Extends v (entry_for v query reply ∷ []) w
   extends_one v query reply w answer = record {

@@ -1,4 +1,5 @@
 pub mod Doors
+pub mod HeardAt
 pub mod Histories
 pub mod Grants
 pub mod ClientViews

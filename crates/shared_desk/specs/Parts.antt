@@ -2,7 +2,6 @@
 use Rattle.std.specs.Prelude.{◌≡◌, ◌≤◌, ◌-◌, ◌^◌, ℕ, List, [], ◌∷◌, ◌++◌, length, min, Bool, true, false, Result, MatchResult}
 use Rattle.sessions.specs.Frames.{front, whole, partial}
 use Rattle.sessions.specs.Grammar.{Asked}
-use Rattle.sessions.specs.Answers.{Hears}
 use Rattle.streams.specs.Stops.{EndsWith, StopsAt, IsDue, IsPartWritten}
 use Rattle.streams.specs.declared.fault.StreamFault.{StreamFault}
 use Rattle.streams.specs.declared.fault.StreamFault.TheVariants.{ReadFailed, WriteFailed, NoMemory}
@@ -10,6 +9,7 @@ use Rattle.shared_desk.specs.declared.passage.Passage.{Passage}
 use Rattle.shared_desk.specs.Histories.{HistoryEntry, Query, queries_of, replies_of}
 use Rattle.shared_desk.specs.ClientViews.{ClientView, Extends}
 use Rattle.shared_desk.specs.Grants.{admitted_by}
+use Rattle.shared_desk.specs.HeardAt.{HearsAt}
 
 -- The first frames of the bytes ask this, one after the other, by a passage; and these bytes are
 -- left.
@@ -17,7 +17,8 @@ abbrev pub Asks : Passage → List ℕ → List Query → List ℕ → Type 0
 Asks passage bytes [] left = left ≡ bytes
 Asks passage bytes (query ∷ queries) left =
     (payload rest : List ℕ) × (heard : Result Asked ℕ) × (front bytes ≡ whole payload rest)
-    × Hears payload heard × (query ≡ admitted_by passage heard) × Asks passage rest queries left
+    × HearsAt passage.door payload heard × (query ≡ admitted_by passage heard)
+    × Asks passage rest queries left
 
 -- Nothing failed: every frame of the bytes is asked in the part, and what was written are the
 -- replies of the part, in order, with one 71 behind them, where a length over the limit came.

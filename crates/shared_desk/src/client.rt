@@ -18,8 +18,8 @@ use std::alloc::Global;
 use std::marker::{Brand, Model, PhantomData};
 use std::sync::{Mutex, Wait};
 use streams::{
-    Handler, PendingReply, PreparedRequest, Sink, Source, StreamFault, prepare, serve_stream,
-    written_frame,
+    FrameHandler, PendingReply, PreparedRequest, Sink, Source, StreamFault, hear_payload, prepare,
+    serve_stream, written_frame,
 };
 
 /// Answers one connection's requests at the shared desk, each under the lock, as far as its passage
@@ -113,7 +113,10 @@ impl<R: Wait, D, H: SharedHandler<D>, J: Origin<D, H>, G: PassageId> Client<'_, 
         if !matches!(&request, Request::Submit { .. }) {
             return PreparedRequest::AsItCame(Ok(request));
         }
-        let is_wanted = self.lock.lock(self.rt).wants_admission(&request);
+        let is_wanted = self
+            .lock
+            .lock(self.rt)
+            .wants_admission(self.passage, &request);
         if is_wanted {
             prepare(alloc, request)
         } else {
@@ -138,23 +141,28 @@ impl<R: Wait, D, H: SharedHandler<D>, J: Origin<D, H>, G: PassageId> Client<'_, 
     }
 }
 
-impl<R: Wait, D, H: SharedHandler<D>, J: Origin<D, H>, G: PassageId> Handler<()>
+impl<R: Wait, D, H: SharedHandler<D>, J: Origin<D, H>, G: PassageId> FrameHandler<()>
     for Client<'_, R, D, H, J, G> {
+    ghost use Rattle.std.specs.Prelude.{ℕ, Result};
+    ghost use Rattle.sessions.specs.Grammar.{Asked};
     ghost use Rattle.shared_desk.specs.Answered.{IsSharedAnswer};
     ghost use Rattle.shared_desk.specs.Grants.{admitted_by};
+    ghost use Rattle.shared_desk.specs.HeardAt.{HearsAt};
 
     ghost ready = { λ _. Unit {0} };
 
-    ghost answers = { λ s query reply t.
-        IsSharedAnswer H.answers J.begins s.1 (admitted_by G.passage query) reply t.1 };
+    ghost answers = { λ s payload reply t.
+        (heard : Result Asked ℕ) × HearsAt G.passage.door payload heard
+        × IsSharedAnswer H.answers J.begins s.1 (admitted_by G.passage heard) reply t.1 };
 
-    fn answer(
+    fn answer_payload(
         &mut self,
         alloc: Global,
         _desk: &mut (),
-        request: Result<Request, u8>,
+        payload: &[u8],
     ) -> Result<Vec<u8>, NoMemory> {
-        let admitted = self.passage.admit(request);
+        let heard = hear_payload(alloc, payload, self.passage.tenant_key())?;
+        let admitted = self.passage.admit(heard);
         let prepared = self.prepared(alloc, admitted);
         let reply = self.answered(alloc, prepared);
         written_frame(alloc, reply)

@@ -90,9 +90,10 @@ impl<D, H: SharedHandler<D>, J: Origin<D, H>> SharedDesk<D, H, J> {
         history.look(seat, &mut self.recorder);
     }
 
-    /// Whether it is worth to admit the job of this request ahead of the answer.
-    pub fn wants_admission(&self, request: &Request) -> bool {
-        self.handler.wants_admission(&self.desk, request)
+    /// Whether it is worth to admit the job of this request, which came by a passage, ahead of the
+    /// answer.
+    pub fn wants_admission(&self, passage: Passage, request: &Request) -> bool {
+        self.handler.wants_admission(&self.desk, passage, request)
     }
 
     /// Answers a request of a connection, by its passage, as the handler does, and adds that to the

@@ -3,9 +3,10 @@
 ghost use Rattle.std.specs.Prelude.{◌≡◌};
 ghost use Rattle.streams.specs.Hearing.{query_of};
 ghost use Rattle.shared_desk.specs.Grants.{admitted};
+ghost use Rattle.shared_desk.specs.HeardAt as heard;
 
 use crate::door::Door;
-use sessions::Request;
+use sessions::{Request, TenantKey};
 use std::marker::Brand;
 
 // The number of the refusal of what is no request.
@@ -33,6 +34,18 @@ impl PassageId for Brand {
 }
 
 impl Passage {
+    /// Whether a request has to name its tenant. At a tenant's own socket the name may be left out.
+    pub fn tenant_key(self) -> TenantKey
+        ensures { result ≡ heard.tenant_key self.door }
+    {
+        match self.door {
+            Door::Port => TenantKey::Required,
+            Door::Socket => TenantKey::Required,
+            Door::Grants => TenantKey::Required,
+            Door::Tenant(_) => TenantKey::Optional,
+        }
+    }
+
     /// What comes to the desk of what was asked. A grant of a connection that may make none is no
     /// request: 73.
     pub fn admit(self, request: Result<Request, u8>) -> Result<Request, u8>

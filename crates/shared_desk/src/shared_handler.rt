@@ -19,9 +19,9 @@ pub trait SharedHandler<D> {
     // From a desk and a handler, for what was asked, the reply and the desk and the handler after it.
     ghost answers: { D × Self → Query → List ℕ → D × Self → Type 0 };
 
-    /// Whether it is worth to admit the job of this request ahead of the answer, while others are at
-    /// the desk.
-    fn wants_admission(&self, desk: &D, request: &Request) -> bool;
+    /// Whether it is worth to admit the job of this request, which came by a passage, ahead of the
+    /// answer, while others are at the desk.
+    fn wants_admission(&self, desk: &D, passage: Passage, request: &Request) -> bool;
 
     /// Answers what was asked by a passage, or the number of its refusal. The frame of a report is
     /// written later. Where the reply finds no memory, the request was still carried out.
@@ -50,7 +50,7 @@ impl<N: Runner> SharedHandler<Desk> for N {
     ghost answers = { by_any_passage (λ s query reply t.
         Answers N.starts N.looks N.takes s.0 s.1 query reply t.0 t.1) };
 
-    fn wants_admission(&self, desk: &Desk, request: &Request) -> bool {
+    fn wants_admission(&self, desk: &Desk, _passage: Passage, request: &Request) -> bool {
         wants_admission(desk, request)
     }
 

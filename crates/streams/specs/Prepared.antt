@@ -16,8 +16,12 @@ abbrev pub submitter_of : Asked → Option (List ℕ)
 submitter_of (submit name order) = Some name
 submitter_of other = None
 
+-- a tenant's balance covers so much credit
+abbrev pub CoversCredit : Ledger → List ℕ → ℕ → Type 0
+CoversCredit desk name credit =
+    (balance : ℕ) × HasBalance desk name balance × (credit ≤ balance)
+
 -- a job is asked for whose credit its tenant's balance covers
 abbrev pub IsWithinBalance : Ledger → Asked → Type 0
-IsWithinBalance desk (submit name order) =
-    (balance : ℕ) × HasBalance desk name balance × (order.credit ≤ balance)
+IsWithinBalance desk (submit name order) = CoversCredit desk name order.credit
 IsWithinBalance desk other = ⊥

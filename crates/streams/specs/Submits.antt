@@ -11,3 +11,8 @@ submit_asked tenant programs credit buffer = submit (string_bytes tenant) (recor
   credit = credit;
   buffer = buffer;
 })
+
+-- the same request for a job, of the tenant of this name
+abbrev pub of_tenant : List ℕ → Asked → Asked
+of_tenant name (submit other order) = submit name order
+of_tenant name other = other

@@ -58,10 +58,10 @@ fn copied(alloc: Global, bytes: &[u8]) -> Result<Vec<u8>, NoMemory>
 }
 
 impl AdmittedSubmit {
-    ghost use Rattle.std.specs.Prelude.{◌≡◌, IfOk, Some};
+    ghost use Rattle.std.specs.Prelude.{◌≡◌, IfOk, Some, string_bytes};
     ghost use Rattle.accounts.specs.Ahead.{IsAdmissionOf};
     ghost use Rattle.streams.specs.Prepared.{submitter_of};
-    ghost use Rattle.streams.specs.Submits.{submit_asked};
+    ghost use Rattle.streams.specs.Submits.{of_tenant, submit_asked};
 
     /// A request for a job, which is admitted or refused now.
     pub fn admit(
@@ -103,6 +103,28 @@ impl AdmittedSubmit {
             buffer,
         } = self;
         SubmitParts {
+            tenant,
+            programs,
+            credit,
+            admitted,
+            copy,
+            buffer,
+        }
+    }
+
+    /// The same request, of the tenant of this name.
+    pub fn of_tenant(self, tenant: String) -> AdmittedSubmit
+        ensures { result ≡ of_tenant (string_bytes tenant) self }
+    {
+        let AdmittedSubmit {
+            programs,
+            credit,
+            admitted,
+            copy,
+            buffer,
+            ..
+        } = self;
+        AdmittedSubmit {
             tenant,
             programs,
             credit,

@@ -36,7 +36,7 @@ pub use forms::{
     account_reply, answer_account, answer_result, answer_status, answer_taken, refused,
 };
 pub use pending_reply::{PendingReply, written_frame};
-pub use prepared_request::{PreparedRequest, prepare, wants_admission};
+pub use prepared_request::{PreparedRequest, covers_credit, prepare, wants_admission};
 pub use runner::Runner;
 pub use submit_refusal::SubmitRefusal;
 

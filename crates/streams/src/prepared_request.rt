@@ -2,7 +2,7 @@
 
 ghost use Rattle.std.specs.Prelude.{◌≡◌, ◌↔◌, IsTrue, Ok};
 ghost use Rattle.sessions.specs.Grammar.{request_asked};
-ghost use Rattle.streams.specs.Prepared.{IsWithinBalance, asked_of};
+ghost use Rattle.streams.specs.Prepared.{CoversCredit, IsWithinBalance, asked_of};
 
 use crate::admitted_submit::AdmittedSubmit;
 use accounts::Desk;
@@ -17,16 +17,23 @@ pub enum PreparedRequest {
     Submit(AdmittedSubmit),
 }
 
+/// Whether the balance of a tenant of this desk covers so much credit.
+pub fn covers_credit(desk: &Desk, tenant: &str, credit: u32) -> bool
+    ensures { IsTrue result ↔ CoversCredit desk.now tenant.now credit }
+{
+    match desk.account(tenant) {
+        Ok(account) => u64::from(credit) <= account.balance,
+        Err(_) => false,
+    }
+}
+
 /// Whether a request is one for a job that the desk would take now, but for its admission. Then it
 /// is worth to admit it ahead.
 pub fn wants_admission(desk: &Desk, request: &Request) -> bool
     ensures { IsTrue result ↔ IsWithinBalance desk.now (request_asked request.now) }
 {
     match request {
-        Request::Submit { tenant, credit, .. } => match desk.account(tenant) {
-            Ok(account) => u64::from(*credit) <= account.balance,
-            Err(_) => false,
-        },
+        Request::Submit { tenant, credit, .. } => covers_credit(desk, tenant, *credit),
         _ => false,
     }
 }

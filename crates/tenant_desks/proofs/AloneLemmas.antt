@@ -11,7 +11,7 @@ use Rattle.tenant_desks.specs.Placing.{placed}
 use Rattle.tenant_desks.specs.PlacedRunners.{starts_placed, looks_placed}
 use Rattle.tenant_desks.specs.Routing.{desk_for}
 use Rattle.tenant_desks.specs.Tenancies.{Tenancy, fresh_desk}
-use Rattle.tenant_desks.specs.Answering.{KeptRunner, NotesAtPlace, EndsTaken, AnswersAlone, AnswersWhere, for_place, refusal_frame, tenant_answers, none_yet as none_taken, one_more as one_taken}
+use Rattle.tenant_desks.specs.Answering.{KeptRunner, NotesAtPlace, EndsTaken, AnswersAlone, AnswersWhere, for_place, refusal_frame, named_answers, none_yet as none_taken, one_more as one_taken}
 use Rattle.tenant_desks.specs.Alone.{IsAloneHistory, IsTenantHistory, IsToldWhy, AreToldWhy, DeskEvent, was_asked, has_ended, entries_in, sent_to, is_place, none_yet, one_ended, one_asked}
 use Rattle.tenant_desks.proofs.ChangedDesks.{EachDesk, each_changed, count_changed, count_taken}
 use Rattle.tenant_desks.proofs.StartedTo.{answered_to}
@@ -114,7 +114,7 @@ module _ {R : Type 0} (starts : R → ℕ → AdmittedJob → Result (Unit {0}) 
     pub each : EachDesk (Alone names keep history) s.0.desks
 
   after_answer : (names : List (List ℕ)) (keep : ℕ) (history : List HistoryEntry) (s : Tenancy × KeptRunner R) (e : HistoryEntry) (t : Tenancy × KeptRunner R)
-      → tenant_answers starts looks takes s e.query e.reply t → Stands names keep history s → Stands names keep (history ++ e ∷ []) t
+      → named_answers starts looks takes s e.query e.reply t → Stands names keep history s → Stands names keep (history ++ e ∷ []) t
   after_answer names keep history s e t answers was =
       let a = answers.0 in
       let P : List (List ℕ) × ℕ → Type 0 = λ p. AnswersWhere starts looks p.1 (desk_for p.0 e.query.passage e.query.asked) e.query.asked a.mid a.rest e.reply t.0.desks t.1.runner in

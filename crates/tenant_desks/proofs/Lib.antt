@@ -10,3 +10,5 @@ mod AlikeReplies
 mod AdmissionLemmas
 mod AlikeEvents
 mod FirstDesks
+pub mod NamedHistories
+pub mod OwnLemmas

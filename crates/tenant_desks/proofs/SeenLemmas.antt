@@ -17,7 +17,7 @@ use Rattle.tenant_desks.specs.Placing.{placed}
 use Rattle.tenant_desks.specs.PlacedRunners.{starts_placed, looks_placed}
 use Rattle.tenant_desks.specs.Routing.{desk_for}
 use Rattle.tenant_desks.specs.Tenancies.{Tenancy, ChangesAt}
-use Rattle.tenant_desks.specs.Answering.{KeptRunner, NotesAtPlace, EndsTaken, AnswersAlone, AnswersWhere, for_place, tenant_answers, none_yet as none_ended, one_more as one_ended}
+use Rattle.tenant_desks.specs.Answering.{KeptRunner, NotesAtPlace, EndsTaken, AnswersAlone, AnswersWhere, for_place, named_answers, none_yet as none_ended, one_more as one_ended}
 use Rattle.tenant_desks.specs.Alone.{IsTenantHistory, is_place, sent_to}
 use Rattle.tenant_desks.specs.Seen.{OthersSteps, no_step, one_start, one_look, one_end, no_end, starts_seen, looks_seen, takes_seen, answers_seen}
 use Rattle.tenant_desks.proofs.ChangedDesks.{count_taken}
@@ -258,7 +258,7 @@ module _ {R : Type 0} (starts : R → ℕ → AdmittedJob → Result (Unit {0}) 
   -- ---- whole histories
 
   after_answer : (names : List (List ℕ)) (keep : ℕ) (history : List HistoryEntry) (s : Tenancy × KeptRunner R) (e : HistoryEntry) (t : Tenancy × KeptRunner R) → length firsts ≤ 257
-      → tenant_answers starts looks takes s e.query e.reply t → Stands starts looks takes firsts names keep history s → Part names keep history s.0.desks s.1.runner → Part names keep (history ++ e ∷ []) t.0.desks t.1.runner
+      → named_answers starts looks takes s e.query e.reply t → Stands starts looks takes firsts names keep history s → Part names keep history s.0.desks s.1.runner → Part names keep (history ++ e ∷ []) t.0.desks t.1.runner
   after_answer names keep history s e t few answers stood was =
       let a = answers.0 in
       let P : List (List ℕ) × ℕ → Type 0 = λ p. AnswersWhere starts looks p.1 (desk_for p.0 e.query.passage e.query.asked) e.query.asked a.mid a.rest e.reply t.0.desks t.1.runner in

@@ -9,7 +9,7 @@ use Rattle.tenant_desks.specs.Placing.{placed}
 use Rattle.tenant_desks.specs.PlacedRunners.{starts_placed, looks_placed}
 use Rattle.tenant_desks.specs.Routing.{desk_for}
 use Rattle.tenant_desks.specs.Tenancies.{Tenancy}
-use Rattle.tenant_desks.specs.Answering.{AnswersAlone, KeptRunner, for_place, refusal_frame, tenant_answers}
+use Rattle.tenant_desks.specs.Answering.{AnswersAlone, KeptRunner, for_place, refusal_frame, named_answers}
 
 -- whether this is the place
 abbrev pub is_place : ℕ → Result ℕ ℕ → Bool
@@ -78,7 +78,7 @@ abbrev pub IsTenantHistory : {R : Type 0} → (R → ℕ → AdmittedJob → Res
     → Type 0) → (R → ℕ → Progress → R → Type 0) → (R → Option (ℕ × Result Report ℕ) → R → Type 0)
     → List (List ℕ) → List Ledger → ℕ → List HistoryEntry → Tenancy × KeptRunner R → Type 0
 IsTenantHistory starts looks takes names firsts keep =
-    Replays (tenant_answers starts looks takes)
+    Replays (named_answers starts looks takes)
     (λ s. (s.0 ≡ record { names = names; desks = firsts }) × (s.1.keep ≡ keep))
 
 -- Where the entry's query goes nowhere, the reply tells why.

@@ -14,6 +14,7 @@ use Rattle.shared_desk.specs.Histories.{Query}
 use Rattle.tenant_desks.specs.declared.placed_runner.PlacedRunner.{PlacedRunner}
 use Rattle.tenant_desks.specs.Placing.{placed}
 use Rattle.tenant_desks.specs.PlacedRunners.{starts_placed, looks_placed}
+use Rattle.tenant_desks.specs.OwnNamed.{answers_own_named}
 use Rattle.tenant_desks.specs.Routing.{desk_for}
 use Rattle.tenant_desks.specs.Tenancies.{Tenancy, ChangesAt}
 
@@ -93,11 +94,18 @@ pub record DeskAnswer {R : Type 0} (starts : R → ℕ → AdmittedJob → Resul
   pub passed : PassesEnds takes desks runner mid rest
   pub answered : AnswersWhere starts looks keep place query mid rest reply after left
 
--- The answers at the desks of tenants, by a runner that all share.
-abbrev pub tenant_answers : {R : Type 0} → (R → ℕ → AdmittedJob → Result (Unit {0}) ℕ → R
+-- The answers at the desks of tenants, which are asked by names, by a runner that all share.
+abbrev pub named_answers : {R : Type 0} → (R → ℕ → AdmittedJob → Result (Unit {0}) ℕ → R
     → Type 0) → (R → ℕ → Progress → R → Type 0) → (R → Option (ℕ × Result Report ℕ) → R → Type 0)
     → Tenancy × KeptRunner R → Query → List ℕ → Tenancy × KeptRunner R → Type 0
-tenant_answers starts looks takes s query reply t =
+named_answers starts looks takes s query reply t =
     DeskAnswer starts looks takes s.1.keep (desk_for s.0.names query.passage query.asked)
     query.asked s.0.desks s.1.runner reply t.0.desks t.1.runner
     × (t.0.names ≡ s.0.names) × (t.1.keep ≡ s.1.keep)
+
+-- The same, where a tenant's name may be left out at its own door.
+abbrev pub tenant_answers : {R : Type 0} → (R → ℕ → AdmittedJob → Result (Unit {0}) ℕ → R
+    → Type 0) → (R → ℕ → Progress → R → Type 0) → (R → Option (ℕ × Result Report ℕ) → R → Type 0)
+    → Tenancy × KeptRunner R → Query → List ℕ → Tenancy × KeptRunner R → Type 0
+tenant_answers starts looks takes =
+    answers_own_named (λ s. s.0.names) (named_answers starts looks takes)

@@ -2,6 +2,7 @@ pub mod Events
 pub mod Placing
 pub mod PlacedRunners
 pub mod Routing
+pub mod OwnNamed
 pub mod Tenancies
 pub mod Answering
 pub mod Alone

@@ -4,7 +4,8 @@ ghost use Rattle.std.specs.Prelude.{◌≡◌, ◌≤◌, ◌+◌, ℕ, List, So
 ghost use Rattle.accounts.specs.Ledgers.{Ledger};
 ghost use Rattle.shared_desk.specs.Histories.{HistoryEntry, Replays};
 ghost use Rattle.tenant_desks.specs.Alone.{AreToldWhy, DeskEvent, HappensAlone, IsAloneHistory, IsTenantHistory, sent_to};
-ghost use Rattle.tenant_desks.specs.Answering.{KeptRunner};
+ghost use Rattle.tenant_desks.specs.Answering.{KeptRunner, tenant_answers};
+ghost use Rattle.tenant_desks.specs.OwnNamed.{AreAskedByName};
 ghost use Rattle.tenant_desks.specs.Events.{EachTwo, HappensAlike, IsToldAlike};
 ghost use Rattle.tenant_desks.specs.Seen.{answers_seen};
 ghost use Rattle.tenant_desks.specs.Tenancies.{Tenancy};
@@ -53,4 +54,16 @@ pub fn each_part_is_plain<N: Runner>()
         → (s : Ledger × N)
         × Replays (answers_seen N.starts N.looks N.takes place keep) (λ x. x.0 ≡ first)
         (sent_to names place history) s }
+{}
+
+/// Whatever leaves its tenant's name out, the desks are asked by names: a history of a server at whose
+/// doors the name may be left out is one of the desks, by what they were asked. All that holds of
+/// their histories holds of it.
+pub fn own_names_are_put_in<N: Runner>()
+    ensures { (names : List (List ℕ)) (firsts : List Ledger) (keep : ℕ)
+        (history : List HistoryEntry) (end : Tenancy × KeptRunner N)
+        → Replays (tenant_answers N.starts N.looks N.takes)
+        (λ s. (s.0 ≡ record { names = names; desks = firsts }) × (s.1.keep ≡ keep)) history end
+        → (asked : List HistoryEntry) × AreAskedByName names history asked
+        × IsTenantHistory N.starts N.looks N.takes names firsts keep asked end }
 {}

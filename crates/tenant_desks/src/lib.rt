@@ -20,7 +20,16 @@ mod tenant_handler;
 
 pub use tenant_handler::{TenantHandler, refuse, refused_at, wants_admission_among};
 
+// and by whose name
+mod own_names;
+mod own_naming;
+
+pub use own_names::own_named;
+pub use own_naming::OwnNaming;
+
 // what each tenant has of it
 mod laws;
 
-pub use laws::{each_part_is_plain, each_tenant_is_alone, others_are_not_told};
+pub use laws::{
+    each_part_is_plain, each_tenant_is_alone, others_are_not_told, own_names_are_put_in,
+};

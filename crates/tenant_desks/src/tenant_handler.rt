@@ -9,6 +9,7 @@ ghost use Rattle.tenant_desks.specs.Routing.{desk_for};
 
 use crate::desks::TenantDesks;
 use crate::ends::pass_ends;
+use crate::own_names::name_behind;
 use crate::placed_runner::{PlacedRunner, placed_number};
 use crate::routing::{desk_for, tenant_place};
 use accounts::Desk;
@@ -21,7 +22,7 @@ use std::marker::Model;
 use std::sync::Wait;
 use std::time::Clock;
 use streams::{
-    PendingReply, PreparedRequest, Runner, SubmitRefusal, TellingHandler, wants_admission,
+    PendingReply, PreparedRequest, Runner, SubmitRefusal, TellingHandler, covers_credit,
 };
 
 /// Answers each request at the desk that it goes to, by one runner of all jobs, and then has that
@@ -145,25 +146,31 @@ fn answer_among<N: Runner>(
 }
 
 /// Whether it is worth to admit the job of this request ahead of the answer, at the desk of its
-/// tenant.
-pub fn wants_admission_among(desks: &TenantDesks, request: &Request) -> bool {
+/// tenant: the door's own, where it leaves the name out.
+pub fn wants_admission_among(desks: &TenantDesks, passage: Passage, request: &Request) -> bool {
     match request {
-        Request::Submit { tenant, .. } => {
-            wants_admission(&desks.desks[tenant_place(&desks.names, tenant)], request)
+        Request::Submit { tenant, credit, .. } => {
+            let name = if tenant.is_empty() {
+                name_behind(&desks.names, passage.door)
+            } else {
+                tenant.as_str()
+            };
+            let place = tenant_place(&desks.names, name);
+            covers_credit(&desks.desks[place], name, *credit)
         }
         _ => false,
     }
 }
 
 impl<R: Wait + Clock, N: Runner> SharedHandler<TenantDesks> for TenantHandler<'_, R, N> {
-    ghost use Rattle.tenant_desks.specs.Answering.{tenant_answers};
+    ghost use Rattle.tenant_desks.specs.Answering.{named_answers};
 
     ghost ready = { λ h. N.ready h.runner };
 
-    ghost answers = { tenant_answers N.starts N.looks N.takes };
+    ghost answers = { named_answers N.starts N.looks N.takes };
 
-    fn wants_admission(&self, desk: &TenantDesks, request: &Request) -> bool {
-        wants_admission_among(desk, request)
+    fn wants_admission(&self, desk: &TenantDesks, passage: Passage, request: &Request) -> bool {
+        wants_admission_among(desk, passage, request)
     }
 
     fn answer_by(

@@ -5,3 +5,4 @@ mod Handled
 mod Restarted
 mod Recovered
 mod Credited
+mod RecordedNames

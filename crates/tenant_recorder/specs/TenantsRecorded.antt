@@ -5,7 +5,8 @@ use Rattle.credit_book.specs.declared.board.Progress.{Progress}
 use Rattle.job_core.specs.Admitted.{AdmittedJob}
 use Rattle.shared_desk.specs.Histories.{Query}
 use Rattle.tenant_desks.specs.Tenancies.{Tenancy}
-use Rattle.tenant_desks.specs.Answering.{KeptRunner, tenant_answers}
+use Rattle.tenant_desks.specs.Answering.{KeptRunner, named_answers}
+use Rattle.tenant_desks.specs.OwnNamed.{answers_own_named}
 use Rattle.desk_recorder.specs.declared.recorder.ChangeRecorder.{ChangeRecorder}
 use Rattle.tenant_recorder.specs.Recorders.{AreRecorded, HaveForgotten}
 
@@ -24,13 +25,21 @@ unrecorded s = (s.0, record { runner = s.1.runner; keep = s.1.keep })
 abbrev pub AreInStep : {R Q : Type 0} → Tenancy × RecordedRunner R Q → Type 0
 AreInStep s = HaveForgotten s.1.keep s.0.desks s.1.recorders
 
--- A query is answered as by the desks and the runner alone, and each desk's recorder takes what
--- changes that desk.
+-- A query by names is answered as by the desks and the runner alone, and each desk's recorder takes
+-- what changes that desk.
+abbrev pub named_answers_recorded : {R Q : Type 0}
+    → (R → ℕ → AdmittedJob → Result (Unit {0}) ℕ → R → Type 0) → (R → ℕ → Progress → R → Type 0)
+    → (R → Option (ℕ × Result Report ℕ) → R → Type 0) → (Q → List ℕ) → (Q → Type 0)
+    → Tenancy × RecordedRunner R Q → Query → List ℕ → Tenancy × RecordedRunner R Q → Type 0
+named_answers_recorded starts looks takes taken failed s query reply t =
+    (AreInStep s
+    → named_answers starts looks takes (unrecorded s) query reply (unrecorded t) × AreInStep t)
+    × AreRecorded taken failed s.1.recorders t.1.recorders s.0.desks t.0.desks
+
+-- The same, where a tenant's name may be left out at its own door.
 abbrev pub tenant_answers_recorded : {R Q : Type 0}
     → (R → ℕ → AdmittedJob → Result (Unit {0}) ℕ → R → Type 0) → (R → ℕ → Progress → R → Type 0)
     → (R → Option (ℕ × Result Report ℕ) → R → Type 0) → (Q → List ℕ) → (Q → Type 0)
     → Tenancy × RecordedRunner R Q → Query → List ℕ → Tenancy × RecordedRunner R Q → Type 0
-tenant_answers_recorded starts looks takes taken failed s query reply t =
-    (AreInStep s
-    → tenant_answers starts looks takes (unrecorded s) query reply (unrecorded t) × AreInStep t)
-    × AreRecorded taken failed s.1.recorders t.1.recorders s.0.desks t.0.desks
+tenant_answers_recorded starts looks takes taken failed =
+    answers_own_named (λ s. s.0.names) (named_answers_recorded starts looks takes taken failed)

@@ -5,12 +5,13 @@ ghost use Rattle.std.specs.List.{AllZip};
 ghost use Rattle.accounts.specs.Ledgers.{Ledger};
 ghost use Rattle.shared_desk.specs.Histories.{HistoryEntry, Replays};
 ghost use Rattle.tenant_desks.specs.Alone.{IsTenantHistory};
-ghost use Rattle.tenant_desks.specs.Answering.{tenant_answers};
+ghost use Rattle.tenant_desks.specs.Answering.{named_answers};
+ghost use Rattle.tenant_desks.specs.OwnNamed.{AreAskedByName};
 ghost use Rattle.tenant_desks.specs.Tenancies.{Tenancy};
 ghost use Rattle.desk_recorder.specs.Histories.{IsDeskHistory, RecordsLead};
 ghost use Rattle.desk_recorder.specs.declared.recorder.ChangeRecorder.{ChangeRecorder};
 ghost use Rattle.tenant_recorder.specs.Recorders.{AreRecorded, HaveForgotten, IsNewRecorder};
-ghost use Rattle.tenant_recorder.specs.TenantsRecorded.{AreInStep, RecordedRunner, tenant_answers_recorded, unrecorded};
+ghost use Rattle.tenant_recorder.specs.TenantsRecorded.{AreInStep, RecordedRunner, named_answers_recorded, tenant_answers_recorded, unrecorded};
 
 use desk_recorder::RecordQueue;
 use streams::Runner;
@@ -27,12 +28,12 @@ pub fn records_lead_to_desks<N: Runner, Q: RecordQueue>()
         → IsDeskHistory history d → q.is_stopped ≡ false
         → RecordsLead Q.taken p.queue q.queue history e }
     ensures recorded { (answers : List HistoryEntry) (s t : Tenancy × RecordedRunner N Q)
-        → Replays (tenant_answers_recorded N.starts N.looks N.takes Q.taken Q.has_failed)
+        → Replays (named_answers_recorded N.starts N.looks N.takes Q.taken Q.has_failed)
         (λ x. x ≡ s) answers t
         → AreRecorded Q.taken Q.has_failed s.1.recorders t.1.recorders s.0.desks t.0.desks }
     ensures answered { (answers : List HistoryEntry) (s t : Tenancy × RecordedRunner N Q)
         (place : ℕ) (p q : ChangeRecorder Q) (d e : Ledger) (history : List (List ℕ))
-        → Replays (tenant_answers_recorded N.starts N.looks N.takes Q.taken Q.has_failed)
+        → Replays (named_answers_recorded N.starts N.looks N.takes Q.taken Q.has_failed)
         (λ x. x ≡ s) answers t
         → slice_get s.1.recorders place ≡ Some p → slice_get t.1.recorders place ≡ Some q
         → slice_get s.0.desks place ≡ Some d → slice_get t.0.desks place ≡ Some e
@@ -48,14 +49,27 @@ pub fn recorders_change_no_answer<N: Runner, Q: RecordQueue>()
         → length desks ≡ length queues → HaveForgotten keep desks recorders }
     ensures answered { (answers : List HistoryEntry) (s t : Tenancy × RecordedRunner N Q)
         → AreInStep s
-        → Replays (tenant_answers_recorded N.starts N.looks N.takes Q.taken Q.has_failed)
+        → Replays (named_answers_recorded N.starts N.looks N.takes Q.taken Q.has_failed)
         (λ x. x ≡ s) answers t
-        → Replays (tenant_answers N.starts N.looks N.takes) (λ x. x ≡ unrecorded s) answers
+        → Replays (named_answers N.starts N.looks N.takes) (λ x. x ≡ unrecorded s) answers
         (unrecorded t) × AreInStep t }
     ensures history { (answers : List HistoryEntry) (s t : Tenancy × RecordedRunner N Q)
         → AreInStep s
-        → Replays (tenant_answers_recorded N.starts N.looks N.takes Q.taken Q.has_failed)
+        → Replays (named_answers_recorded N.starts N.looks N.takes Q.taken Q.has_failed)
         (λ x. x ≡ s) answers t
         → IsTenantHistory N.starts N.looks N.takes s.0.names s.0.desks s.1.keep answers
         (unrecorded t) }
+{}
+
+/// Whatever leaves its tenant's name out, the desks are asked by names, and their recorders take what
+/// that changes: a history of a handler at whose doors the name may be left out is one of the desks,
+/// by what they were asked.
+pub fn recorded_names_are_put_in<N: Runner, Q: RecordQueue>()
+    ensures { (history : List HistoryEntry) (s t : Tenancy × RecordedRunner N Q)
+        → AreInStep s
+        → Replays (tenant_answers_recorded N.starts N.looks N.takes Q.taken Q.has_failed)
+        (λ x. x ≡ s) history t
+        → (asked : List HistoryEntry) × AreAskedByName s.0.names history asked
+        × Replays (named_answers_recorded N.starts N.looks N.takes Q.taken Q.has_failed)
+        (λ x. x ≡ s) asked t }
 {}

@@ -16,4 +16,4 @@ pub use recording_tenants::RecordingTenantHandler;
 // what the records lead to
 mod laws;
 
-pub use laws::{recorders_change_no_answer, records_lead_to_desks};
+pub use laws::{recorded_names_are_put_in, recorders_change_no_answer, records_lead_to_desks};

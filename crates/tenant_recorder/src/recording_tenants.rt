@@ -133,14 +133,14 @@ impl<'a, R, N: Runner + Drop, Q: RecordQueue> RecordingTenantHandler<'a, R, N, Q
 
 impl<R: Wait + Clock, N: Runner, Q: RecordQueue> SharedHandler<TenantDesks>
     for RecordingTenantHandler<'_, R, N, Q> {
-    ghost use Rattle.tenant_recorder.specs.TenantsRecorded.{tenant_answers_recorded};
+    ghost use Rattle.tenant_recorder.specs.TenantsRecorded.{named_answers_recorded};
 
     ghost ready = { λ h. N.ready h.runner };
 
-    ghost answers = { tenant_answers_recorded N.starts N.looks N.takes Q.taken Q.has_failed };
+    ghost answers = { named_answers_recorded N.starts N.looks N.takes Q.taken Q.has_failed };
 
-    fn wants_admission(&self, desk: &TenantDesks, request: &Request) -> bool {
-        wants_admission_among(desk, request)
+    fn wants_admission(&self, desk: &TenantDesks, passage: Passage, request: &Request) -> bool {
+        wants_admission_among(desk, passage, request)
     }
 
     fn answer_by(

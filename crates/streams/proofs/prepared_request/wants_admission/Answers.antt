@@ -1,10 +1,7 @@
-use Rattle.std.proofs.Common.{string_bytes}
-use Rattle.std.proofs.lemmas.Bool.{le-leb, leb-true}
-use Rattle.streams.proofs.Answered.{within_balance}
+use Rattle.std.proofs.Common.{List, ℕ, IsTrue, ◌↔◌, subst}
+use Rattle.streams.specs.Prepared.{CoversCredit}
 use Rattle.streams.proofs.prepared_request.wants_admission.Goals as goal
 
-pub returns-in-Ok : goal.returns-in-Ok
-returns-in-Ok c =
-    let told = rw c.deref.ensures at c.account.ensures.account in
-    let covered = within_balance c.args.desk.now (string_bytes c.in-Submit.tenant) c.in-Submit.credit c.account.result c.in-Ok.account told c.in-Ok.is in
-    rw (c.in-Submit.is, c.from.ensures) (λ t. covered.0 (leb-true _ _ t), λ w. le-leb _ _ (covered.1 w))
+pub returns-in-Submit : goal.returns-in-Submit
+returns-in-Submit c =
+    rw c.in-Submit.is (subst (λ (name : List ℕ). IsTrue c.covers_credit.result ↔ CoversCredit c.args.desk.now name c.in-Submit.credit) c.deref.ensures c.covers_credit.ensures)

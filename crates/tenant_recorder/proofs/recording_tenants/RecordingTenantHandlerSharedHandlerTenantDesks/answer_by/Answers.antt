@@ -2,7 +2,7 @@ use Rattle.std.proofs.Common.{ℕ, List, length, map, string_bytes, IfOk, OnErr,
 use Rattle.streams.specs.Prepared.{asked_of}
 use Rattle.shared_desk.specs.Histories.{Query}
 use Rattle.tenant_desks.specs.Tenancies.{Tenancy}
-use Rattle.tenant_recorder.specs.TenantsRecorded.{RecordedRunner, tenant_answers_recorded}
+use Rattle.tenant_recorder.specs.TenantsRecorded.{RecordedRunner, named_answers_recorded}
 use Rattle.tenant_recorder.proofs.Handled.{answered_err, answered_ok, apart_err, apart_ok}
 use Rattle.tenant_recorder.proofs.recording_tenants.RecordingTenantHandlerSharedHandlerTenantDesks.answer_by.Goals as goal
 
@@ -25,7 +25,7 @@ returns-clause-ok g c =
     let a = c.answer_among-refusal in
     let query : Query = record { passage = c.args.passage; asked = asked_of c.args.request } in
     let T : Tenancy × RecordedRunner g.row.N.Denot g.row.Q.Denot → Type 0 =
-    λ s. IfOk a.result.1 (λ reply. tenant_answers_recorded g.N.Runner.starts g.N.Runner.looks g.N.Runner.takes g.Q.RecordQueue.taken g.Q.RecordQueue.has_failed s query reply (
+    λ s. IfOk a.result.1 (λ reply. named_answers_recorded g.N.Runner.starts g.N.Runner.looks g.N.Runner.takes g.Q.RecordQueue.taken g.Q.RecordQueue.has_failed s query reply (
       record { names = map string_bytes c.desk.inside.names.items; desks = a.new.desks.items },
       record { runner = a.new.runner.runner; keep = c.self.inside.keep; recorders = a.new.recorders.items },
     )) in
@@ -38,7 +38,7 @@ returns-clause-err g c =
     let a = c.answer_among-refusal in
     let query : Query = record { passage = c.args.passage; asked = asked_of c.args.request } in
     let T : Tenancy × RecordedRunner g.row.N.Denot g.row.Q.Denot → Type 0 =
-    λ s. OnErr a.result.1 ((reply : List ℕ) × tenant_answers_recorded g.N.Runner.starts g.N.Runner.looks g.N.Runner.takes g.Q.RecordQueue.taken g.Q.RecordQueue.has_failed s query reply (
+    λ s. OnErr a.result.1 ((reply : List ℕ) × named_answers_recorded g.N.Runner.starts g.N.Runner.looks g.N.Runner.takes g.Q.RecordQueue.taken g.Q.RecordQueue.has_failed s query reply (
       record { names = map string_bytes c.desk.inside.names.items; desks = a.new.desks.items },
       record { runner = a.new.runner.runner; keep = c.self.inside.keep; recorders = a.new.recorders.items },
     )) in
