@@ -18,6 +18,11 @@ from test_server import dialog, is_later, texts_of
 # may be slow.
 PROMPT = float(os.environ.get("TELGOVAN_PROMPT", "10"))
 
+# An account is waited for less than this share of what another client's call takes, in one of so many turns at least: with one lock
+# for both the share is near 1 in each, and beside other tests a turn may be a late one by chance.
+SHARE = 0.4
+TURNS = 40
+
 ADD = "mov64 r0, 40 / add64 r0, 2 / exit"
 
 
@@ -368,7 +373,7 @@ class Clients(unittest.TestCase):
             for tenant in ("t", "dear"):
                 asking.ask({"op": "grant", "tenant": tenant, "amount": 100})
             shares = []
-            for _ in range(5):
+            while min(shares, default=1) >= SHARE and len(shares) < TURNS:
                 asking.slowest, began = 0.0, time.monotonic()
                 submitting.stream.sendall(frame(dear))
                 while not select.select([submitting.stream], [], [], 0)[0]:
@@ -379,7 +384,7 @@ class Clients(unittest.TestCase):
                 self.assertEqual((refusal["code"], refusal["program"]), (1, 15))
             asking.stream.close()
             submitting.stream.close()
-            self.assertLess(min(shares), 0.4, shares)
+            self.assertLess(min(shares), SHARE, shares)
 
     def test_nobody_waits_while_a_result_is_written(self):
         """The longest that an account is waited for is short beside what another client's result takes, whose text is made
@@ -393,7 +398,7 @@ class Clients(unittest.TestCase):
             wanted = result_of(reading, job)
             self.assertTrue(wanted["ok"])
             shares = []
-            for _ in range(5):
+            while min(shares, default=1) >= SHARE and len(shares) < TURNS:
                 asking.slowest, began = 0.0, time.monotonic()
                 reading.stream.sendall(frame(json.dumps({"op": "result", "job": job})))
                 while not select.select([reading.stream], [], [], 0)[0]:
@@ -403,7 +408,7 @@ class Clients(unittest.TestCase):
                 self.assertEqual(json.loads(is_read(reading.stream, length)), wanted)
             asking.stream.close()
             reading.stream.close()
-            self.assertLess(min(shares), 0.4, shares)
+            self.assertLess(min(shares), SHARE, shares)
 
     def test_as_many_as_there_are_places(self):
         """One more waits until a place is free."""

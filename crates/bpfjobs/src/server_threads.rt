@@ -17,6 +17,11 @@ use std::time::{Clock, Duration};
 // How many milliseconds go by between two looks at the journals.
 const BETWEEN_LOOKS: u64 = 20;
 
+// How often a server is woken anew where that failed, and how many milliseconds go by between.
+const MOST_WAKES: u32 = 1000;
+
+const BETWEEN_WAKES: u64 = 20;
+
 // How many milliseconds go by between two commits of the journals.
 const BETWEEN_COMMITS: u64 = 1000;
 
@@ -30,22 +35,29 @@ pub enum ListenAddress {
 }
 
 impl ListenAddress {
-    // Wakes the thread that waits for a connection there, by one.
-    fn wake<R: Net>(&self, rt: &R) {
+    // Whether a connection was made there.
+    fn is_connected<R: Net>(&self, rt: &R) -> bool {
         match self {
-            ListenAddress::Port(port) => {
-                let _ = TcpStream::connect(rt, address_of(*port));
+            ListenAddress::Port(port) => TcpStream::connect(rt, address_of(*port)).is_ok(),
+            ListenAddress::Path(path) => UnixStream::connect(rt, path.as_str()).is_ok(),
+        }
+    }
+
+    // Wakes the thread that waits for a connection there, by one. Where none can be made, there may be
+    // no descriptor just now, so it is tried again.
+    fn wake<R: Net + Clock>(&self, rt: &R) {
+        for _ in 0..MOST_WAKES {
+            if self.is_connected(rt) {
+                return;
             }
-            ListenAddress::Path(path) => {
-                let _ = UnixStream::connect(rt, path.as_str());
-            }
+            thread::sleep(rt, Duration::from_millis(BETWEEN_WAKES));
         }
     }
 }
 
 // Reads the input to its end. Then raises the flag, and wakes the thread that waits for a connection
 // by one of its own.
-fn stop_at_end<R: Input + Net>(rt: &R, place: &ListenAddress, stop: &StopFlag) {
+fn stop_at_end<R: Input + Net + Clock>(rt: &R, place: &ListenAddress, stop: &StopFlag) {
     let mut reader = rt.reader();
     let mut piece = [0u8; 64];
     for _ in 0..u64::MAX {
