@@ -187,6 +187,21 @@ class Endless(unittest.TestCase):
             # a connection could not be taken at first, which is told at the end
             self.assertEqual(server.status(), 3)
 
+    def test_it_ends_where_no_descriptor_was_left_at_its_end(self):
+        """The end of its input comes while no descriptor is left for the connection that wakes it."""
+        for _ in range(4):
+            with self.server() as server:
+                clients = [Client(server) for _ in range(2)]
+                for client in clients:
+                    client.ask(self.ACCOUNT)
+                limit = files_of(server)
+                resource.prlimit(server.process.pid, resource.RLIMIT_NOFILE, (limit, limit))
+                server.process.stdin.close()
+                # where a connection could not be taken at first, that is told at the end
+                self.assertIn(server.status(), (0, 3))
+                for client in clients:
+                    client.stream.close()
+
 
 class Bounds(unittest.TestCase):
     """What a host bounds."""
