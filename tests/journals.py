@@ -167,6 +167,17 @@ def read(path):
         return file.read()
 
 
+def traced(told, process, work):
+    """The lines that strace has written to a file, while some work is done at what it traces, which is killed then."""
+    with open(f"/proc/{process.pid}/task/{process.pid}/children", encoding="utf-8") as file:
+        child = int(file.read().split()[0])
+    work()
+    os.kill(child, signal.SIGKILL)
+    process.wait(PATIENCE)
+    with open(told, encoding="utf-8") as file:
+        return file.read().splitlines()
+
+
 class Raw(Client):
     """A connection whose replies are told byte for byte."""
 

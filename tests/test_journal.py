@@ -16,7 +16,7 @@ import unittest
 
 import journals
 from journal_load import Load, good_jobs
-from journals import Keeper, book_of, payloads_of, read, record, starts_of
+from journals import Keeper, book_of, payloads_of, read, record, starts_of, traced
 from programs import BPFJOBS, IS_SLOW, PATIENCE, assemble, submit_text
 from rows import code_of
 from test_clients import spawner
@@ -453,14 +453,7 @@ class Synced(Room):
         told = os.path.join(self.room, "calls")
         names = "write,pwrite64,writev,sendto,sendmsg,fsync,fdatasync,ftruncate"
         client = self.start(ahead=["strace", "-f", "-y", "-qq", "-o", told, "-e", f"trace={names}"])
-        with open(f"/proc/{self.server.process.pid}/task/{self.server.process.pid}/children", encoding="utf-8") as file:
-            child = int(file.read().split()[0])
-        work(client)
-        os.kill(child, signal.SIGKILL)
-        self.server.process.wait(PATIENCE)
-        with open(told, encoding="utf-8") as file:
-            lines = file.read().splitlines()
-        found = [self.CALL.match(line) for line in lines]
+        found = [self.CALL.match(line) for line in traced(told, self.server.process, lambda: work(client))]
         return [(one[1], "journal" if self.server.journal in (one[3] or "") else "socket") for one in found if one
                 and (self.server.journal in (one[3] or "") or "socket" in (one[3] or ""))]
 

@@ -4,14 +4,13 @@ import contextlib
 import os
 import re
 import shutil
-import signal
 import subprocess
 import threading
 import time
 import unittest
 
 import test_journal
-from journals import Keeper, Raw, book_of, payloads_of
+from journals import Keeper, Raw, book_of, payloads_of, traced
 from programs import BPFJOBS, PATIENCE
 from test_journal import ACCOUNT, Room, grant, submit
 
@@ -204,13 +203,7 @@ class Synced(AtIntervals):
         told = os.path.join(self.room, "calls")
         ahead = ["strace", "-f", "-ttt", "-y", "-qq", "-o", told, "-e", "trace=write,fdatasync", *strace]
         client = self.start(ahead=ahead)
-        with open(f"/proc/{self.server.process.pid}/task/{self.server.process.pid}/children", encoding="utf-8") as file:
-            child = int(file.read().split()[0])
-        work(client)
-        os.kill(child, signal.SIGKILL)
-        self.server.process.wait(PATIENCE)
-        with open(told, encoding="utf-8") as file:
-            lines = file.read().splitlines()
+        lines = traced(told, self.server.process, lambda: work(client))
         pattern = re.compile(r"^\d+ +(\d+\.\d+) (\w+)\(\d+<" + re.escape(os.path.realpath(self.server.journal)))
         return [(float(found[1]), found[2]) for found in map(pattern.match, lines) if found]
 

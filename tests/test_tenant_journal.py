@@ -18,7 +18,7 @@ import time
 import unittest
 
 from journal_load import Load, good_jobs
-from journals import Keeper, Raw, book_of, payloads_of, read, starts_of
+from journals import Keeper, Raw, book_of, payloads_of, read, starts_of, traced
 from programs import IS_SLOW, PATIENCE, assemble, submit_text
 from test_journal import grant, open_job, submit
 
@@ -436,13 +436,7 @@ class Synced(Room):
         names = "write,pwrite64,writev,sendto,sendmsg,fsync,fdatasync,ftruncate"
         self.server.start(ahead=["strace", "-f", "-y", "-qq", "-o", told, "-e", f"trace={names}"])
         self.connect().ask(account("t"))
-        with open(f"/proc/{self.server.process.pid}/task/{self.server.process.pid}/children", encoding="utf-8") as file:
-            child = int(file.read().split()[0])
-        work()
-        os.kill(child, signal.SIGKILL)
-        self.server.process.wait(PATIENCE)
-        with open(told, encoding="utf-8") as file:
-            found = [self.CALL.match(line) for line in file.read().splitlines()]
+        found = [self.CALL.match(line) for line in traced(told, self.server.process, work)]
         places = {f"<{os.path.realpath(self.server.file(name))}>": name for name in ("all", *self.TENANTS)}
         calls = [(one[1], places.get(one[3]) or ("socket" if "socket" in (one[3] or "") else None)) for one in found if one]
         # behind the first reply: what was called while the files were opened isn't of interest
