@@ -6,7 +6,8 @@
 FOLDER has bpfrun and bpfjobs with the names of their functions: that which `./try kept bpfjobs bpfrun` prints. A run is that of
 examples/byte_at.bpf as hexadecimal, by bpfrun. A submit is that of a job of two instructions, at a server that has started and granted: what
 its connection's thread passes from the frame to the reply, and, told apart, what a worker passes for the job. A line for each crate, with
-how many different functions; --list names them. What the compiler has put into its caller isn't counted.
+how many different functions; --list names them. What the compiler has put into its caller isn't counted, what it made of its own (a drop, a
+closure's call) is.
 """
 
 import collections
@@ -22,15 +23,32 @@ import time
 
 TOP = os.path.dirname(os.path.dirname(os.path.abspath(__file__)))
 CRATES = sorted(os.listdir(f"{TOP}/crates"))
-NAME = re.compile(r"fn=\(\d+\) <?((?:%s)::.*)" % "|".join(CRATES))
+NAME = re.compile(r"<?((?:%s)::.*)" % "|".join(CRATES))
 CODE = "b700000007000000" "9500000000000000"
 
 
 def passed(path):
-    """The names of this repository's functions in what callgrind wrote."""
+    """The names of this repository's functions that ran instructions of their own, by what callgrind wrote.
+
+    callgrind writes a name where its number first stands, which may be as a callee (`cfn`); below `calls=` stands the cost of a callee.
+    """
+    names, ran, number, is_callee = {}, set(), None, False
     with open(path, encoding="utf-8", errors="replace") as file:
-        found = (NAME.match(line) for line in file)
-        return {re.sub(r"::<.*", "", match[1]).strip() for match in found if match}
+        for line in file:
+            if match := re.match(r"(c?)fn=\((\d+)\)(?: (.*))?$", line):
+                called, found, name = match.groups()
+                if name:
+                    names[found] = name
+                if not called:
+                    number = found
+            elif line.startswith("calls="):
+                is_callee = True
+            elif match := re.match(r"[+*\-\d]\S* (\d+)", line):
+                if not is_callee and match[1] != "0":
+                    ran.add(number)
+                is_callee = False
+    found = (NAME.match(names.get(number, "")) for number in ran)
+    return {re.sub(r"::<.*", "", match[1]).strip() for match in found if match}
 
 
 def valgrind(out, words, *options):

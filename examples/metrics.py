@@ -30,6 +30,7 @@ HELP = {
     "telgovan_jobs_ended_total": "counter, Jobs that came to a report.",
     "telgovan_jobs_failed_total": "counter, Jobs that were taken and failed, by code.",
     "telgovan_jobs_refused_total": "counter, Jobs that weren't taken, by code.",
+    "telgovan_credit_granted_total": "counter, Credit that tenants were granted by requests.",
     "telgovan_credit_spent_total": "counter, Credit that jobs spent.",
     "telgovan_credit_returned_total": "counter, Credit that jobs gave back.",
     "telgovan_tasks_total": "counter, Tasks of jobs that are over.",
@@ -129,6 +130,10 @@ class Metrics:
     def on_failed(self, told):
         self.running.discard(told["job"])
         self.add("telgovan_jobs_failed_total", 1, code=told["code"], **self.of(told["job"]))
+
+    def on_granted(self, told):
+        labels = {} if self.names is None else {"tenant": told.get("tenant", "")}
+        self.add("telgovan_credit_granted_total", told["amount"], **labels)
 
     def on_refused(self, told):
         self.add("telgovan_jobs_refused_total", 1, code=told["code"])

@@ -142,7 +142,7 @@ class Book:
     def failed_(self, job, code):
         self.finished_(job, {"code": code, "ok": False})
 
-    def forgotten_(self, _keep):
+    def forgotten_(self, _ahead):
         pass
 
     def account(self, tenant):

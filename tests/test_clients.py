@@ -242,7 +242,7 @@ class Bounds(unittest.TestCase):
             self.assertEqual(server.status(), 0)
 
     def test_an_open_job_is_not_forgotten(self):
-        """Nor are those behind it, until it is over."""
+        """It keeps no other one, and is forgotten once it is over."""
         programs, credit = long_job()
         with Server(sessions=1, workers=2, more=("--keep", 1)) as server:
             client = Client(server)
@@ -252,12 +252,28 @@ class Bounds(unittest.TestCase):
                 client.ask(submit_text([(0, code_of(ADD))], 3, b"", tenant="t"))
                 self.assertEqual(result_of(client, number)["spent"], 3)
             self.assertEqual(client.ask({"op": "result", "job": 1}).get("code"), 77)
-            self.assertEqual(client.ask({"op": "result", "job": 2})["spent"], 3)
+            for number in (2, 3):
+                self.assertEqual(client.ask({"op": "result", "job": number}).get("code"), 76)
+            self.assertEqual(client.ask({"op": "result", "job": 4})["spent"], 3)
             until = time.monotonic() + PATIENCE
             while client.ask({"op": "result", "job": 1}).get("code") != 76 and time.monotonic() < until:
                 time.sleep(0.01)
             codes = [client.ask({"op": "result", "job": number}).get("code") for number in (1, 2, 3, 4)]
             self.assertEqual(codes, [76, 76, 76, None])
+            client.stream.close()
+            self.assertEqual(server.status(), 0)
+
+    def test_reports_hold_so_many_bytes(self):
+        """A report of a task and a buffer of 60 bytes holds 100: two of them are kept of three."""
+        buffer = bytes(60)
+        with Server(sessions=1, workers=2, more=("--keep-bytes", 299)) as server:
+            client = Client(server)
+            client.ask({"op": "grant", "tenant": "t", "amount": 100})
+            for number in range(1, 6):
+                client.ask(submit_text([(0, code_of(ADD))], 3, buffer, tenant="t"))
+                self.assertEqual(result_of(client, number)["spent"], 3)
+            codes = [client.ask({"op": "result", "job": number}).get("code") for number in range(1, 6)]
+            self.assertEqual(codes, [76, 76, 76, None, None])
             client.stream.close()
             self.assertEqual(server.status(), 0)
 

@@ -24,9 +24,9 @@ def finished(job, spent, returned, buffer, tasks):
     return head + buffer + struct.pack("<Q", len(tasks)) + told
 
 
-def forgotten(keep):
-    """The payload of a change that forgets all but so many last jobs."""
-    return b"\x05" + struct.pack("<Q", keep)
+def forgotten(ahead):
+    """The payload of a change that forgets, of the first so many jobs, those that are over."""
+    return b"\x05" + struct.pack("<Q", ahead)
 
 
 def two_programs(tenant, credit, buffer):
@@ -70,7 +70,7 @@ def members_of(change, number):
         return {"change": kind, "job": job} | {name: value for name, value in report.items() if name != "ok"}
     if kind == "failed":
         return {"change": "finished", "job": parts[0], "code": parts[1]}
-    return {"change": kind, "keep": parts[0]}
+    return {"change": kind, "ahead": parts[0]}
 
 
 def line_of(members):

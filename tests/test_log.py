@@ -27,8 +27,10 @@ MEMBERS = {
     "ended": ("job", "spent", "returned", "tasks", "buffer", "ms"),
     "failed": ("job", "code"),
     "refused": ("code",),
+    "granted": ("amount", "balance"),
 }
 SOCKETS = {"port", "socket", "grants", "tenant"}
+TENANTS = {"alice", "bob"}
 ENDS = {"input", "stopped", "frame too large", "timeout", "cut", "memory"}
 PIPE_ROOM = 4096
 
@@ -41,9 +43,10 @@ def lines_of(text):
     lines = []
     for line in text.splitlines():
         told = json.loads(line)
-        wanted = ["time", "event", *MEMBERS[told["event"]]] + ["lost"] * ("lost" in told)
+        named = ["tenant"] * (told["event"] == "granted" and "tenant" in told)
+        wanted = ["time", "event", *named, *MEMBERS[told["event"]]] + ["lost"] * ("lost" in told)
         assert list(told) == wanted, line
-        words = {"event": MEMBERS, "socket": SOCKETS, "end": ENDS, "version": {VERSION}}
+        words = {"event": MEMBERS, "socket": SOCKETS, "end": ENDS, "version": {VERSION}, "tenant": TENANTS}
         for name, value in told.items():
             assert value in words[name] if name in words else type(value) is int and value >= 0, line
         assert json.dumps(told, separators=(",", ":")) == line, line
@@ -81,7 +84,7 @@ class Log(unittest.TestCase):
             client.stream.close()
             lines = self.ended(server)
             self.assertEqual(server.process.returncode, 0)
-        self.assertEqual([line["event"] for line in lines], ["ready", "opened", "started", "ended", "started", "ended", "closed", "stopping"])
+        self.assertEqual([line["event"] for line in lines], ["ready", "opened", "granted", "started", "ended", "started", "ended", "closed", "stopping"])
         self.assertEqual(told(lines, "opened"), [{"connection": 1, "socket": "port"}])
         self.assertEqual(told(lines, "started"), [{"job": 1, "credit": 3, "programs": 1}, {"job": 2, "credit": 200, "programs": 2}])
         first, second = told(lines, "ended")
@@ -109,9 +112,28 @@ class Log(unittest.TestCase):
             client.stream.close()
             text = server.process.communicate(timeout=PATIENCE)[1].decode()
         lines = lines_of(text)
-        self.assertEqual([line["event"] for line in lines], ["ready", "opened", "started", "ended", "refused", "refused", "closed", "stopping"])
+        self.assertEqual([line["event"] for line in lines], ["ready", "opened", "granted", "started", "ended", "refused", "refused", "closed", "stopping"])
         for trace in ("ZQ", "zq", name, mark.hex(), code_of(ADD).hex(), b"ZQprogram".hex()):
             self.assertNotIn(trace, text)
+
+    def test_grants(self):
+        """A grant that was carried out, with the balance that it led to; none that was refused."""
+        with self.serve() as server:
+            client = Client(server)
+            asked = (("t", 100), ("u", 7), ("t", 2147483647), ("T", 1), ("t", 0), ("t", 1))
+            replies = [client.ask({"op": "grant", "tenant": tenant, "amount": amount}) for tenant, amount in asked]
+            for _ in range(465):
+                client.ask({"op": "grant", "tenant": "v", "amount": 2147483647})
+            self.assertEqual(client.ask({"op": "grant", "tenant": "v", "amount": 2147483647})["code"], 65)
+            client.ask(submit_text([(0, code_of(ADD))], 3, b"", tenant="u"))
+            result_of(client, 1)
+            replies.append(client.ask({"op": "grant", "tenant": "u", "amount": 1}))
+            client.stream.close()
+            lines = told(self.ended(server), "granted")
+        self.assertEqual([reply["ok"] for reply in replies], [True, True, True, False, False, True, True])
+        done = [(amount, reply["balance"]) for (_, amount), reply in zip([*asked, ("u", 1)], replies) if reply["ok"]]
+        self.assertEqual([(line["amount"], line["balance"]) for line in lines[:4] + lines[-1:]], done)
+        self.assertEqual(len(lines), len(done) + 465)
 
     def test_refusals(self):
         """A job that isn't taken, and one whose start is refused."""

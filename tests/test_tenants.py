@@ -410,6 +410,110 @@ class Doors(Room):
         self.assertEqual(json.loads(alice.over(1))["spent"], 3)
 
 
+class Listings(Room):
+    """Which jobs a tenant is told at its own socket."""
+
+    OPEN, OVER = {"state": "open"}, {"state": "over"}
+
+    def serve(self, *tenants, more=()):
+        return self.start("--clients", 8, "--sessions", 100, "--workers", 1, "--grants", self.path("grants"), *more, *self.words(*tenants))
+
+    def begin(self, *tenants, more=(), amount=1_000_000):
+        """A connection by each tenant's socket, where it was granted this."""
+        process = self.serve(*tenants, more=more)
+        granter = self.connect(process, "grants")
+        for tenant in tenants:
+            granter.ask(grant(tenant, amount))
+        return process, [self.connect(process, tenant) for tenant in tenants]
+
+    def check(self, client, count, jobs, **more):
+        listed = [{**state, "job": job} for job, state in jobs]
+        self.assertEqual(client.ask({"op": "jobs", **more}), {"count": count, "jobs": listed, "ok": True})
+
+    def test_no_job(self):
+        _, (alice,) = self.begin("alice")
+        self.assertEqual(alice.told({"op": "jobs"}), b'{"count":0,"jobs":[],"ok":true}')
+        self.check(alice, 0, [], **{"from": 2**64 - 1})
+
+    def test_each_state(self):
+        """Byte for byte: a job that is over, one that failed, and one that is open."""
+        _, (alice,) = self.begin("alice", more=("--tenant-jobs", 1), amount=2_000_000_000)
+        alice.ask(unnamed_submit())
+        alice.over(1)
+        programs, credit = long_job()
+        for number in (2, 3):
+            self.assertEqual(alice.ask(submit_text(programs, credit, b"", tenant="alice")), {"job": number, "ok": True})
+        wanted = b'{"count":3,"jobs":[{"job":1,"state":"over"},{"job":2,"state":"open"},{"code":81,"job":3,"state":"failed"}],"ok":true}'
+        self.assertEqual(alice.told({"op": "jobs"}), wanted)
+
+    def test_from_a_number_on(self):
+        _, (alice,) = self.begin("alice")
+        for number in range(1, 6):
+            alice.ask(unnamed_submit())
+            alice.over(number)
+        for first in (1, 2, 5, 6, 2**64 - 1):
+            self.check(alice, 5, [(number, self.OVER) for number in range(first, 6)], **{"from": first})
+        self.check(alice, 5, [(number, self.OVER) for number in range(1, 6)])
+
+    def test_what_is_no_number(self):
+        """It is no request, and so is a listing of another form."""
+        _, (alice,) = self.begin("alice")
+        for first in (0, -1, 1.5, "1", None, [], 2**64):
+            self.assertEqual(alice.ask({"op": "jobs", "from": first}), NO_REQUEST)
+        for request in ({"op": "Jobs"}, {"op": "job"}, {"op": ["jobs"]}, {"jobs": 1}):
+            self.assertEqual(alice.ask(request), NO_REQUEST)
+        self.check(alice, 0, [], tenant="bob", other=7)
+
+    def test_a_thousand_at_once(self):
+        """And the others from the next number on."""
+        _, (alice,) = self.begin("alice")
+        for number in range(1, 1003):
+            self.assertEqual(alice.ask(unnamed_submit()), {"job": number, "ok": True})
+        for number in range(1, 1003):
+            alice.over(number)
+        self.check(alice, 1002, [(number, self.OVER) for number in range(1, 1001)])
+        self.check(alice, 1002, [(number, self.OVER) for number in range(2, 1002)], **{"from": 2})
+        self.check(alice, 1002, [(1001, self.OVER), (1002, self.OVER)], **{"from": 1001})
+
+    def test_forgotten_jobs(self):
+        """They are left out, and counted."""
+        _, (alice,) = self.begin("alice", more=("--keep", 2))
+        for number in range(1, 6):
+            alice.ask(unnamed_submit())
+            alice.over(number)
+        self.check(alice, 5, [(4, self.OVER), (5, self.OVER)])
+        self.check(alice, 5, [(5, self.OVER)], **{"from": 5})
+
+    def test_another_s_jobs(self):
+        """None of them is told."""
+        _, (alice, bob) = self.begin("alice", "bob")
+        for number in range(1, 4):
+            bob.ask(unnamed_submit())
+            bob.over(number)
+        alice.ask(unnamed_submit())
+        alice.over(1)
+        self.check(alice, 1, [(1, self.OVER)])
+        self.check(bob, 3, [(number, self.OVER) for number in range(1, 4)])
+
+    def test_it_sees_a_job_end(self):
+        """With no other request between."""
+        _, (alice,) = self.begin("alice")
+        alice.ask(unnamed_submit())
+        until = time.monotonic() + PATIENCE
+        while alice.ask({"op": "jobs"})["jobs"] == [{"job": 1, "state": "open"}]:
+            self.assertLess(time.monotonic(), until)
+        self.check(alice, 1, [(1, self.OVER)])
+
+    def test_at_the_other_sockets(self):
+        """A listing is no request there."""
+        process, _ = self.begin("alice")
+        for name in ("all", "grants"):
+            client = self.connect(process, name)
+            for request in ({"op": "jobs"}, {"op": "jobs", "from": 1}, {"op": "jobs", "tenant": "alice"}):
+                self.assertEqual(client.told(request), client.told({"op": "x"}))
+                self.assertEqual(client.ask(request), NO_REQUEST)
+
+
 class OpenJobs(Room):
     """How many jobs each tenant may have open."""
 
@@ -741,10 +845,11 @@ class Ends(Room):
         self.assertEqual(process.wait(PATIENCE), 0)
 
     def test_the_log(self):
-        """A tenant's connection is told as one of a tenant, and no line has a name."""
+        """A tenant's connection is told as one of a tenant. A grant is told with the name that stands in the words, and no other line has one."""
         process = self.start("--log", "--sessions", 3, "--grants", self.path("grants"), *self.words("alice", "bob"), stderr=subprocess.PIPE)
         with self.connect(process, "grants") as granter:
-            granter.ask(grant("bob"))
+            balance = granter.ask(grant("bob"))["balance"]
+            granter.ask(grant("zoe", 7))
         with self.connect(process, "bob") as bob:
             self.assertEqual(bob.ask(submit("bob")), {"job": 1, "ok": True})
             bob.over(1)
@@ -755,7 +860,9 @@ class Ends(Room):
         self.assertEqual([line["socket"] for line in told_of(lines, "opened")], ["grants", "tenant", "socket"])
         # the pool's number of a job: its own and the tenant's place
         self.assertEqual([line["job"] for line in told_of(lines, "started") + told_of(lines, "ended")], [1002, 1002])
-        self.assertFalse("bob" in text or "alice" in text or self.room in text)
+        self.assertEqual(told_of(lines, "granted"), [{"tenant": "bob", "amount": balance, "balance": balance}, {"amount": 7, "balance": 7}])
+        self.assertEqual(text.count("bob"), 1)
+        self.assertFalse("alice" in text or "zoe" in text or self.room in text)
 
     def test_each_tenant_has_its_turn(self):
         """One worker, kept busy while a tenant submits many jobs and another one: that one waits for one of the many, not for all."""

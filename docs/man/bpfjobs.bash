@@ -35,9 +35,9 @@ _bpfjobs() {
     serve)
         case $previous in
         --socket | --grants | --tenants | --journal) mapfile -t COMPREPLY < <(compgen -f -- "$word"); return ;;
-        --port | --tenant | --tenant-jobs | --workers | --sessions | --clients | --timeout | --open-jobs | --keep | --journal-sync) return ;;
+        --port | --tenant | --tenant-jobs | --workers | --sessions | --clients | --timeout | --open-jobs | --keep | --keep-bytes | --journal-sync) return ;;
         esac
-        mapfile -t COMPREPLY < <(compgen -W "--port --socket --grants --tenant --tenants --tenant-jobs --workers --sessions --clients --timeout --open-jobs --keep --journal --journal-sync --until-eof --log --help" -- "$word")
+        mapfile -t COMPREPLY < <(compgen -W "--port --socket --grants --tenant --tenants --tenant-jobs --workers --sessions --clients --timeout --open-jobs --keep --keep-bytes --journal --journal-sync --until-eof --log --help" -- "$word")
         ;;
     journal)
         [[ $word == -* ]] || { mapfile -t COMPREPLY < <(compgen -f -- "$word"); return; }

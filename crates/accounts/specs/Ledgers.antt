@@ -18,6 +18,8 @@ use Rattle.credit_book.specs.declared.book.Report.{Report}
 use Rattle.accounts.specs.Accounts.{account_with}
 use Rattle.accounts.specs.Jobs.{job_at, settled, progress_of, report_of, opened_for, spent_for}
 use Rattle.accounts.specs.Forgetting.{ForgetsJobs, IsGone}
+use Rattle.accounts.specs.declared.keep_limits.KeepLimits.{KeepLimits}
+use Rattle.accounts.specs.Limits.{IsKeptWithin}
 
 -- Each tenant's name and the sum of its grants; each tenant's name and what its forgotten jobs
 -- spent; and each job, also in the place of each that is forgotten. The first job is number 1.
@@ -110,15 +112,22 @@ pub record Finishes (old : Ledger) (number : ℕ) (outcome : Result Report ℕ) 
       (slice_set old.jobs (number - 1) (record entry { standing = settled entry.credit outcome }))
       new
 
--- Jobs are forgotten, and each account is as it was.
-pub record Forgets (old : Ledger) (keep : ℕ) (new : Ledger) : Type 0 where
-  pub jobs : ForgetsJobs old.jobs keep new.jobs
+-- Of the first so many jobs, those that are over are forgotten, and each account is as it was.
+pub record Forgets (old : Ledger) (ahead : ℕ) (new : Ledger) : Type 0 where
+  pub jobs : ForgetsJobs old.jobs ahead new.jobs
   pub grants : (q : List ℕ) → granted_to new q ≡ granted_to old q
   pub accounts : (q : List ℕ) → account_at new q ≡ account_at old q
 
--- the reports of all but the last jobs are forgotten; 0 forgets none
-abbrev pub KeepsLast : ℕ → Ledger → Ledger → Type 0
-KeepsLast keep old new = (1 ≤ keep → Forgets old keep new) × (keep ≡ 0 → new ≡ old)
+-- The same, of so many as these limits ask for. Of none, it leaves all as it was.
+pub record ForgetsTo (limits : KeepLimits) (old : Ledger) (ahead : ℕ) (new : Ledger) :
+    Type 0 where
+  pub forgets : Forgets old ahead new
+  pub within : IsKeptWithin limits old.jobs ahead new.jobs
+  pub same : ahead ≡ 0 → new ≡ old
+
+-- what isn't forgotten is within these limits, and no more is forgotten than has to be
+abbrev pub KeepsWithin : KeepLimits → Ledger → Ledger → Type 0
+KeepsWithin limits old new = (ahead : ℕ) × ForgetsTo limits old ahead new
 
 -- no open job has the number
 abbrev pub IsNotOpen : Ledger → ℕ → Type 0

@@ -1,8 +1,11 @@
 //! The desk, where tenants are granted credit and give jobs.
 
 use crate::fault::{DeskFault, SubmitFault};
-use crate::jobs::{JobEntry, JobStanding, Jobs, settle};
+use crate::job_list::Jobs;
+use crate::jobs::{JobEntry, JobStanding, settle};
+use crate::keep_limits::KeepLimits;
 use crate::kept_report::SharedReport;
+use crate::listing::{ListedJob, list_jobs};
 use crate::tenants::{Account, Sums, account_of, add, change, sums_of};
 use credit_book::{Progress, Report};
 use job_core::{AdmitFault, Job, ProgramBytes, admit};
@@ -42,7 +45,8 @@ impl Desk {
     ghost use Rattle.job_core.specs.declared.admission.ProgramBytes.{ProgramBytes};
     ghost use Rattle.accounts.specs.Ahead.{IsAdmissionOf};
     ghost use Rattle.accounts.specs.declared.fault.DeskFault.TheVariants as fault;
-    ghost use Rattle.accounts.specs.Ledgers.{account_at, granted_to, most_granted, GrantsMore, HasBalance, RefusesGrant, Takes, RefusesSubmit, Finishes, Forgets, KeepsLast, IsNotOpen, progress_at, report_at};
+    ghost use Rattle.accounts.specs.Listing.{listing};
+    ghost use Rattle.accounts.specs.Ledgers.{account_at, granted_to, most_granted, GrantsMore, HasBalance, RefusesGrant, Takes, RefusesSubmit, Finishes, Forgets, ForgetsTo, KeepsWithin, IsNotOpen, progress_at, report_at};
 
     /// A desk with no tenant.
     pub fn new(alloc: Global) -> Desk
@@ -216,21 +220,22 @@ impl Desk {
         Ok(())
     }
 
-    /// Forgets the first jobs, as long as there are more than `keep` behind them, up to the first that
-    /// is open. A forgotten job is told as 76, and every account is as it was.
-    pub fn forget(&mut self, keep: u64)
-        ensures { Forgets self.old keep self.new }
+    /// Forgets each of the first so many jobs that is over. A forgotten job is told as 76, and every
+    /// account is as it was.
+    pub fn forget(&mut self, ahead: u64)
+        ensures { Forgets self.old ahead self.new }
     {
-        self.jobs.forget(keep);
+        self.jobs.forget(ahead);
     }
 
-    /// Forgets as [`Desk::forget`] does; 0 forgets nothing.
-    pub fn keep_last(&mut self, keep: u32)
-        ensures { KeepsLast keep self.old self.new }
+    /// Forgets jobs that are over, the first ones first, until the others are within the limits.
+    /// Open jobs stay, and keep no other one. Answers the number of the last job that is forgotten,
+    /// or 0: [`Desk::forget`] with that leaves the same.
+    pub fn keep_within(&mut self, limits: KeepLimits) -> u64
+        ensures kept { KeepsWithin limits self.old self.new }
+        ensures forgets { ForgetsTo limits self.old result self.new }
     {
-        if keep > 0 {
-            self.forget(u64::from(keep));
-        }
+        self.jobs.keep_within(limits)
     }
 
     /// What a job has come to: its report's totals, or what was seen of it while it is open.
@@ -290,5 +295,20 @@ impl Desk {
         }
         let report = self.jobs.share(alloc, job)?;
         Ok(Ok(report))
+    }
+    /// How many jobs were taken, with those that are forgotten: the number of the last one.
+    pub fn job_count(&self) -> u64
+        ensures { result ≡ length self.now.jobs }
+    {
+        self.jobs.count()
+    }
+
+    /// The jobs from this number on, in order, with how each stands, and without the forgotten ones:
+    /// the first 1,000 of them.
+    pub fn listing(&self, alloc: Global, from: u64) -> Result<Vec<ListedJob>, NoMemory>
+        requires { 1 ≤ from }
+        ensures { IfOk result (λ found. found.items ≡ listing self.now.jobs from) }
+    {
+        list_jobs(alloc, &self.jobs, from)
     }
 }

@@ -2,11 +2,17 @@
 #![tactic(auto)]
 
 // what is kept
+mod job_list;
 mod jobs;
+mod keep_limits;
+mod kept_jobs;
 mod kept_report;
+mod listing;
 mod tenants;
 
+pub use keep_limits::KeepLimits;
 pub use kept_report::SharedReport;
+pub use listing::{ListedJob, ListedState};
 pub use tenants::Account;
 
 // what is asked of it

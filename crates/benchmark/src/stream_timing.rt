@@ -1,7 +1,7 @@
 //! How quick a stream of requests is answered, in memory beside the bare session and desk, and over
 //! the loopback address.
 
-use accounts::Desk;
+use accounts::{Desk, KeepLimits};
 use anyhow::bail;
 use job_core::play_lowest;
 use job_server::{Bounds, Plan, serve_listener};
@@ -222,7 +222,7 @@ where
                     timeout: 0,
                     open_jobs: 0,
                     tenant_jobs: 0,
-                    keep: 0,
+                    keep: KeepLimits::none(),
                 },
                 tenants: &[],
                 stop: None,

@@ -123,7 +123,9 @@ fn opened<R: Files<File = File> + Eprint>(
     let mut bytes = Vec::new(alloc);
     file.read_to_end(&mut bytes)?;
     let (log, desk) = replayed(rt, alloc, path, file, &bytes)?;
-    let journal = SharedJournal::new(alloc, place, log);
+    let Ok(journal) = SharedJournal::new(alloc, place, log) else {
+        return Err(FileFault::NoMemory);
+    };
     Ok(OpenedJournal { journal, desk })
 }
 

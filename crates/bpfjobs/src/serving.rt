@@ -8,6 +8,7 @@ ghost use Rattle.bpfjobs_cli.specs.declared.journal_sync.JournalSync.TheVariants
 ghost use Rattle.shared_journal.specs.declared.reply_sync.ReplySync.TheVariants as reply;
 
 use crate::journal_opening::OpenedJournals;
+use accounts::KeepLimits;
 use bpfjobs_cli::{
     Endpoint, FAILED, JournalSync, Serve, ServeOptions, TenantSettings, TenantSocket,
 };
@@ -15,7 +16,7 @@ use desk_journal::JournaledDesk;
 use job_server::{Bounds, Plan, StopFlag, TenantDoor, serve_port, serve_sockets, status_of};
 use refusal::NoMemory;
 use server_log::ServerLog;
-use shared_journal::{ReplySync, SharedJournal};
+use shared_journal::{GroupJournal, ReplySync, SharedJournal};
 use std::alloc::Global;
 use std::fs::Files;
 use std::net::{Net, TcpListener, TcpStream};
@@ -30,7 +31,7 @@ fn bounds_of(options: ServeOptions, tenant_jobs: Option<u32>) -> Bounds
       timeout = options.timeout;
       open_jobs = options.open_jobs;
       tenant_jobs = unwrap_or tenant_jobs 0;
-      keep = options.keep;
+      keep = record { jobs = options.keep; bytes = options.keep_bytes };
     } }
 {
     Bounds {
@@ -38,7 +39,10 @@ fn bounds_of(options: ServeOptions, tenant_jobs: Option<u32>) -> Bounds
         timeout: options.timeout,
         open_jobs: options.open_jobs,
         tenant_jobs: tenant_jobs.unwrap_or(0),
-        keep: options.keep,
+        keep: KeepLimits {
+            jobs: options.keep,
+            bytes: u64::from(options.keep_bytes),
+        },
     }
 }
 
@@ -147,7 +151,7 @@ fn close_journals<R: Wait + Eprint>(
 ) -> u8 {
     let mut status = status;
     for (path, journal) in paths.iter().zip(journals) {
-        if journal.commit(rt).is_err() {
+        if journal.commit_all(rt).1.is_err() {
             let _ = eprintln!(rt; "bpfjobs: {path}: it can't be written, or not be synced");
             status = FAILED;
         }

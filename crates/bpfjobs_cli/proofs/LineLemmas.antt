@@ -14,7 +14,7 @@ use Rattle.clap.specs.declared.builder.value_parser.ValueParser.TheVariants as v
 use Rattle.clap.proofs.OnLiterals.{clap_on_literals}
 use Rattle.bpfjobs_cli.specs.Commands.{AreOptionsOf, IsMaybeNumber, IsNumberIn, SaysCommand, says_assemble, says_disassemble, says_verify, says_play, says_run, says_serve, says_journal, sessions_said}
 use Rattle.bpfjobs_cli.specs.declared.commands.ServeOptions.{ServeOptions}
-use Rattle.bpfjobs_cli.specs.Program.{bpfjobs_app, journal_app, journal_file_rule, need_rule, port_rule, run_app, play_app, serve_app, sessions_rule, tenant_jobs_rule, clients_rule, timeout_rule, open_jobs_rule, keep_rule, verify_app, workers_rule}
+use Rattle.bpfjobs_cli.specs.Program.{bpfjobs_app, journal_app, journal_file_rule, need_rule, port_rule, run_app, play_app, serve_app, sessions_rule, tenant_jobs_rule, clients_rule, timeout_rule, open_jobs_rule, keep_rule, keep_bytes_rule, verify_app, workers_rule}
 use Rattle.bpfjobs_cli.proofs.NumberLemmas.{signed_number}
 use Rattle.bpfjobs_cli.proofs.RowLemmas.{Among, Each, HasValue, IsOnly, On, both, default_value, maybe_value, required_value}
 use Rattle.bpfjobs_cli.proofs.SubcommandLemmas.{Gives, HasNoAlias, subcommand_gives}
@@ -93,21 +93,23 @@ flag_given (Some text) = (
 serve : Gives SaysCommand (leaf serve_app.top)
 serve words own none =
     let port = may_be (rule port_rule) 1 65535 refl (omega arith) refl (leaf serve_app.top) words
-    ((λ same. refl), (other, (other, (other, (other, (other, (other, (other, (other, (other, (other, (other, (other, (other, (other, (other, (other, tt))))))))))))))))) none in
+    ((λ same. refl), (other, (other, (other, (other, (other, (other, (other, (other, (other, (other, (other, (other, (other, (other, (other, (other, (other, tt)))))))))))))))))) none in
     let jobs = may_be (rule tenant_jobs_rule) 1 1000000 refl (omega arith) refl (leaf serve_app.top) words
-    (other, (other, (other, (other, (other, ((λ same. refl), (other, (other, (other, (other, (other, (other, (other, (other, (other, (other, (other, tt))))))))))))))))) none in
+    (other, (other, (other, (other, (other, ((λ same. refl), (other, (other, (other, (other, (other, (other, (other, (other, (other, (other, (other, (other, tt)))))))))))))))))) none in
     let workers = left_out (rule workers_rule) 1 16 refl (omega arith) refl (leaf serve_app.top) words
-    (other, (other, (other, (other, (other, (other, ((λ same. refl), (other, (other, (other, (other, (other, (other, (other, (other, (other, (other, tt))))))))))))))))) (inr (inr (inr (inr (inr (inr (inl refl))))))) none (omega arith) in
+    (other, (other, (other, (other, (other, (other, ((λ same. refl), (other, (other, (other, (other, (other, (other, (other, (other, (other, (other, (other, tt)))))))))))))))))) (inr (inr (inr (inr (inr (inr (inl refl))))))) none (omega arith) in
     let sessions = may_be (rule sessions_rule) 1 1000000 refl (omega arith) refl (leaf serve_app.top) words
-    (other, (other, (other, (other, (other, (other, (other, ((λ same. refl), (other, (other, (other, (other, (other, (other, (other, (other, (other, tt))))))))))))))))) none in
+    (other, (other, (other, (other, (other, (other, (other, ((λ same. refl), (other, (other, (other, (other, (other, (other, (other, (other, (other, (other, tt)))))))))))))))))) none in
     let clients = left_out (rule clients_rule) 1 1024 refl (omega arith) refl (leaf serve_app.top) words
-    (other, (other, (other, (other, (other, (other, (other, (other, ((λ same. refl), (other, (other, (other, (other, (other, (other, (other, (other, tt))))))))))))))))) (inr (inr (inr (inr (inr (inr (inr (inr (inl refl))))))))) none (omega arith) in
+    (other, (other, (other, (other, (other, (other, (other, (other, ((λ same. refl), (other, (other, (other, (other, (other, (other, (other, (other, (other, tt)))))))))))))))))) (inr (inr (inr (inr (inr (inr (inr (inr (inl refl))))))))) none (omega arith) in
     let timeout = left_out (rule timeout_rule) 0 3600 refl (omega arith) refl (leaf serve_app.top) words
-    (other, (other, (other, (other, (other, (other, (other, (other, (other, ((λ same. refl), (other, (other, (other, (other, (other, (other, (other, tt))))))))))))))))) (inr (inr (inr (inr (inr (inr (inr (inr (inr (inl refl)))))))))) none (omega arith) in
+    (other, (other, (other, (other, (other, (other, (other, (other, (other, ((λ same. refl), (other, (other, (other, (other, (other, (other, (other, (other, tt)))))))))))))))))) (inr (inr (inr (inr (inr (inr (inr (inr (inr (inl refl)))))))))) none (omega arith) in
     let open_jobs = left_out (rule open_jobs_rule) 0 1000000 refl (omega arith) refl (leaf serve_app.top) words
-    (other, (other, (other, (other, (other, (other, (other, (other, (other, (other, ((λ same. refl), (other, (other, (other, (other, (other, (other, tt))))))))))))))))) (inr (inr (inr (inr (inr (inr (inr (inr (inr (inr (inl refl))))))))))) none (omega arith) in
+    (other, (other, (other, (other, (other, (other, (other, (other, (other, (other, ((λ same. refl), (other, (other, (other, (other, (other, (other, (other, tt)))))))))))))))))) (inr (inr (inr (inr (inr (inr (inr (inr (inr (inr (inl refl))))))))))) none (omega arith) in
     let keep = left_out (rule keep_rule) 0 1000000 refl (omega arith) refl (leaf serve_app.top) words
-    (other, (other, (other, (other, (other, (other, (other, (other, (other, (other, (other, ((λ same. refl), (other, (other, (other, (other, (other, tt))))))))))))))))) (inr (inr (inr (inr (inr (inr (inr (inr (inr (inr (inr (inl refl)))))))))))) none (omega arith) in
+    (other, (other, (other, (other, (other, (other, (other, (other, (other, (other, (other, ((λ same. refl), (other, (other, (other, (other, (other, (other, tt)))))))))))))))))) (inr (inr (inr (inr (inr (inr (inr (inr (inr (inr (inr (inl refl)))))))))))) none (omega arith) in
+    let keep_bytes = left_out (rule keep_bytes_rule) 0 4294967295 refl (omega arith) refl (leaf serve_app.top) words
+    (other, (other, (other, (other, (other, (other, (other, (other, (other, (other, (other, (other, ((λ same. refl), (other, (other, (other, (other, (other, tt)))))))))))))))))) (inr (inr (inr (inr (inr (inr (inr (inr (inr (inr (inr (inr (inl refl))))))))))))) none (omega arith) in
     let rows = rows_after (leaf serve_app.top).rules [] words in
     let options : ServeOptions = record {
       workers = workers.0;
@@ -116,6 +118,7 @@ serve words own none =
       timeout = timeout.0;
       open_jobs = open_jobs.0;
       keep = keep.0;
+      keep_bytes = keep_bytes.0;
       until_eof = is_given (first_of (codes "until-eof") rows);
       logs = is_given (first_of (codes "log") rows);
     } in
@@ -126,6 +129,7 @@ serve words own none =
       timeout = timeout.1;
       open_jobs = open_jobs.1;
       keep = keep.1;
+      keep_bytes = keep_bytes.1;
       until_eof = flag_given (first_of (codes "until-eof") rows);
       logs = flag_given (first_of (codes "log") rows);
     } in

@@ -53,5 +53,6 @@ command_range name rows (Serve serve) is = record {
   timeout = is.1.options.timeout.most;
   open_jobs = is.1.options.open_jobs.most;
   keep = is.1.options.keep.most;
+  keep_bytes = is.1.options.keep_bytes.most;
 }
 command_range name rows (Journal path checks) is = tt

@@ -142,6 +142,7 @@ pub record AreOptionsOf (rows : List Row) (options : ServeOptions) : Type 0 wher
   pub timeout : IsNumberIn rows (codes "timeout") 0 3600 options.timeout
   pub open_jobs : IsNumberIn rows (codes "open-jobs") 0 1000000 options.open_jobs
   pub keep : IsNumberIn rows (codes "keep") 0 1000000 options.keep
+  pub keep_bytes : IsNumberIn rows (codes "keep-bytes") 0 4294967295 options.keep_bytes
   pub until_eof : IsFlagOf rows (codes "until-eof") options.until_eof
   pub logs : IsFlagOf rows (codes "log") options.logs
 
@@ -207,6 +208,7 @@ pub record IsServeInRange (serve : Server) : Type 0 where
   pub timeout : serve.options.timeout ≤ 3600
   pub open_jobs : serve.options.open_jobs ≤ 1000000
   pub keep : serve.options.keep ≤ 1000000
+  pub keep_bytes : serve.options.keep_bytes ≤ 4294967295
 
 -- a command's numbers are in range
 abbrev pub IsInRange : Command → Type 0

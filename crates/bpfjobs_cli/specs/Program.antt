@@ -92,6 +92,14 @@ keep_rule = record (new_rule (codes "keep")) {
   parser = Some (vp.Signed (pos 0) (pos 1000000));
 }
 
+abbrev pub keep_bytes_rule : Rule
+keep_bytes_rule = record (new_rule (codes "keep-bytes")) {
+  long = Some (codes "keep-bytes");
+  value_names = 1;
+  defaults = codes "0" ∷ [];
+  parser = Some (vp.Signed (pos 0) (pos 4294967295));
+}
+
 abbrev pub journal_rule : Rule
 journal_rule = record (new_rule (codes "journal")) {
   long = Some (codes "journal");
@@ -150,9 +158,9 @@ abbrev pub serve_app : App
 serve_app =
     with_rule (with_rule (with_rule (with_rule (with_rule (with_rule (with_rule (with_rule
     (with_rule (with_rule (with_rule (with_rule (with_rule (with_rule (with_rule (with_rule
-    (new_app (codes "serve")) port_rule) socket_rule) grants_rule) tenant_rule) tenants_rule)
+    (with_rule (new_app (codes "serve")) port_rule) socket_rule) grants_rule) tenant_rule) tenants_rule)
     tenant_jobs_rule) workers_rule) sessions_rule) clients_rule) timeout_rule) open_jobs_rule)
-    keep_rule) journal_rule) journal_sync_rule) until_eof_rule) log_rule
+    keep_rule) keep_bytes_rule) journal_rule) journal_sync_rule) until_eof_rule) log_rule
 
 abbrev pub journal_app : App
 journal_app = with_rule (with_rule (new_app (codes "journal")) journal_file_rule) check_rule

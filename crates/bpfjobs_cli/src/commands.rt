@@ -68,6 +68,8 @@ pub struct ServeOptions {
     pub open_jobs: u32,
     /// Jobs, 1 to 1,000,000, of which the last ones' reports are kept. 0: all are.
     pub keep: u32,
+    /// Bytes, 1 to 4,294,967,295, that kept reports hold. 0: any number.
+    pub keep_bytes: u32,
     /// Whether it takes no more connections once its standard input has ended.
     pub until_eof: bool,
     /// Whether it writes a log of its connections and jobs.

@@ -3,7 +3,7 @@
 ghost use Rattle.std.specs.Prelude.{◌≡◌, false, codes, IfOk};
 ghost use Rattle.clap.specs.Words.{app_of, new_app, rule_of};
 ghost use Rattle.clap.specs.declared.builder.command.Command.TheViews.{out-Command as fields_of};
-ghost use Rattle.bpfjobs_cli.specs.Program.{need_rule, port_rule, socket_rule, grants_rule, tenant_rule, tenants_rule, tenant_jobs_rule, workers_rule, sessions_rule, clients_rule, timeout_rule, open_jobs_rule, keep_rule, journal_rule, journal_sync_rule, until_eof_rule, log_rule, trace_rule, trace_json_rule, tree_rule, journal_file_rule, check_rule, named_app, verify_app, play_app, run_app, serve_app, journal_app, bpfjobs_app, with_text_commands};
+ghost use Rattle.bpfjobs_cli.specs.Program.{need_rule, port_rule, socket_rule, grants_rule, tenant_rule, tenants_rule, tenant_jobs_rule, workers_rule, sessions_rule, clients_rule, timeout_rule, open_jobs_rule, keep_rule, keep_bytes_rule, journal_rule, journal_sync_rule, until_eof_rule, log_rule, trace_rule, trace_json_rule, tree_rule, journal_file_rule, check_rule, named_app, verify_app, play_app, run_app, serve_app, journal_app, bpfjobs_app, with_text_commands};
 
 use crate::texts;
 use clap::{Arg, ArgAction, Command};
@@ -152,6 +152,18 @@ fn keep<'a>(alloc: Global) -> Arg<'a>
         .value_name("COUNT")
         .help(texts::KEEP)
         .value_parser(clap::value_parser!(u32).range(0..=1000000))
+        .default_value("0")
+}
+
+fn keep_bytes<'a>(alloc: Global) -> Arg<'a>
+    ensures rule { rule_of result ≡ keep_bytes_rule }
+    ensures local { result.global ≡ false }
+{
+    Arg::new(alloc, "keep-bytes")
+        .long("keep-bytes")
+        .value_name("BYTES")
+        .help(texts::KEEP_BYTES)
+        .value_parser(clap::value_parser!(u32).range(0..=4294967295))
         .default_value("0")
 }
 
@@ -314,6 +326,7 @@ fn serve<'a>(alloc: Global) -> Result<Command<'a>, AllocError>
         .arg(timeout(alloc))?
         .arg(open_jobs(alloc))?
         .arg(keep(alloc))?
+        .arg(keep_bytes(alloc))?
         .arg(journal(alloc))?
         .arg(journal_sync(alloc))?
         .arg(until_eof(alloc))?

@@ -242,6 +242,7 @@ fn options(matches: &ArgMatches<'_>) -> ServeOptions
         timeout: number(matches, "timeout", 0, 3600),
         open_jobs: number(matches, "open-jobs", 0, 1000000),
         keep: number(matches, "keep", 0, 1000000),
+        keep_bytes: number(matches, "keep-bytes", 0, 4294967295),
         until_eof: flag(matches, "until-eof"),
         logs: flag(matches, "log"),
     }

@@ -162,6 +162,9 @@ pub(crate) const OPEN_JOBS: &str =
 pub(crate) const KEEP: &str =
     "Last jobs whose reports are kept, 0 for all, to 1000000: earlier ones are told as 76";
 
+pub(crate) const KEEP_BYTES: &str =
+    "Bytes that kept reports hold, 0 for any, to 4294967295: those of buffers, and 40 a task";
+
 pub(crate) const JOURNAL: &str =
     "A file that keeps each grant and job, from which a later server goes on; a tenant's is FILE.NAME";
 

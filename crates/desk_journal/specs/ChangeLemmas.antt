@@ -24,27 +24,27 @@ body_rest (Granted tenant1 amount1) (Granted tenant2 amount2) r s tags small sam
 body_rest (Granted tenant1 amount1) (Submitted tenant2 programs2 credit2 buffer2) r s tags small same = absurd (omega (arith, tags))
 body_rest (Granted tenant1 amount1) (Finished job2 report2) r s tags small same = absurd (omega (arith, tags))
 body_rest (Granted tenant1 amount1) (Failed job2 code2) r s tags small same = absurd (omega (arith, tags))
-body_rest (Granted tenant1 amount1) (Forgotten keep2) r s tags small same = absurd (omega (arith, tags))
+body_rest (Granted tenant1 amount1) (Forgotten ahead2) r s tags small same = absurd (omega (arith, tags))
 body_rest (Submitted tenant1 programs1 credit1 buffer1) (Granted tenant2 amount2) r s tags small same = absurd (omega (arith, tags))
 body_rest (Submitted tenant1 programs1 credit1 buffer1) (Submitted tenant2 programs2 credit2 buffer2) r s tags small same = pair_rest (λ (l : List ℕ). counted_bytes l) (λ (t : List ProgramBytes × (ℕ × List ℕ)). list_bytes program_bytes t.0 ++ (to_le_bytes w32 t.1.0 ++ counted_bytes t.1.1)) counted_rest order_rest tenant1.items (programs1.items, (credit1, buffer1.items)) tenant2.items (programs2.items, (credit2, buffer2.items)) r s small same
 body_rest (Submitted tenant1 programs1 credit1 buffer1) (Finished job2 report2) r s tags small same = absurd (omega (arith, tags))
 body_rest (Submitted tenant1 programs1 credit1 buffer1) (Failed job2 code2) r s tags small same = absurd (omega (arith, tags))
-body_rest (Submitted tenant1 programs1 credit1 buffer1) (Forgotten keep2) r s tags small same = absurd (omega (arith, tags))
+body_rest (Submitted tenant1 programs1 credit1 buffer1) (Forgotten ahead2) r s tags small same = absurd (omega (arith, tags))
 body_rest (Finished job1 report1) (Granted tenant2 amount2) r s tags small same = absurd (omega (arith, tags))
 body_rest (Finished job1 report1) (Submitted tenant2 programs2 credit2 buffer2) r s tags small same = absurd (omega (arith, tags))
 body_rest (Finished job1 report1) (Finished job2 report2) r s tags small same = pair_rest (λ (n : ℕ). to_le_bytes w64 n) report_bytes (λ a b x y few is. rest_behind_8 a b x y is) report_rest job1 report1 job2 report2 r s small same
 body_rest (Finished job1 report1) (Failed job2 code2) r s tags small same = absurd (omega (arith, tags))
-body_rest (Finished job1 report1) (Forgotten keep2) r s tags small same = absurd (omega (arith, tags))
+body_rest (Finished job1 report1) (Forgotten ahead2) r s tags small same = absurd (omega (arith, tags))
 body_rest (Failed job1 code1) (Granted tenant2 amount2) r s tags small same = absurd (omega (arith, tags))
 body_rest (Failed job1 code1) (Submitted tenant2 programs2 credit2 buffer2) r s tags small same = absurd (omega (arith, tags))
 body_rest (Failed job1 code1) (Finished job2 report2) r s tags small same = absurd (omega (arith, tags))
 body_rest (Failed job1 code1) (Failed job2 code2) r s tags small same = pair_rest (λ (n : ℕ). to_le_bytes w64 n) (λ (n : ℕ). n ∷ []) (λ a b x y few is. rest_behind_8 a b x y is) (λ a b x y few is. rest_behind_1 a b x y is) job1 code1 job2 code2 r s small same
-body_rest (Failed job1 code1) (Forgotten keep2) r s tags small same = absurd (omega (arith, tags))
-body_rest (Forgotten keep1) (Granted tenant2 amount2) r s tags small same = absurd (omega (arith, tags))
-body_rest (Forgotten keep1) (Submitted tenant2 programs2 credit2 buffer2) r s tags small same = absurd (omega (arith, tags))
-body_rest (Forgotten keep1) (Finished job2 report2) r s tags small same = absurd (omega (arith, tags))
-body_rest (Forgotten keep1) (Failed job2 code2) r s tags small same = absurd (omega (arith, tags))
-body_rest (Forgotten keep1) (Forgotten keep2) r s tags small same = rest_behind_8 keep1 keep2 r s same
+body_rest (Failed job1 code1) (Forgotten ahead2) r s tags small same = absurd (omega (arith, tags))
+body_rest (Forgotten ahead1) (Granted tenant2 amount2) r s tags small same = absurd (omega (arith, tags))
+body_rest (Forgotten ahead1) (Submitted tenant2 programs2 credit2 buffer2) r s tags small same = absurd (omega (arith, tags))
+body_rest (Forgotten ahead1) (Finished job2 report2) r s tags small same = absurd (omega (arith, tags))
+body_rest (Forgotten ahead1) (Failed job2 code2) r s tags small same = absurd (omega (arith, tags))
+body_rest (Forgotten ahead1) (Forgotten ahead2) r s tags small same = rest_behind_8 ahead1 ahead2 r s same
 
 pub change_there : (c : DeskChange) → 1 ≤ length (change_bytes c)
 change_there c = omega (arith, length-append (tag_of c ∷ []) (body_bytes c))
@@ -63,7 +63,7 @@ known_tag (Granted tenant amount) n is = (omega (arith, is), omega (arith, is))
 known_tag (Submitted tenant programs credit buffer) n is = (omega (arith, is), omega (arith, is))
 known_tag (Finished job report) n is = (omega (arith, is), omega (arith, is))
 known_tag (Failed job code) n is = (omega (arith, is), omega (arith, is))
-known_tag (Forgotten keep) n is = (omega (arith, is), omega (arith, is))
+known_tag (Forgotten ahead) n is = (omega (arith, is), omega (arith, is))
 
 -- ---- the form that a tag names
 
@@ -72,25 +72,25 @@ if_granted P (Granted tenant amount) tag it = it tenant amount
 if_granted P (Submitted tenant programs credit buffer) tag it = absurd (omega (arith, tag))
 if_granted P (Finished job report) tag it = absurd (omega (arith, tag))
 if_granted P (Failed job code) tag it = absurd (omega (arith, tag))
-if_granted P (Forgotten keep) tag it = absurd (omega (arith, tag))
+if_granted P (Forgotten ahead) tag it = absurd (omega (arith, tag))
 
 pub if_submitted : (P : DeskChange → Type 0) (c : DeskChange) → tag_of c ≡ 2 → ((tenant : Vec ℕ Global) (programs : Vec ProgramBytes Global) (credit : ℕ) (buffer : Vec ℕ Global) → P (Submitted tenant programs credit buffer)) → P c
 if_submitted P (Granted tenant amount) tag it = absurd (omega (arith, tag))
 if_submitted P (Submitted tenant programs credit buffer) tag it = it tenant programs credit buffer
 if_submitted P (Finished job report) tag it = absurd (omega (arith, tag))
 if_submitted P (Failed job code) tag it = absurd (omega (arith, tag))
-if_submitted P (Forgotten keep) tag it = absurd (omega (arith, tag))
+if_submitted P (Forgotten ahead) tag it = absurd (omega (arith, tag))
 
 pub if_finished : (P : DeskChange → Type 0) (c : DeskChange) → tag_of c ≡ 3 → ((job : ℕ) (report : Report) → P (Finished job report)) → P c
 if_finished P (Granted tenant amount) tag it = absurd (omega (arith, tag))
 if_finished P (Submitted tenant programs credit buffer) tag it = absurd (omega (arith, tag))
 if_finished P (Finished job report) tag it = it job report
 if_finished P (Failed job code) tag it = absurd (omega (arith, tag))
-if_finished P (Forgotten keep) tag it = absurd (omega (arith, tag))
+if_finished P (Forgotten ahead) tag it = absurd (omega (arith, tag))
 
 pub if_failed : (P : DeskChange → Type 0) (c : DeskChange) → tag_of c ≡ 4 → ((job : ℕ) (code : ℕ) → P (Failed job code)) → P c
 if_failed P (Granted tenant amount) tag it = absurd (omega (arith, tag))
 if_failed P (Submitted tenant programs credit buffer) tag it = absurd (omega (arith, tag))
 if_failed P (Finished job report) tag it = absurd (omega (arith, tag))
 if_failed P (Failed job code) tag it = it job code
-if_failed P (Forgotten keep) tag it = absurd (omega (arith, tag))
+if_failed P (Forgotten ahead) tag it = absurd (omega (arith, tag))

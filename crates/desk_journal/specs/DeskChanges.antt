@@ -12,7 +12,7 @@ tag_of (Granted tenant amount) = 1
 tag_of (Submitted tenant programs credit buffer) = 2
 tag_of (Finished job report) = 3
 tag_of (Failed job code) = 4
-tag_of (Forgotten keep) = 5
+tag_of (Forgotten ahead) = 5
 
 -- what stands behind that number
 abbrev pub body_bytes : DeskChange → List ℕ
@@ -22,7 +22,7 @@ body_bytes (Submitted tenant programs credit buffer) =
     ++ (to_le_bytes w32 credit ++ counted_bytes buffer.items))
 body_bytes (Finished job report) = to_le_bytes w64 job ++ report_bytes report
 body_bytes (Failed job code) = to_le_bytes w64 job ++ (code ∷ [])
-body_bytes (Forgotten keep) = to_le_bytes w64 keep
+body_bytes (Forgotten ahead) = to_le_bytes w64 ahead
 
 abbrev pub change_bytes : DeskChange → List ℕ
 change_bytes change = (tag_of change ∷ []) ++ body_bytes change

@@ -50,7 +50,7 @@ Makes (Submitted tenant programs credit buffer) old new =
 Makes (Finished number report) old new =
     (same : Report) × (report_bytes same ≡ report_bytes report) × EndsJob number (Ok same) old new
 Makes (Failed number code) old new = EndsJob number (Err code) old new
-Makes (Forgotten keep) old new = Forgets old.desk keep new.desk × (new.held ≡ old.held)
+Makes (Forgotten ahead) old new = Forgets old.desk ahead new.desk × (new.held ≡ old.held)
 
 -- no open job of the number is held, or none is open
 abbrev pub RefusesEnd : ℕ → DeskState → Type 0
@@ -65,7 +65,7 @@ RefusesChange (Submitted tenant programs credit buffer) old =
     × RefusesSubmit old.desk tenant.items programs.items credit buffer.items fault)
 RefusesChange (Finished number report) old = RefusesEnd number old
 RefusesChange (Failed number code) old = RefusesEnd number old
-RefusesChange (Forgotten keep) old = ⊥
+RefusesChange (Forgotten ahead) old = ⊥
 
 -- the same, of a change with these bytes
 abbrev pub MakesBytes : DeskState → List ℕ → DeskState → Type 0

@@ -42,9 +42,9 @@ pub enum DeskChange {
         job: u64,
         code: u8,
     },
-    /// The reports of all but so many last jobs were forgotten.
+    /// Of the first so many jobs, those that are over were forgotten.
     Forgotten {
-        keep: u64,
+        ahead: u64,
     },
 }
 
@@ -125,8 +125,8 @@ fn read_forgotten(alloc: Global, input: &[u8]) -> Result<(DeskChange, usize), Re
     ensures refused { IsErrOf result NoValue → (change : DeskChange) (rest : List ℕ)
         → tag_of change ≡ 5 → input.now ≡ body_bytes change ++ rest → ⊥ }
 {
-    let (keep, length) = u64::read(alloc, input)?;
-    Ok((DeskChange::Forgotten { keep }, length))
+    let (ahead, length) = u64::read(alloc, input)?;
+    Ok((DeskChange::Forgotten { ahead }, length))
 }
 
 // The change of the form that a tag names, whose bytes stand at the front behind the tag.
@@ -204,7 +204,7 @@ fn write_body(change: &DeskChange, out: &mut Vec<u8>) -> Result<(), AllocError>
             job.write(out)?;
             code.write(out)
         }
-        DeskChange::Forgotten { keep } => keep.write(out),
+        DeskChange::Forgotten { ahead } => ahead.write(out),
     }
 }
 

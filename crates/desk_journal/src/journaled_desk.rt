@@ -151,11 +151,11 @@ impl JournaledDesk {
         }
     }
 
-    // Forgets the reports of all but the last jobs.
-    fn forget(&mut self, keep: u64)
-        ensures { Forgets self.old.desk keep self.new.desk × (self.new.held ≡ self.old.held) }
+    // Forgets those of the first so many jobs that are over.
+    fn forget(&mut self, ahead: u64)
+        ensures { Forgets self.old.desk ahead self.new.desk × (self.new.held ≡ self.old.held) }
     {
-        self.desk.forget(keep);
+        self.desk.forget(ahead);
     }
 }
 
@@ -193,8 +193,8 @@ impl StateMachine for JournaledDesk {
                 self.finish(*job, Ok(report))
             }
             DeskChange::Failed { job, code } => self.finish(*job, Err(*code)),
-            DeskChange::Forgotten { keep } => {
-                self.forget(*keep);
+            DeskChange::Forgotten { ahead } => {
+                self.forget(*ahead);
                 Ok(())
             }
         }

@@ -2,11 +2,14 @@
 use Rattle.std.proofs.Common.{◌≡◌, ◌⊎◌, ◌+◌, ◌-◌, ◌≤◌, ℕ, zero, suc, true, false, List, [], ◌∷◌, ◌++◌, length, replicate, slice_get, slice_set, Bool, Option, Some, None, Result, Ok, Err, refl, sym, ap, subst, ◌∙◌, inl, inr, arith, nat_eq, if◌then◌else◌}
 use Rattle.std.proofs.lemmas.Bool.Decides.{nat_tests}
 use Rattle.std.proofs.lemmas.List.{length-append}
+use Rattle.std.proofs.lemmas.Option.{slice_get_within}
 use Rattle.credit_book.specs.declared.book.Report.{Report}
 use Rattle.accounts.specs.declared.jobs.JobEntry.{JobEntry}
 use Rattle.accounts.specs.declared.jobs.JobStanding.TheVariants.{Open, Reported, Failed}
 use Rattle.accounts.specs.Jobs.{job_at, settled}
-use Rattle.accounts.specs.Forgetting.{ForgetsJobs}
+use Rattle.accounts.specs.Forgetting.{ForgetsJobs, IsGone, IsJobOver}
+use Rattle.accounts.proofs.Forgets.{each_left}
+use Rattle.accounts.proofs.Listed.{get_within}
 use Rattle.accounts.specs.Ledgers.{Ledger, Finishes, Takes}
 use Rattle.desk_journal.specs.DeskSteps.{IsWithout}
 use Rattle.desk_journal.specs.declared.journaled_desk.OpenJob.{OpenJob}
@@ -100,11 +103,6 @@ set_there [] k was e x here at = absurd cc
 set_there (j ∷ js) zero was e x here at = cc
 set_there (j ∷ js) (suc k) was e x here at = set_there js k was e x here at
 
-get_gone : (front rest : List JobEntry) (gone : JobEntry) (n : ℕ) (x : JobEntry) → slice_get (replicate (length front) gone ++ rest) n ≡ Some x → (gone ≡ x) ⊎ (slice_get (front ++ rest) n ≡ Some x)
-get_gone [] rest gone n x at = inr at
-get_gone (f ∷ front) rest gone zero x at = inl cc
-get_gone (f ∷ front) rest gone (suc n) x at = get_gone front rest gone n x at
-
 -- ---- open jobs
 
 -- where a desk's jobs are the same, its open ones are
@@ -171,15 +169,18 @@ ended_held old new number outcome held without over holds m there =
         let is : entry ≡ there.0 = set_there old.jobs (number - 1) over.entry entry there.0 (job_there old.jobs number over.entry over.was).1 there_now in
         settled_over over.entry.credit outcome (ap (λ (e : JobEntry). e.standing) is ∙ there.2)
 
--- the jobs that are forgotten were over
-pub forgotten_held : (old new : Ledger) (keep : ℕ) (held : List OpenJob) → ForgetsJobs old.jobs keep new.jobs → HoldsOpen held old → HoldsOpen held new
-forgotten_held old new keep held forgets holds number there =
+-- a job that is open is none that was forgotten
+pub forgotten_held : (old new : Ledger) (ahead : ℕ) (held : List OpenJob) → ForgetsJobs old.jobs ahead new.jobs → HoldsOpen held old → HoldsOpen held new
+forgotten_held old new ahead held forgets holds number there =
     let here = job_there new.jobs number there.0 there.1 in
-    let at : slice_get (replicate (length forgets.front) forgets.gone ++ forgets.rest) (number - 1) ≡ Some there.0 = subst (λ (js : List JobEntry). slice_get js (number - 1) ≡ Some there.0) forgets.is here.1 in
-    elim (get_gone forgets.front forgets.rest forgets.gone (number - 1) there.0 at) [
-      | inl gone ↦
-          let clash : Failed 76 ≡ Open = sym forgets.is_gone.standing ∙ ap (λ (e : JobEntry). e.standing) gone ∙ there.2 in
-          absurd cc
-      | inr early ↦
-          holds number (still_open old number there.0 here.0 (subst (λ (js : List JobEntry). slice_get js (number - 1) ≡ Some there.0) (sym forgets.was) early) there.2)
-    ]
+    let lt = slice_get_within new.jobs (number - 1) there.0 here.1 in
+    let long = forgets.count in
+    let was = get_within old.jobs (number - 1) (omega (arith, lt, long)) in
+    by was.0 was.1 here.1 (each_left old.jobs ahead new.jobs forgets (number - 1) was.0 there.0 was.1 here.1)
+  where
+    by : (x : JobEntry) → slice_get old.jobs (number - 1) ≡ Some x → slice_get new.jobs (number - 1) ≡ Some there.0
+        → (x ≡ there.0) ⊎ (IsJobOver x × IsGone there.0) → HasJobNumber number held
+    by x at now (inr gone) =
+        let clash : Failed 76 ≡ Open = sym gone.1.standing ∙ there.2 in
+        absurd cc
+    by x at now (inl same) = holds number (still_open old number there.0 (job_there new.jobs number there.0 there.1).0 (at ∙ ap Some same) there.2)

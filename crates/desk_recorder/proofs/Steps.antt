@@ -64,9 +64,9 @@ pub records_failure : (bytes : List ℕ) (number code : ℕ) → FitsRecord (cha
 records_failure bytes number code are old new over =
     recorded bytes (Failed number code) old new are (by_change old new (Failed number code) (ends old new number (Err code) over))
 
-pub records_forgetting : (bytes : List ℕ) (keep : ℕ) → FitsRecord (change_bytes (Forgotten keep)) × (bytes ≡ record_of (change_bytes (Forgotten keep))) → IsForgettingRecord bytes keep
-records_forgetting bytes keep are old new forgets =
-    recorded bytes (Forgotten keep) old new are (by_change old new (Forgotten keep) (λ held holds. (held, forgotten_held old new keep held forgets.jobs holds, (forgets, refl))))
+pub records_forgetting : (bytes : List ℕ) (ahead : ℕ) → FitsRecord (change_bytes (Forgotten ahead)) × (bytes ≡ record_of (change_bytes (Forgotten ahead))) → IsForgettingRecord bytes ahead
+records_forgetting bytes ahead are old new forgets =
+    recorded bytes (Forgotten ahead) old new are (by_change old new (Forgotten ahead) (λ held holds. (held, forgotten_held old new ahead held forgets.jobs holds, (forgets, refl))))
 
 -- ---- any change keeps the open jobs held
 
@@ -82,5 +82,5 @@ makes_held (Submitted tenant programs credit buffer) old new made holds =
     subst (λ (l : List OpenJob). HoldsOpen l new.desk) (sym made.1.3) (taken_held old.desk new.desk tenant.items credit old.held made.1.0 made.0 made.1.2 holds)
 makes_held (Finished number report) old new made holds = ended_so number (Ok made.0) old new made.2 holds
 makes_held (Failed number code) old new made holds = ended_so number (Err code) old new made holds
-makes_held (Forgotten keep) old new made holds =
-    subst (λ (l : List OpenJob). HoldsOpen l new.desk) (sym made.1) (forgotten_held old.desk new.desk keep old.held made.0.jobs holds)
+makes_held (Forgotten ahead) old new made holds =
+    subst (λ (l : List OpenJob). HoldsOpen l new.desk) (sym made.1) (forgotten_held old.desk new.desk ahead old.held made.0.jobs holds)

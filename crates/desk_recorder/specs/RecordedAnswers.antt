@@ -3,7 +3,8 @@ use Rattle.std.specs.Prelude.{◌≡◌, ◌⊎◌, ℕ, List, Option, Result, t
 use Rattle.credit_book.specs.declared.book.Report.{Report}
 use Rattle.credit_book.specs.declared.board.Progress.{Progress}
 use Rattle.job_core.specs.Admitted.{AdmittedJob}
-use Rattle.accounts.specs.Ledgers.{Ledger, KeepsLast}
+use Rattle.accounts.specs.declared.keep_limits.KeepLimits.{KeepLimits}
+use Rattle.accounts.specs.Ledgers.{Ledger, KeepsWithin}
 use Rattle.sessions.specs.Grammar.{Asked}
 use Rattle.streams.specs.Answering.{Answers}
 use Rattle.desk_recorder.specs.Recording.{RecordsMore}
@@ -17,12 +18,12 @@ pub record AnswersRecorded {R Q : Type 0}
     (starts : R → ℕ → AdmittedJob → Result (Unit {0}) ℕ → R → Type 0)
     (looks : R → ℕ → Progress → R → Type 0)
     (takes : R → Option (ℕ × Result Report ℕ) → R → Type 0) (taken : Q → List ℕ)
-    (failed : Q → Type 0) (keep : ℕ) (old : Ledger) (runner : R) (before : ChangeRecorder Q)
-    (query : Result Asked ℕ) (reply : List ℕ) (new : Ledger) (left : R) (after : ChangeRecorder Q) :
-    Type 0 where
+    (failed : Q → Type 0) (keep : KeepLimits) (old : Ledger) (runner : R)
+    (before : ChangeRecorder Q) (query : Result Asked ℕ) (reply : List ℕ) (new : Ledger) (left : R)
+    (after : ChangeRecorder Q) : Type 0 where
   pub mid : Ledger
   pub answered : Answers starts looks takes old runner query reply mid left
-  pub kept : KeepsLast keep mid new ⊎ ((new ≡ mid) × (mid ≡ old))
+  pub kept : KeepsWithin keep mid new ⊎ ((new ≡ mid) × (mid ≡ old))
   pub going : after.is_stopped ≡ false → before.is_stopped ≡ false
   pub told : (before.is_stopped ≡ true → failed before.queue) → after.is_stopped ≡ true
       → failed after.queue

@@ -54,8 +54,8 @@ IsEndRecord bytes number outcome =
     (old new : Ledger) → Finishes old number outcome new → IsChangeRecord bytes old new
 
 abbrev pub IsForgettingRecord : List ℕ → ℕ → Type 0
-IsForgettingRecord bytes keep =
-    (old new : Ledger) → Forgets old keep new → IsChangeRecord bytes old new
+IsForgettingRecord bytes ahead =
+    (old new : Ledger) → Forgets old ahead new → IsChangeRecord bytes old new
 
 -- A queue has taken the records of some more changes, in order, and these lead from a desk to
 -- another.

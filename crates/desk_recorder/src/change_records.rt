@@ -66,7 +66,7 @@ fn report_record(alloc: Global, job: u64, report: Report) -> (Result<Vec<u8>, Re
             job: _job,
             code: _code,
         } => unreachable!(),
-        DeskChange::Forgotten { keep: _keep } => unreachable!(),
+        DeskChange::Forgotten { ahead: _ahead } => unreachable!(),
     }
 }
 
@@ -95,9 +95,9 @@ pub fn end_record(
     }
 }
 
-/// The record of what a desk forgets.
-pub fn forgetting_record(alloc: Global, keep: u64) -> Result<Vec<u8>, RecordFault>
-    ensures { IfOk result (λ bytes. IsForgettingRecord bytes.items keep) }
+/// The record of what a desk forgets: of the first so many jobs, those that are over.
+pub fn forgetting_record(alloc: Global, ahead: u64) -> Result<Vec<u8>, RecordFault>
+    ensures { IfOk result (λ bytes. IsForgettingRecord bytes.items ahead) }
 {
-    record_bytes(alloc, &DeskChange::Forgotten { keep })
+    record_bytes(alloc, &DeskChange::Forgotten { ahead })
 }

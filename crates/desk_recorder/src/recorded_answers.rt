@@ -1,7 +1,7 @@
 //! One answer of a desk and a runner, with the records of what it changes.
 
 ghost use Rattle.std.specs.Prelude.{◌≡◌, ◌⊎◌, ◌≤◌, ◌+◌, ℕ, List, IfErr, IfOk, OnErr, OnOk, Ok, false, unwrap_or};
-ghost use Rattle.accounts.specs.Ledgers.{GrantsMore, KeepsLast, RefusesGrant, account_at, granted_to, most_granted};
+ghost use Rattle.accounts.specs.Ledgers.{GrantsMore, KeepsWithin, RefusesGrant, account_at, granted_to, most_granted};
 ghost use Rattle.sessions.specs.Grammar.{request_asked};
 ghost use Rattle.streams.specs.Answering.{Framed, Grants, GrantsNone, Replies};
 ghost use Rattle.streams.specs.Prepared.{asked_of};
@@ -14,7 +14,7 @@ use crate::record_queue::RecordQueue;
 use crate::recorded_ends::pass_recorded;
 use crate::recorded_submit::{answer_admitted_recorded, answer_submit_recorded};
 use crate::recorder::ChangeRecorder;
-use accounts::{Account, Desk, DeskFault};
+use accounts::{Account, Desk, DeskFault, KeepLimits};
 use refusal::NoMemory;
 use sessions::Request;
 use std::alloc::Global;
@@ -132,37 +132,36 @@ pub fn reply_recorded<N: Runner, Q: RecordQueue>(
     }
 }
 
-/// Forgets the reports of all but the last jobs, and records that, unless the recorder has noted no
-/// change.
+/// Has the desk forget until what it keeps is within the limits, and records what it forgets, if
+/// anything. Does nothing where the recorder has noted no change.
 pub fn keep_recorded<Q: RecordQueue>(
     alloc: Global,
     desk: &mut Desk,
     recorder: &mut ChangeRecorder<Q>,
-    keep: u32,
+    keep: KeepLimits,
 )
-    ensures kept { KeepsLast keep desk.old desk.new
+    ensures kept { KeepsWithin keep desk.old desk.new
         ⊎ ((desk.new ≡ desk.old) × (recorder.old.has_changed ≡ false)) }
     ensures records { IsRecorded Q.taken Q.has_failed recorder.old recorder.new desk.old desk.new }
 {
     if !recorder.has_changed {
         return;
     }
-    if keep == 0 {
+    let ahead = desk.keep_within(keep);
+    if ahead == 0 {
         return;
     }
-    let keep = u64::from(keep);
-    desk.forget(keep);
-    recorder.note(forgetting_record(alloc, keep));
+    recorder.note(forgetting_record(alloc, ahead));
 }
 
-/// Passes every finished job to the desk, answers a request, and then has the desk forget the
-/// reports of all but the last jobs. Records each change.
+/// Passes every finished job to the desk, answers a request, and then has the desk forget until
+/// what it keeps is within the limits. Records each change.
 pub fn answer_recorded<N: Runner, Q: RecordQueue>(
     alloc: Global,
     desk: &mut Desk,
     runner: &mut N,
     recorder: &mut ChangeRecorder<Q>,
-    keep: u32,
+    keep: KeepLimits,
     request: PreparedRequest,
 ) -> (Option<SubmitRefusal>, Result<PendingReply, NoMemory>)
     requires { N.ready runner.old }

@@ -1,10 +1,10 @@
-//! A desk that answers, keeps the reports of its last jobs alone, and records what changes it.
+//! A desk that answers, keeps reports within its limits, and records what changes it.
 
 use crate::record_queue::RecordQueue;
 use crate::recorded_answers::answer_recorded;
 use crate::recorder::ChangeRecorder;
 use crate::restarting::restart_jobs;
-use accounts::Desk;
+use accounts::{Desk, KeepLimits};
 use desk_journal::OpenJob;
 use refusal::NoMemory;
 use sessions::Request;
@@ -13,12 +13,12 @@ use streams::{
     Handler, PendingReply, PreparedRequest, Runner, SubmitRefusal, TellingHandler, written_frame,
 };
 
-/// Answers a request as the runner does, and then has the desk forget the reports of all but the
-/// last `keep` jobs; 0: it forgets none. Puts the record of each change of the desk into a queue.
+/// Answers a request as the runner does, and then has the desk forget until what it keeps is within
+/// the limits. Puts the record of each change of the desk into a queue.
 #[derive(Drop)]
 pub struct RecordingHandler<N, Q> {
     runner: N,
-    keep: u32,
+    keep: KeepLimits,
     recorder: ChangeRecorder<Q>,
 }
 
@@ -27,8 +27,8 @@ impl<N: Runner, Q: RecordQueue> RecordingHandler<N, Q> {
     ghost use Rattle.desk_recorder.specs.Recording.{IsRecorded};
     ghost use Rattle.desk_recorder.specs.Restarts.{StartsEach};
 
-    /// A runner, how many jobs' reports are kept, and the queue of the records.
-    pub fn new(runner: N, keep: u32, queue: Q) -> RecordingHandler<N, Q>
+    /// A runner, how many reports are kept, and the queue of the records.
+    pub fn new(runner: N, keep: KeepLimits, queue: Q) -> RecordingHandler<N, Q>
         ensures { (result.runner ≡ runner) × (result.keep ≡ keep)
             × (result.recorder.queue ≡ queue) × (result.recorder.is_stopped ≡ false) }
     {

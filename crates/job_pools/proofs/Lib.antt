@@ -5,3 +5,4 @@ pub mod TurnSteps
 pub mod TurnOrder
 pub mod TurnParts
 pub mod TurnSeats
+pub mod HeldByLine

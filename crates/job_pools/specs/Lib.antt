@@ -11,3 +11,4 @@ pub mod TurnHistories
 pub mod TurnRule
 pub mod LineLimiting
 pub mod LineBounded
+pub mod LineCounting

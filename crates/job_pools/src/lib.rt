@@ -50,10 +50,12 @@ pub use turn_seats::{QueueStep, TurnView};
 // bounds on the jobs that are held: of all, and of each line of numbers
 mod limited_runner;
 mod line_counts;
+mod line_laws;
 mod line_limited_runner;
 mod line_limits;
 
 pub use limited_runner::{CountedRunner, LimitedRunner};
 pub use line_counts::LineCounts;
+pub use line_laws::{counts_are_held, lines_stay_within_limits};
 pub use line_limited_runner::LineLimitedRunner;
 pub use line_limits::LineLimits;

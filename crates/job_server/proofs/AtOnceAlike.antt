@@ -2,6 +2,7 @@
 use Rattle.std.proofs.Common.{◌≡◌, ◌<◌, ◌≤◌, ◌-◌, ◌^◌, ℕ, Bool, false, List, length, min, Option, Result, Ok, Err, inl, inr, refl, sym, ap, ◌∙◌, arith}
 use Rattle.std.specs.Prelude.{OnOk, IfErr}
 use Rattle.sessions.specs.Grammar.{Asked}
+use Rattle.accounts.specs.declared.keep_limits.KeepLimits.{KeepLimits}
 use Rattle.accounts.specs.Ledgers.{Ledger}
 use Rattle.streams.specs.declared.fault.StreamFault.{StreamFault}
 use Rattle.shared_desk.specs.declared.closed.ClosedConnection.{ClosedConnection}
@@ -83,10 +84,10 @@ module _ {R Q : Type 0} (f : R → Q) where
 hosted_is : {R : Type 0} (f : R → Pool) (bounds : Bounds) (desk : Ledger) (h : KeepingHandler (LimitedRunner R)) (l : LimitedRunner R) (pool : R) → desk ≡ new_desk → h.runner ≡ l → h.keep ≡ bounds.keep → l.runner ≡ pool → l.limit ≡ bounds.open_jobs
     → (desk, keeping f h) ≡ new_host bounds (f pool)
 hosted_is {R} f bounds desk h l pool is_new is_limited kept is_pool is_limit =
-    let host : Ledger → Pool → ℕ → ℕ → Hosted = λ d p n k. (d, record { runner = record { runner = p; limit = n }; keep = k }) in
+    let host : Ledger → Pool → ℕ → KeepLimits → Hosted = λ d p n k. (d, record { runner = record { runner = p; limit = n }; keep = k }) in
     ap (λ (d : Ledger). host d (f h.runner.runner) h.runner.limit h.keep) is_new
     ∙ ap (λ (l1 : LimitedRunner R). host new_desk (f l1.runner) l1.limit h.keep) is_limited
-    ∙ ap (λ (k : ℕ). host new_desk (f l.runner) l.limit k) kept
+    ∙ ap (λ (k : KeepLimits). host new_desk (f l.runner) l.limit k) kept
     ∙ ap (λ (p : R). host new_desk (f p) l.limit bounds.keep) is_pool
     ∙ ap (λ (n : ℕ). host new_desk (f pool) n bounds.keep) is_limit
 

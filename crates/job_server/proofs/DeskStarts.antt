@@ -3,6 +3,7 @@ use Rattle.std.proofs.Common.{◌≡◌, ◌+◌, ℕ, Bool, cond, true, false, 
 use Rattle.std.proofs.lemmas.Slice.Eq.{bytes_eq-Decides}
 use Rattle.std.specs.Str.{bytes_eq}
 use Rattle.streams.specs.declared.fault.StreamFault.TheVariants.{NoMemory}
+use Rattle.accounts.specs.declared.keep_limits.KeepLimits.{KeepLimits}
 use Rattle.accounts.specs.Ledgers.{Ledger}
 use Rattle.shared_desk.specs.declared.passage.Passage.{Passage}
 use Rattle.shared_desk.specs.Histories.{Query, none_yet}
@@ -21,7 +22,7 @@ use Rattle.job_server.specs.AtOnce.{IsServingFrom, new_desk}
 use Rattle.job_server.specs.Listening.{AreOf, CameBy, nothing_yet}
 
 -- one desk
-pub desk_begins : {N : Type 0} (desk : Ledger) (handler kept : KeepingHandler N) (runner : N) (keep : ℕ) → desk ≡ new_desk → handler ≡ kept → kept.runner ≡ runner → kept.keep ≡ keep
+pub desk_begins : {N : Type 0} (desk : Ledger) (handler kept : KeepingHandler N) (runner : N) (keep : KeepLimits) → desk ≡ new_desk → handler ≡ kept → kept.runner ≡ runner → kept.keep ≡ keep
     → ◌≡◌ {A = Ledger × KeepingHandler N} (desk, handler) (new_desk, record { runner = runner; keep = keep })
 desk_begins {N} desk handler kept runner keep is_new same is_runner is_keep =
     let both : Ledger → KeepingHandler N → Ledger × KeepingHandler N = λ d h. (d, h) in

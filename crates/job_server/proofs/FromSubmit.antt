@@ -1,4 +1,5 @@
 -- A result comes from a submit before it, at a host whose jobs a pool holds.
+use Rattle.accounts.specs.declared.keep_limits.KeepLimits.{KeepLimits}
 use Rattle.std.proofs.Common.{◌≡◌, ◌+◌, ◌<◌, ◌^◌, ℕ, zero, suc, Bool, All, List, [], ◌∷◌, ◌++◌, length, slice_get, Some, None, Result, Ok, refl, sym, ap, subst, ◌∙◌, ◌⊎◌, inl, inr, ◌-◌, arith}
 use Rattle.std.proofs.lemmas.Option.{slice_get_within, get_or_from_slice_get}
 use Rattle.serde_json.specs.Data.{Data}
@@ -72,10 +73,10 @@ no_result e code f tells =
     let clash : 98 ≡ 99 = sym (ap third f.frame ∙ third_of_result f.buffer f.returned f.spent f.tasks) ∙ ap third tells ∙ third_of_refused code None None in
     absurd (omega (arith, clash))
 
-by_result : (keep : ℕ) (before : List HistoryEntry) (number : ℕ) (e : HistoryEntry) (jobs : List AdmittedJob) → AreTaken before jobs → IsResultFrame e.reply → (told : Data) → IsResultOf keep jobs number told → HasReply e told → ComesFromSubmit before number e
+by_result : (keep : KeepLimits) (before : List HistoryEntry) (number : ℕ) (e : HistoryEntry) (jobs : List AdmittedJob) → AreTaken before jobs → IsResultFrame e.reply → (told : Data) → IsResultOf keep jobs number told → HasReply e told → ComesFromSubmit before number e
 by_result keep before number e jobs taken f _ (failed job code at fails) tells = absurd (no_result e code f tells)
 by_result keep before number e jobs taken f _ (not_over job at) tells = absurd (no_result e 77 f tells)
-by_result keep before number e jobs taken f _ (forgotten job at some later) tells = absurd (no_result e 76 f tells)
+by_result keep before number e jobs taken f _ (forgotten job at may) tells = absurd (no_result e 76 f tells)
 by_result keep before number e jobs taken f _ (unknown at) tells = absurd (no_result e 76 f tells)
 by_result keep before number e jobs taken f _ (reported job report at run) tells =
     let there = place_of before jobs number job taken at in
@@ -91,7 +92,7 @@ by_result keep before number e jobs taken f _ (reported job report at run) tells
       tells = tells;
     }
 
-pub comes_from_submit : (keep : ℕ) (before : List HistoryEntry) (number : ℕ) (e : HistoryEntry) → IsToldResult keep before number e → IsResultFrame e.reply → ComesFromSubmit before number e
+pub comes_from_submit : (keep : KeepLimits) (before : List HistoryEntry) (number : ℕ) (e : HistoryEntry) → IsToldResult keep before number e → IsResultFrame e.reply → ComesFromSubmit before number e
 comes_from_submit keep before number e t f = by_result keep before number e t.jobs t.taken f t.told t.is_result t.tells
 
 -- the report adds up to the credit that was asked

@@ -5,12 +5,13 @@ use Rattle.std.proofs.lemmas.Bool.Decides.{nat_tests}
 use Rattle.serde_json.specs.Data.{Data}
 use Rattle.credit_book.specs.declared.book.Report.{Report}
 use Rattle.credit_book.specs.declared.board.Progress.{Progress}
+use Rattle.accounts.specs.declared.keep_limits.KeepLimits.{KeepLimits}
 use Rattle.accounts.specs.declared.jobs.JobEntry.{JobEntry}
 use Rattle.accounts.specs.declared.jobs.JobStanding.{JobStanding}
 use Rattle.accounts.specs.declared.jobs.JobStanding.TheVariants.{Open, Reported, Failed}
 use Rattle.job_core.specs.Admitted.{AdmittedJob}
 use Rattle.accounts.specs.Jobs.{report_of}
-use Rattle.accounts.specs.Ledgers.{Ledger, report_at, report_in, KeepsLast}
+use Rattle.accounts.specs.Ledgers.{Ledger, report_at, report_in, KeepsWithin}
 use Rattle.job_core.specs.declared.admission.ProgramBytes.{ProgramBytes}
 use Rattle.sessions.specs.Grammar.{Asked, grant, account, submit, status, result, program_asked}
 use Rattle.sessions.specs.Replies.{reply_data, frame_or_refusal, submit_data}
@@ -33,15 +34,15 @@ taken_is jobs number some =
     let apart : nat_eq number 0 ≡ false = grind (arith, nat_tests) in
     ap (λ (b : Bool). if◌then◌else◌ {A = Option AdmittedJob} b None (slice_get jobs (number - 1))) apart
 
-by_standing : (keep : ℕ) (jobs : List AdmittedJob) (number : ℕ) (held : Option AdmittedJob) (job : AdmittedJob) (credit : ℕ) (standing : JobStanding) → taken_at jobs number ≡ Some job
+by_standing : (keep : KeepLimits) (jobs : List AdmittedJob) (number : ℕ) (held : Option AdmittedJob) (job : AdmittedJob) (credit : ℕ) (standing : JobStanding) → taken_at jobs number ≡ Some job
     → StandsFor held keep (length jobs) number job credit standing → IsResultOf keep jobs number (report_told (report_of standing))
 by_standing keep jobs number held job credit Open at stands = not_over job at
 by_standing keep jobs number held job credit (Reported report) at stands = reported job report at stands
 by_standing keep jobs number held job credit (Failed code) at (inl fails) = failed job code at fails
 by_standing keep jobs number held job credit (Failed code) at (inr gone) =
-    subst (λ (c : ℕ). IsResultOf keep jobs number (refused c)) (sym gone.0) (forgotten job at gone.1 gone.2)
+    subst (λ (c : ℕ). IsResultOf keep jobs number (refused c)) (sym gone.0) (forgotten job at gone.1)
 
-by_entry : (keep : ℕ) (jobs : List AdmittedJob) (entries : List JobEntry) (held : ℕ → Option AdmittedJob) (number : ℕ) → 1 ≤ number → AllStand keep jobs entries held → (o : Option JobEntry)
+by_entry : (keep : KeepLimits) (jobs : List AdmittedJob) (entries : List JobEntry) (held : ℕ → Option AdmittedJob) (number : ℕ) → 1 ≤ number → AllStand keep jobs entries held → (o : Option JobEntry)
     → slice_get entries (number - 1) ≡ o → IsResultOf keep jobs number (report_told (report_in o))
 by_entry keep jobs entries held number some stand None at =
     unknown (taken_is jobs number some ∙ get_past jobs (number - 1) (past (cases_lt (number - 1) (length entries))))
@@ -59,7 +60,7 @@ by_entry keep jobs entries held number some stand (Some entry) at =
     job : (j : AdmittedJob) × (slice_get jobs (number - 1) ≡ Some j)
     job = let lt = within_get entries (number - 1) entry at in let count = stand.count in get_within jobs (number - 1) (omega (arith, lt, count))
 
-pub result_told : (keep : ℕ) (jobs : List AdmittedJob) (desk : Ledger) (held : ℕ → Option AdmittedJob) (number : ℕ) → AllStand keep jobs desk.jobs held → IsResultOf keep jobs number (report_told (report_at desk number))
+pub result_told : (keep : KeepLimits) (jobs : List AdmittedJob) (desk : Ledger) (held : ℕ → Option AdmittedJob) (number : ℕ) → AllStand keep jobs desk.jobs held → IsResultOf keep jobs number (report_told (report_at desk number))
 unfolding report_at
 result_told keep jobs desk held zero stand = unknown refl
 result_told keep jobs desk held (suc n) stand =
@@ -80,7 +81,7 @@ pub record HoldsJobs {R : Type 0} (starts : R → ℕ → AdmittedJob → Result
 module _ {R : Type 0} (starts : R → ℕ → AdmittedJob → Result (Unit {0}) ℕ → R → Type 0) (looks : R → ℕ → Progress → R → Type 0) (takes : R → Option (ℕ × Result Report ℕ) → R → Type 0)
     (held : R → ℕ → Option AdmittedJob) (holds : HoldsJobs starts looks takes held) where
   -- finished jobs are passed to the desk
-  after_taken : (keep : ℕ) (jobs : List AdmittedJob) (d : Ledger) (r : R) (e : Ledger) (s : R) → AllStand keep jobs d.jobs (held r) → Taken takes d r e s → AllStand keep jobs e.jobs (held s)
+  after_taken : (keep : KeepLimits) (jobs : List AdmittedJob) (d : Ledger) (r : R) (e : Ledger) (s : R) → AllStand keep jobs d.jobs (held r) → Taken takes d r e s → AllStand keep jobs e.jobs (held s)
   after_taken keep jobs d r e s stand none_taken = stand
   after_taken keep jobs d r e s stand (one_taken d1 r1 number outcome s1 e1 before step notes) =
       let t = holds.taken r1 number outcome s1 step in
@@ -90,21 +91,21 @@ module _ {R : Type 0} (starts : R → ℕ → AdmittedJob → Result (Unit {0}) 
       same_job : (a b : AdmittedJob) → Some a ≡ Some b → a ≡ b
       same_job a b same = cc
 
-  after_passes : (keep : ℕ) (jobs : List AdmittedJob) (d : Ledger) (r : R) (e : Ledger) (s : R) → AllStand keep jobs d.jobs (held r) → Passes takes d r e s → AllStand keep jobs e.jobs (held s)
+  after_passes : (keep : KeepLimits) (jobs : List AdmittedJob) (d : Ledger) (r : R) (e : Ledger) (s : R) → AllStand keep jobs d.jobs (held r) → Passes takes d r e s → AllStand keep jobs e.jobs (held s)
   after_passes keep jobs d r e s stand p = all_stand keep jobs e.jobs (held p.last) (held s) (holds.none p.last s p.none_left) (after_taken keep jobs d r e p.last stand p.taken)
 
   -- ---- one request
 
   -- the history before, the jobs that were taken in it, and the desk and the runner after it
-  abbrev Stands : ℕ → List HistoryEntry → Ledger → R → Type 0
+  abbrev Stands : KeepLimits → List HistoryEntry → Ledger → R → Type 0
   Stands keep history d r = (jobs : List AdmittedJob) × AreTaken history jobs × AllStand keep jobs d.jobs (held r)
 
-  same_desk : (keep : ℕ) (history : List HistoryEntry) (d : Ledger) (r : R) (e : HistoryEntry) (a : Ledger) (s : R) → (jobs : List AdmittedJob) → AreTaken history jobs → AllStand keep jobs d.jobs (held r)
+  same_desk : (keep : KeepLimits) (history : List HistoryEntry) (d : Ledger) (r : R) (e : HistoryEntry) (a : Ledger) (s : R) → (jobs : List AdmittedJob) → AreTaken history jobs → AllStand keep jobs d.jobs (held r)
       → TakesNoJob e → a.jobs ≡ d.jobs → ((m : ℕ) → held s m ≡ held r m) → Stands keep (history ++ e ∷ []) a s
   same_desk keep history d r e a s jobs taken stand no_job same held_same =
       (jobs, no_more history jobs e taken no_job, subst (λ es. AllStand keep jobs es (held s)) (sym same) (all_stand keep jobs d.jobs (held r) (held s) held_same stand))
 
-  after_submit : (keep : ℕ) (history : List HistoryEntry) (d : Ledger) (r : R) (e : HistoryEntry) (a : Ledger) (s : R) → (jobs : List AdmittedJob) → AreTaken history jobs → AllStand keep jobs d.jobs (held r)
+  after_submit : (keep : KeepLimits) (history : List HistoryEntry) (d : Ledger) (r : R) (e : HistoryEntry) (a : Ledger) (s : R) → (jobs : List AdmittedJob) → AreTaken history jobs → AllStand keep jobs d.jobs (held r)
       → (name : List ℕ) (programs : List ProgramBytes) (credit : ℕ) (buffer : List ℕ) (told : Data) → e.query.asked ≡ Ok (submit name (record { programs = map program_asked programs; credit = credit; buffer = buffer })) → HasReply e told
       → Submits starts d r name programs credit buffer told a s → Stands keep (history ++ e ∷ []) a s
   after_submit keep history d r e a s jobs taken stand name programs credit buffer told asks tells (inr n) =
@@ -166,7 +167,7 @@ module _ {R : Type 0} (starts : R → ℕ → AdmittedJob → Result (Unit {0}) 
           (λ m apart. step.1 m ∙ sym (held_other m apart))
           (λ job is. by_code code step.0 job) settles
 
-  after_replies : (keep : ℕ) (history : List HistoryEntry) (d : Ledger) (r : R) (e : HistoryEntry) (a : Ledger) (s : R) → (jobs : List AdmittedJob) → AreTaken history jobs → AllStand keep jobs d.jobs (held r)
+  after_replies : (keep : KeepLimits) (history : List HistoryEntry) (d : Ledger) (r : R) (e : HistoryEntry) (a : Ledger) (s : R) → (jobs : List AdmittedJob) → AreTaken history jobs → AllStand keep jobs d.jobs (held r)
       → (query : Result Asked ℕ) (told : Data) → e.query.asked ≡ query → HasReply e told → Replies starts looks d r query told a s → Stands keep (history ++ e ∷ []) a s
   unfolding Replies
   after_replies keep history d r e a s jobs taken stand (Err code) told asks tells t =
@@ -187,7 +188,7 @@ module _ {R : Type 0} (starts : R → ℕ → AdmittedJob → Result (Unit {0}) 
   after_replies keep history d r e a s jobs taken stand (Ok (result number)) told asks tells t =
       same_desk keep history d r e a s jobs taken stand (inl (subst (λ q. AsksForJob q → ⊥) (sym asks) (λ h. h))) (ap (λ (l : Ledger). l.jobs) t.1) (λ m. ap (λ (x : R). held x m) t.2)
 
-  after_answer : (keep : ℕ) (history : List HistoryEntry) (x : Ledger × KeepingHandler R) (e : HistoryEntry) (y : Ledger × KeepingHandler R) → (x.1.keep ≡ keep) → Stands keep history x.0 x.1.runner
+  after_answer : (keep : KeepLimits) (history : List HistoryEntry) (x : Ledger × KeepingHandler R) (e : HistoryEntry) (y : Ledger × KeepingHandler R) → (x.1.keep ≡ keep) → Stands keep history x.0 x.1.runner
       → answers_keeping starts looks takes x e.query.asked e.reply y → (y.1.keep ≡ keep) × Stands keep (history ++ e ∷ []) y.0 y.1.runner
   after_answer keep history x e y keeps stands answers =
       let mid = answers.0.0 in
@@ -195,11 +196,11 @@ module _ {R : Type 0} (starts : R → ℕ → AdmittedJob → Result (Unit {0}) 
       let passed = after_passes keep stands.0 x.0 x.1.runner a.mid a.rest stands.2 a.passed in
       let done = after_replies keep history a.mid a.rest e mid y.1.runner stands.0 stands.1 passed e.query.asked (reply_data a.told) refl (a.frame ∙ is_framed a.told) a.replies in (
         answers.1 ∙ keeps,
-        (done.0, done.1, stand_kept keep done.0 mid y.0 (held y.1.runner) done.2 (subst (λ (k : ℕ). KeepsLast k mid y.0) keeps answers.0.2)),
+        (done.0, done.1, stand_kept keep done.0 mid y.0 (held y.1.runner) done.2 (subst (λ (k : KeepLimits). KeepsWithin k mid y.0) keeps answers.0.2)),
       )
 
   -- the result that is told after a history
-  tells_result : (keep : ℕ) (history : List HistoryEntry) (x : Ledger × KeepingHandler R) (e : HistoryEntry) (y : Ledger × KeepingHandler R) (number : ℕ) → Stands keep history x.0 x.1.runner
+  tells_result : (keep : KeepLimits) (history : List HistoryEntry) (x : Ledger × KeepingHandler R) (e : HistoryEntry) (y : Ledger × KeepingHandler R) (number : ℕ) → Stands keep history x.0 x.1.runner
       → answers_keeping starts looks takes x e.query.asked e.reply y → e.query.asked ≡ Ok (result number) → IsToldResult keep history number e
   tells_result keep history x e y number stands answers asks =
       let a = answers.0.1 in
@@ -215,7 +216,7 @@ module _ {R : Type 0} (starts : R → ℕ → AdmittedJob → Result (Unit {0}) 
 
   -- ---- whole histories
 
-  module _ (begins : Ledger × KeepingHandler R → Type 0) (keep : ℕ) (fresh : (x : Ledger × KeepingHandler R) → begins x → (x.0.jobs ≡ []) × (x.1.keep ≡ keep)) where
+  module _ (begins : Ledger × KeepingHandler R → Type 0) (keep : KeepLimits) (fresh : (x : Ledger × KeepingHandler R) → begins x → (x.0.jobs ≡ []) × (x.1.keep ≡ keep)) where
     pub history_stands : (history : List HistoryEntry) (x : Ledger × KeepingHandler R) → Replays (by_any_passage (answers_keeping starts looks takes)) begins history x → (x.1.keep ≡ keep) × Stands keep history x.0 x.1.runner
     history_stands history x (nothing_replayed y first) =
         ((fresh y first).1, ([], none_yet, subst (λ es. AllStand keep [] es (held y.1.runner)) (sym (fresh y first).0) (record { count = refl; each = λ i entry job at there. absurd (nothing_at i entry at) })))

@@ -1,67 +1,38 @@
 -- The last job of a desk that forgets.
 use Rattle.std.proofs.Common.{◌≡◌, ◌≤◌, ℕ, zero, suc, List, [], ◌∷◌, ◌++◌, append_assoc, length, length-append, replicate, refl, sym, ◌∙◌, ap, arith, inl, inr, Option, Some, None, Result, Ok, Err}
-use Rattle.std.proofs.lemmas.List.{length-replicate}
 use Rattle.refusal.specs.declared.NoMemory.{NoMemory}
+use Rattle.accounts.specs.declared.keep_limits.KeepLimits.{KeepLimits}
 use Rattle.accounts.specs.declared.jobs.JobEntry.{JobEntry}
 use Rattle.accounts.specs.declared.jobs.JobStanding.{JobStanding}
-use Rattle.accounts.specs.Forgetting.{ForgetsJobs}
-use Rattle.accounts.specs.Ledgers.{Ledger, KeepsLast}
+use Rattle.accounts.specs.Limits.{bytes_in}
+use Rattle.accounts.proofs.LastJob.{last_left}
+use Rattle.accounts.specs.Ledgers.{Ledger, KeepsWithin}
 use Rattle.sessions.specs.Grammar.{Asked, grant, account, submit, status, result}
 use Rattle.sessions.specs.Replies.{frame_or_refusal, submit_data}
 use Rattle.streams.specs.declared.submit_refusal.SubmitRefusal.{SubmitRefusal}
 use Rattle.streams.specs.declared.submit_refusal.SubmitRefusal.TheVariants.{NotTaken, NotStarted}
 use Rattle.streams.specs.Refusing.{LastStands, SaysRefusal, TellsRefusal}
 
--- what is behind the front of a list that has a last item ends with it too
-last_behind : {X : Type 0} (front rest before : List X) (x : X) → 1 ≤ length rest → front ++ rest ≡ before ++ x ∷ [] →
-    (between : List X) × (rest ≡ between ++ x ∷ [])
-last_behind [] rest before x some is = (before, is)
-last_behind (y ∷ front) rest [] x some is =
-    let short : front ++ rest ≡ [] = cc in
-    let long = length-append front rest in
-    let none = ap length short in
-    absurd (omega (arith, some, long, none))
-last_behind (y ∷ front) rest (z ∷ before) x some is =
-    let behind : front ++ rest ≡ before ++ x ∷ [] = cc in
-    last_behind front rest before x some behind
-
--- of at least one job that is kept the last one is as it was
-forgets_none_last : (old : List JobEntry) (keep : ℕ) (new : List JobEntry) → 1 ≤ keep → ForgetsJobs old keep new → (before : List JobEntry) (entry : JobEntry) →
-    old ≡ before ++ entry ∷ [] → ((front : List JobEntry) × (new ≡ front ++ entry ∷ [])) × (length new ≡ length old)
-forgets_none_last old keep new some forgets before entry is = elim forgets.least [
-  | inl enough ↦
-      let rest = last_behind forgets.front forgets.rest before entry (omega (arith, some, enough)) (sym forgets.was ∙ is) in
-      let gone = replicate (length forgets.front) forgets.gone in
-      let long = length-append gone forgets.rest in
-      let longer = length-append forgets.front forgets.rest in
-      let same = length-replicate (length forgets.front) forgets.gone in
-      let now = ap length forgets.is in
-      let was = ap length forgets.was in (
-        (gone ++ rest.0, forgets.is ∙ ap (λ (l : List JobEntry). gone ++ l) rest.1 ∙ sym (append_assoc gone rest.0 (entry ∷ []))),
-        omega (arith, long, longer, same, now, was),
-      )
-  | inr unchanged ↦ ((before, unchanged ∙ is), ap length unchanged)
-]
-
-keeps_last : (keep : ℕ) (old new : Ledger) (standing : JobStanding) → KeepsLast keep old new → LastStands old standing →
+-- a last job without a report is as it was
+keeps_last : (keep : KeepLimits) (old new : Ledger) (standing : JobStanding) → bytes_in standing ≡ 0 → KeepsWithin keep old new → LastStands old standing →
     LastStands new standing × (length new.jobs ≡ length old.jobs)
-keeps_last zero old new standing keeps last = rw (keeps.1 refl) (last, refl)
-keeps_last (suc keep) old new standing keeps last =
-    let kept = forgets_none_last old.jobs (suc keep) new.jobs (omega arith) (keeps.0 (omega arith)).jobs last.front last.entry last.last in
-    (record { front = kept.0.0; entry = last.entry; last = kept.0.1; stands = last.stands }, kept.1)
+keeps_last keep old new standing none keeps last =
+    let to = keeps.1 in
+    let kept = last_left keep old.jobs keeps.0 new.jobs to.forgets.jobs to.within last.front last.entry last.last (ap bytes_in last.stands ∙ none) in
+    (record { front = kept.0; entry = last.entry; last = kept.1; stands = last.stands }, to.forgets.jobs.count)
 
 -- what is told of a submit is so once the desk has forgotten
-says_kept : (keep : ℕ) (old new : Ledger) (refusal : Option SubmitRefusal) (reply : List ℕ) → KeepsLast keep old new → SaysRefusal old refusal reply →
+says_kept : (keep : KeepLimits) (old new : Ledger) (refusal : Option SubmitRefusal) (reply : List ℕ) → KeepsWithin keep old new → SaysRefusal old refusal reply →
     SaysRefusal new refusal reply
 says_kept keep old new None reply keeps says =
-    let kept = keeps_last keep old new _ keeps says.0 in
+    let kept = keeps_last keep old new _ refl keeps says.0 in
     (kept.0, says.1 ∙ ap (λ n. frame_or_refusal (submit_data n)) (sym kept.1))
 says_kept keep old new (Some (NotStarted number code)) reply keeps says =
-    let kept = keeps_last keep old new _ keeps says.0 in (kept.0, says.1 ∙ sym kept.1, says.2)
+    let kept = keeps_last keep old new _ refl keeps says.0 in (kept.0, says.1 ∙ sym kept.1, says.2)
 says_kept keep old new (Some (NotTaken code)) reply keeps says = says
 
-pub tells_kept : (keep : ℕ) (old new : Ledger) (asked : Result Asked ℕ) (refusal : Option SubmitRefusal) (reply : Result (List ℕ) NoMemory) →
-    KeepsLast keep old new → TellsRefusal old asked refusal reply → TellsRefusal new asked refusal reply
+pub tells_kept : (keep : KeepLimits) (old new : Ledger) (asked : Result Asked ℕ) (refusal : Option SubmitRefusal) (reply : Result (List ℕ) NoMemory) →
+    KeepsWithin keep old new → TellsRefusal old asked refusal reply → TellsRefusal new asked refusal reply
 tells_kept keep old new (Ok (submit name order)) refusal (Ok frame) keeps tells = says_kept keep old new refusal frame keeps tells
 tells_kept keep old new (Ok (submit name order)) refusal (Err e) keeps tells = tells
 tells_kept keep old new (Ok (grant name amount)) refusal reply keeps tells = tells

@@ -1,17 +1,21 @@
 -- A tenant's part of a history has entries of the whole, whose payloads went through connections.
 use Rattle.std.proofs.Common.{◌≡◌, ◌≤◌, ℕ, zero, suc, Bool, true, false, List, [], ◌∷◌, ◌++◌, length, map, slice_get, Option, Some, None, Result, Ok, refl, sym, ap, subst, ◌∙◌, arith}
 use Rattle.std.specs.Prelude.{string_bytes}
+use Rattle.sessions.specs.declared.door_forms.DoorForm.{DoorForm}
 use Rattle.std.proofs.lemmas.List.{length-map}
 use Rattle.sessions.specs.Grammar.{Asked, result}
-use Rattle.shared_desk.specs.Histories.{HistoryEntry, Replays, none_yet, one_more, put_if}
+use Rattle.shared_desk.specs.Histories.{HistoryEntry, Query, Replays, none_yet, one_more, put_if}
 use Rattle.shared_desk.specs.Closed.{AreClosed}
 use Rattle.shared_desk.specs.declared.door.Door.{Door}
 use Rattle.tenant_desks.specs.Alone.{IsTenantHistory, goes_to, sent_to}
 use Rattle.tenant_desks.specs.OwnNamed.{AreAskedByName, IsNamedEntry, IsOwnNamed, named, no_memory, no_request}
+use Rattle.tenant_desks.specs.AskedPlainly as plain
+use Rattle.tenant_desks.specs.AskedPlainly.{AreAskedPlainly, IsAskedAs, IsAskedBeyond}
+use Rattle.tenant_desks.proofs.ListedDesks.{asked_plainly}
 use Rattle.tenant_desks.proofs.NamedHistories.{own_names}
 use Rattle.accounts.specs.Ledgers.{Ledger}
 use Rattle.tenant_desks.specs.Answering.{KeptRunner}
-use Rattle.tenant_desks.specs.Tenancies.{AreFirstDesks, IsFirstDesk, fresh_desk}
+use Rattle.tenant_desks.specs.Tenancies.{AreFirstDesks, IsFirstDesk, Tenancy, fresh_desk}
 use Rattle.job_pools.specs.declared.limited_runner.LimitedRunner.{LimitedRunner}
 use Rattle.job_pools.specs.declared.line_limited_runner.LineLimitedRunner.{LineLimitedRunner}
 use Rattle.credit_book.specs.declared.book.Report.{Report}
@@ -31,7 +35,7 @@ use Rattle.job_server.specs.OwnPayloads.{ComesFromOwnPayload, IsHeardOf}
 use Rattle.job_server.specs.TenantResults.{IsTenantHostHistory}
 use Rattle.job_server.specs.TenantServing.{IsServingTenants, TenantHosted, door_credits, door_names, hosted_tenant_answers}
 use Rattle.job_server.proofs.FromSubmit.{each_served}
-use Rattle.job_server.proofs.ListEnds.{joined_again}
+use Rattle.job_server.proofs.ListEnds.{joined_again, last_of, last_same, none_pushed}
 use Rattle.job_server.proofs.OwnSubmits.{own_comes}
 use Rattle.job_server.proofs.WentOver.{IsIn, is_entry_of}
 
@@ -75,6 +79,32 @@ heard_of : (names : List (List ℕ)) (door : Door) (q r : Result Asked ℕ) (ask
 heard_of names door q r asks (no_request code) is = absurd cc
 heard_of names door q r asks (named a) is = (a, refl, subst (λ (x : Result Asked ℕ). IsOwnNamed names door (Ok a) x) is (named a))
 heard_of names door q r asks (no_memory a unnamed) is = absurd cc
+
+-- ---- an entry of what was asked plainly is one of the history
+
+pushed : (e x : HistoryEntry) (history : List HistoryEntry) → IsIn e history → IsIn e (history ++ x ∷ [])
+pushed e x history t = record {
+  before = t.before;
+  after = t.after ++ x ∷ [];
+  is = ap (λ l. l ++ x ∷ []) t.is ∙ joined_again t.before e t.after (x ∷ []);
+}
+
+plain_at : (begins : TenantHosted → Type 0) (history asked before after : List HistoryEntry) (g : HistoryEntry) (t : TenantHosted) → AreAskedPlainly (λ x. x.0) hosted_tenant_answers begins history asked t
+    → asked ≡ before ++ g ∷ after → (e : HistoryEntry) × IsIn e history × ((u : Tenancy) × IsAskedAs e g u)
+plain_at begins _ _ before after g t (plain.none_yet s start) is = absurd (none_pushed before after g is)
+plain_at begins _ _ before [] g t (plain.one_more history asked s e f u are answer told) is =
+    let same = last_same asked before f g is in
+    (e, record { before = history; after = []; is = refl }, (t.0, subst (λ (x : HistoryEntry). IsAskedAs e x t.0) same.1 told))
+plain_at begins _ _ before (a ∷ after) g t (plain.one_more history asked s e f u are answer told) is =
+    let parted = last_of a after in
+    let same = last_same asked (before ++ g ∷ parted.0) f parted.1 (is ∙ ap (λ l. before ++ g ∷ l) parted.2 ∙ sym (joined_again before g parted.0 (parted.1 ∷ []))) in
+    let r = plain_at begins history asked before parted.0 g s are same.0 in
+    (r.0, pushed r.0 e history r.1, r.2)
+
+-- a request of the plain protocol is the very entry
+plain_same : (beyond : Option DoorForm) (e f : HistoryEntry) (t : Tenancy) (asks : Asked) → IsAskedBeyond beyond e f t → f.query.asked ≡ Ok asks → f ≡ e
+plain_same None e f t asks is own = is
+plain_same (Some form) e f t asks is own = absurd (let clash = sym own ∙ ap (λ (q : Query). q.asked) is.1 in cc)
 
 -- ---- the desks that a server begins with
 
@@ -138,9 +168,13 @@ module _ (doors : List TenantDoor) (bounds : Bounds) (sessions : ℕ) (may_stop 
   abbrev line_takes : LineLimitedRunner (LimitedRunner Pool) → Option (ℕ × Result Report ℕ) → LineLimitedRunner (LimitedRunner Pool) → Type 0
   line_takes = takes_by_line (takes_within (TakesBy pooled_at pooled_count))
 
+  -- what was asked plainly
+  abbrev asked_of_doors : (plain : List HistoryEntry) × AreAskedPlainly (λ x. x.0) hosted_tenant_answers (λ y. y ≡ s.begun) s.serving.history plain s.end × Replays hosted_tenant_answers (λ y. y ≡ s.begun) plain s.end
+  asked_of_doors = asked_plainly (λ x. x.0) hosted_tenant_answers (λ y. y ≡ s.begun) s.serving.history s.end s.serving.legal
+
   -- what the desks were asked
-  abbrev asked_of_desks : (asked : List HistoryEntry) × AreAskedByName (door_names doors) s.serving.history asked × IsTenantHistory line_starts line_looks line_takes (door_names doors) firsts bounds.keep asked s.end
-  asked_of_desks = own_names line_starts line_looks line_takes (door_names doors) firsts bounds.keep s.serving.history s.end (begun s.serving.history s.end s.serving.legal)
+  abbrev asked_of_desks : (asked : List HistoryEntry) × AreAskedByName (door_names doors) asked_of_doors.0 asked × IsTenantHistory line_starts line_looks line_takes (door_names doors) firsts bounds.keep asked s.end
+  asked_of_desks = own_names line_starts line_looks line_takes (door_names doors) firsts bounds.keep asked_of_doors.0 s.end (begun asked_of_doors.0 s.end asked_of_doors.2)
 
   abbrev asked : List HistoryEntry
   asked = asked_of_desks.0
@@ -161,9 +195,11 @@ module _ (doors : List TenantDoor) (bounds : Bounds) (sessions : ℕ) (may_stop 
 
   heard_entry : (f : HistoryEntry) (asks : Asked) → IsIn f asked → f.query.asked ≡ Ok asks → IsHeardOf (door_names doors) s.serving.closed f asks
   heard_entry f asks t own =
-      let n = named_at (door_names doors) s.serving.history asked f asked_of_desks.1 t in
+      let n = named_at (door_names doors) asked_of_doors.0 asked f asked_of_desks.1 t in
       let h = heard_of (door_names doors) n.0.query.passage.door n.0.query.asked f.query.asked asks n.2.asked own in
-      record { entry = n.0; same = n.2; heard = h.0; by_name = h.2; went = entry_of n.0 h.0 n.1 h.1 }
+      let p = plain_at (λ y. y ≡ s.begun) s.serving.history asked_of_doors.0 n.1.before n.1.after n.0 s.end asked_of_doors.1 n.1.is in
+      let same = plain_same p.0.query.beyond p.0 n.0 p.2.0 h.0 p.2.1 h.1 in
+      record { entry = n.0; same = n.2; heard = h.0; by_name = h.2; went = entry_of n.0 h.0 (subst (λ (x : HistoryEntry). IsIn x s.serving.history) (sym same) p.1) h.1 }
 
   own_payload : (place : ℕ) (before after : List HistoryEntry) (e : HistoryEntry) (number : ℕ) → length doors ≤ 256 → place ≤ length doors → sent_to (door_names doors) place asked ≡ before ++ e ∷ after
       → e.query.asked ≡ Ok (result number) → IsResultFrame e.reply → ComesFromOwnPayload (door_names doors) s.serving.closed before number e
@@ -178,7 +214,8 @@ module _ (doors : List TenantDoor) (bounds : Bounds) (sessions : ℕ) (may_stop 
       comes : ComesFromSubmit before number e
       comes = own_comes bounds.keep place (door_names doors) asked (host few) (omega (arith, there, length-map doors (λ (d : TenantDoor). string_bytes d.name))) before after e number is asks f
 
-  pub own_payloads : length doors ≤ 256 → (asked : List HistoryEntry) × AreAskedByName (door_names doors) s.serving.history asked
+  pub own_payloads : length doors ≤ 256 → (plain asked : List HistoryEntry) × AreAskedPlainly (λ x. x.0) hosted_tenant_answers (λ y. y ≡ s.begun) s.serving.history plain s.end
+      × AreAskedByName (door_names doors) plain asked
       × ((place : ℕ) (before after : List HistoryEntry) (e : HistoryEntry) (number : ℕ) → place ≤ length doors → sent_to (door_names doors) place asked ≡ before ++ e ∷ after
       → e.query.asked ≡ Ok (result number) → IsResultFrame e.reply → ComesFromOwnPayload (door_names doors) s.serving.closed before number e)
-  own_payloads few = (asked, asked_of_desks.1, λ place before after e number there. own_payload place before after e number few there)
+  own_payloads few = (asked_of_doors.0, asked, asked_of_doors.1, asked_of_desks.1, λ place before after e number there. own_payload place before after e number few there)

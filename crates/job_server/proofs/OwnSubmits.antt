@@ -3,6 +3,7 @@ use Rattle.std.proofs.Common.{◌≡◌, ◌≤◌, ◌<◌, ◌-◌, ◌^◌, �
 use Rattle.credit_book.specs.declared.book.Report.{Report}
 use Rattle.credit_book.specs.declared.board.Progress.{Progress}
 use Rattle.job_core.specs.Admitted.{AdmittedJob}
+use Rattle.accounts.specs.declared.keep_limits.KeepLimits.{KeepLimits}
 use Rattle.accounts.specs.Ledgers.{Ledger}
 use Rattle.sessions.specs.Grammar.{result}
 use Rattle.sessions.specs.Replies.{submit_data}
@@ -32,17 +33,17 @@ use Rattle.job_server.proofs.StaysOver.{results_stay}
 
 -- ---- a plain desk that forgets, as a desk and a handler that keeps the last jobs
 
-abbrev Begins : {R : Type 0} → Ledger → ℕ → Ledger × KeepingHandler R → Type 0
+abbrev Begins : {R : Type 0} → Ledger → KeepLimits → Ledger × KeepingHandler R → Type 0
 Begins begun keep x = (x.0 ≡ begun) × (x.1.keep ≡ keep)
 
-module _ {R : Type 0} (starts : R → ℕ → AdmittedJob → Result (Unit {0}) ℕ → R → Type 0) (looks : R → ℕ → Progress → R → Type 0) (takes : R → Option (ℕ × Result Report ℕ) → R → Type 0) (place : ℕ) (begun : Ledger) (keep : ℕ) where
+module _ {R : Type 0} (starts : R → ℕ → AdmittedJob → Result (Unit {0}) ℕ → R → Type 0) (looks : R → ℕ → Progress → R → Type 0) (takes : R → Option (ℕ × Result Report ℕ) → R → Type 0) (place : ℕ) (begun : Ledger) (keep : KeepLimits) where
   as_kept : (history : List HistoryEntry) (s : Ledger × R) → Replays (answers_seen starts looks takes place keep) (λ x. x.0 ≡ begun) history s
       → Replays (by_any_passage (answers_keeping (starts_seen starts looks takes place) (looks_seen starts looks takes place) (takes_seen starts looks takes place))) (Begins begun keep) history (s.0, record { runner = s.1; keep = keep })
   as_kept history s (none_yet t begins) = none_yet (s.0, record { runner = s.1; keep = keep }) (begins, refl)
   as_kept history s (one_more h t e u before answered) =
       one_more h (t.0, record { runner = t.1; keep = keep }) e (s.0, record { runner = s.1; keep = keep }) (as_kept h t before) ((answered.0, answered.1, answered.2), refl)
 
-jobless_begins : {R : Type 0} (begun : Ledger) (keep : ℕ) → begun.jobs ≡ [] → (x : Ledger × KeepingHandler R) → Begins begun keep x → (x.0.jobs ≡ []) × (x.1.keep ≡ keep)
+jobless_begins : {R : Type 0} (begun : Ledger) (keep : KeepLimits) → begun.jobs ≡ [] → (x : Ledger × KeepingHandler R) → Begins begun keep x → (x.0.jobs ≡ []) × (x.1.keep ≡ keep)
 jobless_begins begun keep none x begins = (ap (λ (d : Ledger). d.jobs) begins.0 ∙ none, begins.1)
 
 at_place : (xs : List Ledger) (i : ℕ) → i < length xs → (x : Ledger) × (slice_get xs i ≡ Some x)
@@ -74,13 +75,13 @@ holds_by =
     (job_held pooled_at pooled_count) (limited_holds pooled_at pooled_count)
 
 -- a tenant's part is legal
-part : (keep place : ℕ) (names : List (List ℕ)) (history : List HistoryEntry) (h : IsTenantHostHistory keep names history) (begun : Ledger) → slice_get h.firsts place ≡ Some begun
+part : (keep : KeepLimits) (place : ℕ) (names : List (List ℕ)) (history : List HistoryEntry) (h : IsTenantHostHistory keep names history) (begun : Ledger) → slice_get h.firsts place ≡ Some begun
     → (s : Ledger × Runner) × Replays (answers_seen starts_by looks_by takes_by place keep) (λ x. x.0 ≡ begun) (sent_to names place history) s
 part keep place names history h begun at =
     let few = h.few in let many = h.as_many in
     plain_part starts_by looks_by takes_by place h.firsts begun names keep history h.end (omega (arith, few, many)) at h.legal
 
-module _ (keep place : ℕ) (names : List (List ℕ)) (history : List HistoryEntry) (h : IsTenantHostHistory keep names history) (there : place ≤ length names) where
+module _ (keep : KeepLimits) (place : ℕ) (names : List (List ℕ)) (history : List HistoryEntry) (h : IsTenantHostHistory keep names history) (there : place ≤ length names) where
   -- the desk that the tenant begins with
   abbrev own : (d : Ledger) × (slice_get h.firsts place ≡ Some d)
   own = let many = h.as_many in at_place h.firsts place (omega (arith, there, many))

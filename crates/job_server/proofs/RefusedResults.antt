@@ -1,4 +1,5 @@
 -- A refusal that a request for a result is told has its cause, by its bytes.
+use Rattle.accounts.specs.declared.keep_limits.KeepLimits.{KeepLimits}
 use Rattle.std.proofs.Common.{◌≡◌, ◌+◌, ◌<◌, ◌≤◌, ◌^◌, ◌⊎◌, ℕ, Bool, true, List, ◌++◌, length, drop, nat_le, if◌then◌else◌, codes, decimal, None, refl, sym, ap, subst, ◌∙◌, inl, inr, arith, length-append}
 use Rattle.std.proofs.lemmas.Bool.Decides.{nat_tests}
 use Rattle.std.proofs.lemmas.List.{append_cancel_right}
@@ -55,7 +56,7 @@ fails_small number job code (inr (inr ends)) = let small = pool_code ends.0 in l
 
 -- ---- the refusal is one of those that a result may be
 
-module _ (keep : ℕ) (jobs : List AdmittedJob) (number code : ℕ) (small : code < 2 ^ 64) where
+module _ (keep : KeepLimits) (jobs : List AdmittedJob) (number code : ℕ) (small : code < 2 ^ 64) where
   as_told : (m : ℕ) → m < 2 ^ 64 → IsResultOf keep jobs number (refused m) → frame_or_refusal (refused m) ≡ frame_or_refusal (refused code) → IsResultOf keep jobs number (refused code) ⊎ (code ≡ 65)
   as_told m small_m is same = inl (subst (λ (n : ℕ). IsResultOf keep jobs number (refused n)) (same_code m code small_m small same) is)
 
@@ -69,9 +70,9 @@ module _ (keep : ℕ) (jobs : List AdmittedJob) (number code : ℕ) (small : cod
   by_result : (told : Data) → IsResultOf keep jobs number told → frame_or_refusal told ≡ frame_or_refusal (refused code) → IsResultOf keep jobs number (refused code) ⊎ (code ≡ 65)
   by_result _ (failed job c at fails) same = as_told c (fails_small number job c fails) (failed job c at fails) same
   by_result _ (not_over job at) same = as_told 77 (omega arith) (not_over job at) same
-  by_result _ (forgotten job at some later) same = as_told 76 (omega arith) (forgotten job at some later) same
+  by_result _ (forgotten job at may) same = as_told 76 (omega arith) (forgotten job at may) same
   by_result _ (unknown at) same = as_told 76 (omega arith) (unknown at) same
   by_result _ (reported job report at run) same = inr (too_long (report_data report) (third_of_result report.buffer.items report.returned report.spent report.tasks.items) same)
 
-pub told_refusal : (keep : ℕ) (before : List HistoryEntry) (number : ℕ) (e : HistoryEntry) (code : ℕ) → IsToldResult keep before number e → HasReply e (refused code) → code < 2 ^ 64 → IsToldRefusal keep before number code
+pub told_refusal : (keep : KeepLimits) (before : List HistoryEntry) (number : ℕ) (e : HistoryEntry) (code : ℕ) → IsToldResult keep before number e → HasReply e (refused code) → code < 2 ^ 64 → IsToldRefusal keep before number code
 told_refusal keep before number e code t tells small = record { jobs = t.jobs; taken = t.taken; is_result = by_result keep t.jobs number code small t.told t.is_result (sym t.tells ∙ tells) }

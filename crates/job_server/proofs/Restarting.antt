@@ -1,5 +1,6 @@
 -- What a server with a journal begins with.
 use Rattle.std.proofs.Common.{◌≡◌, ℕ, false, List, [], Result, ap, ◌∙◌, subst}
+use Rattle.accounts.specs.declared.keep_limits.KeepLimits.{KeepLimits}
 use Rattle.accounts.specs.Ledgers.{Ledger}
 use Rattle.job_core.specs.Admitted.{AdmittedJob}
 use Rattle.desk_journal.specs.DeskSteps.{DeskState}
@@ -10,7 +11,7 @@ use Rattle.desk_recorder.specs.declared.recording_handler.RecordingHandler.{Reco
 use Rattle.job_server.specs.Recorded.{IsRestarted}
 
 -- a recovered desk, whose open jobs a new handler has started again
-pub restarted_as : {R Q : Type 0} (starts : R → ℕ → AdmittedJob → Result (Unit {0}) ℕ → R → Type 0) (taken : Q → List ℕ) (failed : Q → Type 0) (state : DeskState) (runner : R) (keep : ℕ) (desk : Ledger) (jobs : List OpenJob) (handler : RecordingHandler R Q) (queue : Q)
+pub restarted_as : {R Q : Type 0} (starts : R → ℕ → AdmittedJob → Result (Unit {0}) ℕ → R → Type 0) (taken : Q → List ℕ) (failed : Q → Type 0) (state : DeskState) (runner : R) (keep : KeepLimits) (desk : Ledger) (jobs : List OpenJob) (handler : RecordingHandler R Q) (queue : Q)
     (after : Ledger) (left : RecordingHandler R Q) → desk ≡ state.desk → jobs ≡ state.held → handler.runner ≡ runner → handler.keep ≡ keep → handler.recorder.queue ≡ queue → handler.recorder.is_stopped ≡ false → taken queue ≡ []
     → StartsEach starts desk handler.runner jobs after left.runner → IsRecorded taken failed handler.recorder left.recorder desk after → left.keep ≡ handler.keep → IsRestarted starts taken failed state runner keep (after, left)
 restarted_as {R} {Q} starts taken failed state runner keep desk jobs handler queue after left is_desk are_held is_runner is_keep is_queue goes_on none started recorded kept = record {

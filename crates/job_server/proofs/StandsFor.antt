@@ -1,42 +1,52 @@
 -- The jobs of a desk stand for those that were taken, which a runner holds until they are over.
-use Rattle.std.proofs.Common.{◌≡◌, ◌≢◌, ◌⊎◌, ◌+◌, ◌-◌, ◌<◌, ◌≤◌, ℕ, zero, suc, Bool, true, false, List, [], ◌∷◌, ◌++◌, length, replicate, slice_get, slice_set, nat_eq, if◌then◌else◌, Option, Some, None, Result, Ok, Err, refl, sym, ap, subst, ◌∙◌, inl, inr, arith}
+use Rattle.std.proofs.Common.{◌≡◌, ◌≢◌, ◌⊎◌, ◌+◌, ◌-◌, ◌<◌, ◌≤◌, ℕ, zero, suc, Bool, true, false, List, [], ◌∷◌, ◌++◌, length, slice_get, slice_set, nat_eq, if◌then◌else◌, Option, Some, None, Result, Ok, Err, refl, sym, ap, subst, ◌∙◌, inl, inr, arith}
+use Rattle.std.proofs.lemmas.Bool.{cases_lt}
 use Rattle.std.proofs.lemmas.Bool.Decides.{nat_tests}
+use Rattle.std.proofs.lemmas.Option.{slice_get_within}
 use Rattle.credit_book.specs.declared.book.Report.{Report}
+use Rattle.accounts.specs.declared.keep_limits.KeepLimits.{KeepLimits}
 use Rattle.accounts.specs.declared.jobs.JobEntry.{JobEntry}
 use Rattle.accounts.specs.declared.jobs.JobStanding.{JobStanding}
 use Rattle.accounts.specs.declared.jobs.JobStanding.TheVariants.{Open, Reported, Failed}
 use Rattle.job_core.specs.Admitted.{AdmittedJob}
 use Rattle.accounts.specs.Jobs.{job_at, settled}
-use Rattle.accounts.specs.Ledgers.{Ledger, Finishes, KeepsLast}
-use Rattle.accounts.specs.Forgetting.{ForgetsJobs}
+use Rattle.accounts.specs.Ledgers.{Ledger, Finishes, KeepsWithin}
+use Rattle.accounts.specs.Forgetting.{ForgetsJobs, IsGone, IsJobOver}
+use Rattle.accounts.specs.Limits.{Exceeds, IsNeeded, IsKeptWithin, bytes_held, bytes_in}
+use Rattle.accounts.proofs.Forgets.{each_left}
+use Rattle.accounts.proofs.Listed.{get_within, same_some}
 use Rattle.streams.specs.Passing.{Notes}
 use Rattle.job_pools.specs.Endings.{IsRun, IsEndOf}
-use Rattle.job_server.specs.EndToEnd.{FailsBy}
-use Rattle.job_server.proofs.ListEnds.{get_pushed, length_pushed, get_set, length_set, get_joined, get_behind, get_same, length_same, length_joined, within_get}
+use Rattle.job_server.specs.EndToEnd.{FailsBy, MayBeForgotten}
+use Rattle.job_server.proofs.ListEnds.{get_pushed, length_pushed, get_set, length_set, within_get}
 
 -- The standing of a job of this credit says what became of the job that was taken under the number.
-abbrev pub StandsFor : Option AdmittedJob → ℕ → ℕ → ℕ → AdmittedJob → ℕ → JobStanding → Type 0
+abbrev pub StandsFor : Option AdmittedJob → KeepLimits → ℕ → ℕ → AdmittedJob → ℕ → JobStanding → Type 0
 StandsFor held keep count number job credit Open = (held ≡ Some job) × (credit ≡ job.credit)
 StandsFor held keep count number job credit (Reported report) = IsRun number job report
 StandsFor held keep count number job credit (Failed code) =
-    FailsBy number job code ⊎ ((code ≡ 76) × (1 ≤ keep) × (number + keep ≤ count))
+    FailsBy number job code ⊎ ((code ≡ 76) × MayBeForgotten keep number count)
+
+forgotten_more : (keep : KeepLimits) (number c d : ℕ) → c ≤ d → MayBeForgotten keep number c → MayBeForgotten keep number d
+forgotten_more keep number c d le (inl jobs) = let some = jobs.0 in let ahead = jobs.1 in inl (some, omega (arith, le, ahead))
+forgotten_more keep number c d le (inr bytes) = inr bytes
 
 -- Each entry of a desk stands for the job that was taken at its place.
-pub record AllStand (keep : ℕ) (jobs : List AdmittedJob) (entries : List JobEntry) (held : ℕ → Option AdmittedJob) : Type 0 where
+pub record AllStand (keep : KeepLimits) (jobs : List AdmittedJob) (entries : List JobEntry) (held : ℕ → Option AdmittedJob) : Type 0 where
   pub count : length entries ≡ length jobs
   pub each : (i : ℕ) (entry : JobEntry) (job : AdmittedJob) → slice_get entries i ≡ Some entry → slice_get jobs i ≡ Some job
       → StandsFor (held (i + 1)) keep (length jobs) (i + 1) job entry.credit entry.standing
 
 -- ---- more is known, or more jobs were taken since
 
-stands_more : (a b : Option AdmittedJob) (keep c d number : ℕ) (job : AdmittedJob) (credit : ℕ) (standing : JobStanding) → (standing ≡ Open → b ≡ a) → c ≤ d
+stands_more : (a b : Option AdmittedJob) (keep : KeepLimits) (c d number : ℕ) (job : AdmittedJob) (credit : ℕ) (standing : JobStanding) → (standing ≡ Open → b ≡ a) → c ≤ d
     → StandsFor a keep c number job credit standing → StandsFor b keep d number job credit standing
 stands_more a b keep c d number job credit Open same le was = (same refl ∙ was.0, was.1)
 stands_more a b keep c d number job credit (Reported report) same le was = was
 stands_more a b keep c d number job credit (Failed code) same le (inl fails) = inl fails
-stands_more a b keep c d number job credit (Failed code) same le (inr gone) = inr (gone.0, gone.1, let at = gone.2 in omega (arith, le, at))
+stands_more a b keep c d number job credit (Failed code) same le (inr gone) = inr (gone.0, forgotten_more keep number c d le gone.1)
 
-pub all_stand : (keep : ℕ) (jobs : List AdmittedJob) (entries : List JobEntry) (a b : ℕ → Option AdmittedJob) → ((n : ℕ) → b n ≡ a n) → AllStand keep jobs entries a → AllStand keep jobs entries b
+pub all_stand : (keep : KeepLimits) (jobs : List AdmittedJob) (entries : List JobEntry) (a b : ℕ → Option AdmittedJob) → ((n : ℕ) → b n ≡ a n) → AllStand keep jobs entries a → AllStand keep jobs entries b
 all_stand keep jobs entries a b same was = record {
   count = was.count;
   each = λ i entry job at there. stands_more (a (i + 1)) (b (i + 1)) keep (length jobs) (length jobs) (i + 1) job entry.credit entry.standing (λ opened. same (i + 1)) (omega arith) (was.each i entry job at there);
@@ -44,7 +54,7 @@ all_stand keep jobs entries a b same was = record {
 
 -- ---- a job is taken, and held
 
-pub stand_taken : (keep : ℕ) (jobs : List AdmittedJob) (entries : List JobEntry) (a b : ℕ → Option AdmittedJob) (job : AdmittedJob) (entry : JobEntry)
+pub stand_taken : (keep : KeepLimits) (jobs : List AdmittedJob) (entries : List JobEntry) (a b : ℕ → Option AdmittedJob) (job : AdmittedJob) (entry : JobEntry)
     → AllStand keep jobs entries a → StandsFor (b (length jobs + 1)) keep (length jobs + 1) (length jobs + 1) job entry.credit entry.standing → ((n : ℕ) → n ≢ length jobs + 1 → b n ≡ a n)
     → AllStand keep (jobs ++ job ∷ []) (entries ++ entry ∷ []) b
 stand_taken keep jobs entries a b job entry was fresh others = record {
@@ -87,7 +97,7 @@ ended_by number job (Ok report) ends = ends
 ended_by number job (Err code) ends = inr (inr ends)
 
 -- its standing then
-stands_settled : (held : Option AdmittedJob) (keep count number : ℕ) (job : AdmittedJob) (credit : ℕ) (outcome : Result Report ℕ) → credit ≡ job.credit → Ended number job outcome
+stands_settled : (held : Option AdmittedJob) (keep : KeepLimits) (count number : ℕ) (job : AdmittedJob) (credit : ℕ) (outcome : Result Report ℕ) → credit ≡ job.credit → Ended number job outcome
     → StandsFor held keep count number job credit (settled credit outcome)
 stands_settled held keep count number job credit (Ok report) same ends =
     let whole = ends.final.whole in
@@ -95,7 +105,7 @@ stands_settled held keep count number job credit (Ok report) same ends =
     subst (λ (b : Bool). StandsFor held keep count number job credit (if◌then◌else◌ {A = JobStanding} b (Reported report) (Failed 82))) (sym adds) ends
 stands_settled held keep count number job credit (Err code) same ends = inl ends
 
-stand_changed : (keep : ℕ) (jobs : List AdmittedJob) (entries : List JobEntry) (a b : ℕ → Option AdmittedJob) (number : ℕ) (changed : JobEntry) → 1 ≤ number → AllStand keep jobs entries a
+stand_changed : (keep : KeepLimits) (jobs : List AdmittedJob) (entries : List JobEntry) (a b : ℕ → Option AdmittedJob) (number : ℕ) (changed : JobEntry) → 1 ≤ number → AllStand keep jobs entries a
     → ((n : ℕ) → n ≢ number → b n ≡ a n) → ((job : AdmittedJob) → slice_get jobs (number - 1) ≡ Some job → StandsFor (b number) keep (length jobs) number job changed.credit changed.standing)
     → AllStand keep jobs (slice_set entries (number - 1) changed) b
 stand_changed keep jobs entries a b number changed some was others here = record {
@@ -114,7 +124,7 @@ stand_changed keep jobs entries a b number changed some was others here = record
         stands_more (a (i + 1)) (b (i + 1)) keep (length jobs) (length jobs) (i + 1) j x.credit x.standing (λ opened. others (i + 1) (λ same. apart (omega (arith, same)))) (omega arith) (was.each i x j t.1 there)
 
 -- an open job ends as a job that was taken under its number ends
-pub stand_finished : (keep : ℕ) (jobs : List AdmittedJob) (old : Ledger) (a b : ℕ → Option AdmittedJob) (number : ℕ) (outcome : Result Report ℕ) (new : Ledger) → AllStand keep jobs old.jobs a
+pub stand_finished : (keep : KeepLimits) (jobs : List AdmittedJob) (old : Ledger) (a b : ℕ → Option AdmittedJob) (number : ℕ) (outcome : Result Report ℕ) (new : Ledger) → AllStand keep jobs old.jobs a
     → ((n : ℕ) → n ≢ number → b n ≡ a n) → ((job : AdmittedJob) → a number ≡ Some job → Ended number job outcome) → Finishes old number outcome new → AllStand keep jobs new.jobs b
 stand_finished keep jobs old a b number outcome new was others ends f =
     let there = job_there old.jobs number f.entry f.was in
@@ -133,7 +143,7 @@ stand_finished keep jobs old a b number outcome new was others ends f =
     ended job t = stands_settled (b number) keep (length jobs) number job f.entry.credit outcome t.1 (ends job t.0)
 
 -- a job that isn't open is noted in vain
-pub stand_noted : (keep : ℕ) (jobs : List AdmittedJob) (old : Ledger) (a b : ℕ → Option AdmittedJob) (number : ℕ) (outcome : Result Report ℕ) (new : Ledger) → AllStand keep jobs old.jobs a
+pub stand_noted : (keep : KeepLimits) (jobs : List AdmittedJob) (old : Ledger) (a b : ℕ → Option AdmittedJob) (number : ℕ) (outcome : Result Report ℕ) (new : Ledger) → AllStand keep jobs old.jobs a
     → ((n : ℕ) → n ≢ number → b n ≡ a n) → ((job : AdmittedJob) → a number ≡ Some job → IsEndOf number job outcome) → Notes old number outcome new → AllStand keep jobs new.jobs b
 stand_noted keep jobs old a b number outcome new was others ends (inl f) =
     stand_finished keep jobs old a b number outcome new was others (λ job is. ended_by number job outcome (ends job is)) f
@@ -150,33 +160,38 @@ stand_noted keep jobs old a b number outcome new was others ends (inr t) =
         let place : number - 1 ≡ i = omega (arith, same) in
         job_is old.jobs number some ∙ ap (slice_get old.jobs) place ∙ at
 
--- ---- the first jobs are forgotten
+-- ---- jobs are forgotten
 
-stand_forgotten : (keep : ℕ) (jobs : List AdmittedJob) (old new : List JobEntry) (held : ℕ → Option AdmittedJob) → 1 ≤ keep → AllStand keep jobs old held → ForgetsJobs old keep new → AllStand keep jobs new held
-stand_forgotten keep jobs old new held some was f = by_least f.least
+stand_forgotten : (keep : KeepLimits) (jobs : List AdmittedJob) (old : List JobEntry) (ahead : ℕ) (new : List JobEntry) (held : ℕ → Option AdmittedJob)
+    → AllStand keep jobs old held → ForgetsJobs old ahead new → IsKeptWithin keep old ahead new → AllStand keep jobs new held
+stand_forgotten keep jobs old ahead new held was f within = record {
+  count = f.count ∙ was.count;
+  each = λ i x j at there. one i x j at there (cases_lt i ahead);
+}
   where
-    counted : length f.front + length f.rest ≡ length jobs
-    counted = sym (length_joined f.front f.rest) ∙ ap length (sym f.was) ∙ was.count
+    why : (i : ℕ) → i < ahead → (ahead ≡ 0) ⊎ IsNeeded keep old ahead new → MayBeForgotten keep (i + 1) (length jobs)
+    why i less (inl none) = absurd (omega (arith, less, none))
+    why i less (inr need) = by_why need.why
+      where
+        by_why : Exceeds keep ahead (length old) (bytes_held new + bytes_in need.entry.standing) → MayBeForgotten keep (i + 1) (length jobs)
+        by_why (inl t) = let some = t.0 in let few = t.1 in let count = was.count in inl (some, omega (arith, less, few, count))
+        by_why (inr t) = inr t.0
 
-    one : keep ≤ length f.rest → (i : ℕ) (x : JobEntry) (j : AdmittedJob) → ((i < length (replicate (length f.front) f.gone)) × (slice_get (replicate (length f.front) f.gone) i ≡ Some x))
-        ⊎ ((k : ℕ) × (i ≡ length (replicate (length f.front) f.gone) + k) × (slice_get f.rest k ≡ Some x)) → slice_get jobs i ≡ Some j → StandsFor (held (i + 1)) keep (length jobs) (i + 1) j x.credit x.standing
-    one enough i x j (inl t) there =
-        let gone = get_same (length f.front) f.gone i x t.1 in
-        let lt = gone.0 in
-        let is : x.standing ≡ Failed 76 = ap (λ (e : JobEntry). e.standing) (sym gone.1) ∙ f.is_gone.standing in
-        let all = counted in
-        subst (StandsFor (held (i + 1)) keep (length jobs) (i + 1) j x.credit) (sym is) (inr (refl, some, omega (arith, lt, all, enough)))
-    one enough i x j (inr t) there =
-        let place : i ≡ length f.front + t.0 = t.1 ∙ ap (λ n. n + t.0) (length_same (length f.front) f.gone) in
-        was.each i x j (ap (λ es. slice_get es i) f.was ∙ get_behind f.front f.rest t.0 i place ∙ t.2) there
+    before : (i : ℕ) (x : JobEntry) → slice_get new i ≡ Some x → (w : JobEntry) × (slice_get old i ≡ Some w)
+    before i x at = let lt = slice_get_within new i x at in let long = f.count in get_within old i (omega (arith, lt, long))
 
-    by_least : (keep ≤ length f.rest) ⊎ (new ≡ old) → AllStand keep jobs new held
-    by_least (inr same) = subst (λ es. AllStand keep jobs es held) (sym same) was
-    by_least (inl enough) = record {
-      count = ap length f.is ∙ length_joined (replicate (length f.front) f.gone) f.rest ∙ ap (λ n. n + length f.rest) (length_same (length f.front) f.gone) ∙ counted;
-      each = λ i x j at there. one enough i x j (get_joined (replicate (length f.front) f.gone) f.rest i x (ap (λ es. slice_get es i) (sym f.is) ∙ at)) there;
-    }
+    one : (i : ℕ) (x : JobEntry) (j : AdmittedJob) → slice_get new i ≡ Some x → slice_get jobs i ≡ Some j → (i < ahead) ⊎ (ahead ≤ i)
+        → StandsFor (held (i + 1)) keep (length jobs) (i + 1) j x.credit x.standing
+    one i x j at there (inr behind) =
+        let w = before i x at in
+        let same : w.0 ≡ x = same_some w.0 x (sym (f.same i w.0 w.1 (inl behind)) ∙ at) in
+        was.each i x j (w.1 ∙ ap Some same) there
+    one i x j at there (inl less) = let w = before i x at in by w.0 w.1 (each_left old ahead new f i w.0 x w.1 at)
+      where
+        by : (w : JobEntry) → slice_get old i ≡ Some w → (w ≡ x) ⊎ (IsJobOver w × IsGone x) → StandsFor (held (i + 1)) keep (length jobs) (i + 1) j x.credit x.standing
+        by w at_old (inl same) = was.each i x j (at_old ∙ ap Some same) there
+        by w at_old (inr gone) =
+            subst (StandsFor (held (i + 1)) keep (length jobs) (i + 1) j x.credit) (sym gone.1.standing) (inr (refl, why i less within.needed))
 
-pub stand_kept : (keep : ℕ) (jobs : List AdmittedJob) (old new : Ledger) (held : ℕ → Option AdmittedJob) → AllStand keep jobs old.jobs held → KeepsLast keep old new → AllStand keep jobs new.jobs held
-stand_kept zero jobs old new held was keeps = subst (λ (l : Ledger). AllStand zero jobs l.jobs held) (sym (keeps.1 refl)) was
-stand_kept (suc k) jobs old new held was keeps = stand_forgotten (suc k) jobs old.jobs new.jobs held (omega arith) was (keeps.0 (omega arith)).jobs
+pub stand_kept : (keep : KeepLimits) (jobs : List AdmittedJob) (old new : Ledger) (held : ℕ → Option AdmittedJob) → AllStand keep jobs old.jobs held → KeepsWithin keep old new → AllStand keep jobs new.jobs held
+stand_kept keep jobs old new held was keeps = stand_forgotten keep jobs old.jobs keeps.0 new.jobs held was keeps.1.forgets.jobs keeps.1.within

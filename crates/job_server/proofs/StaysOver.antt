@@ -1,16 +1,17 @@
 -- A job that is over stays as it is, until it is forgotten.
-use Rattle.std.proofs.Common.{◌≡◌, ◌≢◌, ◌⊎◌, ◌+◌, ◌-◌, ◌<◌, ℕ, zero, suc, true, false, true≢false, List, [], ◌∷◌, ◌++◌, length, replicate, slice_get, slice_set, Option, Some, None, Result, Ok, Err, refl, sym, ap, subst, ◌∙◌, inl, inr, arith}
-use Rattle.std.proofs.lemmas.Bool.{cases_eq}
+use Rattle.std.proofs.Common.{◌≡◌, ◌≢◌, ◌⊎◌, ◌+◌, ◌-◌, ◌<◌, ◌≤◌, ℕ, zero, suc, true, false, true≢false, List, [], ◌∷◌, ◌++◌, length, slice_get, slice_set, Option, Some, None, Result, Ok, Err, refl, sym, ap, subst, ◌∙◌, inl, inr, arith}
+use Rattle.std.proofs.lemmas.Bool.{cases_eq, cases_lt}
 use Rattle.serde_json.specs.Data.{Data}
 use Rattle.credit_book.specs.declared.book.Report.{Report}
 use Rattle.credit_book.specs.declared.board.Progress.{Progress}
 use Rattle.job_core.specs.declared.admission.ProgramBytes.{ProgramBytes}
+use Rattle.accounts.specs.declared.keep_limits.KeepLimits.{KeepLimits}
 use Rattle.accounts.specs.declared.jobs.JobEntry.{JobEntry}
 use Rattle.accounts.specs.declared.jobs.JobStanding.{JobStanding}
 use Rattle.accounts.specs.declared.jobs.JobStanding.TheVariants.{Open, Reported, Failed}
 use Rattle.job_core.specs.Admitted.{AdmittedJob}
 use Rattle.accounts.specs.Jobs.{job_at, is_open, report_of, settled}
-use Rattle.accounts.specs.Ledgers.{Ledger, Finishes, report_at, report_in, KeepsLast}
+use Rattle.accounts.specs.Ledgers.{Ledger, Finishes, report_at, report_in, KeepsWithin}
 use Rattle.accounts.specs.Forgetting.{ForgetsJobs}
 use Rattle.job_server.specs.Kept.{answers_keeping}
 use Rattle.sessions.specs.Grammar.{Asked, grant, account, submit, status, result}
@@ -75,24 +76,16 @@ stay_noted : (old : Ledger) (number : ℕ) (outcome : Result Report ℕ) (new : 
 stay_noted old number outcome new (inl f) = stay_finished old number outcome new f
 stay_noted old number outcome new (inr t) = stay_same old.jobs new.jobs (ap (λ (l : Ledger). l.jobs) t.1)
 
--- the first jobs are forgotten
-get_replicate : {X : Type 0} (k : ℕ) (x : X) (ys : List X) (i : ℕ) → i < k → slice_get (replicate k x ++ ys) i ≡ Some x
-get_replicate zero x ys i lt = absurd (omega (arith, lt))
-get_replicate (suc k) x ys zero lt = refl
-get_replicate (suc k) x ys (suc i) lt = get_replicate k x ys i (omega (arith, lt))
-
-stay_forgotten : (old : List JobEntry) (keep : ℕ) (new : List JobEntry) → ForgetsJobs old keep new → StayOver old new
-stay_forgotten old keep new f i entry at over = by_place (get_joined f.front f.rest i entry (ap (λ es. slice_get es i) (sym f.was) ∙ at))
+-- jobs are forgotten
+stay_forgotten : (old : List JobEntry) (ahead : ℕ) (new : List JobEntry) → ForgetsJobs old ahead new → StayOver old new
+stay_forgotten old ahead new f i entry at over = by_place (cases_lt i ahead)
   where
-    by_place : ((i < length f.front) × (slice_get f.front i ≡ Some entry)) ⊎ ((j : ℕ) × (i ≡ length f.front + j) × (slice_get f.rest j ≡ Some entry)) → (x : JobEntry) × (slice_get new i ≡ Some x) × ((x.standing ≡ entry.standing) ⊎ (x.standing ≡ Failed 76))
-    by_place (inl t) = (f.gone, ap (λ es. slice_get es i) f.is ∙ get_replicate (length f.front) f.gone f.rest i t.0, inr f.is_gone.standing)
-    by_place (inr t) =
-        let place : i ≡ length (replicate (length f.front) f.gone) + t.0 = t.1 ∙ ap (λ n. n + t.0) (sym (length_same (length f.front) f.gone)) in
-        (entry, ap (λ es. slice_get es i) f.is ∙ get_behind (replicate (length f.front) f.gone) f.rest t.0 i place ∙ t.2, inl refl)
+    by_place : (i < ahead) ⊎ (ahead ≤ i) → (x : JobEntry) × (slice_get new i ≡ Some x) × ((x.standing ≡ entry.standing) ⊎ (x.standing ≡ Failed 76))
+    by_place (inl less) = let gone = f.gone i entry less at over in (gone.0, gone.1, inr gone.2.standing)
+    by_place (inr behind) = (entry, f.same i entry at (inl behind), inl refl)
 
-stay_kept : (keep : ℕ) (old new : Ledger) → KeepsLast keep old new → StayOver old.jobs new.jobs
-stay_kept zero old new keeps = stay_same old.jobs new.jobs (ap (λ (l : Ledger). l.jobs) (keeps.1 refl))
-stay_kept (suc k) old new keeps = stay_forgotten old.jobs (suc k) new.jobs (keeps.0 (omega arith)).jobs
+stay_kept : (keep : KeepLimits) (old new : Ledger) → KeepsWithin keep old new → StayOver old.jobs new.jobs
+stay_kept keep old new keeps = stay_forgotten old.jobs keeps.0 new.jobs keeps.1.forgets.jobs
 
 -- ---- a desk and a runner
 

@@ -1,8 +1,9 @@
 -- Desks of tenants over two runner types.
-use Rattle.std.proofs.Common.{◌≡◌, ℕ, Bool, List, Option, Some, None, Result, Ok, Err, inl, inr, ap, ◌∙◌}
+use Rattle.std.proofs.Common.{◌≡◌, ℕ, Bool, List, Option, Some, None, Result, Ok, Err, inl, inr, refl, ap, ◌∙◌}
 use Rattle.credit_book.specs.declared.book.Report.{Report}
 use Rattle.credit_book.specs.declared.board.Progress.{Progress}
 use Rattle.job_core.specs.Admitted.{AdmittedJob}
+use Rattle.accounts.specs.declared.keep_limits.KeepLimits.{KeepLimits}
 use Rattle.accounts.specs.Ledgers.{Ledger}
 use Rattle.sessions.specs.Grammar.{Asked}
 use Rattle.shared_desk.specs.Histories.{Query}
@@ -11,7 +12,7 @@ use Rattle.tenant_desks.specs.Placing.{placed}
 use Rattle.tenant_desks.specs.PlacedRunners.{starts_placed, looks_placed, takes_placed}
 use Rattle.tenant_desks.specs.Routing.{desk_for}
 use Rattle.tenant_desks.specs.Tenancies.{Tenancy}
-use Rattle.tenant_desks.specs.Answering.{AnswersAlone, AnswersWhere, EndsTaken, KeptRunner, PassesEnds, for_place, named_answers, none_yet, one_more, tenant_answers}
+use Rattle.tenant_desks.specs.Answering.{AnswersAlone, AnswersWhere, EndsTaken, KeptRunner, PassesEnds, door_answers, for_place, named_answers, none_yet, one_more, tenant_answers}
 use Rattle.job_pools.specs.declared.limited_runner.LimitedRunner.{LimitedRunner}
 use Rattle.job_pools.specs.LineBounded.{looks_by_line, starts_by_line, takes_by_line}
 use Rattle.job_pools.specs.declared.line_limited_runner.LineLimitedRunner.{LineLimitedRunner}
@@ -24,7 +25,8 @@ use Rattle.job_server.specs.declared.tenant_door.TenantDoor.{TenantDoor}
 use Rattle.job_server.specs.AtOnce.{IsServingFrom, Pool}
 use Rattle.job_pools.specs.LineBounded.{new_by_line}
 use Rattle.job_server.specs.TenantLimits.{door_limits}
-use Rattle.job_server.specs.TenantServing.{BeginsAtDesks, TenantHosted, hosted_tenant_answers}
+use Rattle.tenant_desks.proofs.ListedDesks.{doors_alike}
+use Rattle.job_server.specs.TenantServing.{BeginsAtDesks, TenantHosted, hosted_door_answers, hosted_tenant_answers}
 use Rattle.job_server.proofs.Alike.{replies_alike}
 use Rattle.job_server.proofs.AtOnceAlike.{limited, serving_kept, within_alike}
 
@@ -79,7 +81,7 @@ module _ {R Q : Type 0} (f : R → Q)
     none_left = takes_alike p.last None left p.none_left;
   }
 
-  alone_as : (keep : ℕ) (r s : PlacedRunner R) (query : Result Asked ℕ) (reply : List ℕ) (before after : Ledger) → AnswersAlone (starts_placed starts) (looks_placed looks) keep r s query reply before after → AnswersAlone (starts_placed starts1) (looks_placed looks1) keep (placed_as r) (placed_as s) query reply before after
+  alone_as : (keep : KeepLimits) (r s : PlacedRunner R) (query : Result Asked ℕ) (reply : List ℕ) (before after : Ledger) → AnswersAlone (starts_placed starts) (looks_placed looks) keep r s query reply before after → AnswersAlone (starts_placed starts1) (looks_placed looks1) keep (placed_as r) (placed_as s) query reply before after
   alone_as keep r s query reply before after a = record {
     mid = a.mid;
     told = a.told;
@@ -88,7 +90,7 @@ module _ {R Q : Type 0} (f : R → Q)
     keeps = a.keeps;
   }
 
-  where_as : (keep : ℕ) (place : Result ℕ ℕ) (query : Result Asked ℕ) (desks : List Ledger) (runner : R) (reply : List ℕ) (after : List Ledger) (left : R)
+  where_as : (keep : KeepLimits) (place : Result ℕ ℕ) (query : Result Asked ℕ) (desks : List Ledger) (runner : R) (reply : List ℕ) (after : List Ledger) (left : R)
       → AnswersWhere starts looks keep place query desks runner reply after left → AnswersWhere starts1 looks1 keep place query desks (f runner) reply after (f left)
   where_as keep (Err code) query desks runner reply after left h = (h.0, h.1, ap f h.2)
   where_as keep (Ok place) query desks runner reply after left h = record {
@@ -193,12 +195,18 @@ module _ {R : Type 0} (f : R → Pool) (starts : R → ℕ → AdmittedJob → R
         (starts_by_line starts_of) (looks_by_line looks_of) (takes_by_line takes_of)
         (line_starts (limited f) starts_in (looks_within looks) (takes_within takes) starts_of looks_of takes_of pool_starts pool_looks pool_takes)
         (line_looks (limited f) starts_in (looks_within looks) (takes_within takes) starts_of looks_of takes_of pool_starts pool_looks pool_takes)
-        (line_takes (limited f) starts_in (looks_within looks) (takes_within takes) starts_of looks_of takes_of pool_starts pool_looks pool_takes) s (record { passage = query.passage; asked = asked }) reply t answered,
+        (line_takes (limited f) starts_in (looks_within looks) (takes_within takes) starts_of looks_of takes_of pool_starts pool_looks pool_takes) s (record { passage = query.passage; asked = asked; beyond = None }) reply t answered,
   )
+
+  hosted_doors_alike : (s : Tenancy × KeptRunner (LineLimitedRunner (LimitedRunner R))) (query : Query) (reply : List ℕ) (t : Tenancy × KeptRunner (LineLimitedRunner (LimitedRunner R)))
+      → door_answers (starts_by_line starts_in) (looks_by_line (looks_within looks)) (takes_by_line (takes_within takes)) s query reply t
+      → hosted_door_answers (hosted_as f s) query reply (hosted_as f t)
+  hosted_doors_alike =
+      doors_alike (λ s. s.0) (tenant_answers (starts_by_line starts_in) (looks_by_line (looks_within looks)) (takes_by_line (takes_within takes))) (λ s. s.0) hosted_tenant_answers (hosted_as f) (λ s. refl) hosted_alike
 
   -- the pool's own state is forgotten, but for the jobs that it was given and the boards that it watches
   pub tenants_serving : (begun end : Tenancy × KeptRunner (LineLimitedRunner (LimitedRunner R))) (sessions : ℕ) (may_stop : Bool) (outcome : Result (Unit {0}) ServeFault)
-      → (serving : IsServingFrom (tenant_answers (starts_by_line starts_in) (looks_by_line (looks_within looks)) (takes_by_line (takes_within takes))) (λ s. s ≡ begun) end sessions may_stop outcome)
-      → (hosted : IsServingFrom hosted_tenant_answers (λ s. s ≡ hosted_as f begun) (hosted_as f end) sessions may_stop outcome) × (hosted.opened ≡ serving.opened) × (hosted.closed ≡ serving.closed)
+      → (serving : IsServingFrom (door_answers (starts_by_line starts_in) (looks_by_line (looks_within looks)) (takes_by_line (takes_within takes))) (λ s. s ≡ begun) end sessions may_stop outcome)
+      → (hosted : IsServingFrom hosted_door_answers (λ s. s ≡ hosted_as f begun) (hosted_as f end) sessions may_stop outcome) × (hosted.opened ≡ serving.opened) × (hosted.closed ≡ serving.closed)
   tenants_serving begun end sessions may_stop outcome serving =
-      serving_kept (hosted_as f) _ hosted_tenant_answers hosted_alike (λ s. s ≡ begun) (λ s. s ≡ hosted_as f begun) (λ s is. ap (hosted_as f) is) end sessions may_stop outcome serving
+      serving_kept (hosted_as f) _ hosted_door_answers hosted_doors_alike (λ s. s ≡ begun) (λ s. s ≡ hosted_as f begun) (λ s is. ap (hosted_as f) is) end sessions may_stop outcome serving

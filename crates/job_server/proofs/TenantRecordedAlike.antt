@@ -1,5 +1,5 @@
 -- Desks of tenants whose changes are recorded, over two state types of their runner.
-use Rattle.std.proofs.Common.{◌≡◌, ℕ, Bool, List, [], length, Option, Result, inl, inr, ap, subst}
+use Rattle.std.proofs.Common.{◌≡◌, ℕ, Bool, List, [], length, Option, None, Result, inl, inr, refl, ap, subst}
 use Rattle.credit_book.specs.declared.book.Report.{Report}
 use Rattle.credit_book.specs.declared.board.Progress.{Progress}
 use Rattle.job_core.specs.Admitted.{AdmittedJob}
@@ -15,7 +15,8 @@ use Rattle.tenant_desks.specs.PlacedRunners.{starts_placed}
 use Rattle.tenant_desks.specs.Tenancies.{Tenancy}
 use Rattle.tenant_desks.specs.Answering.{for_place}
 use Rattle.tenant_recorder.specs.TenantRestarts.{RestartsEach, none_yet, one_more}
-use Rattle.tenant_recorder.specs.TenantsRecorded.{RecordedRunner, named_answers_recorded, tenant_answers_recorded, unrecorded}
+use Rattle.tenant_desks.proofs.ListedDesks.{doors_alike}
+use Rattle.tenant_recorder.specs.TenantsRecorded.{RecordedRunner, door_answers_recorded, named_answers_recorded, tenant_answers_recorded, unrecorded}
 use Rattle.job_pools.specs.declared.limited_runner.LimitedRunner.{LimitedRunner}
 use Rattle.job_pools.specs.LineBounded.{looks_by_line, new_by_line, starts_by_line, takes_by_line}
 use Rattle.job_pools.specs.declared.line_limited_runner.LineLimitedRunner.{LineLimitedRunner}
@@ -112,25 +113,34 @@ module _ {R Q J : Type 0} (f : R → Pool) (taken : Q → List ℕ) (failed : Q 
 
   hosted_recorded_alike : (s : Tenancy × RecordedRunner (LineLimitedRunner (LimitedRunner R)) Q) (query : Query) (reply : List ℕ) (t : Tenancy × RecordedRunner (LineLimitedRunner (LimitedRunner R)) Q)
       → tenant_answers_recorded starts_lined (looks_by_line (looks_within looks)) (takes_by_line (takes_within takes)) taken failed s query reply t
-      → hosted_answers_recorded taken failed (tenants_as pooled s) query reply (tenants_as pooled t)
+      → tenant_answers_recorded (starts_by_line (starts_within pooled_count (StartsBy pooled_at pooled_count))) (looks_by_line (looks_within (TellsBy pooled_at pooled_count)))
+      (takes_by_line (takes_within (TakesBy pooled_at pooled_count))) taken failed (tenants_as pooled s) query reply (tenants_as pooled t)
   hosted_recorded_alike s query reply t (asked, own, answered) = (
     asked,
     own,
     tenants_recorded_alike pooled taken failed starts_lined (looks_by_line (looks_within looks)) (takes_by_line (takes_within takes))
         (starts_by_line (starts_within pooled_count (StartsBy pooled_at pooled_count))) (looks_by_line (looks_within (TellsBy pooled_at pooled_count))) (takes_by_line (takes_within (TakesBy pooled_at pooled_count)))
-        lined_starts lined_looks lined_takes s (record { passage = query.passage; asked = asked }) reply t answered,
+        lined_starts lined_looks lined_takes s (record { passage = query.passage; asked = asked; beyond = None }) reply t answered,
   )
+
+  hosted_doors_recorded_alike : (s : Tenancy × RecordedRunner (LineLimitedRunner (LimitedRunner R)) Q) (query : Query) (reply : List ℕ) (t : Tenancy × RecordedRunner (LineLimitedRunner (LimitedRunner R)) Q)
+      → door_answers_recorded starts_lined (looks_by_line (looks_within looks)) (takes_by_line (takes_within takes)) taken failed s query reply t
+      → hosted_answers_recorded taken failed (tenants_as pooled s) query reply (tenants_as pooled t)
+  hosted_doors_recorded_alike =
+      doors_alike (λ s. s.0) (tenant_answers_recorded starts_lined (looks_by_line (looks_within looks)) (takes_by_line (takes_within takes)) taken failed)
+      (λ s. s.0) (tenant_answers_recorded (starts_by_line (starts_within pooled_count (StartsBy pooled_at pooled_count))) (looks_by_line (looks_within (TellsBy pooled_at pooled_count))) (takes_by_line (takes_within (TakesBy pooled_at pooled_count))) taken failed)
+      (tenants_as pooled) (λ s. refl) hosted_recorded_alike
 
   -- the pool's own state is forgotten, but for the jobs that it was given and the boards that it watches
   pub tenants_recorded_serving : (journals : List J) (states : List DeskState) (doors : List TenantDoor) (bounds : Bounds) (l : LimitedRunner R) (pool : R) (begun end : Tenancy × RecordedRunner (LineLimitedRunner (LimitedRunner R)) Q) (sessions : ℕ) (may_stop : Bool)
       (outcome : Result (Unit {0}) ServeFault) → l.runner ≡ pool → l.limit ≡ bounds.open_jobs → ((f pool).0 ≡ []) × ((f pool).1.entries ≡ [])
       → AreRestarted starts_lined taken failed journal_of journals (recovered_tenancy doors states) (door_credits doors) (open_jobs_of states) (new_by_line (door_limits bounds.tenant_jobs doors) l) bounds.keep begun
-      → (serving : IsServingFrom (tenant_answers_recorded starts_lined (looks_by_line (looks_within looks)) (takes_by_line (takes_within takes)) taken failed) (λ s. s ≡ begun) end sessions may_stop outcome)
+      → (serving : IsServingFrom (door_answers_recorded starts_lined (looks_by_line (looks_within looks)) (takes_by_line (takes_within takes)) taken failed) (λ s. s ≡ begun) end sessions may_stop outcome)
       → (recorded : IsServingTenantsRecorded taken failed journal_of journals states doors bounds sessions may_stop outcome) × (recorded.serving.opened ≡ serving.opened) × (recorded.serving.closed ≡ serving.closed)
   tenants_recorded_serving journals states doors bounds l pool begun end sessions may_stop outcome is_pool is_limit none restarted serving =
       let kept = serving_kept (tenants_as pooled)
-      (tenant_answers_recorded starts_lined (looks_by_line (looks_within looks)) (takes_by_line (takes_within takes)) taken failed)
-      (hosted_answers_recorded taken failed) hosted_recorded_alike
+      (door_answers_recorded starts_lined (looks_by_line (looks_within looks)) (takes_by_line (takes_within takes)) taken failed)
+      (hosted_answers_recorded taken failed) hosted_doors_recorded_alike
       (λ s. s ≡ begun) (λ s. s ≡ tenants_as pooled begun) (λ s is. ap (tenants_as pooled) is)
       end sessions may_stop outcome serving in (
         record {

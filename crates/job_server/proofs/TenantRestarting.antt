@@ -2,7 +2,8 @@
 use Rattle.std.proofs.Common.{◌≡◌, ℕ, zero, suc, Bool, false, true, List, [], ◌∷◌, All, length, map, slice_get, Option, Some, Result, Ok, Err, refl, sym, ap, ap₂, ◌∙◌, subst, arith}
 use Rattle.std.specs.Prelude.{IfOk}
 use Rattle.std.specs.List.{AllZip}
-use Rattle.accounts.specs.Ledgers.{Ledger, KeepsLast}
+use Rattle.accounts.specs.declared.keep_limits.KeepLimits.{KeepLimits}
+use Rattle.accounts.specs.Ledgers.{Ledger, KeepsWithin}
 use Rattle.job_core.specs.Admitted.{AdmittedJob}
 use Rattle.desk_journal.specs.declared.journaled_desk.OpenJob.{OpenJob}
 use Rattle.desk_recorder.specs.declared.recorder.ChangeRecorder.{ChangeRecorder}
@@ -38,10 +39,10 @@ module _ {Q : Type 0} (taken : Q → List ℕ) where
   clash X b set unset = let is : true ≡ false = sym set ∙ unset in absurd cc
 
   -- desks with such recorders have nothing to forget that isn't noted
-  fresh_forgotten : (recorders : List (ChangeRecorder Q)) (keep : ℕ) (desks : List Ledger) → AreFresh taken recorders → length recorders ≡ length desks → HaveForgotten keep desks recorders
+  fresh_forgotten : (recorders : List (ChangeRecorder Q)) (keep : KeepLimits) (desks : List Ledger) → AreFresh taken recorders → length recorders ≡ length desks → HaveForgotten keep desks recorders
   fresh_forgotten recorders keep desks fresh paired = record {
     paired = paired;
-    each = λ place desk r at_d at_r none. clash (KeepsLast keep desk desk) r.has_changed (fresh_noted recorders fresh place r at_r) none;
+    each = λ place desk r at_d at_r none. clash (KeepsWithin keep desk desk) r.has_changed (fresh_noted recorders fresh place r at_r) none;
   }
 
 -- the journals of the recorders are those of their queues
@@ -59,25 +60,25 @@ made_count (q ∷ queues) [] made = absurd made
 made_count (q ∷ queues) (r ∷ recorders) made = ap suc (made_count queues recorders made.1)
 
 -- the same of a handler that was made of the queues, if there was memory
-abbrev pub IsMade : {R Q : Type 0} → List Q → R → ℕ → RecordedRunner R Q → Type 0
+abbrev pub IsMade : {R Q : Type 0} → List Q → R → KeepLimits → RecordedRunner R Q → Type 0
 IsMade queues runner keep m = (m.runner ≡ runner) × (m.keep ≡ keep) × AllZip IsNewRecorder queues m.recorders
 
-pub made_own : {R Q J E : Type 0} (queues : List Q) (runner : R) (keep : ℕ) (journal_of : Q → J) (journals : List J) (made : Result (RecordedRunner R Q) E) → IfOk made (IsMade queues runner keep) → map journal_of queues ≡ journals
+pub made_own : {R Q J E : Type 0} (queues : List Q) (runner : R) (keep : KeepLimits) (journal_of : Q → J) (journals : List J) (made : Result (RecordedRunner R Q) E) → IfOk made (IsMade queues runner keep) → map journal_of queues ≡ journals
     → IfOk made (λ m. map (λ (r : ChangeRecorder Q). journal_of r.queue) m.recorders ≡ journals)
 made_own queues runner keep journal_of journals (Ok m) is own = own_of journal_of queues m.recorders is.2 ∙ own
 made_own queues runner keep journal_of journals (Err e) is own = tt
 
-pub made_as_many : {R Q E : Type 0} (queues : List Q) (runner : R) (keep : ℕ) (count : ℕ) (made : Result (RecordedRunner R Q) E) → IfOk made (IsMade queues runner keep) → length queues ≡ count → IfOk made (λ m. length m.recorders ≡ count)
+pub made_as_many : {R Q E : Type 0} (queues : List Q) (runner : R) (keep : KeepLimits) (count : ℕ) (made : Result (RecordedRunner R Q) E) → IfOk made (IsMade queues runner keep) → length queues ≡ count → IfOk made (λ m. length m.recorders ≡ count)
 made_as_many queues runner keep count (Ok m) is all = made_count queues m.recorders is.2 ∙ all
 made_as_many queues runner keep count (Err e) is all = tt
 
-pub made_fresh : {R Q E : Type 0} (queues : List Q) (runner : R) (keep : ℕ) (taken : Q → List ℕ) (made : Result (RecordedRunner R Q) E) → IfOk made (IsMade queues runner keep) → All (λ q. taken q ≡ []) queues → IfOk made (λ m. AreFresh taken m.recorders)
+pub made_fresh : {R Q E : Type 0} (queues : List Q) (runner : R) (keep : KeepLimits) (taken : Q → List ℕ) (made : Result (RecordedRunner R Q) E) → IfOk made (IsMade queues runner keep) → All (λ q. taken q ≡ []) queues → IfOk made (λ m. AreFresh taken m.recorders)
 made_fresh queues runner keep taken (Ok m) is none = fresh_of taken queues m.recorders is.2 none
 made_fresh queues runner keep taken (Err e) is none = tt
 
 -- recovered desks, at which a new handler has granted each tenant its first credit, and has started the open jobs again
 pub tenants_restarted : {R Q J : Type 0} (starts : R → ℕ → AdmittedJob → Result (Unit {0}) ℕ → R → Type 0) (taken : Q → List ℕ) (failed : Q → Type 0) (journal_of : Q → J) (journals : List J) (recovered : Tenancy)
-    (tenants : List (List ℕ × Option ℕ)) (held : List (List OpenJob)) (runner : R) (keep : ℕ)
+    (tenants : List (List ℕ × Option ℕ)) (held : List (List OpenJob)) (runner : R) (keep : KeepLimits)
     (desks : Tenancy) (said : List (List ℕ × Option ℕ)) (jobs : List (List OpenJob)) (handler : RecordedRunner R Q) (mid : Tenancy) (granting : RecordedRunner R Q) (after : Tenancy) (left : RecordedRunner R Q)
     → desks ≡ recovered → said ≡ tenants → jobs ≡ held → handler.runner ≡ runner → handler.keep ≡ keep
     → map (λ (r : ChangeRecorder Q). journal_of r.queue) handler.recorders ≡ journals → AreFresh taken handler.recorders → length handler.recorders ≡ length desks.desks

@@ -56,9 +56,9 @@ length_cons : {X : Type 0} (x : X) (xs : List X) → length xs + 1 ≡ length (x
 length_cons x xs = omega arith
 
 came_in : (may : Passage) (ahead behind : List HistoryEntry) (e : HistoryEntry) (asks : Asked) (bytes left : List ℕ) → Asks may bytes (queries_of (ahead ++ e ∷ behind)) left → e.query.asked ≡ Ok asks → Came may bytes (length ahead) asks
-came_in may [] behind e asks bytes left (payload, rest, heard, cut, hears, is, others) own =
+came_in may [] behind e asks bytes left (payload, rest, heard, beyond, cut, hears, more, is, others) own =
     record { payload = payload; came = first bytes rest cut; hears = subst (HearsAt may.door payload) (heard_as may.may_grant heard asks (sym own ∙ ap (λ (q : Query). q.asked) is)) hears }
-came_in may (x ∷ ahead) behind e asks bytes left (payload, rest, heard, cut, hears, is, others) own =
+came_in may (x ∷ ahead) behind e asks bytes left (payload, rest, heard, beyond, cut, hears, more, is, others) own =
     let t = came_in may ahead behind e asks rest left others own in
     record { payload = t.payload; came = subst (λ (n : ℕ). IsPayloadAt t.payload n bytes) (length_cons x ahead) (later (length ahead) bytes payload rest cut t.came); hears = t.hears }
 

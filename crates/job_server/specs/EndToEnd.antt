@@ -7,6 +7,7 @@ use Rattle.credit_book.specs.declared.event.TaskEnd.{TaskEnd}
 use Rattle.job_core.specs.declared.admission.ProgramBytes.{ProgramBytes}
 use Rattle.job_core.specs.Admitted.{AdmittedJob}
 use Rattle.job_core.specs.Admission.{IsAdmittedFrom}
+use Rattle.accounts.specs.declared.keep_limits.KeepLimits.{KeepLimits}
 use Rattle.accounts.specs.declared.fault.SubmitFault.{SubmitFault}
 use Rattle.sessions.specs.Frames.{framed}
 use Rattle.sessions.specs.Grammar.{Asked, submit, result, program_asked}
@@ -88,22 +89,29 @@ report_data r = result_data r.buffer.items r.returned r.spent r.tasks.items
 abbrev pub FailsBy : ℕ → AdmittedJob → ℕ → Type 0
 FailsBy number job code = (code ≡ 81) ⊎ (code ≡ 99) ⊎ IsEndOf number job (Err code)
 
+-- Of so many jobs the one of this number may be forgotten: it is ahead of the last ones that are
+-- kept, or what reports hold is bounded.
+abbrev pub MayBeForgotten : KeepLimits → ℕ → ℕ → Type 0
+MayBeForgotten keep number count =
+    ((1 ≤ keep.jobs) × (number + keep.jobs ≤ count)) ⊎ (1 ≤ keep.bytes)
+
 -- The result of a number, after these jobs, at a server that keeps so many reports: the report of a
 -- run of the very job that has the number, or a refusal with its cause. Nothing else is one.
-pub data IsResultOf (keep : ℕ) (jobs : List AdmittedJob) (number : ℕ) : Data → Type 0 where
+pub data IsResultOf (keep : KeepLimits) (jobs : List AdmittedJob) (number : ℕ) :
+    Data → Type 0 where
   reported : (job : AdmittedJob) (report : Report) → taken_at jobs number ≡ Some job
       → IsRun number job report → IsResultOf keep jobs number (report_data report)
   failed : (job : AdmittedJob) (code : ℕ) → taken_at jobs number ≡ Some job
       → FailsBy number job code → IsResultOf keep jobs number (refused code)
   not_over : (job : AdmittedJob) → taken_at jobs number ≡ Some job
       → IsResultOf keep jobs number (refused 77)
-  forgotten : (job : AdmittedJob) → taken_at jobs number ≡ Some job → 1 ≤ keep
-      → number + keep ≤ length jobs → IsResultOf keep jobs number (refused 76)
+  forgotten : (job : AdmittedJob) → taken_at jobs number ≡ Some job
+      → MayBeForgotten keep number (length jobs) → IsResultOf keep jobs number (refused 76)
   unknown : taken_at jobs number ≡ None → IsResultOf keep jobs number (refused 76)
 
 -- The entry is told the result of the number, after the jobs that were taken before it.
-pub record IsToldResult (keep : ℕ) (before : List HistoryEntry) (number : ℕ) (e : HistoryEntry) :
-    Type 0 where
+pub record IsToldResult (keep : KeepLimits) (before : List HistoryEntry) (number : ℕ)
+    (e : HistoryEntry) : Type 0 where
   pub jobs : List AdmittedJob
   pub taken : AreTaken before jobs
   pub told : Data
@@ -112,7 +120,8 @@ pub record IsToldResult (keep : ℕ) (before : List HistoryEntry) (number : ℕ)
 
 -- A refusal that is told in place of a result is one of those, with its cause. Or it is 65, for a
 -- report that no frame holds.
-pub record IsToldRefusal (keep : ℕ) (before : List HistoryEntry) (number code : ℕ) : Type 0 where
+pub record IsToldRefusal (keep : KeepLimits) (before : List HistoryEntry) (number code : ℕ) :
+    Type 0 where
   pub jobs : List AdmittedJob
   pub taken : AreTaken before jobs
   pub is_result : IsResultOf keep jobs number (refused code) ⊎ (code ≡ 65)

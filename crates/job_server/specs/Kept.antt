@@ -3,7 +3,7 @@ use Rattle.std.specs.Prelude.{◌≡◌, ℕ, List, Option, Result}
 use Rattle.credit_book.specs.declared.book.Report.{Report}
 use Rattle.credit_book.specs.declared.board.Progress.{Progress}
 use Rattle.job_core.specs.Admitted.{AdmittedJob}
-use Rattle.accounts.specs.Ledgers.{Ledger, KeepsLast}
+use Rattle.accounts.specs.Ledgers.{Ledger, KeepsWithin}
 use Rattle.sessions.specs.Grammar.{Asked}
 use Rattle.streams.specs.Answering.{Answers}
 use Rattle.job_server.specs.declared.keeping_handler.KeepingHandler.{KeepingHandler}
@@ -21,4 +21,4 @@ abbrev pub answers_keeping : {R : Type 0} → (R → ℕ → AdmittedJob → Res
     → Ledger × KeepingHandler R → Result Asked ℕ → List ℕ → Ledger × KeepingHandler R → Type 0
 answers_keeping starts looks takes s query reply t =
     ((mid : Ledger) × answers_by starts looks takes (s.0, s.1.runner) query reply (mid, t.1.runner)
-    × KeepsLast s.1.keep mid t.0) × (t.1.keep ≡ s.1.keep)
+    × KeepsWithin s.1.keep mid t.0) × (t.1.keep ≡ s.1.keep)

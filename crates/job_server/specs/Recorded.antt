@@ -1,6 +1,7 @@
 -- A server whose desks' changes journals keep.
 use Rattle.std.specs.Prelude.{◌≡◌, ◌⊎◌, ◌+◌, ℕ, Bool, true, false, List, [], ◌∷◌, All, length, Result}
 use Rattle.job_core.specs.Admitted.{AdmittedJob}
+use Rattle.accounts.specs.declared.keep_limits.KeepLimits.{KeepLimits}
 use Rattle.accounts.specs.Ledgers.{Ledger}
 use Rattle.desk_journal.specs.DeskSteps.{DeskState}
 use Rattle.desk_recorder.specs.Recording.{IsRecorded}
@@ -49,7 +50,7 @@ recovered_state (state ∷ states) = state
 -- order. Those that were refused are over. The records of that are the first that its queue takes.
 pub record IsRestarted {R Q : Type 0}
     (starts : R → ℕ → AdmittedJob → Result (Unit {0}) ℕ → R → Type 0) (taken : Q → List ℕ)
-    (failed : Q → Type 0) (state : DeskState) (runner : R) (keep : ℕ)
+    (failed : Q → Type 0) (state : DeskState) (runner : R) (keep : KeepLimits)
     (begun : Ledger × RecordingHandler R Q) : Type 0 where
   pub fresh : ChangeRecorder Q
   pub none : (taken fresh.queue ≡ []) × (fresh.is_stopped ≡ false)

@@ -1,6 +1,7 @@
 -- A server whose tenants have doors, and each of whose desks has a journal.
 use Rattle.std.specs.Prelude.{◌≡◌, ℕ, Bool, false, true, List, [], ◌∷◌, length, map, Option, Result}
 use Rattle.job_core.specs.Admitted.{AdmittedJob}
+use Rattle.accounts.specs.declared.keep_limits.KeepLimits.{KeepLimits}
 use Rattle.accounts.specs.Ledgers.{Ledger}
 use Rattle.desk_journal.specs.DeskSteps.{DeskState}
 use Rattle.desk_journal.specs.declared.journaled_desk.OpenJob.{OpenJob}
@@ -10,7 +11,7 @@ use Rattle.tenant_desks.specs.Tenancies.{Tenancy}
 use Rattle.tenant_recorder.specs.Recorders.{AreRecorded}
 use Rattle.tenant_recorder.specs.TenantCredits.{AreCredited}
 use Rattle.tenant_recorder.specs.TenantRestarts.{RestartsEach}
-use Rattle.tenant_recorder.specs.TenantsRecorded.{AreInStep, RecordedRunner, tenant_answers_recorded}
+use Rattle.tenant_recorder.specs.TenantsRecorded.{AreInStep, RecordedRunner, door_answers_recorded}
 use Rattle.job_pools.specs.Holds.{StartsBy, TellsBy, TakesBy}
 use Rattle.job_pools.specs.Started.{pooled_at, pooled_count}
 use Rattle.job_pools.specs.Bounded.{looks_within, starts_within, takes_within}
@@ -48,8 +49,8 @@ AreFresh taken (r ∷ recorders) =
 pub record AreRestarted {R Q J : Type 0}
     (starts : R → ℕ → AdmittedJob → Result (Unit {0}) ℕ → R → Type 0) (taken : Q → List ℕ)
     (failed : Q → Type 0) (journal_of : Q → J) (journals : List J) (recovered : Tenancy)
-    (tenants : List (List ℕ × Option ℕ)) (held : List (List OpenJob)) (runner : R) (keep : ℕ)
-    (begun : Tenancy × RecordedRunner R Q) : Type 0 where
+    (tenants : List (List ℕ × Option ℕ)) (held : List (List OpenJob)) (runner : R)
+    (keep : KeepLimits) (begun : Tenancy × RecordedRunner R Q) : Type 0 where
   pub fresh : List (ChangeRecorder Q)
   pub none : AreFresh taken fresh
   pub own : map (λ (r : ChangeRecorder Q). journal_of r.queue) fresh ≡ journals
@@ -70,7 +71,7 @@ RecordedTenantHosted Q = Tenancy × RecordedRunner (LineLimitedRunner (LimitedRu
 abbrev pub hosted_answers_recorded : {Q : Type 0} → (Q → List ℕ) → (Q → Type 0)
     → RecordedTenantHosted Q → Query → List ℕ → RecordedTenantHosted Q → Type 0
 hosted_answers_recorded taken failed =
-    tenant_answers_recorded
+    door_answers_recorded
     (starts_by_line (starts_within pooled_count (StartsBy pooled_at pooled_count)))
     (looks_by_line (looks_within (TellsBy pooled_at pooled_count)))
     (takes_by_line (takes_within (TakesBy pooled_at pooled_count))) taken failed

@@ -1,5 +1,6 @@
 -- Histories of a server whose tenants have doors of their own.
 use Rattle.std.specs.Prelude.{◌≡◌, ◌≤◌, ◌+◌, ℕ, List, [], Some, length, slice_get}
+use Rattle.accounts.specs.declared.keep_limits.KeepLimits.{KeepLimits}
 use Rattle.accounts.specs.Ledgers.{Ledger}
 use Rattle.shared_desk.specs.Histories.{HistoryEntry}
 use Rattle.tenant_desks.specs.Tenancies.{Tenancy}
@@ -15,8 +16,8 @@ use Rattle.job_server.specs.AtOnce.{Pool}
 
 -- a history that a server of tenants of these names may have, from desks on that have no job, each of
 -- which keeps so many reports, whatever its limits are
-pub record IsTenantHostHistory (keep : ℕ) (names : List (List ℕ)) (history : List HistoryEntry) :
-    Type 0 where
+pub record IsTenantHostHistory (keep : KeepLimits) (names : List (List ℕ))
+    (history : List HistoryEntry) : Type 0 where
   pub few : length names ≤ 256
   pub firsts : List Ledger
   pub as_many : length firsts ≡ length names + 1

@@ -5,6 +5,7 @@ use Rattle.shared_desk.specs.declared.door.Door.TheVariants.{Tenant}
 use Rattle.shared_desk.specs.declared.passage.Passage.{Passage}
 use Rattle.tenant_desks.specs.Tenancies.{IsFirstTenancy, Tenancy}
 use Rattle.tenant_desks.specs.Answering.{KeptRunner, tenant_answers}
+use Rattle.tenant_desks.specs.JobLists.{answers_at_doors}
 use Rattle.job_pools.specs.Holds.{StartsBy, TellsBy, TakesBy}
 use Rattle.job_pools.specs.Started.{pooled_at, pooled_count}
 use Rattle.job_pools.specs.Bounded.{looks_within, starts_within, takes_within}
@@ -37,6 +38,10 @@ hosted_tenant_answers =
     (looks_by_line (looks_within (TellsBy pooled_at pooled_count)))
     (takes_by_line (takes_within (TakesBy pooled_at pooled_count)))
 
+-- the same, behind doors that hear forms of their own
+abbrev pub hosted_door_answers : TenantHosted → Query → List ℕ → TenantHosted → Type 0
+hosted_door_answers = answers_at_doors (λ s. s.0) hosted_tenant_answers
+
 -- a new desk for each of these doors' tenants, with its first credit, and one for everybody else; and
 -- this runner with no job, within the limits of each
 abbrev pub BeginsAtDesks : {R : Type 0} → List TenantDoor → Bounds → R
@@ -57,7 +62,7 @@ pub record IsServingTenants (doors : List TenantDoor) (bounds : Bounds) (session
   pub begun : TenantHosted
   pub begins : BeginsAtDesks doors bounds (record { runner = first; limit = bounds.open_jobs }) begun
   pub end : TenantHosted
-  pub serving : IsServingFrom hosted_tenant_answers (λ s. s ≡ begun) end sessions may_stop outcome
+  pub serving : IsServingFrom hosted_door_answers (λ s. s ≡ begun) end sessions may_stop outcome
 
 -- what comes by a tenant's own door may not grant
 abbrev pub GrantsByNoTenant : Passage → Type 0

@@ -1,5 +1,7 @@
 //! The bounds that a host sets for its server.
 
+use accounts::KeepLimits;
+
 /// What a host bounds of its server.
 #[derive(Clone, Copy, Debug, PartialEq, Eq)]
 pub struct Bounds {
@@ -13,6 +15,6 @@ pub struct Bounds {
     /// Jobs, 1 to 1,000,000, that each tenant may have open at once, where tenants have doors.
     /// Everybody else counts as one. 0: any number.
     pub tenant_jobs: u32,
-    /// Jobs, 1 to 1,000,000, of which the last ones' reports are kept. 0: all are.
-    pub keep: u32,
+    /// The reports that each desk keeps.
+    pub keep: KeepLimits,
 }

@@ -1,24 +1,24 @@
-//! A desk that keeps the reports of its last jobs alone.
+//! A desk that keeps reports within its limits.
 
-use accounts::Desk;
+use accounts::{Desk, KeepLimits};
 use refusal::NoMemory;
 use sessions::Request;
 use std::alloc::Global;
 use streams::{Handler, PendingReply, PreparedRequest, Runner, SubmitRefusal, TellingHandler};
 
-/// Answers a request as the runner does, and then has the desk forget the reports of all but the
-/// last `keep` jobs; 0: it forgets none.
+/// Answers a request as the runner does, and then has the desk forget until what it keeps is within
+/// the limits.
 #[derive(Drop)]
 pub struct KeepingHandler<N> {
     runner: N,
-    keep: u32,
+    keep: KeepLimits,
 }
 
 impl<N: Drop> KeepingHandler<N> {
     ghost use Rattle.std.specs.Prelude.{◌≡◌};
 
-    /// A runner, and how many jobs' reports are kept.
-    pub fn new(runner: N, keep: u32) -> KeepingHandler<N>
+    /// A runner, and how many reports are kept.
+    pub fn new(runner: N, keep: KeepLimits) -> KeepingHandler<N>
         ensures { (result.runner ≡ runner) × (result.keep ≡ keep) }
     {
         KeepingHandler { runner, keep }
@@ -39,7 +39,7 @@ impl<N: Runner> Handler<Desk> for KeepingHandler<N> {
         request: Result<Request, u8>,
     ) -> Result<Vec<u8>, NoMemory> {
         let reply = self.runner.answer(alloc, desk, request);
-        desk.keep_last(self.keep);
+        desk.keep_within(self.keep);
         reply
     }
 }
@@ -52,7 +52,7 @@ impl<N: Runner> TellingHandler for KeepingHandler<N> {
         request: PreparedRequest,
     ) -> (Option<SubmitRefusal>, Result<PendingReply, NoMemory>) {
         let told = self.runner.answer_and_tell(alloc, desk, request);
-        desk.keep_last(self.keep);
+        desk.keep_within(self.keep);
         told
     }
 }

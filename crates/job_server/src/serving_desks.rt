@@ -3,7 +3,7 @@
 ghost use Rattle.std.specs.Prelude.{◌≡◌, ◌≤◌, All, IfOk, is_some, length};
 ghost use Rattle.accounts.specs.Ledgers.{Ledger};
 ghost use Rattle.shared_desk.specs.Histories.{by_any_passage};
-ghost use Rattle.tenant_desks.specs.Answering.{KeptRunner, tenant_answers};
+ghost use Rattle.tenant_desks.specs.Answering.{KeptRunner, door_answers};
 ghost use Rattle.tenant_desks.specs.Tenancies.{Tenancy};
 ghost use Rattle.job_server.specs.AtOnce.{IsServingFrom, new_desk};
 ghost use Rattle.job_server.specs.Kept.{answers_keeping};
@@ -79,7 +79,7 @@ pub(crate) fn serve_at_desks<
     ensures { (begun : Tenancy × KeptRunner (LineLimitedRunner N))
         × (end : Tenancy × KeptRunner (LineLimitedRunner N))
         × BeginsAtDesks plan.entry.tenants.now plan.entry.bounds runner begun
-        × (s : IsServingFrom (tenant_answers (starts_by_line N.starts) (looks_by_line N.looks)
+        × (s : IsServingFrom (door_answers (starts_by_line N.starts) (looks_by_line N.looks)
         (takes_by_line N.takes)) (λ s. s ≡ begun) end
         plan.entry.sessions (is_some plan.entry.stop) result)
         × AreOf L.opens L.fails listener s.opened

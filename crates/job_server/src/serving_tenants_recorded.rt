@@ -7,7 +7,7 @@ ghost use Rattle.desk_journal.specs.declared.journaled_desk.OpenJob.{OpenJob};
 ghost use Rattle.shared_journal.specs.declared.journal_queue.JournalQueue.{JournalQueue};
 ghost use Rattle.streams.specs.declared.fault.StreamFault.TheVariants as stream;
 ghost use Rattle.tenant_desks.specs.Tenancies.{Tenancy};
-ghost use Rattle.tenant_recorder.specs.TenantsRecorded.{RecordedRunner, tenant_answers_recorded};
+ghost use Rattle.tenant_recorder.specs.TenantsRecorded.{RecordedRunner, door_answers_recorded};
 ghost use Rattle.job_pools.specs.LineBounded.{looks_by_line, new_by_line, starts_by_line, takes_by_line};
 ghost use Rattle.job_pools.specs.declared.line_limited_runner.LineLimitedRunner.{LineLimitedRunner};
 ghost use Rattle.job_server.specs.AtOnce.{IsServingFrom};
@@ -146,7 +146,7 @@ pub(crate) fn serve_tenants_recorded<
         (door_credits plan.entry.tenants.now) (open_jobs_of states.items)
         (new_by_line (door_limits plan.entry.bounds.tenant_jobs plan.entry.tenants.now) runner)
         plan.entry.bounds.keep begun
-        × (s : IsServingFrom (tenant_answers_recorded (starts_by_line N.starts)
+        × (s : IsServingFrom (door_answers_recorded (starts_by_line N.starts)
         (looks_by_line N.looks) (takes_by_line N.takes) queue_taken queue_told) (λ s. s ≡ begun) end
         plan.entry.sessions (is_some plan.entry.stop) result)
         × AreOf L.opens L.fails listener s.opened

@@ -54,4 +54,4 @@ change_plain at number (Granted tenant amount) = rw (tenant_plain tenant.items) 
 change_plain at number (Submitted tenant programs credit buffer) = rw (programs_plain programs.items, tenant_plain tenant.items) refl
 change_plain at number (Finished job report) = rw (tasks_plain report.tasks.items) refl
 change_plain at number (Failed job code) = refl
-change_plain at number (Forgotten keep) = refl
+change_plain at number (Forgotten ahead) = refl

@@ -36,7 +36,7 @@ number_most number (Granted tenant amount) = omega arith
 number_most number (Submitted tenant programs credit buffer) = omega arith
 number_most number (Finished job report) = omega arith
 number_most number (Failed job code) = omega arith
-number_most number (Forgotten keep) = omega arith
+number_most number (Forgotten ahead) = omega arith
 
 -- the lines of one change more, behind others
 lines_more : (changes : List DeskChange) (change : DeskChange) (lines : List ℕ) (at behind number next : ℕ) (more : List DeskChange)

@@ -56,11 +56,11 @@ failed_data at job code =
     object (member (codes "at") (whole at) (member (codes "change") (string (codes "finished"))
     (member (codes "code") (whole code) (member (codes "job") (whole job) no_members))))
 
--- all but so many last jobs were forgotten
+-- of the first so many jobs, those that are over were forgotten
 unfoldable pub forgotten_data : ℕ → ℕ → Data
-forgotten_data at keep =
-    object (member (codes "at") (whole at) (member (codes "change") (string (codes "forgotten"))
-    (member (codes "keep") (whole keep) no_members)))
+forgotten_data at ahead =
+    object (member (codes "ahead") (whole ahead) (member (codes "at") (whole at)
+    (member (codes "change") (string (codes "forgotten")) no_members)))
 
 -- a change whose record begins at this byte; a job that it takes gets this number
 abbrev pub change_data : ℕ → ℕ → DeskChange → Data
@@ -69,4 +69,4 @@ change_data at number (Submitted tenant programs credit buffer) =
     submitted_data at number tenant.items programs.items credit buffer.items
 change_data at number (Finished job report) = finished_data at job report
 change_data at number (Failed job code) = failed_data at job code
-change_data at number (Forgotten keep) = forgotten_data at keep
+change_data at number (Forgotten ahead) = forgotten_data at ahead

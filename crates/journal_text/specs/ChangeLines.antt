@@ -17,7 +17,7 @@ number_behind number (Granted tenant amount) = number
 number_behind number (Submitted tenant programs credit buffer) = number + 1
 number_behind number (Finished job report) = number
 number_behind number (Failed job code) = number
-number_behind number (Forgotten keep) = number
+number_behind number (Forgotten ahead) = number
 
 -- the lines of changes, of which the first has its record at this byte, and the first job this number
 abbrev pub lines_from : ℕ → ℕ → List DeskChange → List ℕ

@@ -116,10 +116,10 @@ fn failed_value(alloc: Global, at: u64, job: u64, code: u8) -> Result<Value, All
 }
 
 #[tactic(auto, unfolding(crate::specs::ChangeData::forgotten_data))]
-fn forgotten_value(alloc: Global, at: u64, keep: u64) -> Result<Value, AllocError>
-    ensures { IfOk result (λ v. view v ≡ forgotten_data at keep) }
+fn forgotten_value(alloc: Global, at: u64, ahead: u64) -> Result<Value, AllocError>
+    ensures { IfOk result (λ v. view v ≡ forgotten_data at ahead) }
 {
-    json!(in alloc; {"at": at, "change": "forgotten", "keep": keep})
+    json!(in alloc; {"ahead": ahead, "at": at, "change": "forgotten"})
 }
 
 /// The change whose record begins at this byte; a job that it takes gets this number.
@@ -141,6 +141,6 @@ pub(crate) fn change_value(
         } => submitted_value(alloc, at, job, tenant, programs, *credit, buffer),
         DeskChange::Finished { job, report } => finished_value(alloc, at, *job, report),
         DeskChange::Failed { job, code } => failed_value(alloc, at, *job, *code),
-        DeskChange::Forgotten { keep } => forgotten_value(alloc, at, *keep),
+        DeskChange::Forgotten { ahead } => forgotten_value(alloc, at, *ahead),
     }
 }

@@ -1,11 +1,11 @@
 -- The lines of a server's log, as text.
-use Rattle.std.specs.Prelude.{◌≡◌, flat_map, ℕ, List, [], ◌++◌, codes, ◌==◌, if◌then◌else◌}
+use Rattle.std.specs.Prelude.{◌≡◌, flat_map, ℕ, List, [], ◌++◌, codes, string_bytes, Some, None, ◌==◌, if◌then◌else◌}
 use Rattle.std.specs.Fmt.{decimal}
 use Rattle.shared_desk.specs.Doors.{door_text}
 use Rattle.server_log.specs.declared.log_line.ConnectionEnd.{ConnectionEnd}
 use Rattle.server_log.specs.declared.log_line.ConnectionEnd.TheVariants.{Input, Stopped, TooLarge, ReadTimeout, ReadCut, WriteTimeout, WriteCut, Journal, NoMemory}
 use Rattle.server_log.specs.declared.log_line.LogEvent.{LogEvent}
-use Rattle.server_log.specs.declared.log_line.LogEvent.TheVariants.{Ready, Stopping, JournalFailed, Opened, Closed, Started, Ended, Failed, Refused}
+use Rattle.server_log.specs.declared.log_line.LogEvent.TheVariants.{Ready, Stopping, JournalFailed, Opened, Closed, Started, Ended, Failed, Refused, Granted}
 use Rattle.server_log.specs.declared.log_line.LogLine.{LogLine}
 
 -- the number of the refusal, and 0 where there is none
@@ -31,7 +31,7 @@ ending_text WriteCut = codes "cut"
 ending_text Journal = codes "journal"
 ending_text NoMemory = codes "memory"
 
--- what happened: a word of ours, and numbers
+-- what happened: a word of ours, numbers, and the name that a tenant has in the configuration
 abbrev pub event_text : LogEvent → List ℕ
 event_text Ready = codes "\"ready\",\"version\":\"0.1.0\""
 event_text Stopping = codes "\"stopping\""
@@ -59,6 +59,13 @@ event_text (Ended job spent returned tasks buffer ms) =
 event_text (Failed job code) =
     codes "\"failed\",\"job\":" ++ (decimal job ++ (codes ",\"code\":" ++ decimal code))
 event_text (Refused code) = codes "\"refused\",\"code\":" ++ decimal code
+event_text (Granted None amount balance) =
+    codes "\"granted\",\"amount\":" ++ (decimal amount
+    ++ (codes ",\"balance\":" ++ decimal balance))
+event_text (Granted (Some tenant) amount balance) =
+    codes "\"granted\",\"tenant\":\"" ++ (string_bytes tenant
+    ++ (codes "\",\"amount\":" ++ (decimal amount
+    ++ (codes ",\"balance\":" ++ decimal balance))))
 
 -- how many lines were lost, if any were
 abbrev pub lost_text : ℕ → List ℕ

@@ -2,10 +2,12 @@
 //! writer.
 #![tactic(auto)]
 
+mod grant_note;
 mod log_line;
 mod log_queue;
 mod logged_handler;
 
+pub use grant_note::{GrantNote, noted_grant};
 pub use log_line::{ConnectionEnd, LogEvent, LogLine};
 pub use log_queue::{LogLines, ServerLog, millis_since, open_log, write_lines};
-pub use logged_handler::{LoggedHandler, event_of_refusal};
+pub use logged_handler::{LoggedHandler, event_of_refusal, tell_answer};

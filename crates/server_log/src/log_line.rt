@@ -71,7 +71,7 @@ impl fmt::Display for ConnectionEnd {
 }
 
 /// What happened. Connections and jobs have their numbers.
-#[derive(Clone, Copy, Debug, PartialEq, Eq)]
+#[derive(Drop)]
 pub enum LogEvent {
     /// The server takes connections from now on.
     Ready,
@@ -115,6 +115,13 @@ pub enum LogEvent {
     Refused {
         code: u64,
     },
+    /// A tenant was granted so much, and has this balance then. Its name is that of the configuration,
+    /// if it stands there.
+    Granted {
+        tenant: Option<String>,
+        amount: u32,
+        balance: u64,
+    },
 }
 
 impl fmt::Display for LogEvent {
@@ -124,7 +131,7 @@ impl fmt::Display for LogEvent {
     ghost output = { λ event. Some (event_text event) };
 
     fn fmt<W: fmt::Write>(&self, f: &mut fmt::Formatter<W>) -> fmt::Result {
-        match *self {
+        match self {
             LogEvent::Ready => write!(f, "\"ready\",\"version\":\"0.1.0\""),
             LogEvent::Stopping => write!(f, "\"stopping\""),
             LogEvent::JournalFailed => write!(f, "\"journal failed\""),
@@ -171,6 +178,21 @@ impl fmt::Display for LogEvent {
             }
             LogEvent::Failed { job, code } => write!(f, "\"failed\",\"job\":{job},\"code\":{code}"),
             LogEvent::Refused { code } => write!(f, "\"refused\",\"code\":{code}"),
+            LogEvent::Granted {
+                tenant: None,
+                amount,
+                balance,
+            } => { write!(f, "\"granted\",\"amount\":{amount},\"balance\":{balance}") }
+            LogEvent::Granted {
+                tenant: Some(tenant),
+                amount,
+                balance,
+            } => {
+                write!(
+                    f,
+                    "\"granted\",\"tenant\":\"{tenant}\",\"amount\":{amount},\"balance\":{balance}"
+                )
+            }
         }
     }
 }
@@ -196,7 +218,7 @@ impl fmt::Display for Lost {
 
 /// A line: when it happened, in milliseconds since 1970, what happened, and how many lines ahead of it
 /// were lost.
-#[derive(Clone, Copy, Debug, PartialEq, Eq)]
+#[derive(Drop)]
 pub struct LogLine {
     pub time: u64,
     pub event: LogEvent,

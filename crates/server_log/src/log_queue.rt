@@ -116,13 +116,14 @@ pub fn millis_since<R: Clock>(rt: &R, begun: Option<Instant>) -> u64
 impl ServerLog {
     /// Tells what happened, and waits for no writer.
     pub fn tell<R: Wait + Clock>(&self, rt: &R, event: LogEvent) {
+        let lost = self.losses.take();
         let line = LogLine {
             time: now(rt),
             event,
-            lost: self.losses.take(),
+            lost,
         };
         if self.queue.try_send(rt, line).is_err() {
-            self.losses.add(line.lost.saturating_add(1));
+            self.losses.add(lost.saturating_add(1));
         }
     }
 

@@ -1,13 +1,14 @@
-//! A handler whose refused jobs are told in a server's log.
+//! A handler whose refused jobs and whose grants are told in a server's log.
 
 ghost use Rattle.std.specs.Prelude.{◌≡◌};
 ghost use Rattle.server_log.specs.Told.{refusal_event};
 
+use crate::grant_note::noted_grant;
 use crate::log_line::LogEvent;
 use crate::log_queue::ServerLog;
 use accounts::Desk;
 use refusal::NoMemory;
-use sessions::Request;
+use sessions::{DoorForm, Request};
 use shared_desk::{Passage, SharedHandler};
 use std::alloc::Global;
 use std::marker::Model;
@@ -15,8 +16,8 @@ use std::sync::Wait;
 use std::time::Clock;
 use streams::{PendingReply, PreparedRequest, SubmitRefusal, TellingHandler, wants_admission};
 
-/// Answers as a handler does. Where there is a log, that is told of each job that is refused. Contracts
-/// see it as the handler.
+/// Answers as a handler does. Where there is a log, that is told of each job that is refused, and of
+/// each grant. Contracts see it as the handler.
 #[derive(Drop)]
 pub struct LoggedHandler<'a, R, H> {
     rt: &'a R,
@@ -53,6 +54,24 @@ pub fn event_of_refusal(refusal: SubmitRefusal) -> LogEvent
     }
 }
 
+/// Tells a log, if there is one, why a job doesn't run, and of a grant.
+pub fn tell_answer<R: Wait + Clock>(
+    rt: &R,
+    log: Option<&ServerLog>,
+    refusal: Option<SubmitRefusal>,
+    granted: Option<LogEvent>,
+) {
+    let Some(log) = log else {
+        return;
+    };
+    if let Some(refusal) = refusal {
+        log.tell(rt, event_of_refusal(refusal));
+    }
+    if let Some(event) = granted {
+        log.tell(rt, event);
+    }
+}
+
 impl<R: Wait + Clock, H: TellingHandler> SharedHandler<Desk> for LoggedHandler<'_, R, H> {
     ghost use Rattle.shared_desk.specs.Histories.{by_any_passage};
 
@@ -70,11 +89,15 @@ impl<R: Wait + Clock, H: TellingHandler> SharedHandler<Desk> for LoggedHandler<'
         desk: &mut Desk,
         _passage: Passage,
         request: PreparedRequest,
+        _beyond: Option<DoorForm>,
     ) -> Result<PendingReply, NoMemory> {
+        let note = noted_grant(alloc, self.log, desk, &request);
         let (refusal, reply) = self.handler.answer_and_tell(alloc, desk, request);
-        if let (Some(log), Some(refusal)) = (self.log, refusal) {
-            log.tell(self.rt, event_of_refusal(refusal));
-        }
+        let granted = match note {
+            Some(note) => note.event(desk, false),
+            None => None,
+        };
+        tell_answer(self.rt, self.log, refusal, granted);
         reply
     }
 }

@@ -4,6 +4,9 @@ use Rattle.hex.specs.Hex.{encode_lower}
 use Rattle.serde_json.specs.Data.{Data, boolean, number, unsigned, string, array, object, Items, no_items, item, Members, no_members, member}
 use Rattle.serde_json.specs.Written.{compact_text}
 use Rattle.credit_book.specs.declared.event.TaskEnd.{TaskEnd}
+use Rattle.accounts.specs.declared.listing.ListedJob.{ListedJob}
+use Rattle.accounts.specs.declared.listing.ListedState.{ListedState}
+use Rattle.accounts.specs.declared.listing.ListedState.TheVariants.{Open, Over, Failed}
 use Rattle.sessions.specs.Frames.{framed}
 use Rattle.sessions.specs.declared.reply.Reply.{Reply}
 use Rattle.sessions.specs.declared.reply.Reply.TheVariants as reply
@@ -66,6 +69,25 @@ play_data buffer complete held returned spent used =
     (member (codes "ok") (boolean true) (member (codes "returned") (whole returned)
     (member (codes "spent") (whole spent) (member (codes "used") (whole used) no_members)))))))
 
+-- a job in a listing: its number, how it stands, and the code by which it failed, if it did
+unfoldable pub listed_data : ℕ → ListedState → Data
+listed_data job Open =
+    object (member (codes "job") (whole job)
+    (member (codes "state") (string (codes "open")) no_members))
+listed_data job Over =
+    object (member (codes "job") (whole job)
+    (member (codes "state") (string (codes "over")) no_members))
+listed_data job (Failed code) =
+    object (member (codes "code") (whole code) (member (codes "job") (whole job)
+    (member (codes "state") (string (codes "failed")) no_members)))
+
+-- a listing, with the number of the last job
+unfoldable pub jobs_data : ℕ → List ListedJob → Data
+jobs_data count jobs =
+    object (member (codes "count") (whole count)
+    (member (codes "jobs") (array (items (map (λ j. listed_data j.job j.state) jobs)))
+    (member (codes "ok") (boolean true) no_members)))
+
 abbrev pub reply_data : Reply → Data
 reply_data (reply.Refused code program slot) = refusal_data code program slot
 reply_data (reply.Account balance granted opened spent) = account_data balance granted opened spent
@@ -75,6 +97,7 @@ reply_data (reply.Result buffer returned spent tasks) =
     result_data buffer.now returned spent tasks.now
 reply_data (reply.Play buffer complete held returned spent used) =
     play_data buffer.now complete held returned spent used
+reply_data (reply.Jobs count jobs) = jobs_data count jobs.now
 
 -- the bytes of a reply
 abbrev pub text_of : Reply → List ℕ

@@ -11,19 +11,24 @@ pub use law::{frames_of_all_pieces, frames_of_bytes, named_requests};
 pub use session::Session;
 
 // what its frames ask
+mod door_forms;
+mod door_request;
 mod hexadecimal;
 mod member;
 mod request;
 mod tenant_key;
 
+pub use door_forms::{DoorForm, DoorForms};
+pub use door_request::{DoorRequest, read_at_door};
 pub use request::{JobObject, Request, job_object, read_request_by};
 pub use tenant_key::TenantKey;
 
 // what is answered
+mod job_list;
 mod reply;
 mod result;
 
 pub use reply::{Reply, reply_frame, reply_text};
 
 // the accounts that requests speak of
-pub use accounts::{Account, Desk, DeskFault, SubmitFault};
+pub use accounts::{Account, Desk, DeskFault, ListedJob, ListedState, SubmitFault};

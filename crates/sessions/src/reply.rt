@@ -7,7 +7,9 @@ ghost use Rattle.sessions.specs.Frames.{framed};
 ghost use Rattle.sessions.specs.Replies.{refusal_data, account_data, submit_data, status_data, play_data, text_of, frame_of, frame_or_refusal, longest_reply};
 ghost use Rattle.sessions.specs.Outcomes.{outcome_data};
 
+use crate::job_list::write_jobs;
 use crate::result::{JobOutcome, result_frame, write_result};
+use accounts::ListedJob;
 use credit_book::TaskEnd;
 use itoa::Buffer;
 use refusal::NoMemory;
@@ -51,6 +53,11 @@ pub enum Reply<'a> {
         returned: u32,
         spent: u32,
         tasks: &'a [TaskEnd],
+    },
+    /// Which jobs a tenant has, of which the last one has the number `count`.
+    Jobs {
+        count: u64,
+        jobs: &'a [ListedJob],
     },
     /// How far a schedule brought a job.
     Play {
@@ -196,6 +203,7 @@ fn write_reply(alloc: Global, out: &mut Vec<u8>, reply: &Reply) -> Result<(), Al
                 tasks,
             },
         ),
+        Reply::Jobs { count, jobs } => write_jobs(out, count, jobs),
         Reply::Play {
             buffer,
             complete,

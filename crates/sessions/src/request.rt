@@ -246,8 +246,13 @@ fn read_form(
     Err(SessionFault::BadRequest)
 }
 
+/// The request that a value says. JSON that is no request is 73, and a growth that was refused 99.
 #[tactic(auto, unfolding(crate::specs::OwnNames::request_by))]
-fn read_value(alloc: Global, value: &Value, key: TenantKey) -> Result<Request, SessionFault>
+pub(crate) fn read_value(
+    alloc: Global,
+    value: &Value,
+    key: TenantKey,
+) -> Result<Request, SessionFault>
     ensures ok { IfOk result (λ r. request_by key (view value.now) ≡ Some (request_asked r)) }
     ensures err { IfErr result (λ e. (e ≢ NoMemory) → (e ≡ BadRequest)
         × (request_by key (view value.now) ≡ None)) }

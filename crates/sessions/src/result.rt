@@ -46,8 +46,8 @@ fn put_word(out: &mut Vec<u8>, lead: &[u8], word: bool) -> Result<(), AllocError
     }
 }
 
-// A comma, where something stands before.
-fn put_comma(out: &mut Vec<u8>, is_later: bool) -> Result<(), AllocError>
+/// A comma, where something stands before.
+pub(crate) fn put_comma(out: &mut Vec<u8>, is_later: bool) -> Result<(), AllocError>
     ensures { OnOk result (out.new.items ≡ out.old.items ++ comma_if is_later) }
 {
     if is_later {

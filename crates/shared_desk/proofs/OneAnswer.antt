@@ -1,9 +1,10 @@
 -- What one answer under the lock says.
-use Rattle.std.proofs.Common.{◌≡◌, ℕ, List, [], ◌∷◌, ◌++◌, Result, Ok, Err, Vec, Global, refl, sym, ap, ◌∙◌, subst}
+use Rattle.std.proofs.Common.{◌≡◌, ℕ, List, [], ◌∷◌, ◌++◌, Option, Result, Ok, Err, Vec, Global, refl, sym, ap, ◌∙◌, subst}
 use Rattle.std.specs.Prelude.{IfOk, OnErr}
 use mathlib.Core.List.{IsPrefix}
 use Rattle.refusal.specs.declared.NoMemory.{NoMemory}
 use Rattle.sessions.specs.Grammar.{Asked}
+use Rattle.sessions.specs.declared.door_forms.DoorForm.{DoorForm}
 use Rattle.streams.proofs.Written.{written_ok, written_err}
 use Rattle.shared_desk.specs.declared.passage.Passage.{Passage}
 use Rattle.shared_desk.specs.Grants.{admitted, admitted_by}
@@ -113,5 +114,6 @@ module _ {S : Type 0} (answers : S → Query → List ℕ → S → Type 0) (beg
       (subst (λ (q : Query). OnErr reply ((bytes : List ℕ) × IsSharedAnswer answers begins v q bytes w)) is err)
 
 -- what comes to the desk of what was heard by a passage
-pub passed : (p q : Passage) (asked heard : Result Asked ℕ) → p ≡ q → asked ≡ admitted p.may_grant heard → record { passage = p; asked = asked } ≡ admitted_by q heard
-passed p q asked heard same is = ap (λ (a : Result Asked ℕ). record { passage = p; asked = a }) is ∙ ap (λ (r : Passage). admitted_by r heard) same
+pub passed : (p q : Passage) (asked heard : Result Asked ℕ) (beyond : Option DoorForm) → p ≡ q → asked ≡ admitted p.may_grant heard
+    → record { passage = p; asked = asked; beyond = beyond } ≡ admitted_by q heard beyond
+passed p q asked heard beyond same is = ap (λ (a : Result Asked ℕ). record { passage = p; asked = a; beyond = beyond }) is ∙ ap (λ (r : Passage). admitted_by r heard beyond) same

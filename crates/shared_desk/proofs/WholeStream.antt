@@ -1,8 +1,9 @@
 -- A whole stream, by the connection's part of the history.
-use Rattle.std.proofs.Common.{◌≡◌, ◌^◌, ◌-◌, ◌+◌, ℕ, List, [], ◌∷◌, ◌++◌, length, length-append, min, Bool, true, false, Result, Ok, Err, refl, sym, ap, ◌∙◌, subst, arith, append_assoc, append-nil}
+use Rattle.std.proofs.Common.{◌≡◌, ◌^◌, ◌-◌, ◌+◌, ℕ, List, [], ◌∷◌, ◌++◌, length, length-append, min, Bool, true, false, Option, Result, Ok, Err, refl, sym, ap, ◌∙◌, subst, arith, append_assoc, append-nil}
 use Rattle.std.specs.Prelude.{IfOk, IfErr, OnOk}
 use Rattle.sessions.specs.Frames.{front, whole}
 use Rattle.sessions.specs.Grammar.{Asked}
+use Rattle.sessions.specs.declared.door_forms.DoorForm.{DoorForm}
 use Rattle.sessions.proofs.Fronts.{front_stable}
 use Rattle.streams.specs.declared.fault.StreamFault.{StreamFault}
 use Rattle.streams.specs.declared.fault.StreamFault.TheVariants.{ReadFailed, WriteFailed, NoMemory}
@@ -12,7 +13,7 @@ use Rattle.shared_desk.specs.declared.passage.Passage.{Passage}
 use Rattle.shared_desk.specs.Histories.{HistoryEntry, Query, queries_of, replies_of, part_of}
 use Rattle.shared_desk.specs.ClientViews.{ClientView, Extends}
 use Rattle.shared_desk.specs.Grants.{admitted_by}
-use Rattle.shared_desk.specs.HeardAt.{HearsAt}
+use Rattle.shared_desk.specs.HeardAt.{AsksBeyondAt, HearsAt}
 use Rattle.shared_desk.specs.Answered.{IsSharedAnswer, entry_for}
 use Rattle.shared_desk.specs.Parts.{Asks, IsWritten, IsWrittenToTheFault, IsWrittenInPart, IsWrittenButOne, IsWrittenUpTo, NamesTheEnd, IsServedPart, IsServedClient}
 use Rattle.shared_desk.proofs.Parts.{prefix_self, prefix_trans}
@@ -42,22 +43,22 @@ extends_on v m w first second a b = record {
 
 -- ---- frames that ask, one after the other
 
-asks_one : (may : Passage) (bytes : List ℕ) (queries : List Query) (left payload rest : List ℕ) (query : Result Asked ℕ) → Asks may bytes queries left → front left ≡ whole payload rest
-    → HearsAt may.door payload query → Asks may bytes (queries ++ admitted_by may query ∷ []) rest
-asks_one may bytes [] left payload rest query asked first heard = (payload, rest, query, ap front (sym asked) ∙ first, heard, refl, refl)
-asks_one may bytes (q ∷ qs) left payload rest query asked first heard =
-    (asked.0, asked.1, asked.2, asked.3, asked.4, asked.5, asks_one may asked.1 qs left payload rest query asked.6 first heard)
+asks_one : (may : Passage) (bytes : List ℕ) (queries : List Query) (left payload rest : List ℕ) (query : Result Asked ℕ) (beyond : Option DoorForm) → Asks may bytes queries left → front left ≡ whole payload rest
+    → HearsAt may.door payload query → AsksBeyondAt may.door payload beyond → Asks may bytes (queries ++ admitted_by may query beyond ∷ []) rest
+asks_one may bytes [] left payload rest query beyond asked first heard more = (payload, rest, query, beyond, ap front (sym asked) ∙ first, heard, more, refl, refl)
+asks_one may bytes (q ∷ qs) left payload rest query beyond asked first heard more =
+    (asked.0, asked.1, asked.2, asked.3, asked.4, asked.5, asked.6, asked.7, asks_one may asked.1 qs left payload rest query beyond asked.8 first heard more)
 
 -- more bytes change nothing
 asks_more : (may : Passage) (bytes more : List ℕ) (queries : List Query) (left : List ℕ) → Asks may bytes queries left → Asks may (bytes ++ more) queries (left ++ more)
 asks_more may bytes more [] left asked = ap (λ (l : List ℕ). l ++ more) asked
 asks_more may bytes more (q ∷ qs) left asked =
-    (asked.0, asked.1 ++ more, asked.2, front_stable bytes more asked.0 asked.1 asked.3, asked.4, asked.5, asks_more may asked.1 more qs left asked.6)
+    (asked.0, asked.1 ++ more, asked.2, asked.3, front_stable bytes more asked.0 asked.1 asked.4, asked.5, asked.6, asked.7, asks_more may asked.1 more qs left asked.8)
 
 asks_on : (may : Passage) (bytes : List ℕ) (first : List Query) (mid : List ℕ) (second : List Query) (left : List ℕ) → Asks may bytes first mid → Asks may mid second left
     → Asks may bytes (first ++ second) left
 asks_on may bytes [] mid second left asked later = subst (λ (b : List ℕ). Asks may b second left) asked later
-asks_on may bytes (q ∷ qs) mid second left asked later = (asked.0, asked.1, asked.2, asked.3, asked.4, asked.5, asks_on may asked.1 qs mid second left asked.6 later)
+asks_on may bytes (q ∷ qs) mid second left asked later = (asked.0, asked.1, asked.2, asked.3, asked.4, asked.5, asked.6, asked.7, asks_on may asked.1 qs mid second left asked.8 later)
 
 asks_also : (may : Passage) (bytes : List ℕ) (p q : List Query) (left : List ℕ) → p ≡ q → Asks may bytes p left → Asks may bytes q left
 asks_also may bytes p q left is asked = subst (λ (l : List Query). Asks may bytes l left) is asked
@@ -72,7 +73,9 @@ record Entries (may : Passage) (v : ClientView) (bytes before : List ℕ) (count
 
 module _ {S : Type 0} (may : Passage) (answers : S → Query → List ℕ → S → Type 0) (begins : S → Type 0) where
   abbrev pub shared : Unit {0} × ClientView → List ℕ → List ℕ → Unit {0} × ClientView → Type 0
-  shared s payload reply t = (heard : Result Asked ℕ) × HearsAt may.door payload heard × IsSharedAnswer answers begins s.1 (admitted_by may heard) reply t.1
+  shared s payload reply t =
+      (heard : Result Asked ℕ) × (beyond : Option DoorForm) × HearsAt may.door payload heard × AsksBeyondAt may.door payload beyond
+      × IsSharedAnswer answers begins s.1 (admitted_by may heard beyond) reply t.1
 
   extends_one : (v : ClientView) (query : Query) (reply : List ℕ) (w : ClientView) → IsSharedAnswer answers begins v query reply w → Extends v (entry_for v query reply ∷ []) w
   extends_one v query reply w answer = record {
@@ -85,13 +88,13 @@ module _ {S : Type 0} (may : Passage) (answers : S → Query → List ℕ → S 
       → Serves shared start bytes before count end left out → Entries may start.1 bytes before count end.1 left out
   entries start bytes before count end left out none_yet =
       record { part = []; extends = extends_none start.1; asked = refl; counts = refl; written = sym (append-nil before) }
-  entries start bytes before count end left out (one_more count1 s left1 out1 payload rest reply t served first (query, heard, answer)) =
+  entries start bytes before count end left out (one_more count1 s left1 out1 payload rest reply t served first (query, beyond, heard, more, answer)) =
       let r = entries start bytes before count1 s left1 out1 served in
-      let e = entry_for s.1 (admitted_by may query) reply in
+      let e = entry_for s.1 (admitted_by may query beyond) reply in
       record {
         part = r.part ++ e ∷ [];
-        extends = extends_on start.1 s.1 t.1 r.part (e ∷ []) r.extends (extends_one s.1 (admitted_by may query) reply t.1 answer);
-        asked = asks_also may bytes _ _ rest (sym (queries_append r.part (e ∷ []))) (asks_one may bytes (queries_of r.part) left1 payload rest query r.asked first heard);
+        extends = extends_on start.1 s.1 t.1 r.part (e ∷ []) r.extends (extends_one s.1 (admitted_by may query beyond) reply t.1 answer);
+        asked = asks_also may bytes _ _ rest (sym (queries_append r.part (e ∷ []))) (asks_one may bytes (queries_of r.part) left1 payload rest query beyond r.asked first heard more);
         counts = let grown : length (r.part ++ e ∷ []) ≡ length r.part + 1 = length-append r.part (e ∷ []) in let was = r.counts in omega arith;
         written = ap (λ (l : List ℕ). l ++ reply) r.written ∙ (append_assoc before (replies_of r.part) reply ∙ ap (λ (l : List ℕ). before ++ l) (sym (replies_one r.part e)));
       }
@@ -164,18 +167,18 @@ module _ {S : Type 0} (may : Passage) (answers : S → Query → List ℕ → S 
           written = r.written;
         },
       )
-  starved_of start bytes before end after (ahead_of_reply count s left out payload rest reply t served first (query, heard, answer)) =
+  starved_of start bytes before end after (ahead_of_reply count s left out payload rest reply t served first (query, beyond, heard, more, answer)) =
       let r = entries start bytes before count s left out served in
-      let e = entry_for s.1 (admitted_by may query) reply in (
+      let e = entry_for s.1 (admitted_by may query beyond) reply in (
         r.part ++ e ∷ [],
-        extends_on start.1 s.1 t.1 r.part (e ∷ []) r.extends (extends_one s.1 (admitted_by may query) reply t.1 answer),
+        extends_on start.1 s.1 t.1 r.part (e ∷ []) r.extends (extends_one s.1 (admitted_by may query beyond) reply t.1 answer),
         record {
           first = r.part;
           unwritten = e ∷ [];
           both = refl;
           one_at_most = omega arith;
           left = rest;
-          asked = asks_also may bytes _ _ rest (sym (queries_append r.part (e ∷ []))) (asks_one may bytes (queries_of r.part) left payload rest query r.asked first heard);
+          asked = asks_also may bytes _ _ rest (sym (queries_append r.part (e ∷ []))) (asks_one may bytes (queries_of r.part) left payload rest query beyond r.asked first heard more);
           written = r.written;
         },
       )

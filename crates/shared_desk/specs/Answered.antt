@@ -1,6 +1,7 @@
 -- What one connection is answered at the desk that all share.
-use Rattle.std.specs.Prelude.{◌≡◌, ℕ, List, [], ◌∷◌, ◌++◌, Result, IfOk}
+use Rattle.std.specs.Prelude.{◌≡◌, ℕ, List, [], ◌∷◌, ◌++◌, Option, Result, IfOk}
 use Rattle.refusal.specs.declared.NoMemory.{NoMemory}
+use Rattle.sessions.specs.declared.door_forms.DoorForm.{DoorForm}
 use Rattle.streams.specs.Prepared.{asked_of}
 use Rattle.streams.specs.declared.prepared_request.PreparedRequest.{PreparedRequest}
 use Rattle.shared_desk.specs.declared.passage.Passage.{Passage}
@@ -8,8 +9,9 @@ use Rattle.shared_desk.specs.Histories.{HistoryEntry, Query, Replays, part_of}
 use Rattle.shared_desk.specs.ClientViews.{ClientView}
 
 -- what was asked by a passage
-abbrev pub query_by : Passage → PreparedRequest → Query
-query_by passage request = record { passage = passage; asked = asked_of request }
+abbrev pub query_by : Passage → PreparedRequest → Option DoorForm → Query
+query_by passage request beyond =
+    record { passage = passage; asked = asked_of request; beyond = beyond }
 
 -- this answer, to this connection
 abbrev pub entry_for : ClientView → Query → List ℕ → HistoryEntry

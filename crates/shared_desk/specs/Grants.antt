@@ -1,6 +1,7 @@
 -- Which requests of a connection come to the desk: grants of some connections alone.
-use Rattle.std.specs.Prelude.{ℕ, Bool, true, false, Result, Ok, Err}
+use Rattle.std.specs.Prelude.{ℕ, Bool, true, false, Option, Result, Ok, Err}
 use Rattle.sessions.specs.Grammar.{Asked, grant, account, submit, status, result}
+use Rattle.sessions.specs.declared.door_forms.DoorForm.{DoorForm}
 use Rattle.shared_desk.specs.declared.door.Door.TheVariants.{Port}
 use Rattle.shared_desk.specs.declared.passage.Passage.{Passage}
 use Rattle.shared_desk.specs.Histories.{Query}
@@ -16,9 +17,9 @@ admitted false (Ok (result number)) = Ok (result number)
 admitted false (Err code) = Err code
 
 -- what comes to the desk of what was asked by a passage
-abbrev pub admitted_by : Passage → Result Asked ℕ → Query
-admitted_by passage query =
-    record { passage = passage; asked = admitted passage.may_grant query }
+abbrev pub admitted_by : Passage → Result Asked ℕ → Option DoorForm → Query
+admitted_by passage query beyond =
+    record { passage = passage; asked = admitted passage.may_grant query; beyond = beyond }
 
 -- a connection of the port, whose requests all come to the desk
 abbrev pub by_port : Passage

@@ -1,15 +1,17 @@
 -- Histories of what many connections asked, with the replies.
-use Rattle.std.specs.Prelude.{ℕ, ◌==◌, Bool, true, false, List, [], ◌∷◌, ◌++◌, Result}
+use Rattle.std.specs.Prelude.{ℕ, ◌==◌, Bool, true, false, List, [], ◌∷◌, ◌++◌, Option, Result}
 use Rattle.sessions.specs.Grammar.{Asked}
+use Rattle.sessions.specs.declared.door_forms.DoorForm.{DoorForm}
 use Rattle.shared_desk.specs.declared.passage.Passage.{Passage}
 
--- what was asked, or the number of the refusal of a request that can't be read, and by which
--- passage
+-- By which passage something was asked; what the plain protocol hears of it, or the number of its
+-- refusal; and what was asked beyond that, if something was.
 pub record Query : Type 0 where
   pub passage : Passage
   pub asked : Result Asked ℕ
+  pub beyond : Option DoorForm
 
--- the answers of a handler to which all passages are alike
+-- the answers of a handler to which all passages are alike, and which hears the plain protocol alone
 abbrev pub by_any_passage : {S : Type 0} → (S → Result Asked ℕ → List ℕ → S → Type 0) → S → Query
     → List ℕ → S → Type 0
 by_any_passage answers s query reply t = answers s query.asked reply t

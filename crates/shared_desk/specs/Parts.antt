@@ -1,7 +1,8 @@
 -- What went through the two ends of a connection, by the connection's part of the history.
-use Rattle.std.specs.Prelude.{◌≡◌, ◌≤◌, ◌-◌, ◌^◌, ℕ, List, [], ◌∷◌, ◌++◌, length, min, Bool, true, false, Result, MatchResult}
+use Rattle.std.specs.Prelude.{◌≡◌, ◌≤◌, ◌-◌, ◌^◌, ℕ, List, [], ◌∷◌, ◌++◌, length, min, Bool, true, false, Option, Result, MatchResult}
 use Rattle.sessions.specs.Frames.{front, whole, partial}
 use Rattle.sessions.specs.Grammar.{Asked}
+use Rattle.sessions.specs.declared.door_forms.DoorForm.{DoorForm}
 use Rattle.streams.specs.Stops.{EndsWith, StopsAt, IsDue, IsPartWritten}
 use Rattle.streams.specs.declared.fault.StreamFault.{StreamFault}
 use Rattle.streams.specs.declared.fault.StreamFault.TheVariants.{ReadFailed, WriteFailed, NoMemory}
@@ -9,15 +10,16 @@ use Rattle.shared_desk.specs.declared.passage.Passage.{Passage}
 use Rattle.shared_desk.specs.Histories.{HistoryEntry, Query, queries_of, replies_of}
 use Rattle.shared_desk.specs.ClientViews.{ClientView, Extends}
 use Rattle.shared_desk.specs.Grants.{admitted_by}
-use Rattle.shared_desk.specs.HeardAt.{HearsAt}
+use Rattle.shared_desk.specs.HeardAt.{AsksBeyondAt, HearsAt}
 
 -- The first frames of the bytes ask this, one after the other, by a passage; and these bytes are
 -- left.
 abbrev pub Asks : Passage → List ℕ → List Query → List ℕ → Type 0
 Asks passage bytes [] left = left ≡ bytes
 Asks passage bytes (query ∷ queries) left =
-    (payload rest : List ℕ) × (heard : Result Asked ℕ) × (front bytes ≡ whole payload rest)
-    × HearsAt passage.door payload heard × (query ≡ admitted_by passage heard)
+    (payload rest : List ℕ) × (heard : Result Asked ℕ) × (beyond : Option DoorForm)
+    × (front bytes ≡ whole payload rest) × HearsAt passage.door payload heard
+    × AsksBeyondAt passage.door payload beyond × (query ≡ admitted_by passage heard beyond)
     × Asks passage rest queries left
 
 -- Nothing failed: every frame of the bytes is asked in the part, and what was written are the

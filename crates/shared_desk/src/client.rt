@@ -13,13 +13,13 @@ use crate::seats::Origin;
 use crate::shared_handler::SharedHandler;
 use crate::shared_history::{ClientSeat, SharedHistory};
 use refusal::NoMemory;
-use sessions::Request;
+use sessions::{DoorForm, DoorRequest, Request, read_at_door};
 use std::alloc::Global;
 use std::marker::{Brand, Model, PhantomData};
 use std::sync::{Mutex, Wait};
 use streams::{
-    FrameHandler, PendingReply, PreparedRequest, Sink, Source, StreamFault, hear_payload, prepare,
-    serve_stream, written_frame,
+    FrameHandler, PendingReply, PreparedRequest, Sink, Source, StreamFault, prepare, serve_stream,
+    written_frame,
 };
 
 /// Answers one connection's requests at the shared desk, each under the lock, as far as its passage
@@ -101,7 +101,7 @@ impl<'a, R: Wait, D, H: SharedHandler<D>, J: Origin<D, H>, G: PassageId> Client<
 }
 
 impl<R: Wait, D, H: SharedHandler<D>, J: Origin<D, H>, G: PassageId> Client<'_, R, D, H, J, G> {
-    // The same request. One for a job that the desk would take now, but for its admission, is admitted
+    // The same request of the plain protocol. One for a job that the desk would take now, but for its admission, is admitted
     // here, while others are at the desk.
     fn prepared(&self, alloc: Global, request: Result<Request, u8>) -> PreparedRequest
         ensures { asked_of result ≡ query_of request }
@@ -129,31 +129,39 @@ impl<R: Wait, D, H: SharedHandler<D>, J: Origin<D, H>, G: PassageId> Client<'_, 
         &mut self,
         alloc: Global,
         request: PreparedRequest,
+        beyond: Option<DoorForm>,
     ) -> Result<PendingReply, NoMemory>
         ensures ok { IfOk result (λ reply. IsSharedAnswer H.answers J.begins self.old
-            (query_by G.passage request) reply self.new) }
+            (query_by G.passage request beyond) reply self.new) }
         ensures err { OnErr result ((reply : List ℕ) × IsSharedAnswer H.answers J.begins self.old
-            (query_by G.passage request) reply self.new) }
+            (query_by G.passage request beyond) reply self.new) }
     {
-        self.lock
-            .lock(self.rt)
-            .answer(self.history, &mut self.seat, alloc, self.passage, request)
+        self.lock.lock(self.rt).answer(
+            self.history,
+            &mut self.seat,
+            alloc,
+            self.passage,
+            request,
+            beyond,
+        )
     }
 }
 
 impl<R: Wait, D, H: SharedHandler<D>, J: Origin<D, H>, G: PassageId> FrameHandler<()>
     for Client<'_, R, D, H, J, G> {
-    ghost use Rattle.std.specs.Prelude.{ℕ, Result};
+    ghost use Rattle.std.specs.Prelude.{ℕ, Option, Result};
     ghost use Rattle.sessions.specs.Grammar.{Asked};
+    ghost use Rattle.sessions.specs.declared.door_forms.DoorForm.{DoorForm};
     ghost use Rattle.shared_desk.specs.Answered.{IsSharedAnswer};
     ghost use Rattle.shared_desk.specs.Grants.{admitted_by};
-    ghost use Rattle.shared_desk.specs.HeardAt.{HearsAt};
+    ghost use Rattle.shared_desk.specs.HeardAt.{AsksBeyondAt, HearsAt};
 
     ghost ready = { λ _. Unit {0} };
 
     ghost answers = { λ s payload reply t.
-        (heard : Result Asked ℕ) × HearsAt G.passage.door payload heard
-        × IsSharedAnswer H.answers J.begins s.1 (admitted_by G.passage heard) reply t.1 };
+        (heard : Result Asked ℕ) × (beyond : Option DoorForm) × HearsAt G.passage.door payload heard
+        × AsksBeyondAt G.passage.door payload beyond
+        × IsSharedAnswer H.answers J.begins s.1 (admitted_by G.passage heard beyond) reply t.1 };
 
     fn answer_payload(
         &mut self,
@@ -161,10 +169,11 @@ impl<R: Wait, D, H: SharedHandler<D>, J: Origin<D, H>, G: PassageId> FrameHandle
         _desk: &mut (),
         payload: &[u8],
     ) -> Result<Vec<u8>, NoMemory> {
-        let heard = hear_payload(alloc, payload, self.passage.tenant_key())?;
-        let admitted = self.passage.admit(heard);
+        let heard = read_at_door(alloc, payload, self.passage.forms())?;
+        let DoorRequest { plain, beyond } = heard;
+        let admitted = self.passage.admit(plain);
         let prepared = self.prepared(alloc, admitted);
-        let reply = self.answered(alloc, prepared);
+        let reply = self.answered(alloc, prepared, beyond);
         written_frame(alloc, reply)
     }
 }

@@ -11,7 +11,7 @@ use crate::seats::Origin;
 use crate::shared_handler::SharedHandler;
 use crate::shared_history::{ClientSeat, Opener, Recorder, SharedHistory};
 use refusal::NoMemory;
-use sessions::Request;
+use sessions::{DoorForm, Request};
 use std::alloc::Global;
 use std::marker::{Brand, Model};
 use std::snapshot::Snapshot;
@@ -96,8 +96,8 @@ impl<D, H: SharedHandler<D>, J: Origin<D, H>> SharedDesk<D, H, J> {
         self.handler.wants_admission(&self.desk, passage, request)
     }
 
-    /// Answers a request of a connection, by its passage, as the handler does, and adds that to the
-    /// history. Where the reply finds no memory, the request was still carried out, and the history
+    /// Answers a request of a connection, by its passage, and what it asked beyond the plain protocol,
+    /// as the handler does, and adds that to the history. Where the reply finds no memory, the request was still carried out, and the history
     /// has it.
     pub fn answer(
         &mut self,
@@ -106,14 +106,15 @@ impl<D, H: SharedHandler<D>, J: Origin<D, H>> SharedDesk<D, H, J> {
         alloc: Global,
         passage: Passage,
         request: PreparedRequest,
+        beyond: Option<DoorForm>,
     ) -> Result<PendingReply, NoMemory>
         ensures ok { IfOk result (λ reply.
-            H.answers self.old.0 (query_by passage request) reply self.new.0
-            × IsSharedAnswer H.answers J.begins seat.old (query_by passage request) reply
+            H.answers self.old.0 (query_by passage request beyond) reply self.new.0
+            × IsSharedAnswer H.answers J.begins seat.old (query_by passage request beyond) reply
             seat.new) }
         ensures err { OnErr result ((reply : List ℕ)
-            × H.answers self.old.0 (query_by passage request) reply self.new.0
-            × IsSharedAnswer H.answers J.begins seat.old (query_by passage request) reply
+            × H.answers self.old.0 (query_by passage request beyond) reply self.new.0
+            × IsSharedAnswer H.answers J.begins seat.old (query_by passage request beyond) reply
             seat.new) }
         ensures history { self.new.1 ≡ seat.new.seen }
         ensures over { self.new.2 ≡ self.old.2 }
@@ -123,12 +124,13 @@ impl<D, H: SharedHandler<D>, J: Origin<D, H>> SharedDesk<D, H, J> {
         let handler_before = Snapshot::of(&self.handler);
         let reply = self
             .handler
-            .answer_by(alloc, &mut self.desk, passage, request);
+            .answer_by(alloc, &mut self.desk, passage, request, beyond);
         history.add::<Brand, D, H>(
             seat,
             &mut self.recorder,
             passage,
             &asked,
+            beyond,
             &desk_before,
             &handler_before,
             &self.desk,

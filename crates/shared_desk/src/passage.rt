@@ -6,7 +6,7 @@ ghost use Rattle.shared_desk.specs.Grants.{admitted};
 ghost use Rattle.shared_desk.specs.HeardAt as heard;
 
 use crate::door::Door;
-use sessions::{Request, TenantKey};
+use sessions::{DoorForms, Request};
 use std::marker::Brand;
 
 // The number of the refusal of what is no request.
@@ -34,15 +34,15 @@ impl PassageId for Brand {
 }
 
 impl Passage {
-    /// Whether a request has to name its tenant. At a tenant's own socket the name may be left out.
-    pub fn tenant_key(self) -> TenantKey
-        ensures { result ≡ heard.tenant_key self.door }
+    /// Which requests its door hears: at a tenant's own socket those of its own door too.
+    pub fn forms(self) -> DoorForms
+        ensures { result ≡ heard.forms_at self.door }
     {
         match self.door {
-            Door::Port => TenantKey::Required,
-            Door::Socket => TenantKey::Required,
-            Door::Grants => TenantKey::Required,
-            Door::Tenant(_) => TenantKey::Optional,
+            Door::Port => DoorForms::Plain,
+            Door::Socket => DoorForms::Plain,
+            Door::Grants => DoorForms::Plain,
+            Door::Tenant(_) => DoorForms::OwnDoor,
         }
     }
 

@@ -3,7 +3,7 @@
 use crate::closed::ClosedConnection;
 use crate::passage::Passage;
 use atomic_table::{Join, Play, Split, TableRule};
-use sessions::Request;
+use sessions::{DoorForm, Request};
 use std::collections::LinkedList;
 use std::marker::{Brand, Model, PhantomData};
 
@@ -13,6 +13,7 @@ pub struct LogEntry {
     pub connection: u64,
     pub passage: Passage,
     pub request: Result<Request, u8>,
+    pub beyond: Option<DoorForm>,
     pub reply: LinkedList<u8>,
 }
 
@@ -24,7 +25,11 @@ impl Model for LogEntry {
 
     ghost view = { λ e. record {
       connection = e.connection;
-      query = record { passage = e.passage; asked = query_of e.request };
+      query = record {
+        passage = e.passage;
+        asked = query_of e.request;
+        beyond = e.beyond;
+      };
       reply = e.reply;
     } };
 }

@@ -7,7 +7,7 @@ ghost use Rattle.shared_desk.specs.Answered.{query_by};
 use crate::passage::Passage;
 use accounts::Desk;
 use refusal::NoMemory;
-use sessions::Request;
+use sessions::{DoorForm, Request};
 use std::alloc::Global;
 use streams::{PendingReply, PreparedRequest, Runner, TellingHandler, wants_admission};
 
@@ -23,24 +23,26 @@ pub trait SharedHandler<D> {
     /// answer, while others are at the desk.
     fn wants_admission(&self, desk: &D, passage: Passage, request: &Request) -> bool;
 
-    /// Answers what was asked by a passage, or the number of its refusal. The frame of a report is
-    /// written later. Where the reply finds no memory, the request was still carried out.
+    /// Answers what was asked by a passage, or the number of its refusal, and what was asked beyond
+    /// the plain protocol. The frame of a report is written later. Where the reply finds no memory,
+    /// the request was still carried out.
     fn answer_by(
         &mut self,
         alloc: Global,
         desk: &mut D,
         passage: Passage,
         request: PreparedRequest,
+        beyond: Option<DoorForm>,
     ) -> Result<PendingReply, NoMemory>
         requires { ready self.old }
         ensures ready { ready self.new }
-        ensures ok { IfOk result (λ reply. answers (desk.old, self.old) (query_by passage request)
-            reply (desk.new, self.new)) }
-        ensures err { OnErr result ((reply : List ℕ)
-            × answers (desk.old, self.old) (query_by passage request) reply (desk.new, self.new)) };
+        ensures ok { IfOk result (λ reply. answers (desk.old, self.old)
+            (query_by passage request beyond) reply (desk.new, self.new)) }
+        ensures err { OnErr result ((reply : List ℕ) × answers (desk.old, self.old)
+            (query_by passage request beyond) reply (desk.new, self.new)) };
 }
 
-/// A runner answers all passages alike.
+/// A runner answers all passages alike, by the plain protocol.
 impl<N: Runner> SharedHandler<Desk> for N {
     ghost use Rattle.shared_desk.specs.Histories.{by_any_passage};
     ghost use Rattle.streams.specs.Answering.{Answers};
@@ -60,6 +62,7 @@ impl<N: Runner> SharedHandler<Desk> for N {
         desk: &mut Desk,
         _passage: Passage,
         request: PreparedRequest,
+        _beyond: Option<DoorForm>,
     ) -> Result<PendingReply, NoMemory> {
         self.answer_and_tell(alloc, desk, request).1
     }

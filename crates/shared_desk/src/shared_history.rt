@@ -13,6 +13,7 @@ use crate::seats::{
 };
 use atomic_table::{Seat, Table};
 use refusal::NoMemory;
+use sessions::DoorForm;
 use std::alloc::Global;
 use std::marker::{Model, PhantomData};
 use std::mem;
@@ -175,6 +176,7 @@ impl<J: HistoryId> SharedHistory<J> {
         recorder: &mut Recorder<J>,
         passage: Passage,
         request: &Snapshot<PreparedRequest>,
+        beyond: Option<DoorForm>,
         desk_before: &Snapshot<D>,
         handler_before: &Snapshot<H>,
         desk: &D,
@@ -192,6 +194,7 @@ impl<J: HistoryId> SharedHistory<J> {
     {
         let _ = passage;
         let _ = request;
+        let _ = beyond;
         let _ = desk_before;
         let _ = handler_before;
         let _ = desk;

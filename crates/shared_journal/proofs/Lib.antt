@@ -1,0 +1,3 @@
+pub mod JournalLists
+pub mod JournalSteps
+pub mod JournalCalls

@@ -1,2 +1,4 @@
+pub mod JournalHistories
+pub mod JournalRule
 pub mod Commits
 pub mod Places

@@ -1,31 +1,27 @@
-//! The log of a shared journal, as it lies under its lock.
+//! The log of a shared journal, as the thread has it that commits.
 
-ghost use Rattle.std.specs.Prelude.{◌≡◌, ◌⊎◌, ◌++◌, [], ℕ, List, false, true, take, IsErr, OnOk, OnErr};
+ghost use Rattle.std.specs.Prelude.{◌≡◌, ◌⊎◌, ◌++◌, [], ℕ, false, true, take, IsErr, OnOk, OnErr};
 ghost use Rattle.journal.specs.Logs.{appended, synced};
 
-use crate::waiting_records::take_all;
 use journal::{Log, LogFault};
 use std::alloc::Global;
-use std::sync::{Mutex, Wait};
+use std::mem;
 
 // A buffer that is larger is given back once it was written.
 const MOST_KEPT: usize = 1 << 20;
 
-/// A log, and the bytes that were taken to be written to it. Unless it has failed, all that was
-/// written is durable whenever nobody is within a call.
+/// A log, and the bytes that were taken to be written to it.
 #[derive(Drop)]
-pub(crate) struct CommitLog<L: Log> {
+pub(crate) struct CommitLog<L> {
     alloc: Global,
     log: L,
     taken: Vec<u8>,
     has_failed: bool,
-    ghost settled: { has_failed ≡ false → (L.state log).pending ≡ [] },
 }
 
 impl<L: Log> CommitLog<L> {
-    /// A log of which all is durable.
+    /// A log that has not failed.
     pub fn new(alloc: Global, log: L) -> CommitLog<L>
-        requires { (L.state log).pending ≡ [] }
         ensures { (result.log ≡ log) × (result.has_failed ≡ false) }
     {
         CommitLog {
@@ -34,6 +30,22 @@ impl<L: Log> CommitLog<L> {
             taken: Vec::new(alloc),
             has_failed: false,
         }
+    }
+
+    /// Whether it has failed.
+    pub fn has_failed(&self) -> bool
+        ensures { result ≡ self.now.has_failed }
+    {
+        self.has_failed
+    }
+
+    /// Its buffer, without bytes.
+    pub fn empty_buffer(&mut self) -> Vec<u8>
+        ensures none { result.items ≡ [] }
+        ensures same { (self.new.log ≡ self.old.log) × (self.new.has_failed ≡ self.old.has_failed) }
+    {
+        self.taken.clear();
+        mem::replace(&mut self.taken, Vec::new(self.alloc))
     }
 
     // Writes the bytes that were taken, and syncs. After an error a beginning of them was written.
@@ -59,12 +71,19 @@ impl<L: Log> CommitLog<L> {
         Ok(())
     }
 
-    /// Takes all that waits, writes it and syncs. After an error no call answers `Ok` again.
-    pub fn commit<R: Wait>(&mut self, rt: &R, waiting: &Mutex<Vec<u8>>) -> Result<(), LogFault>
-        ensures goes_on { OnOk result (self.new.has_failed ≡ false) }
-        ensures durable { OnOk result ((bytes : List ℕ) × (L.state self.new.log
-            ≡ synced (appended (L.state self.old.log) bytes))) }
+    /// Writes these bytes, and syncs. After an error no call answers `Ok` again. Without bytes
+    /// nothing is asked of the log.
+    pub fn write(&mut self, bytes: Vec<u8>) -> Result<(), LogFault>
+        ensures goes_on { OnOk result ((self.old.has_failed ≡ false)
+            × (self.new.has_failed ≡ false)) }
+        ensures durable { OnOk result ((L.state self.old.log).pending ≡ []
+            → L.state self.new.log ≡ record {
+              durable = (L.state self.old.log).durable ++ bytes.items;
+              pending = [];
+            }) }
         ensures stops { OnErr result (self.new.has_failed ≡ true) }
+        ensures kept { OnErr result ((L.state self.new.log).durable
+            ≡ (L.state self.old.log).durable) }
         ensures stopped { self.old.has_failed ≡ true → IsErr result × (self.new ≡ self.old) }
         ensures log_failed { OnErr result ((self.old.has_failed ≡ true)
             ⊎ ((before : L) × L.fails before self.new.log)) }
@@ -72,11 +91,10 @@ impl<L: Log> CommitLog<L> {
         if self.has_failed {
             return Err(LogFault);
         }
-        self.taken.clear();
-        take_all(&mut waiting.lock(rt), &mut self.taken);
-        if self.taken.is_empty() {
+        if bytes.is_empty() {
             return Ok(());
         }
+        self.taken = bytes;
         self.write_taken()?;
         self.shrink();
         Ok(())
@@ -100,7 +118,7 @@ mod tests {
     use super::CommitLog;
     use crate::waiting_records::put_behind;
     use journal::MemoryLog;
-    use std::sync::Mutex;
+    use std::mem;
 
     // What waits is durable behind a commit. A commit that fails is the last one.
     #[test]
@@ -108,15 +126,16 @@ mod tests {
         let alloc = rt.alloc();
         let log = MemoryLog::new(alloc, Vec::new(alloc), 3);
         let mut commits = CommitLog::new(alloc, log);
-        let waiting = Mutex::new(Vec::new(alloc));
-        assert!(rt; commits.commit(&rt, &waiting).is_ok());
-        assert!(rt; put_behind(&mut waiting.lock(&rt), &[1, 2]).is_ok());
-        assert!(rt; put_behind(&mut waiting.lock(&rt), &[3]).is_ok());
-        assert!(rt; commits.commit(&rt, &waiting).is_ok());
+        let mut waiting = Vec::new(alloc);
+        assert!(rt; commits.write(Vec::new(alloc)).is_ok());
+        assert!(rt; put_behind(&mut waiting, &[1, 2]).is_ok());
+        assert!(rt; put_behind(&mut waiting, &[3]).is_ok());
+        let buffer = commits.empty_buffer();
+        assert!(rt; commits.write(mem::replace(&mut waiting, buffer)).is_ok());
         assert!(rt; commits.log.durable.as_slice() == [1, 2, 3].as_slice());
-        assert!(rt; put_behind(&mut waiting.lock(&rt), &[4, 5]).is_ok());
-        assert!(rt; commits.commit(&rt, &waiting).is_err());
-        assert!(rt; commits.commit(&rt, &waiting).is_err());
+        assert!(rt; put_behind(&mut waiting, &[4, 5]).is_ok());
+        assert!(rt; commits.write(waiting).is_err());
+        assert!(rt; commits.write(Vec::new(alloc)).is_err());
         assert!(rt; commits.log.durable.as_slice() == [1, 2, 3].as_slice());
     }
 }

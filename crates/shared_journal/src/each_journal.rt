@@ -15,7 +15,8 @@ pub fn commit_each<R: Wait, J: GroupJournal>(rt: &R, journals: &[J]) -> Result<(
 {
     let mut rest = journals;
     'journals: while let Some((first, others)) = rest.split_first() {
-        first.commit_all(rt)?;
+        let (_, committed) = first.commit_all(rt);
+        committed?;
         rest = others;
     }
     Ok(())
@@ -28,7 +29,8 @@ fn look_at_each<J: GroupJournal>(journals: &[J]) -> Result<(), LogFault>
 {
     let mut rest = journals;
     'journals: while let Some((first, others)) = rest.split_first() {
-        first.look()?;
+        let (_, sound) = first.look();
+        sound?;
         rest = others;
     }
     Ok(())

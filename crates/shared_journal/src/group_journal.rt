@@ -1,18 +1,19 @@
-//! A journal as those see it who add records and who write replies.
+//! A journal as those see it who write replies.
 
-ghost use Rattle.std.specs.Prelude.{OnErr, OnOk};
+ghost use Rattle.std.specs.Prelude.{◌≡◌, true, MatchResult, OnErr, OnOk};
 
+use crate::journal_table::JournalSeat;
 use journal::LogFault;
-use refusal::NoMemory;
 use std::sync::Wait;
 
-/// Takes records, and makes all durable that it has taken. A lock forgets what lies under it, so
-/// only a call tells that a record was taken, that a commit was made, or that it has failed.
+/// Makes all durable that was put into it. Only a call tells that a commit was made, or that it has
+/// failed. Each call gives the seat by which it was made, which knows that all that it has seen is
+/// durable, or that the journal has failed.
 pub trait GroupJournal {
-    ghost use Rattle.std.specs.Prelude.{ℕ, List};
+    ghost use Rattle.shared_journal.specs.JournalHistories.{JournalName};
 
-    // It was given these bytes, and has taken them.
-    ghost took: { Self → List ℕ → Type 0 };
+    // Which journal it is.
+    ghost name: { Self → JournalName };
 
     // All that it had taken was made durable.
     ghost committed: { Self → Type 0 };
@@ -23,17 +24,18 @@ pub trait GroupJournal {
     // It told that it has failed.
     ghost failed: { Self → Type 0 };
 
-    /// Takes a record behind the others.
-    fn take_record<R: Wait>(&self, rt: &R, bytes: &[u8]) -> Result<(), NoMemory>
-        ensures { OnOk result (took self.now bytes.now) };
-
     /// Makes all durable that it has taken.
-    fn commit_all<R: Wait>(&self, rt: &R) -> Result<(), LogFault>
-        ensures committed { OnOk result (committed self.now) }
-        ensures failed { OnErr result (failed self.now) };
+    fn commit_all<R: Wait>(&self, rt: &R) -> (JournalSeat, Result<(), LogFault>)
+        ensures own { result.0.journal ≡ name self.now }
+        ensures seen { MatchResult result.1 (λ _. result.0.durable ≡ result.0.seen)
+            (λ _. result.0.has_failed ≡ true) }
+        ensures committed { OnOk result.1 (committed self.now) }
+        ensures failed { OnErr result.1 (failed self.now) };
 
     /// Looks whether it has failed. Nothing is waited for.
-    fn look(&self) -> Result<(), LogFault>
-        ensures sound { OnOk result (sound self.now) }
-        ensures failed { OnErr result (failed self.now) };
+    fn look(&self) -> (JournalSeat, Result<(), LogFault>)
+        ensures own { result.0.journal ≡ name self.now }
+        ensures seen { OnErr result.1 (result.0.has_failed ≡ true) }
+        ensures sound { OnOk result.1 (sound self.now) }
+        ensures failed { OnErr result.1 (failed self.now) };
 }

@@ -1,21 +1,26 @@
 //! The records of a desk's changes, on their way into a shared journal.
 
 ghost use Rattle.std.specs.Prelude.{◌≡◌, ◌++◌, [], OnErr, OnOk};
+ghost use Rattle.shared_journal.specs.JournalHistories.{HasAddedRecord, KnowsTheSame, journal_bytes};
 
-use crate::group_journal::GroupJournal;
+use crate::journal_table::JournalSeat;
 use crate::shared_journal::SharedJournal;
 use desk_recorder::RecordQueue;
 use journal_file::GhostBytes;
 use refusal::NoMemory;
 use std::sync::Wait;
 
-/// Puts records into a shared journal, for one desk.
+/// Puts records into a shared journal, for one desk. Its seat knows that each of them stands in the
+/// journal's history, once and in order.
 #[derive(Drop)]
 pub struct JournalQueue<'a, R> {
     rt: &'a R,
     journal: &'a SharedJournal,
+    seat: JournalSeat,
     taken: GhostBytes,
     was_told: bool,
+    ghost own: { seat.journal ≡ journal.now.history },
+    ghost in_order: { journal_bytes seat.own ≡ taken.bytes },
 }
 
 impl<'a, R> JournalQueue<'a, R> {
@@ -29,6 +34,7 @@ impl<'a, R> JournalQueue<'a, R> {
         JournalQueue {
             rt,
             journal,
+            seat: journal.watch(),
             taken: GhostBytes::new(),
             was_told: false,
         }
@@ -36,17 +42,23 @@ impl<'a, R> JournalQueue<'a, R> {
 }
 
 // Puts a record into the journal, and notes it.
-fn put_record<R: Wait, J: GroupJournal>(
+fn put_record<R: Wait>(
     rt: &R,
-    journal: &J,
+    journal: &SharedJournal,
+    seat: &mut JournalSeat,
     taken: &mut GhostBytes,
     bytes: &[u8],
 ) -> Result<(), NoMemory>
-    ensures ok { OnOk result (J.took journal.now bytes.now
+    requires own { seat.old.journal ≡ journal.now.history }
+    requires order { journal_bytes seat.old.own ≡ taken.old.bytes }
+    ensures own { seat.new.journal ≡ journal.now.history }
+    ensures order { journal_bytes seat.new.own ≡ taken.new.bytes }
+    ensures ok { OnOk result (HasAddedRecord seat.old bytes.now seat.new
         × (taken.new.bytes ≡ taken.old.bytes ++ bytes.now)) }
-    ensures err { OnErr result (taken.new.bytes ≡ taken.old.bytes) }
+    ensures err { OnErr result (KnowsTheSame seat.old seat.new
+        × (taken.new.bytes ≡ taken.old.bytes)) }
 {
-    journal.take_record(rt, bytes)?;
+    journal.add(rt, seat, bytes)?;
     *taken = taken.then(bytes);
     Ok(())
 }
@@ -59,15 +71,21 @@ impl<R: Wait> RecordQueue for JournalQueue<'_, R> {
     ghost has_failed = { λ q. q.was_told ≡ true };
 
     fn reserve(&mut self, len: usize) -> Result<(), NoMemory> {
-        self.journal.reserve(self.rt, len)
+        self.journal.reserve(self.rt, &mut self.seat, len)
     }
 
     fn add(&mut self, bytes: &[u8]) -> Result<(), NoMemory> {
-        put_record(self.rt, self.journal, &mut self.taken, bytes)
+        put_record(
+            self.rt,
+            self.journal,
+            &mut self.seat,
+            &mut self.taken,
+            bytes,
+        )
     }
 
     fn fail(&mut self) {
-        self.journal.fail();
+        self.journal.fail(&mut self.seat);
         self.was_told = true;
     }
 }

@@ -4,9 +4,19 @@
 
 // the records that wait, and the log that they go to
 mod commit_log;
+mod journal_part;
+mod waiting_records;
+
+// the history of both, in proofs alone, and who knows of it
+mod journal_calls;
+mod journal_table;
+mod seat_views;
+
+pub use journal_table::JournalSeat;
+
+// the journal itself
 mod group_journal;
 mod shared_journal;
-mod waiting_records;
 
 pub use group_journal::GroupJournal;
 pub use shared_journal::SharedJournal;

@@ -1,17 +1,17 @@
 //! A journal that many threads write to.
 
-ghost use Rattle.std.specs.Prelude.{◌≡◌, []};
+ghost use Rattle.std.specs.Prelude.{◌≡◌, [], false, true, IfOk, MatchBool, OnErr, OnOk};
 ghost use Rattle.journal_file.specs.FileLogs.{file_state};
+ghost use Rattle.shared_journal.specs.JournalHistories.{HasAddedRecord, HasCommitted, HasStopped, KnowsTheSame};
 
-use crate::commit_log::CommitLog;
 use crate::group_journal::GroupJournal;
-use crate::waiting_records::put_behind;
+use crate::journal_calls::{commit_all, put_record, reserve_room};
+use crate::journal_table::{JournalSeat, JournalTable};
 use journal::LogFault;
 use journal_file::FileLog;
 use refusal::NoMemory;
 use std::alloc::Global;
-use std::sync::atomic::{AtomicBool, Ordering};
-use std::sync::{Mutex, Wait};
+use std::sync::Wait;
 
 /// A journal that the threads of a server share.
 ///
@@ -19,96 +19,137 @@ use std::sync::{Mutex, Wait};
 /// syncs, while others add further records; who comes meanwhile waits for that, and finds nothing
 /// to do where its records went along. So one sync serves all that waited for it.
 ///
-/// A lock forgets what lies under it, so no clause says that a record which was added before a
-/// commit is durable behind it. That rests on the order of three steps: a record is added behind
-/// the lock of those that wait, a commit takes all of these, and it answers `Ok` once they are
-/// synced. Clauses say of each step what it does.
+/// It has one history, in proofs alone: the records that were added, in order, of which a beginning
+/// is durable. Each thread has a seat, which knows a beginning of the history. A record that a seat
+/// adds stands behind all that the seat knew, once; and all that it knew is durable behind its
+/// commit. What waits and what the log has are tied to the history by the rule of a table,
+/// whichever thread holds them.
 ///
 /// A server has one for each desk. Its place is that of the desk whose changes it keeps: so clauses
 /// tell one journal from another.
 #[derive(Drop)]
 pub struct SharedJournal {
     place: usize,
-    waiting: Mutex<Vec<u8>>,
-    log: Mutex<CommitLog<FileLog>>,
-    failed: AtomicBool,
+    alloc: Global,
+    history: JournalTable,
 }
 
 impl SharedJournal {
     /// A journal of the desk at a place, over a log of which all is durable.
-    pub fn new(alloc: Global, place: usize, log: FileLog) -> SharedJournal
+    pub fn new(alloc: Global, place: usize, log: FileLog) -> Result<SharedJournal, NoMemory>
         requires { (file_state log).pending ≡ [] }
-        ensures { result.place ≡ place }
+        ensures place { IfOk result (λ journal. journal.place ≡ place) }
+        ensures first { IfOk result (λ journal. journal.history.first ≡ (file_state log).durable) }
     {
-        SharedJournal {
+        let history = JournalTable::new(alloc, log)?;
+        Ok(SharedJournal {
             place,
-            waiting: Mutex::new(Vec::new(alloc)),
-            log: Mutex::new(CommitLog::new(alloc, log)),
-            failed: AtomicBool::new(false),
-        }
+            alloc,
+            history,
+        })
+    }
+
+    /// A seat for a thread, which has added nothing.
+    pub fn watch(&self) -> JournalSeat
+        ensures { (result.journal ≡ self.now.history) × (result.own ≡ [])
+            × (result.has_failed ≡ false) }
+    {
+        self.history.watch()
     }
 
     /// Whether it has failed. From then on no commit answers `Ok`, and no record is taken.
     pub fn has_failed(&self) -> bool {
-        self.failed.load(Ordering::SeqCst)
+        self.history.has_failed()
+    }
+
+    /// Whether it has failed, as the seat then knows. A seat that knew so is told so.
+    pub fn is_failed(&self, seat: &mut JournalSeat) -> bool
+        requires { seat.old.journal ≡ self.now.history }
+        ensures same { KnowsTheSame seat.old seat.new }
+        ensures told { MatchBool result (seat.new.has_failed ≡ true)
+            (seat.old.has_failed ≡ false) }
+    {
+        self.history.is_failed(&mut seat.seat)
     }
 
     /// A record is missing: nothing is to be committed from now on.
-    pub fn fail(&self) {
-        self.failed.store(true, Ordering::SeqCst);
+    pub fn fail(&self, seat: &mut JournalSeat)
+        requires { seat.old.journal ≡ self.now.history }
+        ensures same { KnowsTheSame seat.old seat.new }
+        ensures failed { seat.new.has_failed ≡ true }
+    {
+        self.history.fail(&mut seat.seat);
     }
 
     /// Makes all records durable that were added before. After an error none that follows answers
-    /// `Ok`.
-    pub fn commit<R: Wait>(&self, rt: &R) -> Result<(), LogFault> {
-        if self.log.lock(rt).commit(rt, &self.waiting).is_err() {
-            self.fail();
+    /// `Ok`, and the seat has stopped: none of its calls answers `Ok` either.
+    pub fn commit<R: Wait>(&self, rt: &R, seat: &mut JournalSeat) -> Result<(), LogFault>
+        requires { seat.old.journal ≡ self.now.history }
+        ensures ok { OnOk result (HasCommitted seat.old seat.new) }
+        ensures err { OnErr result (HasStopped seat.old seat.new) }
+    {
+        if commit_all(rt, self.alloc, &self.history, &mut seat.seat).is_err() {
+            self.history.fail(&mut seat.seat);
+            return Err(LogFault);
         }
-        if self.has_failed() {
+        if self.history.is_failed(&mut seat.seat) {
             return Err(LogFault);
         }
         Ok(())
     }
 
     /// Makes room for so many bytes more among those that wait. A journal that has failed has none.
-    pub fn reserve<R: Wait>(&self, rt: &R, len: usize) -> Result<(), NoMemory> {
-        if self.has_failed() || self.waiting.lock(rt).reserve(len).is_err() {
+    pub fn reserve<R: Wait>(
+        &self,
+        rt: &R,
+        seat: &mut JournalSeat,
+        len: usize,
+    ) -> Result<(), NoMemory>
+        requires { seat.old.journal ≡ self.now.history }
+        ensures { KnowsTheSame seat.old seat.new }
+    {
+        if self.history.is_failed(&mut seat.seat) {
             return Err(NoMemory);
         }
-        Ok(())
+        reserve_room(rt, self.alloc, &self.history, &mut seat.seat, len)
     }
 
     /// Puts a record behind those that wait. One that has failed takes none.
-    pub fn add<R: Wait>(&self, rt: &R, bytes: &[u8]) -> Result<(), NoMemory> {
-        if self.has_failed() {
+    pub fn add<R: Wait>(&self, rt: &R, seat: &mut JournalSeat, bytes: &[u8]) -> Result<(), NoMemory>
+        requires { seat.old.journal ≡ self.now.history }
+        ensures ok { OnOk result (HasAddedRecord seat.old bytes.now seat.new) }
+        ensures err { OnErr result (KnowsTheSame seat.old seat.new) }
+    {
+        if self.history.is_failed(&mut seat.seat) {
             return Err(NoMemory);
         }
-        put_behind(&mut self.waiting.lock(rt), bytes)
+        put_record(rt, self.alloc, &self.history, &mut seat.seat, bytes)
     }
 }
 
 impl GroupJournal for SharedJournal {
-    // What lies under its locks has no clause.
-    ghost took = { λ _ _. Unit {0} };
+    ghost name = { λ journal. journal.history };
 
+    // The seat that is given knows it.
     ghost committed = { λ _. Unit {0} };
 
+    // A look tells of its moment alone.
     ghost sound = { λ _. Unit {0} };
 
+    // The seat that is given knows it.
     ghost failed = { λ _. Unit {0} };
 
-    fn take_record<R: Wait>(&self, rt: &R, bytes: &[u8]) -> Result<(), NoMemory> {
-        self.add(rt, bytes)
+    fn commit_all<R: Wait>(&self, rt: &R) -> (JournalSeat, Result<(), LogFault>) {
+        let mut seat = self.watch();
+        let committed = self.commit(rt, &mut seat);
+        (seat, committed)
     }
 
-    fn commit_all<R: Wait>(&self, rt: &R) -> Result<(), LogFault> {
-        self.commit(rt)
-    }
-
-    fn look(&self) -> Result<(), LogFault> {
-        if self.has_failed() {
-            return Err(LogFault);
+    fn look(&self) -> (JournalSeat, Result<(), LogFault>) {
+        let mut seat = self.watch();
+        if self.is_failed(&mut seat) {
+            return (seat, Err(LogFault));
         }
-        Ok(())
+        (seat, Ok(()))
     }
 }

@@ -1,9 +1,8 @@
-//! The records that wait for a commit, as they lie under their lock.
+//! The records that wait for a commit, as bytes.
 
-ghost use Rattle.std.specs.Prelude.{◌≡◌, ◌++◌, [], OnErr, OnOk};
+ghost use Rattle.std.specs.Prelude.{◌≡◌, ◌++◌, OnErr, OnOk};
 
 use refusal::NoMemory;
-use std::mem;
 
 /// Puts a record behind those that wait.
 pub(crate) fn put_behind(waiting: &mut Vec<u8>, bytes: &[u8]) -> Result<(), NoMemory>
@@ -16,11 +15,12 @@ pub(crate) fn put_behind(waiting: &mut Vec<u8>, bytes: &[u8]) -> Result<(), NoMe
     }
 }
 
-/// Takes all that wait into an empty buffer, which they leave in their place.
-pub(crate) fn take_all(waiting: &mut Vec<u8>, taken: &mut Vec<u8>)
-    requires { taken.old.items ≡ [] }
-    ensures taken { taken.new.items ≡ waiting.old.items }
-    ensures none { waiting.new.items ≡ [] }
+/// Makes room for so many bytes more. The records stay.
+pub(crate) fn make_room(waiting: &mut Vec<u8>, len: usize) -> Result<(), NoMemory>
+    ensures { waiting.new.items ≡ waiting.old.items }
 {
-    mem::swap(waiting, taken);
+    match waiting.reserve(len) {
+        Ok(()) => Ok(()),
+        Err(_) => Err(NoMemory),
+    }
 }

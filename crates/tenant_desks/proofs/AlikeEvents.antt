@@ -3,6 +3,8 @@ use Rattle.std.proofs.Common.{◌≡◌, ◌≢◌, ℕ, List, [], ◌∷◌, �
 use Rattle.credit_book.specs.declared.book.Report.{Report}
 use Rattle.credit_book.specs.declared.board.Progress.{Progress}
 use Rattle.job_core.specs.Admitted.{AdmittedJob}
+use Rattle.accounts.specs.Limits.{keeps_all}
+use Rattle.accounts.proofs.LastJob.{all_kept}
 use Rattle.accounts.specs.Ledgers.{Ledger, Finishes}
 use Rattle.accounts.specs.declared.jobs.JobEntry.{JobEntry}
 use Rattle.sessions.specs.Grammar.{Asked}
@@ -51,13 +53,13 @@ unfolding frame_of
 had_memory told reply frame apart same = apart (frame ∙ ap frame_or_refusal same)
 
 module _ {P : Type 0} (starts : P → ℕ → AdmittedJob → Result (Unit {0}) ℕ → P → Type 0) (looks : P → ℕ → Progress → P → Type 0) (one : OneAdmission) where
-  answers_alike : (d e d' e' : Ledger) (x y : HistoryEntry) (first second : Result (Unit {0}) ℕ) (r s r' s' : P) → AlikeDesks d e → AnswersAlone (starts_to first starts) looks 0 r r' x.query.asked x.reply d d'
-      → AnswersAlone (starts_to second starts) looks 0 s s' y.query.asked y.reply e e' → HappensAlike (was_asked x first) (was_asked y second) → AlikeDesks d' e' × IsToldAlike (was_asked x first) (was_asked y second)
+  answers_alike : (d e d' e' : Ledger) (x y : HistoryEntry) (first second : Result (Unit {0}) ℕ) (r s r' s' : P) → AlikeDesks d e → AnswersAlone (starts_to first starts) looks keeps_all r r' x.query.asked x.reply d d'
+      → AnswersAlone (starts_to second starts) looks keeps_all s s' y.query.asked y.reply e e' → HappensAlike (was_asked x first) (was_asked y second) → AlikeDesks d' e' × IsToldAlike (was_asked x first) (was_asked y second)
   answers_alike d e d' e' x y first second r s r' s' a xs ys same =
       let T : Result Asked ℕ × Result (Unit {0}) ℕ → Type 0 = λ p. Replies (starts_to p.1 starts) looks d r p.0 (reply_data xs.told) xs.mid r' in
       let both = replies_alike starts looks one d e r s y.query.asked xs.told ys.told xs.mid ys.mid r' s' second a (subst T (λ k. (same.0 k, same.1 k)) xs.replies) ys.replies
       (had_memory xs.told x.reply xs.frame same.2) (had_memory ys.told y.reply ys.frame same.3) in
-      (carried xs.mid ys.mid d' e' (xs.keeps.1 refl) (ys.keeps.1 refl) both.0, told both.1)
+      (carried xs.mid ys.mid d' e' (all_kept xs.mid d' xs.keeps) (all_kept ys.mid e' ys.keeps) both.0, told both.1)
     where
       told : AlikeReplies xs.told ys.told → IsToldAlike (was_asked x first) (was_asked y second)
       told (inl is) = inl (framed_alike xs.told x.reply xs.frame ∙ ap frame_or_refusal is ∙ sym (framed_alike ys.told y.reply ys.frame))
@@ -79,7 +81,7 @@ same_desks : (d : Ledger) → AlikeDesks d d
 same_desks d = record { grants = λ q. refl; past = λ q. refl; jobs = same_entries d.jobs }
 
 module _ {R : Type 0} (starts : R → ℕ → AdmittedJob → Result (Unit {0}) ℕ → R → Type 0) (looks : R → ℕ → Progress → R → Type 0) (takes : R → Option (ℕ × Result Report ℕ) → R → Type 0) (one : OneAdmission) where
-  all_alike : (place : ℕ) (begun : Ledger) (first second : List DeskEvent) (d e : Ledger) → HappensAlone starts looks takes place 0 begun first d → HappensAlone starts looks takes place 0 begun second e → EachTwo HappensAlike first second
+  all_alike : (place : ℕ) (begun : Ledger) (first second : List DeskEvent) (d e : Ledger) → HappensAlone starts looks takes place keeps_all begun first d → HappensAlone starts looks takes place keeps_all begun second e → EachTwo HappensAlike first second
       → AlikeDesks d e × EachTwo IsToldAlike first second
   all_alike place begun first second d e none_yet none_yet same = (same_desks begun, tt)
   all_alike place begun first second d e none_yet (one_ended ys c' e' n p r' s' hs step' ends') same = absurd (none_and_more HappensAlike ys _ same)
@@ -99,6 +101,6 @@ module _ {R : Type 0} (starts : R → ℕ → AdmittedJob → Result (Unit {0}) 
       let now = answers_alike (starts_placed starts) (looks_placed looks) one c c' d' e' x y p q (for_place place r) (for_place place r') (for_place place s) (for_place place s') was.0 alone alone' last.1 in
       (now.0, each_pushed IsToldAlike xs ys (was_asked x p) (was_asked y q) was.1 now.1)
 
-  pub told_alike : (place : ℕ) (begun : Ledger) (first second : List DeskEvent) (d e : Ledger) → HappensAlone starts looks takes place 0 begun first d → HappensAlone starts looks takes place 0 begun second e → EachTwo HappensAlike first second
+  pub told_alike : (place : ℕ) (begun : Ledger) (first second : List DeskEvent) (d e : Ledger) → HappensAlone starts looks takes place keeps_all begun first d → HappensAlone starts looks takes place keeps_all begun second e → EachTwo HappensAlike first second
       → EachTwo IsToldAlike first second
   told_alike place begun first second d e h hs same = (all_alike place begun first second d e h hs same).1

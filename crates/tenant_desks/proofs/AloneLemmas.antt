@@ -3,6 +3,7 @@ use Rattle.std.proofs.Common.{◌≡◌, ◌≢◌, ℕ, List, [], ◌∷◌, �
 use Rattle.credit_book.specs.declared.book.Report.{Report}
 use Rattle.credit_book.specs.declared.board.Progress.{Progress}
 use Rattle.job_core.specs.Admitted.{AdmittedJob}
+use Rattle.accounts.specs.declared.keep_limits.KeepLimits.{KeepLimits}
 use Rattle.accounts.specs.Ledgers.{Ledger, Finishes}
 use Rattle.sessions.specs.Grammar.{Asked}
 use Rattle.streams.specs.Passing.{Notes}
@@ -33,14 +34,14 @@ entries_asked (has_ended n o ∷ events) e started = entries_asked events e star
 
 module _ {R : Type 0} (starts : R → ℕ → AdmittedJob → Result (Unit {0}) ℕ → R → Type 0) (looks : R → ℕ → Progress → R → Type 0) (takes : R → Option (ℕ × Result Report ℕ) → R → Type 0) (firsts : List Ledger) where
   -- the desk at the place is one that these entries lead to alone, from the first desk there
-  abbrev Alone : List (List ℕ) → ℕ → List HistoryEntry → ℕ → Ledger → Type 0
+  abbrev Alone : List (List ℕ) → KeepLimits → List HistoryEntry → ℕ → Ledger → Type 0
   Alone names keep history place desk = IsAloneHistory starts looks takes place keep (first_of firsts place) (sent_to names place history) desk
 
   -- ---- ends of jobs are passed to the desks
 
   -- what happens more at the desk
 
-  alone_ended : (place keep : ℕ) (entries : List HistoryEntry) (d e : Ledger) (number : ℕ) (outcome : Result Report ℕ) (r s : R) → IsAloneHistory starts looks takes place keep (first_of firsts place) entries d
+  alone_ended : (place : ℕ) (keep : KeepLimits) (entries : List HistoryEntry) (d e : Ledger) (number : ℕ) (outcome : Result Report ℕ) (r s : R) → IsAloneHistory starts looks takes place keep (first_of firsts place) entries d
       → takes r (Some (placed number place, outcome)) s → Finishes d number outcome e → IsAloneHistory starts looks takes place keep (first_of firsts place) entries e
   alone_ended place keep entries d e number outcome r s h step finishes = record {
     events = h.events ++ has_ended number outcome ∷ [];
@@ -48,7 +49,7 @@ module _ {R : Type 0} (starts : R → ℕ → AdmittedJob → Result (Unit {0}) 
     happens = one_ended h.events d e number outcome r s h.happens step finishes;
   }
 
-  alone_asked : (place keep : ℕ) (entries : List HistoryEntry) (d a : Ledger) (e : HistoryEntry) (r s : R) → IsAloneHistory starts looks takes place keep (first_of firsts place) entries d
+  alone_asked : (place : ℕ) (keep : KeepLimits) (entries : List HistoryEntry) (d a : Ledger) (e : HistoryEntry) (r s : R) → IsAloneHistory starts looks takes place keep (first_of firsts place) entries d
       → AnswersAlone (starts_placed starts) (looks_placed looks) keep (for_place place r) (for_place place s) e.query.asked e.reply d a → IsAloneHistory starts looks takes place keep (first_of firsts place) (entries ++ e ∷ []) a
   alone_asked place keep entries d a e r s h alone =
       let told = answered_to (starts_placed starts) (looks_placed looks) keep (for_place place r) (for_place place s) e.query.asked e.reply d a alone in
@@ -58,7 +59,7 @@ module _ {R : Type 0} (starts : R → ℕ → AdmittedJob → Result (Unit {0}) 
         happens = one_asked h.events d a e told.0 r s h.happens told.1;
       }
 
-  after_note : (names : List (List ℕ)) (keep : ℕ) (history : List HistoryEntry) (old : List Ledger) (r : R) (number : ℕ) (outcome : Result Report ℕ) (s : R) (new : List Ledger)
+  after_note : (names : List (List ℕ)) (keep : KeepLimits) (history : List HistoryEntry) (old : List Ledger) (r : R) (number : ℕ) (outcome : Result Report ℕ) (s : R) (new : List Ledger)
       → takes r (Some (number, outcome)) s → NotesAtPlace old number outcome new → EachDesk (Alone names keep history) old → EachDesk (Alone names keep history) new
   after_note names keep history old r number outcome s new step n was = elim n.noted [
     | inl c ↦ each_changed (Alone names keep history) (Alone names keep history) n.place (λ before after. Notes before n.own outcome after) old new c noted (λ i d apart h. h) was
@@ -70,7 +71,7 @@ module _ {R : Type 0} (starts : R → ℕ → AdmittedJob → Result (Unit {0}) 
           alone_ended n.place keep (sent_to names n.place history) d e n.own outcome r s h (subst (λ (m : ℕ). takes r (Some (m, outcome)) s) n.is step) finishes
       noted d e h (inr t) = subst (Alone names keep history n.place) (sym t.1) h
 
-  after_taken : (names : List (List ℕ)) (keep : ℕ) (history : List HistoryEntry) (ds : List Ledger) (r : R) (es : List Ledger) (s : R)
+  after_taken : (names : List (List ℕ)) (keep : KeepLimits) (history : List HistoryEntry) (ds : List Ledger) (r : R) (es : List Ledger) (s : R)
       → EndsTaken takes ds r es s → EachDesk (Alone names keep history) ds → EachDesk (Alone names keep history) es
   after_taken names keep history ds r es s none_taken was = was
   after_taken names keep history ds r es s (one_taken ds1 r1 number outcome s1 es1 before step noted) was =
@@ -78,7 +79,7 @@ module _ {R : Type 0} (starts : R → ℕ → AdmittedJob → Result (Unit {0}) 
 
   -- ---- an answer
 
-  after_where : (names : List (List ℕ)) (keep : ℕ) (history : List HistoryEntry) (e : HistoryEntry) (place : Result ℕ ℕ) (ds : List Ledger) (r : R) (es : List Ledger) (s : R)
+  after_where : (names : List (List ℕ)) (keep : KeepLimits) (history : List HistoryEntry) (e : HistoryEntry) (place : Result ℕ ℕ) (ds : List Ledger) (r : R) (es : List Ledger) (s : R)
       → desk_for names e.query.passage e.query.asked ≡ place → AnswersWhere starts looks keep place e.query.asked ds r e.reply es s
       → EachDesk (Alone names keep history) ds → EachDesk (Alone names keep (history ++ e ∷ [])) es
   after_where names keep history e (Err code) ds r es s goes answered was =
@@ -99,7 +100,7 @@ module _ {R : Type 0} (starts : R → ℕ → AdmittedJob → Result (Unit {0}) 
       others i d apart h =
           subst (λ es. IsAloneHistory starts looks takes i keep (first_of firsts i) es d) (sym (sent_elsewhere names i history e (ap (is_place i) goes ∙ another_place i place apart))) h
 
-  pub count_where : (keep : ℕ) (place : Result ℕ ℕ) (query : Result Asked ℕ) (ds : List Ledger) (r : R) (reply : List ℕ) (es : List Ledger) (s : R)
+  pub count_where : (keep : KeepLimits) (place : Result ℕ ℕ) (query : Result Asked ℕ) (ds : List Ledger) (r : R) (reply : List ℕ) (es : List Ledger) (s : R)
       → AnswersWhere starts looks keep place query ds r reply es s → length es ≡ length ds
   count_where keep (Err code) query ds r reply es s t = ap length t.1
   count_where keep (Ok place) query ds r reply es s c = count_changed place _ ds es c
@@ -107,17 +108,17 @@ module _ {R : Type 0} (starts : R → ℕ → AdmittedJob → Result (Unit {0}) 
   -- ---- whole histories
 
   -- a state after a history
-  pub record Stands (names : List (List ℕ)) (keep : ℕ) (history : List HistoryEntry) (s : Tenancy × KeptRunner R) : Type 0 where
+  pub record Stands (names : List (List ℕ)) (keep : KeepLimits) (history : List HistoryEntry) (s : Tenancy × KeptRunner R) : Type 0 where
     pub named : s.0.names ≡ names
     pub keeps : s.1.keep ≡ keep
     pub count : length s.0.desks ≡ length firsts
     pub each : EachDesk (Alone names keep history) s.0.desks
 
-  after_answer : (names : List (List ℕ)) (keep : ℕ) (history : List HistoryEntry) (s : Tenancy × KeptRunner R) (e : HistoryEntry) (t : Tenancy × KeptRunner R)
+  after_answer : (names : List (List ℕ)) (keep : KeepLimits) (history : List HistoryEntry) (s : Tenancy × KeptRunner R) (e : HistoryEntry) (t : Tenancy × KeptRunner R)
       → named_answers starts looks takes s e.query e.reply t → Stands names keep history s → Stands names keep (history ++ e ∷ []) t
   after_answer names keep history s e t answers was =
       let a = answers.0 in
-      let P : List (List ℕ) × ℕ → Type 0 = λ p. AnswersWhere starts looks p.1 (desk_for p.0 e.query.passage e.query.asked) e.query.asked a.mid a.rest e.reply t.0.desks t.1.runner in
+      let P : List (List ℕ) × KeepLimits → Type 0 = λ p. AnswersWhere starts looks p.1 (desk_for p.0 e.query.passage e.query.asked) e.query.asked a.mid a.rest e.reply t.0.desks t.1.runner in
       let answered = subst P (λ k. (was.named k, was.keeps k)) a.answered in
       record {
         named = answers.1 ∙ was.named;
@@ -127,7 +128,7 @@ module _ {R : Type 0} (starts : R → ℕ → AdmittedJob → Result (Unit {0}) 
             (after_taken names keep history s.0.desks s.1.runner a.mid a.passed.last a.passed.taken was.each);
       }
 
-  pub stands : (names : List (List ℕ)) (keep : ℕ) (history : List HistoryEntry) (s : Tenancy × KeptRunner R) → IsTenantHistory starts looks takes names firsts keep history s → Stands names keep history s
+  pub stands : (names : List (List ℕ)) (keep : KeepLimits) (history : List HistoryEntry) (s : Tenancy × KeptRunner R) → IsTenantHistory starts looks takes names firsts keep history s → Stands names keep history s
   stands names keep history s (nothing_replayed t begins) = record {
     named = ap (λ (x : Tenancy). x.names) begins.0;
     keeps = begins.1;
@@ -137,10 +138,10 @@ module _ {R : Type 0} (starts : R → ℕ → AdmittedJob → Result (Unit {0}) 
   }
   stands names keep history s (one_replayed h t e u before answered) = after_answer names keep h t e u answered (stands names keep h t before)
 
-  pub as_many_desks : (names : List (List ℕ)) (keep : ℕ) (history : List HistoryEntry) (end : Tenancy × KeptRunner R) → IsTenantHistory starts looks takes names firsts keep history end → length end.0.desks ≡ length firsts
+  pub as_many_desks : (names : List (List ℕ)) (keep : KeepLimits) (history : List HistoryEntry) (end : Tenancy × KeptRunner R) → IsTenantHistory starts looks takes names firsts keep history end → length end.0.desks ≡ length firsts
   as_many_desks names keep history end legal = (stands names keep history end legal).count
 
-  pub each_alone : (names : List (List ℕ)) (keep : ℕ) (history : List HistoryEntry) (end : Tenancy × KeptRunner R) (place : ℕ) (first desk : Ledger)
+  pub each_alone : (names : List (List ℕ)) (keep : KeepLimits) (history : List HistoryEntry) (end : Tenancy × KeptRunner R) (place : ℕ) (first desk : Ledger)
       → IsTenantHistory starts looks takes names firsts keep history end → slice_get firsts place ≡ Some first → slice_get end.0.desks place ≡ Some desk
       → IsAloneHistory starts looks takes place keep first (sent_to names place history) desk
   each_alone names keep history end place first desk legal begun at =
@@ -152,7 +153,7 @@ module _ {R : Type 0} (starts : R → ℕ → AdmittedJob → Result (Unit {0}) 
   same_frame : (place : Result ℕ ℕ) (a b : ℕ) → place ≡ Err a → place ≡ Err b → refusal_frame a ≡ refusal_frame b
   same_frame place a b first second = let codes : a ≡ b = cc in ap refusal_frame codes
 
-  told_why : (keep : ℕ) (names : List (List ℕ)) (e : HistoryEntry) (place : Result ℕ ℕ) (ds : List Ledger) (r : R) (es : List Ledger) (s : R)
+  told_why : (keep : KeepLimits) (names : List (List ℕ)) (e : HistoryEntry) (place : Result ℕ ℕ) (ds : List Ledger) (r : R) (es : List Ledger) (s : R)
       → desk_for names e.query.passage e.query.asked ≡ place → AnswersWhere starts looks keep place e.query.asked ds r e.reply es s → IsToldWhy names e
   told_why keep names e (Err code) ds r es s goes answered other is =
       answered.0 ∙ same_frame (desk_for names e.query.passage e.query.asked) code other goes is
@@ -162,7 +163,7 @@ module _ {R : Type 0} (starts : R → ℕ → AdmittedJob → Result (Unit {0}) 
   told_joined names [] e was last = (last, tt)
   told_joined names (x ∷ history) e was last = (was.0, told_joined names history e was.1 last)
 
-  pub are_told_why : (names : List (List ℕ)) (keep : ℕ) (history : List HistoryEntry) (end : Tenancy × KeptRunner R) → IsTenantHistory starts looks takes names firsts keep history end → AreToldWhy names history
+  pub are_told_why : (names : List (List ℕ)) (keep : KeepLimits) (history : List HistoryEntry) (end : Tenancy × KeptRunner R) → IsTenantHistory starts looks takes names firsts keep history end → AreToldWhy names history
   are_told_why names keep history end (nothing_replayed t begins) = tt
   are_told_why names keep history end (one_replayed h s e t before answered) =
       let named = (stands names keep h s before).named in

@@ -12,3 +12,4 @@ mod AlikeEvents
 mod FirstDesks
 pub mod NamedHistories
 pub mod OwnLemmas
+pub mod ListedDesks

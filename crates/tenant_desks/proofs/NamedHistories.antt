@@ -1,8 +1,9 @@
 -- A history of a server at whose doors the tenant's name may be left out, by what the desks were asked.
-use Rattle.std.proofs.Common.{◌≡◌, ℕ, List, [], ◌∷◌, ◌++◌, Option, Result, refl, ap, ◌∙◌}
+use Rattle.std.proofs.Common.{◌≡◌, ℕ, List, [], ◌∷◌, ◌++◌, Option, None, Result, refl, ap, ◌∙◌}
 use Rattle.credit_book.specs.declared.book.Report.{Report}
 use Rattle.credit_book.specs.declared.board.Progress.{Progress}
 use Rattle.job_core.specs.Admitted.{AdmittedJob}
+use Rattle.accounts.specs.declared.keep_limits.KeepLimits.{KeepLimits}
 use Rattle.accounts.specs.Ledgers.{Ledger}
 use Rattle.shared_desk.specs.Histories.{HistoryEntry, Replays, none_yet, one_more}
 use Rattle.tenant_desks.specs.Tenancies.{Tenancy}
@@ -17,7 +18,7 @@ named_on names (d ∷ history) [] e f are is = absurd are
 named_on names (d ∷ history) (g ∷ asked) e f are is = (are.0, named_on names history asked e f are.1 is)
 
 module _ {R : Type 0} (starts : R → ℕ → AdmittedJob → Result (Unit {0}) ℕ → R → Type 0) (looks : R → ℕ → Progress → R → Type 0) (takes : R → Option (ℕ × Result Report ℕ) → R → Type 0)
-    (names : List (List ℕ)) (firsts : List Ledger) (keep : ℕ) where
+    (names : List (List ℕ)) (firsts : List Ledger) (keep : KeepLimits) where
   -- the states of such a history have these names
   record IsPutIn (history : List HistoryEntry) (s : Tenancy × KeptRunner R) : Type 0 where
     pub same : s.0.names ≡ names
@@ -30,7 +31,7 @@ module _ {R : Type 0} (starts : R → ℕ → AdmittedJob → Result (Unit {0}) 
   put_in _ s (none_yet x begins) = record { same = ap (λ (t : Tenancy). t.names) begins.0; asked = []; named = tt; legal = none_yet x begins }
   put_in _ s (one_more history x e t before (asked, own, (answered, names_same, keeps))) =
       let r = put_in history x before in
-      let f : HistoryEntry = record { connection = e.connection; query = record { passage = e.query.passage; asked = asked }; reply = e.reply } in
+      let f : HistoryEntry = record { connection = e.connection; query = record { passage = e.query.passage; asked = asked; beyond = None }; reply = e.reply } in
       record {
         same = names_same ∙ r.same;
         asked = r.asked ++ f ∷ [];

@@ -1,19 +1,15 @@
 -- Names that are put in.
 use Rattle.std.proofs.Common.{◌≡◌, ◌<◌, ℕ, List, [], ◌∷◌, length, Option, Some, Result, Ok, Err, refl, sym, ap, ◌∙◌, subst, arith}
-use Rattle.std.specs.Prelude.{IfOk, OnErr}
-use Rattle.refusal.specs.declared.NoMemory.{NoMemory}
 use Rattle.sessions.specs.Grammar.{Asked, grant, account, submit, status, result}
 use Rattle.streams.specs.Prepared.{submitter_of}
 use Rattle.streams.specs.Submits.{of_tenant}
-use Rattle.shared_desk.specs.declared.passage.Passage.{Passage}
-use Rattle.shared_desk.specs.Histories.{Query}
 use Rattle.sessions.specs.declared.request.Request.{Request}
 use Rattle.streams.specs.Hearing.{query_of}
 use Rattle.streams.specs.Prepared.{asked_of}
 use Rattle.streams.specs.declared.prepared_request.PreparedRequest.{PreparedRequest}
 use Rattle.streams.specs.declared.prepared_request.PreparedRequest.TheVariants.{AsItCame, Submit}
 use Rattle.shared_desk.specs.declared.door.Door.{Door}
-use Rattle.tenant_desks.specs.OwnNamed.{IsOwnNamed, IsUnnamed, answers_own_named, name_behind, named, own_name, own_named}
+use Rattle.tenant_desks.specs.OwnNamed.{IsOwnNamed, IsUnnamed, name_behind, named, own_name, own_named}
 
 pub own_of_empty : (own name : List ℕ) → length name ≡ 0 → own_name own name ≡ own
 own_of_empty own [] none = refl
@@ -66,16 +62,3 @@ of_what_came names door r came heard asked is same own =
 
 pub of_a_submit : (names : List (List ℕ)) (door : Door) (r : PreparedRequest) (a : Asked) (asked : Result Asked ℕ) → r ≡ Submit a → IsOwnNamed names door (Ok a) asked → IsOwnNamed names door (asked_of r) asked
 of_a_submit names door r a asked is own = subst (λ (p : PreparedRequest). IsOwnNamed names door (asked_of p) asked) (sym is) own
-
--- the answer to what is asked by names
-
-module _ {S : Type 0} (names : S → List (List ℕ)) (answers : S → Query → List ℕ → S → Type 0) (s t : S) (query : Query) (asked : Result Asked ℕ) where
-  pub own_ok : (r : Result (List ℕ) NoMemory) → IsOwnNamed (names s) query.passage.door query.asked asked → IfOk r (λ reply. answers s (record { passage = query.passage; asked = asked }) reply t)
-      → IfOk r (λ reply. answers_own_named names answers s query reply t)
-  own_ok (Ok reply) own answered = (asked, own, answered)
-  own_ok (Err none) own answered = tt
-
-  pub own_err : (r : Result (List ℕ) NoMemory) → IsOwnNamed (names s) query.passage.door query.asked asked → OnErr r ((reply : List ℕ) × answers s (record { passage = query.passage; asked = asked }) reply t)
-      → OnErr r ((reply : List ℕ) × answers_own_named names answers s query reply t)
-  own_err (Ok reply) own lost = tt
-  own_err (Err none) own lost = (lost.0, (asked, own, lost.1))

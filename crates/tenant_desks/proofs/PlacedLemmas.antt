@@ -4,7 +4,8 @@ use Rattle.refusal.specs.declared.NoMemory.{NoMemory}
 use Rattle.credit_book.specs.declared.board.Progress.{Progress}
 use Rattle.job_core.specs.declared.admission.ProgramBytes.{ProgramBytes}
 use Rattle.job_core.specs.Admitted.{AdmittedJob}
-use Rattle.accounts.specs.Ledgers.{Ledger, KeepsLast}
+use Rattle.accounts.specs.declared.keep_limits.KeepLimits.{KeepLimits}
+use Rattle.accounts.specs.Ledgers.{Ledger, KeepsWithin}
 use Rattle.sessions.specs.Grammar.{Asked, grant, account, submit, status, result}
 use Rattle.sessions.specs.Replies.{reply_data}
 use Rattle.sessions.specs.declared.reply.Reply.{Reply}
@@ -27,21 +28,21 @@ none_passed d r e s p =
 
 module _ {R : Type 0} (starts : R → ℕ → AdmittedJob → Result (Unit {0}) ℕ → R → Type 0) (looks : R → ℕ → Progress → R → Type 0) where
   -- what a desk and its runner answer is answered alone
-  answered_alone : (keep : ℕ) (desk : Ledger) (r : PlacedRunner R) (query : Result Asked ℕ) (reply : List ℕ) (mid : Ledger) (s : PlacedRunner R) (after : Ledger)
-      → Answers (starts_placed starts) (looks_placed looks) takes_placed desk r query reply mid s → KeepsLast keep mid after → AnswersAlone (starts_placed starts) (looks_placed looks) keep r s query reply desk after
+  answered_alone : (keep : KeepLimits) (desk : Ledger) (r : PlacedRunner R) (query : Result Asked ℕ) (reply : List ℕ) (mid : Ledger) (s : PlacedRunner R) (after : Ledger)
+      → Answers (starts_placed starts) (looks_placed looks) takes_placed desk r query reply mid s → KeepsWithin keep mid after → AnswersAlone (starts_placed starts) (looks_placed looks) keep r s query reply desk after
   answered_alone keep desk r query reply mid s after a keeps =
       let same = none_passed desk r a.mid a.rest a.passed in
       let P : Ledger × PlacedRunner R → Type 0 = λ t. Replies (starts_placed starts) (looks_placed looks) t.0 t.1 query (reply_data a.told) mid s in
       record { mid = mid; told = a.told; replies = subst P (λ k. (same.0 k, same.1 k)) a.replies; frame = a.frame; keeps = keeps }
 
-  pub alone_ok : (keep : ℕ) (desk : Ledger) (r : PlacedRunner R) (query : Result Asked ℕ) (mid : Ledger) (s : PlacedRunner R) (after : Ledger) (told : Result (List ℕ) NoMemory)
-      → IfOk told (λ reply. Answers (starts_placed starts) (looks_placed looks) takes_placed desk r query reply mid s) → KeepsLast keep mid after
+  pub alone_ok : (keep : KeepLimits) (desk : Ledger) (r : PlacedRunner R) (query : Result Asked ℕ) (mid : Ledger) (s : PlacedRunner R) (after : Ledger) (told : Result (List ℕ) NoMemory)
+      → IfOk told (λ reply. Answers (starts_placed starts) (looks_placed looks) takes_placed desk r query reply mid s) → KeepsWithin keep mid after
       → IfOk told (λ reply. AnswersAlone (starts_placed starts) (looks_placed looks) keep r s query reply desk after)
   alone_ok keep desk r query mid s after (Ok reply) a keeps = answered_alone keep desk r query reply mid s after a keeps
   alone_ok keep desk r query mid s after (Err e) a keeps = a
 
-  pub alone_err : (keep : ℕ) (desk : Ledger) (r : PlacedRunner R) (query : Result Asked ℕ) (mid : Ledger) (s : PlacedRunner R) (after : Ledger) (told : Result (List ℕ) NoMemory)
-      → OnErr told ((reply : List ℕ) × Answers (starts_placed starts) (looks_placed looks) takes_placed desk r query reply mid s) → KeepsLast keep mid after
+  pub alone_err : (keep : KeepLimits) (desk : Ledger) (r : PlacedRunner R) (query : Result Asked ℕ) (mid : Ledger) (s : PlacedRunner R) (after : Ledger) (told : Result (List ℕ) NoMemory)
+      → OnErr told ((reply : List ℕ) × Answers (starts_placed starts) (looks_placed looks) takes_placed desk r query reply mid s) → KeepsWithin keep mid after
       → OnErr told ((reply : List ℕ) × AnswersAlone (starts_placed starts) (looks_placed looks) keep r s query reply desk after)
   alone_err keep desk r query mid s after (Ok reply) a keeps = a
   alone_err keep desk r query mid s after (Err e) a keeps = (a.0, answered_alone keep desk r query a.0 mid s after a.1 keeps)
@@ -64,7 +65,7 @@ module _ {R : Type 0} (starts : R → ℕ → AdmittedJob → Result (Unit {0}) 
   replies_stay desk r (Ok (result number)) told after s t = ap (λ (x : PlacedRunner R). x.place) t.2
 
   -- so that what is left is a runner for the same place
-  pub at_its_place : (keep place : ℕ) (runner : R) (s : PlacedRunner R) (query : Result Asked ℕ) (reply : List ℕ) (before after : Ledger)
+  pub at_its_place : (keep : KeepLimits) (place : ℕ) (runner : R) (s : PlacedRunner R) (query : Result Asked ℕ) (reply : List ℕ) (before after : Ledger)
       → AnswersAlone (starts_placed starts) (looks_placed looks) keep (for_place place runner) s query reply before after → AnswersAlone (starts_placed starts) (looks_placed looks) keep (for_place place runner) (for_place place s.runner) query reply before after
   at_its_place keep place runner s query reply before after a =
       let stays = replies_stay before (for_place place runner) query a.told a.mid s a.replies in

@@ -5,6 +5,7 @@ use Rattle.credit_book.specs.declared.book.Report.{Report}
 use Rattle.credit_book.specs.declared.board.Progress.{Progress}
 use Rattle.job_core.specs.declared.admission.ProgramBytes.{ProgramBytes}
 use Rattle.job_core.specs.Admitted.{AdmittedJob}
+use Rattle.accounts.specs.declared.keep_limits.KeepLimits.{KeepLimits}
 use Rattle.accounts.specs.Ledgers.{Ledger}
 use Rattle.sessions.specs.Grammar.{Asked, grant, account, submit, status, result}
 use Rattle.sessions.specs.Replies.{reply_data}
@@ -141,7 +142,7 @@ module _ {R : Type 0} (starts : R → ℕ → AdmittedJob → Result (Unit {0}) 
 
   -- The part is legal, and leads to a desk and a runner. Ends of the desk's jobs since then lead to the
   -- desk as it is, and steps for others to the runner.
-  record Part (names : List (List ℕ)) (keep : ℕ) (history : List HistoryEntry) (desks : List Ledger) (r : R) : Type 0 where
+  record Part (names : List (List ℕ)) (keep : KeepLimits) (history : List HistoryEntry) (desks : List Ledger) (r : R) : Type 0 where
     first : Ledger
     from : R
     legal : Replays (answers_seen starts looks takes place keep) (λ s. s.0 ≡ begun) (sent_to names place history) (first, from)
@@ -151,7 +152,7 @@ module _ {R : Type 0} (starts : R → ℕ → AdmittedJob → Result (Unit {0}) 
     taken : Taken (takes_seen starts looks takes place) first from desk since
     others : Others since r
 
-  after_end : (names : List (List ℕ)) (keep : ℕ) (history : List HistoryEntry) (old : List Ledger) (r : R) (number : ℕ) (outcome : Result Report ℕ) (s : R) (new : List Ledger)
+  after_end : (names : List (List ℕ)) (keep : KeepLimits) (history : List HistoryEntry) (old : List Ledger) (r : R) (number : ℕ) (outcome : Result Report ℕ) (s : R) (new : List Ledger)
       → takes r (Some (number, outcome)) s → NotesAtPlace old number outcome new → Part names keep history old r → Part names keep history new s
   after_end names keep history old r number outcome s new step n was = by_noted n.noted
     where
@@ -193,7 +194,7 @@ module _ {R : Type 0} (starts : R → ℕ → AdmittedJob → Result (Unit {0}) 
           let beyond = past.0 in
           of_others (λ is. absurd (omega (arith, here, beyond, is))) (ap (λ (l : List Ledger). slice_get l place) past.1 ∙ was.at)
 
-  after_ends : (names : List (List ℕ)) (keep : ℕ) (history : List HistoryEntry) (ds : List Ledger) (r : R) (es : List Ledger) (s : R)
+  after_ends : (names : List (List ℕ)) (keep : KeepLimits) (history : List HistoryEntry) (ds : List Ledger) (r : R) (es : List Ledger) (s : R)
       → EndsTaken takes ds r es s → Part names keep history ds r → Part names keep history es s
   after_ends names keep history ds r es s none_ended was = was
   after_ends names keep history ds r es s (one_ended ds1 r1 number outcome s1 es1 before step noted) was =
@@ -201,7 +202,7 @@ module _ {R : Type 0} (starts : R → ℕ → AdmittedJob → Result (Unit {0}) 
 
   -- ---- an answer
 
-  module _ (names : List (List ℕ)) (keep : ℕ) (history : List HistoryEntry) (e : HistoryEntry) (ds : List Ledger) (last r : R) (es : List Ledger) (s : R) (none_left : takes last None r) (was : Part names keep history ds last) where
+  module _ (names : List (List ℕ)) (keep : KeepLimits) (history : List HistoryEntry) (e : HistoryEntry) (ds : List Ledger) (last r : R) (es : List Ledger) (s : R) (none_left : takes last None r) (was : Part names keep history ds last) where
     elsewhere : is_place place (desk_for names e.query.passage e.query.asked) ≡ false → slice_get es place ≡ Some was.desk → Others was.since s → Part names keep (history ++ e ∷ []) es s
     elsewhere goes there others = record {
       first = was.first;
@@ -257,18 +258,18 @@ module _ {R : Type 0} (starts : R → ℕ → AdmittedJob → Result (Unit {0}) 
 
   -- ---- whole histories
 
-  after_answer : (names : List (List ℕ)) (keep : ℕ) (history : List HistoryEntry) (s : Tenancy × KeptRunner R) (e : HistoryEntry) (t : Tenancy × KeptRunner R) → length firsts ≤ 257
+  after_answer : (names : List (List ℕ)) (keep : KeepLimits) (history : List HistoryEntry) (s : Tenancy × KeptRunner R) (e : HistoryEntry) (t : Tenancy × KeptRunner R) → length firsts ≤ 257
       → named_answers starts looks takes s e.query e.reply t → Stands starts looks takes firsts names keep history s → Part names keep history s.0.desks s.1.runner → Part names keep (history ++ e ∷ []) t.0.desks t.1.runner
   after_answer names keep history s e t few answers stood was =
       let a = answers.0 in
-      let P : List (List ℕ) × ℕ → Type 0 = λ p. AnswersWhere starts looks p.1 (desk_for p.0 e.query.passage e.query.asked) e.query.asked a.mid a.rest e.reply t.0.desks t.1.runner in
+      let P : List (List ℕ) × KeepLimits → Type 0 = λ p. AnswersWhere starts looks p.1 (desk_for p.0 e.query.passage e.query.asked) e.query.asked a.mid a.rest e.reply t.0.desks t.1.runner in
       let told = subst P (λ k. (stood.named k, stood.keeps k)) a.answered in
       let count = stood.count in
       let same = count_taken takes s.0.desks s.1.runner a.mid a.passed.last a.passed.taken in
       answered names keep history e a.mid a.passed.last a.rest t.0.desks t.1.runner a.passed.none_left (after_ends names keep history s.0.desks s.1.runner a.mid a.passed.last a.passed.taken was)
       (desk_for names e.query.passage e.query.asked) (omega (arith, count, same, few)) refl told
 
-  part : (names : List (List ℕ)) (keep : ℕ) (history : List HistoryEntry) (s : Tenancy × KeptRunner R) → length firsts ≤ 257 → slice_get firsts place ≡ Some begun → IsTenantHistory starts looks takes names firsts keep history s
+  part : (names : List (List ℕ)) (keep : KeepLimits) (history : List HistoryEntry) (s : Tenancy × KeptRunner R) → length firsts ≤ 257 → slice_get firsts place ≡ Some begun → IsTenantHistory starts looks takes names firsts keep history s
       → Part names keep history s.0.desks s.1.runner
   part names keep history s few there (nothing_replayed t begins) =
       record {
@@ -284,6 +285,6 @@ module _ {R : Type 0} (starts : R → ℕ → AdmittedJob → Result (Unit {0}) 
   part names keep history s few there (one_replayed h t e u before told) =
       after_answer names keep h t e u few told (stands starts looks takes firsts names keep h t before) (part names keep h t few there before)
 
-  pub plain_part : (names : List (List ℕ)) (keep : ℕ) (history : List HistoryEntry) (end : Tenancy × KeptRunner R) → length firsts ≤ 257 → slice_get firsts place ≡ Some begun → IsTenantHistory starts looks takes names firsts keep history end
+  pub plain_part : (names : List (List ℕ)) (keep : KeepLimits) (history : List HistoryEntry) (end : Tenancy × KeptRunner R) → length firsts ≤ 257 → slice_get firsts place ≡ Some begun → IsTenantHistory starts looks takes names firsts keep history end
       → (s : Ledger × R) × Replays (answers_seen starts looks takes place keep) (λ x. x.0 ≡ begun) (sent_to names place history) s
   plain_part names keep history end few there legal = let p = part names keep history end few there legal in ((p.first, p.from), p.legal)

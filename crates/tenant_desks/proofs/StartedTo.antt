@@ -3,6 +3,7 @@ use Rattle.std.proofs.Common.{ℕ, List, Result, Ok, Err, refl, inl, inr}
 use Rattle.credit_book.specs.declared.board.Progress.{Progress}
 use Rattle.job_core.specs.declared.admission.ProgramBytes.{ProgramBytes}
 use Rattle.job_core.specs.Admitted.{AdmittedJob}
+use Rattle.accounts.specs.declared.keep_limits.KeepLimits.{KeepLimits}
 use Rattle.accounts.specs.Ledgers.{Ledger}
 use Rattle.sessions.specs.Grammar.{Asked, grant, account, submit, status, result}
 use Rattle.sessions.specs.Replies.{reply_data}
@@ -41,7 +42,7 @@ module _ {P : Type 0} (starts : P → ℕ → AdmittedJob → Result (Unit {0}) 
   replies_to desk r (Ok (status number)) told after s t = (Ok tt, t)
   replies_to desk r (Ok (result number)) told after s t = (Ok tt, t)
 
-  pub answered_to : (keep : ℕ) (r s : P) (query : Result Asked ℕ) (reply : List ℕ) (before after : Ledger) → AnswersAlone starts looks keep r s query reply before after
+  pub answered_to : (keep : KeepLimits) (r s : P) (query : Result Asked ℕ) (reply : List ℕ) (before after : Ledger) → AnswersAlone starts looks keep r s query reply before after
       → (started : Result (Unit {0}) ℕ) × AnswersAlone (starts_to started starts) looks keep r s query reply before after
   answered_to keep r s query reply before after a =
       let t = replies_to before r query a.told a.mid s a.replies in

@@ -3,6 +3,7 @@ use Rattle.std.specs.Prelude.{◌≡◌, ℕ, ◌==◌, Bool, false, List, [], �
 use Rattle.credit_book.specs.declared.book.Report.{Report}
 use Rattle.credit_book.specs.declared.board.Progress.{Progress}
 use Rattle.job_core.specs.Admitted.{AdmittedJob}
+use Rattle.accounts.specs.declared.keep_limits.KeepLimits.{KeepLimits}
 use Rattle.accounts.specs.Ledgers.{Ledger, Finishes}
 use Rattle.shared_desk.specs.Histories.{HistoryEntry, Query, Replays, put_if}
 use Rattle.tenant_desks.specs.Placing.{placed}
@@ -48,8 +49,8 @@ starts_to outcome starts old number job result new =
 -- tells under the job's number there.
 pub data HappensAlone {R : Type 0} (starts : R → ℕ → AdmittedJob → Result (Unit {0}) ℕ → R
     → Type 0) (looks : R → ℕ → Progress → R → Type 0)
-    (takes : R → Option (ℕ × Result Report ℕ) → R → Type 0) (place keep : ℕ) (first : Ledger) :
-    List DeskEvent → Ledger → Type 0 where
+    (takes : R → Option (ℕ × Result Report ℕ) → R → Type 0) (place : ℕ) (keep : KeepLimits)
+    (first : Ledger) : List DeskEvent → Ledger → Type 0 where
   none_yet : HappensAlone starts looks takes place keep first [] first
   one_ended : (events : List DeskEvent) (before after : Ledger) (number : ℕ)
       (outcome : Result Report ℕ) (r s : R)
@@ -66,8 +67,8 @@ pub data HappensAlone {R : Type 0} (starts : R → ℕ → AdmittedJob → Resul
 -- these entries, with ends of jobs between them, lead from a first desk to this one, alone
 pub record IsAloneHistory {R : Type 0} (starts : R → ℕ → AdmittedJob → Result (Unit {0}) ℕ → R
     → Type 0) (looks : R → ℕ → Progress → R → Type 0)
-    (takes : R → Option (ℕ × Result Report ℕ) → R → Type 0) (place keep : ℕ) (first : Ledger)
-    (entries : List HistoryEntry) (desk : Ledger) : Type 0 where
+    (takes : R → Option (ℕ × Result Report ℕ) → R → Type 0) (place : ℕ) (keep : KeepLimits)
+    (first : Ledger) (entries : List HistoryEntry) (desk : Ledger) : Type 0 where
   pub events : List DeskEvent
   pub same : entries_in events ≡ entries
   pub happens : HappensAlone starts looks takes place keep first events desk
@@ -76,7 +77,8 @@ pub record IsAloneHistory {R : Type 0} (starts : R → ℕ → AdmittedJob → R
 -- which keeps so many reports. It begins with these desks.
 abbrev pub IsTenantHistory : {R : Type 0} → (R → ℕ → AdmittedJob → Result (Unit {0}) ℕ → R
     → Type 0) → (R → ℕ → Progress → R → Type 0) → (R → Option (ℕ × Result Report ℕ) → R → Type 0)
-    → List (List ℕ) → List Ledger → ℕ → List HistoryEntry → Tenancy × KeptRunner R → Type 0
+    → List (List ℕ) → List Ledger → KeepLimits → List HistoryEntry → Tenancy × KeptRunner R
+    → Type 0
 IsTenantHistory starts looks takes names firsts keep =
     Replays (named_answers starts looks takes)
     (λ s. (s.0 ≡ record { names = names; desks = firsts }) × (s.1.keep ≡ keep))

@@ -3,7 +3,8 @@ use Rattle.std.specs.Prelude.{◌≡◌, ◌≤◌, ◌<◌, ◌⊎◌, ℕ, Lis
 use Rattle.credit_book.specs.declared.book.Report.{Report}
 use Rattle.credit_book.specs.declared.board.Progress.{Progress}
 use Rattle.job_core.specs.Admitted.{AdmittedJob}
-use Rattle.accounts.specs.Ledgers.{Ledger, KeepsLast}
+use Rattle.accounts.specs.declared.keep_limits.KeepLimits.{KeepLimits}
+use Rattle.accounts.specs.Ledgers.{Ledger, KeepsWithin}
 use Rattle.sessions.specs.Grammar.{Asked}
 use Rattle.sessions.specs.Replies.{frame_of, reply_data}
 use Rattle.sessions.specs.declared.reply.Reply.{Reply}
@@ -14,6 +15,7 @@ use Rattle.shared_desk.specs.Histories.{Query}
 use Rattle.tenant_desks.specs.declared.placed_runner.PlacedRunner.{PlacedRunner}
 use Rattle.tenant_desks.specs.Placing.{placed}
 use Rattle.tenant_desks.specs.PlacedRunners.{starts_placed, looks_placed}
+use Rattle.tenant_desks.specs.JobLists.{answers_at_doors}
 use Rattle.tenant_desks.specs.OwnNamed.{answers_own_named}
 use Rattle.tenant_desks.specs.Routing.{desk_for}
 use Rattle.tenant_desks.specs.Tenancies.{Tenancy, ChangesAt}
@@ -21,7 +23,7 @@ use Rattle.tenant_desks.specs.Tenancies.{Tenancy, ChangesAt}
 -- what contracts see of the handler: the runner of all jobs, and how many jobs each desk keeps
 pub record KeptRunner (R : Type 0) : Type 0 where
   pub runner : R
-  pub keep : ℕ
+  pub keep : KeepLimits
 
 -- The end of a job is noted at the desk at its place, under its number there. It is passed over
 -- where that desk doesn't have the job open, or where there is no such desk.
@@ -57,13 +59,13 @@ refusal_frame code = frame_of (Refused code None None)
 -- What is asked is answered at one desk by a runner, as if there were no other desk, and then the
 -- desk forgets.
 pub record AnswersAlone {P : Type 0} (starts : P → ℕ → AdmittedJob → Result (Unit {0}) ℕ → P
-    → Type 0) (looks : P → ℕ → Progress → P → Type 0) (keep : ℕ) (runner left : P)
+    → Type 0) (looks : P → ℕ → Progress → P → Type 0) (keep : KeepLimits) (runner left : P)
     (query : Result Asked ℕ) (reply : List ℕ) (before after : Ledger) : Type 0 where
   pub mid : Ledger
   pub told : Reply
   pub replies : Replies starts looks before runner query (reply_data told) mid left
   pub frame : reply ≡ frame_of told
-  pub keeps : KeepsLast keep mid after
+  pub keeps : KeepsWithin keep mid after
 
 -- the runner of all jobs, for the desk at a place
 abbrev pub for_place : {R : Type 0} → ℕ → R → PlacedRunner R
@@ -72,8 +74,8 @@ for_place place runner = record { runner = runner; place = place }
 -- The desk that a query goes to answers it, and no other desk changes. A query that goes nowhere is
 -- told why, and nothing changes.
 abbrev pub AnswersWhere : {R : Type 0} → (R → ℕ → AdmittedJob → Result (Unit {0}) ℕ → R → Type 0)
-    → (R → ℕ → Progress → R → Type 0) → ℕ → Result ℕ ℕ → Result Asked ℕ → List Ledger → R
-    → List ℕ → List Ledger → R → Type 0
+    → (R → ℕ → Progress → R → Type 0) → KeepLimits → Result ℕ ℕ → Result Asked ℕ → List Ledger
+    → R → List ℕ → List Ledger → R → Type 0
 AnswersWhere starts looks keep (Err code) query desks runner reply after left =
     (reply ≡ refusal_frame code) × (after ≡ desks) × (left ≡ runner)
 AnswersWhere starts looks keep (Ok place) query desks runner reply after left =
@@ -86,7 +88,7 @@ AnswersWhere starts looks keep (Ok place) query desks runner reply after left =
 -- goes to.
 pub record DeskAnswer {R : Type 0} (starts : R → ℕ → AdmittedJob → Result (Unit {0}) ℕ → R
     → Type 0) (looks : R → ℕ → Progress → R → Type 0)
-    (takes : R → Option (ℕ × Result Report ℕ) → R → Type 0) (keep : ℕ) (place : Result ℕ ℕ)
+    (takes : R → Option (ℕ × Result Report ℕ) → R → Type 0) (keep : KeepLimits) (place : Result ℕ ℕ)
     (query : Result Asked ℕ) (desks : List Ledger) (runner : R) (reply : List ℕ)
     (after : List Ledger) (left : R) : Type 0 where
   pub mid : List Ledger
@@ -109,3 +111,9 @@ abbrev pub tenant_answers : {R : Type 0} → (R → ℕ → AdmittedJob → Resu
     → Tenancy × KeptRunner R → Query → List ℕ → Tenancy × KeptRunner R → Type 0
 tenant_answers starts looks takes =
     answers_own_named (λ s. s.0.names) (named_answers starts looks takes)
+
+-- The same, behind doors that hear forms of their own.
+abbrev pub door_answers : {R : Type 0} → (R → ℕ → AdmittedJob → Result (Unit {0}) ℕ → R
+    → Type 0) → (R → ℕ → Progress → R → Type 0) → (R → Option (ℕ × Result Report ℕ) → R → Type 0)
+    → Tenancy × KeptRunner R → Query → List ℕ → Tenancy × KeptRunner R → Type 0
+door_answers starts looks takes = answers_at_doors (λ s. s.0) (tenant_answers starts looks takes)

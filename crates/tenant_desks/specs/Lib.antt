@@ -3,6 +3,8 @@ pub mod Placing
 pub mod PlacedRunners
 pub mod Routing
 pub mod OwnNamed
+pub mod JobLists
+pub mod AskedPlainly
 pub mod Tenancies
 pub mod Answering
 pub mod Alone

@@ -1,5 +1,5 @@
 -- Requests that leave their tenant's name out, at the door of a tenant.
-use Rattle.std.specs.Prelude.{◌≡◌, ℕ, List, [], ◌∷◌, slice_get, unwrap_or, Result, Ok, Err}
+use Rattle.std.specs.Prelude.{◌≡◌, ℕ, List, [], ◌∷◌, slice_get, unwrap_or, None, Result, Ok, Err}
 use Rattle.sessions.specs.Grammar.{Asked, grant, account, submit, status, result}
 use Rattle.shared_desk.specs.declared.door.Door.{Door}
 use Rattle.shared_desk.specs.declared.door.Door.TheVariants.{Port, Socket, Grants, Tenant}
@@ -47,7 +47,7 @@ abbrev pub answers_own_named : {S : Type 0} → (S → List (List ℕ))
     → (S → Query → List ℕ → S → Type 0) → S → Query → List ℕ → S → Type 0
 answers_own_named names answers s query reply t =
     (asked : Result Asked ℕ) × IsOwnNamed (names s) query.passage.door query.asked asked
-    × answers s (record { passage = query.passage; asked = asked }) reply t
+    × answers s (record { passage = query.passage; asked = asked; beyond = None }) reply t
 
 -- an entry, and the same of what the desks were asked
 pub record IsNamedEntry (names : List (List ℕ)) (e f : HistoryEntry) : Type 0 where

@@ -4,7 +4,8 @@ use Rattle.std.specs.Prelude.{◌≢◌, ◌<◌, ℕ, List, Option, Some, None,
 use Rattle.credit_book.specs.declared.book.Report.{Report}
 use Rattle.credit_book.specs.declared.board.Progress.{Progress}
 use Rattle.job_core.specs.Admitted.{AdmittedJob}
-use Rattle.accounts.specs.Ledgers.{Ledger, KeepsLast}
+use Rattle.accounts.specs.declared.keep_limits.KeepLimits.{KeepLimits}
+use Rattle.accounts.specs.Ledgers.{Ledger, KeepsWithin}
 use Rattle.streams.specs.Answering.{Answers}
 use Rattle.shared_desk.specs.Histories.{Query}
 use Rattle.tenant_desks.specs.Placing.{placed}
@@ -45,7 +46,8 @@ module _ {R : Type 0} (starts : R → ℕ → AdmittedJob → Result (Unit {0}) 
   takes_seen old None new = (mid : R) × OthersSteps old mid × takes mid None new
 
   -- the answers of a plain desk by this runner, after each of which the desk forgets
-  abbrev pub answers_seen : ℕ → Ledger × R → Query → List ℕ → Ledger × R → Type 0
+  abbrev pub answers_seen : KeepLimits → Ledger × R → Query → List ℕ → Ledger × R
+      → Type 0
   answers_seen keep s query reply t =
       (mid : Ledger) × Answers starts_seen looks_seen takes_seen s.0 s.1 query.asked reply mid t.1
-      × KeepsLast keep mid t.0
+      × KeepsWithin keep mid t.0

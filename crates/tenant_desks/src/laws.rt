@@ -1,10 +1,13 @@
 //! What each tenant has of a server that many share: a server to itself.
 
 ghost use Rattle.std.specs.Prelude.{◌≡◌, ◌≤◌, ◌+◌, ℕ, List, Some, length, slice_get};
+ghost use Rattle.accounts.specs.declared.keep_limits.KeepLimits.{KeepLimits};
 ghost use Rattle.accounts.specs.Ledgers.{Ledger};
+ghost use Rattle.accounts.specs.Limits.{keeps_all};
 ghost use Rattle.shared_desk.specs.Histories.{HistoryEntry, Replays};
 ghost use Rattle.tenant_desks.specs.Alone.{AreToldWhy, DeskEvent, HappensAlone, IsAloneHistory, IsTenantHistory, sent_to};
-ghost use Rattle.tenant_desks.specs.Answering.{KeptRunner, tenant_answers};
+ghost use Rattle.tenant_desks.specs.Answering.{KeptRunner, door_answers, tenant_answers};
+ghost use Rattle.tenant_desks.specs.AskedPlainly.{AreAskedPlainly};
 ghost use Rattle.tenant_desks.specs.OwnNamed.{AreAskedByName};
 ghost use Rattle.tenant_desks.specs.Events.{EachTwo, HappensAlike, IsToldAlike};
 ghost use Rattle.tenant_desks.specs.Seen.{answers_seen};
@@ -16,18 +19,18 @@ use streams::Runner;
 /// The entries that go to one of them, in order, are a history of that desk alone, which leads from
 /// the first desk at its place to it. A request that goes nowhere is told why.
 pub fn each_tenant_is_alone<N: Runner>()
-    ensures desks { (names : List (List ℕ)) (firsts : List Ledger) (keep : ℕ)
+    ensures desks { (names : List (List ℕ)) (firsts : List Ledger) (keep : KeepLimits)
         (history : List HistoryEntry) (end : Tenancy × KeptRunner N)
         → IsTenantHistory N.starts N.looks N.takes names firsts keep history end
         → length end.0.desks ≡ length firsts }
-    ensures alone { (names : List (List ℕ)) (firsts : List Ledger) (keep : ℕ)
+    ensures alone { (names : List (List ℕ)) (firsts : List Ledger) (keep : KeepLimits)
         (history : List HistoryEntry) (end : Tenancy × KeptRunner N) (place : ℕ)
         (first desk : Ledger)
         → IsTenantHistory N.starts N.looks N.takes names firsts keep history end
         → slice_get firsts place ≡ Some first → slice_get end.0.desks place ≡ Some desk
         → IsAloneHistory N.starts N.looks N.takes place keep first (sent_to names place history)
         desk }
-    ensures refused { (names : List (List ℕ)) (firsts : List Ledger) (keep : ℕ)
+    ensures refused { (names : List (List ℕ)) (firsts : List Ledger) (keep : KeepLimits)
         (history : List HistoryEntry) (end : Tenancy × KeptRunner N)
         → IsTenantHistory N.starts N.looks N.takes names firsts keep history end
         → AreToldWhy names history }
@@ -39,15 +42,16 @@ pub fn each_tenant_is_alone<N: Runner>()
 /// for want of memory.
 pub fn others_are_not_told<N: Runner>()
     ensures { (place : ℕ) (begun : Ledger) (first second : List DeskEvent) (d e : Ledger)
-        → HappensAlone N.starts N.looks N.takes place 0 begun first d
-        → HappensAlone N.starts N.looks N.takes place 0 begun second e
+        → HappensAlone N.starts N.looks N.takes place keeps_all begun first d
+        → HappensAlone N.starts N.looks N.takes place keeps_all begun second e
         → EachTwo HappensAlike first second → EachTwo IsToldAlike first second }
 {}
 
 /// A tenant's part is a legal history of a plain desk, which a runner serves whose steps for others
 /// can't be seen.
 pub fn each_part_is_plain<N: Runner>()
-    ensures { (names : List (List ℕ)) (firsts : List Ledger) (keep place : ℕ) (first : Ledger)
+    ensures { (names : List (List ℕ)) (firsts : List Ledger) (keep : KeepLimits) (place : ℕ)
+        (first : Ledger)
         (history : List HistoryEntry) (end : Tenancy × KeptRunner N)
         → length firsts ≤ 257 → slice_get firsts place ≡ Some first
         → IsTenantHistory N.starts N.looks N.takes names firsts keep history end
@@ -60,10 +64,26 @@ pub fn each_part_is_plain<N: Runner>()
 /// doors the name may be left out is one of the desks, by what they were asked. All that holds of
 /// their histories holds of it.
 pub fn own_names_are_put_in<N: Runner>()
-    ensures { (names : List (List ℕ)) (firsts : List Ledger) (keep : ℕ)
+    ensures { (names : List (List ℕ)) (firsts : List Ledger) (keep : KeepLimits)
         (history : List HistoryEntry) (end : Tenancy × KeptRunner N)
         → Replays (tenant_answers N.starts N.looks N.takes)
         (λ s. (s.0 ≡ record { names = names; desks = firsts }) × (s.1.keep ≡ keep)) history end
         → (asked : List HistoryEntry) × AreAskedByName names history asked
         × IsTenantHistory N.starts N.looks N.takes names firsts keep asked end }
+{}
+
+/// Whatever doors hear beyond the plain protocol, the desks are asked by that: a history of a server
+/// behind such doors is one of plain requests, by what was asked of its desks. At a listing that is no
+/// request, and the reply tells the jobs of the door's own desk as it stands then.
+pub fn listings_are_put_aside<N: Runner>()
+    ensures { (names : List (List ℕ)) (firsts : List Ledger) (keep : KeepLimits)
+        (history : List HistoryEntry) (end : Tenancy × KeptRunner N)
+        → Replays (door_answers N.starts N.looks N.takes)
+        (λ s. (s.0 ≡ record { names = names; desks = firsts }) × (s.1.keep ≡ keep)) history end
+        → (asked : List HistoryEntry)
+        × AreAskedPlainly (λ s. s.0) (tenant_answers N.starts N.looks N.takes)
+        (λ s. (s.0 ≡ record { names = names; desks = firsts }) × (s.1.keep ≡ keep)) history asked
+        end
+        × Replays (tenant_answers N.starts N.looks N.takes)
+        (λ s. (s.0 ≡ record { names = names; desks = firsts }) × (s.1.keep ≡ keep)) asked end }
 {}

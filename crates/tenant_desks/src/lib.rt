@@ -17,13 +17,17 @@ pub use placed_runner::{PlacedRunner, own_number, placed_number};
 
 // what answers
 mod tenant_handler;
+mod told_grants;
 
 pub use tenant_handler::{TenantHandler, refuse, refused_at, wants_admission_among};
+pub use told_grants::{granted_among, noted_grant_among};
 
-// and by whose name
+// by whose name, and what doors hear beyond the plain protocol
+mod job_lists;
 mod own_names;
 mod own_naming;
 
+pub use job_lists::answer_form;
 pub use own_names::own_named;
 pub use own_naming::OwnNaming;
 
@@ -31,5 +35,6 @@ pub use own_naming::OwnNaming;
 mod laws;
 
 pub use laws::{
-    each_part_is_plain, each_tenant_is_alone, others_are_not_told, own_names_are_put_in,
+    each_part_is_plain, each_tenant_is_alone, listings_are_put_aside, others_are_not_told,
+    own_names_are_put_in,
 };

@@ -12,10 +12,11 @@ use crate::ends::pass_ends;
 use crate::own_names::name_behind;
 use crate::placed_runner::{PlacedRunner, placed_number};
 use crate::routing::{desk_for, tenant_place};
-use accounts::Desk;
+use crate::told_grants::{granted_among, noted_grant_among};
+use accounts::{Desk, KeepLimits};
 use refusal::NoMemory;
-use server_log::{ServerLog, event_of_refusal};
-use sessions::{Reply, Request};
+use server_log::{ServerLog, tell_answer};
+use sessions::{DoorForm, Reply, Request};
 use shared_desk::{Passage, SharedHandler};
 use std::alloc::Global;
 use std::marker::Model;
@@ -26,15 +27,14 @@ use streams::{
 };
 
 /// Answers each request at the desk that it goes to, by one runner of all jobs, and then has that
-/// desk forget the reports of all but its last `keep` jobs; 0: it forgets none. Where there is a
-/// log, that is told of each job that is refused. Contracts see the runner and how many reports are
-/// kept.
+/// desk forget until what it keeps is within the limits. Where there is a log, that is told of each
+/// job that is refused, and of each grant. Contracts see the runner and how many reports are kept.
 #[derive(Drop)]
 pub struct TenantHandler<'a, R, N> {
     rt: &'a R,
     log: Option<&'a ServerLog>,
     runner: PlacedRunner<N>,
-    keep: u32,
+    keep: KeepLimits,
 }
 
 impl<'a, R, N> Model for TenantHandler<'a, R, N> {
@@ -53,7 +53,7 @@ impl<'a, R, N: Drop> TenantHandler<'a, R, N> {
         rt: &'a R,
         log: Option<&'a ServerLog>,
         runner: N,
-        keep: u32,
+        keep: KeepLimits,
     ) -> TenantHandler<'a, R, N>
         ensures { result ≡ record { runner = runner; keep = keep } }
     {
@@ -96,7 +96,7 @@ fn answer_at<N: Runner>(
     alloc: Global,
     desk: &mut Desk,
     runner: &mut PlacedRunner<N>,
-    keep: u32,
+    keep: KeepLimits,
     request: PreparedRequest,
 ) -> (Option<SubmitRefusal>, Result<PendingReply, NoMemory>)
     requires { N.ready runner.old.runner }
@@ -109,7 +109,7 @@ fn answer_at<N: Runner>(
         desk.new) }
 {
     let told = runner.answer_and_tell(alloc, desk, request);
-    desk.keep_last(keep);
+    desk.keep_within(keep);
     told
 }
 
@@ -119,7 +119,7 @@ fn answer_among<N: Runner>(
     names: &[String],
     desks: &mut Vec<Desk>,
     runner: &mut PlacedRunner<N>,
-    keep: u32,
+    keep: KeepLimits,
     passage: Passage,
     request: PreparedRequest,
 ) -> (Option<SubmitRefusal>, Result<PendingReply, NoMemory>)
@@ -179,7 +179,9 @@ impl<R: Wait + Clock, N: Runner> SharedHandler<TenantDesks> for TenantHandler<'_
         desk: &mut TenantDesks,
         passage: Passage,
         request: PreparedRequest,
+        _beyond: Option<DoorForm>,
     ) -> Result<PendingReply, NoMemory> {
+        let note = noted_grant_among(alloc, self.log, desk, &request);
         let (refusal, reply) = answer_among(
             alloc,
             &desk.names,
@@ -189,9 +191,7 @@ impl<R: Wait + Clock, N: Runner> SharedHandler<TenantDesks> for TenantHandler<'_
             passage,
             request,
         );
-        if let (Some(log), Some(refusal)) = (self.log, refusal) {
-            log.tell(self.rt, event_of_refusal(refusal));
-        }
+        tell_answer(self.rt, self.log, refusal, granted_among(desk, note));
         reply
     }
 }

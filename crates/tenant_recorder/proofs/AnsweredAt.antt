@@ -4,7 +4,8 @@ use Rattle.refusal.specs.declared.NoMemory.{NoMemory}
 use Rattle.credit_book.specs.declared.book.Report.{Report}
 use Rattle.credit_book.specs.declared.board.Progress.{Progress}
 use Rattle.job_core.specs.Admitted.{AdmittedJob}
-use Rattle.accounts.specs.Ledgers.{Ledger, KeepsLast}
+use Rattle.accounts.specs.declared.keep_limits.KeepLimits.{KeepLimits}
+use Rattle.accounts.specs.Ledgers.{Ledger, KeepsWithin}
 use Rattle.sessions.specs.Grammar.{Asked}
 use Rattle.sessions.specs.Replies.{frame_of}
 use Rattle.streams.specs.Answering.{Framed, Replies}
@@ -19,8 +20,8 @@ use Rattle.tenant_recorder.specs.Recorders.{TakesRecords}
 use Rattle.tenant_recorder.proofs.Forgotten.{keeps_again}
 
 -- the recorder notes what the answer changes, and then what is forgotten, and begins anew
-module _ {Q : Type 0} (taken : Q → List ℕ) (failed : Q → Type 0) (keep : ℕ) (old mid new : Ledger) (before replied kept after : ChangeRecorder Q)
-    (first : IsRecorded taken failed before replied old mid) (keeps : KeepsLast keep mid new ⊎ ((new ≡ mid) × (replied.has_changed ≡ false)))
+module _ {Q : Type 0} (taken : Q → List ℕ) (failed : Q → Type 0) (keep : KeepLimits) (old mid new : Ledger) (before replied kept after : ChangeRecorder Q)
+    (first : IsRecorded taken failed before replied old mid) (keeps : KeepsWithin keep mid new ⊎ ((new ≡ mid) × (replied.has_changed ≡ false)))
     (second : IsRecorded taken failed replied kept mid new) (queue : after.queue ≡ kept.queue) (stopped : after.is_stopped ≡ kept.is_stopped) where
   pub takes_all : TakesRecords taken failed before after old new
   takes_all =
@@ -31,29 +32,29 @@ module _ {Q : Type 0} (taken : Q → List ℕ) (failed : Q → Type 0) (keep : �
         records = λ on. subst (λ (q : Q). RecordsMore taken before.queue q old new) (sym queue) (all.records (sym stopped ∙ on));
       }
 
-  pub keeps_last : (before.has_changed ≡ false → KeepsLast keep old old) → KeepsLast keep mid new
+  pub keeps_last : (before.has_changed ≡ false → KeepsWithin keep old old) → KeepsWithin keep mid new
   keeps_last forgot = by keeps
     where
-      by : KeepsLast keep mid new ⊎ ((new ≡ mid) × (replied.has_changed ≡ false)) → KeepsLast keep mid new
+      by : KeepsWithin keep mid new ⊎ ((new ≡ mid) × (replied.has_changed ≡ false)) → KeepsWithin keep mid new
       by (inl k) = k
       by (inr t) =
           let was = first.unchanged t.1 in
-          let K : Ledger × Ledger → Type 0 = λ x. KeepsLast keep x.0 x.1 in
-          let here : KeepsLast keep mid mid = subst (λ (x : Ledger). KeepsLast keep x x) (sym was.1) (forgot was.0) in
-          subst (KeepsLast keep mid) (sym t.0) here
+          let K : Ledger × Ledger → Type 0 = λ x. KeepsWithin keep x.0 x.1 in
+          let here : KeepsWithin keep mid mid = subst (λ (x : Ledger). KeepsWithin keep x x) (sym was.1) (forgot was.0) in
+          subst (KeepsWithin keep mid) (sym t.0) here
 
-  pub keeps_so : (before.has_changed ≡ false → KeepsLast keep old old) → KeepsLast keep new new
+  pub keeps_so : (before.has_changed ≡ false → KeepsWithin keep old old) → KeepsWithin keep new new
   keeps_so forgot = keeps_again keep mid new (keeps_last forgot)
 
 -- what is replied and then forgotten is an answer of a desk alone
-module _ {P : Type 0} (starts : P → ℕ → AdmittedJob → Result (Unit {0}) ℕ → P → Type 0) (looks : P → ℕ → Progress → P → Type 0) (keep : ℕ) (query : Result Asked ℕ)
+module _ {P : Type 0} (starts : P → ℕ → AdmittedJob → Result (Unit {0}) ℕ → P → Type 0) (looks : P → ℕ → Progress → P → Type 0) (keep : KeepLimits) (query : Result Asked ℕ)
     (old mid new : Ledger) (runner left : P) (forgot : Type 0) where
-  pub alone_ok : (r : Result (List ℕ) NoMemory) → Framed r (λ told. Replies starts looks old runner query told mid left) → (forgot → KeepsLast keep mid new)
+  pub alone_ok : (r : Result (List ℕ) NoMemory) → Framed r (λ told. Replies starts looks old runner query told mid left) → (forgot → KeepsWithin keep mid new)
       → IfOk r (λ f. forgot → AnswersAlone starts looks keep runner left query f old new)
   alone_ok (Ok f) framed keeps = λ had. record { mid = mid; told = framed.told; replies = framed.was; frame = framed.frame; keeps = keeps had }
   alone_ok (Err e) framed keeps = tt
 
-  pub alone_err : (r : Result (List ℕ) NoMemory) → Framed r (λ told. Replies starts looks old runner query told mid left) → (forgot → KeepsLast keep mid new)
+  pub alone_err : (r : Result (List ℕ) NoMemory) → Framed r (λ told. Replies starts looks old runner query told mid left) → (forgot → KeepsWithin keep mid new)
       → OnErr r ((reply : List ℕ) × (forgot → AnswersAlone starts looks keep runner left query reply old new))
   alone_err (Ok f) framed keeps = tt
   alone_err (Err e) framed keeps =
@@ -61,7 +62,7 @@ module _ {P : Type 0} (starts : P → ℕ → AdmittedJob → Result (Unit {0}) 
 
 -- one of many desks answers, or none does
 module _ {R : Type 0} (starts : R → ℕ → AdmittedJob → Result (Unit {0}) ℕ → R → Type 0) (looks : R → ℕ → Progress → R → Type 0) (takes : R → Option (ℕ × Result Report ℕ) → R → Type 0)
-    (keep : ℕ) (to : Result ℕ ℕ) (query : Result Asked ℕ) (desks : List Ledger) (runner : R) (mid : List Ledger) (rest : R) (passed : PassesEnds takes desks runner mid rest) (had : Type 0) where
+    (keep : KeepLimits) (to : Result ℕ ℕ) (query : Result Asked ℕ) (desks : List Ledger) (runner : R) (mid : List Ledger) (rest : R) (passed : PassesEnds takes desks runner mid rest) (had : Type 0) where
   pub nowhere_ok : (code : ℕ) (told : Result (List ℕ) NoMemory) → to ≡ Err code → IfOk told (λ frame. frame ≡ refusal_frame code)
       → IfOk told (λ reply. had → DeskAnswer starts looks takes keep to query desks runner reply mid rest)
   nowhere_ok code (Ok frame) goes is = λ forgot.

@@ -1,13 +1,10 @@
 -- Desks that have nothing more to forget.
-use Rattle.std.proofs.Common.{◌≡◌, ◌≢◌, ◌⊎◌, ℕ, zero, suc, Bool, List, [], ◌∷◌, ◌++◌, length, replicate, slice_get, slice_set, Some, false, true, refl, sym, ap, subst, ◌∙◌, inl, inr}
+use Rattle.std.proofs.Common.{◌≡◌, ◌≢◌, ◌⊎◌, ℕ, zero, suc, Bool, List, [], ◌∷◌, length, slice_get, slice_set, Some, false, true, refl, sym, ap, subst, ◌∙◌, inl, inr}
 use Rattle.std.specs.List.{AllZip}
-use Rattle.std.proofs.lemmas.List.{length-replicate, length-set}
-use Rattle.std.proofs.lemmas.List.Elements.{All-replicate}
-use Rattle.accounts.specs.declared.jobs.JobEntry.{JobEntry}
-use Rattle.accounts.specs.declared.jobs.JobStanding.{JobStanding}
-use Rattle.accounts.specs.Jobs.{is_open}
-use Rattle.accounts.specs.Forgetting.{ForgetsJobs, IsJobOver}
-use Rattle.accounts.specs.Ledgers.{Ledger, KeepsLast}
+use Rattle.std.proofs.lemmas.List.{length-set}
+use Rattle.accounts.specs.declared.keep_limits.KeepLimits.{KeepLimits}
+use Rattle.accounts.proofs.Forgets.{forgets_none}
+use Rattle.accounts.specs.Ledgers.{Ledger, KeepsWithin}
 use Rattle.desk_recorder.specs.Recording.{IsRecorded}
 use Rattle.desk_recorder.specs.declared.recorder.ChangeRecorder.{ChangeRecorder}
 use Rattle.tenant_desks.proofs.ChangedDesks.{set_at}
@@ -16,27 +13,16 @@ use Rattle.tenant_recorder.proofs.EachPlace.{there}
 
 -- ---- what was forgotten is forgotten
 
-forgets_again : (old : List JobEntry) (keep : ℕ) (new : List JobEntry) → ForgetsJobs old keep new → ForgetsJobs new keep new
-forgets_again old keep new f =
-    let gone = replicate (length f.front) f.gone in
-    let count = length-replicate (length f.front) f.gone in
-    record {
-      front = gone;
-      rest = f.rest;
-      was = f.is;
-      over = All-replicate IsJobOver (length f.front) f.gone (ap (λ (s : JobStanding). is_open s) f.is_gone.standing);
-      gone = f.gone;
-      is_gone = f.is_gone;
-      is = f.is ∙ ap (λ (n : ℕ). replicate n f.gone ++ f.rest) (sym count);
-      most = f.most;
-      least = inr refl;
-    }
-
-pub keeps_again : (keep : ℕ) (old new : Ledger) → KeepsLast keep old new → KeepsLast keep new new
-keeps_again keep old new keeps = (
-  λ some. record { jobs = forgets_again old.jobs keep new.jobs (keeps.0 some).jobs; grants = λ q. refl; accounts = λ q. refl },
-  λ none. refl,
-)
+pub keeps_again : (keep : KeepLimits) (old new : Ledger) → KeepsWithin keep old new → KeepsWithin keep new new
+keeps_again keep old new keeps =
+    let within = keeps.1.within in (
+      0,
+      record {
+        forgets = record { jobs = forgets_none new.jobs; grants = λ q. refl; accounts = λ q. refl };
+        within = record { last = within.last; small = within.small; needed = inl refl };
+        same = λ none. refl;
+      },
+    )
 
 -- ---- of all desks
 
@@ -60,15 +46,15 @@ module _ {Q : Type 0} where
   new_length (q ∷ queues) [] made = absurd made
   new_length (q ∷ queues) (x ∷ recorders) made = ap suc (new_length queues recorders made.1)
 
-  pub forgotten_anew : (queues : List Q) (recorders : List (ChangeRecorder Q)) (keep : ℕ) (desks : List Ledger) → AllZip IsNewRecorder queues recorders → length desks ≡ length queues
+  pub forgotten_anew : (queues : List Q) (recorders : List (ChangeRecorder Q)) (keep : KeepLimits) (desks : List Ledger) → AllZip IsNewRecorder queues recorders → length desks ≡ length queues
       → HaveForgotten keep desks recorders
   forgotten_anew queues recorders keep desks made count = record {
     paired = new_length queues recorders made ∙ sym count;
-    each = λ place desk recorder at_d at_r none. clash (KeepsLast keep desk desk) recorder.has_changed (new_noted queues recorders made place recorder at_r) none;
+    each = λ place desk recorder at_d at_r none. clash (KeepsWithin keep desk desk) recorder.has_changed (new_noted queues recorders made place recorder at_r) none;
   }
 
   -- changes that are noted leave it so
-  pub forgotten_noted : (taken : Q → List ℕ) (failed : Q → Type 0) (keep : ℕ) (ps qs : List (ChangeRecorder Q)) (ds es : List Ledger) → EachRecorder (IsRecorded taken failed) ps qs ds es
+  pub forgotten_noted : (taken : Q → List ℕ) (failed : Q → Type 0) (keep : KeepLimits) (ps qs : List (ChangeRecorder Q)) (ds es : List Ledger) → EachRecorder (IsRecorded taken failed) ps qs ds es
       → HaveForgotten keep ds ps → HaveForgotten keep es qs
   forgotten_noted taken failed keep ps qs ds es noted had = record {
     paired = noted.recorders ∙ had.paired ∙ sym noted.desks;
@@ -76,11 +62,11 @@ module _ {Q : Type 0} where
         let p = there qs ps place q (sym noted.recorders) at_q in
         let d = there es ds place e (sym noted.desks) at_e in
         let was = (noted.each place p.0 q d.0 e p.1 at_q d.1 at_e).unchanged none in
-        subst (λ (x : Ledger). KeepsLast keep x x) (sym was.1) (had.each place d.0 p.0 d.1 p.1 was.0);
+        subst (λ (x : Ledger). KeepsWithin keep x x) (sym was.1) (had.each place d.0 p.0 d.1 p.1 was.0);
   }
 
   -- so does a desk that has forgotten
-  pub forgotten_at : (keep : ℕ) (ps : List (ChangeRecorder Q)) (ds : List Ledger) (place : ℕ) (q : ChangeRecorder Q) (e : Ledger) → KeepsLast keep e e
+  pub forgotten_at : (keep : KeepLimits) (ps : List (ChangeRecorder Q)) (ds : List Ledger) (place : ℕ) (q : ChangeRecorder Q) (e : Ledger) → KeepsWithin keep e e
       → HaveForgotten keep ds ps → HaveForgotten keep (slice_set ds place e) (slice_set ps place q)
   forgotten_at keep ps ds place q e forgot had = record {
     paired = length-set ps place q ∙ had.paired ∙ sym (length-set ds place e);
@@ -88,7 +74,7 @@ module _ {Q : Type 0} where
   }
     where
       by : (i : ℕ) (d : Ledger) (r : ChangeRecorder Q) → r.has_changed ≡ false → ((i ≡ place) × (e ≡ d)) ⊎ ((i ≢ place) × (slice_get ds i ≡ Some d))
-          → ((i ≡ place) × (q ≡ r)) ⊎ ((i ≢ place) × (slice_get ps i ≡ Some r)) → KeepsLast keep d d
-      by i d r none (inl t) u = subst (λ (x : Ledger). KeepsLast keep x x) t.1 forgot
+          → ((i ≡ place) × (q ≡ r)) ⊎ ((i ≢ place) × (slice_get ps i ≡ Some r)) → KeepsWithin keep d d
+      by i d r none (inl t) u = subst (λ (x : Ledger). KeepsWithin keep x x) t.1 forgot
       by i d r none (inr t) (inl u) = absurd (t.0 u.0)
       by i d r none (inr t) (inr u) = had.each i d r t.1 u.1 none

@@ -5,6 +5,7 @@ use Rattle.refusal.specs.declared.NoMemory.{NoMemory}
 use Rattle.credit_book.specs.declared.book.Report.{Report}
 use Rattle.credit_book.specs.declared.board.Progress.{Progress}
 use Rattle.job_core.specs.Admitted.{AdmittedJob}
+use Rattle.accounts.specs.declared.keep_limits.KeepLimits.{KeepLimits}
 use Rattle.accounts.specs.Ledgers.{Ledger}
 use Rattle.shared_desk.specs.Histories.{Query}
 use Rattle.desk_recorder.specs.declared.recorder.ChangeRecorder.{ChangeRecorder}
@@ -32,7 +33,7 @@ module _ {R Q : Type 0} (starts : R → ℕ → AdmittedJob → Result (Unit {0}
   apart_err s (Err e) differ = ([], apart s [] differ)
 
   -- else one answer is that of the desks, with the records of what it changes
-  module _ (keep : ℕ) (ns ms : List (String Global)) (same : ns ≡ ms) (ds es : List Ledger) (r q : R) (ps qs : List (ChangeRecorder Q))
+  module _ (keep : KeepLimits) (ns ms : List (String Global)) (same : ns ≡ ms) (ds es : List Ledger) (r q : R) (ps qs : List (ChangeRecorder Q))
       (forgotten : HaveForgotten keep ds ps → HaveForgotten keep es qs) (records : AreRecorded taken failed ps qs ds es) where
     abbrev Answered : List ℕ → Type 0
     Answered reply = HaveForgotten keep ds ps → DeskAnswer starts looks takes keep (desk_for (map string_bytes ns) query.passage query.asked) query.asked ds r reply es q

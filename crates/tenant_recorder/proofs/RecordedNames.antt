@@ -1,5 +1,5 @@
 -- A history of recorded desks at whose doors the tenant's name may be left out, by what they were asked.
-use Rattle.std.proofs.Common.{◌≡◌, ℕ, List, [], ◌∷◌, ◌++◌, Option, Result, refl, sym, ap, subst, ◌∙◌}
+use Rattle.std.proofs.Common.{◌≡◌, ℕ, List, [], ◌∷◌, ◌++◌, Option, None, Result, refl, sym, ap, subst, ◌∙◌}
 use Rattle.credit_book.specs.declared.book.Report.{Report}
 use Rattle.credit_book.specs.declared.board.Progress.{Progress}
 use Rattle.job_core.specs.Admitted.{AdmittedJob}
@@ -32,7 +32,7 @@ module _ {R Q : Type 0} (starts : R → ℕ → AdmittedJob → Result (Unit {0}
   }
   put_in s _ t step (one_more history u e v before (asked, own, answered)) =
       let r = put_in s history u step before in
-      let f : HistoryEntry = record { connection = e.connection; query = record { passage = e.query.passage; asked = asked }; reply = e.reply } in
+      let f : HistoryEntry = record { connection = e.connection; query = record { passage = e.query.passage; asked = asked; beyond = None }; reply = e.reply } in
       let next = answered.0 r.step in
       record {
         same = next.0.1 ∙ r.same;

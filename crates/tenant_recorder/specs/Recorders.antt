@@ -1,6 +1,7 @@
 -- The recorders of desks, one for each.
 use Rattle.std.specs.Prelude.{◌≡◌, ℕ, List, length, slice_get, Some, true, false}
-use Rattle.accounts.specs.Ledgers.{Ledger, KeepsLast}
+use Rattle.accounts.specs.declared.keep_limits.KeepLimits.{KeepLimits}
+use Rattle.accounts.specs.Ledgers.{Ledger, KeepsWithin}
 use Rattle.desk_recorder.specs.Recording.{RecordsMore}
 use Rattle.desk_recorder.specs.declared.recorder.ChangeRecorder.{ChangeRecorder}
 
@@ -37,9 +38,9 @@ AreRecorded taken failed = EachRecorder (TakesRecords taken failed)
 
 -- Each desk has a recorder. Where that has noted no change since the desk last forgot, the desk has
 -- nothing more to forget.
-pub record HaveForgotten {Q : Type 0} (keep : ℕ) (desks : List Ledger)
+pub record HaveForgotten {Q : Type 0} (keep : KeepLimits) (desks : List Ledger)
     (recorders : List (ChangeRecorder Q)) : Type 0 where
   pub paired : length recorders ≡ length desks
   pub each : (place : ℕ) (desk : Ledger) (recorder : ChangeRecorder Q)
       → slice_get desks place ≡ Some desk → slice_get recorders place ≡ Some recorder
-      → recorder.has_changed ≡ false → KeepsLast keep desk desk
+      → recorder.has_changed ≡ false → KeepsWithin keep desk desk

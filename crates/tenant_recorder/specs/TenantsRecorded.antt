@@ -1,4 +1,5 @@
 -- Answers at the desks of tenants, with a record of what changes each desk.
+use Rattle.accounts.specs.declared.keep_limits.KeepLimits.{KeepLimits}
 use Rattle.std.specs.Prelude.{ℕ, List, Option, Result}
 use Rattle.credit_book.specs.declared.book.Report.{Report}
 use Rattle.credit_book.specs.declared.board.Progress.{Progress}
@@ -6,6 +7,7 @@ use Rattle.job_core.specs.Admitted.{AdmittedJob}
 use Rattle.shared_desk.specs.Histories.{Query}
 use Rattle.tenant_desks.specs.Tenancies.{Tenancy}
 use Rattle.tenant_desks.specs.Answering.{KeptRunner, named_answers}
+use Rattle.tenant_desks.specs.JobLists.{answers_at_doors}
 use Rattle.tenant_desks.specs.OwnNamed.{answers_own_named}
 use Rattle.desk_recorder.specs.declared.recorder.ChangeRecorder.{ChangeRecorder}
 use Rattle.tenant_recorder.specs.Recorders.{AreRecorded, HaveForgotten}
@@ -14,7 +16,7 @@ use Rattle.tenant_recorder.specs.Recorders.{AreRecorded, HaveForgotten}
 -- recorders of the desks, in order
 pub record RecordedRunner (R Q : Type 0) : Type 0 where
   pub runner : R
-  pub keep : ℕ
+  pub keep : KeepLimits
   pub recorders : List (ChangeRecorder Q)
 
 -- the same without the recorders
@@ -43,3 +45,11 @@ abbrev pub tenant_answers_recorded : {R Q : Type 0}
     → Tenancy × RecordedRunner R Q → Query → List ℕ → Tenancy × RecordedRunner R Q → Type 0
 tenant_answers_recorded starts looks takes taken failed =
     answers_own_named (λ s. s.0.names) (named_answers_recorded starts looks takes taken failed)
+
+-- The same, behind doors that hear forms of their own.
+abbrev pub door_answers_recorded : {R Q : Type 0}
+    → (R → ℕ → AdmittedJob → Result (Unit {0}) ℕ → R → Type 0) → (R → ℕ → Progress → R → Type 0)
+    → (R → Option (ℕ × Result Report ℕ) → R → Type 0) → (Q → List ℕ) → (Q → Type 0)
+    → Tenancy × RecordedRunner R Q → Query → List ℕ → Tenancy × RecordedRunner R Q → Type 0
+door_answers_recorded starts looks takes taken failed =
+    answers_at_doors (λ s. s.0) (tenant_answers_recorded starts looks takes taken failed)

@@ -1,7 +1,7 @@
 //! The answer at one of many desks, with the records of what it changes.
 
 ghost use Rattle.std.specs.Prelude.{◌≡◌, ◌≤◌, ◌+◌, ℕ, IfOk, List, OnErr, false, length, map, string_bytes};
-ghost use Rattle.accounts.specs.Ledgers.{KeepsLast};
+ghost use Rattle.accounts.specs.Ledgers.{KeepsWithin};
 ghost use Rattle.streams.specs.Prepared.{asked_of};
 ghost use Rattle.tenant_desks.specs.Answering.{AnswersAlone, DeskAnswer};
 ghost use Rattle.tenant_desks.specs.PlacedRunners.{looks_placed, starts_placed};
@@ -9,7 +9,7 @@ ghost use Rattle.tenant_desks.specs.Routing as routing;
 ghost use Rattle.tenant_recorder.specs.Recorders.{AreRecorded, HaveForgotten, TakesRecords};
 
 use crate::desk_ends::pass_ends;
-use accounts::Desk;
+use accounts::{Desk, KeepLimits};
 use desk_recorder::{ChangeRecorder, RecordQueue, keep_recorded, reply_recorded};
 use refusal::NoMemory;
 use shared_desk::Passage;
@@ -24,21 +24,21 @@ fn answer_at<N: Runner, Q: RecordQueue>(
     desk: &mut Desk,
     runner: &mut PlacedRunner<N>,
     recorder: &mut ChangeRecorder<Q>,
-    keep: u32,
+    keep: KeepLimits,
     request: PreparedRequest,
 ) -> (Option<SubmitRefusal>, Result<PendingReply, NoMemory>)
     requires { N.ready runner.old.runner }
     ensures ready { N.ready runner.new.runner }
     ensures ok { IfOk result.1 (λ reply.
-        (recorder.old.has_changed ≡ false → KeepsLast keep desk.old desk.old)
+        (recorder.old.has_changed ≡ false → KeepsWithin keep desk.old desk.old)
         → AnswersAlone (starts_placed N.starts) (looks_placed N.looks) keep runner.old runner.new
         (asked_of request) reply desk.old desk.new) }
     ensures err { OnErr result.1 ((reply : List ℕ)
-        × ((recorder.old.has_changed ≡ false → KeepsLast keep desk.old desk.old)
+        × ((recorder.old.has_changed ≡ false → KeepsWithin keep desk.old desk.old)
         → AnswersAlone (starts_placed N.starts) (looks_placed N.looks) keep runner.old runner.new
         (asked_of request) reply desk.old desk.new)) }
-    ensures forgotten { (recorder.old.has_changed ≡ false → KeepsLast keep desk.old desk.old)
-        → KeepsLast keep desk.new desk.new }
+    ensures forgotten { (recorder.old.has_changed ≡ false → KeepsWithin keep desk.old desk.old)
+        → KeepsWithin keep desk.new desk.new }
     ensures records { TakesRecords Q.taken Q.has_failed recorder.old recorder.new desk.old desk.new }
 {
     let told = reply_recorded(alloc, desk, runner, recorder, request);
@@ -55,7 +55,7 @@ pub(crate) fn answer_among<N: Runner, Q: RecordQueue>(
     desks: &mut Vec<Desk>,
     runner: &mut PlacedRunner<N>,
     recorders: &mut Vec<ChangeRecorder<Q>>,
-    keep: u32,
+    keep: KeepLimits,
     passage: Passage,
     request: PreparedRequest,
 ) -> (Option<SubmitRefusal>, Result<PendingReply, NoMemory>)

@@ -2,6 +2,7 @@
 
 ghost use Rattle.std.specs.Prelude.{◌≡◌, ℕ, List, Some, false, length, slice_get};
 ghost use Rattle.std.specs.List.{AllZip};
+ghost use Rattle.accounts.specs.declared.keep_limits.KeepLimits.{KeepLimits};
 ghost use Rattle.accounts.specs.Ledgers.{Ledger};
 ghost use Rattle.shared_desk.specs.Histories.{HistoryEntry, Replays};
 ghost use Rattle.tenant_desks.specs.Alone.{IsTenantHistory};
@@ -44,7 +45,7 @@ pub fn records_lead_to_desks<N: Runner, Q: RecordQueue>()
 /// The recorders change no answer: a history of a handler with recorders is one of the desks and the
 /// runner alone, of which the laws of tenants hold. New recorders, one for each desk, are in step with any desks.
 pub fn recorders_change_no_answer<N: Runner, Q: RecordQueue>()
-    ensures begun { (queues : List Q) (recorders : List (ChangeRecorder Q)) (keep : ℕ)
+    ensures begun { (queues : List Q) (recorders : List (ChangeRecorder Q)) (keep : KeepLimits)
         (desks : List Ledger) → AllZip IsNewRecorder queues recorders
         → length desks ≡ length queues → HaveForgotten keep desks recorders }
     ensures answered { (answers : List HistoryEntry) (s t : Tenancy × RecordedRunner N Q)

@@ -4,26 +4,29 @@ use crate::desk_answers::answer_among;
 use crate::desk_credits::credit_each;
 use crate::desk_restarts::restart_each;
 use crate::recorders::recorders_of;
+use accounts::KeepLimits;
 use desk_journal::OpenJob;
 use desk_recorder::{ChangeRecorder, RecordQueue};
 use refusal::NoMemory;
-use server_log::{ServerLog, event_of_refusal};
-use sessions::Request;
+use server_log::{ServerLog, tell_answer};
+use sessions::{DoorForm, Request};
 use shared_desk::{Passage, SharedHandler};
 use std::alloc::Global;
 use std::marker::Model;
 use std::sync::Wait;
 use std::time::Clock;
 use streams::{PendingReply, PreparedRequest, Runner};
-use tenant_desks::{PlacedRunner, TenantDesks, refuse, wants_admission_among};
+use tenant_desks::{
+    PlacedRunner, TenantDesks, granted_among, noted_grant_among, refuse, wants_admission_among,
+};
 
 // The number of the refusal of what has no desk here.
 const NO_TENANT: u8 = 74;
 
 /// Answers each request at the desk that it goes to, by one runner of all jobs, and then has that
-/// desk forget the reports of all but its last `keep` jobs; 0: it forgets none. Puts the record of
-/// each change of a desk into that desk's queue. Where there is a log, that is told of each job that
-/// is refused. Contracts see the runner, how many reports are kept, and the recorders.
+/// desk forget until what it keeps is within the limits. Puts the record of each change of a desk
+/// into that desk's queue. Where there is a log, that is told of each job that is refused, and of each
+/// grant. Contracts see the runner, how many reports are kept, and the recorders.
 ///
 /// It is for as many desks as it has queues. At others it answers nothing: 74.
 #[derive(Drop)]
@@ -31,7 +34,7 @@ pub struct RecordingTenantHandler<'a, R, N, Q> {
     rt: &'a R,
     log: Option<&'a ServerLog>,
     runner: PlacedRunner<N>,
-    keep: u32,
+    keep: KeepLimits,
     recorders: Vec<ChangeRecorder<Q>>,
 }
 
@@ -63,7 +66,7 @@ impl<'a, R, N: Runner + Drop, Q: RecordQueue> RecordingTenantHandler<'a, R, N, Q
         rt: &'a R,
         log: Option<&'a ServerLog>,
         runner: N,
-        keep: u32,
+        keep: KeepLimits,
         queues: Vec<Q>,
     ) -> Result<RecordingTenantHandler<'a, R, N, Q>, NoMemory>
         ensures { IfOk result (λ made. (made.runner ≡ runner) × (made.keep ≡ keep)
@@ -149,10 +152,13 @@ impl<R: Wait + Clock, N: Runner, Q: RecordQueue> SharedHandler<TenantDesks>
         desk: &mut TenantDesks,
         passage: Passage,
         request: PreparedRequest,
+        beyond: Option<DoorForm>,
     ) -> Result<PendingReply, NoMemory> {
+        let _ = beyond; // plain requests alone are heard here
         if self.recorders.len() != desk.desks.len() {
             return refuse(alloc, NO_TENANT);
         }
+        let note = noted_grant_among(alloc, self.log, desk, &request);
         let (refusal, reply) = answer_among(
             alloc,
             &desk.names,
@@ -163,9 +169,7 @@ impl<R: Wait + Clock, N: Runner, Q: RecordQueue> SharedHandler<TenantDesks>
             passage,
             request,
         );
-        if let (Some(log), Some(refusal)) = (self.log, refusal) {
-            log.tell(self.rt, event_of_refusal(refusal));
-        }
+        tell_answer(self.rt, self.log, refusal, granted_among(desk, note));
         reply
     }
 }

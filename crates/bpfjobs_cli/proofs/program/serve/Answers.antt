@@ -17,10 +17,11 @@ returns-clause-app c =
     let tenth = c.in_ok-arg-10.ensures.shape c.timeout.ensures.local ∙ ap₂ with_rule ninth c.timeout.ensures.rule in
     let eleventh = c.in_ok-arg-11.ensures.shape c.open_jobs.ensures.local ∙ ap₂ with_rule tenth c.open_jobs.ensures.rule in
     let twelfth = c.in_ok-arg-12.ensures.shape c.keep.ensures.local ∙ ap₂ with_rule eleventh c.keep.ensures.rule in
-    let thirteenth = c.in_ok-arg-13.ensures.shape c.journal.ensures.local ∙ ap₂ with_rule twelfth c.journal.ensures.rule in
-    let fourteenth = c.in_ok-arg-14.ensures.shape c.journal_sync.ensures.local ∙ ap₂ with_rule thirteenth c.journal_sync.ensures.rule in
-    let fifteenth = c.in_ok-arg-15.ensures.shape c.until_eof.ensures.local ∙ ap₂ with_rule fourteenth c.until_eof.ensures.rule in
-    IfOk-weaker c.arg-16.result _ _ (λ r h. h.shape c.log.ensures.local ∙ ap₂ with_rule fifteenth c.log.ensures.rule) c.arg-16.ensures
+    let thirteenth = c.in_ok-arg-13.ensures.shape c.keep_bytes.ensures.local ∙ ap₂ with_rule twelfth c.keep_bytes.ensures.rule in
+    let fourteenth = c.in_ok-arg-14.ensures.shape c.journal.ensures.local ∙ ap₂ with_rule thirteenth c.journal.ensures.rule in
+    let fifteenth = c.in_ok-arg-15.ensures.shape c.journal_sync.ensures.local ∙ ap₂ with_rule fourteenth c.journal_sync.ensures.rule in
+    let sixteenth = c.in_ok-arg-16.ensures.shape c.until_eof.ensures.local ∙ ap₂ with_rule fifteenth c.until_eof.ensures.rule in
+    IfOk-weaker c.arg-17.result _ _ (λ r h. h.shape c.log.ensures.local ∙ ap₂ with_rule sixteenth c.log.ensures.rule) c.arg-17.ensures
 
 pub returns-clause-local : goal.returns-clause-local
 returns-clause-local c =
@@ -37,7 +38,8 @@ returns-clause-local c =
     let tenth = c.in_ok-arg-10.ensures.globals ∙ ap₂ either ninth c.timeout.ensures.local in
     let eleventh = c.in_ok-arg-11.ensures.globals ∙ ap₂ either tenth c.open_jobs.ensures.local in
     let twelfth = c.in_ok-arg-12.ensures.globals ∙ ap₂ either eleventh c.keep.ensures.local in
-    let thirteenth = c.in_ok-arg-13.ensures.globals ∙ ap₂ either twelfth c.journal.ensures.local in
-    let fourteenth = c.in_ok-arg-14.ensures.globals ∙ ap₂ either thirteenth c.journal_sync.ensures.local in
-    let fifteenth = c.in_ok-arg-15.ensures.globals ∙ ap₂ either fourteenth c.until_eof.ensures.local in
-    IfOk-weaker c.arg-16.result _ _ (λ r h. h.globals ∙ ap₂ either fifteenth c.log.ensures.local) c.arg-16.ensures
+    let thirteenth = c.in_ok-arg-13.ensures.globals ∙ ap₂ either twelfth c.keep_bytes.ensures.local in
+    let fourteenth = c.in_ok-arg-14.ensures.globals ∙ ap₂ either thirteenth c.journal.ensures.local in
+    let fifteenth = c.in_ok-arg-15.ensures.globals ∙ ap₂ either fourteenth c.journal_sync.ensures.local in
+    let sixteenth = c.in_ok-arg-16.ensures.globals ∙ ap₂ either fifteenth c.until_eof.ensures.local in
+    IfOk-weaker c.arg-17.result _ _ (λ r h. h.globals ∙ ap₂ either sixteenth c.log.ensures.local) c.arg-17.ensures

@@ -1,4 +1,4 @@
-use Rattle.std.proofs.Common.{◌≡◌, Ok, ap, ◌∙◌}
+use Rattle.std.proofs.Common.{ap, ◌∙◌}
 use Rattle.accounts.specs.Ledgers.{Ledger, ledger_of, report_at}
 use Rattle.accounts.proofs.Sharing.{reported_in, refusing}
 use Rattle.accounts.proofs.desk.Desk.shared_result.Goals as goal

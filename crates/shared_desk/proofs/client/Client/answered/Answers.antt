@@ -12,9 +12,9 @@ invariant_of-self g c =
 pub returns-clause-ok : goal.returns-clause-ok
 returns-clause-ok g c =
     rw (← c.self.view_is)
-    (shared_ok g.H.SharedHandler.answers g.J.Origin.begins _ _ _ _ _ _ (ap (λ (p : Passage). query_by p c.args.request) c.self.invariant.2) c.answer.ensures.ok)
+    (shared_ok g.H.SharedHandler.answers g.J.Origin.begins _ _ _ _ _ _ (ap (λ (p : Passage). query_by p c.args.request c.args.beyond) c.self.invariant.2) c.answer.ensures.ok)
 
 pub returns-clause-err : goal.returns-clause-err
 returns-clause-err g c =
     rw (← c.self.view_is)
-    (shared_err g.H.SharedHandler.answers g.J.Origin.begins _ _ _ _ _ _ (ap (λ (p : Passage). query_by p c.args.request) c.self.invariant.2) c.answer.ensures.err)
+    (shared_err g.H.SharedHandler.answers g.J.Origin.begins _ _ _ _ _ _ (ap (λ (p : Passage). query_by p c.args.request c.args.beyond) c.self.invariant.2) c.answer.ensures.err)

@@ -8,14 +8,14 @@ use Rattle.tenant_recorder.proofs.recording_tenants.RecordingTenantHandlerShared
 
 pub returns-then-len-clause-ok : goal.returns-then-len-clause-ok
 returns-then-len-clause-ok g c =
-    apart_ok g.N.Runner.starts g.N.Runner.looks g.N.Runner.takes g.Q.RecordQueue.taken g.Q.RecordQueue.has_failed (record { passage = c.args.passage; asked = asked_of c.args.request })
+    apart_ok g.N.Runner.starts g.N.Runner.looks g.N.Runner.takes g.Q.RecordQueue.taken g.Q.RecordQueue.has_failed (record { passage = c.args.passage; asked = asked_of c.args.request; beyond = c.args.beyond })
     (c.args.desk.now, c.args.self.now) c.refuse.result
     (λ same. c.if-len.true (c.len.ensures ∙ c.self.inside.recorders.ok.0 ∙ ap (λ (v : RecordedRunner g.row.N.Denot g.row.Q.Denot). length v.recorders) c.self.view_is ∙ same
     ∙ sym (c.len-2.ensures ∙ c.desk.inside.desks.ok.0 ∙ ap (λ (v : Tenancy). length v.desks) c.desk.view_is)))
 
 pub returns-then-len-clause-err : goal.returns-then-len-clause-err
 returns-then-len-clause-err g c =
-    apart_err g.N.Runner.starts g.N.Runner.looks g.N.Runner.takes g.Q.RecordQueue.taken g.Q.RecordQueue.has_failed (record { passage = c.args.passage; asked = asked_of c.args.request })
+    apart_err g.N.Runner.starts g.N.Runner.looks g.N.Runner.takes g.Q.RecordQueue.taken g.Q.RecordQueue.has_failed (record { passage = c.args.passage; asked = asked_of c.args.request; beyond = c.args.beyond })
     (c.args.desk.now, c.args.self.now) c.refuse.result
     (λ same. c.if-len.true (c.len.ensures ∙ c.self.inside.recorders.ok.0 ∙ ap (λ (v : RecordedRunner g.row.N.Denot g.row.Q.Denot). length v.recorders) c.self.view_is ∙ same
     ∙ sym (c.len-2.ensures ∙ c.desk.inside.desks.ok.0 ∙ ap (λ (v : Tenancy). length v.desks) c.desk.view_is)))
@@ -23,7 +23,7 @@ returns-then-len-clause-err g c =
 pub returns-clause-ok : goal.returns-clause-ok
 returns-clause-ok g c =
     let a = c.answer_among-refusal in
-    let query : Query = record { passage = c.args.passage; asked = asked_of c.args.request } in
+    let query : Query = record { passage = c.args.passage; asked = asked_of c.args.request; beyond = c.args.beyond } in
     let T : Tenancy × RecordedRunner g.row.N.Denot g.row.Q.Denot → Type 0 =
     λ s. IfOk a.result.1 (λ reply. named_answers_recorded g.N.Runner.starts g.N.Runner.looks g.N.Runner.takes g.Q.RecordQueue.taken g.Q.RecordQueue.has_failed s query reply (
       record { names = map string_bytes c.desk.inside.names.items; desks = a.new.desks.items },
@@ -36,7 +36,7 @@ returns-clause-ok g c =
 pub returns-clause-err : goal.returns-clause-err
 returns-clause-err g c =
     let a = c.answer_among-refusal in
-    let query : Query = record { passage = c.args.passage; asked = asked_of c.args.request } in
+    let query : Query = record { passage = c.args.passage; asked = asked_of c.args.request; beyond = c.args.beyond } in
     let T : Tenancy × RecordedRunner g.row.N.Denot g.row.Q.Denot → Type 0 =
     λ s. OnErr a.result.1 ((reply : List ℕ) × named_answers_recorded g.N.Runner.starts g.N.Runner.looks g.N.Runner.takes g.Q.RecordQueue.taken g.Q.RecordQueue.has_failed s query reply (
       record { names = map string_bytes c.desk.inside.names.items; desks = a.new.desks.items },

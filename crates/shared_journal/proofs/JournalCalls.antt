@@ -1,0 +1,254 @@
+-- What the calls of a journal come to, step by step.
+use Rattle.std.proofs.Common.{◌≡◌, ℕ, true, false, true≢false, List, [], ◌∷◌, ◌++◌, Option, Some, None, Result, Ok, Err, refl, sym, ap, ◌∙◌, subst, append_assoc}
+use Rattle.std.specs.Prelude.{OnOk, OnErr}
+use mathlib.Core.List.{IsPrefix}
+use Rattle.atomic_table.specs.Table.{Me, rest}
+use Rattle.journal.specs.Logs.{LogState}
+use Rattle.journal.specs.declared.log.LogFault.{LogFault}
+use Rattle.journal_file.specs.FileLogs.{file_state}
+use Rattle.journal_file.specs.declared.file_log.FileLog.{FileLog}
+use Rattle.shared_journal.specs.declared.commit_log.CommitLog.{CommitLog}
+use Rattle.shared_journal.specs.declared.journal_part.JournalPart.{JournalPart}
+use Rattle.shared_journal.specs.declared.seat_views.JournalEntry.{JournalEntry}
+use Rattle.shared_journal.specs.declared.seat_views.JournalView.{JournalView}
+use Rattle.shared_journal.specs.JournalHistories.{entries_by, journal_bytes}
+use Rattle.shared_journal.specs.JournalRule.{KeepsDurable, own_entry, with_record, with_each_taken, TakesWaiting, TakesLog, PutsRecord, SeesWaiting, TakesBytes, WritesAll, WritesNone, CommitsAll, CommitsNone}
+use Rattle.shared_journal.proofs.JournalLists.{whole_prefix, longer_prefix, bytes_both}
+
+abbrev pub Held : Type 0
+Held = Me JournalPart JournalView
+
+-- the first part that is held, whatever is held behind it
+pub first_held : (slot : ℕ) (part : JournalPart) (held more : List (ℕ × JournalPart)) → held ≡ (slot, part) ∷ more → held ≡ (slot, part) ∷ rest held
+first_held slot part held more is = is ∙ ap (λ (l : List (ℕ × JournalPart)). (slot, part) ∷ l) (sym (ap rest is))
+
+abbrev part_or : JournalPart → List (ℕ × JournalPart) → JournalPart
+part_or none_held [] = none_held
+part_or none_held (held ∷ more) = held.1
+
+same_part : (slot : ℕ) (a b : JournalPart) (held more others : List (ℕ × JournalPart)) → held ≡ (slot, a) ∷ more → held ≡ (slot, b) ∷ others → a ≡ b
+same_part slot a b held more others one two = ap (part_or a) (sym one ∙ two)
+
+-- ---- those that wait
+
+abbrev pub waiting_view : JournalView → List JournalEntry → List JournalEntry → JournalView
+waiting_view v taken waits = record v { has_waiting = true; taken = taken; waits = waits }
+
+pub waiting_there : (v w : Held) (t : TakesWaiting v w) → w.1 ≡ (0, t.part) ∷ rest w.1
+waiting_there v w t = first_held 0 t.part w.1 v.1 (ap (λ (m : Held). m.1) t.is)
+
+pub waiting_bytes : (v w : Held) (t : TakesWaiting v w) (got : JournalPart) → w.1 ≡ (0, got) ∷ rest w.1 → got.bytes.items ≡ journal_bytes t.waits
+waiting_bytes v w t got there =
+    ap (λ (p : JournalPart). p.bytes.items) (same_part 0 got t.part w.1 (rest w.1) (rest w.1) there (waiting_there v w t)) ∙ t.bytes
+
+-- after one part was put in its place, and after two
+pub waiting_one : (v w x : Held) (t : TakesWaiting v w) (put : JournalPart) → x ≡ (w.0, (0, put) ∷ rest w.1) → ◌≡◌ {A = Held} x (waiting_view v.0 t.taken t.waits, (0, put) ∷ v.1)
+waiting_one v w x t put is = is ∙ ap (λ (m : Held). (m.0, (0, put) ∷ rest m.1)) t.is
+
+pub waiting_two : (v w x y : Held) (t : TakesWaiting v w) (spare put : JournalPart) → x ≡ (w.0, (0, spare) ∷ rest w.1) → y ≡ (x.0, (0, put) ∷ rest x.1) → ◌≡◌ {A = Held} y (waiting_view v.0 t.taken t.waits, (0, put) ∷ v.1)
+waiting_two v w x y t spare put one two = two ∙ ap (λ (m : Held). (m.0, (0, put) ∷ rest m.1)) (waiting_one v w x t spare one)
+
+-- what is asked where they are given back
+pub gives_waiting : (v y : Held) (taken waits : List JournalEntry) (put : JournalPart) → ◌≡◌ {A = Held} y (waiting_view v.0 taken waits, (0, put) ∷ v.1)
+    → put.bytes.items ≡ journal_bytes waits
+    → (y.0.has_waiting ≡ true) × ((part : JournalPart) × (y.1 ≡ (0, part) ∷ rest y.1) × (part.bytes.items ≡ journal_bytes y.0.waits))
+gives_waiting v y taken waits put is bytes = (
+  ap (λ (m : Held). m.0.has_waiting) is,
+  (put, first_held 0 put y.1 v.1 (ap (λ (m : Held). m.1) is), bytes ∙ sym (ap (λ (m : Held). journal_bytes m.0.waits) is)),
+)
+
+pub gives_record : (v y : Held) (taken waits : List JournalEntry) (put : JournalPart) (bytes : List ℕ) → ◌≡◌ {A = Held} y (waiting_view v.0 taken waits, (0, put) ∷ v.1)
+    → put.bytes.items ≡ journal_bytes waits ++ bytes
+    → (y.0.has_waiting ≡ true) × ((part : JournalPart) × (y.1 ≡ (0, part) ∷ rest y.1) × (part.bytes.items ≡ journal_bytes y.0.waits ++ bytes))
+gives_record v y taken waits put bytes is are = (
+  ap (λ (m : Held). m.0.has_waiting) is,
+  (put, first_held 0 put y.1 v.1 (ap (λ (m : Held). m.1) is), are ∙ sym (ap (λ (m : Held). journal_bytes m.0.waits ++ bytes) is)),
+)
+
+-- a record was put in
+pub puts : (v w y z : Held) (t : TakesWaiting v w) (put : JournalPart) (bytes : List ℕ) → ◌≡◌ {A = Held} y (waiting_view v.0 t.taken t.waits, (0, put) ∷ v.1)
+    → entries_by y.0.number ((y.0.taken ++ y.0.waits) ++ own_entry y.0 bytes ∷ []) ≡ y.0.own ++ own_entry y.0 bytes ∷ []
+    → ◌≡◌ {A = Held} z (with_record y.0 (own_entry y.0 bytes), rest y.1) → PutsRecord v bytes z
+puts v w y z t put bytes is own given =
+    record {
+      taken = t.taken;
+      waits = t.waits;
+      seen = t.seen;
+      own = subst (λ (m : Held). entries_by m.0.number ((m.0.taken ++ m.0.waits) ++ own_entry m.0 bytes ∷ []) ≡ m.0.own ++ own_entry m.0 bytes ∷ []) is own;
+      is = given ∙ ap (λ (m : Held). (with_record m.0 (own_entry m.0 bytes), rest m.1)) is;
+    }
+
+-- they were looked at
+pub sees : (v w y z : Held) (t : TakesWaiting v w) (put : JournalPart) → ◌≡◌ {A = Held} y (waiting_view v.0 t.taken t.waits, (0, put) ∷ v.1)
+    → ◌≡◌ {A = Held} z (record y.0 { has_waiting = false }, rest y.1) → SeesWaiting v z
+sees v w y z t put is given =
+    record { taken = t.taken; waits = t.waits; is = given ∙ ap (λ (m : Held). (record m.0 { has_waiting = false }, rest m.1)) is }
+
+-- all of them were taken
+pub gives_none : (v y : Held) (taken waits : List JournalEntry) (put : JournalPart) → ◌≡◌ {A = Held} y (waiting_view v.0 taken waits, (0, put) ∷ v.1) → put.bytes.items ≡ []
+    → (part : JournalPart) × (y.1 ≡ (0, part) ∷ rest y.1) × (part.bytes.items ≡ [])
+gives_none v y taken waits put is none_left = (put, first_held 0 put y.1 v.1 (ap (λ (m : Held). m.1) is), none_left)
+
+pub takes_bytes : (v w x z : Held) (t : TakesWaiting v w) (put got : JournalPart) → v.0.has_log ≡ true → ◌≡◌ {A = Held} x (waiting_view v.0 t.taken t.waits, (0, put) ∷ v.1)
+    → w.1 ≡ (0, got) ∷ rest w.1 → ◌≡◌ {A = Held} z (with_each_taken x.0, rest x.1) → TakesBytes v got.bytes.items z
+takes_bytes v w x z t put got logging is there given =
+    let same : t.taken ≡ v.0.taken = t.same logging in
+    record {
+      waits = t.waits;
+      are = waiting_bytes v w t got there;
+      seen = subst (λ (l : List JournalEntry). IsPrefix v.0.seen (l ++ t.waits)) same t.seen;
+      is = given ∙ (ap (λ (m : Held). (with_each_taken m.0, rest m.1)) is
+          ∙ ap (λ (l : List JournalEntry). (with_each_taken (waiting_view v.0 l t.waits), v.1)) same);
+    }
+
+-- ---- the log
+
+-- nothing was written
+pub none_written : (v : Held) → v.0.has_waiting ≡ false → WritesNone v v
+none_written v free =
+    record { seen = v.0.seen; taken = v.0.taken; waits = v.0.waits; later = whole_prefix v.0.seen; is = λ i. (record v.0 { has_waiting = free i }, v.1) }
+
+-- what was taken was not written
+pub taken_for_none : (v w : Held) (bytes : List ℕ) → TakesBytes v bytes w → WritesNone v w
+taken_for_none v w bytes t =
+    record { seen = v.0.taken ++ t.waits; taken = v.0.taken ++ t.waits; waits = t.waits; later = t.seen; is = t.is }
+
+pub taken_and_written : (v w : Held) (bytes : List ℕ) → v.0.written ≡ v.0.taken → TakesBytes v bytes w → WritesAll v w
+taken_and_written v w bytes before t = record { waits = t.waits; before = before; seen = t.seen; is = t.is }
+
+-- a log that has what was taken
+pub keeps_more : (v w : Held) (bytes : List ℕ) (old new : CommitLog FileLog) → TakesBytes v bytes w → KeepsDurable v.0.first v.0.taken v.0.written old → old.has_failed ≡ false
+    → file_state new.log ≡ record { durable = (file_state old.log).durable ++ bytes; pending = [] }
+    → KeepsDurable w.0.first w.0.taken w.0.taken new
+keeps_more v w bytes old new t keeps goes whole =
+    subst (λ (m : Held). KeepsDurable m.0.first m.0.taken m.0.taken new) (sym t.is) now
+  where
+    all : (file_state old.log).durable ++ bytes ≡ v.0.first ++ journal_bytes (v.0.taken ++ t.waits)
+    all =
+        (λ i. (keeps.whole goes i).durable ++ t.are i)
+        ∙ (append_assoc v.0.first (journal_bytes v.0.written) (journal_bytes t.waits)
+        ∙ (ap (λ (l : List JournalEntry). v.0.first ++ (journal_bytes l ++ journal_bytes t.waits)) (keeps.all goes)
+        ∙ ap (λ (l : List ℕ). v.0.first ++ l) (sym (bytes_both v.0.taken t.waits))))
+
+    now : KeepsDurable v.0.first (v.0.taken ++ t.waits) (v.0.taken ++ t.waits) new
+    now =
+        record {
+          kept = subst (λ (l : List ℕ). IsPrefix (v.0.first ++ journal_bytes (v.0.taken ++ t.waits)) l) (sym (ap (λ (s : LogState). s.durable) whole ∙ all)) (whole_prefix (v.0.first ++ journal_bytes (v.0.taken ++ t.waits)));
+          all = λ e. refl;
+          whole = λ e. whole ∙ ap (λ (l : List ℕ). record { durable = l; pending = [] }) all;
+        }
+
+-- a log that failed has what it had
+pub keeps_old : (v w : Held) (bytes : List ℕ) (old new : CommitLog FileLog) → TakesBytes v bytes w → KeepsDurable v.0.first v.0.taken v.0.written old
+    → new.has_failed ≡ true → (file_state new.log).durable ≡ (file_state old.log).durable
+    → KeepsDurable w.0.first w.0.taken w.0.written new
+keeps_old v w bytes old new t keeps stopped same =
+    subst (λ (m : Held). KeepsDurable m.0.first m.0.taken m.0.written new) (sym t.is)
+    (record {
+      kept = subst (λ (l : List ℕ). IsPrefix (v.0.first ++ journal_bytes v.0.written) l) (sym same) keeps.kept;
+      all = λ e. absurd (true≢false (sym stopped ∙ e));
+      whole = λ e. absurd (true≢false (sym stopped ∙ e));
+    })
+
+-- a log that differs in its buffer alone
+pub keeps_same : (first : List ℕ) (taken written : List JournalEntry) (old new : CommitLog FileLog) → new.log ≡ old.log → new.has_failed ≡ old.has_failed
+    → KeepsDurable first taken written old → KeepsDurable first taken written new
+keeps_same first taken written old new log failed keeps =
+    record {
+      kept = subst (λ (l : FileLog). IsPrefix (first ++ journal_bytes written) (file_state l).durable) (sym log) keeps.kept;
+      all = λ e. keeps.all (sym failed ∙ e);
+      whole = λ e. ap file_state log ∙ keeps.whole (sym failed ∙ e);
+    }
+
+pub written_ok : (v w : Held) (bytes : List ℕ) (old new : CommitLog FileLog) (r : Result (Unit {0}) LogFault) → TakesBytes v bytes w → KeepsDurable v.0.first v.0.taken v.0.written old → old.has_failed ≡ false
+    → OnOk r ((file_state old.log).pending ≡ [] → file_state new.log ≡ record { durable = (file_state old.log).durable ++ bytes; pending = [] })
+    → OnOk r (WritesAll v w × KeepsDurable w.0.first w.0.taken w.0.taken new)
+written_ok v w bytes old new (Ok done) t keeps goes state = (
+  taken_and_written v w bytes (keeps.all goes) t,
+  keeps_more v w bytes old new t keeps goes (state (ap (λ (s : LogState). s.pending) (keeps.whole goes))),
+)
+written_ok v w bytes old new (Err fault) t keeps goes state = tt
+
+pub written_err : (v w : Held) (bytes : List ℕ) (old new : CommitLog FileLog) (r : Result (Unit {0}) LogFault) → TakesBytes v bytes w → KeepsDurable v.0.first v.0.taken v.0.written old
+    → OnErr r (new.has_failed ≡ true) → OnErr r ((file_state new.log).durable ≡ (file_state old.log).durable)
+    → OnErr r (WritesNone v w × KeepsDurable w.0.first w.0.taken w.0.written new)
+written_err v w bytes old new (Ok done) t keeps stops kept = tt
+written_err v w bytes old new (Err fault) t keeps stops kept = (taken_for_none v w bytes t, keeps_old v w bytes old new t keeps stops kept)
+
+abbrev pub log_view : JournalView → List JournalEntry → List JournalEntry → JournalView
+log_view v taken written = record v { has_log = true; taken = taken; written = written }
+
+pub log_there : (v w : Held) (t : TakesLog v w) → w.1 ≡ (1, t.part) ∷ rest w.1
+log_there v w t = first_held 1 t.part w.1 v.1 (ap (λ (m : Held). m.1) t.is)
+
+pub log_one : (v w x : Held) (t : TakesLog v w) (put : JournalPart) → x ≡ (w.0, (1, put) ∷ rest w.1) → ◌≡◌ {A = Held} x (log_view v.0 t.taken t.written, (1, put) ∷ v.1)
+log_one v w x t put is = is ∙ ap (λ (m : Held). (m.0, (1, put) ∷ rest m.1)) t.is
+
+abbrev some_or : CommitLog FileLog → Option (CommitLog FileLog) → CommitLog FileLog
+some_or other None = other
+some_or other (Some commits) = commits
+
+-- the log that was taken out is the one that the seat knows
+pub same_log : (v w : Held) (t : TakesLog v w) (got : JournalPart) → w.1 ≡ (1, got) ∷ rest w.1 → got.commits ≡ Some t.commits
+same_log v w t got there =
+    ap (λ (p : JournalPart). p.commits) (same_part 1 got t.part w.1 (rest w.1) (rest w.1) there (log_there v w t)) ∙ t.has
+
+pub keeps_taken : (v w x : Held) (t : TakesLog v w) (put got : JournalPart) (commits : CommitLog FileLog) → w.1 ≡ (1, got) ∷ rest w.1 → got.commits ≡ Some commits
+    → x ≡ (w.0, (1, put) ∷ rest w.1) → KeepsDurable x.0.first x.0.taken x.0.written commits
+keeps_taken v w x t put got commits there has is =
+    let these : commits ≡ t.commits = ap (some_or commits) (sym has ∙ same_log v w t got there) in
+    subst (λ (c : CommitLog FileLog). KeepsDurable x.0.first x.0.taken x.0.written c) (sym these)
+    (subst (λ (m : Held). KeepsDurable m.0.first m.0.taken m.0.written t.commits) (sym (log_one v w x t put is)) t.keeps)
+
+-- the log is put back in its place, and given back
+pub log_back : (x y z : Held) (put : JournalPart) → y.1 ≡ x.1 → ◌≡◌ {A = Held} z (y.0, (1, put) ∷ rest y.1) → ◌≡◌ {A = Held} z (y.0, (1, put) ∷ rest x.1)
+log_back x y z put same is = is ∙ ap (λ (l : List (ℕ × JournalPart)). (y.0, (1, put) ∷ rest l)) same
+
+pub gives_log : (y z : Held) (put : JournalPart) (commits : CommitLog FileLog) → y.0.has_log ≡ true → ◌≡◌ {A = Held} z (y.0, (1, put) ∷ rest y.1) → put.commits ≡ Some commits
+    → KeepsDurable y.0.first y.0.taken y.0.taken commits
+    → (z.0.has_log ≡ true) × ((part : JournalPart) × (c : CommitLog FileLog) × (z.1 ≡ (1, part) ∷ rest z.1) × (part.commits ≡ Some c) × KeepsDurable z.0.first z.0.taken z.0.taken c)
+gives_log y z put commits logging is has keeps = (
+  ap (λ (m : Held). m.0.has_log) is ∙ logging,
+  (put, commits, first_held 1 put z.1 (rest y.1) (ap (λ (m : Held). m.1) is), has, subst (λ (m : Held). KeepsDurable m.0.first m.0.taken m.0.taken commits) (sym is) keeps),
+)
+
+pub gives_log_up : (y z : Held) (put : JournalPart) (commits : CommitLog FileLog) → y.0.has_log ≡ true → ◌≡◌ {A = Held} z (y.0, (1, put) ∷ rest y.1) → put.commits ≡ Some commits
+    → KeepsDurable y.0.first y.0.taken y.0.written commits
+    → (z.0.has_log ≡ true) × ((part : JournalPart) × (c : CommitLog FileLog) × (z.1 ≡ (1, part) ∷ rest z.1) × (part.commits ≡ Some c) × KeepsDurable z.0.first z.0.taken z.0.written c)
+gives_log_up y z put commits logging is has keeps = (
+  ap (λ (m : Held). m.0.has_log) is ∙ logging,
+  (put, commits, first_held 1 put z.1 (rest y.1) (ap (λ (m : Held). m.1) is), has, subst (λ (m : Held). KeepsDurable m.0.first m.0.taken m.0.written commits) (sym is) keeps),
+)
+
+pub commits_all : (v w x y z a : Held) (t : TakesLog v w) (spare put : JournalPart) → x ≡ (w.0, (1, spare) ∷ rest w.1) → (all : WritesAll x y) → ◌≡◌ {A = Held} z (y.0, (1, put) ∷ rest y.1)
+    → ◌≡◌ {A = Held} a (record z.0 { has_log = false; durable = z.0.taken }, rest z.1) → CommitsAll v a
+commits_all v w x y z a t spare put is all back given =
+    let here : ◌≡◌ {A = Held} x (log_view v.0 t.taken t.written, (1, spare) ∷ v.1) = log_one v w x t spare is in
+    let settled : Held → Held = λ m. (record m.0 { has_log = false; durable = m.0.taken }, rest m.1) in
+    let replaced : Held → Held = λ m. (m.0, (1, put) ∷ rest m.1) in
+    let written : Held → Held = λ m. (with_each_taken (record m.0 { has_waiting = true; waits = all.waits }), m.1) in
+    let before : t.written ≡ t.taken = subst (λ (m : Held). m.0.written ≡ m.0.taken) here all.before in
+    record {
+      all = t.taken ++ all.waits;
+      waits = all.waits;
+      written = t.written;
+      seen = subst (λ (m : Held). IsPrefix m.0.seen (m.0.taken ++ all.waits)) here all.seen;
+      durable = longer_prefix v.0.durable t.taken all.waits (subst (λ (l : List JournalEntry). IsPrefix v.0.durable l) before t.durable);
+      is = given ∙ ap settled (back ∙ ap replaced (all.is ∙ ap written here));
+    }
+
+pub commits_none : (v w x y z a : Held) (t : TakesLog v w) (spare put : JournalPart) → x ≡ (w.0, (1, spare) ∷ rest w.1) → (old : WritesNone x y) → ◌≡◌ {A = Held} z (y.0, (1, put) ∷ rest y.1)
+    → ◌≡◌ {A = Held} a (record z.0 { has_log = false }, rest z.1) → CommitsNone v a
+commits_none v w x y z a t spare put is old back given =
+    let here : ◌≡◌ {A = Held} x (log_view v.0 t.taken t.written, (1, spare) ∷ v.1) = log_one v w x t spare is in
+    let settled : Held → Held = λ m. (record m.0 { has_log = false }, rest m.1) in
+    let replaced : Held → Held = λ m. (m.0, (1, put) ∷ rest m.1) in
+    let written : Held → Held = λ m. (record m.0 { has_waiting = false; seen = old.seen; taken = old.taken; waits = old.waits }, m.1) in
+    record {
+      seen = old.seen;
+      taken = old.taken;
+      waits = old.waits;
+      written = t.written;
+      later = subst (λ (m : Held). IsPrefix m.0.seen old.seen) here old.later;
+      is = given ∙ ap settled (back ∙ ap replaced (old.is ∙ ap written here));
+    }

@@ -1,0 +1,666 @@
+-- Each step keeps the rule of a journal's table.
+use Rattle.std.proofs.Common.{◌≡◌, ◌≢◌, ◌==◌, ◌⊎◌, inl, inr, ℕ, ◌<◌, ◌≤◌, Bool, true, false, true≢false, List, [], ◌∷◌, ◌++◌, length, set, Some, refl, sym, ap, ◌∙◌, subst, ⊎_elim, zero, suc, arith, append_assoc}
+use Rattle.std.specs.Prelude.{MatchBool, slice_index, slice_set}
+use Rattle.std.proofs.lemmas.Bool.Decides.{nat_tests}
+use mathlib.Core.Option.{Option, none, some, some-ne-none, some-injective}
+use mathlib.Core.List.{IsPrefix}
+use lib.ListN.{get_elem?}
+use prog.Atomic.{either}
+use Rattle.atomic_table.specs.Table.{State, Me, Step, Act, keeps, takes, gives, Valid, homes_after, carried_after, put_back, rest, Allows, Enters}
+use Rattle.atomic_table.proofs.Lists.{at_set}
+use Rattle.journal_file.specs.FileLogs.{file_state}
+use Rattle.journal_file.specs.declared.file_log.FileLog.{FileLog}
+use Rattle.shared_journal.specs.declared.commit_log.CommitLog.{CommitLog}
+use Rattle.shared_journal.specs.declared.journal_part.JournalPart.{JournalPart}
+use Rattle.shared_journal.specs.declared.seat_views.JournalEntry.{JournalEntry}
+use Rattle.shared_journal.specs.declared.seat_views.JournalView.{JournalView}
+use Rattle.shared_journal.specs.JournalHistories.{entries_by, journal_bytes}
+use Rattle.shared_journal.specs.JournalRule.{JournalFacts, KeepsDurable, FitsJournal, IsJournal, journal_founder, own_entry, with_record, with_each_taken, held_bytes, Watches, TakesWaiting, TriesWaiting, StaysAsItIs, ReturnsWaiting, AddsRecord, TakesEach, TakesLog, TriesLog, SettlesLog, ReturnsLog, FailsIt, LooksAtIt}
+use Rattle.shared_journal.proofs.JournalLists.{whole_prefix, prefix_through, longer_prefix, same_rest, entries_own, entries_other, bytes_more, nothing_behind, set_length, more_length, there_below, at_end_or}
+
+off : false ≡ true → ⊥
+off e = true≢false (sym e)
+
+not_true : (b : Bool) → (b ≡ true → ⊥) → b ≡ false
+not_true true denied = absurd (denied refl)
+not_true false denied = refl
+
+one_is_some : ◌≢◌ {A = ℕ} 1 0
+one_is_some e = absurd (omega (arith, e))
+
+-- the rule, of a state
+abbrev pub Journaling : List ℕ → State JournalPart JournalView → Type 0
+Journaling first s = IsJournal first s.words s.homes s.views
+
+-- one view changes
+each_set : (f g : JournalFacts) (views : List JournalView) (id : ℕ) (w : JournalView)
+    → ((j : ℕ) (u : JournalView) → get_elem? views j ≡ some u → FitsJournal f j u)
+    → ((j : ℕ) (u : JournalView) → j ≢ id → FitsJournal f j u → FitsJournal g j u)
+    → FitsJournal g id w
+    → (j : ℕ) (u : JournalView) → get_elem? (set views id w) j ≡ some u → FitsJournal g j u
+each_set f g views id w each others mine j u e =
+    ⊎_elim
+    (λ (x : (j ≡ id) × (w ≡ u)). subst (λ (y : ℕ × JournalView). FitsJournal g y.0 y.1) (λ i. (sym x.0 i, x.1 i)) mine)
+    (λ (x : (j ≢ id) × (get_elem? views j ≡ some u)). others j u x.0 (each j u x.1))
+    (at_set views id j w u e)
+
+-- who isn't there yet still isn't
+others_set : (added : List JournalEntry) (views : List JournalView) (id : ℕ) (w : JournalView)
+    → ((n : ℕ) → length views ≤ n → entries_by n added ≡ [])
+    → (n : ℕ) → length (set views id w) ≤ n → entries_by n added ≡ []
+others_set added views id w others n le = others n (omega (arith, set_length views id w, le))
+
+-- the words, once one is changed
+set_first : (ws : List ℕ) (a b c n : ℕ) → ws ≡ a ∷ b ∷ c ∷ [] → slice_set ws 0 n ≡ n ∷ b ∷ c ∷ []
+set_first ws a b c n is = ap (λ (l : List ℕ). slice_set l 0 n) is
+
+set_second : (ws : List ℕ) (a b c n : ℕ) → ws ≡ a ∷ b ∷ c ∷ [] → slice_set ws 1 n ≡ a ∷ n ∷ c ∷ []
+set_second ws a b c n is = ap (λ (l : List ℕ). slice_set l 1 n) is
+
+set_third : (ws : List ℕ) (a b c n : ℕ) → ws ≡ a ∷ b ∷ c ∷ [] → slice_set ws 2 n ≡ a ∷ b ∷ n ∷ []
+set_third ws a b c n is = ap (λ (l : List ℕ). slice_set l 2 n) is
+
+-- a word that is written as it is
+set_word : (ws : List ℕ) (a b c : ℕ) → ws ≡ a ∷ b ∷ c ∷ [] → slice_set ws 2 (slice_index ws 2) ≡ a ∷ b ∷ c ∷ []
+set_word ws a b c is = ap (λ (l : List ℕ). slice_set l 2 (slice_index l 2)) is
+
+-- the homes, once a part is put back
+back_first : (hs : List (Option JournalPart)) (a b : Option JournalPart) (held : List (ℕ × JournalPart)) (p : JournalPart)
+    → hs ≡ a ∷ b ∷ [] → held ≡ (0, p) ∷ rest held → put_back hs held ≡ some p ∷ b ∷ []
+back_first hs a b held p is has = ap (λ (l : List (Option JournalPart)). put_back l held) is ∙ ap (put_back (a ∷ b ∷ [])) has
+
+back_second : (hs : List (Option JournalPart)) (a b : Option JournalPart) (held : List (ℕ × JournalPart)) (p : JournalPart)
+    → hs ≡ a ∷ b ∷ [] → held ≡ (1, p) ∷ rest held → put_back hs held ≡ a ∷ some p ∷ []
+back_second hs a b held p is has = ap (λ (l : List (Option JournalPart)). put_back l held) is ∙ ap (put_back (a ∷ b ∷ [])) has
+
+-- a mark leaves a lock held or free
+marked_free : (n : ℕ) → either (n == 1) 2 n ≡ 0 → n ≡ 0
+marked_free n is = by (n == 1) refl is
+  where
+    by : (b : Bool) → (n == 1) ≡ b → either b 2 n ≡ 0 → n ≡ 0
+    by true t e = absurd (omega (arith, e))
+    by false t e = e
+
+marked_held : (n : ℕ) → n ≢ 0 → either (n == 1) 2 n ≢ 0
+marked_held n held e = held (marked_free n e)
+
+-- the table at the start
+pub begins_journal : (first : List ℕ) (waiting log : JournalPart) (commits : CommitLog FileLog) (homes : List (Option JournalPart)) → homes ≡ some waiting ∷ some log ∷ []
+    → waiting.bytes.items ≡ [] → log.commits ≡ Some commits → commits.has_failed ≡ false → file_state commits.log ≡ record { durable = first; pending = [] }
+    → IsJournal first (0 ∷ 0 ∷ 0 ∷ []) homes (journal_founder first ∷ [])
+begins_journal first waiting log commits homes homes_are none_wait has goes whole =
+    record {
+      facts = facts;
+      begun = refl;
+      words_are = refl;
+      waiting_home = some waiting;
+      log_home = some log;
+      homes_are = homes_are;
+      split = refl;
+      synced = whole_prefix [];
+      waiting = λ e. (waiting, refl, none_wait);
+      log = λ e. (
+        log,
+        commits,
+        refl,
+        has,
+        record {
+          kept = ([], nothing_behind (first ++ []) ∙ (nothing_behind first ∙ sym (ap (λ s. s.durable) whole)));
+          all = λ f. refl;
+          whole = λ f. whole ∙ ap (λ (l : List ℕ). record { durable = l; pending = [] }) (sym (nothing_behind first));
+        },
+      );
+      each = one;
+      others = λ n le. refl;
+    }
+  where
+    facts : JournalFacts
+    facts = record { waiting_word = 0; log_word = 0; failed_word = 0; waiting_at = 0; log_at = 0; first = first; added = []; taken = []; waits = []; durable = [] }
+
+    one : (j : ℕ) (v : JournalView) → get_elem? (journal_founder first ∷ []) j ≡ some v → FitsJournal facts j v
+    one zero v e =
+        subst (FitsJournal facts 0) (some-injective _ _ e)
+        (record { number = refl; first = refl; seen = whole_prefix []; own = refl; durable = whole_prefix []; failed = λ t. absurd (off t); waiting = λ t. absurd (off t); log = λ t. absurd (off t) })
+    one (suc j) v e = absurd (some-ne-none v (sym e))
+
+-- a new seat has seen the whole history, and put nothing in
+pub watches : (slots : ℕ) (first : List ℕ) (st : Step JournalPart) (v : Me JournalPart JournalView) → v.0.first ≡ first
+    → Enters (Journaling first) slots 2 (λ n w. Watches st v n (w, []))
+watches slots first st v begins s kept homes fits =
+    let f = kept.facts in
+    let w : JournalView = record { number = length s.views; first = f.first; seen = f.added; own = []; durable = f.durable; is_failed = false; has_waiting = false; has_log = false; taken = []; waits = []; written = [] } in
+    let mine : FitsJournal f (length s.views) w = record { number = refl; first = refl; seen = whole_prefix f.added; own = kept.others (length s.views) (omega arith); durable = whole_prefix f.durable; failed = λ t. absurd (off t); waiting = λ t. absurd (off t); log = λ t. absurd (off t) } in (
+      w,
+      record {
+        facts = f;
+        begun = kept.begun;
+        words_are = kept.words_are;
+        waiting_home = kept.waiting_home;
+        log_home = kept.log_home;
+        homes_are = kept.homes_are;
+        split = kept.split;
+        synced = kept.synced;
+        waiting = kept.waiting;
+        log = kept.log;
+        each = λ j u e. ⊎_elim
+            (λ (was : get_elem? s.views j ≡ some u). kept.each j u was)
+            (λ (x : (j ≡ length s.views) × (w ≡ u)). subst (λ (y : ℕ × JournalView). FitsJournal f y.0 y.1) (λ i. (sym x.0 i, x.1 i)) mine)
+            (at_end_or s.views w u j e);
+        others = λ n le. kept.others n (omega (arith, more_length s.views w, le));
+      },
+      (kept.begun ∙ sym begins, refl, refl, refl, refl),
+    )
+
+module _ (first : List ℕ) (slots id : ℕ) (me : Me JournalPart JournalView) (st : Step JournalPart) where
+  -- a view that stays
+  stays : (f g : JournalFacts) (s : State JournalPart JournalView) → get_elem? s.views id ≡ some me.0
+      → ((j : ℕ) (u : JournalView) → get_elem? s.views j ≡ some u → FitsJournal f j u)
+      → ((j : ℕ) (u : JournalView) → FitsJournal f j u → FitsJournal g j u)
+      → (j : ℕ) (u : JournalView) → get_elem? (set s.views id me.0) j ≡ some u → FitsJournal g j u
+  stays f g s at each go = each_set f g s.views id me.0 each (λ j u apart fits. go j u fits) (go id me.0 (each id me.0 at))
+
+  -- the journal fails
+  pub fails_it : Allows (Journaling first) slots id me 2 (λ n. 1) (λ n. FailsIt st me 1)
+  fails_it s kept homes at fits =
+      let f = kept.facts in
+      let g : JournalFacts = record f { failed_word = 1 } in
+      let mine = kept.each id me.0 at in
+      let w : JournalView = record me.0 { is_failed = true } in (
+        w,
+        keeps,
+        tt,
+        record {
+          facts = g;
+          begun = kept.begun;
+          words_are = set_third s.words f.waiting_word f.log_word f.failed_word 1 kept.words_are;
+          waiting_home = kept.waiting_home;
+          log_home = kept.log_home;
+          homes_are = kept.homes_are;
+          split = kept.split;
+          synced = kept.synced;
+          waiting = kept.waiting;
+          log = kept.log;
+          each = each_set f g s.views id w kept.each
+              (λ j u apart t. record { number = t.number; first = t.first; seen = t.seen; own = t.own; durable = t.durable; failed = λ e. one_is_some; waiting = t.waiting; log = t.log })
+              (record { number = mine.number; first = mine.first; seen = mine.seen; own = mine.own; durable = mine.durable; failed = λ e. one_is_some; waiting = mine.waiting; log = mine.log });
+          others = others_set f.added s.views id w kept.others;
+        },
+        refl,
+      )
+
+  -- a look whether it has failed
+  pub looks_at_it : Allows (Journaling first) slots id me 2 (λ n. n) (LooksAtIt st me)
+  looks_at_it s kept homes at fits = by (slice_index s.words 2 == 0) refl
+    where
+      found : ℕ
+      found = slice_index s.words 2
+
+      is_word : found ≡ kept.facts.failed_word
+      is_word = ap (λ (l : List ℕ). slice_index l 2) kept.words_are
+
+      same : (w : JournalView) → FitsJournal kept.facts id w → IsJournal first (slice_set s.words 2 found) s.homes (set s.views id w)
+      same w mine =
+          record {
+            facts = kept.facts;
+            begun = kept.begun;
+            words_are = set_word s.words kept.facts.waiting_word kept.facts.log_word kept.facts.failed_word kept.words_are;
+            waiting_home = kept.waiting_home;
+            log_home = kept.log_home;
+            homes_are = kept.homes_are;
+            split = kept.split;
+            synced = kept.synced;
+            waiting = kept.waiting;
+            log = kept.log;
+            each = each_set kept.facts kept.facts s.views id w kept.each (λ j u apart t. t) mine;
+            others = others_set kept.facts.added s.views id w kept.others;
+          }
+
+      by : (b : Bool) → (found == 0) ≡ b
+          → (w : JournalView) × (a : Act JournalPart) × Valid s.homes me.1 a × IsJournal first (slice_set s.words 2 found) (homes_after s.homes me.1 a) (set s.views id w)
+          × MatchBool b ((◌≡◌ {A = Me JournalPart JournalView} (w, carried_after me.1 a) me) × (me.0.is_failed ≡ false)) (◌≡◌ {A = Me JournalPart JournalView} (w, carried_after me.1 a) (record me.0 { is_failed = true }, me.1))
+      by true t =
+          let mine = kept.each id me.0 at in
+          let zero_found : found ≡ 0 = grind (arith, nat_tests) in
+          (me.0, keeps, tt, same me.0 mine, (refl, not_true me.0.is_failed (λ e. mine.failed e (sym is_word ∙ zero_found))))
+      by false t =
+          let mine = kept.each id me.0 at in
+          let w : JournalView = record me.0 { is_failed = true } in
+          let some_found : found ≢ 0 = λ e. true≢false (sym (is_zero found e) ∙ t) in (
+            w,
+            keeps,
+            tt,
+            same w (record { number = mine.number; first = mine.first; seen = mine.seen; own = mine.own; durable = mine.durable; failed = λ e z. some_found (is_word ∙ z); waiting = mine.waiting; log = mine.log }),
+            refl,
+          )
+        where
+          is_zero : (n : ℕ) → n ≡ 0 → (n == 0) ≡ true
+          is_zero n e = grind (arith, nat_tests)
+
+  -- a mark at the lock of those that wait, or of the log
+  pub marks_waiting : Allows (Journaling first) slots id me 0 (λ n. either (n == 1) 2 n) (StaysAsItIs st me)
+  marks_waiting s kept homes at fits =
+      let f = kept.facts in
+      let g : JournalFacts = record f { waiting_word = either (f.waiting_word == 1) 2 f.waiting_word } in (
+        me.0,
+        keeps,
+        tt,
+        record {
+          facts = g;
+          begun = kept.begun;
+          words_are = ap (λ (l : List ℕ). slice_set l 0 (either (slice_index l 0 == 1) 2 (slice_index l 0))) kept.words_are;
+          waiting_home = kept.waiting_home;
+          log_home = kept.log_home;
+          homes_are = kept.homes_are;
+          split = kept.split;
+          synced = kept.synced;
+          waiting = λ e. kept.waiting (marked_free f.waiting_word e);
+          log = kept.log;
+          each = stays f g s at kept.each
+              (λ j u t. record { number = t.number; first = t.first; seen = t.seen; own = t.own; durable = t.durable; failed = t.failed; waiting = λ e. (marked_held f.waiting_word (t.waiting e).0, (t.waiting e).1, (t.waiting e).2, (t.waiting e).3); log = t.log });
+          others = others_set f.added s.views id me.0 kept.others;
+        },
+        refl,
+      )
+
+  pub marks_log : Allows (Journaling first) slots id me 1 (λ n. either (n == 1) 2 n) (StaysAsItIs st me)
+  marks_log s kept homes at fits =
+      let f = kept.facts in
+      let g : JournalFacts = record f { log_word = either (f.log_word == 1) 2 f.log_word } in (
+        me.0,
+        keeps,
+        tt,
+        record {
+          facts = g;
+          begun = kept.begun;
+          words_are = ap (λ (l : List ℕ). slice_set l 1 (either (slice_index l 1 == 1) 2 (slice_index l 1))) kept.words_are;
+          waiting_home = kept.waiting_home;
+          log_home = kept.log_home;
+          homes_are = kept.homes_are;
+          split = kept.split;
+          synced = kept.synced;
+          waiting = kept.waiting;
+          log = λ e. kept.log (marked_free f.log_word e);
+          each = stays f g s at kept.each
+              (λ j u t. record { number = t.number; first = t.first; seen = t.seen; own = t.own; durable = t.durable; failed = t.failed; waiting = t.waiting; log = λ e. (marked_held f.log_word (t.log e).0, (t.log e).1, (t.log e).2, (t.log e).3) });
+          others = others_set f.added s.views id me.0 kept.others;
+        },
+        refl,
+      )
+
+  -- a try to hold those that wait
+  pub tries_waiting : (held : ℕ) → held ≢ 0 → Allows (Journaling first) slots id me 0 (λ n. either (n == 0) held n) (TriesWaiting st me)
+  tries_waiting held some_held s kept homes at fits = by (slice_index s.words 0 == 0) refl
+    where
+      f : JournalFacts
+      f = kept.facts
+
+      found : ℕ
+      found = slice_index s.words 0
+
+      is_word : found ≡ f.waiting_word
+      is_word = ap (λ (l : List ℕ). slice_index l 0) kept.words_are
+
+      mine : FitsJournal f id me.0
+      mine = kept.each id me.0 at
+
+      by : (b : Bool) → (found == 0) ≡ b
+          → (w : JournalView) × (a : Act JournalPart) × Valid s.homes me.1 a × IsJournal first (slice_set s.words 0 (either b held found)) (homes_after s.homes me.1 a) (set s.views id w)
+          × MatchBool b (TakesWaiting me (w, carried_after me.1 a)) (◌≡◌ {A = Me JournalPart JournalView} (w, carried_after me.1 a) me)
+      by true t =
+          let zero_found : found ≡ 0 = grind (arith, nat_tests) in
+          let free : f.waiting_word ≡ 0 = sym is_word ∙ zero_found in
+          let home = kept.waiting free in
+          let part : JournalPart = home.0 in
+          let g : JournalFacts = record f { waiting_word = held; waiting_at = id } in
+          let w : JournalView = record me.0 { has_waiting = true; taken = f.taken; waits = f.waits } in (
+            w,
+            takes 0 part,
+            ap (λ (l : List (Option JournalPart)). get_elem? l 0) kept.homes_are ∙ ap some home.1,
+            record {
+              facts = g;
+              begun = kept.begun;
+              words_are = set_first s.words f.waiting_word f.log_word f.failed_word held kept.words_are;
+              waiting_home = none;
+              log_home = kept.log_home;
+              homes_are = ap (λ (l : List (Option JournalPart)). set l 0 none) kept.homes_are;
+              split = kept.split;
+              synced = kept.synced;
+              waiting = λ e. absurd (some_held e);
+              log = kept.log;
+              each = each_set f g s.views id w kept.each
+                  (λ j u apart t. record { number = t.number; first = t.first; seen = t.seen; own = t.own; durable = t.durable; failed = t.failed; waiting = λ e. absurd ((t.waiting e).0 free); log = t.log })
+                  (record { number = mine.number; first = mine.first; seen = mine.seen; own = mine.own; durable = mine.durable; failed = mine.failed; waiting = λ e. (some_held, refl, refl, refl); log = λ e. let l = mine.log e in (l.0, l.1, refl, l.3) });
+              others = others_set f.added s.views id w kept.others;
+            },
+            record {
+              part = part;
+              taken = f.taken;
+              waits = f.waits;
+              bytes = home.2;
+              seen = subst (λ (l : List JournalEntry). IsPrefix me.0.seen l) kept.split mine.seen;
+              own = subst (λ (l : List JournalEntry). entries_by me.0.number l ≡ me.0.own) kept.split (ap (λ (n : ℕ). entries_by n f.added) mine.number ∙ mine.own);
+              same = λ e. sym (mine.log e).2;
+              is = refl;
+            },
+          )
+      by false t = (
+        me.0,
+        keeps,
+        tt,
+        record {
+          facts = f;
+          begun = kept.begun;
+          words_are = ap (λ (l : List ℕ). slice_set l 0 (slice_index l 0)) kept.words_are;
+          waiting_home = kept.waiting_home;
+          log_home = kept.log_home;
+          homes_are = kept.homes_are;
+          split = kept.split;
+          synced = kept.synced;
+          waiting = kept.waiting;
+          log = kept.log;
+          each = stays f f s at kept.each (λ j u t. t);
+          others = others_set f.added s.views id me.0 kept.others;
+        },
+        refl,
+      )
+
+  -- a try to hold the log
+  pub tries_log : (held : ℕ) → held ≢ 0 → Allows (Journaling first) slots id me 1 (λ n. either (n == 0) held n) (TriesLog st me)
+  tries_log held some_held s kept homes at fits = by (slice_index s.words 1 == 0) refl
+    where
+      f : JournalFacts
+      f = kept.facts
+
+      found : ℕ
+      found = slice_index s.words 1
+
+      is_word : found ≡ f.log_word
+      is_word = ap (λ (l : List ℕ). slice_index l 1) kept.words_are
+
+      mine : FitsJournal f id me.0
+      mine = kept.each id me.0 at
+
+      by : (b : Bool) → (found == 0) ≡ b
+          → (w : JournalView) × (a : Act JournalPart) × Valid s.homes me.1 a × IsJournal first (slice_set s.words 1 (either b held found)) (homes_after s.homes me.1 a) (set s.views id w)
+          × MatchBool b (TakesLog me (w, carried_after me.1 a)) (◌≡◌ {A = Me JournalPart JournalView} (w, carried_after me.1 a) me)
+      by true t =
+          let zero_found : found ≡ 0 = grind (arith, nat_tests) in
+          let free : f.log_word ≡ 0 = sym is_word ∙ zero_found in
+          let home = kept.log free in
+          let part : JournalPart = home.0 in
+          let g : JournalFacts = record f { log_word = held; log_at = id } in
+          let w : JournalView = record me.0 { has_log = true; taken = f.taken; written = f.durable } in (
+            w,
+            takes 1 part,
+            ap (λ (l : List (Option JournalPart)). get_elem? l 1) kept.homes_are ∙ ap some home.2,
+            record {
+              facts = g;
+              begun = kept.begun;
+              words_are = set_second s.words f.waiting_word f.log_word f.failed_word held kept.words_are;
+              waiting_home = kept.waiting_home;
+              log_home = none;
+              homes_are = ap (λ (l : List (Option JournalPart)). set l 1 none) kept.homes_are;
+              split = kept.split;
+              synced = kept.synced;
+              waiting = kept.waiting;
+              log = λ e. absurd (some_held e);
+              each = each_set f g s.views id w kept.each
+                  (λ j u apart t. record { number = t.number; first = t.first; seen = t.seen; own = t.own; durable = t.durable; failed = t.failed; waiting = t.waiting; log = λ e. absurd ((t.log e).0 free) })
+                  (record { number = mine.number; first = mine.first; seen = mine.seen; own = mine.own; durable = mine.durable; failed = mine.failed; waiting = λ e. let l = mine.waiting e in (l.0, l.1, refl, l.3); log = λ e. (some_held, refl, refl, refl) });
+              others = others_set f.added s.views id w kept.others;
+            },
+            record {
+              part = part;
+              commits = home.1;
+              taken = f.taken;
+              written = f.durable;
+              has = home.3;
+              keeps = subst (λ (l : List ℕ). KeepsDurable l f.taken f.durable home.1) (sym mine.first) home.4;
+              durable = mine.durable;
+              is = refl;
+            },
+          )
+      by false t = (
+        me.0,
+        keeps,
+        tt,
+        record {
+          facts = f;
+          begun = kept.begun;
+          words_are = ap (λ (l : List ℕ). slice_set l 1 (slice_index l 1)) kept.words_are;
+          waiting_home = kept.waiting_home;
+          log_home = kept.log_home;
+          homes_are = kept.homes_are;
+          split = kept.split;
+          synced = kept.synced;
+          waiting = kept.waiting;
+          log = kept.log;
+          each = stays f f s at kept.each (λ j u t. t);
+          others = others_set f.added s.views id me.0 kept.others;
+        },
+        refl,
+      )
+
+  -- those that wait are given back as they were
+  pub returns_waiting : (part : JournalPart) → me.0.has_waiting ≡ true → me.1 ≡ (0, part) ∷ rest me.1 → part.bytes.items ≡ journal_bytes me.0.waits
+      → Allows (Journaling first) slots id me 0 (λ n. 0) (ReturnsWaiting st me)
+  returns_waiting part holding has bytes s kept homes at fits =
+      let f = kept.facts in
+      let g : JournalFacts = record f { waiting_word = 0 } in
+      let mine = kept.each id me.0 at in
+      let held = mine.waiting holding in
+      let w : JournalView = record me.0 { has_waiting = false } in (
+        w,
+        gives,
+        tt,
+        record {
+          facts = g;
+          begun = kept.begun;
+          words_are = set_first s.words f.waiting_word f.log_word f.failed_word 0 kept.words_are;
+          waiting_home = some part;
+          log_home = kept.log_home;
+          homes_are = back_first s.homes kept.waiting_home kept.log_home me.1 part kept.homes_are has;
+          split = kept.split;
+          synced = kept.synced;
+          waiting = λ e. (part, refl, bytes ∙ ap journal_bytes held.3);
+          log = kept.log;
+          each = each_set f g s.views id w kept.each
+              (λ j u apart t. record { number = t.number; first = t.first; seen = t.seen; own = t.own; durable = t.durable; failed = t.failed; waiting = λ e. absurd (apart ((t.waiting e).1 ∙ sym held.1)); log = t.log })
+              (record { number = mine.number; first = mine.first; seen = mine.seen; own = mine.own; durable = mine.durable; failed = mine.failed; waiting = λ e. absurd (off e); log = mine.log });
+          others = others_set f.added s.views id w kept.others;
+        },
+        refl,
+      )
+
+  -- those that wait are given back with a record behind them
+  pub adds_record : (part : JournalPart) (bytes : List ℕ) → me.0.has_waiting ≡ true → me.1 ≡ (0, part) ∷ rest me.1 → part.bytes.items ≡ journal_bytes me.0.waits ++ bytes
+      → Allows (Journaling first) slots id me 0 (λ n. 0) (AddsRecord st me)
+  adds_record part bytes holding has are s kept homes at fits =
+      let f = kept.facts in
+      let e : JournalEntry = own_entry me.0 bytes in
+      let g : JournalFacts = record f { waiting_word = 0; added = f.added ++ e ∷ []; waits = f.waits ++ e ∷ [] } in
+      let mine = kept.each id me.0 at in
+      let held = mine.waiting holding in
+      let w : JournalView = with_record me.0 e in
+      let all : me.0.taken ++ me.0.waits ≡ f.added = (λ i. held.2 i ++ held.3 i) ∙ sym kept.split in
+      let own : entries_by id (f.added ++ e ∷ []) ≡ me.0.own ++ e ∷ [] = entries_own id f.added e mine.number ∙ ap (λ (l : List JournalEntry). l ++ e ∷ []) mine.own in (
+        w,
+        gives,
+        tt,
+        record {
+          facts = g;
+          begun = kept.begun;
+          words_are = set_first s.words f.waiting_word f.log_word f.failed_word 0 kept.words_are;
+          waiting_home = some part;
+          log_home = kept.log_home;
+          homes_are = back_first s.homes kept.waiting_home kept.log_home me.1 part kept.homes_are has;
+          split = ap (λ (l : List JournalEntry). l ++ e ∷ []) kept.split ∙ append_assoc f.taken f.waits (e ∷ []);
+          synced = kept.synced;
+          waiting = λ z. (part, refl, are ∙ (ap (λ (l : List JournalEntry). journal_bytes l ++ bytes) held.3 ∙ sym (bytes_more f.waits e)));
+          log = kept.log;
+          each = each_set f g s.views id w kept.each
+              (λ j u apart t. record {
+                number = t.number;
+                first = t.first;
+                seen = longer_prefix u.seen f.added (e ∷ []) t.seen;
+                own = entries_other j f.added e (λ same. apart (sym same ∙ mine.number)) ∙ t.own;
+                durable = t.durable;
+                failed = t.failed;
+                waiting = λ z. absurd (apart ((t.waiting z).1 ∙ sym held.1));
+                log = t.log;
+              })
+              (record {
+                number = mine.number;
+                first = mine.first;
+                seen = subst (λ (l : List JournalEntry). IsPrefix (l ++ e ∷ []) (f.added ++ e ∷ [])) (sym all) (whole_prefix (f.added ++ e ∷ []));
+                own = own;
+                durable = mine.durable;
+                failed = mine.failed;
+                waiting = λ z. absurd (off z);
+                log = mine.log;
+              });
+          others = others_set (f.added ++ e ∷ []) s.views id w
+              (λ n le. entries_other n f.added e (λ same. below_apart id n (length s.views) (there_below s.views id me.0 at) le (sym mine.number ∙ same)) ∙ kept.others n le);
+        },
+        record {
+          entry = e;
+          by = refl;
+          behind = ap held_bytes has ∙ are;
+          own = ap (λ (n : ℕ). entries_by n ((me.0.taken ++ me.0.waits) ++ e ∷ [])) mine.number ∙ (ap (λ (l : List JournalEntry). entries_by id (l ++ e ∷ [])) all ∙ own);
+          is = refl;
+        },
+      )
+    where
+      below_apart : (a n len : ℕ) → a < len → len ≤ n → a ≡ n → ⊥
+      below_apart a n len lt le same = absurd (omega (arith, lt, le, same))
+
+  -- all that wait are taken
+  pub takes_each : (part : JournalPart) → me.0.has_waiting ≡ true → me.0.has_log ≡ true → me.1 ≡ (0, part) ∷ rest me.1 → part.bytes.items ≡ []
+      → Allows (Journaling first) slots id me 0 (λ n. 0) (TakesEach st me)
+  takes_each part holding logging has none_left s kept homes at fits =
+      let f = kept.facts in
+      let g : JournalFacts = record f { waiting_word = 0; taken = f.taken ++ f.waits; waits = [] } in
+      let mine = kept.each id me.0 at in
+      let held = mine.waiting holding in
+      let log = mine.log logging in
+      let w : JournalView = with_each_taken me.0 in
+      let both : me.0.taken ++ me.0.waits ≡ f.taken ++ f.waits = λ i. held.2 i ++ held.3 i in (
+        w,
+        gives,
+        tt,
+        record {
+          facts = g;
+          begun = kept.begun;
+          words_are = set_first s.words f.waiting_word f.log_word f.failed_word 0 kept.words_are;
+          waiting_home = some part;
+          log_home = kept.log_home;
+          homes_are = back_first s.homes kept.waiting_home kept.log_home me.1 part kept.homes_are has;
+          split = kept.split ∙ sym (nothing_behind (f.taken ++ f.waits));
+          synced = longer_prefix f.durable f.taken f.waits kept.synced;
+          waiting = λ z. (part, refl, none_left);
+          log = λ z. absurd (log.0 z);
+          each = each_set f g s.views id w kept.each
+              (λ j u apart t. record { number = t.number; first = t.first; seen = t.seen; own = t.own; durable = t.durable; failed = t.failed; waiting = λ z. absurd (apart ((t.waiting z).1 ∙ sym held.1)); log = λ z. absurd (apart ((t.log z).1 ∙ sym log.1)) })
+              (record {
+                number = mine.number;
+                first = mine.first;
+                seen = subst (λ (l : List JournalEntry). IsPrefix l f.added) (kept.split ∙ sym both) (whole_prefix f.added);
+                own = mine.own;
+                durable = mine.durable;
+                failed = mine.failed;
+                waiting = λ z. absurd (off z);
+                log = λ z. (log.0, log.1, both, log.3);
+              });
+          others = others_set f.added s.views id w kept.others;
+        },
+        refl,
+      )
+
+  -- the log is given back, with all of it durable
+  pub settles_log : (part : JournalPart) (commits : CommitLog FileLog) → me.0.has_log ≡ true → me.1 ≡ (1, part) ∷ rest me.1 → part.commits ≡ Some commits
+      → KeepsDurable me.0.first me.0.taken me.0.taken commits
+      → Allows (Journaling first) slots id me 1 (λ n. 0) (SettlesLog st me)
+  settles_log part commits logging has is_some whole s kept homes at fits =
+      let f = kept.facts in
+      let g : JournalFacts = record f { log_word = 0; durable = f.taken } in
+      let mine = kept.each id me.0 at in
+      let log = mine.log logging in
+      let w : JournalView = record me.0 { has_log = false; durable = me.0.taken } in (
+        w,
+        gives,
+        tt,
+        record {
+          facts = g;
+          begun = kept.begun;
+          words_are = set_second s.words f.waiting_word f.log_word f.failed_word 0 kept.words_are;
+          waiting_home = kept.waiting_home;
+          log_home = some part;
+          homes_are = back_second s.homes kept.waiting_home kept.log_home me.1 part kept.homes_are has;
+          split = kept.split;
+          synced = whole_prefix f.taken;
+          waiting = kept.waiting;
+          log = λ z. (part, commits, refl, is_some, subst (λ (x : List ℕ × List JournalEntry). KeepsDurable x.0 x.1 x.1 commits) (λ i. (mine.first i, log.2 i)) whole);
+          each = each_set f g s.views id w kept.each
+              (λ j u apart t. record { number = t.number; first = t.first; seen = t.seen; own = t.own; durable = prefix_through u.durable f.durable f.taken t.durable kept.synced; failed = t.failed; waiting = t.waiting; log = λ z. absurd (apart ((t.log z).1 ∙ sym log.1)) })
+              (record {
+                number = mine.number;
+                first = mine.first;
+                seen = mine.seen;
+                own = mine.own;
+                durable = subst (λ (l : List JournalEntry). IsPrefix l f.taken) (sym log.2) (whole_prefix f.taken);
+                failed = mine.failed;
+                waiting = mine.waiting;
+                log = λ z. absurd (off z);
+              });
+          others = others_set f.added s.views id w kept.others;
+        },
+        refl,
+      )
+
+  -- the log is given back, with no more durable than before
+  pub returns_log : (part : JournalPart) (commits : CommitLog FileLog) → me.0.has_log ≡ true → me.1 ≡ (1, part) ∷ rest me.1 → part.commits ≡ Some commits
+      → KeepsDurable me.0.first me.0.taken me.0.written commits
+      → Allows (Journaling first) slots id me 1 (λ n. 0) (ReturnsLog st me)
+  returns_log part commits logging has is_some whole s kept homes at fits =
+      let f = kept.facts in
+      let g : JournalFacts = record f { log_word = 0 } in
+      let mine = kept.each id me.0 at in
+      let log = mine.log logging in
+      let w : JournalView = record me.0 { has_log = false } in (
+        w,
+        gives,
+        tt,
+        record {
+          facts = g;
+          begun = kept.begun;
+          words_are = set_second s.words f.waiting_word f.log_word f.failed_word 0 kept.words_are;
+          waiting_home = kept.waiting_home;
+          log_home = some part;
+          homes_are = back_second s.homes kept.waiting_home kept.log_home me.1 part kept.homes_are has;
+          split = kept.split;
+          synced = kept.synced;
+          waiting = kept.waiting;
+          log = λ z. (part, commits, refl, is_some, subst (λ (x : List ℕ × (List JournalEntry × List JournalEntry)). KeepsDurable x.0 x.1.0 x.1.1 commits) (λ i. (mine.first i, (log.2 i, log.3 i))) whole);
+          each = each_set f g s.views id w kept.each
+              (λ j u apart t. record { number = t.number; first = t.first; seen = t.seen; own = t.own; durable = t.durable; failed = t.failed; waiting = t.waiting; log = λ z. absurd (apart ((t.log z).1 ∙ sym log.1)) })
+              (record { number = mine.number; first = mine.first; seen = mine.seen; own = mine.own; durable = mine.durable; failed = mine.failed; waiting = mine.waiting; log = λ z. absurd (off z) });
+          others = others_set f.added s.views id w kept.others;
+        },
+        refl,
+      )
+
+  pub marks : (word : ℕ) → (word ≡ 0) ⊎ (word ≡ 1) → Allows (Journaling first) slots id me word (λ n. either (n == 1) 2 n) (StaysAsItIs st me)
+  marks word (inl is) = subst (λ (k : ℕ). Allows (Journaling first) slots id me k (λ n. either (n == 1) 2 n) (StaysAsItIs st me)) (sym is) marks_waiting
+  marks word (inr is) = subst (λ (k : ℕ). Allows (Journaling first) slots id me k (λ n. either (n == 1) 2 n) (StaysAsItIs st me)) (sym is) marks_log
+
+-- the record that was added is this one
+pub own_record : (st : Step JournalPart) (v w : Me JournalPart JournalView) (found : ℕ) (part : JournalPart) (bytes : List ℕ) → v.1 ≡ (0, part) ∷ rest v.1
+    → part.bytes.items ≡ journal_bytes v.0.waits ++ bytes → AddsRecord st v found w
+    → (entries_by v.0.number ((v.0.taken ++ v.0.waits) ++ own_entry v.0 bytes ∷ []) ≡ v.0.own ++ own_entry v.0 bytes ∷ [])
+    × (◌≡◌ {A = Me JournalPart JournalView} w (with_record v.0 (own_entry v.0 bytes), rest v.1))
+own_record st v w found part bytes has are adds =
+    let these : adds.entry.bytes ≡ bytes = same_rest (journal_bytes v.0.waits) adds.entry.bytes bytes (sym adds.behind ∙ (ap held_bytes has ∙ are)) in
+    let this : adds.entry ≡ own_entry v.0 bytes = λ i. record { by = adds.by i; bytes = these i } in (
+      subst (λ (e : JournalEntry). entries_by v.0.number ((v.0.taken ++ v.0.waits) ++ e ∷ []) ≡ v.0.own ++ e ∷ []) this adds.own,
+      subst (λ (e : JournalEntry). ◌≡◌ {A = Me JournalPart JournalView} w (with_record v.0 e, rest v.1)) this adds.is,
+    )

@@ -1,0 +1,164 @@
+//! Calls of a journal: each takes a part, or both, and gives it back.
+
+ghost use Rattle.std.specs.Prelude.{◌≡◌, ◌++◌, [], false, true, Some, OnErr, OnOk};
+ghost use Rattle.shared_journal.specs.JournalRule as rule;
+ghost use Rattle.shared_journal.specs.declared.commit_log.CommitLog.{CommitLog};
+ghost use Rattle.journal_file.specs.declared.file_log.FileLog.{FileLog};
+ghost use Rattle.journal_file.specs.FileLogs.{file_state};
+
+use crate::commit_log::CommitLog;
+use crate::journal_part::JournalPart;
+use crate::journal_table::{JournalTable, LOG, PartSeat, WAITING};
+use crate::waiting_records::{make_room, put_behind};
+use journal::LogFault;
+use journal_file::FileLog;
+use refusal::NoMemory;
+use std::alloc::Global;
+use std::sync::Wait;
+
+// A part without anything, which lies in the place of one that is held.
+fn spare(alloc: Global, bytes: Vec<u8>) -> JournalPart
+    ensures { result.bytes ≡ bytes }
+{
+    let _ = alloc;
+    JournalPart {
+        bytes,
+        commits: None,
+    }
+}
+
+/// Puts a record behind those that wait.
+pub(crate) fn put_record<R: Wait>(
+    rt: &R,
+    alloc: Global,
+    history: &JournalTable,
+    seat: &mut PartSeat,
+    bytes: &[u8],
+) -> Result<(), NoMemory>
+    requires { seat.old.table_id ≡ history.now.table }
+    ensures same { (seat.new.table_id ≡ seat.old.table_id) × (seat.new.id ≡ seat.old.id) }
+    ensures ok { OnOk result (rule.PutsRecord seat.old.me bytes.now seat.new.me) }
+    ensures err { OnErr result (rule.SeesWaiting seat.old.me seat.new.me) }
+{
+    history.take_waiting(rt, seat);
+    let mut part = history.exchange(seat, WAITING, spare(alloc, Vec::new(alloc)));
+    let put = put_behind(&mut part.bytes, bytes);
+    let _ = history.exchange(seat, WAITING, part);
+    match put {
+        Ok(()) => {
+            history.return_record(seat, bytes);
+            Ok(())
+        }
+        Err(_) => {
+            history.return_waiting(seat);
+            Err(NoMemory)
+        }
+    }
+}
+
+/// Makes room for so many bytes more behind those that wait.
+pub(crate) fn reserve_room<R: Wait>(
+    rt: &R,
+    alloc: Global,
+    history: &JournalTable,
+    seat: &mut PartSeat,
+    len: usize,
+) -> Result<(), NoMemory>
+    requires { seat.old.table_id ≡ history.now.table }
+    ensures same { (seat.new.table_id ≡ seat.old.table_id) × (seat.new.id ≡ seat.old.id) }
+    ensures seen { rule.SeesWaiting seat.old.me seat.new.me }
+{
+    history.take_waiting(rt, seat);
+    let mut part = history.exchange(seat, WAITING, spare(alloc, Vec::new(alloc)));
+    let made = make_room(&mut part.bytes, len);
+    let _ = history.exchange(seat, WAITING, part);
+    history.return_waiting(seat);
+    made
+}
+
+// Takes all that waits, for a seat that holds the log, and leaves an empty buffer in its place.
+fn take_bytes<R: Wait>(
+    rt: &R,
+    alloc: Global,
+    history: &JournalTable,
+    seat: &mut PartSeat,
+    buffer: Vec<u8>,
+) -> Vec<u8>
+    requires table { seat.old.table_id ≡ history.now.table }
+    requires log { seat.old.me.0.has_log ≡ true }
+    requires none { buffer.items ≡ [] }
+    ensures same { (seat.new.table_id ≡ seat.old.table_id) × (seat.new.id ≡ seat.old.id) }
+    ensures taken { rule.TakesBytes seat.old.me result.items seat.new.me }
+{
+    history.take_waiting(rt, seat);
+    let part = history.exchange(seat, WAITING, spare(alloc, buffer));
+    history.return_none(seat);
+    let JournalPart { bytes, commits: _ } = part;
+    bytes
+}
+
+// Takes all that waits, writes it and syncs, for a seat that holds the log.
+fn write_waiting<R: Wait>(
+    rt: &R,
+    alloc: Global,
+    history: &JournalTable,
+    seat: &mut PartSeat,
+    commits: &mut CommitLog<FileLog>,
+) -> Result<(), LogFault>
+    requires table { seat.old.table_id ≡ history.now.table }
+    requires log { (seat.old.me.0.has_log ≡ true) × (seat.old.me.0.has_waiting ≡ false) }
+    requires keeps { rule.KeepsDurable seat.old.me.0.first seat.old.me.0.taken
+        seat.old.me.0.written commits.old }
+    ensures same { (seat.new.table_id ≡ seat.old.table_id) × (seat.new.id ≡ seat.old.id) }
+    ensures held { (seat.new.me.1 ≡ seat.old.me.1) × (seat.new.me.0.has_log ≡ true) }
+    ensures ok { OnOk result (rule.WritesAll seat.old.me seat.new.me
+        × rule.KeepsDurable seat.new.me.0.first seat.new.me.0.taken seat.new.me.0.taken
+        commits.new) }
+    ensures err { OnErr result (rule.WritesNone seat.old.me seat.new.me
+        × rule.KeepsDurable seat.new.me.0.first seat.new.me.0.taken seat.new.me.0.written
+        commits.new) }
+{
+    if commits.has_failed() {
+        return Err(LogFault);
+    }
+    let buffer = commits.empty_buffer();
+    let bytes = take_bytes(rt, alloc, history, seat, buffer);
+    commits.write(bytes)
+}
+
+/// Makes all durable that was added before.
+pub(crate) fn commit_all<R: Wait>(
+    rt: &R,
+    alloc: Global,
+    history: &JournalTable,
+    seat: &mut PartSeat,
+) -> Result<(), LogFault>
+    requires table { seat.old.table_id ≡ history.now.table }
+    requires free { seat.old.me.0.has_waiting ≡ false }
+    ensures same { (seat.new.table_id ≡ seat.old.table_id) × (seat.new.id ≡ seat.old.id) }
+    ensures ok { OnOk result (rule.CommitsAll seat.old.me seat.new.me) }
+    ensures err { OnErr result (rule.CommitsNone seat.old.me seat.new.me) }
+{
+    history.take_log(rt, seat);
+    let part = history.exchange(seat, LOG, spare(alloc, Vec::new(alloc)));
+    let JournalPart { bytes, commits } = part;
+    let Some(mut commits) = commits else {
+        unreachable!()
+    };
+    let written = write_waiting(rt, alloc, history, seat, &mut commits);
+    let settled = JournalPart {
+        bytes,
+        commits: Some(commits),
+    };
+    let _ = history.exchange(seat, LOG, settled);
+    match written {
+        Ok(()) => {
+            history.settle_log(seat);
+            Ok(())
+        }
+        Err(_) => {
+            history.return_log(seat);
+            Err(LogFault)
+        }
+    }
+}

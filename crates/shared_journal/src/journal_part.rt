@@ -1,0 +1,11 @@
+//! The two parts of a shared journal, each of which one thread holds at a time.
+
+use crate::commit_log::CommitLog;
+use journal_file::FileLog;
+
+/// The records that wait, as bytes; or the log, without bytes beside it.
+#[derive(Drop)]
+pub(crate) struct JournalPart {
+    pub bytes: Vec<u8>,
+    pub commits: Option<CommitLog<FileLog>>,
+}

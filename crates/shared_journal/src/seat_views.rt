@@ -1,0 +1,143 @@
+//! What each seat of a journal knows, and the kinds of step.
+
+use crate::journal_part::JournalPart;
+use atomic_table::{Play, TableRule};
+use journal_file::FileLog;
+use std::collections::LinkedList;
+use std::snapshot::Snapshot;
+
+/// A record of a journal's history: the seat that put it in, and its bytes. No value of it is made.
+pub struct JournalEntry {
+    pub by: u64,
+    pub bytes: LinkedList<u8>,
+}
+
+/// A seat's knowledge. No value of it is made.
+///
+/// Each seat knows its number, what the log held at first, a beginning of the history, its own
+/// records, a beginning of what is durable, and whether the journal failed. While it holds a part
+/// it knows the records that were taken, and those that wait, or those that the log has.
+pub struct JournalView {
+    pub number: u64,
+    pub first: LinkedList<u8>,
+    pub seen: LinkedList<JournalEntry>,
+    pub own: LinkedList<JournalEntry>,
+    pub durable: LinkedList<JournalEntry>,
+    pub is_failed: bool,
+    pub has_waiting: bool,
+    pub has_log: bool,
+    pub taken: LinkedList<JournalEntry>,
+    pub waits: LinkedList<JournalEntry>,
+    pub written: LinkedList<JournalEntry>,
+}
+
+/// There is one history of a journal.
+pub(crate) struct OneJournal;
+
+impl TableRule<JournalPart, JournalView, Snapshot<FileLog>> for OneJournal {
+    ghost use Rattle.journal_file.specs.FileLogs.{file_state};
+    ghost use Rattle.shared_journal.specs.JournalRule.{IsJournal, journal_founder};
+
+    ghost holds = { λ key s. IsJournal (file_state key.value).durable s.words s.homes s.views };
+
+    ghost first = { λ key. journal_founder (file_state key.value).durable };
+}
+
+/// A new seat.
+pub(crate) struct Watching;
+
+impl Play<JournalPart, JournalView> for Watching {
+    ghost use Rattle.shared_journal.specs.JournalRule.{Watches};
+
+    ghost then = { Watches };
+}
+
+/// A try to hold the records that wait.
+pub(crate) struct WaitingTry;
+
+impl Play<JournalPart, JournalView> for WaitingTry {
+    ghost use Rattle.shared_journal.specs.JournalRule.{TriesWaiting};
+
+    ghost then = { TriesWaiting };
+}
+
+/// A mark that a thread sleeps.
+pub(crate) struct SleepMark;
+
+impl Play<JournalPart, JournalView> for SleepMark {
+    ghost use Rattle.shared_journal.specs.JournalRule.{StaysAsItIs};
+
+    ghost then = { StaysAsItIs };
+}
+
+/// Those that wait are given back.
+pub(crate) struct WaitingReturn;
+
+impl Play<JournalPart, JournalView> for WaitingReturn {
+    ghost use Rattle.shared_journal.specs.JournalRule.{ReturnsWaiting};
+
+    ghost then = { ReturnsWaiting };
+}
+
+/// One more record waits.
+pub(crate) struct RecordStep;
+
+impl Play<JournalPart, JournalView> for RecordStep {
+    ghost use Rattle.shared_journal.specs.JournalRule.{AddsRecord};
+
+    ghost then = { AddsRecord };
+}
+
+/// All that wait are taken.
+pub(crate) struct TakingStep;
+
+impl Play<JournalPart, JournalView> for TakingStep {
+    ghost use Rattle.shared_journal.specs.JournalRule.{TakesEach};
+
+    ghost then = { TakesEach };
+}
+
+/// A try to hold the log.
+pub(crate) struct LogTry;
+
+impl Play<JournalPart, JournalView> for LogTry {
+    ghost use Rattle.shared_journal.specs.JournalRule.{TriesLog};
+
+    ghost then = { TriesLog };
+}
+
+/// All that was taken is durable.
+pub(crate) struct SettlingStep;
+
+impl Play<JournalPart, JournalView> for SettlingStep {
+    ghost use Rattle.shared_journal.specs.JournalRule.{SettlesLog};
+
+    ghost then = { SettlesLog };
+}
+
+/// The log is given back.
+pub(crate) struct LogReturn;
+
+impl Play<JournalPart, JournalView> for LogReturn {
+    ghost use Rattle.shared_journal.specs.JournalRule.{ReturnsLog};
+
+    ghost then = { ReturnsLog };
+}
+
+/// The journal fails.
+pub(crate) struct FailingStep;
+
+impl Play<JournalPart, JournalView> for FailingStep {
+    ghost use Rattle.shared_journal.specs.JournalRule.{FailsIt};
+
+    ghost then = { FailsIt };
+}
+
+/// A look whether the journal has failed.
+pub(crate) struct FailureLook;
+
+impl Play<JournalPart, JournalView> for FailureLook {
+    ghost use Rattle.shared_journal.specs.JournalRule.{LooksAtIt};
+
+    ghost then = { LooksAtIt };
+}
