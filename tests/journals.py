@@ -93,7 +93,7 @@ def change_of(payload):
         change = "finished", job, report
     elif kind == 4:
         change = "failed", parts.number(8), parts.number(1)
-    elif kind == 5:
+    elif kind == 6:
         change = "forgotten", parts.number(8)
     else:
         raise NotARecord

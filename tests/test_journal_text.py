@@ -26,7 +26,7 @@ def finished(job, spent, returned, buffer, tasks):
 
 def forgotten(ahead):
     """The payload of a change that forgets, of the first so many jobs, those that are over."""
-    return b"\x05" + struct.pack("<Q", ahead)
+    return b"\x06" + struct.pack("<Q", ahead)
 
 
 def two_programs(tenant, credit, buffer):

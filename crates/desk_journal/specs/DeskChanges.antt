@@ -12,7 +12,7 @@ tag_of (Granted tenant amount) = 1
 tag_of (Submitted tenant programs credit buffer) = 2
 tag_of (Finished job report) = 3
 tag_of (Failed job code) = 4
-tag_of (Forgotten ahead) = 5
+tag_of (Forgotten ahead) = 6
 
 -- what stands behind that number
 abbrev pub body_bytes : DeskChange → List ℕ

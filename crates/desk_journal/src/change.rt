@@ -57,7 +57,7 @@ const FINISHED: u8 = 3;
 
 const FAILED: u8 = 4;
 
-const FORGOTTEN: u8 = 5;
+const FORGOTTEN: u8 = 6;
 
 // The grant whose bytes stand at the front, behind its tag.
 fn read_granted(alloc: Global, input: &[u8]) -> Result<(DeskChange, usize), ReadFault>
@@ -120,10 +120,10 @@ fn read_failed(alloc: Global, input: &[u8]) -> Result<(DeskChange, usize), ReadF
 // The number of jobs whose bytes stand at the front, behind their tag.
 fn read_forgotten(alloc: Global, input: &[u8]) -> Result<(DeskChange, usize), ReadFault>
     ensures within { IfOk result (λ found. found.1 ≤ length input.now) }
-    ensures found { IfOk result (λ found. (tag_of found.0 ≡ 5)
+    ensures found { IfOk result (λ found. (tag_of found.0 ≡ 6)
         × (input.now ≡ body_bytes found.0 ++ drop found.1 input.now)) }
     ensures refused { IsErrOf result NoValue → (change : DeskChange) (rest : List ℕ)
-        → tag_of change ≡ 5 → input.now ≡ body_bytes change ++ rest → ⊥ }
+        → tag_of change ≡ 6 → input.now ≡ body_bytes change ++ rest → ⊥ }
 {
     let (ahead, length) = u64::read(alloc, input)?;
     Ok((DeskChange::Forgotten { ahead }, length))

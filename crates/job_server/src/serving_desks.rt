@@ -67,7 +67,8 @@ pub(crate) fn limited_by_door<N: Runner + Drop>(
 }
 
 /// Serves the connections at new desks: one for each of the plan's tenants, with the credit that it is
-/// granted at first, and one for everybody else. The runner runs the jobs of all, as many of each desk as its limit allows.
+/// granted at first, and one for everybody else. The runner runs the jobs of all, as many of each desk
+/// as its limit allows.
 pub(crate) fn serve_at_desks<
     's,
     R: Threads + Wait + Clock + Sync,

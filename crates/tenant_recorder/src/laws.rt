@@ -43,7 +43,8 @@ pub fn records_lead_to_desks<N: Runner, Q: RecordQueue>()
 {}
 
 /// The recorders change no answer: a history of a handler with recorders is one of the desks and the
-/// runner alone, of which the laws of tenants hold. New recorders, one for each desk, are in step with any desks.
+/// runner alone, of which the laws of tenants hold. New recorders, one for each desk, are in step with
+/// any desks.
 pub fn recorders_change_no_answer<N: Runner, Q: RecordQueue>()
     ensures begun { (queues : List Q) (recorders : List (ChangeRecorder Q)) (keep : KeepLimits)
         (desks : List Ledger) → AllZip IsNewRecorder queues recorders
