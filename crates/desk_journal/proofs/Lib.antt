@@ -1,2 +1,3 @@
 mod DeskLemmas
 mod ListLemmas
+pub mod OpenLemmas

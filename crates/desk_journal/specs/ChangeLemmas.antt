@@ -1,5 +1,5 @@
 -- What stands behind a change's bytes.
-use Rattle.std.proofs.Common.{Vec, Global, ◌≡◌, ◌≤◌, ◌<◌, ◌^◌, ℕ, List, [], ◌∷◌, ◌++◌, drop, length, ap, arith}
+use Rattle.std.proofs.Common.{Vec, Global, ◌≡◌, ◌≢◌, ◌≤◌, ◌<◌, ◌^◌, ℕ, List, [], ◌∷◌, ◌++◌, drop, length, ap, arith}
 use Rattle.std.proofs.lemmas.List.{length-append}
 use Rattle.std.specs.Int.{w32, w64, to_le_bytes}
 use Rattle.credit_book.specs.declared.book.Report.{Report}
@@ -58,12 +58,12 @@ change_rest v w r s small same =
     body_rest v w r s t.0 (omega (arith, small, length-append (change_bytes v) r, length-append (tag_of v ∷ []) (body_bytes v), length-append (body_bytes v) r)) t.1
 
 -- each form has one of these numbers
-pub known_tag : (c : DeskChange) (n : ℕ) → tag_of c ≡ n → 1 ≤ n × n ≤ 5
-known_tag (Granted tenant amount) n is = (omega (arith, is), omega (arith, is))
-known_tag (Submitted tenant programs credit buffer) n is = (omega (arith, is), omega (arith, is))
-known_tag (Finished job report) n is = (omega (arith, is), omega (arith, is))
-known_tag (Failed job code) n is = (omega (arith, is), omega (arith, is))
-known_tag (Forgotten ahead) n is = (omega (arith, is), omega (arith, is))
+pub known_tag : (c : DeskChange) (n : ℕ) → tag_of c ≡ n → 1 ≤ n × n ≤ 6 × n ≢ 5
+known_tag (Granted tenant amount) n is = (omega (arith, is), omega (arith, is), λ other. omega (arith, is, other))
+known_tag (Submitted tenant programs credit buffer) n is = (omega (arith, is), omega (arith, is), λ other. omega (arith, is, other))
+known_tag (Finished job report) n is = (omega (arith, is), omega (arith, is), λ other. omega (arith, is, other))
+known_tag (Failed job code) n is = (omega (arith, is), omega (arith, is), λ other. omega (arith, is, other))
+known_tag (Forgotten ahead) n is = (omega (arith, is), omega (arith, is), λ other. omega (arith, is, other))
 
 -- ---- the form that a tag names
 

@@ -5,4 +5,5 @@ pub mod DeskChanges
 pub mod DeskSteps
 pub mod Encodings
 pub mod NumberLemmas
+pub mod OpenJobs
 pub mod PartLemmas

@@ -1,12 +1,15 @@
 -- A result comes from a submit before it, at a host whose jobs a pool holds.
 use Rattle.accounts.specs.declared.keep_limits.KeepLimits.{KeepLimits}
-use Rattle.std.proofs.Common.{◌≡◌, ◌+◌, ◌<◌, ◌^◌, ℕ, zero, suc, Bool, All, List, [], ◌∷◌, ◌++◌, length, slice_get, Some, None, Result, Ok, refl, sym, ap, subst, ◌∙◌, ◌⊎◌, inl, inr, ◌-◌, arith}
+use Rattle.std.proofs.Common.{◌≡◌, ◌+◌, ◌<◌, ◌^◌, ℕ, zero, suc, Bool, All, List, [], ◌∷◌, ◌++◌, length, slice_get, Option, Some, None, Result, Ok, refl, sym, ap, subst, ◌∙◌, ◌⊎◌, inl, inr, ◌-◌, arith}
 use Rattle.std.proofs.lemmas.Option.{slice_get_within, get_or_from_slice_get}
 use Rattle.serde_json.specs.Data.{Data}
 use Rattle.job_core.specs.Admitted.{AdmittedJob}
 use Rattle.sessions.specs.Grammar.{Asked, result}
 use Rattle.sessions.specs.Replies.{submit_data}
-use Rattle.shared_desk.specs.Histories.{HistoryEntry}
+use Rattle.shared_desk.specs.Histories.{HistoryEntry, by_any_passage}
+use Rattle.credit_book.specs.declared.board.Progress.{Progress}
+use Rattle.credit_book.specs.declared.book.Report.{Report}
+use Rattle.job_pools.specs.declared.limited_runner.LimitedRunner.{LimitedRunner}
 use Rattle.job_pools.specs.Started.{pooled_at, pooled_count}
 use Rattle.job_pools.specs.Holds.{StartsBy, TellsBy, TakesBy}
 use Rattle.job_pools.specs.Bounded.{starts_within, looks_within, takes_within}
@@ -15,11 +18,14 @@ use Rattle.job_server.specs.declared.fault.ServeFault.{ServeFault}
 use Rattle.shared_desk.specs.declared.closed.ClosedConnection.{ClosedConnection}
 use Rattle.shared_desk.specs.Closed.{AreClosed, IsServedWhole}
 use Rattle.job_server.specs.Payloads.{IsEntryOf, ComesFromPayload}
-use Rattle.job_server.specs.AtOnce.{Pool, Hosted, new_host, IsServing}
+use Rattle.job_server.specs.AtOnce.{Pool, Hosted, hosted_answers, new_host, IsServing}
 use Rattle.job_server.specs.EndToEnd.{AreTaken, submit_of, none_yet, one_more, no_more, taken_at, IsSubmit, IsResultOf, reported, failed, not_over, forgotten, unknown, IsToldResult, IsResultFrame, ComesFromSubmit, IsHostHistory, AsksForJob, StaysTold, IsToldRefusal, HasReply}
 use Rattle.streams.specs.Answering.{refused}
 use Rattle.job_server.proofs.ListEnds.{get_pushed, joined_again}
-use Rattle.job_server.proofs.HistoryStands.{taken_is, history_stands, history_tells}
+use Rattle.job_server.proofs.HistoryStands.{history_stands, history_tells, none_stand}
+use Rattle.job_server.proofs.HostAnswers.{keeping_host}
+use Rattle.job_server.proofs.KnownJobs.{as_taken, as_told, taken_is}
+use Rattle.job_server.proofs.StandsFor.{AllStand}
 use Rattle.job_server.proofs.RefusedResults.{told_refusal}
 use Rattle.job_server.proofs.RisingNumbers.{numbers_rise}
 use Rattle.job_server.proofs.StaysOver.{results_stay}
@@ -68,7 +74,7 @@ place_of history jobs (suc n) job taken at =
 
 -- ---- a result comes from its submit
 
-no_result : (e : HistoryEntry) (code : ℕ) → IsResultFrame e.reply → HasReply e (refused code) → ⊥
+pub no_result : (e : HistoryEntry) (code : ℕ) → IsResultFrame e.reply → HasReply e (refused code) → ⊥
 no_result e code f tells =
     let clash : 98 ≡ 99 = sym (ap third f.frame ∙ third_of_result f.buffer f.returned f.spent f.tasks) ∙ ap third tells ∙ third_of_refused code None None in
     absurd (omega (arith, clash))
@@ -101,13 +107,26 @@ adds_up before number e r = r.run.final.whole ∙ r.is_submit.admitted.same_cred
 
 -- ---- a host
 
-fresh_host : (bounds : Bounds) (first : Pool) (x : Hosted) → x ≡ new_host bounds first → (x.0.jobs ≡ []) × (x.1.keep ≡ bounds.keep)
-fresh_host bounds first x is = (ap (λ (h : Hosted). h.0.jobs) is, ap (λ (h : Hosted). h.1.keep) is)
+abbrev pub starts_by : LimitedRunner Pool → ℕ → AdmittedJob → Result (Unit {0}) ℕ → LimitedRunner Pool → Type 0
+starts_by = starts_within pooled_count (StartsBy pooled_at pooled_count)
+
+abbrev pub looks_by : LimitedRunner Pool → ℕ → Progress → LimitedRunner Pool → Type 0
+looks_by = looks_within (TellsBy pooled_at pooled_count)
+
+abbrev pub takes_by : LimitedRunner Pool → Option (ℕ × Result Report ℕ) → LimitedRunner Pool → Type 0
+takes_by = takes_within (TakesBy pooled_at pooled_count)
+
+abbrev pub pooled_job : LimitedRunner Pool → ℕ → Option AdmittedJob
+pooled_job = job_held pooled_at pooled_count
+
+fresh_host : (bounds : Bounds) (first : Pool) (x : Hosted) → x ≡ new_host bounds first → (x.1.keep ≡ bounds.keep) × AllStand bounds.keep [] x.0.jobs (pooled_job x.1.runner)
+fresh_host bounds first x is = (ap (λ (h : Hosted). h.1.keep) is, none_stand bounds.keep (pooled_job x.1.runner) x.0.jobs (ap (λ (h : Hosted). h.0.jobs) is))
 
 pub host_tells : (bounds : Bounds) (before after : List HistoryEntry) (e : HistoryEntry) (number : ℕ) → IsHostHistory bounds (before ++ e ∷ after) → e.query.asked ≡ Ok (result number) → IsToldResult bounds.keep before number e
 host_tells bounds before after e number h asks =
-    history_tells (starts_within pooled_count (StartsBy pooled_at pooled_count)) (looks_within (TellsBy pooled_at pooled_count)) (takes_within (TakesBy pooled_at pooled_count))
-    (job_held pooled_at pooled_count) (limited_holds pooled_at pooled_count) (λ s. s ≡ new_host bounds h.first) bounds.keep (fresh_host bounds h.first) before after e number h.end h.legal asks
+    as_told bounds.keep before number e
+    (history_tells starts_by looks_by takes_by pooled_job (limited_holds pooled_at pooled_count) (by_any_passage hosted_answers) (λ s. s.0) (λ s. s.1.runner) (λ s. s.1.keep) (keeping_host starts_by looks_by takes_by)
+    (λ s. s ≡ new_host bounds h.first) bounds.keep [] (fresh_host bounds h.first) before after e number h.end h.legal asks)
 
 pub host_comes : (bounds : Bounds) (before after : List HistoryEntry) (e : HistoryEntry) (number : ℕ) → IsHostHistory bounds (before ++ e ∷ after) → e.query.asked ≡ Ok (result number) → IsResultFrame e.reply → ComesFromSubmit before number e
 host_comes bounds before after e number h asks f = comes_from_submit bounds.keep before number e (host_tells bounds before after e number h asks) f
@@ -118,15 +137,16 @@ host_refuses bounds before after e number code h asks tells small = told_refusal
 
 pub host_stays : (bounds : Bounds) (before between after : List HistoryEntry) (e f : HistoryEntry) (number : ℕ) → IsHostHistory bounds (before ++ e ∷ (between ++ f ∷ after)) → e.query.asked ≡ Ok (result number) → f.query.asked ≡ Ok (result number) → StaysTold e f
 host_stays bounds before between after e f number h asks_e asks_f =
-    results_stay (starts_within pooled_count (StartsBy pooled_at pooled_count)) (looks_within (TellsBy pooled_at pooled_count)) (takes_within (TakesBy pooled_at pooled_count))
+    results_stay starts_by looks_by takes_by (by_any_passage hosted_answers) (λ s. s.0) (λ s. s.1.runner) (λ s. s.1.keep) (keeping_host starts_by looks_by takes_by)
     (λ s. s ≡ new_host bounds h.first) before between after e f number h.end h.legal asks_e asks_f
 
 pub host_rises : (bounds : Bounds) (before between after : List HistoryEntry) (e f : HistoryEntry) (m n : ℕ) → IsHostHistory bounds (before ++ e ∷ (between ++ f ∷ after)) → length (before ++ e ∷ between) < 2 ^ 64 - 1
     → AsksForJob e.query.asked → HasReply e (submit_data m) → m < 2 ^ 64 → AsksForJob f.query.asked → HasReply f (submit_data n) → n < 2 ^ 64 → m < n
 host_rises bounds before between after e f m n h short asks_e tells_e small_m asks_f tells_f small_n =
-    let stands = history_stands (starts_within pooled_count (StartsBy pooled_at pooled_count)) (looks_within (TellsBy pooled_at pooled_count)) (takes_within (TakesBy pooled_at pooled_count))
-    (job_held pooled_at pooled_count) (limited_holds pooled_at pooled_count) (λ s. s ≡ new_host bounds h.first) bounds.keep (fresh_host bounds h.first) (before ++ e ∷ (between ++ f ∷ after)) h.end h.legal in
-    numbers_rise before between after e f stands.1.0 m n stands.1.1 short asks_e tells_e small_m asks_f tells_f small_n
+    let stands = history_stands starts_by looks_by takes_by pooled_job (limited_holds pooled_at pooled_count) (by_any_passage hosted_answers) (λ s. s.0) (λ s. s.1.runner) (λ s. s.1.keep) (keeping_host starts_by looks_by takes_by)
+    (λ s. s ≡ new_host bounds h.first) bounds.keep [] (fresh_host bounds h.first) (before ++ e ∷ (between ++ f ∷ after)) h.end h.legal in
+    let jobs = as_taken (before ++ e ∷ (between ++ f ∷ after)) stands.1.0 stands.1.1 in
+    numbers_rise before between after e f jobs.jobs m n jobs.taken short asks_e tells_e small_m asks_f tells_f small_n
 
 -- ---- a server of many connections
 

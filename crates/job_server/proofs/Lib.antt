@@ -1,6 +1,7 @@
 pub mod Alike
 pub mod AtOnceAlike
 pub mod ListEnds
+pub mod HostAnswers
 pub mod StandsFor
 pub mod HistoryStands
 pub mod LimitedHolds
@@ -9,7 +10,10 @@ pub mod RisingNumbers
 pub mod StaysOver
 pub mod WentOver
 pub mod RefusedResults
+pub mod KnownJobs
 pub mod FromSubmit
+pub mod Restarted
+pub mod FromJournal
 pub mod NoFlag
 pub mod KeptLemmas
 pub mod ByDoors

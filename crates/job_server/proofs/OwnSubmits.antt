@@ -8,7 +8,7 @@ use Rattle.accounts.specs.Ledgers.{Ledger}
 use Rattle.sessions.specs.Grammar.{result}
 use Rattle.sessions.specs.Replies.{submit_data}
 use Rattle.streams.specs.Answering.{refused}
-use Rattle.shared_desk.specs.Histories.{HistoryEntry, Replays, by_any_passage, none_yet, one_more}
+use Rattle.shared_desk.specs.Histories.{HistoryEntry, Query, Replays, by_any_passage, none_yet, one_more}
 use Rattle.tenant_desks.specs.Alone.{sent_to}
 use Rattle.tenant_desks.proofs.SeenLemmas.{plain_part}
 use Rattle.tenant_desks.specs.Seen.{starts_seen, looks_seen, takes_seen, answers_seen}
@@ -24,7 +24,10 @@ use Rattle.job_server.specs.AtOnce.{Pool}
 use Rattle.job_server.specs.EndToEnd.{AsksForJob, ComesFromSubmit, HasReply, IsResultFrame, IsToldRefusal, IsToldResult, StaysTold}
 use Rattle.job_server.specs.TenantResults.{IsTenantHostHistory}
 use Rattle.job_server.proofs.FromSubmit.{comes_from_submit}
-use Rattle.job_server.proofs.HistoryStands.{HoldsJobs, history_stands, history_tells}
+use Rattle.job_server.proofs.HistoryStands.{HoldsJobs, history_stands, history_tells, none_stand}
+use Rattle.job_server.proofs.HostAnswers.{IsHost, keeping_host}
+use Rattle.job_server.proofs.KnownJobs.{as_taken, as_told}
+use Rattle.job_server.proofs.StandsFor.{AllStand}
 use Rattle.job_server.proofs.LimitedHolds.{job_held, limited_holds, lines_hold}
 use Rattle.job_server.proofs.RefusedResults.{told_refusal}
 use Rattle.job_server.proofs.RisingNumbers.{numbers_rise}
@@ -43,8 +46,8 @@ module _ {R : Type 0} (starts : R → ℕ → AdmittedJob → Result (Unit {0}) 
   as_kept history s (one_more h t e u before answered) =
       one_more h (t.0, record { runner = t.1; keep = keep }) e (s.0, record { runner = s.1; keep = keep }) (as_kept h t before) ((answered.0, answered.1, answered.2), refl)
 
-jobless_begins : {R : Type 0} (begun : Ledger) (keep : KeepLimits) → begun.jobs ≡ [] → (x : Ledger × KeepingHandler R) → Begins begun keep x → (x.0.jobs ≡ []) × (x.1.keep ≡ keep)
-jobless_begins begun keep none x begins = (ap (λ (d : Ledger). d.jobs) begins.0 ∙ none, begins.1)
+jobless_begins : {R : Type 0} (begun : Ledger) (keep : KeepLimits) (held : ℕ → Option AdmittedJob) → begun.jobs ≡ [] → (x : Ledger × KeepingHandler R) → Begins begun keep x → (x.1.keep ≡ keep) × AllStand keep [] x.0.jobs held
+jobless_begins begun keep held none x begins = (begins.1, none_stand keep held x.0.jobs (ap (λ (d : Ledger). d.jobs) begins.0 ∙ none))
 
 at_place : (xs : List Ledger) (i : ℕ) → i < length xs → (x : Ledger) × (slice_get xs i ≡ Some x)
 at_place [] i lt = absurd (omega (arith, lt))
@@ -86,11 +89,17 @@ module _ (keep : KeepLimits) (place : ℕ) (names : List (List ℕ)) (history : 
   abbrev own : (d : Ledger) × (slice_get h.firsts place ≡ Some d)
   own = let many = h.as_many in at_place h.firsts place (omega (arith, there, many))
 
-  begins : (x : Ledger × KeepingHandler Runner) → Begins own.0 keep x → (x.0.jobs ≡ []) × (x.1.keep ≡ keep)
-  begins = jobless_begins own.0 keep (h.no_job place own.0 own.1)
-
   small : place < 1000
   small = let few = h.few in omega (arith, there, few)
+
+  begins : (x : Ledger × KeepingHandler Runner) → Begins own.0 keep x → (x.1.keep ≡ keep) × AllStand keep [] x.0.jobs (held_seen starts_by looks_by takes_by held_by holds_by place small x.1.runner)
+  begins x = jobless_begins own.0 keep (held_seen starts_by looks_by takes_by held_by holds_by place small x.1.runner) (h.no_job place own.0 own.1) x
+
+  abbrev own_answers : Ledger × KeepingHandler Runner → Query → List ℕ → Ledger × KeepingHandler Runner → Type 0
+  own_answers = by_any_passage (answers_keeping (starts_seen starts_by looks_by takes_by place) (looks_seen starts_by looks_by takes_by place) (takes_seen starts_by looks_by takes_by place))
+
+  own_host : IsHost (starts_seen starts_by looks_by takes_by place) (looks_seen starts_by looks_by takes_by place) (takes_seen starts_by looks_by takes_by place) own_answers (λ s. s.0) (λ s. s.1.runner) (λ s. s.1.keep)
+  own_host = keeping_host (starts_seen starts_by looks_by takes_by place) (looks_seen starts_by looks_by takes_by place) (takes_seen starts_by looks_by takes_by place)
 
   state : Ledger × KeepingHandler Runner
   state = let p = part keep place names history h own.0 own.1 in (p.0.0, record { runner = p.0.1; keep = keep })
@@ -105,15 +114,16 @@ module _ (keep : KeepLimits) (place : ℕ) (names : List (List ℕ)) (history : 
 
   pub own_tells : (before after : List HistoryEntry) (e : HistoryEntry) (number : ℕ) → sent_to names place history ≡ before ++ e ∷ after → e.query.asked ≡ Ok (result number) → IsToldResult keep before number e
   own_tells before after e number is asks =
-      history_tells (starts_seen starts_by looks_by takes_by place) (looks_seen starts_by looks_by takes_by place) (takes_seen starts_by looks_by takes_by place)
+      as_told keep before number e
+      (history_tells (starts_seen starts_by looks_by takes_by place) (looks_seen starts_by looks_by takes_by place) (takes_seen starts_by looks_by takes_by place)
       (held_seen starts_by looks_by takes_by held_by holds_by place small)
-      (seen_holds starts_by looks_by takes_by held_by holds_by place small) (Begins own.0 keep) keep begins before after e number state
-      (legal (before ++ e ∷ after) is) asks
+      (seen_holds starts_by looks_by takes_by held_by holds_by place small) own_answers (λ s. s.0) (λ s. s.1.runner) (λ s. s.1.keep) own_host (Begins own.0 keep) keep [] begins before after e number state
+      (legal (before ++ e ∷ after) is) asks)
 
   pub own_stays : (before between after : List HistoryEntry) (e f : HistoryEntry) (number : ℕ) → sent_to names place history ≡ before ++ e ∷ (between ++ f ∷ after) → e.query.asked ≡ Ok (result number) → f.query.asked ≡ Ok (result number)
       → StaysTold e f
   own_stays before between after e f number is asks_e asks_f =
-      results_stay (starts_seen starts_by looks_by takes_by place) (looks_seen starts_by looks_by takes_by place) (takes_seen starts_by looks_by takes_by place) (Begins own.0 keep) before between after e f number state
+      results_stay (starts_seen starts_by looks_by takes_by place) (looks_seen starts_by looks_by takes_by place) (takes_seen starts_by looks_by takes_by place) own_answers (λ s. s.0) (λ s. s.1.runner) (λ s. s.1.keep) own_host (Begins own.0 keep) before between after e f number state
       (legal (before ++ e ∷ (between ++ f ∷ after)) is) asks_e asks_f
 
   pub own_rises : (before between after : List HistoryEntry) (e f : HistoryEntry) (m n : ℕ) → sent_to names place history ≡ before ++ e ∷ (between ++ f ∷ after) → length (before ++ e ∷ between) < 2 ^ 64 - 1
@@ -121,9 +131,10 @@ module _ (keep : KeepLimits) (place : ℕ) (names : List (List ℕ)) (history : 
   own_rises before between after e f m n is short asks_e tells_e small_m asks_f tells_f small_n =
       let stands = history_stands (starts_seen starts_by looks_by takes_by place) (looks_seen starts_by looks_by takes_by place) (takes_seen starts_by looks_by takes_by place)
       (held_seen starts_by looks_by takes_by held_by holds_by place small)
-      (seen_holds starts_by looks_by takes_by held_by holds_by place small) (Begins own.0 keep) keep begins
+      (seen_holds starts_by looks_by takes_by held_by holds_by place small) own_answers (λ s. s.0) (λ s. s.1.runner) (λ s. s.1.keep) own_host (Begins own.0 keep) keep [] begins
       (before ++ e ∷ (between ++ f ∷ after)) state (legal (before ++ e ∷ (between ++ f ∷ after)) is) in
-      numbers_rise before between after e f stands.1.0 m n stands.1.1 short asks_e tells_e small_m asks_f tells_f small_n
+      let jobs = as_taken (before ++ e ∷ (between ++ f ∷ after)) stands.1.0 stands.1.1 in
+      numbers_rise before between after e f jobs.jobs m n jobs.taken short asks_e tells_e small_m asks_f tells_f small_n
 
   pub own_comes : (before after : List HistoryEntry) (e : HistoryEntry) (number : ℕ) → sent_to names place history ≡ before ++ e ∷ after → e.query.asked ≡ Ok (result number) → IsResultFrame e.reply → ComesFromSubmit before number e
   own_comes before after e number is asks f = comes_from_submit keep before number e (own_tells before after e number is asks) f

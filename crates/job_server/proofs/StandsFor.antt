@@ -1,4 +1,4 @@
--- The jobs of a desk stand for those that were taken, which a runner holds until they are over.
+-- The jobs of a desk stand for those that are known, which a runner holds until they are over.
 use Rattle.std.proofs.Common.{◌≡◌, ◌≢◌, ◌⊎◌, ◌+◌, ◌-◌, ◌<◌, ◌≤◌, ℕ, zero, suc, Bool, true, false, List, [], ◌∷◌, ◌++◌, length, slice_get, slice_set, nat_eq, if◌then◌else◌, Option, Some, None, Result, Ok, Err, refl, sym, ap, subst, ◌∙◌, inl, inr, arith}
 use Rattle.std.proofs.lemmas.Bool.{cases_lt}
 use Rattle.std.proofs.lemmas.Bool.Decides.{nat_tests}
@@ -17,36 +17,41 @@ use Rattle.accounts.proofs.Forgets.{each_left}
 use Rattle.accounts.proofs.Listed.{get_within, same_some}
 use Rattle.streams.specs.Passing.{Notes}
 use Rattle.job_pools.specs.Endings.{IsRun, IsEndOf}
+use Rattle.job_server.specs.AfterRestart.{KnownJob, Itself, Over, standing_of}
 use Rattle.job_server.specs.EndToEnd.{FailsBy, MayBeForgotten}
 use Rattle.job_server.proofs.ListEnds.{get_pushed, length_pushed, get_set, length_set, within_get}
 
--- The standing of a job of this credit says what became of the job that was taken under the number.
-abbrev pub StandsFor : Option AdmittedJob → KeepLimits → ℕ → ℕ → AdmittedJob → ℕ → JobStanding → Type 0
-StandsFor held keep count number job credit Open = (held ≡ Some job) × (credit ≡ job.credit)
-StandsFor held keep count number job credit (Reported report) = IsRun number job report
-StandsFor held keep count number job credit (Failed code) =
+-- The standing of a job of this credit says what became of the job that is known under the number.
+abbrev pub StandsFor : Option AdmittedJob → KeepLimits → ℕ → ℕ → KnownJob → ℕ → JobStanding → Type 0
+StandsFor held keep count number (Itself job) credit Open = (held ≡ Some job) × (credit ≡ job.credit)
+StandsFor held keep count number (Itself job) credit (Reported report) = IsRun number job report
+StandsFor held keep count number (Itself job) credit (Failed code) =
     FailsBy number job code ⊎ ((code ≡ 76) × MayBeForgotten keep number count)
+StandsFor held keep count number (Over outcome) credit standing =
+    (standing ≡ standing_of outcome) ⊎ ((standing ≡ Failed 76) × MayBeForgotten keep number count)
 
 forgotten_more : (keep : KeepLimits) (number c d : ℕ) → c ≤ d → MayBeForgotten keep number c → MayBeForgotten keep number d
 forgotten_more keep number c d le (inl jobs) = let some = jobs.0 in let ahead = jobs.1 in inl (some, omega (arith, le, ahead))
 forgotten_more keep number c d le (inr bytes) = inr bytes
 
--- Each entry of a desk stands for the job that was taken at its place.
-pub record AllStand (keep : KeepLimits) (jobs : List AdmittedJob) (entries : List JobEntry) (held : ℕ → Option AdmittedJob) : Type 0 where
+-- Each entry of a desk stands for the job that is known at its place.
+pub record AllStand (keep : KeepLimits) (jobs : List KnownJob) (entries : List JobEntry) (held : ℕ → Option AdmittedJob) : Type 0 where
   pub count : length entries ≡ length jobs
-  pub each : (i : ℕ) (entry : JobEntry) (job : AdmittedJob) → slice_get entries i ≡ Some entry → slice_get jobs i ≡ Some job
+  pub each : (i : ℕ) (entry : JobEntry) (job : KnownJob) → slice_get entries i ≡ Some entry → slice_get jobs i ≡ Some job
       → StandsFor (held (i + 1)) keep (length jobs) (i + 1) job entry.credit entry.standing
 
 -- ---- more is known, or more jobs were taken since
 
-stands_more : (a b : Option AdmittedJob) (keep : KeepLimits) (c d number : ℕ) (job : AdmittedJob) (credit : ℕ) (standing : JobStanding) → (standing ≡ Open → b ≡ a) → c ≤ d
+pub stands_more : (a b : Option AdmittedJob) (keep : KeepLimits) (c d number : ℕ) (job : KnownJob) (credit : ℕ) (standing : JobStanding) → (standing ≡ Open → b ≡ a) → c ≤ d
     → StandsFor a keep c number job credit standing → StandsFor b keep d number job credit standing
-stands_more a b keep c d number job credit Open same le was = (same refl ∙ was.0, was.1)
-stands_more a b keep c d number job credit (Reported report) same le was = was
-stands_more a b keep c d number job credit (Failed code) same le (inl fails) = inl fails
-stands_more a b keep c d number job credit (Failed code) same le (inr gone) = inr (gone.0, forgotten_more keep number c d le gone.1)
+stands_more a b keep c d number (Itself job) credit Open same le was = (same refl ∙ was.0, was.1)
+stands_more a b keep c d number (Itself job) credit (Reported report) same le was = was
+stands_more a b keep c d number (Itself job) credit (Failed code) same le (inl fails) = inl fails
+stands_more a b keep c d number (Itself job) credit (Failed code) same le (inr gone) = inr (gone.0, forgotten_more keep number c d le gone.1)
+stands_more a b keep c d number (Over outcome) credit standing same le (inl is) = inl is
+stands_more a b keep c d number (Over outcome) credit standing same le (inr gone) = inr (gone.0, forgotten_more keep number c d le gone.1)
 
-pub all_stand : (keep : KeepLimits) (jobs : List AdmittedJob) (entries : List JobEntry) (a b : ℕ → Option AdmittedJob) → ((n : ℕ) → b n ≡ a n) → AllStand keep jobs entries a → AllStand keep jobs entries b
+pub all_stand : (keep : KeepLimits) (jobs : List KnownJob) (entries : List JobEntry) (a b : ℕ → Option AdmittedJob) → ((n : ℕ) → b n ≡ a n) → AllStand keep jobs entries a → AllStand keep jobs entries b
 all_stand keep jobs entries a b same was = record {
   count = was.count;
   each = λ i entry job at there. stands_more (a (i + 1)) (b (i + 1)) keep (length jobs) (length jobs) (i + 1) job entry.credit entry.standing (λ opened. same (i + 1)) (omega arith) (was.each i entry job at there);
@@ -54,7 +59,7 @@ all_stand keep jobs entries a b same was = record {
 
 -- ---- a job is taken, and held
 
-pub stand_taken : (keep : KeepLimits) (jobs : List AdmittedJob) (entries : List JobEntry) (a b : ℕ → Option AdmittedJob) (job : AdmittedJob) (entry : JobEntry)
+pub stand_taken : (keep : KeepLimits) (jobs : List KnownJob) (entries : List JobEntry) (a b : ℕ → Option AdmittedJob) (job : KnownJob) (entry : JobEntry)
     → AllStand keep jobs entries a → StandsFor (b (length jobs + 1)) keep (length jobs + 1) (length jobs + 1) job entry.credit entry.standing → ((n : ℕ) → n ≢ length jobs + 1 → b n ≡ a n)
     → AllStand keep (jobs ++ job ∷ []) (entries ++ entry ∷ []) b
 stand_taken keep jobs entries a b job entry was fresh others = record {
@@ -62,7 +67,7 @@ stand_taken keep jobs entries a b job entry was fresh others = record {
   each = λ i x j at there. one i x j (get_pushed entries entry i x at) (get_pushed jobs job i j there);
 }
   where
-    one : (i : ℕ) (x : JobEntry) (j : AdmittedJob) → (slice_get entries i ≡ Some x) ⊎ ((i ≡ length entries) × (entry ≡ x)) → (slice_get jobs i ≡ Some j) ⊎ ((i ≡ length jobs) × (job ≡ j))
+    one : (i : ℕ) (x : JobEntry) (j : KnownJob) → (slice_get entries i ≡ Some x) ⊎ ((i ≡ length entries) × (entry ≡ x)) → (slice_get jobs i ≡ Some j) ⊎ ((i ≡ length jobs) × (job ≡ j))
         → StandsFor (b (i + 1)) keep (length (jobs ++ job ∷ [])) (i + 1) j x.credit x.standing
     one i x j (inl at) (inl there) =
         let lt = within_get jobs i j there in
@@ -72,7 +77,7 @@ stand_taken keep jobs entries a b job entry was fresh others = record {
     one i x j (inl at) (inr new) = let lt = within_get entries i x at in let is = new.0 in let count = was.count in absurd (omega (arith, lt, is, count))
     one i x j (inr new) (inl there) = let lt = within_get jobs i j there in let is = new.0 in let count = was.count in absurd (omega (arith, lt, is, count))
     one i x j (inr new) (inr also) =
-        let P : ℕ × AdmittedJob × JobEntry → Type 0 = λ t. StandsFor (b (t.0 + 1)) keep (length (jobs ++ job ∷ [])) (t.0 + 1) t.1 t.2.credit t.2.standing in
+        let P : ℕ × KnownJob × JobEntry → Type 0 = λ t. StandsFor (b (t.0 + 1)) keep (length (jobs ++ job ∷ [])) (t.0 + 1) t.1 t.2.credit t.2.standing in
         subst P (λ k. (sym also.0 k, also.1 k, new.1 k))
         (subst (λ (count : ℕ). StandsFor (b (length jobs + 1)) keep count (length jobs + 1) job entry.credit entry.standing) (sym (length_pushed jobs job)) fresh)
 
@@ -96,24 +101,29 @@ pub ended_by : (number : ℕ) (job : AdmittedJob) (outcome : Result Report ℕ) 
 ended_by number job (Ok report) ends = ends
 ended_by number job (Err code) ends = inr (inr ends)
 
+-- what is over isn't open
+pub over_open : (outcome : Result Report ℕ) → Open ≡ standing_of outcome → ⊥
+over_open (Ok report) is = cc
+over_open (Err code) is = cc
+
 -- its standing then
 stands_settled : (held : Option AdmittedJob) (keep : KeepLimits) (count number : ℕ) (job : AdmittedJob) (credit : ℕ) (outcome : Result Report ℕ) → credit ≡ job.credit → Ended number job outcome
-    → StandsFor held keep count number job credit (settled credit outcome)
+    → StandsFor held keep count number (Itself job) credit (settled credit outcome)
 stands_settled held keep count number job credit (Ok report) same ends =
     let whole = ends.final.whole in
     let adds : nat_eq (report.spent + report.returned) credit ≡ true = grind (arith, nat_tests, whole, same) in
-    subst (λ (b : Bool). StandsFor held keep count number job credit (if◌then◌else◌ {A = JobStanding} b (Reported report) (Failed 82))) (sym adds) ends
+    subst (λ (b : Bool). StandsFor held keep count number (Itself job) credit (if◌then◌else◌ {A = JobStanding} b (Reported report) (Failed 82))) (sym adds) ends
 stands_settled held keep count number job credit (Err code) same ends = inl ends
 
-stand_changed : (keep : KeepLimits) (jobs : List AdmittedJob) (entries : List JobEntry) (a b : ℕ → Option AdmittedJob) (number : ℕ) (changed : JobEntry) → 1 ≤ number → AllStand keep jobs entries a
-    → ((n : ℕ) → n ≢ number → b n ≡ a n) → ((job : AdmittedJob) → slice_get jobs (number - 1) ≡ Some job → StandsFor (b number) keep (length jobs) number job changed.credit changed.standing)
+stand_changed : (keep : KeepLimits) (jobs : List KnownJob) (entries : List JobEntry) (a b : ℕ → Option AdmittedJob) (number : ℕ) (changed : JobEntry) → 1 ≤ number → AllStand keep jobs entries a
+    → ((n : ℕ) → n ≢ number → b n ≡ a n) → ((job : KnownJob) → slice_get jobs (number - 1) ≡ Some job → StandsFor (b number) keep (length jobs) number job changed.credit changed.standing)
     → AllStand keep jobs (slice_set entries (number - 1) changed) b
 stand_changed keep jobs entries a b number changed some was others here = record {
   count = length_set entries (number - 1) changed ∙ was.count;
   each = λ i x j at there. one i x j (get_set entries (number - 1) changed i x at) there;
 }
   where
-    one : (i : ℕ) (x : JobEntry) (j : AdmittedJob) → ((i ≡ number - 1) × (changed ≡ x)) ⊎ ((i ≢ number - 1) × (slice_get entries i ≡ Some x)) → slice_get jobs i ≡ Some j → StandsFor (b (i + 1)) keep (length jobs) (i + 1) j x.credit x.standing
+    one : (i : ℕ) (x : JobEntry) (j : KnownJob) → ((i ≡ number - 1) × (changed ≡ x)) ⊎ ((i ≢ number - 1) × (slice_get entries i ≡ Some x)) → slice_get jobs i ≡ Some j → StandsFor (b (i + 1)) keep (length jobs) (i + 1) j x.credit x.standing
     one i x j (inl t) there =
         let is = t.0 in
         let number_is : number ≡ i + 1 = omega (arith, is, some) in
@@ -124,7 +134,7 @@ stand_changed keep jobs entries a b number changed some was others here = record
         stands_more (a (i + 1)) (b (i + 1)) keep (length jobs) (length jobs) (i + 1) j x.credit x.standing (λ opened. others (i + 1) (λ same. apart (omega (arith, same)))) (omega arith) (was.each i x j t.1 there)
 
 -- an open job ends as a job that was taken under its number ends
-pub stand_finished : (keep : KeepLimits) (jobs : List AdmittedJob) (old : Ledger) (a b : ℕ → Option AdmittedJob) (number : ℕ) (outcome : Result Report ℕ) (new : Ledger) → AllStand keep jobs old.jobs a
+pub stand_finished : (keep : KeepLimits) (jobs : List KnownJob) (old : Ledger) (a b : ℕ → Option AdmittedJob) (number : ℕ) (outcome : Result Report ℕ) (new : Ledger) → AllStand keep jobs old.jobs a
     → ((n : ℕ) → n ≢ number → b n ≡ a n) → ((job : AdmittedJob) → a number ≡ Some job → Ended number job outcome) → Finishes old number outcome new → AllStand keep jobs new.jobs b
 stand_finished keep jobs old a b number outcome new was others ends f =
     let there = job_there old.jobs number f.entry f.was in
@@ -132,21 +142,23 @@ stand_finished keep jobs old a b number outcome new was others ends f =
     (stand_changed keep jobs old.jobs a b number (record f.entry { standing = settled f.entry.credit outcome }) there.0 was others
     (λ job at. ended job (by_open job (was.each (number - 1) f.entry job there.1 at))))
   where
-    by_open : (job : AdmittedJob) → StandsFor (a (number - 1 + 1)) keep (length jobs) (number - 1 + 1) job f.entry.credit f.entry.standing → (a number ≡ Some job) × (f.entry.credit ≡ job.credit)
+    by_open : (job : KnownJob) → StandsFor (a (number - 1 + 1)) keep (length jobs) (number - 1 + 1) job f.entry.credit f.entry.standing → StandsFor (a number) keep (length jobs) number job f.entry.credit Open
     by_open job stands =
         let some = (job_there old.jobs number f.entry f.was).0 in
         let is : number - 1 + 1 ≡ number = omega (arith, some) in
         let P : ℕ × JobStanding → Type 0 = λ p. StandsFor (a p.0) keep (length jobs) p.0 job f.entry.credit p.1 in
         subst P (λ k. (is k, f.opened k)) stands
 
-    ended : (job : AdmittedJob) → (a number ≡ Some job) × (f.entry.credit ≡ job.credit) → StandsFor (b number) keep (length jobs) number job f.entry.credit (settled f.entry.credit outcome)
-    ended job t = stands_settled (b number) keep (length jobs) number job f.entry.credit outcome t.1 (ends job t.0)
+    ended : (job : KnownJob) → StandsFor (a number) keep (length jobs) number job f.entry.credit Open → StandsFor (b number) keep (length jobs) number job f.entry.credit (settled f.entry.credit outcome)
+    ended (Itself job) t = stands_settled (b number) keep (length jobs) number job f.entry.credit outcome t.1 (ends job t.0)
+    ended (Over result) (inl is) = absurd (over_open result is)
+    ended (Over result) (inr gone) = let clash : Open ≡ Failed 76 = gone.0 in absurd cc
 
 -- a job that isn't open is noted in vain
-pub stand_noted : (keep : KeepLimits) (jobs : List AdmittedJob) (old : Ledger) (a b : ℕ → Option AdmittedJob) (number : ℕ) (outcome : Result Report ℕ) (new : Ledger) → AllStand keep jobs old.jobs a
-    → ((n : ℕ) → n ≢ number → b n ≡ a n) → ((job : AdmittedJob) → a number ≡ Some job → IsEndOf number job outcome) → Notes old number outcome new → AllStand keep jobs new.jobs b
+pub stand_noted : (keep : KeepLimits) (jobs : List KnownJob) (old : Ledger) (a b : ℕ → Option AdmittedJob) (number : ℕ) (outcome : Result Report ℕ) (new : Ledger) → AllStand keep jobs old.jobs a
+    → ((n : ℕ) → n ≢ number → b n ≡ a n) → ((job : AdmittedJob) → a number ≡ Some job → Ended number job outcome) → Notes old number outcome new → AllStand keep jobs new.jobs b
 stand_noted keep jobs old a b number outcome new was others ends (inl f) =
-    stand_finished keep jobs old a b number outcome new was others (λ job is. ended_by number job outcome (ends job is)) f
+    stand_finished keep jobs old a b number outcome new was others ends f
 stand_noted keep jobs old a b number outcome new was others ends (inr t) =
     subst (λ (l : Ledger). AllStand keep jobs l.jobs b) (sym t.1) (record {
       count = was.count;
@@ -162,7 +174,7 @@ stand_noted keep jobs old a b number outcome new was others ends (inr t) =
 
 -- ---- jobs are forgotten
 
-stand_forgotten : (keep : KeepLimits) (jobs : List AdmittedJob) (old : List JobEntry) (ahead : ℕ) (new : List JobEntry) (held : ℕ → Option AdmittedJob)
+stand_forgotten : (keep : KeepLimits) (jobs : List KnownJob) (old : List JobEntry) (ahead : ℕ) (new : List JobEntry) (held : ℕ → Option AdmittedJob)
     → AllStand keep jobs old held → ForgetsJobs old ahead new → IsKeptWithin keep old ahead new → AllStand keep jobs new held
 stand_forgotten keep jobs old ahead new held was f within = record {
   count = f.count ∙ was.count;
@@ -177,10 +189,14 @@ stand_forgotten keep jobs old ahead new held was f within = record {
         by_why (inl t) = let some = t.0 in let few = t.1 in let count = was.count in inl (some, omega (arith, less, few, count))
         by_why (inr t) = inr t.0
 
+    gone_stands : (h : Option AdmittedJob) (count number : ℕ) (job : KnownJob) (credit : ℕ) → MayBeForgotten keep number count → StandsFor h keep count number job credit (Failed 76)
+    gone_stands h count number (Itself job) credit may = inr (refl, may)
+    gone_stands h count number (Over outcome) credit may = inr (refl, may)
+
     before : (i : ℕ) (x : JobEntry) → slice_get new i ≡ Some x → (w : JobEntry) × (slice_get old i ≡ Some w)
     before i x at = let lt = slice_get_within new i x at in let long = f.count in get_within old i (omega (arith, lt, long))
 
-    one : (i : ℕ) (x : JobEntry) (j : AdmittedJob) → slice_get new i ≡ Some x → slice_get jobs i ≡ Some j → (i < ahead) ⊎ (ahead ≤ i)
+    one : (i : ℕ) (x : JobEntry) (j : KnownJob) → slice_get new i ≡ Some x → slice_get jobs i ≡ Some j → (i < ahead) ⊎ (ahead ≤ i)
         → StandsFor (held (i + 1)) keep (length jobs) (i + 1) j x.credit x.standing
     one i x j at there (inr behind) =
         let w = before i x at in
@@ -191,7 +207,7 @@ stand_forgotten keep jobs old ahead new held was f within = record {
         by : (w : JobEntry) → slice_get old i ≡ Some w → (w ≡ x) ⊎ (IsJobOver w × IsGone x) → StandsFor (held (i + 1)) keep (length jobs) (i + 1) j x.credit x.standing
         by w at_old (inl same) = was.each i x j (at_old ∙ ap Some same) there
         by w at_old (inr gone) =
-            subst (StandsFor (held (i + 1)) keep (length jobs) (i + 1) j x.credit) (sym gone.1.standing) (inr (refl, why i less within.needed))
+            subst (StandsFor (held (i + 1)) keep (length jobs) (i + 1) j x.credit) (sym gone.1.standing) (gone_stands (held (i + 1)) (length jobs) (i + 1) j x.credit (why i less within.needed))
 
-pub stand_kept : (keep : KeepLimits) (jobs : List AdmittedJob) (old new : Ledger) (held : ℕ → Option AdmittedJob) → AllStand keep jobs old.jobs held → KeepsWithin keep old new → AllStand keep jobs new.jobs held
+pub stand_kept : (keep : KeepLimits) (jobs : List KnownJob) (old new : Ledger) (held : ℕ → Option AdmittedJob) → AllStand keep jobs old.jobs held → KeepsWithin keep old new → AllStand keep jobs new.jobs held
 stand_kept keep jobs old new held was keeps = stand_forgotten keep jobs old.jobs keeps.0 new.jobs held was keeps.1.forgets.jobs keeps.1.within

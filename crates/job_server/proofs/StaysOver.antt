@@ -1,5 +1,5 @@
 -- A job that is over stays as it is, until it is forgotten.
-use Rattle.std.proofs.Common.{◌≡◌, ◌≢◌, ◌⊎◌, ◌+◌, ◌-◌, ◌<◌, ◌≤◌, ℕ, zero, suc, true, false, true≢false, List, [], ◌∷◌, ◌++◌, length, slice_get, slice_set, Option, Some, None, Result, Ok, Err, refl, sym, ap, subst, ◌∙◌, inl, inr, arith}
+use Rattle.std.proofs.Common.{◌≡◌, ◌≢◌, ◌⊎◌, ◌-◌, ◌<◌, ◌≤◌, ℕ, zero, suc, true, false, true≢false, List, [], ◌∷◌, ◌++◌, length, slice_get, slice_set, Option, Some, None, Result, Ok, Err, refl, sym, ap, subst, ◌∙◌, inl, inr, arith}
 use Rattle.std.proofs.lemmas.Bool.{cases_eq, cases_lt}
 use Rattle.serde_json.specs.Data.{Data}
 use Rattle.credit_book.specs.declared.book.Report.{Report}
@@ -13,15 +13,14 @@ use Rattle.job_core.specs.Admitted.{AdmittedJob}
 use Rattle.accounts.specs.Jobs.{job_at, is_open, report_of, settled}
 use Rattle.accounts.specs.Ledgers.{Ledger, Finishes, report_at, report_in, KeepsWithin}
 use Rattle.accounts.specs.Forgetting.{ForgetsJobs}
-use Rattle.job_server.specs.Kept.{answers_keeping}
 use Rattle.sessions.specs.Grammar.{Asked, grant, account, submit, status, result}
 use Rattle.streams.specs.Passing.{Taken, none_yet as none_taken, one_more as one_taken, Notes}
 use Rattle.streams.specs.Answering.{Replies, Grants, GrantsNone, Settles, Submits, report_told, refused}
 use Rattle.sessions.specs.Replies.{reply_data, frame_or_refusal}
-use Rattle.job_server.specs.declared.keeping_handler.KeepingHandler.{KeepingHandler}
-use Rattle.shared_desk.specs.Histories.{HistoryEntry, Replays, by_any_passage, none_yet as nothing_replayed, one_more as one_replayed}
+use Rattle.shared_desk.specs.Histories.{HistoryEntry, Query, Replays, none_yet as nothing_replayed, one_more as one_replayed}
 use Rattle.job_server.specs.EndToEnd.{StaysTold, HasReply}
-use Rattle.job_server.proofs.ListEnds.{get_before, get_joined, get_behind, length_same, last_same, last_of, none_pushed, joined_again}
+use Rattle.job_server.proofs.HostAnswers.{AnswersOnce, IsHost}
+use Rattle.job_server.proofs.ListEnds.{get_before, last_same, last_of, none_pushed, joined_again}
 use Rattle.job_server.proofs.StandsFor.{job_is, job_there}
 use Rattle.job_server.proofs.ReplyFrames.{is_framed}
 
@@ -87,6 +86,10 @@ stay_forgotten old ahead new f i entry at over = by_place (cases_lt i ahead)
 stay_kept : (keep : KeepLimits) (old new : Ledger) → KeepsWithin keep old new → StayOver old.jobs new.jobs
 stay_kept keep old new keeps = stay_forgotten old.jobs keeps.0 new.jobs keeps.1.forgets.jobs
 
+kept_or_same : (keep : KeepLimits) (old new : Ledger) → KeepsWithin keep old new ⊎ (new ≡ old) → StayOver old.jobs new.jobs
+kept_or_same keep old new (inl keeps) = stay_kept keep old new keeps
+kept_or_same keep old new (inr same) = stay_same old.jobs new.jobs (ap (λ (l : Ledger). l.jobs) same)
+
 -- ---- a desk and a runner
 
 module _ {R : Type 0} (starts : R → ℕ → AdmittedJob → Result (Unit {0}) ℕ → R → Type 0) (looks : R → ℕ → Progress → R → Type 0) (takes : R → Option (ℕ × Result Report ℕ) → R → Type 0) where
@@ -116,11 +119,11 @@ module _ {R : Type 0} (starts : R → ℕ → AdmittedJob → Result (Unit {0}) 
   stay_replied d r (Ok (status number)) told a s t = stay_same d.jobs a.jobs (ap (λ (l : Ledger). l.jobs) t.3)
   stay_replied d r (Ok (result number)) told a s t = stay_same d.jobs a.jobs (ap (λ (l : Ledger). l.jobs) t.1)
 
-  stay_answered : (x : Ledger × KeepingHandler R) (query : Result Asked ℕ) (reply : List ℕ) (y : Ledger × KeepingHandler R) → answers_keeping starts looks takes x query reply y → StayOver x.0.jobs y.0.jobs
-  stay_answered x query reply y answers =
-      let a = answers.0.1 in
-      stay_on x.0.jobs a.mid.jobs y.0.jobs (stay_taken x.0 x.1.runner a.mid a.passed.last a.passed.taken)
-      (stay_on a.mid.jobs answers.0.0.jobs y.0.jobs (stay_replied a.mid a.rest query (reply_data a.told) answers.0.0 y.1.runner a.replies) (stay_kept x.1.keep answers.0.0 y.0 answers.0.2))
+  stay_answered : (keep : KeepLimits) (d : Ledger) (r : R) (e : HistoryEntry) (a : Ledger) (s : R) → AnswersOnce starts looks takes keep d r e a s → StayOver d.jobs a.jobs
+  stay_answered keep d r e a s once =
+      let b = once.answered in
+      stay_on d.jobs b.mid.jobs a.jobs (stay_taken d r b.mid b.passed.last b.passed.taken)
+      (stay_on b.mid.jobs once.mid.jobs a.jobs (stay_replied b.mid b.rest e.query.asked (reply_data b.told) once.mid s b.replies) (kept_or_same keep once.mid a once.kept))
 
   -- a request for a result is told what the desk has of it
   pub reported_there : (d : Ledger) (r : R) (number : ℕ) (told : Data) (m : Ledger) (s : R) (query : Result Asked ℕ) → query ≡ Ok (result number) → Replies starts looks d r query told m s → told ≡ report_told (report_at d number)
@@ -167,26 +170,26 @@ result_stays d e (suc n) stays =
 
 -- ---- from one entry of a history to a later one
 
-module _ {R : Type 0} (starts : R → ℕ → AdmittedJob → Result (Unit {0}) ℕ → R → Type 0) (looks : R → ℕ → Progress → R → Type 0) (takes : R → Option (ℕ × Result Report ℕ) → R → Type 0)
-    (begins : Ledger × KeepingHandler R → Type 0) where
+module _ {R S : Type 0} (starts : R → ℕ → AdmittedJob → Result (Unit {0}) ℕ → R → Type 0) (looks : R → ℕ → Progress → R → Type 0) (takes : R → Option (ℕ × Result Report ℕ) → R → Type 0)
+    (answers : S → Query → List ℕ → S → Type 0) (desk : S → Ledger) (runner : S → R) (keeping : S → KeepLimits) (host : IsHost starts looks takes answers desk runner keeping) (begins : S → Type 0) where
   -- the states about an entry, and what stays from there to the end
-  pub record IsAt (before : List HistoryEntry) (e : HistoryEntry) (end : Ledger × KeepingHandler R) : Type 0 where
-    pub old : Ledger × KeepingHandler R
-    pub new : Ledger × KeepingHandler R
-    pub legal : Replays (by_any_passage (answers_keeping starts looks takes)) begins before old
-    pub answered : answers_keeping starts looks takes old e.query.asked e.reply new
-    pub stays : StayOver new.0.jobs end.0.jobs
+  pub record IsAt (before : List HistoryEntry) (e : HistoryEntry) (end : S) : Type 0 where
+    pub old : S
+    pub new : S
+    pub legal : Replays answers begins before old
+    pub answered : answers old e.query e.reply new
+    pub stays : StayOver (desk new).jobs (desk end).jobs
 
-  pub is_at : (before after : List HistoryEntry) (e : HistoryEntry) (history : List HistoryEntry) (end : Ledger × KeepingHandler R) → Replays (by_any_passage (answers_keeping starts looks takes)) begins history end → history ≡ before ++ e ∷ after → IsAt before e end
+  pub is_at : (before after : List HistoryEntry) (e : HistoryEntry) (history : List HistoryEntry) (end : S) → Replays answers begins history end → history ≡ before ++ e ∷ after → IsAt before e end
   is_at before after e history end (nothing_replayed s first) is = absurd (none_pushed before after e is)
   is_at before [] e history end (one_replayed h s x t legal answered) is =
       let same = last_same h before x e is in
       record {
         old = s;
         new = t;
-        legal = subst (λ l. Replays (by_any_passage (answers_keeping starts looks takes)) begins l s) same.0 legal;
-        answered = subst (λ (y : HistoryEntry). answers_keeping starts looks takes s y.query.asked y.reply t) same.1 answered;
-        stays = stay_same t.0.jobs t.0.jobs refl;
+        legal = subst (λ l. Replays answers begins l s) same.0 legal;
+        answered = subst (λ (y : HistoryEntry). answers s y.query y.reply t) same.1 answered;
+        stays = stay_same (desk t).jobs (desk t).jobs refl;
       }
   is_at before (a ∷ after) e history end (one_replayed h s x t legal answered) is =
       let parted = last_of a after in
@@ -197,36 +200,36 @@ module _ {R : Type 0} (starts : R → ℕ → AdmittedJob → Result (Unit {0}) 
         new = early.new;
         legal = early.legal;
         answered = early.answered;
-        stays = stay_on early.new.0.jobs s.0.jobs t.0.jobs early.stays (stay_answered starts looks takes s x.query.asked x.reply t answered);
+        stays = stay_on (desk early.new).jobs (desk s).jobs (desk t).jobs early.stays (stay_answered starts looks takes (keeping s) (desk s) (runner s) x (desk t) (runner t) (host.once s x t answered).1);
       }
 
   -- the desk by which a result is told
   record IsToldBy (number : ℕ) (old : Ledger) (e : HistoryEntry) (new : Ledger) : Type 0 where
-    desk : Ledger
-    before : StayOver old.jobs desk.jobs
-    after : StayOver desk.jobs new.jobs
-    tells : HasReply e (report_told (report_at desk number))
+    telling : Ledger
+    before : StayOver old.jobs telling.jobs
+    after : StayOver telling.jobs new.jobs
+    tells : HasReply e (report_told (report_at telling number))
 
-  told_by : (number : ℕ) (x : Ledger × KeepingHandler R) (e : HistoryEntry) (y : Ledger × KeepingHandler R) → answers_keeping starts looks takes x e.query.asked e.reply y → e.query.asked ≡ Ok (result number) → IsToldBy number x.0 e y.0
-  told_by number x e y answers asks =
-      let a = answers.0.1 in
-      let is = reported_there starts looks takes a.mid a.rest number (reply_data a.told) answers.0.0 y.1.runner e.query.asked asks a.replies in
+  told_by : (number : ℕ) (keep : KeepLimits) (d : Ledger) (r : R) (e : HistoryEntry) (a : Ledger) (s : R) → AnswersOnce starts looks takes keep d r e a s → e.query.asked ≡ Ok (result number) → IsToldBy number d e a
+  told_by number keep d r e a s once asks =
+      let b = once.answered in
+      let is = reported_there starts looks takes b.mid b.rest number (reply_data b.told) once.mid s e.query.asked asks b.replies in
       record {
-        desk = a.mid;
-        before = stay_taken starts looks takes x.0 x.1.runner a.mid a.passed.last a.passed.taken;
-        after = stay_on a.mid.jobs answers.0.0.jobs y.0.jobs (stay_replied starts looks takes a.mid a.rest e.query.asked (reply_data a.told) answers.0.0 y.1.runner a.replies) (stay_kept x.1.keep answers.0.0 y.0 answers.0.2);
-        tells = a.frame ∙ is_framed a.told ∙ ap frame_or_refusal is;
+        telling = b.mid;
+        before = stay_taken starts looks takes d r b.mid b.passed.last b.passed.taken;
+        after = stay_on b.mid.jobs once.mid.jobs a.jobs (stay_replied starts looks takes b.mid b.rest e.query.asked (reply_data b.told) once.mid s b.replies) (kept_or_same keep once.mid a once.kept);
+        tells = b.frame ∙ is_framed b.told ∙ ap frame_or_refusal is;
       }
 
-  pub results_stay : (before between after : List HistoryEntry) (e f : HistoryEntry) (number : ℕ) (end : Ledger × KeepingHandler R) → Replays (by_any_passage (answers_keeping starts looks takes)) begins (before ++ e ∷ (between ++ f ∷ after)) end
+  pub results_stay : (before between after : List HistoryEntry) (e f : HistoryEntry) (number : ℕ) (end : S) → Replays answers begins (before ++ e ∷ (between ++ f ∷ after)) end
       → e.query.asked ≡ Ok (result number) → f.query.asked ≡ Ok (result number) → StaysTold e f
   results_stay before between after e f number end legal asks_e asks_f =
       let at_f = is_at (before ++ e ∷ between) after f (before ++ e ∷ (between ++ f ∷ after)) end legal (sym (joined_again before e between (f ∷ after))) in
       let at_e = is_at before between e (before ++ e ∷ between) at_f.old at_f.legal refl in
-      let by_e = told_by number at_e.old e at_e.new at_e.answered asks_e in
-      let by_f = told_by number at_f.old f at_f.new at_f.answered asks_f in
-      let stays = stay_on by_e.desk.jobs at_e.new.0.jobs by_f.desk.jobs by_e.after (stay_on at_e.new.0.jobs at_f.old.0.jobs by_f.desk.jobs at_e.stays by_f.before) in
-      by_told by_e.desk by_f.desk by_e.tells by_f.tells (result_stays by_e.desk by_f.desk number stays)
+      let by_e = told_by number (keeping at_e.old) (desk at_e.old) (runner at_e.old) e (desk at_e.new) (runner at_e.new) (host.once at_e.old e at_e.new at_e.answered).1 asks_e in
+      let by_f = told_by number (keeping at_f.old) (desk at_f.old) (runner at_f.old) f (desk at_f.new) (runner at_f.new) (host.once at_f.old f at_f.new at_f.answered).1 asks_f in
+      let stays = stay_on by_e.telling.jobs (desk at_e.new).jobs by_f.telling.jobs by_e.after (stay_on (desk at_e.new).jobs (desk at_f.old).jobs by_f.telling.jobs at_e.stays by_f.before) in
+      by_told by_e.telling by_f.telling by_e.tells by_f.tells (result_stays by_e.telling by_f.telling number stays)
     where
       by_told : (d g : Ledger) → HasReply e (report_told (report_at d number)) → HasReply f (report_told (report_at g number)) → StaysAt d g number → StaysTold e f
       by_told d g tells_e tells_f (inl unknown) = inl (tells_e ∙ ap frame_or_refusal unknown)

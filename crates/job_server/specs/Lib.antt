@@ -13,3 +13,4 @@ pub mod TenantServing
 pub mod ReplyJournals
 pub mod TenantRecorded
 pub mod Recorded
+pub mod AfterRestart

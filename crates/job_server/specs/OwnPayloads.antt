@@ -1,5 +1,5 @@
 -- From the payload of a submit to the payload of its result, where a tenant's name may be left out.
-use Rattle.std.specs.Prelude.{◌≡◌, ℕ, List, Ok}
+use Rattle.std.specs.Prelude.{ℕ, List, Ok}
 use Rattle.sessions.specs.Grammar.{Asked, result}
 use Rattle.shared_desk.specs.Histories.{HistoryEntry}
 use Rattle.shared_desk.specs.declared.closed.ClosedConnection.{ClosedConnection}
