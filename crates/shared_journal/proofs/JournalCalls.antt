@@ -1,5 +1,5 @@
 -- What the calls of a journal come to, step by step.
-use Rattle.std.proofs.Common.{◌≡◌, ℕ, true, false, true≢false, List, [], ◌∷◌, ◌++◌, Option, Some, None, Result, Ok, Err, refl, sym, ap, ◌∙◌, subst, append_assoc}
+use Rattle.std.proofs.Common.{◌≡◌, ℕ, true, false, true≢false, ◌+◌, ◌≤◌, List, [], ◌∷◌, ◌++◌, length, Option, Some, None, Result, Ok, Err, refl, sym, ap, ◌∙◌, subst, arith, append_assoc}
 use Rattle.std.specs.Prelude.{OnOk, OnErr}
 use mathlib.Core.List.{IsPrefix}
 use Rattle.atomic_table.specs.Table.{Me, rest}
@@ -12,8 +12,8 @@ use Rattle.shared_journal.specs.declared.journal_part.JournalPart.{JournalPart}
 use Rattle.shared_journal.specs.declared.seat_views.JournalEntry.{JournalEntry}
 use Rattle.shared_journal.specs.declared.seat_views.JournalView.{JournalView}
 use Rattle.shared_journal.specs.JournalHistories.{entries_by, journal_bytes}
-use Rattle.shared_journal.specs.JournalRule.{KeepsDurable, own_entry, with_record, with_each_taken, TakesWaiting, TakesLog, PutsRecord, SeesWaiting, TakesBytes, WritesAll, WritesNone, CommitsAll, CommitsNone}
-use Rattle.shared_journal.proofs.JournalLists.{whole_prefix, longer_prefix, bytes_both}
+use Rattle.shared_journal.specs.JournalRule.{KeepsDurable, own_entry, with_record, with_each_taken, TakesWaiting, TakesLog, PutsRecord, SeesWaiting, TakesBytes, WritesAll, WritesNone, CommitsAll, CommitsNone, SeesEach}
+use Rattle.shared_journal.proofs.JournalLists.{whole_prefix, prefix_through, bytes_both}
 
 abbrev pub Held : Type 0
 Held = Me JournalPart JournalView
@@ -31,8 +31,11 @@ same_part slot a b held more others one two = ap (part_or a) (sym one ∙ two)
 
 -- ---- those that wait
 
+abbrev pub counted_view : JournalView → ℕ → List JournalEntry → List JournalEntry → JournalView
+counted_view v count taken waits = record v { has_waiting = true; count = count; taken = taken; waits = waits }
+
 abbrev pub waiting_view : JournalView → List JournalEntry → List JournalEntry → JournalView
-waiting_view v taken waits = record v { has_waiting = true; taken = taken; waits = waits }
+waiting_view v taken waits = counted_view v (length (taken ++ waits)) taken waits
 
 pub waiting_there : (v w : Held) (t : TakesWaiting v w) → w.1 ≡ (0, t.part) ∷ rest w.1
 waiting_there v w t = first_held 0 t.part w.1 v.1 (ap (λ (m : Held). m.1) t.is)
@@ -57,20 +60,55 @@ gives_waiting v y taken waits put is bytes = (
   (put, first_held 0 put y.1 v.1 (ap (λ (m : Held). m.1) is), bytes ∙ sym (ap (λ (m : Held). journal_bytes m.0.waits) is)),
 )
 
-pub gives_record : (v y : Held) (taken waits : List JournalEntry) (put : JournalPart) (bytes : List ℕ) → ◌≡◌ {A = Held} y (waiting_view v.0 taken waits, (0, put) ∷ v.1)
+-- another number is counted
+pub counts_more : (v y z : Held) (taken waits : List JournalEntry) (put : JournalPart) (n : ℕ) → ◌≡◌ {A = Held} y (waiting_view v.0 taken waits, (0, put) ∷ v.1)
+    → ◌≡◌ {A = Held} z (record y.0 { count = n }, y.1) → ◌≡◌ {A = Held} z (counted_view v.0 n taken waits, (0, put) ∷ v.1)
+counts_more v y z taken waits put n is counted = counted ∙ ap (λ (m : Held). (record m.0 { count = n }, m.1)) is
+
+pub gives_record : (v y : Held) (taken waits : List JournalEntry) (put : JournalPart) (n : ℕ) (bytes : List ℕ) → ◌≡◌ {A = Held} y (counted_view v.0 n taken waits, (0, put) ∷ v.1)
     → put.bytes.items ≡ journal_bytes waits ++ bytes
     → (y.0.has_waiting ≡ true) × ((part : JournalPart) × (y.1 ≡ (0, part) ∷ rest y.1) × (part.bytes.items ≡ journal_bytes y.0.waits ++ bytes))
-gives_record v y taken waits put bytes is are = (
+gives_record v y taken waits put n bytes is are = (
   ap (λ (m : Held). m.0.has_waiting) is,
   (put, first_held 0 put y.1 v.1 (ap (λ (m : Held). m.1) is), are ∙ sym (ap (λ (m : Held). journal_bytes m.0.waits ++ bytes) is)),
 )
 
+-- what is known of the number
+pub counts_more_than : (v y : Held) (n : ℕ) (taken waits : List JournalEntry) (held : List (ℕ × JournalPart)) → ◌≡◌ {A = Held} y (counted_view v.0 n taken waits, held)
+    → n ≡ length (taken ++ waits) + 1 → y.0.count ≡ length (y.0.taken ++ y.0.waits) + 1
+counts_more_than v y n taken waits held is e = subst (λ (m : Held). m.0.count ≡ length (m.0.taken ++ m.0.waits) + 1) (sym is) e
+
+pub counts_each : (v y : Held) (taken waits : List JournalEntry) (held : List (ℕ × JournalPart)) → ◌≡◌ {A = Held} y (waiting_view v.0 taken waits, held)
+    → y.0.count ≡ length (y.0.taken ++ y.0.waits)
+counts_each v y taken waits held is = subst (λ (m : Held). m.0.count ≡ length (m.0.taken ++ m.0.waits)) (sym is) refl
+
+pub counted_by : (v w : Held) (t : TakesWaiting v w) (n : ℕ) → n ≡ w.0.count → n ≡ length (t.taken ++ t.waits)
+counted_by v w t n e = e ∙ ap (λ (m : Held). m.0.count) t.is
+
+pub one_more : (n k : ℕ) → n ≡ k → n + 1 ≡ k + 1
+one_more n k e = ap (λ (m : ℕ). m + 1) e
+
+pub no_fewer : (v y : Held) (n : ℕ) (taken waits : List JournalEntry) (held : List (ℕ × JournalPart)) → ◌≡◌ {A = Held} y (waiting_view v.0 taken waits, held)
+    → n ≡ length (taken ++ waits) → length (y.0.taken ++ y.0.waits) ≤ n + 1
+no_fewer v y n taken waits held is e =
+    let all : length (y.0.taken ++ y.0.waits) ≡ length (taken ++ waits) = ap (λ (m : Held). length (m.0.taken ++ m.0.waits)) is in omega (arith, all, e)
+
+pub still_held : (v y : Held) (taken waits : List JournalEntry) (held : List (ℕ × JournalPart)) → ◌≡◌ {A = Held} y (waiting_view v.0 taken waits, held) → y.0.has_waiting ≡ true
+still_held v y taken waits held is = ap (λ (m : Held). m.0.has_waiting) is
+
+-- so many were taken
+pub taken_count : (v x z : Held) (n : ℕ) (taken waits : List JournalEntry) (held : List (ℕ × JournalPart)) → ◌≡◌ {A = Held} x (waiting_view v.0 taken waits, held)
+    → ◌≡◌ {A = Held} z (with_each_taken x.0, rest x.1) → n ≡ length (taken ++ waits) → n ≡ length z.0.taken
+taken_count v x z n taken waits held is given e =
+    e ∙ sym (ap (λ (m : Held). length m.0.taken) given ∙ ap (λ (m : Held). length (m.0.taken ++ m.0.waits)) is)
+
 -- a record was put in
-pub puts : (v w y z : Held) (t : TakesWaiting v w) (put : JournalPart) (bytes : List ℕ) → ◌≡◌ {A = Held} y (waiting_view v.0 t.taken t.waits, (0, put) ∷ v.1)
+pub puts : (v w y z : Held) (t : TakesWaiting v w) (put : JournalPart) (n : ℕ) (bytes : List ℕ) → ◌≡◌ {A = Held} y (counted_view v.0 n t.taken t.waits, (0, put) ∷ v.1)
     → entries_by y.0.number ((y.0.taken ++ y.0.waits) ++ own_entry y.0 bytes ∷ []) ≡ y.0.own ++ own_entry y.0 bytes ∷ []
     → ◌≡◌ {A = Held} z (with_record y.0 (own_entry y.0 bytes), rest y.1) → PutsRecord v bytes z
-puts v w y z t put bytes is own given =
+puts v w y z t put n bytes is own given =
     record {
+      count = n;
       taken = t.taken;
       waits = t.waits;
       seen = t.seen;
@@ -82,7 +120,7 @@ puts v w y z t put bytes is own given =
 pub sees : (v w y z : Held) (t : TakesWaiting v w) (put : JournalPart) → ◌≡◌ {A = Held} y (waiting_view v.0 t.taken t.waits, (0, put) ∷ v.1)
     → ◌≡◌ {A = Held} z (record y.0 { has_waiting = false }, rest y.1) → SeesWaiting v z
 sees v w y z t put is given =
-    record { taken = t.taken; waits = t.waits; is = given ∙ ap (λ (m : Held). (record m.0 { has_waiting = false }, rest m.1)) is }
+    record { count = length (t.taken ++ t.waits); taken = t.taken; waits = t.waits; is = given ∙ ap (λ (m : Held). (record m.0 { has_waiting = false }, rest m.1)) is }
 
 -- all of them were taken
 pub gives_none : (v y : Held) (taken waits : List JournalEntry) (put : JournalPart) → ◌≡◌ {A = Held} y (waiting_view v.0 taken waits, (0, put) ∷ v.1) → put.bytes.items ≡ []
@@ -106,12 +144,12 @@ takes_bytes v w x z t put got logging is there given =
 -- nothing was written
 pub none_written : (v : Held) → v.0.has_waiting ≡ false → WritesNone v v
 none_written v free =
-    record { seen = v.0.seen; taken = v.0.taken; waits = v.0.waits; later = whole_prefix v.0.seen; is = λ i. (record v.0 { has_waiting = free i }, v.1) }
+    record { count = v.0.count; seen = v.0.seen; taken = v.0.taken; waits = v.0.waits; later = whole_prefix v.0.seen; is = λ i. (record v.0 { has_waiting = free i }, v.1) }
 
 -- what was taken was not written
 pub taken_for_none : (v w : Held) (bytes : List ℕ) → TakesBytes v bytes w → WritesNone v w
 taken_for_none v w bytes t =
-    record { seen = v.0.taken ++ t.waits; taken = v.0.taken ++ t.waits; waits = t.waits; later = t.seen; is = t.is }
+    record { count = length (v.0.taken ++ t.waits); seen = v.0.taken ++ t.waits; taken = v.0.taken ++ t.waits; waits = t.waits; later = t.seen; is = t.is }
 
 pub taken_and_written : (v w : Held) (bytes : List ℕ) → v.0.written ≡ v.0.taken → TakesBytes v bytes w → WritesAll v w
 taken_and_written v w bytes before t = record { waits = t.waits; before = before; seen = t.seen; is = t.is }
@@ -160,20 +198,18 @@ keeps_same first taken written old new log failed keeps =
       whole = λ e. ap file_state log ∙ keeps.whole (sym failed ∙ e);
     }
 
-pub written_ok : (v w : Held) (bytes : List ℕ) (old new : CommitLog FileLog) (r : Result (Unit {0}) LogFault) → TakesBytes v bytes w → KeepsDurable v.0.first v.0.taken v.0.written old → old.has_failed ≡ false
-    → OnOk r ((file_state old.log).pending ≡ [] → file_state new.log ≡ record { durable = (file_state old.log).durable ++ bytes; pending = [] })
-    → OnOk r (WritesAll v w × KeepsDurable w.0.first w.0.taken w.0.taken new)
-written_ok v w bytes old new (Ok done) t keeps goes state = (
+pub written_ok : (v w : Held) (bytes : List ℕ) (old new : CommitLog FileLog) → TakesBytes v bytes w → KeepsDurable v.0.first v.0.taken v.0.written old → old.has_failed ≡ false
+    → ((file_state old.log).pending ≡ [] → file_state new.log ≡ record { durable = (file_state old.log).durable ++ bytes; pending = [] })
+    → WritesAll v w × KeepsDurable w.0.first w.0.taken w.0.taken new
+written_ok v w bytes old new t keeps goes state = (
   taken_and_written v w bytes (keeps.all goes) t,
   keeps_more v w bytes old new t keeps goes (state (ap (λ (s : LogState). s.pending) (keeps.whole goes))),
 )
-written_ok v w bytes old new (Err fault) t keeps goes state = tt
 
-pub written_err : (v w : Held) (bytes : List ℕ) (old new : CommitLog FileLog) (r : Result (Unit {0}) LogFault) → TakesBytes v bytes w → KeepsDurable v.0.first v.0.taken v.0.written old
-    → OnErr r (new.has_failed ≡ true) → OnErr r ((file_state new.log).durable ≡ (file_state old.log).durable)
-    → OnErr r (WritesNone v w × KeepsDurable w.0.first w.0.taken w.0.written new)
-written_err v w bytes old new (Ok done) t keeps stops kept = tt
-written_err v w bytes old new (Err fault) t keeps stops kept = (taken_for_none v w bytes t, keeps_old v w bytes old new t keeps stops kept)
+pub written_err : (v w : Held) (bytes : List ℕ) (old new : CommitLog FileLog) → TakesBytes v bytes w → KeepsDurable v.0.first v.0.taken v.0.written old
+    → new.has_failed ≡ true → (file_state new.log).durable ≡ (file_state old.log).durable
+    → WritesNone v w × KeepsDurable w.0.first w.0.taken w.0.written new
+written_err v w bytes old new t keeps stops kept = (taken_for_none v w bytes t, keeps_old v w bytes old new t keeps stops kept)
 
 abbrev pub log_view : JournalView → List JournalEntry → List JournalEntry → JournalView
 log_view v taken written = record v { has_log = true; taken = taken; written = written }
@@ -220,35 +256,74 @@ gives_log_up y z put commits logging is has keeps = (
   (put, commits, first_held 1 put z.1 (rest y.1) (ap (λ (m : Held). m.1) is), has, subst (λ (m : Held). KeepsDurable m.0.first m.0.taken m.0.written commits) (sym is) keeps),
 )
 
-pub commits_all : (v w x y z a : Held) (t : TakesLog v w) (spare put : JournalPart) → x ≡ (w.0, (1, spare) ∷ rest w.1) → (all : WritesAll x y) → ◌≡◌ {A = Held} z (y.0, (1, put) ∷ rest y.1)
-    → ◌≡◌ {A = Held} a (record z.0 { has_log = false; durable = z.0.taken }, rest z.1) → CommitsAll v a
-commits_all v w x y z a t spare put is all back given =
+-- all that it saw was durable
+pub commits_seen : (u v w : Held) (n : ℕ) → u.0.has_waiting ≡ false → u.0.has_log ≡ false → SeesEach u n v → ◌≡◌ {A = Held} w (record v.0 { durable = v.0.seen }, v.1) → CommitsAll u w
+commits_seen u v w n free away sees is =
+    let seen_durable : Held → Held = λ m. (record m.0 { durable = m.0.seen }, m.1) in
+    record {
+      count = n;
+      all = sees.all;
+      taken = u.0.taken;
+      waits = u.0.waits;
+      written = u.0.written;
+      seen = sees.seen;
+      durable = sees.durable;
+      is = is ∙ (ap seen_durable sees.is
+          ∙ λ i. (record u.0 { has_waiting = free i; has_log = away i; count = n; seen = sees.all; durable = sees.all }, u.1));
+    }
+
+pub commits_all : (u v w x y z a : Held) (n : ℕ) (sees : SeesEach u n v) (t : TakesLog v w) (spare put : JournalPart) → x ≡ (w.0, (1, spare) ∷ rest w.1) → (all : WritesAll x y) → ◌≡◌ {A = Held} z (y.0, (1, put) ∷ rest y.1)
+    → ◌≡◌ {A = Held} a (record z.0 { has_log = false; durable = z.0.taken }, rest z.1) → CommitsAll u a
+commits_all u v w x y z a n sees t spare put is all back given =
     let here : ◌≡◌ {A = Held} x (log_view v.0 t.taken t.written, (1, spare) ∷ v.1) = log_one v w x t spare is in
     let settled : Held → Held = λ m. (record m.0 { has_log = false; durable = m.0.taken }, rest m.1) in
     let replaced : Held → Held = λ m. (m.0, (1, put) ∷ rest m.1) in
-    let written : Held → Held = λ m. (with_each_taken (record m.0 { has_waiting = true; waits = all.waits }), m.1) in
+    let written : Held → Held = λ m. (with_each_taken (record m.0 { has_waiting = true; count = length (m.0.taken ++ all.waits); waits = all.waits }), m.1) in
     let before : t.written ≡ t.taken = subst (λ (m : Held). m.0.written ≡ m.0.taken) here all.before in
+    let later : IsPrefix v.0.seen (t.taken ++ all.waits) = subst (λ (m : Held). IsPrefix m.0.seen (m.0.taken ++ all.waits)) here all.seen in
+    let all_seen : IsPrefix sees.all (t.taken ++ all.waits) = subst (λ (m : Held). IsPrefix m.0.seen (t.taken ++ all.waits)) sees.is later in
     record {
+      count = length (t.taken ++ all.waits);
       all = t.taken ++ all.waits;
+      taken = t.taken ++ all.waits;
       waits = all.waits;
       written = t.written;
-      seen = subst (λ (m : Held). IsPrefix m.0.seen (m.0.taken ++ all.waits)) here all.seen;
-      durable = longer_prefix v.0.durable t.taken all.waits (subst (λ (l : List JournalEntry). IsPrefix v.0.durable l) before t.durable);
-      is = given ∙ ap settled (back ∙ ap replaced (all.is ∙ ap written here));
+      seen = prefix_through u.0.seen sees.all (t.taken ++ all.waits) sees.seen all_seen;
+      durable = prefix_through u.0.durable sees.all (t.taken ++ all.waits) sees.durable all_seen;
+      is = given ∙ (ap settled (back ∙ ap replaced (all.is ∙ ap written here))
+          ∙ ap (λ (m : Held). (record m.0 { has_waiting = false; has_log = false; count = length (t.taken ++ all.waits); seen = t.taken ++ all.waits; durable = t.taken ++ all.waits; taken = t.taken ++ all.waits; waits = all.waits; written = t.written }, m.1)) sees.is);
     }
 
-pub commits_none : (v w x y z a : Held) (t : TakesLog v w) (spare put : JournalPart) → x ≡ (w.0, (1, spare) ∷ rest w.1) → (old : WritesNone x y) → ◌≡◌ {A = Held} z (y.0, (1, put) ∷ rest y.1)
-    → ◌≡◌ {A = Held} a (record z.0 { has_log = false }, rest z.1) → CommitsNone v a
-commits_none v w x y z a t spare put is old back given =
+pub commits_none : (u v w x y z a : Held) (n : ℕ) (sees : SeesEach u n v) (t : TakesLog v w) (spare put : JournalPart) → x ≡ (w.0, (1, spare) ∷ rest w.1) → (old : WritesNone x y) → ◌≡◌ {A = Held} z (y.0, (1, put) ∷ rest y.1)
+    → ◌≡◌ {A = Held} a (record z.0 { has_log = false }, rest z.1) → CommitsNone u a
+commits_none u v w x y z a n sees t spare put is old back given =
     let here : ◌≡◌ {A = Held} x (log_view v.0 t.taken t.written, (1, spare) ∷ v.1) = log_one v w x t spare is in
     let settled : Held → Held = λ m. (record m.0 { has_log = false }, rest m.1) in
     let replaced : Held → Held = λ m. (m.0, (1, put) ∷ rest m.1) in
-    let written : Held → Held = λ m. (record m.0 { has_waiting = false; seen = old.seen; taken = old.taken; waits = old.waits }, m.1) in
+    let written : Held → Held = λ m. (record m.0 { has_waiting = false; count = old.count; seen = old.seen; taken = old.taken; waits = old.waits }, m.1) in
+    let later : IsPrefix v.0.seen old.seen = subst (λ (m : Held). IsPrefix m.0.seen old.seen) here old.later in
     record {
+      count = old.count;
       seen = old.seen;
       taken = old.taken;
       waits = old.waits;
       written = t.written;
-      later = subst (λ (m : Held). IsPrefix m.0.seen old.seen) here old.later;
-      is = given ∙ ap settled (back ∙ ap replaced (old.is ∙ ap written here));
+      later = prefix_through u.0.seen sees.all old.seen sees.seen (subst (λ (m : Held). IsPrefix m.0.seen old.seen) sees.is later);
+      is = given ∙ (ap settled (back ∙ ap replaced (old.is ∙ ap written here))
+          ∙ ap (λ (m : Held). (record m.0 { has_waiting = false; has_log = false; count = old.count; seen = old.seen; taken = old.taken; waits = old.waits; written = t.written }, m.1)) sees.is);
     }
+
+-- what the seat saw before it takes the log
+pub seen_count : (u v : Held) (n : ℕ) → SeesEach u n v → n ≡ v.0.count
+seen_count u v n sees = sym (ap (λ (m : Held). m.0.count) sees.is)
+
+pub seen_most : (u v : Held) (n : ℕ) → SeesEach u n v → length v.0.seen ≤ v.0.count
+seen_most u v n sees = subst (λ (m : Held). length m.0.seen ≤ m.0.count) (sym sees.is) sees.most
+
+pub seen_free : (u v w x : Held) (n : ℕ) (sees : SeesEach u n v) (t : TakesLog v w) (put : JournalPart) → u.0.has_waiting ≡ false → x ≡ (w.0, (1, put) ∷ rest w.1)
+    → (x.0.has_log ≡ true) × (x.0.has_waiting ≡ false)
+seen_free u v w x n sees t put free is =
+    let here : ◌≡◌ {A = Held} x (log_view v.0 t.taken t.written, (1, put) ∷ v.1) = log_one v w x t put is in (
+      ap (λ (m : Held). m.0.has_log) here,
+      ap (λ (m : Held). m.0.has_waiting) here ∙ (ap (λ (m : Held). m.0.has_waiting) sees.is ∙ free),
+    )

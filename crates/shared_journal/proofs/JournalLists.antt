@@ -1,9 +1,10 @@
 -- Records of one seat among others, their bytes, and beginnings of lists.
-use Rattle.std.proofs.Common.{◌≡◌, ◌≢◌, ◌==◌, ◌⊎◌, inl, inr, ℕ, ◌<◌, Bool, true, false, List, [], ◌∷◌, ◌++◌, length, set, if◌then◌else◌, refl, sym, ap, ◌∙◌, zero, suc, arith, append_assoc}
+use Rattle.std.proofs.Common.{◌≡◌, ◌≢◌, ◌==◌, ◌⊎◌, inl, inr, ℕ, ◌<◌, ◌≤◌, ◌+◌, Bool, true, false, List, [], ◌∷◌, ◌++◌, length, set, if◌then◌else◌, refl, sym, ap, ◌∙◌, zero, suc, arith, append_assoc}
 use Rattle.std.proofs.lemmas.Bool.Decides.{nat_tests}
 use mathlib.Core.Option.{some, some-ne-none, some-injective}
 use mathlib.Core.List.{IsPrefix}
 use lib.ListN.{get_elem?}
+use Rattle.std.proofs.lemmas.List.{length-append}
 use Rattle.shared_journal.specs.declared.seat_views.JournalEntry.{JournalEntry}
 use Rattle.shared_journal.specs.JournalHistories.{entries_by, journal_bytes}
 
@@ -17,6 +18,29 @@ prefix_through xs ys zs p q = (p.0 ++ q.0, sym (append_assoc xs p.0 q.0) ∙ (ap
 -- a list longer by something begins with it
 pub longer_prefix : {A : Type 0} (xs ys zs : List A) → IsPrefix xs ys → IsPrefix xs (ys ++ zs)
 longer_prefix xs ys zs p = (p.0 ++ zs, sym (append_assoc xs p.0 zs) ∙ ap (λ w. w ++ zs) p.1)
+
+pub prefix_length : {A : Type 0} (xs ys : List A) → IsPrefix xs ys → length xs ≤ length ys
+prefix_length xs ys p =
+    let l : length (xs ++ p.0) ≡ length xs + length p.0 = length-append xs p.0 in
+    let all : length (xs ++ p.0) ≡ length ys = ap length p.1 in omega (arith, l, all)
+
+-- of two beginnings of a list the shorter one is a beginning of the other
+pub shorter_prefix : {A : Type 0} (xs ys zs : List A) → IsPrefix xs zs → IsPrefix ys zs → length xs ≤ length ys → IsPrefix xs ys
+shorter_prefix xs ys zs p q le = inside xs ys p.0 q.0 (p.1 ∙ sym q.1) le
+  where
+    head_or : {A : Type 0} → A → List A → A
+    head_or other [] = other
+    head_or other (z ∷ zs) = z
+
+    tail_of : {A : Type 0} → List A → List A
+    tail_of [] = []
+    tail_of (z ∷ zs) = zs
+
+    inside : {A : Type 0} (xs ys more others : List A) → xs ++ more ≡ ys ++ others → length xs ≤ length ys → IsPrefix xs ys
+    inside [] ys more others same le = (ys, refl)
+    inside (x ∷ xs) [] more others same le = absurd (omega (arith, le))
+    inside (x ∷ xs) (y ∷ ys) more others same le =
+        let further = inside xs ys more others (ap tail_of same) (omega (arith, le)) in (further.0, λ i. ap (head_or x) same i ∷ further.1 i)
 
 -- of two lists with one beginning the rest is the same
 pub same_rest : {A : Type 0} (xs ys zs : List A) → xs ++ ys ≡ xs ++ zs → ys ≡ zs

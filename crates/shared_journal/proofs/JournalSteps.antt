@@ -1,6 +1,7 @@
 -- Each step keeps the rule of a journal's table.
-use Rattle.std.proofs.Common.{◌≡◌, ◌≢◌, ◌==◌, ◌⊎◌, inl, inr, ℕ, ◌<◌, ◌≤◌, Bool, true, false, true≢false, List, [], ◌∷◌, ◌++◌, length, set, Some, refl, sym, ap, ◌∙◌, subst, ⊎_elim, zero, suc, arith, append_assoc}
+use Rattle.std.proofs.Common.{◌≡◌, ◌≢◌, ◌==◌, ◌⊎◌, inl, inr, ℕ, ◌<◌, ◌≤◌, ◌+◌, max, leb, Bool, true, false, true≢false, List, [], ◌∷◌, ◌++◌, length, set, Some, refl, sym, ap, ◌∙◌, subst, ⊎_elim, zero, suc, arith, append_assoc}
 use Rattle.std.specs.Prelude.{MatchBool, slice_index, slice_set}
+use Rattle.std.proofs.lemmas.Bool.{leb-true}
 use Rattle.std.proofs.lemmas.Bool.Decides.{nat_tests}
 use mathlib.Core.Option.{Option, none, some, some-ne-none, some-injective}
 use mathlib.Core.List.{IsPrefix}
@@ -15,8 +16,8 @@ use Rattle.shared_journal.specs.declared.journal_part.JournalPart.{JournalPart}
 use Rattle.shared_journal.specs.declared.seat_views.JournalEntry.{JournalEntry}
 use Rattle.shared_journal.specs.declared.seat_views.JournalView.{JournalView}
 use Rattle.shared_journal.specs.JournalHistories.{entries_by, journal_bytes}
-use Rattle.shared_journal.specs.JournalRule.{JournalFacts, KeepsDurable, FitsJournal, IsJournal, journal_founder, own_entry, with_record, with_each_taken, held_bytes, Watches, TakesWaiting, TriesWaiting, StaysAsItIs, ReturnsWaiting, AddsRecord, TakesEach, TakesLog, TriesLog, SettlesLog, ReturnsLog, FailsIt, LooksAtIt}
-use Rattle.shared_journal.proofs.JournalLists.{whole_prefix, prefix_through, longer_prefix, same_rest, entries_own, entries_other, bytes_more, nothing_behind, set_length, more_length, there_below, at_end_or}
+use Rattle.shared_journal.specs.JournalRule.{JournalFacts, KeepsDurable, AreCounted, words_of, FitsJournal, IsJournal, journal_founder, own_entry, with_record, with_each_taken, held_bytes, Watches, TakesWaiting, TriesWaiting, StaysAsItIs, ReturnsWaiting, AddsRecord, TakesEach, TakesLog, TriesLog, SettlesLog, ReturnsLog, FailsIt, LooksAtIt, SeesEach, LooksAtEach, LooksAtDurable, FindsCount, Counts}
+use Rattle.shared_journal.proofs.JournalLists.{whole_prefix, prefix_through, longer_prefix, same_rest, entries_own, entries_other, bytes_more, nothing_behind, set_length, more_length, there_below, at_end_or, prefix_length, shorter_prefix}
 
 off : false ≡ true → ⊥
 off e = true≢false (sym e)
@@ -51,18 +52,27 @@ others_set : (added : List JournalEntry) (views : List JournalView) (id : ℕ) (
 others_set added views id w others n le = others n (omega (arith, set_length views id w, le))
 
 -- the words, once one is changed
-set_first : (ws : List ℕ) (a b c n : ℕ) → ws ≡ a ∷ b ∷ c ∷ [] → slice_set ws 0 n ≡ n ∷ b ∷ c ∷ []
-set_first ws a b c n is = ap (λ (l : List ℕ). slice_set l 0 n) is
+set_first : (ws : List ℕ) (f : JournalFacts) (n : ℕ) → ws ≡ words_of f → slice_set ws 0 n ≡ words_of (record f { waiting_word = n })
+set_first ws f n is = ap (λ (l : List ℕ). slice_set l 0 n) is
 
-set_second : (ws : List ℕ) (a b c n : ℕ) → ws ≡ a ∷ b ∷ c ∷ [] → slice_set ws 1 n ≡ a ∷ n ∷ c ∷ []
-set_second ws a b c n is = ap (λ (l : List ℕ). slice_set l 1 n) is
+set_second : (ws : List ℕ) (f : JournalFacts) (n : ℕ) → ws ≡ words_of f → slice_set ws 1 n ≡ words_of (record f { log_word = n })
+set_second ws f n is = ap (λ (l : List ℕ). slice_set l 1 n) is
 
-set_third : (ws : List ℕ) (a b c n : ℕ) → ws ≡ a ∷ b ∷ c ∷ [] → slice_set ws 2 n ≡ a ∷ b ∷ n ∷ []
-set_third ws a b c n is = ap (λ (l : List ℕ). slice_set l 2 n) is
+set_third : (ws : List ℕ) (f : JournalFacts) (n : ℕ) → ws ≡ words_of f → slice_set ws 2 n ≡ words_of (record f { failed_word = n })
+set_third ws f n is = ap (λ (l : List ℕ). slice_set l 2 n) is
+
+set_fourth : (ws : List ℕ) (f : JournalFacts) (n : ℕ) → ws ≡ words_of f → slice_set ws 3 n ≡ words_of (record f { added_word = n })
+set_fourth ws f n is = ap (λ (l : List ℕ). slice_set l 3 n) is
 
 -- a word that is written as it is
-set_word : (ws : List ℕ) (a b c : ℕ) → ws ≡ a ∷ b ∷ c ∷ [] → slice_set ws 2 (slice_index ws 2) ≡ a ∷ b ∷ c ∷ []
-set_word ws a b c is = ap (λ (l : List ℕ). slice_set l 2 (slice_index l 2)) is
+set_word : (ws : List ℕ) (f : JournalFacts) → ws ≡ words_of f → slice_set ws 2 (slice_index ws 2) ≡ words_of f
+set_word ws f is = ap (λ (l : List ℕ). slice_set l 2 (slice_index l 2)) is
+
+set_added : (ws : List ℕ) (f : JournalFacts) → ws ≡ words_of f → slice_set ws 3 (slice_index ws 3) ≡ words_of f
+set_added ws f is = ap (λ (l : List ℕ). slice_set l 3 (slice_index l 3)) is
+
+set_durable : (ws : List ℕ) (f : JournalFacts) → ws ≡ words_of f → slice_set ws 4 (slice_index ws 4) ≡ words_of f
+set_durable ws f is = ap (λ (l : List ℕ). slice_set l 4 (slice_index l 4)) is
 
 -- the homes, once a part is put back
 back_first : (hs : List (Option JournalPart)) (a b : Option JournalPart) (held : List (ℕ × JournalPart)) (p : JournalPart)
@@ -87,7 +97,7 @@ marked_held n held e = held (marked_free n e)
 -- the table at the start
 pub begins_journal : (first : List ℕ) (waiting log : JournalPart) (commits : CommitLog FileLog) (homes : List (Option JournalPart)) → homes ≡ some waiting ∷ some log ∷ []
     → waiting.bytes.items ≡ [] → log.commits ≡ Some commits → commits.has_failed ≡ false → file_state commits.log ≡ record { durable = first; pending = [] }
-    → IsJournal first (0 ∷ 0 ∷ 0 ∷ []) homes (journal_founder first ∷ [])
+    → IsJournal first (0 ∷ 0 ∷ 0 ∷ 0 ∷ 0 ∷ []) homes (journal_founder first ∷ [])
 begins_journal first waiting log commits homes homes_are none_wait has goes whole =
     record {
       facts = facts;
@@ -98,6 +108,7 @@ begins_journal first waiting log commits homes homes_are none_wait has goes whol
       homes_are = homes_are;
       split = refl;
       synced = whole_prefix [];
+      counts = (λ e. refl, omega arith, omega arith);
       waiting = λ e. (waiting, refl, none_wait);
       log = λ e. (
         log,
@@ -115,7 +126,7 @@ begins_journal first waiting log commits homes homes_are none_wait has goes whol
     }
   where
     facts : JournalFacts
-    facts = record { waiting_word = 0; log_word = 0; failed_word = 0; waiting_at = 0; log_at = 0; first = first; added = []; taken = []; waits = []; durable = [] }
+    facts = record { waiting_word = 0; log_word = 0; failed_word = 0; added_word = 0; durable_word = 0; waiting_at = 0; log_at = 0; first = first; added = []; taken = []; waits = []; durable = [] }
 
     one : (j : ℕ) (v : JournalView) → get_elem? (journal_founder first ∷ []) j ≡ some v → FitsJournal facts j v
     one zero v e =
@@ -128,7 +139,7 @@ pub watches : (slots : ℕ) (first : List ℕ) (st : Step JournalPart) (v : Me J
     → Enters (Journaling first) slots 2 (λ n w. Watches st v n (w, []))
 watches slots first st v begins s kept homes fits =
     let f = kept.facts in
-    let w : JournalView = record { number = length s.views; first = f.first; seen = f.added; own = []; durable = f.durable; is_failed = false; has_waiting = false; has_log = false; taken = []; waits = []; written = [] } in
+    let w : JournalView = record { number = length s.views; first = f.first; seen = f.added; own = []; durable = f.durable; is_failed = false; has_waiting = false; has_log = false; count = 0; taken = []; waits = []; written = [] } in
     let mine : FitsJournal f (length s.views) w = record { number = refl; first = refl; seen = whole_prefix f.added; own = kept.others (length s.views) (omega arith); durable = whole_prefix f.durable; failed = λ t. absurd (off t); waiting = λ t. absurd (off t); log = λ t. absurd (off t) } in (
       w,
       record {
@@ -140,6 +151,7 @@ watches slots first st v begins s kept homes fits =
         homes_are = kept.homes_are;
         split = kept.split;
         synced = kept.synced;
+        counts = kept.counts;
         waiting = kept.waiting;
         log = kept.log;
         each = λ j u e. ⊎_elim
@@ -172,12 +184,13 @@ module _ (first : List ℕ) (slots id : ℕ) (me : Me JournalPart JournalView) (
         record {
           facts = g;
           begun = kept.begun;
-          words_are = set_third s.words f.waiting_word f.log_word f.failed_word 1 kept.words_are;
+          words_are = set_third s.words f 1 kept.words_are;
           waiting_home = kept.waiting_home;
           log_home = kept.log_home;
           homes_are = kept.homes_are;
           split = kept.split;
           synced = kept.synced;
+          counts = kept.counts;
           waiting = kept.waiting;
           log = kept.log;
           each = each_set f g s.views id w kept.each
@@ -203,12 +216,13 @@ module _ (first : List ℕ) (slots id : ℕ) (me : Me JournalPart JournalView) (
           record {
             facts = kept.facts;
             begun = kept.begun;
-            words_are = set_word s.words kept.facts.waiting_word kept.facts.log_word kept.facts.failed_word kept.words_are;
+            words_are = set_word s.words kept.facts kept.words_are;
             waiting_home = kept.waiting_home;
             log_home = kept.log_home;
             homes_are = kept.homes_are;
             split = kept.split;
             synced = kept.synced;
+            counts = kept.counts;
             waiting = kept.waiting;
             log = kept.log;
             each = each_set kept.facts kept.facts s.views id w kept.each (λ j u apart t. t) mine;
@@ -253,10 +267,11 @@ module _ (first : List ℕ) (slots id : ℕ) (me : Me JournalPart JournalView) (
           homes_are = kept.homes_are;
           split = kept.split;
           synced = kept.synced;
+          counts = (λ e. kept.counts.0 (marked_free f.waiting_word e), kept.counts.1, kept.counts.2);
           waiting = λ e. kept.waiting (marked_free f.waiting_word e);
           log = kept.log;
           each = stays f g s at kept.each
-              (λ j u t. record { number = t.number; first = t.first; seen = t.seen; own = t.own; durable = t.durable; failed = t.failed; waiting = λ e. (marked_held f.waiting_word (t.waiting e).0, (t.waiting e).1, (t.waiting e).2, (t.waiting e).3); log = t.log });
+              (λ j u t. record { number = t.number; first = t.first; seen = t.seen; own = t.own; durable = t.durable; failed = t.failed; waiting = λ e. (marked_held f.waiting_word (t.waiting e).0, (t.waiting e).1, (t.waiting e).2, (t.waiting e).3, (t.waiting e).4); log = t.log });
           others = others_set f.added s.views id me.0 kept.others;
         },
         refl,
@@ -278,6 +293,7 @@ module _ (first : List ℕ) (slots id : ℕ) (me : Me JournalPart JournalView) (
           homes_are = kept.homes_are;
           split = kept.split;
           synced = kept.synced;
+          counts = kept.counts;
           waiting = kept.waiting;
           log = λ e. kept.log (marked_free f.log_word e);
           each = stays f g s at kept.each
@@ -311,25 +327,27 @@ module _ (first : List ℕ) (slots id : ℕ) (me : Me JournalPart JournalView) (
           let free : f.waiting_word ≡ 0 = sym is_word ∙ zero_found in
           let home = kept.waiting free in
           let part : JournalPart = home.0 in
+          let counted : length (f.taken ++ f.waits) ≡ f.added_word = ap length (sym kept.split) ∙ sym (kept.counts.0 free) in
           let g : JournalFacts = record f { waiting_word = held; waiting_at = id } in
-          let w : JournalView = record me.0 { has_waiting = true; taken = f.taken; waits = f.waits } in (
+          let w : JournalView = record me.0 { has_waiting = true; count = length (f.taken ++ f.waits); taken = f.taken; waits = f.waits } in (
             w,
             takes 0 part,
             ap (λ (l : List (Option JournalPart)). get_elem? l 0) kept.homes_are ∙ ap some home.1,
             record {
               facts = g;
               begun = kept.begun;
-              words_are = set_first s.words f.waiting_word f.log_word f.failed_word held kept.words_are;
+              words_are = set_first s.words f held kept.words_are;
               waiting_home = none;
               log_home = kept.log_home;
               homes_are = ap (λ (l : List (Option JournalPart)). set l 0 none) kept.homes_are;
               split = kept.split;
               synced = kept.synced;
+              counts = (λ e. absurd (some_held e), kept.counts.1, kept.counts.2);
               waiting = λ e. absurd (some_held e);
               log = kept.log;
               each = each_set f g s.views id w kept.each
                   (λ j u apart t. record { number = t.number; first = t.first; seen = t.seen; own = t.own; durable = t.durable; failed = t.failed; waiting = λ e. absurd ((t.waiting e).0 free); log = t.log })
-                  (record { number = mine.number; first = mine.first; seen = mine.seen; own = mine.own; durable = mine.durable; failed = mine.failed; waiting = λ e. (some_held, refl, refl, refl); log = λ e. let l = mine.log e in (l.0, l.1, refl, l.3) });
+                  (record { number = mine.number; first = mine.first; seen = mine.seen; own = mine.own; durable = mine.durable; failed = mine.failed; waiting = λ e. (some_held, refl, refl, refl, counted); log = λ e. let l = mine.log e in (l.0, l.1, refl, l.3) });
               others = others_set f.added s.views id w kept.others;
             },
             record {
@@ -356,6 +374,7 @@ module _ (first : List ℕ) (slots id : ℕ) (me : Me JournalPart JournalView) (
           homes_are = kept.homes_are;
           split = kept.split;
           synced = kept.synced;
+          counts = kept.counts;
           waiting = kept.waiting;
           log = kept.log;
           each = stays f f s at kept.each (λ j u t. t);
@@ -396,17 +415,18 @@ module _ (first : List ℕ) (slots id : ℕ) (me : Me JournalPart JournalView) (
             record {
               facts = g;
               begun = kept.begun;
-              words_are = set_second s.words f.waiting_word f.log_word f.failed_word held kept.words_are;
+              words_are = set_second s.words f held kept.words_are;
               waiting_home = kept.waiting_home;
               log_home = none;
               homes_are = ap (λ (l : List (Option JournalPart)). set l 1 none) kept.homes_are;
               split = kept.split;
               synced = kept.synced;
+              counts = kept.counts;
               waiting = kept.waiting;
               log = λ e. absurd (some_held e);
               each = each_set f g s.views id w kept.each
                   (λ j u apart t. record { number = t.number; first = t.first; seen = t.seen; own = t.own; durable = t.durable; failed = t.failed; waiting = t.waiting; log = λ e. absurd ((t.log e).0 free) })
-                  (record { number = mine.number; first = mine.first; seen = mine.seen; own = mine.own; durable = mine.durable; failed = mine.failed; waiting = λ e. let l = mine.waiting e in (l.0, l.1, refl, l.3); log = λ e. (some_held, refl, refl, refl) });
+                  (record { number = mine.number; first = mine.first; seen = mine.seen; own = mine.own; durable = mine.durable; failed = mine.failed; waiting = λ e. let l = mine.waiting e in (l.0, l.1, refl, l.3, l.4); log = λ e. (some_held, refl, refl, refl) });
               others = others_set f.added s.views id w kept.others;
             },
             record {
@@ -433,6 +453,7 @@ module _ (first : List ℕ) (slots id : ℕ) (me : Me JournalPart JournalView) (
           homes_are = kept.homes_are;
           split = kept.split;
           synced = kept.synced;
+          counts = kept.counts;
           waiting = kept.waiting;
           log = kept.log;
           each = stays f f s at kept.each (λ j u t. t);
@@ -443,12 +464,14 @@ module _ (first : List ℕ) (slots id : ℕ) (me : Me JournalPart JournalView) (
 
   -- those that wait are given back as they were
   pub returns_waiting : (part : JournalPart) → me.0.has_waiting ≡ true → me.1 ≡ (0, part) ∷ rest me.1 → part.bytes.items ≡ journal_bytes me.0.waits
+      → me.0.count ≡ length (me.0.taken ++ me.0.waits)
       → Allows (Journaling first) slots id me 0 (λ n. 0) (ReturnsWaiting st me)
-  returns_waiting part holding has bytes s kept homes at fits =
+  returns_waiting part holding has bytes counted s kept homes at fits =
       let f = kept.facts in
       let g : JournalFacts = record f { waiting_word = 0 } in
       let mine = kept.each id me.0 at in
       let held = mine.waiting holding in
+      let all : me.0.taken ++ me.0.waits ≡ f.added = (λ i. held.2 i ++ held.3 i) ∙ sym kept.split in
       let w : JournalView = record me.0 { has_waiting = false } in (
         w,
         gives,
@@ -456,12 +479,13 @@ module _ (first : List ℕ) (slots id : ℕ) (me : Me JournalPart JournalView) (
         record {
           facts = g;
           begun = kept.begun;
-          words_are = set_first s.words f.waiting_word f.log_word f.failed_word 0 kept.words_are;
+          words_are = set_first s.words f 0 kept.words_are;
           waiting_home = some part;
           log_home = kept.log_home;
           homes_are = back_first s.homes kept.waiting_home kept.log_home me.1 part kept.homes_are has;
           split = kept.split;
           synced = kept.synced;
+          counts = (λ e. sym held.4 ∙ (counted ∙ ap length all), kept.counts.1, kept.counts.2);
           waiting = λ e. (part, refl, bytes ∙ ap journal_bytes held.3);
           log = kept.log;
           each = each_set f g s.views id w kept.each
@@ -474,8 +498,9 @@ module _ (first : List ℕ) (slots id : ℕ) (me : Me JournalPart JournalView) (
 
   -- those that wait are given back with a record behind them
   pub adds_record : (part : JournalPart) (bytes : List ℕ) → me.0.has_waiting ≡ true → me.1 ≡ (0, part) ∷ rest me.1 → part.bytes.items ≡ journal_bytes me.0.waits ++ bytes
+      → me.0.count ≡ length (me.0.taken ++ me.0.waits) + 1
       → Allows (Journaling first) slots id me 0 (λ n. 0) (AddsRecord st me)
-  adds_record part bytes holding has are s kept homes at fits =
+  adds_record part bytes holding has are counted s kept homes at fits =
       let f = kept.facts in
       let e : JournalEntry = own_entry me.0 bytes in
       let g : JournalFacts = record f { waiting_word = 0; added = f.added ++ e ∷ []; waits = f.waits ++ e ∷ [] } in
@@ -483,6 +508,7 @@ module _ (first : List ℕ) (slots id : ℕ) (me : Me JournalPart JournalView) (
       let held = mine.waiting holding in
       let w : JournalView = with_record me.0 e in
       let all : me.0.taken ++ me.0.waits ≡ f.added = (λ i. held.2 i ++ held.3 i) ∙ sym kept.split in
+      let longer : f.added_word ≡ length (f.added ++ e ∷ []) = sym held.4 ∙ (counted ∙ (ap (λ (l : List JournalEntry). length l + 1) all ∙ sym (one_more f.added e))) in
       let own : entries_by id (f.added ++ e ∷ []) ≡ me.0.own ++ e ∷ [] = entries_own id f.added e mine.number ∙ ap (λ (l : List JournalEntry). l ++ e ∷ []) mine.own in (
         w,
         gives,
@@ -490,12 +516,13 @@ module _ (first : List ℕ) (slots id : ℕ) (me : Me JournalPart JournalView) (
         record {
           facts = g;
           begun = kept.begun;
-          words_are = set_first s.words f.waiting_word f.log_word f.failed_word 0 kept.words_are;
+          words_are = set_first s.words f 0 kept.words_are;
           waiting_home = some part;
           log_home = kept.log_home;
           homes_are = back_first s.homes kept.waiting_home kept.log_home me.1 part kept.homes_are has;
           split = ap (λ (l : List JournalEntry). l ++ e ∷ []) kept.split ∙ append_assoc f.taken f.waits (e ∷ []);
           synced = kept.synced;
+          counts = (λ z. longer, (let l = longer in omega (arith, l)), kept.counts.2);
           waiting = λ z. (part, refl, are ∙ (ap (λ (l : List JournalEntry). journal_bytes l ++ bytes) held.3 ∙ sym (bytes_more f.waits e)));
           log = kept.log;
           each = each_set f g s.views id w kept.each
@@ -531,13 +558,17 @@ module _ (first : List ℕ) (slots id : ℕ) (me : Me JournalPart JournalView) (
         },
       )
     where
+      one_more : (es : List JournalEntry) (x : JournalEntry) → length (es ++ x ∷ []) ≡ length es + 1
+      one_more es x = let m = more_length es x in omega (arith, m)
+
       below_apart : (a n len : ℕ) → a < len → len ≤ n → a ≡ n → ⊥
       below_apart a n len lt le same = absurd (omega (arith, lt, le, same))
 
   -- all that wait are taken
   pub takes_each : (part : JournalPart) → me.0.has_waiting ≡ true → me.0.has_log ≡ true → me.1 ≡ (0, part) ∷ rest me.1 → part.bytes.items ≡ []
+      → me.0.count ≡ length (me.0.taken ++ me.0.waits)
       → Allows (Journaling first) slots id me 0 (λ n. 0) (TakesEach st me)
-  takes_each part holding logging has none_left s kept homes at fits =
+  takes_each part holding logging has none_left counted s kept homes at fits =
       let f = kept.facts in
       let g : JournalFacts = record f { waiting_word = 0; taken = f.taken ++ f.waits; waits = [] } in
       let mine = kept.each id me.0 at in
@@ -551,12 +582,13 @@ module _ (first : List ℕ) (slots id : ℕ) (me : Me JournalPart JournalView) (
         record {
           facts = g;
           begun = kept.begun;
-          words_are = set_first s.words f.waiting_word f.log_word f.failed_word 0 kept.words_are;
+          words_are = set_first s.words f 0 kept.words_are;
           waiting_home = some part;
           log_home = kept.log_home;
           homes_are = back_first s.homes kept.waiting_home kept.log_home me.1 part kept.homes_are has;
           split = kept.split ∙ sym (nothing_behind (f.taken ++ f.waits));
           synced = longer_prefix f.durable f.taken f.waits kept.synced;
+          counts = (λ z. sym held.4 ∙ (counted ∙ (ap length both ∙ ap length (sym kept.split))), kept.counts.1, kept.counts.2);
           waiting = λ z. (part, refl, none_left);
           log = λ z. absurd (log.0 z);
           each = each_set f g s.views id w kept.each
@@ -592,12 +624,13 @@ module _ (first : List ℕ) (slots id : ℕ) (me : Me JournalPart JournalView) (
         record {
           facts = g;
           begun = kept.begun;
-          words_are = set_second s.words f.waiting_word f.log_word f.failed_word 0 kept.words_are;
+          words_are = set_second s.words f 0 kept.words_are;
           waiting_home = kept.waiting_home;
           log_home = some part;
           homes_are = back_second s.homes kept.waiting_home kept.log_home me.1 part kept.homes_are has;
           split = kept.split;
           synced = whole_prefix f.taken;
+          counts = (kept.counts.0, kept.counts.1, (let c = kept.counts.2 in let l = prefix_length f.durable f.taken kept.synced in omega (arith, c, l)));
           waiting = kept.waiting;
           log = λ z. (part, commits, refl, is_some, subst (λ (x : List ℕ × List JournalEntry). KeepsDurable x.0 x.1 x.1 commits) (λ i. (mine.first i, log.2 i)) whole);
           each = each_set f g s.views id w kept.each
@@ -633,12 +666,13 @@ module _ (first : List ℕ) (slots id : ℕ) (me : Me JournalPart JournalView) (
         record {
           facts = g;
           begun = kept.begun;
-          words_are = set_second s.words f.waiting_word f.log_word f.failed_word 0 kept.words_are;
+          words_are = set_second s.words f 0 kept.words_are;
           waiting_home = kept.waiting_home;
           log_home = some part;
           homes_are = back_second s.homes kept.waiting_home kept.log_home me.1 part kept.homes_are has;
           split = kept.split;
           synced = kept.synced;
+          counts = kept.counts;
           waiting = kept.waiting;
           log = λ z. (part, commits, refl, is_some, subst (λ (x : List ℕ × (List JournalEntry × List JournalEntry)). KeepsDurable x.0 x.1.0 x.1.1 commits) (λ i. (mine.first i, (log.2 i, log.3 i))) whole);
           each = each_set f g s.views id w kept.each
@@ -648,6 +682,188 @@ module _ (first : List ℕ) (slots id : ℕ) (me : Me JournalPart JournalView) (
         },
         refl,
       )
+
+  -- all that was added is seen
+  pub sees_each : Allows (Journaling first) slots id me 3 (λ n. n) (LooksAtEach st me)
+  sees_each s kept homes at fits =
+      let f = kept.facts in
+      let mine = kept.each id me.0 at in
+      let w : JournalView = record me.0 { seen = f.added; count = found } in (
+        w,
+        keeps,
+        tt,
+        record {
+          facts = f;
+          begun = kept.begun;
+          words_are = set_added s.words f kept.words_are;
+          waiting_home = kept.waiting_home;
+          log_home = kept.log_home;
+          homes_are = kept.homes_are;
+          split = kept.split;
+          synced = kept.synced;
+          counts = kept.counts;
+          waiting = kept.waiting;
+          log = kept.log;
+          each = each_set f f s.views id w kept.each (λ j u apart t. t)
+              (record { number = mine.number; first = mine.first; seen = whole_prefix f.added; own = mine.own; durable = mine.durable; failed = mine.failed; waiting = λ e. let h = mine.waiting e in (h.0, h.1, h.2, h.3, is_word); log = mine.log });
+          others = others_set f.added s.views id w kept.others;
+        },
+        record { all = f.added; seen = mine.seen; durable = durable_added; most = subst (λ (n : ℕ). length f.added ≤ n) (sym is_word) kept.counts.1; is = refl },
+      )
+    where
+      found : ℕ
+      found = slice_index s.words 3
+
+      is_word : found ≡ kept.facts.added_word
+      is_word = ap (λ (l : List ℕ). slice_index l 3) kept.words_are
+
+      durable_added : IsPrefix me.0.durable kept.facts.added
+      durable_added =
+          let f = kept.facts in
+          subst (λ (l : List JournalEntry). IsPrefix me.0.durable l) (sym kept.split)
+          (longer_prefix me.0.durable f.taken f.waits (prefix_through me.0.durable f.durable f.taken (kept.each id me.0 at).durable kept.synced))
+
+  -- a look whether all that was seen is durable
+  pub looks_at_durable : length me.0.seen ≤ me.0.count → Allows (Journaling first) slots id me 4 (λ n. n) (LooksAtDurable st me)
+  looks_at_durable most s kept homes at fits = by (leb me.0.count found) refl
+    where
+      f : JournalFacts
+      f = kept.facts
+
+      found : ℕ
+      found = slice_index s.words 4
+
+      is_word : found ≡ f.durable_word
+      is_word = ap (λ (l : List ℕ). slice_index l 4) kept.words_are
+
+      mine : FitsJournal f id me.0
+      mine = kept.each id me.0 at
+
+      same : (w : JournalView) → FitsJournal f id w → IsJournal first (slice_set s.words 4 found) s.homes (set s.views id w)
+      same w fits_it =
+          record {
+            facts = f;
+            begun = kept.begun;
+            words_are = set_durable s.words f kept.words_are;
+            waiting_home = kept.waiting_home;
+            log_home = kept.log_home;
+            homes_are = kept.homes_are;
+            split = kept.split;
+            synced = kept.synced;
+            counts = kept.counts;
+            waiting = kept.waiting;
+            log = kept.log;
+            each = each_set f f s.views id w kept.each (λ j u apart t. t) fits_it;
+            others = others_set f.added s.views id w kept.others;
+          }
+
+      durable_added : IsPrefix f.durable f.added
+      durable_added = subst (λ (l : List JournalEntry). IsPrefix f.durable l) (sym kept.split) (longer_prefix f.durable f.taken f.waits kept.synced)
+
+      by : (b : Bool) → leb me.0.count found ≡ b
+          → (w : JournalView) × (a : Act JournalPart) × Valid s.homes me.1 a × IsJournal first (slice_set s.words 4 found) (homes_after s.homes me.1 a) (set s.views id w)
+          × MatchBool b (◌≡◌ {A = Me JournalPart JournalView} (w, carried_after me.1 a) (record me.0 { durable = me.0.seen }, me.1)) (◌≡◌ {A = Me JournalPart JournalView} (w, carried_after me.1 a) me)
+      by true t =
+          let counted = leb-true me.0.count found t in
+          let told = kept.counts.2 in
+          let short : length me.0.seen ≤ length f.durable = omega (arith, most, counted, is_word, told) in
+          let w : JournalView = record me.0 { durable = me.0.seen } in (
+            w,
+            keeps,
+            tt,
+            same w (record { number = mine.number; first = mine.first; seen = mine.seen; own = mine.own; durable = shorter_prefix me.0.seen f.durable f.added mine.seen durable_added short; failed = mine.failed; waiting = mine.waiting; log = mine.log }),
+            refl,
+          )
+      by false t = (me.0, keeps, tt, same me.0 mine, refl)
+
+  -- who holds those that wait knows their number
+  pub finds_count : me.0.has_waiting ≡ true → Allows (Journaling first) slots id me 3 (λ n. n) (FindsCount st me)
+  finds_count holding s kept homes at fits =
+      let f = kept.facts in (
+        me.0,
+        keeps,
+        tt,
+        record {
+          facts = f;
+          begun = kept.begun;
+          words_are = set_added s.words f kept.words_are;
+          waiting_home = kept.waiting_home;
+          log_home = kept.log_home;
+          homes_are = kept.homes_are;
+          split = kept.split;
+          synced = kept.synced;
+          counts = kept.counts;
+          waiting = kept.waiting;
+          log = kept.log;
+          each = stays f f s at kept.each (λ j u t. t);
+          others = others_set f.added s.views id me.0 kept.others;
+        },
+        (ap (λ (l : List ℕ). slice_index l 3) kept.words_are ∙ sym ((kept.each id me.0 at).waiting holding).4, refl),
+      )
+
+  -- it counts others
+  pub counts_records : (n : ℕ) → me.0.has_waiting ≡ true → length (me.0.taken ++ me.0.waits) ≤ n → Allows (Journaling first) slots id me 3 (λ k. n) (λ k. Counts st me n)
+  counts_records n holding most s kept homes at fits =
+      let f = kept.facts in
+      let g : JournalFacts = record f { added_word = n } in
+      let mine = kept.each id me.0 at in
+      let held = mine.waiting holding in
+      let all : me.0.taken ++ me.0.waits ≡ f.added = (λ i. held.2 i ++ held.3 i) ∙ sym kept.split in
+      let w : JournalView = record me.0 { count = n } in (
+        w,
+        keeps,
+        tt,
+        record {
+          facts = g;
+          begun = kept.begun;
+          words_are = set_fourth s.words f n kept.words_are;
+          waiting_home = kept.waiting_home;
+          log_home = kept.log_home;
+          homes_are = kept.homes_are;
+          split = kept.split;
+          synced = kept.synced;
+          counts = (λ z. absurd (held.0 z), subst (λ (l : List JournalEntry). length l ≤ n) all most, kept.counts.2);
+          waiting = kept.waiting;
+          log = kept.log;
+          each = each_set f g s.views id w kept.each
+              (λ j u apart t. record { number = t.number; first = t.first; seen = t.seen; own = t.own; durable = t.durable; failed = t.failed; waiting = λ e. absurd (apart ((t.waiting e).1 ∙ sym held.1)); log = t.log })
+              (record { number = mine.number; first = mine.first; seen = mine.seen; own = mine.own; durable = mine.durable; failed = mine.failed; waiting = λ e. (held.0, held.1, held.2, held.3, refl); log = mine.log });
+          others = others_set f.added s.views id w kept.others;
+        },
+        refl,
+      )
+
+  -- it is told how many are durable
+  pub notes_durable : (k : ℕ) → k ≡ length me.0.durable → Allows (Journaling first) slots id me 4 (λ n. max n k) (StaysAsItIs st me)
+  notes_durable k counted s kept homes at fits =
+      let f = kept.facts in
+      let g : JournalFacts = record f { durable_word = max f.durable_word k } in
+      let told = kept.counts.2 in
+      let known = prefix_length me.0.durable f.durable (kept.each id me.0 at).durable in (
+        me.0,
+        keeps,
+        tt,
+        record {
+          facts = g;
+          begun = kept.begun;
+          words_are = ap (λ (l : List ℕ). slice_set l 4 (max (slice_index l 4) k)) kept.words_are;
+          waiting_home = kept.waiting_home;
+          log_home = kept.log_home;
+          homes_are = kept.homes_are;
+          split = kept.split;
+          synced = kept.synced;
+          counts = (kept.counts.0, kept.counts.1, most f.durable_word k (length f.durable) told (omega (arith, counted, known)));
+          waiting = kept.waiting;
+          log = kept.log;
+          each = stays f g s at kept.each
+              (λ j u t. record { number = t.number; first = t.first; seen = t.seen; own = t.own; durable = t.durable; failed = t.failed; waiting = t.waiting; log = t.log });
+          others = others_set f.added s.views id me.0 kept.others;
+        },
+        refl,
+      )
+    where
+      most : (a b c : ℕ) → a ≤ c → b ≤ c → max a b ≤ c
+      most a b c one two = grind (arith, one, two)
 
   pub marks : (word : ℕ) → (word ≡ 0) ⊎ (word ≡ 1) → Allows (Journaling first) slots id me word (λ n. either (n == 1) 2 n) (StaysAsItIs st me)
   marks word (inl is) = subst (λ (k : ℕ). Allows (Journaling first) slots id me k (λ n. either (n == 1) 2 n) (StaysAsItIs st me)) (sym is) marks_waiting

@@ -1,5 +1,5 @@
 -- The rule of the table of a journal's history, and what its steps do.
-use Rattle.std.specs.Prelude.{◌≡◌, ◌≢◌, ◌≤◌, ◌==◌, ℕ, true, false, List, [], ◌∷◌, ◌++◌, length, Some, MatchBool}
+use Rattle.std.specs.Prelude.{◌≡◌, ◌≢◌, ◌≤◌, ◌+◌, ◌==◌, leb, ℕ, true, false, List, [], ◌∷◌, ◌++◌, length, Some, MatchBool}
 use mathlib.Core.Option.{Option, some}
 use mathlib.Core.List.{IsPrefix}
 use lib.ListN.{get_elem?}
@@ -23,6 +23,7 @@ journal_founder first = record {
   is_failed = false;
   has_waiting = false;
   has_log = false;
+  count = 0;
   taken = [];
   waits = [];
   written = [];
@@ -30,14 +31,16 @@ journal_founder first = record {
 
 -- ---- the rule
 
--- The three words of the table: of the records that wait, of the log, and whether the journal has
--- failed. Which seats hold the two parts, where they are out. What the log held at first. The
+-- The five words of the table: of the records that wait, of the log, whether the journal has failed,
+-- how many records were added, and how many are told to be durable. Which seats hold the two parts, where they are out. What the log held at first. The
 -- records that were added: those that were taken to be written, and behind them those that wait.
 -- And those that are durable.
 pub record JournalFacts : Type 0 where
   pub waiting_word : ℕ
   pub log_word : ℕ
   pub failed_word : ℕ
+  pub added_word : ℕ
+  pub durable_word : ℕ
   pub waiting_at : ℕ
   pub log_at : ℕ
   pub first : List ℕ
@@ -67,6 +70,19 @@ HasLog facts home =
     (part : JournalPart) × (commits : CommitLog FileLog) × (home ≡ some part)
     × (part.commits ≡ Some commits) × KeepsDurable facts.first facts.taken facts.durable commits
 
+-- Where nobody holds those that wait, their word counts the records that were added. It never tells
+-- fewer. The other word tells no more of them than are durable.
+abbrev pub AreCounted : JournalFacts → Type 0
+AreCounted facts =
+    (facts.waiting_word ≡ 0 → facts.added_word ≡ length facts.added)
+    × (length facts.added ≤ facts.added_word) × (facts.durable_word ≤ length facts.durable)
+
+-- the words, in order
+abbrev pub words_of : JournalFacts → List ℕ
+words_of facts =
+    facts.waiting_word ∷ facts.log_word ∷ facts.failed_word ∷ facts.added_word
+    ∷ facts.durable_word ∷ []
+
 -- what the view at a seat says is so
 pub record FitsJournal (facts : JournalFacts) (seat : ℕ) (v : JournalView) : Type 0 where
   pub number : v.number ≡ seat
@@ -77,7 +93,7 @@ pub record FitsJournal (facts : JournalFacts) (seat : ℕ) (v : JournalView) : T
   pub failed : v.is_failed ≡ true → facts.failed_word ≢ 0
   pub waiting : v.has_waiting ≡ true
       → (facts.waiting_word ≢ 0) × (seat ≡ facts.waiting_at) × (v.taken ≡ facts.taken)
-      × (v.waits ≡ facts.waits)
+      × (v.waits ≡ facts.waits) × (v.count ≡ facts.added_word)
   pub log : v.has_log ≡ true
       → (facts.log_word ≢ 0) × (seat ≡ facts.log_at) × (v.taken ≡ facts.taken)
       × (v.written ≡ facts.durable)
@@ -89,12 +105,13 @@ pub record IsJournal (first words : List ℕ) (homes : List (Option JournalPart)
     (views : List JournalView) : Type 0 where
   pub facts : JournalFacts
   pub begun : facts.first ≡ first
-  pub words_are : words ≡ facts.waiting_word ∷ facts.log_word ∷ facts.failed_word ∷ []
+  pub words_are : words ≡ words_of facts
   pub waiting_home : Option JournalPart
   pub log_home : Option JournalPart
   pub homes_are : homes ≡ waiting_home ∷ log_home ∷ []
   pub split : facts.added ≡ facts.taken ++ facts.waits
   pub synced : IsPrefix facts.durable facts.taken
+  pub counts : AreCounted facts
   pub waiting : facts.waiting_word ≡ 0 → HasWaiting facts.waits waiting_home
   pub log : facts.log_word ≡ 0 → HasLog facts log_home
   pub each : (seat : ℕ) (v : JournalView) → get_elem? views seat ≡ some v → FitsJournal facts seat v
@@ -109,7 +126,7 @@ Watches s v found w =
     × (w.0.has_waiting ≡ false) × (w.0.has_log ≡ false)
 
 -- The seat holds the records that wait: it knows the whole history, which begins with all that it
--- had seen, and its own records in it.
+-- had seen, its own records in it, and their number.
 pub record TakesWaiting (v w : Me JournalPart JournalView) : Type 0 where
   pub part : JournalPart
   pub taken : List JournalEntry
@@ -119,7 +136,12 @@ pub record TakesWaiting (v w : Me JournalPart JournalView) : Type 0 where
   pub own : entries_by v.0.number (taken ++ waits) ≡ v.0.own
   pub same : v.0.has_log ≡ true → taken ≡ v.0.taken
   pub is : w ≡ (
-    record v.0 { has_waiting = true; taken = taken; waits = waits },
+    record v.0 {
+      has_waiting = true;
+      count = length (taken ++ waits);
+      taken = taken;
+      waits = waits;
+    },
     (0, part) ∷ v.1,
   )
 
@@ -208,6 +230,33 @@ LooksAtIt s v found w =
     MatchBool (found == 0) ((w ≡ v) × (v.0.is_failed ≡ false))
     (w ≡ (record v.0 { is_failed = true }, v.1))
 
+-- The seat sees the whole history, which begins with all that it had seen, and with all that it knew
+-- to be durable. It has at most as many records as were found.
+pub record SeesEach (v : Me JournalPart JournalView) (found : ℕ) (w : Me JournalPart JournalView) :
+    Type 0 where
+  pub all : List JournalEntry
+  pub seen : IsPrefix v.0.seen all
+  pub durable : IsPrefix v.0.durable all
+  pub most : length all ≤ found
+  pub is : w ≡ (record v.0 { seen = all; count = found }, v.1)
+
+abbrev pub LooksAtEach : Step JournalPart → Me JournalPart JournalView → ℕ
+    → Me JournalPart JournalView → Type 0
+LooksAtEach s v found w = SeesEach v found w
+
+-- where as many records are durable as the seat counted, all that it has seen is durable
+abbrev pub LooksAtDurable : {S : Type 0} → Step S → Me S JournalView → ℕ → Me S JournalView → Type 0
+LooksAtDurable s v found w =
+    MatchBool (leb v.0.count found) (w ≡ (record v.0 { durable = v.0.seen }, v.1)) (w ≡ v)
+
+-- the seat that holds those that wait finds as many as it knows
+abbrev pub FindsCount : {S : Type 0} → Step S → Me S JournalView → ℕ → Me S JournalView → Type 0
+FindsCount s v found w = (found ≡ v.0.count) × (w ≡ v)
+
+-- it counts others
+abbrev pub Counts : {S : Type 0} → Step S → Me S JournalView → ℕ → Me S JournalView → Type 0
+Counts s v stored w = w ≡ (record v.0 { count = stored }, v.1)
+
 -- ---- the calls
 
 -- a record was put in behind the whole history, which begins with all that the seat had seen
@@ -218,17 +267,31 @@ pub record PutsRecord (v : Me JournalPart JournalView) (bytes : List ℕ)
   pub seen : IsPrefix v.0.seen (taken ++ waits)
   pub own : entries_by v.0.number ((taken ++ waits) ++ own_entry v.0 bytes ∷ [])
       ≡ v.0.own ++ own_entry v.0 bytes ∷ []
+  pub count : ℕ
   pub is : w ≡ (
-    with_record (record v.0 { has_waiting = true; taken = taken; waits = waits })
-        (own_entry v.0 bytes),
+    with_record (record v.0 {
+      has_waiting = true;
+      count = count;
+      taken = taken;
+      waits = waits;
+    }) (own_entry v.0 bytes),
     v.1,
   )
 
 -- the seat has seen the whole history, and changed nothing
 pub record SeesWaiting (v w : Me JournalPart JournalView) : Type 0 where
+  pub count : ℕ
   pub taken : List JournalEntry
   pub waits : List JournalEntry
-  pub is : w ≡ (record v.0 { has_waiting = false; taken = taken; waits = waits }, v.1)
+  pub is : w ≡ (
+    record v.0 {
+      has_waiting = false;
+      count = count;
+      taken = taken;
+      waits = waits;
+    },
+    v.1,
+  )
 
 -- all that waited was taken, as bytes, by the seat that holds the log
 pub record TakesBytes (v : Me JournalPart JournalView) (bytes : List ℕ)
@@ -237,7 +300,11 @@ pub record TakesBytes (v : Me JournalPart JournalView) (bytes : List ℕ)
   pub are : bytes ≡ journal_bytes waits
   pub seen : IsPrefix v.0.seen (v.0.taken ++ waits)
   pub is : w ≡ (
-    with_each_taken (record v.0 { has_waiting = true; waits = waits }),
+    with_each_taken (record v.0 {
+      has_waiting = true;
+      count = length (v.0.taken ++ waits);
+      waits = waits;
+    }),
     v.1,
   )
 
@@ -247,12 +314,17 @@ pub record WritesAll (v w : Me JournalPart JournalView) : Type 0 where
   pub before : v.0.written ≡ v.0.taken
   pub seen : IsPrefix v.0.seen (v.0.taken ++ waits)
   pub is : w ≡ (
-    with_each_taken (record v.0 { has_waiting = true; waits = waits }),
+    with_each_taken (record v.0 {
+      has_waiting = true;
+      count = length (v.0.taken ++ waits);
+      waits = waits;
+    }),
     v.1,
   )
 
 -- the log has no more than it had
 pub record WritesNone (v w : Me JournalPart JournalView) : Type 0 where
+  pub count : ℕ
   pub seen : List JournalEntry
   pub taken : List JournalEntry
   pub waits : List JournalEntry
@@ -260,6 +332,7 @@ pub record WritesNone (v w : Me JournalPart JournalView) : Type 0 where
   pub is : w ≡ (
     record v.0 {
       has_waiting = false;
+      count = count;
       seen = seen;
       taken = taken;
       waits = waits;
@@ -269,7 +342,9 @@ pub record WritesNone (v w : Me JournalPart JournalView) : Type 0 where
 
 -- all that was added is durable
 pub record CommitsAll (v w : Me JournalPart JournalView) : Type 0 where
+  pub count : ℕ
   pub all : List JournalEntry
+  pub taken : List JournalEntry
   pub waits : List JournalEntry
   pub written : List JournalEntry
   pub seen : IsPrefix v.0.seen all
@@ -278,9 +353,10 @@ pub record CommitsAll (v w : Me JournalPart JournalView) : Type 0 where
     record v.0 {
       has_waiting = false;
       has_log = false;
+      count = count;
       seen = all;
       durable = all;
-      taken = all;
+      taken = taken;
       waits = waits;
       written = written;
     },
@@ -289,6 +365,7 @@ pub record CommitsAll (v w : Me JournalPart JournalView) : Type 0 where
 
 -- no more is durable than before
 pub record CommitsNone (v w : Me JournalPart JournalView) : Type 0 where
+  pub count : ℕ
   pub seen : List JournalEntry
   pub taken : List JournalEntry
   pub waits : List JournalEntry
@@ -298,6 +375,7 @@ pub record CommitsNone (v w : Me JournalPart JournalView) : Type 0 where
     record v.0 {
       has_waiting = false;
       has_log = false;
+      count = count;
       seen = seen;
       taken = taken;
       waits = waits;

@@ -1,6 +1,6 @@
 //! Calls of a journal: each takes a part, or both, and gives it back.
 
-ghost use Rattle.std.specs.Prelude.{◌≡◌, ◌++◌, [], false, true, Some, OnErr, OnOk};
+ghost use Rattle.std.specs.Prelude.{◌≡◌, ◌++◌, [], false, true, Some, length, IfOk, OnErr, OnOk};
 ghost use Rattle.shared_journal.specs.JournalRule as rule;
 ghost use Rattle.shared_journal.specs.declared.commit_log.CommitLog.{CommitLog};
 ghost use Rattle.journal_file.specs.declared.file_log.FileLog.{FileLog};
@@ -24,6 +24,7 @@ fn spare(alloc: Global, bytes: Vec<u8>) -> JournalPart
     JournalPart {
         bytes,
         commits: None,
+        batch: 0,
     }
 }
 
@@ -40,12 +41,17 @@ pub(crate) fn put_record<R: Wait>(
     ensures ok { OnOk result (rule.PutsRecord seat.old.me bytes.now seat.new.me) }
     ensures err { OnErr result (rule.SeesWaiting seat.old.me seat.new.me) }
 {
-    history.take_waiting(rt, seat);
+    let count = history.take_waiting(rt, seat);
+    if count == u64::MAX {
+        history.return_waiting(seat);
+        return Err(NoMemory);
+    }
     let mut part = history.exchange(seat, WAITING, spare(alloc, Vec::new(alloc)));
     let put = put_behind(&mut part.bytes, bytes);
     let _ = history.exchange(seat, WAITING, part);
     match put {
         Ok(()) => {
+            history.set_count(seat, count + 1);
             history.return_record(seat, bytes);
             Ok(())
         }
@@ -68,7 +74,7 @@ pub(crate) fn reserve_room<R: Wait>(
     ensures same { (seat.new.table_id ≡ seat.old.table_id) × (seat.new.id ≡ seat.old.id) }
     ensures seen { rule.SeesWaiting seat.old.me seat.new.me }
 {
-    history.take_waiting(rt, seat);
+    let _ = history.take_waiting(rt, seat);
     let mut part = history.exchange(seat, WAITING, spare(alloc, Vec::new(alloc)));
     let made = make_room(&mut part.bytes, len);
     let _ = history.exchange(seat, WAITING, part);
@@ -76,41 +82,49 @@ pub(crate) fn reserve_room<R: Wait>(
     made
 }
 
-// Takes all that waits, for a seat that holds the log, and leaves an empty buffer in its place.
+// Takes all that waits, for a seat that holds the log, and leaves an empty buffer in its place. Tells
+// how many records were taken since the journal began.
 fn take_bytes<R: Wait>(
     rt: &R,
     alloc: Global,
     history: &JournalTable,
     seat: &mut PartSeat,
     buffer: Vec<u8>,
-) -> Vec<u8>
+) -> (Vec<u8>, u64)
     requires table { seat.old.table_id ≡ history.now.table }
     requires log { seat.old.me.0.has_log ≡ true }
     requires none { buffer.items ≡ [] }
     ensures same { (seat.new.table_id ≡ seat.old.table_id) × (seat.new.id ≡ seat.old.id) }
-    ensures taken { rule.TakesBytes seat.old.me result.items seat.new.me }
+    ensures taken { rule.TakesBytes seat.old.me result.0.items seat.new.me }
+    ensures count { result.1 ≡ length seat.new.me.0.taken }
 {
-    history.take_waiting(rt, seat);
+    let count = history.take_waiting(rt, seat);
     let part = history.exchange(seat, WAITING, spare(alloc, buffer));
     history.return_none(seat);
-    let JournalPart { bytes, commits: _ } = part;
-    bytes
+    let JournalPart {
+        bytes,
+        commits: _,
+        batch: _,
+    } = part;
+    (bytes, count)
 }
 
-// Takes all that waits, writes it and syncs, for a seat that holds the log.
+// Takes all that waits, writes it and syncs, for a seat that holds the log. Tells how many records
+// are durable then.
 fn write_waiting<R: Wait>(
     rt: &R,
     alloc: Global,
     history: &JournalTable,
     seat: &mut PartSeat,
     commits: &mut CommitLog<FileLog>,
-) -> Result<(), LogFault>
+) -> Result<u64, LogFault>
     requires table { seat.old.table_id ≡ history.now.table }
     requires log { (seat.old.me.0.has_log ≡ true) × (seat.old.me.0.has_waiting ≡ false) }
     requires keeps { rule.KeepsDurable seat.old.me.0.first seat.old.me.0.taken
         seat.old.me.0.written commits.old }
     ensures same { (seat.new.table_id ≡ seat.old.table_id) × (seat.new.id ≡ seat.old.id) }
     ensures held { (seat.new.me.1 ≡ seat.old.me.1) × (seat.new.me.0.has_log ≡ true) }
+    ensures count { IfOk result (λ n. n ≡ length seat.new.me.0.taken) }
     ensures ok { OnOk result (rule.WritesAll seat.old.me seat.new.me
         × rule.KeepsDurable seat.new.me.0.first seat.new.me.0.taken seat.new.me.0.taken
         commits.new) }
@@ -122,11 +136,15 @@ fn write_waiting<R: Wait>(
         return Err(LogFault);
     }
     let buffer = commits.empty_buffer();
-    let bytes = take_bytes(rt, alloc, history, seat, buffer);
-    commits.write(bytes)
+    let (bytes, count) = take_bytes(rt, alloc, history, seat, buffer);
+    match commits.write(bytes) {
+        Ok(()) => Ok(count),
+        Err(_) => Err(LogFault),
+    }
 }
 
-/// Makes all durable that was added before.
+/// Makes all durable that was added before. Where another thread has done so meanwhile, the log isn't
+/// taken.
 pub(crate) fn commit_all<R: Wait>(
     rt: &R,
     alloc: Global,
@@ -134,26 +152,35 @@ pub(crate) fn commit_all<R: Wait>(
     seat: &mut PartSeat,
 ) -> Result<(), LogFault>
     requires table { seat.old.table_id ≡ history.now.table }
-    requires free { seat.old.me.0.has_waiting ≡ false }
+    requires free { (seat.old.me.0.has_waiting ≡ false) × (seat.old.me.0.has_log ≡ false) }
     ensures same { (seat.new.table_id ≡ seat.old.table_id) × (seat.new.id ≡ seat.old.id) }
     ensures ok { OnOk result (rule.CommitsAll seat.old.me seat.new.me) }
     ensures err { OnErr result (rule.CommitsNone seat.old.me seat.new.me) }
 {
-    history.take_log(rt, seat);
+    let count = history.see_each(seat);
+    if !history.take_log(rt, seat, count) {
+        return Ok(());
+    }
     let part = history.exchange(seat, LOG, spare(alloc, Vec::new(alloc)));
-    let JournalPart { bytes, commits } = part;
+    let JournalPart {
+        bytes,
+        commits,
+        batch,
+    } = part;
     let Some(mut commits) = commits else {
         unreachable!()
     };
+    let batch = history.gather(batch);
     let written = write_waiting(rt, alloc, history, seat, &mut commits);
     let settled = JournalPart {
         bytes,
         commits: Some(commits),
+        batch,
     };
     let _ = history.exchange(seat, LOG, settled);
     match written {
-        Ok(()) => {
-            history.settle_log(seat);
+        Ok(count) => {
+            history.settle_log(seat, count);
             Ok(())
         }
         Err(_) => {

@@ -3,9 +3,11 @@
 use crate::commit_log::CommitLog;
 use journal_file::FileLog;
 
-/// The records that wait, as bytes; or the log, without bytes beside it.
+/// The records that wait, as bytes; or the log, without bytes beside it, and how many records went
+/// along with its last sync.
 #[derive(Drop)]
 pub(crate) struct JournalPart {
     pub bytes: Vec<u8>,
     pub commits: Option<CommitLog<FileLog>>,
+    pub batch: u64,
 }

@@ -1,7 +1,7 @@
-//! A journal's history, which exists in proofs alone, the seats of those who know of it, and the
-//! two parts, each behind a word that is its lock.
+//! A journal's history, which exists in proofs alone, the seats of those who know of it, the two
+//! parts, each behind a word that is its lock, and two words that count records.
 
-ghost use Rattle.std.specs.Prelude.{◌≡◌, ◌<◌, ◌⊎◌, ◌≢◌, ◌++◌, [], ◌∷◌, ℕ, Some, false, true, IfOk, MatchBool};
+ghost use Rattle.std.specs.Prelude.{◌≡◌, ◌<◌, ◌≤◌, ◌+◌, ◌⊎◌, ◌≢◌, ◌++◌, [], ◌∷◌, ℕ, Some, false, true, length, IfOk, MatchBool};
 ghost use Rattle.journal_file.specs.FileLogs.{file_state};
 ghost use Rattle.atomic_table.specs.Table as table;
 ghost use Rattle.shared_journal.specs.JournalHistories as history;
@@ -13,8 +13,9 @@ ghost use Rattle.journal_file.specs.declared.file_log.FileLog.{FileLog};
 use crate::commit_log::CommitLog;
 use crate::journal_part::JournalPart;
 use crate::seat_views::{
-    FailingStep, FailureLook, JournalView, LogReturn, LogTry, OneJournal, RecordStep, SettlingStep,
-    SleepMark, TakingStep, WaitingReturn, WaitingTry, Watching,
+    CountLook, CountStep, DurableLook, DurableNote, EachLook, FailingStep, FailureLook,
+    JournalView, LogReturn, LogTry, OneJournal, RecordStep, SettlingStep, SleepMark, TakingStep,
+    WaitingReturn, WaitingTry, Watching,
 };
 use atomic_table::{Seat, Table};
 use journal_file::FileLog;
@@ -24,6 +25,7 @@ use std::hint::spin_loop;
 use std::marker::Model;
 use std::snapshot::Snapshot;
 use std::sync::Wait;
+use std::thread::yield_now;
 
 /// The word, and the slot, of the records that wait.
 pub(crate) const WAITING: usize = 0;
@@ -34,6 +36,11 @@ pub(crate) const LOG: usize = 1;
 // The word that tells whether the journal has failed.
 const FAILED: usize = 2;
 
+// The words that count the records that were added, and those that are durable.
+const ADDED: usize = 3;
+
+const DURABLE: usize = 4;
+
 // A lock's word: it is free, held, or held while a thread may sleep.
 const FREE: u64 = 0;
 
@@ -43,6 +50,9 @@ const WANTED: u64 = 2;
 
 // How often a held lock is looked at before its thread sleeps.
 const LOOKS: u32 = 100;
+
+// How often other threads may run ahead of a write, while fewer records wait than last time.
+const MOMENTS: u32 = 50;
 
 /// A seat that may hold parts of a journal.
 pub(crate) type PartSeat = Seat<JournalPart, JournalView>;
@@ -90,7 +100,7 @@ impl Model for JournalTable {
       first = (file_state t.table.shared.key.value).durable;
     } };
 
-    ghost invariant = { λ t. (t.table.shared.table_id.words ≡ 3)
+    ghost invariant = { λ t. (t.table.shared.table_id.words ≡ 5)
         × (t.table.shared.table_id.slots ≡ 2) };
 }
 
@@ -104,15 +114,17 @@ impl JournalTable {
         let waiting = JournalPart {
             bytes: Vec::new(alloc),
             commits: None,
+            batch: 0,
         };
         let settled = JournalPart {
             bytes: Vec::new(alloc),
             commits: Some(CommitLog::new(alloc, log)),
+            batch: 0,
         };
         let mut parts = Vec::with_capacity(alloc, 2)?;
         parts.push_reserved(waiting);
         parts.push_reserved(settled);
-        match Table::new(alloc, &[0, 0, 0], parts, &key) {
+        match Table::new(alloc, &[0, 0, 0, 0, 0], parts, &key) {
             Ok((table, _)) => Ok(JournalTable { table }),
             Err(_) => Err(NoMemory),
         }
@@ -153,7 +165,7 @@ impl JournalTable {
 
     // Looks at a lock for a while, as long as it isn't free.
     fn spin(&self, word: usize)
-        requires { word < 3 }
+        requires { word < 5 }
     {
         for _ in 0..LOOKS {
             if self.table.shared.peek(word) == FREE {
@@ -197,16 +209,27 @@ impl JournalTable {
             == FREE
     }
 
-    /// Takes the records that wait, once no other thread holds them.
-    pub fn take_waiting<R: Wait>(&self, rt: &R, seat: &mut PartSeat)
+    // How many records were added, for a seat that holds those that wait.
+    fn count(&self, seat: &mut PartSeat) -> u64
+        requires table { seat.old.table_id ≡ self.now.table }
+        requires held { seat.old.me.0.has_waiting ≡ true }
+        ensures same { (seat.new.table_id ≡ seat.old.table_id) × (seat.new.id ≡ seat.old.id) }
+        ensures found { (result ≡ seat.old.me.0.count) × (seat.new.me ≡ seat.old.me) }
+    {
+        self.table.shared.load::<CountLook>(seat, ADDED)
+    }
+
+    /// Takes the records that wait, once no other thread holds them. Tells how many were added.
+    pub fn take_waiting<R: Wait>(&self, rt: &R, seat: &mut PartSeat) -> u64
         requires { seat.old.table_id ≡ self.now.table }
         ensures same { (seat.new.table_id ≡ seat.old.table_id) × (seat.new.id ≡ seat.old.id) }
         ensures taken { rule.TakesWaiting seat.old.me seat.new.me }
+        ensures count { result ≡ seat.new.me.0.count }
     {
         let mut held = HELD;
         for _ in rt.forever() {
             if self.try_waiting(seat, held) {
-                return;
+                return self.count(seat);
             }
             if self.sleep(rt, seat, WAITING) {
                 held = WANTED;
@@ -216,35 +239,103 @@ impl JournalTable {
     }
 
     // Takes the log, if its lock is free.
-    fn try_log(&self, seat: &mut PartSeat, held: u64) -> bool
-        requires table { seat.old.table_id ≡ self.now.table }
-        requires held { held ≢ 0 }
+    fn try_log(&self, seat: &mut PartSeat) -> bool
+        requires { seat.old.table_id ≡ self.now.table }
         ensures same { (seat.new.table_id ≡ seat.old.table_id) × (seat.new.id ≡ seat.old.id) }
         ensures taken { MatchBool result (rule.TakesLog seat.old.me seat.new.me)
             (seat.new.me ≡ seat.old.me) }
     {
         self.table
             .shared
-            .compare_exchange::<LogTry>(seat, LOG, FREE, held)
+            .compare_exchange::<LogTry>(seat, LOG, FREE, HELD)
             == FREE
     }
 
-    /// Takes the log, once no other thread holds it.
-    pub fn take_log<R: Wait>(&self, rt: &R, seat: &mut PartSeat)
+    /// Sees all that was added so far. Tells how many records these are, or more.
+    pub fn see_each(&self, seat: &mut PartSeat) -> u64
         requires { seat.old.table_id ≡ self.now.table }
         ensures same { (seat.new.table_id ≡ seat.old.table_id) × (seat.new.id ≡ seat.old.id) }
-        ensures taken { rule.TakesLog seat.old.me seat.new.me }
+        ensures seen { rule.SeesEach seat.old.me result seat.new.me }
     {
-        let mut held = HELD;
+        self.table.shared.load::<EachLook>(seat, ADDED)
+    }
+
+    // Whether all that the seat has seen is durable. It counted so many records then.
+    fn is_durable(&self, seat: &mut PartSeat, count: u64) -> bool
+        requires table { seat.old.table_id ≡ self.now.table }
+        requires count { count ≡ seat.old.me.0.count }
+        requires most { length seat.old.me.0.seen ≤ seat.old.me.0.count }
+        ensures same { (seat.new.table_id ≡ seat.old.table_id) × (seat.new.id ≡ seat.old.id) }
+        ensures told { MatchBool result (seat.new.me
+            ≡ (record seat.old.me.0 { durable = seat.old.me.0.seen }, seat.old.me.1))
+            (seat.new.me ≡ seat.old.me) }
+    {
+        count <= self.table.shared.load::<DurableLook>(seat, DURABLE)
+    }
+
+    /// Takes the log, once no other thread holds it. `false`: all that the seat has seen became durable
+    /// meanwhile, and the log wasn't taken. It counted so many records when it saw them.
+    pub fn take_log<R: Wait>(&self, rt: &R, seat: &mut PartSeat, count: u64) -> bool
+        requires table { seat.old.table_id ≡ self.now.table }
+        requires count { count ≡ seat.old.me.0.count }
+        requires most { length seat.old.me.0.seen ≤ seat.old.me.0.count }
+        ensures same { (seat.new.table_id ≡ seat.old.table_id) × (seat.new.id ≡ seat.old.id) }
+        ensures taken { MatchBool result (rule.TakesLog seat.old.me seat.new.me)
+            (seat.new.me
+            ≡ (record seat.old.me.0 { durable = seat.old.me.0.seen }, seat.old.me.1)) }
+    {
+        // Who gives the log back wakes all that sleep, so the lock needs no mark for those.
         for _ in rt.forever() {
-            if self.try_log(seat, held) {
-                return;
+            if self.is_durable(seat, count) {
+                return false;
             }
-            if self.sleep(rt, seat, LOG) {
-                held = WANTED;
+            if self.try_log(seat) {
+                return true;
             }
+            self.sleep(rt, seat, LOG);
         }
         unreachable!()
+    }
+
+    /// Waits a moment for as many records that aren't durable as went along last time, so that
+    /// those who were answered together are answered together again. Tells how many there are.
+    pub fn gather(&self, last: u64) -> u64 {
+        for _ in 0..MOMENTS {
+            if self.count_waiting() >= last {
+                return self.count_waiting();
+            }
+            yield_now();
+        }
+        self.count_waiting()
+    }
+
+    // How many records aren't durable, as far as the words tell.
+    fn count_waiting(&self) -> u64 {
+        let durable = self.table.shared.peek(DURABLE);
+        self.table.shared.peek(ADDED).saturating_sub(durable)
+    }
+
+    /// Counts so many records, for a seat that holds those that wait: no fewer than there are.
+    pub fn set_count(&self, seat: &mut PartSeat, count: u64)
+        requires table { seat.old.table_id ≡ self.now.table }
+        requires held { seat.old.me.0.has_waiting ≡ true }
+        requires most { length (seat.old.me.0.taken ++ seat.old.me.0.waits) ≤ count }
+        ensures same { (seat.new.table_id ≡ seat.old.table_id) × (seat.new.id ≡ seat.old.id) }
+        ensures counted { seat.new.me ≡ (record seat.old.me.0 { count = count }, seat.old.me.1) }
+    {
+        self.table.shared.store::<CountStep>(seat, ADDED, count);
+    }
+
+    // Tells all that so many records are durable.
+    fn note_durable(&self, seat: &mut PartSeat, count: u64)
+        requires table { seat.old.table_id ≡ self.now.table }
+        requires durable { count ≡ length seat.old.me.0.durable }
+        ensures same { (seat.new.table_id ≡ seat.old.table_id) × (seat.new.id ≡ seat.old.id)
+            × (seat.new.me ≡ seat.old.me) }
+    {
+        self.table
+            .shared
+            .fetch_max::<DurableNote>(seat, DURABLE, count);
     }
 
     /// Changes the part that was taken last for another.
@@ -261,10 +352,17 @@ impl JournalTable {
 
     // Wakes a thread that sleeps, if one may.
     fn wake(&self, word: usize, found: u64)
-        requires { word < 3 }
+        requires { word < 5 }
     {
         if found == WANTED {
             self.table.shared.wake_one(word);
+        }
+    }
+
+    // Wakes all that sleep until the log is given back, if one may.
+    fn wake_each(&self, found: u64) {
+        if found == WANTED {
+            self.table.shared.wake_all(LOG);
         }
     }
 
@@ -274,6 +372,8 @@ impl JournalTable {
         requires held { (seat.old.me.0.has_waiting ≡ true) × ((part : JournalPart)
             × (seat.old.me.1 ≡ (0, part) ∷ table.rest seat.old.me.1)
             × (part.bytes.items ≡ history.journal_bytes seat.old.me.0.waits)) }
+        requires counted { seat.old.me.0.count
+            ≡ length (seat.old.me.0.taken ++ seat.old.me.0.waits) }
         ensures same { (seat.new.table_id ≡ seat.old.table_id) × (seat.new.id ≡ seat.old.id) }
         ensures given { seat.new.me
             ≡ (record seat.old.me.0 { has_waiting = false }, table.rest seat.old.me.1) }
@@ -288,6 +388,8 @@ impl JournalTable {
         requires held { (seat.old.me.0.has_waiting ≡ true) × ((part : JournalPart)
             × (seat.old.me.1 ≡ (0, part) ∷ table.rest seat.old.me.1)
             × (part.bytes.items ≡ history.journal_bytes seat.old.me.0.waits ++ bytes.now)) }
+        requires counted { seat.old.me.0.count
+            ≡ length (seat.old.me.0.taken ++ seat.old.me.0.waits) + 1 }
         ensures same { (seat.new.table_id ≡ seat.old.table_id) × (seat.new.id ≡ seat.old.id) }
         ensures own { history.entries_by seat.old.me.0.number
             ((seat.old.me.0.taken ++ seat.old.me.0.waits)
@@ -311,6 +413,8 @@ impl JournalTable {
         requires held { (part : JournalPart)
             × (seat.old.me.1 ≡ (0, part) ∷ table.rest seat.old.me.1)
             × (part.bytes.items ≡ []) }
+        requires counted { seat.old.me.0.count
+            ≡ length (seat.old.me.0.taken ++ seat.old.me.0.waits) }
         ensures same { (seat.new.table_id ≡ seat.old.table_id) × (seat.new.id ≡ seat.old.id) }
         ensures given { seat.new.me
             ≡ (rule.with_each_taken seat.old.me.0, table.rest seat.old.me.1) }
@@ -319,8 +423,8 @@ impl JournalTable {
         self.wake(WAITING, found);
     }
 
-    /// Gives the log back, in which all is durable that was taken.
-    pub fn settle_log(&self, seat: &mut PartSeat)
+    /// Gives the log back, in which all is durable that was taken, so many records.
+    pub fn settle_log(&self, seat: &mut PartSeat, count: u64)
         requires table { seat.old.table_id ≡ self.now.table }
         requires held { (seat.old.me.0.has_log ≡ true) × ((part : JournalPart)
             × (commits : CommitLog FileLog)
@@ -328,6 +432,7 @@ impl JournalTable {
             × (part.commits ≡ Some commits)
             × rule.KeepsDurable seat.old.me.0.first seat.old.me.0.taken seat.old.me.0.taken
             commits) }
+        requires count { count ≡ length seat.old.me.0.taken }
         ensures same { (seat.new.table_id ≡ seat.old.table_id) × (seat.new.id ≡ seat.old.id) }
         ensures given { seat.new.me
             ≡ (
@@ -336,7 +441,8 @@ impl JournalTable {
             ) }
     {
         let found = self.table.shared.swap::<SettlingStep>(seat, LOG, FREE);
-        self.wake(LOG, found);
+        self.note_durable(seat, count);
+        self.wake_each(found);
     }
 
     /// Gives the log back, in which no more is durable than before.
@@ -353,6 +459,6 @@ impl JournalTable {
             ≡ (record seat.old.me.0 { has_log = false }, table.rest seat.old.me.1) }
     {
         let found = self.table.shared.swap::<LogReturn>(seat, LOG, FREE);
-        self.wake(LOG, found);
+        self.wake_each(found);
     }
 }

@@ -15,8 +15,9 @@ pub struct JournalEntry {
 /// A seat's knowledge. No value of it is made.
 ///
 /// Each seat knows its number, what the log held at first, a beginning of the history, its own
-/// records, a beginning of what is durable, and whether the journal failed. While it holds a part
-/// it knows the records that were taken, and those that wait, or those that the log has.
+/// records, a beginning of what is durable, whether the journal failed, and how many records it
+/// counted last. While it holds a part it knows the records that were taken, and those that wait, or
+/// those that the log has.
 pub struct JournalView {
     pub number: u64,
     pub first: LinkedList<u8>,
@@ -26,6 +27,7 @@ pub struct JournalView {
     pub is_failed: bool,
     pub has_waiting: bool,
     pub has_log: bool,
+    pub count: u64,
     pub taken: LinkedList<JournalEntry>,
     pub waits: LinkedList<JournalEntry>,
     pub written: LinkedList<JournalEntry>,
@@ -140,4 +142,49 @@ impl Play<JournalPart, JournalView> for FailureLook {
     ghost use Rattle.shared_journal.specs.JournalRule.{LooksAtIt};
 
     ghost then = { LooksAtIt };
+}
+
+/// A look at all that was added.
+pub(crate) struct EachLook;
+
+impl Play<JournalPart, JournalView> for EachLook {
+    ghost use Rattle.shared_journal.specs.JournalRule.{LooksAtEach};
+
+    ghost then = { LooksAtEach };
+}
+
+/// A look whether what the seat has seen is durable.
+pub(crate) struct DurableLook;
+
+impl Play<JournalPart, JournalView> for DurableLook {
+    ghost use Rattle.shared_journal.specs.JournalRule.{LooksAtDurable};
+
+    ghost then = { LooksAtDurable };
+}
+
+/// A look how many records were added, while the seat holds those that wait.
+pub(crate) struct CountLook;
+
+impl Play<JournalPart, JournalView> for CountLook {
+    ghost use Rattle.shared_journal.specs.JournalRule.{FindsCount};
+
+    ghost then = { FindsCount };
+}
+
+/// Another number of records.
+pub(crate) struct CountStep;
+
+impl Play<JournalPart, JournalView> for CountStep {
+    ghost use Rattle.shared_journal.specs.JournalRule.{Counts};
+
+    ghost then = { Counts };
+}
+
+/// It is told how many records are durable.
+pub(crate) struct DurableNote;
+
+impl Play<JournalPart, JournalView> for DurableNote {
+    ghost use Rattle.shared_journal.specs.JournalRule.{StaysAsItIs};
+
+    ghost then = { StaysAsItIs };
 }

@@ -5,14 +5,14 @@ use Rattle.shared_journal.proofs.journal_calls.write_waiting.Goals as goal
 pub returns-then-has_failed-clause-err : goal.returns-then-has_failed-clause-err
 returns-then-has_failed-clause-err g c = (none_written _ c.requires.log.1, c.requires.keeps)
 
-pub returns-clause-ok : goal.returns-clause-ok
-returns-clause-ok g c =
+pub returns-in-Ok-clause-ok : goal.returns-in-Ok-clause-ok
+returns-in-Ok-clause-ok g c =
     let same = c.empty_buffer-buffer.ensures.same in
-    written_ok c.args.seat.now.me c.take_bytes-bytes.new.seat.me _ c.empty_buffer-buffer.new.self _ _ c.take_bytes-bytes.ensures.taken
-    (keeps_same _ _ _ _ _ same.0 same.1 c.requires.keeps) (same.1 ∙ (sym c.has_failed.ensures ∙ c.if-has_failed.false)) c.write.ensures.durable
+    written_ok c.args.seat.now.me c.take_bytes-bytes.new.seat.me _ c.empty_buffer-buffer.new.self _ c.take_bytes-bytes.ensures.taken
+    (keeps_same _ _ _ _ _ same.0 same.1 c.requires.keeps) (same.1 ∙ (sym c.has_failed.ensures ∙ c.if-has_failed.false)) c.in-Ok.ensures.durable
 
-pub returns-clause-err : goal.returns-clause-err
-returns-clause-err g c =
+pub returns-in-Err-clause-err : goal.returns-in-Err-clause-err
+returns-in-Err-clause-err g c =
     let same = c.empty_buffer-buffer.ensures.same in
-    written_err c.args.seat.now.me c.take_bytes-bytes.new.seat.me _ c.empty_buffer-buffer.new.self _ _ c.take_bytes-bytes.ensures.taken
-    (keeps_same _ _ _ _ _ same.0 same.1 c.requires.keeps) c.write.ensures.stops c.write.ensures.kept
+    written_err c.args.seat.now.me c.take_bytes-bytes.new.seat.me _ c.empty_buffer-buffer.new.self _ c.take_bytes-bytes.ensures.taken
+    (keeps_same _ _ _ _ _ same.0 same.1 c.requires.keeps) c.in-Err.ensures.stops c.in-Err.ensures.kept

@@ -9,8 +9,8 @@ use Rattle.shared_journal.proofs.journal_table.JournalTable.new.Goals as goal
 
 pub new-requires-4 : goal.new-requires-4
 new-requires-4 c =
-    let waiting : JournalPart = record { bytes = c.new.result; commits = None } in
-    let settled : JournalPart = record { bytes = c.new-2.result; commits = Some c.new-3.result } in
+    let waiting : JournalPart = record { bytes = c.new.result; commits = None; batch = 0 } in
+    let settled : JournalPart = record { bytes = c.new-2.result; commits = Some c.new-3.result; batch = 0 } in
     let parts = c.push_reserved-2.ensures.items ∙ ap (λ (l : List JournalPart). l ++ settled ∷ []) (c.push_reserved.ensures.items ∙ ap (λ (l : List JournalPart). l ++ waiting ∷ []) c.in_ok-parts.ensures.items) in
     begins_journal _ waiting settled c.new-3.result _ (ap (λ (l : List JournalPart). map some l) parts) c.new.ensures.items refl c.new-3.ensures.1
     (ap file_state c.new-3.ensures.0 ∙ whole c.args.log c.of-key.result.value c.of-key.ensures c.requires)

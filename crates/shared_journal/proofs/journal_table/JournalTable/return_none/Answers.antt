@@ -8,5 +8,5 @@ pub swap-found-requires : goal.swap-found-requires
 swap-found-requires c = let held = c.requires.held in (
   c.requires.table ∙ sym (ap (λ n. n.table) c.self.view_is),
   (let n = c.self.invariant.0 in omega arith),
-  takes_each _ _ _ _ (step c.self.inside.table.shared.table_id.slots 0 0 0 none) held.0 c.requires.log.0 c.requires.log.1 held.1 held.2,
+  takes_each _ _ _ _ (step c.self.inside.table.shared.table_id.slots 0 0 0 none) held.0 c.requires.log.0 c.requires.log.1 held.1 held.2 c.requires.counted,
 )

@@ -6,7 +6,7 @@ use Rattle.shared_journal.proofs.journal_table.JournalTable.try_log.Goals as goa
 
 pub compare_exchange-requires : goal.compare_exchange-requires
 compare_exchange-requires c = (
-  c.requires.table ∙ sym (ap (λ n. n.table) c.self.view_is),
+  c.requires ∙ sym (ap (λ n. n.table) c.self.view_is),
   (let n = c.self.invariant.0 in omega arith),
-  tries_log _ _ _ _ (step c.self.inside.table.shared.table_id.slots 1 0 c.args.held none) c.args.held c.requires.held,
+  tries_log _ _ _ _ (step c.self.inside.table.shared.table_id.slots 1 0 1 none) 1 (λ e. absurd (omega (arith, e))),
 )
