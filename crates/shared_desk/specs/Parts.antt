@@ -42,14 +42,14 @@ pub record IsWrittenToTheFault (passage : Passage) (part : List HistoryEntry)
   pub written : after ≡ before ++ replies_of part
 
 -- The writer failed. The part begins with what was asked before the last piece came, of at most
--- 16,384 bytes, and those replies are written. Of what is due to the rest of the part, with the last
+-- 4,096 bytes, and those replies are written. Of what is due to the rest of the part, with the last
 -- 71, a beginning is written, and not all.
 pub record IsWrittenInPart (passage : Passage) (part : List HistoryEntry)
     (bytes before after : List ℕ) : Type 0 where
   pub early : List ℕ
   pub piece : List ℕ
   pub came : bytes ≡ early ++ piece
-  pub short : length piece ≤ 16384
+  pub short : length piece ≤ 4096
   pub first : List HistoryEntry
   pub rest : List HistoryEntry
   pub both : part ≡ first ++ rest

@@ -1,5 +1,5 @@
-//! A journal's history, which exists in proofs alone, the seats of those who know of it, the two
-//! parts, each behind a word that is its lock, and two words that count records.
+//! A journal's history, which exists in proofs alone, the seats of those who know of it, and the
+//! two parts, each behind a word that is its lock.
 
 ghost use Rattle.std.specs.Prelude.{◌≡◌, ◌<◌, ◌≤◌, ◌+◌, ◌⊎◌, ◌≢◌, ◌++◌, [], ◌∷◌, ℕ, Some, false, true, length, IfOk, MatchBool};
 ghost use Rattle.journal_file.specs.FileLogs.{file_state};
@@ -36,9 +36,10 @@ pub(crate) const LOG: usize = 1;
 // The word that tells whether the journal has failed.
 const FAILED: usize = 2;
 
-// The words that count the records that were added, and those that are durable.
+// The word that counts the records that were added.
 const ADDED: usize = 3;
 
+// The word that tells how many of them are durable.
 const DURABLE: usize = 4;
 
 // A lock's word: it is free, held, or held while a thread may sleep.
@@ -51,7 +52,7 @@ const WANTED: u64 = 2;
 // How often a held lock is looked at before its thread sleeps.
 const LOOKS: u32 = 100;
 
-// How often other threads may run ahead of a write, while fewer records wait than last time.
+// How often others may run before the log is written.
 const MOMENTS: u32 = 50;
 
 /// A seat that may hold parts of a journal.
@@ -284,7 +285,6 @@ impl JournalTable {
             (seat.new.me
             ≡ (record seat.old.me.0 { durable = seat.old.me.0.seen }, seat.old.me.1)) }
     {
-        // Who gives the log back wakes all that sleep, so the lock needs no mark for those.
         for _ in rt.forever() {
             if self.is_durable(seat, count) {
                 return false;

@@ -16,8 +16,8 @@ use std::sync::Wait;
 /// A journal that the threads of a server share.
 ///
 /// Records wait in memory until somebody commits. Who commits takes all that wait, writes them and
-/// syncs, while others add further records; who comes meanwhile waits for that, and is done where
-/// its records went along. So one sync serves all that waited for it.
+/// syncs, while others add further records; who comes meanwhile waits for that, and finds nothing
+/// to do where its records went along. So one sync serves all that waited for it.
 ///
 /// It has one history, in proofs alone: the records that were added, in order, of which a beginning
 /// is durable. Each thread has a seat, which knows a beginning of the history. A record that a seat

@@ -145,7 +145,7 @@ starved_on answers start bytes written first s left out t out1 earlier (ahead_of
 
 -- a piece that isn't answered to its end
 pub stops_in_piece : {S : Type 0} (fault : StreamFault) (answers : S → List ℕ → List ℕ → S → Type 0) (start : S) (early before piece : List ℕ) (count : ℕ) (s : S) (left out : List ℕ) (t : S) (after : List ℕ) →
-    Serves answers start early before count s left out → front left ≡ partial → length piece ≤ 16384 → IsGivenUp fault answers s (left ++ piece) out t after [] → IsStoppedBy fault answers start (early ++ piece) before t after
+    Serves answers start early before count s left out → front left ≡ partial → length piece ≤ 4096 → IsGivenUp fault answers s (left ++ piece) out t after [] → IsStoppedBy fault answers start (early ++ piece) before t after
 stops_in_piece ReadFailed answers start early before piece count s left out t after served waits short why = absurd why
 stops_in_piece WriteFailed answers start early before piece count s left out t after served waits short why = record {
   early = early;
@@ -166,7 +166,7 @@ stops_in_piece NoMemory answers start early before piece count s left out t afte
 
 -- the last 71, that isn't written whole
 pub stops_at_last : {S : Type 0} (fault : StreamFault) (answers : S → List ℕ → List ℕ → S → Type 0) (start : S) (early before piece : List ℕ) (count : ℕ) (s : S) (left out : List ℕ) (second : ℕ) (t : S) (left1 out1 after : List ℕ) →
-    Serves answers start early before count s left out → front left ≡ partial → length piece ≤ 16384 → Serves answers s (left ++ piece) out second t left1 out1 → front left1 ≡ too_large → IsLastUnwritten fault out1 after →
+    Serves answers start early before count s left out → front left ≡ partial → length piece ≤ 4096 → Serves answers s (left ++ piece) out second t left1 out1 → front left1 ≡ too_large → IsLastUnwritten fault out1 after →
     IsStoppedBy fault answers start (early ++ piece) before t after
 stops_at_last ReadFailed answers start early before piece count s left out second t left1 out1 after served waits short later first why = absurd why
 stops_at_last WriteFailed answers start early before piece count s left out second t left1 out1 after served waits short later first why =

@@ -73,14 +73,14 @@ pub record IsCutShort {S : Type 0} (answers : S → List ℕ → List ℕ → S 
 
 -- The writer failed. Every frame that was whole before the last piece came is answered, and its
 -- reply written. Of what is due to the frames that are whole with that piece, which has at most
--- 16,384 bytes, a beginning is written, and not all. The state is that after the frames that were
+-- 4,096 bytes, a beginning is written, and not all. The state is that after the frames that were
 -- heard.
 pub record IsCutOff {S : Type 0} (answers : S → List ℕ → List ℕ → S → Type 0) (start : S)
     (bytes before : List ℕ) (end : S) (after : List ℕ) : Type 0 where
   pub early : List ℕ
   pub piece : List ℕ
   pub came : bytes ≡ early ++ piece
-  pub short : length piece ≤ 16384
+  pub short : length piece ≤ 4096
   pub count : ℕ
   pub state : S
   pub left : List ℕ

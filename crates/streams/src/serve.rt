@@ -17,7 +17,7 @@ use sessions::{Reply, Session, SessionFault, reply_frame};
 use std::alloc::Global;
 
 // The most bytes that a read asks for.
-const PIECE_LEN: usize = 16_384;
+const PIECE_LEN: usize = 4096;
 
 // What stands at the front of a stream.
 #[derive(Drop)]
@@ -230,7 +230,7 @@ fn refuse_length<W: Sink>(alloc: Global, writer: &mut W) -> Result<(), StreamFau
 /// Answers the frames of all that the reader gives, in order, each by one reply, and tells how
 /// many. Those that are answered 72 or 73 count; the number stays at `2^64 - 1`.
 ///
-/// It reads pieces of at most 16,384 bytes up to the end of input, at most `2^64 - 1` of them. The
+/// It reads pieces of at most 4,096 bytes up to the end of input, at most `2^64 - 1` of them. The
 /// replies to the frames that are whole with a piece go out together, up to 65,536 bytes. A
 /// last frame that is cut short is answered by nothing. A length over the limit is answered 71,
 /// once, which isn't counted, and nothing more is read.

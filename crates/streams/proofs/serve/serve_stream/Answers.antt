@@ -9,7 +9,7 @@ use Rattle.streams.proofs.Serving.{all_served, stops_too_large, serves_more, ser
 use Rattle.streams.proofs.serve.serve_stream.Goals as goal
 
 -- so many bytes of a piece are no more than it has
-short_piece : (n : ℕ) (piece : List ℕ) → n ≤ length piece → length piece ≡ 16384 → length (take n piece) ≤ 16384
+short_piece : (n : ℕ) (piece : List ℕ) → n ≤ length piece → length piece ≡ 4096 → length (take n piece) ≤ 4096
 short_piece n piece within all = omega (arith, length-take-le n piece within, within, all)
 
 pub reads-init : goal.reads-init
