@@ -4,6 +4,8 @@ pub mod PlacedRunners
 pub mod Routing
 pub mod OwnNamed
 pub mod JobLists
+pub mod JobKeys
+pub mod AtDoors
 pub mod AskedPlainly
 pub mod Tenancies
 pub mod Answering

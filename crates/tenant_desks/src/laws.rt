@@ -6,8 +6,9 @@ ghost use Rattle.accounts.specs.Ledgers.{Ledger};
 ghost use Rattle.accounts.specs.Limits.{keeps_all};
 ghost use Rattle.shared_desk.specs.Histories.{HistoryEntry, Replays};
 ghost use Rattle.tenant_desks.specs.Alone.{AreToldWhy, DeskEvent, HappensAlone, IsAloneHistory, IsTenantHistory, sent_to};
-ghost use Rattle.tenant_desks.specs.Answering.{KeptRunner, door_answers, tenant_answers};
+ghost use Rattle.tenant_desks.specs.Answering.{BeginsAtDoors, KeptRunner, door_answers, tenant_answers};
 ghost use Rattle.tenant_desks.specs.AskedPlainly.{AreAskedPlainly};
+ghost use Rattle.tenant_desks.specs.AtDoors.{BehindDoors, without_keys};
 ghost use Rattle.tenant_desks.specs.OwnNamed.{AreAskedByName};
 ghost use Rattle.tenant_desks.specs.Events.{EachTwo, HappensAlike, IsToldAlike};
 ghost use Rattle.tenant_desks.specs.Seen.{answers_seen};
@@ -73,17 +74,16 @@ pub fn own_names_are_put_in<N: Runner>()
 {}
 
 /// Whatever doors hear beyond the plain protocol, the desks are asked by that: a history of a server
-/// behind such doors is one of plain requests, by what was asked of its desks. At a listing that is no
-/// request, and the reply tells the jobs of the door's own desk as it stands then.
-pub fn listings_are_put_aside<N: Runner>()
+/// behind such doors is one of plain requests, by what was asked of its desks. What a door tells by
+/// itself is no request to them. A submit by a new key is that submit.
+pub fn forms_are_put_aside<N: Runner>()
     ensures { (names : List (List ℕ)) (firsts : List Ledger) (keep : KeepLimits)
-        (history : List HistoryEntry) (end : Tenancy × KeptRunner N)
-        → Replays (door_answers N.starts N.looks N.takes)
-        (λ s. (s.0 ≡ record { names = names; desks = firsts }) × (s.1.keep ≡ keep)) history end
+        (history : List HistoryEntry) (end : Tenancy × BehindDoors (KeptRunner N))
+        → Replays (door_answers N.starts N.looks N.takes) (BeginsAtDoors names firsts keep) history end
         → (asked : List HistoryEntry)
-        × AreAskedPlainly (λ s. s.0) (tenant_answers N.starts N.looks N.takes)
-        (λ s. (s.0 ≡ record { names = names; desks = firsts }) × (s.1.keep ≡ keep)) history asked
-        end
+        × AreAskedPlainly (tenant_answers N.starts N.looks N.takes) (BeginsAtDoors names firsts keep)
+        history asked end
         × Replays (tenant_answers N.starts N.looks N.takes)
-        (λ s. (s.0 ≡ record { names = names; desks = firsts }) × (s.1.keep ≡ keep)) asked end }
+        (λ s. (s.0 ≡ record { names = names; desks = firsts }) × (s.1.keep ≡ keep)) asked
+        (without_keys end) }
 {}
