@@ -15,3 +15,4 @@ pub mod OwnLemmas
 pub mod ListedDesks
 pub mod KeyLemmas
 pub mod DoorLemmas
+mod KeyedDoors

@@ -9,5 +9,6 @@ pub mod AtDoors
 pub mod AskedPlainly
 pub mod Tenancies
 pub mod Answering
+pub mod KeyedHistories
 pub mod Alone
 pub mod Seen

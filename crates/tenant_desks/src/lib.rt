@@ -43,6 +43,6 @@ pub use tenant_doors::TenantDoors;
 mod laws;
 
 pub use laws::{
-    each_part_is_plain, each_tenant_is_alone, forms_are_put_aside, others_are_not_told,
-    own_names_are_put_in,
+    each_part_is_plain, each_tenant_is_alone, forms_are_put_aside, one_key_one_job,
+    others_are_not_told, own_names_are_put_in,
 };
