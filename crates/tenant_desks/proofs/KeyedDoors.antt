@@ -9,7 +9,6 @@ use Rattle.job_core.specs.Admitted.{AdmittedJob}
 use Rattle.accounts.specs.Faults.{submit_code, submit_program, submit_slot}
 use Rattle.accounts.specs.declared.keep_limits.KeepLimits.{KeepLimits}
 use Rattle.accounts.specs.Ledgers.{Finishes, Ledger}
-use Rattle.serde_json.specs.Data.{Data}
 use Rattle.sessions.specs.Grammar.{Asked, JobText, grant, account, submit, status, result}
 use Rattle.sessions.specs.Replies.{frame_of, frame_or_refusal, refusal_data, reply_data, submit_data}
 use Rattle.sessions.specs.declared.reply.Reply.{Reply}
@@ -100,13 +99,13 @@ pushed_count xs x = length-append xs (x ∷ [])
 -- ---- one desk's answer: a job is taken, and its number is told, or none is
 
 -- by what is told
-abbrev IsDone : Result Asked ℕ → Data → ℕ → ℕ → Type 0
+abbrev IsDone : Result Asked ℕ → Reply → ℕ → ℕ → Type 0
 IsDone query told before after =
-    ((name : List ℕ) × (job : JobText) × (query ≡ Ok (submit name job)) × (after ≡ before + 1) × (told ≡ submit_data after))
-    ⊎ ((after ≡ before) × (IsOtherRequest query ⊎ ((code : ℕ) × (program : Option ℕ) × (slot : Option ℕ) × (told ≡ refusal_data code program slot))))
+    ((name : List ℕ) × (job : JobText) × (query ≡ Ok (submit name job)) × (after ≡ before + 1) × (reply_data told ≡ submit_data after))
+    ⊎ ((after ≡ before) × (IsOtherRequest query ⊎ ((code : ℕ) × (program : Option ℕ) × (slot : Option ℕ) × (reply_data told ≡ refusal_data code program slot))))
 
 module _ {R : Type 0} (starts : R → ℕ → AdmittedJob → Result (Unit {0}) ℕ → R → Type 0) (looks : R → ℕ → Progress → R → Type 0) where
-  done_by : (desk : Ledger) (runner : R) (query : Result Asked ℕ) (told : Data) (after : Ledger) (left : R) → Replies starts looks desk runner query told after left → IsDone query told (length desk.jobs) (length after.jobs)
+  done_by : (desk : Ledger) (runner : R) (query : Result Asked ℕ) (told : Reply) (after : Ledger) (left : R) → Replies starts looks desk runner query (reply_data told) after left → IsDone query told (length desk.jobs) (length after.jobs)
   unfolding Replies
   done_by desk runner (Err code) told after left is = inr (ap (λ (l : Ledger). length l.jobs) is.1, inr (code, None, None, is.0))
   done_by desk runner (Ok (grant name amount)) told after left is = elim is.0 [
@@ -157,7 +156,7 @@ module _ {R : Type 0} (starts : R → ℕ → AdmittedJob → Result (Unit {0}) 
       → IsReplied query bytes (count_of_jobs (slice_get mid (place_behind passage.door))) (count_of_jobs (slice_get after (place_behind passage.door)))
   where_done names passage keep (Err code) query mid rest bytes after left to is =
       inr (ap (λ (ds : List Ledger). count_of_jobs (slice_get ds (place_behind passage.door))) is.1, inr (code, None, None, refusal_framed (reply.Refused code None None) code None None bytes refl is.0))
-  where_done names passage keep (Ok place) query mid rest bytes after left to c = by_done (done_by _ _ c.before _ query (reply_data c.changed.told) c.changed.mid _ c.changed.replies)
+  where_done names passage keep (Ok place) query mid rest bytes after left to c = by_done (done_by _ _ c.before _ query c.changed.told c.changed.mid _ c.changed.replies)
     where
       at : ℕ
       at = place_behind passage.door
@@ -165,7 +164,7 @@ module _ {R : Type 0} (starts : R → ℕ → AdmittedJob → Result (Unit {0}) 
       kept : length c.after.jobs ≡ length c.changed.mid.jobs
       kept = c.changed.keeps.1.forgets.jobs.count
 
-      by_done : IsDone query (reply_data c.changed.told) (length c.before.jobs) (length c.changed.mid.jobs) → IsReplied query bytes (count_of_jobs (slice_get mid at)) (count_of_jobs (slice_get after at))
+      by_done : IsDone query c.changed.told (length c.before.jobs) (length c.changed.mid.jobs) → IsReplied query bytes (count_of_jobs (slice_get mid at)) (count_of_jobs (slice_get after at))
       by_done (inl (name, job, is, more, tells)) =
           let here : place ≡ at = own_place names passage.door name place (sym (ap (desk_for names passage) is) ∙ sym to) in
           let now : slice_get after at ≡ Some c.after = ap (λ (ds : List Ledger). slice_get ds at) c.is ∙ ap (λ (i : ℕ). slice_get (slice_set mid i c.after) at) here ∙ set_here mid at c.before c.after (ap (slice_get mid) (sym here) ∙ c.was) in
