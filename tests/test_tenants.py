@@ -514,6 +514,110 @@ class Listings(Room):
                 self.assertEqual(client.ask(request), NO_REQUEST)
 
 
+def keyed_submit(key, credit=3, buffer=b"", rest=""):
+    """A request for a job that has a key."""
+    return '{"op":"submit","key":' + json.dumps(key) + "," + rest + job_text([(0, ADD)], credit, buffer)[1:]
+
+
+class Keys(Room):
+    """Submits that have a key, by which a lost reply can be asked for."""
+
+    serve, begin, check = Listings.serve, Listings.begin, Listings.check
+
+    def taken(self, client, request, number):
+        self.assertEqual(client.ask(request), {"job": number, "ok": True})
+
+    def test_the_same_key_again(self):
+        """It is told the same number, and starts nothing."""
+        process, (alice,) = self.begin("alice")
+        self.taken(alice, keyed_submit("a"), 1)
+        before = alice.told(keyed_submit("a"))
+        self.assertEqual(before, b'{"job":1,"ok":true}')
+        self.taken(alice, keyed_submit("b"), 2)
+        alice.over(2)
+        for key, number in (("a", 1), ("b", 2), ("a", 1)):
+            self.taken(alice, keyed_submit(key), number)
+        self.taken(self.connect(process, "alice"), keyed_submit("b"), 2)
+        self.assertEqual(alice.ask({"op": "jobs"})["count"], 2)
+
+    def test_whatever_else_it_asks(self):
+        """The key alone is looked at, once it has a job."""
+        _, (alice,) = self.begin("alice")
+        self.taken(alice, keyed_submit("a"), 1)
+        self.taken(alice, keyed_submit("a", credit=5, buffer=b"x"), 1)
+        self.taken(alice, {"op": "submit", "key": "a"}, 1)
+        self.assertEqual(alice.ask({"op": "submit", "key": "b"}), NO_REQUEST)
+        self.taken(alice, keyed_submit("b"), 2)
+
+    def test_what_is_no_key(self):
+        """It is no request, and nothing is submitted."""
+        _, (alice,) = self.begin("alice")
+        for key in ("", "A", "a b", "a.b", "ä", "a" * 65, 7, 1.5, None, True, [], ["a"], {}):
+            self.assertEqual(alice.ask(keyed_submit(key)), NO_REQUEST, key)
+        self.check(alice, 0, [])
+        for number, key in enumerate(("a" * 64, "0", "_", "-", "a-b_9"), 1):
+            self.taken(alice, keyed_submit(key), number)
+
+    def test_a_refused_submit(self):
+        """Its key has no job, and may have one later."""
+        _, (alice,) = self.begin("alice", amount=10)
+        self.assertEqual(alice.ask(keyed_submit("a", credit=11)), {"code": 75, "ok": False})
+        self.assertEqual(alice.ask(keyed_submit("a", rest='"tenant":"bob",')), NO_TENANT)
+        self.taken(alice, keyed_submit("a"), 1)
+        self.taken(alice, keyed_submit("a", credit=11), 1)
+
+    def test_each_door_has_keys_of_its_own(self):
+        process, (alice, bob) = self.begin("alice", "bob")
+        self.taken(alice, keyed_submit("a"), 1)
+        self.taken(alice, keyed_submit("b", rest='"tenant":"alice",'), 2)
+        self.taken(bob, keyed_submit("b"), 1)
+        self.taken(bob, keyed_submit("a"), 2)
+        self.taken(alice, keyed_submit("a"), 1)
+        granter, everybody = self.connect(process, "grants"), self.connect(process)
+        granter.ask(grant("eve"))
+        for number, key in enumerate(("a", "a", "", 7, None), 1):
+            self.taken(everybody, keyed_submit(key, rest='"tenant":"eve",'), number)
+
+    def test_in_a_listing(self):
+        """Byte for byte, of jobs in each state and of one without a key."""
+        _, (alice,) = self.begin("alice", more=("--tenant-jobs", 1), amount=2_000_000_000)
+        self.taken(alice, keyed_submit("first"), 1)
+        alice.over(1)
+        programs, credit = long_job()
+        long = submit_text(programs, credit, b"", tenant="alice")
+        for number, key in ((2, "b"), (3, "0-_")):
+            self.taken(alice, '{"key":"' + key + '",' + long[1:], number)
+        self.taken(alice, long, 4)
+        wanted = (
+            b'{"count":4,"jobs":[{"job":1,"key":"first","state":"over"},{"job":2,"key":"b","state":"open"},'
+            b'{"code":81,"job":3,"key":"0-_","state":"failed"},{"code":81,"job":4,"state":"failed"}],"ok":true}'
+        )
+        self.assertEqual(alice.told({"op": "jobs"}), wanted)
+
+    def test_the_last_thousand(self):
+        """A key that is older has no job any more."""
+        _, (alice,) = self.begin("alice")
+        for number in range(1, 1002):
+            self.taken(alice, keyed_submit(f"k{number}"), number)
+        for number in (2, 3, 500, 1001):
+            self.taken(alice, keyed_submit(f"k{number}"), number)
+        self.taken(alice, keyed_submit("k1"), 1002)
+        self.taken(alice, keyed_submit("k3"), 3)
+        self.taken(alice, keyed_submit("k2"), 1003)
+        self.taken(alice, unnamed_submit(), 1004)
+        alice.over(1004)
+        listed = alice.ask({"op": "jobs"})["jobs"] + alice.ask({"op": "jobs", "from": 1001})["jobs"]
+        keys = {job["job"]: job.get("key") for job in listed}
+        wanted = {number: f"k{number}" for number in range(4, 1002)}
+        self.assertEqual(keys, {1: None, 2: None, 3: None, **wanted, 1002: "k1", 1003: "k2", 1004: None})
+
+    def test_beside_other_requests(self):
+        """A key that isn't one of a submit isn't looked at."""
+        _, (alice,) = self.begin("alice")
+        self.assertEqual(alice.ask({"op": "account", "key": 7}), alice.ask({"op": "account"}))
+        self.check(alice, 0, [], key=[])
+
+
 class OpenJobs(Room):
     """How many jobs each tenant may have open."""
 

@@ -71,10 +71,11 @@ first_tenancy tenants = (
 )
 
 -- a desk for each tenant
-pub tenants_begin : {N : Type 0} (doors : List TenantDoor) (bounds : Bounds) (runner : N) → (begun : Tenancy × KeptRunner (LineLimitedRunner N)) × BeginsAtDesks doors bounds runner begun
+pub tenants_begin : {N : Type 0} (doors : List TenantDoor) (bounds : Bounds) (runner : N) → (begun : Tenancy × BehindDoors (KeptRunner (LineLimitedRunner N))) × BeginsAtDesks doors bounds runner begun
 tenants_begin doors bounds runner =
     let t = first_tenancy (door_credits doors) in
-    ((t.0, record { runner = new_by_line (door_limits bounds.tenant_jobs doors) runner; keep = bounds.keep }), (t.1, refl))
+    let handler : KeptRunner (LineLimitedRunner _) = record { runner = new_by_line (door_limits bounds.tenant_jobs doors) runner; keep = bounds.keep } in
+    ((t.0, record { handler = handler; keys = replicate (length doors + 1) [] }), (t.1, refl, refl))
 
 module _ {S L : Type 0} (answers : S → Query → List ℕ → S → Type 0) (opens fails : L → L → Type 0) (passage_of : L → Passage) (listener : L) (sessions : ℕ) (may_stop : Bool) where
   -- so many were served, from here on

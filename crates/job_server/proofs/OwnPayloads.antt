@@ -1,17 +1,18 @@
 -- A tenant's part of a history has entries of the whole, whose payloads went through connections.
 use Rattle.std.proofs.Common.{◌≡◌, ◌≤◌, ℕ, zero, suc, Bool, true, false, List, [], ◌∷◌, ◌++◌, length, map, slice_get, Option, Some, None, Result, Ok, refl, sym, ap, subst, ◌∙◌, arith}
 use Rattle.std.specs.Prelude.{string_bytes}
-use Rattle.sessions.specs.declared.door_forms.DoorForm.{DoorForm}
 use Rattle.std.proofs.lemmas.List.{length-map}
 use Rattle.sessions.specs.Grammar.{Asked, result}
 use Rattle.shared_desk.specs.Histories.{HistoryEntry, Query, Replays, none_yet, one_more, put_if}
 use Rattle.shared_desk.specs.Closed.{AreClosed}
 use Rattle.shared_desk.specs.declared.door.Door.{Door}
+use Rattle.shared_desk.specs.declared.passage.Passage.{Passage}
 use Rattle.tenant_desks.specs.Alone.{IsTenantHistory, goes_to, sent_to}
 use Rattle.tenant_desks.specs.OwnNamed.{AreAskedByName, IsNamedEntry, IsOwnNamed, named, no_memory, no_request}
 use Rattle.tenant_desks.specs.AskedPlainly as plain
-use Rattle.tenant_desks.specs.AskedPlainly.{AreAskedPlainly, IsAskedAs, IsAskedBeyond}
-use Rattle.tenant_desks.proofs.ListedDesks.{asked_plainly}
+use Rattle.tenant_desks.specs.AskedPlainly.{AreAskedPlainly, IsAskedAs}
+use Rattle.tenant_desks.specs.AtDoors.{keys_behind, told_by_door, without_keys}
+use Rattle.tenant_desks.proofs.DoorLemmas.{asked_plainly}
 use Rattle.tenant_desks.proofs.NamedHistories.{own_names}
 use Rattle.accounts.specs.Ledgers.{Ledger}
 use Rattle.tenant_desks.specs.Answering.{KeptRunner}
@@ -33,7 +34,7 @@ use Rattle.job_server.specs.EndToEnd.{ComesFromSubmit, IsResultFrame, submit_of}
 use Rattle.job_server.specs.Payloads.{IsEntryOf}
 use Rattle.job_server.specs.OwnPayloads.{ComesFromOwnPayload, IsHeardOf}
 use Rattle.job_server.specs.TenantResults.{IsTenantHostHistory}
-use Rattle.job_server.specs.TenantServing.{IsServingTenants, TenantHosted, door_credits, door_names, hosted_tenant_answers}
+use Rattle.job_server.specs.TenantServing.{DoorsHosted, IsServingTenants, TenantHosted, door_credits, door_names, hosted_tenant_answers}
 use Rattle.job_server.proofs.FromSubmit.{each_served}
 use Rattle.job_server.proofs.ListEnds.{joined_again, last_of, last_same, none_pushed}
 use Rattle.job_server.proofs.OwnSubmits.{own_comes}
@@ -89,22 +90,29 @@ pushed e x history t = record {
   is = ap (λ l. l ++ x ∷ []) t.is ∙ joined_again t.before e t.after (x ∷ []);
 }
 
-plain_at : (begins : TenantHosted → Type 0) (history asked before after : List HistoryEntry) (g : HistoryEntry) (t : TenantHosted) → AreAskedPlainly (λ x. x.0) hosted_tenant_answers begins history asked t
-    → asked ≡ before ++ g ∷ after → (e : HistoryEntry) × IsIn e history × ((u : Tenancy) × IsAskedAs e g u)
+plain_at : (begins : DoorsHosted → Type 0) (history asked before after : List HistoryEntry) (g : HistoryEntry) (t : DoorsHosted) → AreAskedPlainly hosted_tenant_answers begins history asked t
+    → asked ≡ before ++ g ∷ after → (e : HistoryEntry) × IsIn e history × ((told : Option (List ℕ)) × IsAskedAs told e g)
 plain_at begins _ _ before after g t (plain.none_yet s start) is = absurd (none_pushed before after g is)
-plain_at begins _ _ before [] g t (plain.one_more history asked s e f u are answer told) is =
+plain_at begins _ _ before [] g t (plain.one_more history asked s e f u are answer told kept) is =
     let same = last_same asked before f g is in
-    (e, record { before = history; after = []; is = refl }, (t.0, subst (λ (x : HistoryEntry). IsAskedAs e x t.0) same.1 told))
-plain_at begins _ _ before (a ∷ after) g t (plain.one_more history asked s e f u are answer told) is =
+    let here : Option (List ℕ) = told_by_door (keys_behind s.1.keys e.query.passage.door) u.0.desks e.query.passage.door e.query.beyond in
+    (e, record { before = history; after = []; is = refl }, (here, subst (λ (x : HistoryEntry). IsAskedAs here e x) same.1 told))
+plain_at begins _ _ before (a ∷ after) g t (plain.one_more history asked s e f u are answer told kept) is =
     let parted = last_of a after in
     let same = last_same asked (before ++ g ∷ parted.0) f parted.1 (is ∙ ap (λ l. before ++ g ∷ l) parted.2 ∙ sym (joined_again before g parted.0 (parted.1 ∷ []))) in
     let r = plain_at begins history asked before parted.0 g s are same.0 in
     (r.0, pushed r.0 e history r.1, r.2)
 
--- a request of the plain protocol is the very entry
-plain_same : (beyond : Option DoorForm) (e f : HistoryEntry) (t : Tenancy) (asks : Asked) → IsAskedBeyond beyond e f t → f.query.asked ≡ Ok asks → f ≡ e
-plain_same None e f t asks is own = is
-plain_same (Some form) e f t asks is own = absurd (let clash = sym own ∙ ap (λ (q : Query). q.asked) is.1 in cc)
+-- a request of the plain protocol is the very entry, but for what was asked beyond that
+plain_same : (told : Option (List ℕ)) (e f : HistoryEntry) (asks : Asked) → IsAskedAs told e f → f.query.asked ≡ Ok asks
+    → (f.connection ≡ e.connection) × (f.query.passage ≡ e.query.passage) × (f.query.asked ≡ e.query.asked) × (f.reply ≡ e.reply)
+plain_same None e f asks is own = (
+  ap (λ (x : HistoryEntry). x.connection) is,
+  ap (λ (x : HistoryEntry). x.query.passage) is,
+  ap (λ (x : HistoryEntry). x.query.asked) is,
+  ap (λ (x : HistoryEntry). x.reply) is,
+)
+plain_same (Some frame) e f asks is own = absurd (let clash = sym own ∙ ap (λ (q : Query). q.asked) is.1 in cc)
 
 -- ---- the desks that a server begins with
 
@@ -150,7 +158,7 @@ module _ (doors : List TenantDoor) (bounds : Bounds) (sessions : ℕ) (may_stop 
       let named : s.begun.0.names ≡ door_names doors = s.begins.0.names ∙ names_of_credits doors in
       λ i. record { names = named i; desks = s.begins.0.desks i }
 
-  begun : (history : List HistoryEntry) (x : TenantHosted) → Replays hosted_tenant_answers (λ y. y ≡ s.begun) history x
+  begun : (history : List HistoryEntry) (x : TenantHosted) → Replays hosted_tenant_answers (λ y. y ≡ without_keys s.begun) history x
       → Replays hosted_tenant_answers (λ y. (y.0 ≡ record { names = door_names doors; desks = firsts }) × (y.1.keep ≡ bounds.keep)) history x
   begun _ x (none_yet y is) = none_yet y (
     ap (λ (h : TenantHosted). h.0) is ∙ first_tenancy,
@@ -169,12 +177,12 @@ module _ (doors : List TenantDoor) (bounds : Bounds) (sessions : ℕ) (may_stop 
   line_takes = takes_by_line (takes_within (TakesBy pooled_at pooled_count))
 
   -- what was asked plainly
-  abbrev asked_of_doors : (plain : List HistoryEntry) × AreAskedPlainly (λ x. x.0) hosted_tenant_answers (λ y. y ≡ s.begun) s.serving.history plain s.end × Replays hosted_tenant_answers (λ y. y ≡ s.begun) plain s.end
-  asked_of_doors = asked_plainly (λ x. x.0) hosted_tenant_answers (λ y. y ≡ s.begun) s.serving.history s.end s.serving.legal
+  abbrev asked_of_doors : (plain : List HistoryEntry) × AreAskedPlainly hosted_tenant_answers (λ y. y ≡ s.begun) s.serving.history plain s.end × Replays hosted_tenant_answers (λ y. y ≡ without_keys s.begun) plain (without_keys s.end)
+  asked_of_doors = asked_plainly hosted_tenant_answers (λ y. y ≡ s.begun) (λ y. y ≡ without_keys s.begun) (λ y is. ap without_keys is) s.serving.history s.end s.serving.legal
 
   -- what the desks were asked
-  abbrev asked_of_desks : (asked : List HistoryEntry) × AreAskedByName (door_names doors) asked_of_doors.0 asked × IsTenantHistory line_starts line_looks line_takes (door_names doors) firsts bounds.keep asked s.end
-  asked_of_desks = own_names line_starts line_looks line_takes (door_names doors) firsts bounds.keep asked_of_doors.0 s.end (begun asked_of_doors.0 s.end asked_of_doors.2)
+  abbrev asked_of_desks : (asked : List HistoryEntry) × AreAskedByName (door_names doors) asked_of_doors.0 asked × IsTenantHistory line_starts line_looks line_takes (door_names doors) firsts bounds.keep asked (without_keys s.end)
+  asked_of_desks = own_names line_starts line_looks line_takes (door_names doors) firsts bounds.keep asked_of_doors.0 (without_keys s.end) (begun asked_of_doors.0 (without_keys s.end) asked_of_doors.2)
 
   abbrev asked : List HistoryEntry
   asked = asked_of_desks.0
@@ -189,7 +197,7 @@ module _ (doors : List TenantDoor) (bounds : Bounds) (sessions : ℕ) (may_stop 
         firsts = firsts;
         as_many = omega (arith, many, credits, behind);
         no_job = none_at_first (door_credits doors) s.begins.0.firsts s.begins.0.granted;
-        end = s.end;
+        end = without_keys s.end;
         legal = asked_of_desks.2;
       }
 
@@ -198,8 +206,20 @@ module _ (doors : List TenantDoor) (bounds : Bounds) (sessions : ℕ) (may_stop 
       let n = named_at (door_names doors) asked_of_doors.0 asked f asked_of_desks.1 t in
       let h = heard_of (door_names doors) n.0.query.passage.door n.0.query.asked f.query.asked asks n.2.asked own in
       let p = plain_at (λ y. y ≡ s.begun) s.serving.history asked_of_doors.0 n.1.before n.1.after n.0 s.end asked_of_doors.1 n.1.is in
-      let same = plain_same p.0.query.beyond p.0 n.0 p.2.0 h.0 p.2.1 h.1 in
-      record { entry = n.0; same = n.2; heard = h.0; by_name = h.2; went = entry_of n.0 h.0 (subst (λ (x : HistoryEntry). IsIn x s.serving.history) (sym same) p.1) h.1 }
+      let same = plain_same p.2.0 p.0 n.0 h.0 p.2.1 h.1 in
+      let names = door_names doors in
+      record {
+        entry = p.0;
+        same = record {
+          connection = n.2.connection ∙ same.0;
+          passage = n.2.passage ∙ same.1;
+          asked = subst (λ (x : Passage × Result Asked ℕ). IsOwnNamed names x.0.door x.1 f.query.asked) (λ i. (same.1 i, same.2 i)) n.2.asked;
+          reply = n.2.reply ∙ same.3;
+        };
+        heard = h.0;
+        by_name = subst (λ (x : Passage). IsOwnNamed names x.door (Ok h.0) (Ok asks)) same.1 h.2;
+        went = entry_of p.0 h.0 p.1 (sym same.2 ∙ h.1);
+      }
 
   own_payload : (place : ℕ) (before after : List HistoryEntry) (e : HistoryEntry) (number : ℕ) → length doors ≤ 256 → place ≤ length doors → sent_to (door_names doors) place asked ≡ before ++ e ∷ after
       → e.query.asked ≡ Ok (result number) → IsResultFrame e.reply → ComesFromOwnPayload (door_names doors) s.serving.closed before number e
@@ -214,7 +234,7 @@ module _ (doors : List TenantDoor) (bounds : Bounds) (sessions : ℕ) (may_stop 
       comes : ComesFromSubmit before number e
       comes = own_comes bounds.keep place (door_names doors) asked (host few) (omega (arith, there, length-map doors (λ (d : TenantDoor). string_bytes d.name))) before after e number is asks f
 
-  pub own_payloads : length doors ≤ 256 → (plain asked : List HistoryEntry) × AreAskedPlainly (λ x. x.0) hosted_tenant_answers (λ y. y ≡ s.begun) s.serving.history plain s.end
+  pub own_payloads : length doors ≤ 256 → (plain asked : List HistoryEntry) × AreAskedPlainly hosted_tenant_answers (λ y. y ≡ s.begun) s.serving.history plain s.end
       × AreAskedByName (door_names doors) plain asked
       × ((place : ℕ) (before after : List HistoryEntry) (e : HistoryEntry) (number : ℕ) → place ≤ length doors → sent_to (door_names doors) place asked ≡ before ++ e ∷ after
       → e.query.asked ≡ Ok (result number) → IsResultFrame e.reply → ComesFromOwnPayload (door_names doors) s.serving.closed before number e)

@@ -25,8 +25,9 @@ use Rattle.job_server.specs.declared.tenant_door.TenantDoor.{TenantDoor}
 use Rattle.job_server.specs.AtOnce.{IsServingFrom, Pool}
 use Rattle.job_pools.specs.LineBounded.{new_by_line}
 use Rattle.job_server.specs.TenantLimits.{door_limits}
-use Rattle.tenant_desks.proofs.ListedDesks.{doors_alike}
-use Rattle.job_server.specs.TenantServing.{BeginsAtDesks, TenantHosted, hosted_door_answers, hosted_tenant_answers}
+use Rattle.tenant_desks.specs.AtDoors.{BehindDoors}
+use Rattle.tenant_desks.proofs.DoorLemmas.{doors_alike, doors_as}
+use Rattle.job_server.specs.TenantServing.{BeginsAtDesks, DoorsHosted, TenantHosted, hosted_door_answers, hosted_tenant_answers}
 use Rattle.job_server.proofs.Alike.{replies_alike}
 use Rattle.job_server.proofs.AtOnceAlike.{limited, serving_kept, within_alike}
 
@@ -143,18 +144,26 @@ module _ {R Q : Type 0} (g : R → Q) where
     line_takes l x m h = (takes_alike l.runner x m.runner h.0, h.1, h.2)
 
 -- desks and a pool within its host's bounds, with what the pool comes to
-abbrev pub hosted_as : {R : Type 0} → (R → Pool) → Tenancy × KeptRunner (LineLimitedRunner (LimitedRunner R)) → TenantHosted
-hosted_as f s = (s.0, record { runner = in_lines (limited f) s.1.runner; keep = s.1.keep })
+abbrev pub kept_as : {R : Type 0} → (R → Pool) → KeptRunner (LineLimitedRunner (LimitedRunner R)) → KeptRunner (LineLimitedRunner (LimitedRunner Pool))
+kept_as f k = record { runner = in_lines (limited f) k.runner; keep = k.keep }
 
-pub begins_as : {R : Type 0} (f : R → Pool) (doors : List TenantDoor) (bounds : Bounds) (l : LimitedRunner R) (pool : R) (begun : Tenancy × KeptRunner (LineLimitedRunner (LimitedRunner R)))
+abbrev pub hosted_as : {R : Type 0} → (R → Pool) → Tenancy × KeptRunner (LineLimitedRunner (LimitedRunner R)) → TenantHosted
+hosted_as f s = (s.0, kept_as f s.1)
+
+-- the same behind doors
+abbrev pub doors_hosted_as : {R : Type 0} → (R → Pool) → Tenancy × BehindDoors (KeptRunner (LineLimitedRunner (LimitedRunner R))) → DoorsHosted
+doors_hosted_as f s = doors_as (kept_as f) s
+
+pub begins_as : {R : Type 0} (f : R → Pool) (doors : List TenantDoor) (bounds : Bounds) (l : LimitedRunner R) (pool : R) (begun : Tenancy × BehindDoors (KeptRunner (LineLimitedRunner (LimitedRunner R))))
     → l.runner ≡ pool → l.limit ≡ bounds.open_jobs → BeginsAtDesks doors bounds l begun
-    → BeginsAtDesks doors bounds (record { runner = f pool; limit = bounds.open_jobs }) (hosted_as f begun)
+    → BeginsAtDesks doors bounds (record { runner = f pool; limit = bounds.open_jobs }) (doors_hosted_as f begun)
 begins_as {R} f doors bounds l pool begun is_pool is_limit begins =
     let host : Pool → ℕ → KeptRunner (LineLimitedRunner (LimitedRunner Pool)) = λ p n.
     record { runner = new_by_line (door_limits bounds.tenant_jobs doors) (record { runner = p; limit = n }); keep = bounds.keep } in (
       begins.0,
-      ap (λ (k : KeptRunner (LineLimitedRunner (LimitedRunner R))). (hosted_as f (begun.0, k)).1) begins.1
+      ap (kept_as f) begins.1
           ∙ ap (λ (p : R). host (f p) l.limit) is_pool ∙ ap (λ (n : ℕ). host (f pool) n) is_limit,
+      begins.2,
     )
 
 module _ {R : Type 0} (f : R → Pool) (starts : R → ℕ → AdmittedJob → Result (Unit {0}) ℕ → R → Type 0) (looks : R → ℕ → Progress → R → Type 0) (takes : R → Option (ℕ × Result Report ℕ) → R → Type 0)
@@ -198,15 +207,15 @@ module _ {R : Type 0} (f : R → Pool) (starts : R → ℕ → AdmittedJob → R
         (line_takes (limited f) starts_in (looks_within looks) (takes_within takes) starts_of looks_of takes_of pool_starts pool_looks pool_takes) s (record { passage = query.passage; asked = asked; beyond = None }) reply t answered,
   )
 
-  hosted_doors_alike : (s : Tenancy × KeptRunner (LineLimitedRunner (LimitedRunner R))) (query : Query) (reply : List ℕ) (t : Tenancy × KeptRunner (LineLimitedRunner (LimitedRunner R)))
+  hosted_doors_alike : (s : Tenancy × BehindDoors (KeptRunner (LineLimitedRunner (LimitedRunner R)))) (query : Query) (reply : List ℕ) (t : Tenancy × BehindDoors (KeptRunner (LineLimitedRunner (LimitedRunner R))))
       → door_answers (starts_by_line starts_in) (looks_by_line (looks_within looks)) (takes_by_line (takes_within takes)) s query reply t
-      → hosted_door_answers (hosted_as f s) query reply (hosted_as f t)
+      → hosted_door_answers (doors_hosted_as f s) query reply (doors_hosted_as f t)
   hosted_doors_alike =
-      doors_alike (λ s. s.0) (tenant_answers (starts_by_line starts_in) (looks_by_line (looks_within looks)) (takes_by_line (takes_within takes))) (λ s. s.0) hosted_tenant_answers (hosted_as f) (λ s. refl) hosted_alike
+      doors_alike (tenant_answers (starts_by_line starts_in) (looks_by_line (looks_within looks)) (takes_by_line (takes_within takes))) hosted_tenant_answers (kept_as f) hosted_alike
 
   -- the pool's own state is forgotten, but for the jobs that it was given and the boards that it watches
-  pub tenants_serving : (begun end : Tenancy × KeptRunner (LineLimitedRunner (LimitedRunner R))) (sessions : ℕ) (may_stop : Bool) (outcome : Result (Unit {0}) ServeFault)
+  pub tenants_serving : (begun end : Tenancy × BehindDoors (KeptRunner (LineLimitedRunner (LimitedRunner R)))) (sessions : ℕ) (may_stop : Bool) (outcome : Result (Unit {0}) ServeFault)
       → (serving : IsServingFrom (door_answers (starts_by_line starts_in) (looks_by_line (looks_within looks)) (takes_by_line (takes_within takes))) (λ s. s ≡ begun) end sessions may_stop outcome)
-      → (hosted : IsServingFrom hosted_door_answers (λ s. s ≡ hosted_as f begun) (hosted_as f end) sessions may_stop outcome) × (hosted.opened ≡ serving.opened) × (hosted.closed ≡ serving.closed)
+      → (hosted : IsServingFrom hosted_door_answers (λ s. s ≡ doors_hosted_as f begun) (doors_hosted_as f end) sessions may_stop outcome) × (hosted.opened ≡ serving.opened) × (hosted.closed ≡ serving.closed)
   tenants_serving begun end sessions may_stop outcome serving =
-      serving_kept (hosted_as f) _ hosted_door_answers hosted_doors_alike (λ s. s ≡ begun) (λ s. s ≡ hosted_as f begun) (λ s is. ap (hosted_as f) is) end sessions may_stop outcome serving
+      serving_kept (doors_hosted_as f) _ hosted_door_answers hosted_doors_alike (λ s. s ≡ begun) (λ s. s ≡ doors_hosted_as f begun) (λ s is. ap (doors_hosted_as f) is) end sessions may_stop outcome serving

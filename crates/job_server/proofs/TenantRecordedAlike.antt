@@ -15,7 +15,8 @@ use Rattle.tenant_desks.specs.PlacedRunners.{starts_placed}
 use Rattle.tenant_desks.specs.Tenancies.{Tenancy}
 use Rattle.tenant_desks.specs.Answering.{for_place}
 use Rattle.tenant_recorder.specs.TenantRestarts.{RestartsEach, none_yet, one_more}
-use Rattle.tenant_desks.proofs.ListedDesks.{doors_alike}
+use Rattle.tenant_desks.specs.AtDoors.{BehindDoors, without_keys}
+use Rattle.tenant_desks.proofs.DoorLemmas.{doors_alike, doors_as}
 use Rattle.tenant_recorder.specs.TenantsRecorded.{RecordedRunner, door_answers_recorded, named_answers_recorded, tenant_answers_recorded, unrecorded}
 use Rattle.job_pools.specs.declared.limited_runner.LimitedRunner.{LimitedRunner}
 use Rattle.job_pools.specs.LineBounded.{looks_by_line, new_by_line, starts_by_line, takes_by_line}
@@ -28,7 +29,7 @@ use Rattle.job_server.specs.declared.fault.ServeFault.{ServeFault}
 use Rattle.job_server.specs.declared.tenant_door.TenantDoor.{TenantDoor}
 use Rattle.job_server.specs.AtOnce.{IsServingFrom, Pool}
 use Rattle.job_server.specs.TenantLimits.{door_limits}
-use Rattle.job_server.specs.TenantServing.{door_credits}
+use Rattle.job_server.specs.TenantServing.{RemembersNone, door_credits}
 use Rattle.job_server.specs.TenantRecorded.{AreRestarted, IsServingTenantsRecorded, hosted_answers_recorded, open_jobs_of, recovered_tenancy}
 use Rattle.job_server.proofs.AtOnceAlike.{limited, serving_kept}
 use Rattle.job_server.proofs.RecordedAlike.{limited_is}
@@ -123,30 +124,31 @@ module _ {R Q J : Type 0} (f : R → Pool) (taken : Q → List ℕ) (failed : Q 
         lined_starts lined_looks lined_takes s (record { passage = query.passage; asked = asked; beyond = None }) reply t answered,
   )
 
-  hosted_doors_recorded_alike : (s : Tenancy × RecordedRunner (LineLimitedRunner (LimitedRunner R)) Q) (query : Query) (reply : List ℕ) (t : Tenancy × RecordedRunner (LineLimitedRunner (LimitedRunner R)) Q)
+  hosted_doors_recorded_alike : (s : Tenancy × BehindDoors (RecordedRunner (LineLimitedRunner (LimitedRunner R)) Q)) (query : Query) (reply : List ℕ) (t : Tenancy × BehindDoors (RecordedRunner (LineLimitedRunner (LimitedRunner R)) Q))
       → door_answers_recorded starts_lined (looks_by_line (looks_within looks)) (takes_by_line (takes_within takes)) taken failed s query reply t
-      → hosted_answers_recorded taken failed (tenants_as pooled s) query reply (tenants_as pooled t)
+      → hosted_answers_recorded taken failed (doors_as (recorded_as pooled) s) query reply (doors_as (recorded_as pooled) t)
   hosted_doors_recorded_alike =
-      doors_alike (λ s. s.0) (tenant_answers_recorded starts_lined (looks_by_line (looks_within looks)) (takes_by_line (takes_within takes)) taken failed)
-      (λ s. s.0) (tenant_answers_recorded (starts_by_line (starts_within pooled_count (StartsBy pooled_at pooled_count))) (looks_by_line (looks_within (TellsBy pooled_at pooled_count))) (takes_by_line (takes_within (TakesBy pooled_at pooled_count))) taken failed)
-      (tenants_as pooled) (λ s. refl) hosted_recorded_alike
+      doors_alike (tenant_answers_recorded starts_lined (looks_by_line (looks_within looks)) (takes_by_line (takes_within takes)) taken failed)
+      (tenant_answers_recorded (starts_by_line (starts_within pooled_count (StartsBy pooled_at pooled_count))) (looks_by_line (looks_within (TellsBy pooled_at pooled_count))) (takes_by_line (takes_within (TakesBy pooled_at pooled_count))) taken failed)
+      (recorded_as pooled) hosted_recorded_alike
 
   -- the pool's own state is forgotten, but for the jobs that it was given and the boards that it watches
-  pub tenants_recorded_serving : (journals : List J) (states : List DeskState) (doors : List TenantDoor) (bounds : Bounds) (l : LimitedRunner R) (pool : R) (begun end : Tenancy × RecordedRunner (LineLimitedRunner (LimitedRunner R)) Q) (sessions : ℕ) (may_stop : Bool)
+  pub tenants_recorded_serving : (journals : List J) (states : List DeskState) (doors : List TenantDoor) (bounds : Bounds) (l : LimitedRunner R) (pool : R) (begun end : Tenancy × BehindDoors (RecordedRunner (LineLimitedRunner (LimitedRunner R)) Q)) (sessions : ℕ) (may_stop : Bool)
       (outcome : Result (Unit {0}) ServeFault) → l.runner ≡ pool → l.limit ≡ bounds.open_jobs → ((f pool).0 ≡ []) × ((f pool).1.entries ≡ [])
-      → AreRestarted starts_lined taken failed journal_of journals (recovered_tenancy doors states) (door_credits doors) (open_jobs_of states) (new_by_line (door_limits bounds.tenant_jobs doors) l) bounds.keep begun
+      → AreRestarted starts_lined taken failed journal_of journals (recovered_tenancy doors states) (door_credits doors) (open_jobs_of states) (new_by_line (door_limits bounds.tenant_jobs doors) l) bounds.keep (without_keys begun)
+      → RemembersNone doors begun.1.keys
       → (serving : IsServingFrom (door_answers_recorded starts_lined (looks_by_line (looks_within looks)) (takes_by_line (takes_within takes)) taken failed) (λ s. s ≡ begun) end sessions may_stop outcome)
       → (recorded : IsServingTenantsRecorded taken failed journal_of journals states doors bounds sessions may_stop outcome) × (recorded.serving.opened ≡ serving.opened) × (recorded.serving.closed ≡ serving.closed)
-  tenants_recorded_serving journals states doors bounds l pool begun end sessions may_stop outcome is_pool is_limit none restarted serving =
-      let kept = serving_kept (tenants_as pooled)
+  tenants_recorded_serving journals states doors bounds l pool begun end sessions may_stop outcome is_pool is_limit none restarted keyless serving =
+      let kept = serving_kept (doors_as (recorded_as pooled))
       (door_answers_recorded starts_lined (looks_by_line (looks_within looks)) (takes_by_line (takes_within takes)) taken failed)
       (hosted_answers_recorded taken failed) hosted_doors_recorded_alike
-      (λ s. s ≡ begun) (λ s. s ≡ tenants_as pooled begun) (λ s is. ap (tenants_as pooled) is)
+      (λ s. s ≡ begun) (λ s. s ≡ doors_as (recorded_as pooled) begun) (λ s is. ap (doors_as (recorded_as pooled)) is)
       end sessions may_stop outcome serving in (
         record {
           first = f pool;
           none = none;
-          begun = tenants_as pooled begun;
+          begun = doors_as (recorded_as pooled) begun;
           restarted = record {
             fresh = restarted.fresh;
             none = restarted.none;
@@ -155,15 +157,16 @@ module _ {R Q J : Type 0} (f : R → Pool) (taken : Q → List ℕ) (failed : Q 
             granted = restarted.granted;
             credited = restarted.credited;
             started = subst
-                (λ (x : LimitedRunner Pool). RestartsEach (starts_by_line (starts_within pooled_count (StartsBy pooled_at pooled_count))) restarted.granted (new_by_line (door_limits bounds.tenant_jobs doors) x) (open_jobs_of states) begun.0.desks (pooled begun.1.runner))
+                (λ (x : LimitedRunner Pool). RestartsEach (starts_by_line (starts_within pooled_count (StartsBy pooled_at pooled_count))) restarted.granted (new_by_line (door_limits bounds.tenant_jobs doors) x) (open_jobs_of states) begun.0.desks (pooled begun.1.handler.runner))
                 (limited_is f bounds l pool is_pool is_limit)
-                (restarts_alike pooled starts_lined (starts_by_line (starts_within pooled_count (StartsBy pooled_at pooled_count))) lined_starts restarted.granted (new_by_line (door_limits bounds.tenant_jobs doors) l) (open_jobs_of states) begun.0.desks begun.1.runner restarted.started);
+                (restarts_alike pooled starts_lined (starts_by_line (starts_within pooled_count (StartsBy pooled_at pooled_count))) lined_starts restarted.granted (new_by_line (door_limits bounds.tenant_jobs doors) l) (open_jobs_of states) begun.0.desks begun.1.handler.runner restarted.started);
             recorded = restarted.recorded;
             names = restarted.names;
             kept = restarted.kept;
             in_step = restarted.in_step;
           };
-          end = tenants_as pooled end;
+          keyless = keyless;
+          end = doors_as (recorded_as pooled) end;
           serving = kept.0;
         },
         kept.1,

@@ -7,6 +7,7 @@ use Rattle.desk_journal.specs.DeskSteps.{DeskState}
 use Rattle.desk_journal.specs.declared.journaled_desk.OpenJob.{OpenJob}
 use Rattle.desk_recorder.specs.declared.recorder.ChangeRecorder.{ChangeRecorder}
 use Rattle.shared_desk.specs.Histories.{Query}
+use Rattle.tenant_desks.specs.AtDoors.{BehindDoors, without_keys}
 use Rattle.tenant_desks.specs.Tenancies.{Tenancy}
 use Rattle.tenant_recorder.specs.Recorders.{AreRecorded}
 use Rattle.tenant_recorder.specs.TenantCredits.{AreCredited}
@@ -23,7 +24,7 @@ use Rattle.job_server.specs.declared.fault.ServeFault.{ServeFault}
 use Rattle.job_server.specs.declared.tenant_door.TenantDoor.{TenantDoor}
 use Rattle.job_server.specs.AtOnce.{IsServingFrom, Pool}
 use Rattle.job_server.specs.TenantLimits.{door_limits}
-use Rattle.job_server.specs.TenantServing.{door_credits, door_names}
+use Rattle.job_server.specs.TenantServing.{RemembersNone, door_credits, door_names}
 
 -- the desks that were recovered: that of everybody else, and behind it that of each of these doors'
 -- tenants
@@ -64,9 +65,10 @@ pub record AreRestarted {R Q J : Type 0}
   pub in_step : AreInStep begun
 
 -- the desks, and a pool within its host's bounds, of all and of each tenant, with the queues of the
--- desks' changes
+-- desks' changes, behind doors that remember keys
 abbrev pub RecordedTenantHosted : Type 0 → Type 0
-RecordedTenantHosted Q = Tenancy × RecordedRunner (LineLimitedRunner (LimitedRunner Pool)) Q
+RecordedTenantHosted Q =
+    Tenancy × BehindDoors (RecordedRunner (LineLimitedRunner (LimitedRunner Pool)) Q)
 
 abbrev pub hosted_answers_recorded : {Q : Type 0} → (Q → List ℕ) → (Q → Type 0)
     → RecordedTenantHosted Q → Query → List ℕ → RecordedTenantHosted Q → Type 0
@@ -91,7 +93,8 @@ pub record IsServingTenantsRecorded {Q J : Type 0} (taken : Q → List ℕ) (fai
       (open_jobs_of states)
       (new_by_line (door_limits bounds.tenant_jobs doors)
       (record { runner = first; limit = bounds.open_jobs }))
-      bounds.keep begun
+      bounds.keep (without_keys begun)
+  pub keyless : RemembersNone doors begun.1.keys
   pub end : RecordedTenantHosted Q
   pub serving : IsServingFrom (hosted_answers_recorded taken failed) (λ s. s ≡ begun) end sessions
       may_stop outcome

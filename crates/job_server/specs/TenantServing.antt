@@ -1,11 +1,12 @@
 -- Servers of which some tenants may have a door, and a desk, of their own.
-use Rattle.std.specs.Prelude.{◌≡◌, ℕ, Bool, false, List, [], ◌∷◌, All, map, string_bytes, Option, Result}
+use Rattle.std.specs.Prelude.{◌≡◌, ℕ, ◌+◌, Bool, false, List, [], ◌∷◌, All, length, map, replicate, string_bytes, Option, Result}
+use Rattle.sessions.specs.declared.job_key.KeyedJob.{KeyedJob}
 use Rattle.shared_desk.specs.Histories.{Query}
 use Rattle.shared_desk.specs.declared.door.Door.TheVariants.{Tenant}
 use Rattle.shared_desk.specs.declared.passage.Passage.{Passage}
 use Rattle.tenant_desks.specs.Tenancies.{IsFirstTenancy, Tenancy}
 use Rattle.tenant_desks.specs.Answering.{KeptRunner, tenant_answers}
-use Rattle.tenant_desks.specs.JobLists.{answers_at_doors}
+use Rattle.tenant_desks.specs.AtDoors.{BehindDoors, answers_at_doors}
 use Rattle.job_pools.specs.Holds.{StartsBy, TellsBy, TakesBy}
 use Rattle.job_pools.specs.Started.{pooled_at, pooled_count}
 use Rattle.job_pools.specs.Bounded.{looks_within, starts_within, takes_within}
@@ -38,20 +39,27 @@ hosted_tenant_answers =
     (looks_by_line (looks_within (TellsBy pooled_at pooled_count)))
     (takes_by_line (takes_within (TakesBy pooled_at pooled_count)))
 
--- the same, behind doors that hear forms of their own
-abbrev pub hosted_door_answers : TenantHosted → Query → List ℕ → TenantHosted → Type 0
-hosted_door_answers = answers_at_doors (λ s. s.0) hosted_tenant_answers
+-- the same, behind doors that hear forms of their own, and remember keys
+abbrev pub DoorsHosted : Type 0
+DoorsHosted = Tenancy × BehindDoors (KeptRunner (LineLimitedRunner (LimitedRunner Pool)))
 
--- a new desk for each of these doors' tenants, with its first credit, and one for everybody else; and
--- this runner with no job, within the limits of each
+abbrev pub hosted_door_answers : DoorsHosted → Query → List ℕ → DoorsHosted → Type 0
+hosted_door_answers = answers_at_doors hosted_tenant_answers
+
+-- none of these doors remembers a key, nor does that of everybody else
+abbrev pub RemembersNone : List TenantDoor → List (List KeyedJob) → Type 0
+RemembersNone doors keys = keys ≡ replicate (length doors + 1) []
+
+-- a new desk for each of these doors' tenants, with its first credit, and one for everybody else; this
+-- runner with no job, within the limits of each; and doors that remember no key
 abbrev pub BeginsAtDesks : {R : Type 0} → List TenantDoor → Bounds → R
-    → Tenancy × KeptRunner (LineLimitedRunner R) → Type 0
+    → Tenancy × BehindDoors (KeptRunner (LineLimitedRunner R)) → Type 0
 BeginsAtDesks doors bounds runner begun =
     IsFirstTenancy (door_credits doors) begun.0
-    × (begun.1 ≡ record {
+    × (begun.1.handler ≡ record {
       runner = new_by_line (door_limits bounds.tenant_jobs doors) runner;
       keep = bounds.keep;
-    })
+    }) × RemembersNone doors begun.1.keys
 
 -- So many connections are served, first on new desks, where tenants have their first credit, and with
 -- no job. Jobs run on a pool that lasts, within the bounds.
@@ -59,9 +67,9 @@ pub record IsServingTenants (doors : List TenantDoor) (bounds : Bounds) (session
     (may_stop : Bool) (outcome : Result (Unit {0}) ServeFault) : Type 0 where
   pub first : Pool
   pub none : (first.0 ≡ []) × (first.1.entries ≡ [])
-  pub begun : TenantHosted
+  pub begun : DoorsHosted
   pub begins : BeginsAtDesks doors bounds (record { runner = first; limit = bounds.open_jobs }) begun
-  pub end : TenantHosted
+  pub end : DoorsHosted
   pub serving : IsServingFrom hosted_door_answers (λ s. s ≡ begun) end sessions may_stop outcome
 
 -- what comes by a tenant's own door may not grant

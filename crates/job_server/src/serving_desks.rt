@@ -4,6 +4,7 @@ ghost use Rattle.std.specs.Prelude.{◌≡◌, ◌≤◌, All, IfOk, is_some, le
 ghost use Rattle.accounts.specs.Ledgers.{Ledger};
 ghost use Rattle.shared_desk.specs.Histories.{by_any_passage};
 ghost use Rattle.tenant_desks.specs.Answering.{KeptRunner, door_answers};
+ghost use Rattle.tenant_desks.specs.AtDoors.{BehindDoors};
 ghost use Rattle.tenant_desks.specs.Tenancies.{Tenancy};
 ghost use Rattle.job_server.specs.AtOnce.{IsServingFrom, new_desk};
 ghost use Rattle.job_server.specs.Kept.{answers_keeping};
@@ -29,7 +30,7 @@ use std::sync::Wait;
 use std::thread::Threads;
 use std::time::Clock;
 use streams::Runner;
-use tenant_desks::{OwnNaming, TenantDesks, TenantHandler};
+use tenant_desks::{DoorKeys, OwnNaming, TenantDesks, TenantDoors, TenantHandler};
 
 /// Serves the connections at one new desk, whose jobs this runner runs.
 pub(crate) fn serve_at_desk<
@@ -77,8 +78,8 @@ pub(crate) fn serve_at_desks<
 >(rt: &'s R, alloc: Global, listener: L, runner: N, plan: Plan<'s>) -> Result<(), ServeFault>
     requires ready { N.ready runner }
     requires tenants { length plan.tenants.now ≤ 256 }
-    ensures { (begun : Tenancy × KeptRunner (LineLimitedRunner N))
-        × (end : Tenancy × KeptRunner (LineLimitedRunner N))
+    ensures { (begun : Tenancy × BehindDoors (KeptRunner (LineLimitedRunner N)))
+        × (end : Tenancy × BehindDoors (KeptRunner (LineLimitedRunner N)))
         × BeginsAtDesks plan.entry.tenants.now plan.entry.bounds runner begun
         × (s : IsServingFrom (door_answers (starts_by_line N.starts) (looks_by_line N.looks)
         (takes_by_line N.takes)) (λ s. s ≡ begun) end
@@ -95,7 +96,11 @@ pub(crate) fn serve_at_desks<
     let Ok(limited) = limited_by_door(alloc, runner, plan.bounds.tenant_jobs, plan.tenants) else {
         return Err(NO_MEMORY);
     };
-    let handler = OwnNaming::of(TenantHandler::new(rt, plan.log, limited, plan.bounds.keep));
+    let Ok(keys) = DoorKeys::new(alloc, plan.tenants.len() + 1) else {
+        return Err(NO_MEMORY);
+    };
+    let named = OwnNaming::of(TenantHandler::new(rt, plan.log, limited, plan.bounds.keep));
+    let handler = TenantDoors::of(named, keys);
     let served = serve_at_once(rt, alloc, listener, desks, handler, plan);
     served.2
 }

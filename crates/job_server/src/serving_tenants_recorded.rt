@@ -6,6 +6,7 @@ ghost use Rattle.desk_journal.specs.DeskSteps.{DeskState};
 ghost use Rattle.desk_journal.specs.declared.journaled_desk.OpenJob.{OpenJob};
 ghost use Rattle.shared_journal.specs.declared.journal_queue.JournalQueue.{JournalQueue};
 ghost use Rattle.streams.specs.declared.fault.StreamFault.TheVariants as stream;
+ghost use Rattle.tenant_desks.specs.AtDoors.{BehindDoors, without_keys};
 ghost use Rattle.tenant_desks.specs.Tenancies.{Tenancy};
 ghost use Rattle.tenant_recorder.specs.TenantsRecorded.{RecordedRunner, door_answers_recorded};
 ghost use Rattle.job_pools.specs.LineBounded.{looks_by_line, new_by_line, starts_by_line, takes_by_line};
@@ -15,7 +16,7 @@ ghost use Rattle.job_server.specs.Listening.{AreOf, CameBy};
 ghost use Rattle.job_server.specs.Recorded.{queue_journal, queue_taken, queue_told};
 ghost use Rattle.job_server.specs.TenantLimits.{door_limits};
 ghost use Rattle.job_server.specs.TenantRecorded.{AreFresh, AreRestarted, open_jobs_of, recovered_tenancy};
-ghost use Rattle.job_server.specs.TenantServing.{door_credits};
+ghost use Rattle.job_server.specs.TenantServing.{RemembersNone, door_credits};
 ghost use Rattle.job_server.specs.declared.fault.ServeFault.TheVariants as fault;
 
 use crate::at_once::{NO_MEMORY, serve_at_once};
@@ -35,7 +36,7 @@ use std::sync::Wait;
 use std::thread::Threads;
 use std::time::Clock;
 use streams::Runner;
-use tenant_desks::TenantDesks;
+use tenant_desks::{DoorKeys, TenantDesks, TenantDoors};
 use tenant_recorder::RecordingTenantHandler;
 
 // The desks that were recovered, and the open jobs of each.
@@ -139,13 +140,14 @@ pub(crate) fn serve_tenants_recorded<
     requires tenants { length plan.tenants.now ≤ 256 }
     requires journals { length plan.journals.now ≡ length plan.tenants.now + 1 }
     requires states { length states.items ≡ length plan.journals.now }
-    ensures { ((begun : Tenancy × RecordedRunner (LineLimitedRunner N) (JournalQueue R))
-        × (end : Tenancy × RecordedRunner (LineLimitedRunner N) (JournalQueue R))
+    ensures { ((begun : Tenancy × BehindDoors (RecordedRunner (LineLimitedRunner N) (JournalQueue R)))
+        × (end : Tenancy × BehindDoors (RecordedRunner (LineLimitedRunner N) (JournalQueue R)))
         × AreRestarted (starts_by_line N.starts) queue_taken queue_told queue_journal
         plan.entry.journals.now (recovered_tenancy plan.entry.tenants.now states.items)
         (door_credits plan.entry.tenants.now) (open_jobs_of states.items)
         (new_by_line (door_limits plan.entry.bounds.tenant_jobs plan.entry.tenants.now) runner)
-        plan.entry.bounds.keep begun
+        plan.entry.bounds.keep (without_keys begun)
+        × RemembersNone plan.entry.tenants.now begun.1.keys
         × (s : IsServingFrom (door_answers_recorded (starts_by_line N.starts)
         (looks_by_line N.looks) (takes_by_line N.takes) queue_taken queue_told) (λ s. s ≡ begun) end
         plan.entry.sessions (is_some plan.entry.stop) result)
@@ -162,11 +164,14 @@ pub(crate) fn serve_tenants_recorded<
     let Ok(mut handler) = recording_handler(rt, alloc, runner, plan) else {
         return Err(NO_MEMORY);
     };
+    let Ok(keys) = DoorKeys::new(alloc, plan.tenants.len() + 1) else {
+        return Err(NO_MEMORY);
+    };
     let Ok(()) = handler.grant_first(alloc, &mut desks, &tenants) else {
         return Err(NO_MEMORY);
     };
     handler.restart(alloc, &mut desks, jobs);
-    let recording = TenantRecording::of(handler);
-    let served = serve_at_once(rt, alloc, listener, desks, recording, plan);
+    let doors = TenantDoors::of(TenantRecording::of(handler), keys);
+    let served = serve_at_once(rt, alloc, listener, desks, doors, plan);
     served.2
 }

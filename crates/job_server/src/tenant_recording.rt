@@ -9,15 +9,11 @@ use std::marker::Model;
 use std::sync::Wait;
 use std::time::Clock;
 use streams::{PendingReply, PreparedRequest, Runner};
-use tenant_desks::{TenantDesks, answer_form, own_named};
+use tenant_desks::{TenantDesks, own_named};
 use tenant_recorder::RecordingTenantHandler;
 
-// The number of the refusal of what is no request.
-const NO_REQUEST: u8 = 73;
-
 /// A handler whose journals are lent for as long as it is. What leaves its tenant's name out is asked by
-/// the name of the door's own tenant, and a listing is told by the door's own desk. Contracts see the
-/// handler itself.
+/// the name of the door's own tenant. Contracts see the handler itself.
 #[derive(Drop)]
 pub(crate) struct TenantRecording<'s, R, N> {
     handler: RecordingTenantHandler<'s, R, N, JournalQueue<'s, R>>,
@@ -46,12 +42,12 @@ impl<'s, R, N: Drop> TenantRecording<'s, R, N> {
 }
 
 impl<R: Wait + Clock, N: Runner> SharedHandler<TenantDesks> for TenantRecording<'_, R, N> {
-    ghost use Rattle.tenant_recorder.specs.TenantsRecorded.{door_answers_recorded};
+    ghost use Rattle.tenant_recorder.specs.TenantsRecorded.{tenant_answers_recorded};
     ghost use Rattle.job_server.specs.Recorded.{queue_taken, queue_told};
 
     ghost ready = { λ h. N.ready h.runner };
 
-    ghost answers = { door_answers_recorded N.starts N.looks N.takes queue_taken queue_told };
+    ghost answers = { tenant_answers_recorded N.starts N.looks N.takes queue_taken queue_told };
 
     fn wants_admission(&self, desk: &TenantDesks, passage: Passage, request: &Request) -> bool {
         self.handler.wants_admission(desk, passage, request)
@@ -63,19 +59,9 @@ impl<R: Wait + Clock, N: Runner> SharedHandler<TenantDesks> for TenantRecording<
         desk: &mut TenantDesks,
         passage: Passage,
         request: PreparedRequest,
-        beyond: Option<DoorForm>,
+        _beyond: Option<DoorForm>,
     ) -> Result<PendingReply, NoMemory> {
-        match beyond {
-            None => {
-                let named = own_named(alloc, &desk.names, passage.door, request);
-                self.handler.answer_by(alloc, desk, passage, named, None)
-            }
-            Some(form) => {
-                drop(request);
-                let nothing = PreparedRequest::AsItCame(Err(NO_REQUEST));
-                drop(self.handler.answer_by(alloc, desk, passage, nothing, None));
-                answer_form(alloc, desk, passage.door, form)
-            }
-        }
+        let named = own_named(alloc, &desk.names, passage.door, request);
+        self.handler.answer_by(alloc, desk, passage, named, None)
     }
 }

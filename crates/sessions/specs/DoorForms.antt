@@ -1,12 +1,13 @@
 -- What some doors hear beyond the plain protocol.
-use Rattle.std.specs.Prelude.{◌≡◌, ℕ, List, if◌then◌else◌, Option, Some, None, Result, Ok, Err, option_map, option_and_then, codes}
+use Rattle.std.specs.Prelude.{◌≡◌, ℕ, ◌&&◌, List, length, Bool, nat_le, if◌then◌else◌, Option, Some, None, Result, Ok, Err, option_map, option_and_then, codes}
+use Rattle.std.specs.List.{list_all}
 use Rattle.std.specs.Str.{bytes_eq}
 use Rattle.serde_json.specs.Data.{Data}
-use Rattle.serde_json.specs.Find.{get}
-use Rattle.sessions.specs.Grammar.{ReadsJson, number_between, request_asked, text_at_key}
+use Rattle.serde_json.specs.Find.{as_str, get}
+use Rattle.sessions.specs.Grammar.{ReadsJson, is_name_byte, number_between, request_asked, text_at_key}
 use Rattle.sessions.specs.OwnNames.{HearsBy}
 use Rattle.sessions.specs.declared.door_forms.DoorForm.{DoorForm}
-use Rattle.sessions.specs.declared.door_forms.DoorForm.TheVariants.{Jobs}
+use Rattle.sessions.specs.declared.door_forms.DoorForm.TheVariants.{Jobs, Keyed}
 use Rattle.sessions.specs.declared.door_forms.DoorForms.{DoorForms}
 use Rattle.sessions.specs.declared.door_forms.DoorForms.TheVariants.{Plain, OwnDoor}
 use Rattle.sessions.specs.declared.request.Request.{Request}
@@ -26,9 +27,28 @@ first_listed (Some d) = number_between 1 18446744073709551615 d
 unfoldable pub jobs_from : Data → Option DoorForm
 jobs_from d = option_map Jobs (first_listed (get (codes "from") d))
 
--- the request of a tenant's own door that an `op` names
+-- 1 to 64 of the bytes of a tenant's name
+unfoldable pub is_job_key : List ℕ → Bool
+is_job_key text =
+    nat_le 1 (length text) && (nat_le (length text) 64 && list_all is_name_byte text)
+
+-- the key that a value is, if it is one
+unfoldable pub job_key_from : Data → Option (List ℕ)
+job_key_from d = option_and_then (λ text. if is_job_key text then Some text else None) (as_str d)
+
+-- a submit by what stands at `key`, if something does
+abbrev pub keyed_by : Option Data → Option DoorForm
+keyed_by None = None
+keyed_by (Some d) = Some (Keyed (job_key_from d))
+
+unfoldable pub keyed_from : Data → Option DoorForm
+keyed_from d = keyed_by (get (codes "key") d)
+
+-- The request of a tenant's own door that an `op` names. A submit is one where it has a key.
 unfoldable pub own_form : List ℕ → Data → Option DoorForm
-own_form op d = if bytes_eq op (codes "jobs") then jobs_from d else None
+own_form op d =
+    if bytes_eq op (codes "jobs") then jobs_from d
+    else (if bytes_eq op (codes "submit") then keyed_from d else None)
 
 -- what is asked beyond the plain protocol, if something is
 unfoldable pub beyond_from : DoorForms → Data → Option DoorForm

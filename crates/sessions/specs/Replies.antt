@@ -1,5 +1,5 @@
 -- The JSON of a reply.
-use Rattle.std.specs.Prelude.{ℕ, List, [], ◌∷◌, map, length, Bool, true, false, codes, nat_le, if◌then◌else◌, Option, Some, None}
+use Rattle.std.specs.Prelude.{ℕ, ◌==◌, List, [], ◌∷◌, map, length, Bool, true, false, codes, nat_le, if◌then◌else◌, Option, Some, None}
 use Rattle.hex.specs.Hex.{encode_lower}
 use Rattle.serde_json.specs.Data.{Data, boolean, number, unsigned, string, array, object, Items, no_items, item, Members, no_members, member}
 use Rattle.serde_json.specs.Written.{compact_text}
@@ -8,6 +8,7 @@ use Rattle.accounts.specs.declared.listing.ListedJob.{ListedJob}
 use Rattle.accounts.specs.declared.listing.ListedState.{ListedState}
 use Rattle.accounts.specs.declared.listing.ListedState.TheVariants.{Open, Over, Failed}
 use Rattle.sessions.specs.Frames.{framed}
+use Rattle.sessions.specs.declared.job_key.KeyedJob.{KeyedJob}
 use Rattle.sessions.specs.declared.reply.Reply.{Reply}
 use Rattle.sessions.specs.declared.reply.Reply.TheVariants as reply
 
@@ -69,23 +70,39 @@ play_data buffer complete held returned spent used =
     (member (codes "ok") (boolean true) (member (codes "returned") (whole returned)
     (member (codes "spent") (whole spent) (member (codes "used") (whole used) no_members)))))))
 
--- a job in a listing: its number, how it stands, and the code by which it failed, if it did
-unfoldable pub listed_data : ℕ → ListedState → Data
-listed_data job Open =
-    object (member (codes "job") (whole job)
-    (member (codes "state") (string (codes "open")) no_members))
-listed_data job Over =
-    object (member (codes "job") (whole job)
-    (member (codes "state") (string (codes "over")) no_members))
-listed_data job (Failed code) =
-    object (member (codes "code") (whole code) (member (codes "job") (whole job)
-    (member (codes "state") (string (codes "failed")) no_members)))
+-- the key of a job, by the first of these that has its number
+abbrev pub key_among : List KeyedJob → ℕ → Option (List ℕ)
+key_among [] job = None
+key_among (keyed ∷ keys) job =
+    if keyed.job == job then Some keyed.key else key_among keys job
 
--- a listing, with the number of the last job
-unfoldable pub jobs_data : ℕ → List ListedJob → Data
-jobs_data count jobs =
+-- a job's key ahead of other members, if it has one
+abbrev pub key_ahead : Option (List ℕ) → Members → Members
+key_ahead None others = others
+key_ahead (Some key) others = member (codes "key") (string key) others
+
+-- a job in a listing: its number, its key, if it has one, how it stands, and the code by which it
+-- failed, if it did
+unfoldable pub listed_data : ℕ → Option (List ℕ) → ListedState → Data
+listed_data job key Open =
+    object (member (codes "job") (whole job)
+    (key_ahead key (member (codes "state") (string (codes "open")) no_members)))
+listed_data job key Over =
+    object (member (codes "job") (whole job)
+    (key_ahead key (member (codes "state") (string (codes "over")) no_members)))
+listed_data job key (Failed code) =
+    object (member (codes "code") (whole code) (member (codes "job") (whole job)
+    (key_ahead key (member (codes "state") (string (codes "failed")) no_members))))
+
+-- a job in a listing, with its key where that is among these
+abbrev pub listed_by : List KeyedJob → ListedJob → Data
+listed_by keys j = listed_data j.job (key_among keys j.job) j.state
+
+-- a listing, with the number of the last job, and the keys that are remembered
+unfoldable pub jobs_data : ℕ → List ListedJob → List KeyedJob → Data
+jobs_data count jobs keys =
     object (member (codes "count") (whole count)
-    (member (codes "jobs") (array (items (map (λ j. listed_data j.job j.state) jobs)))
+    (member (codes "jobs") (array (items (map (listed_by keys) jobs)))
     (member (codes "ok") (boolean true) no_members)))
 
 abbrev pub reply_data : Reply → Data
@@ -97,7 +114,7 @@ reply_data (reply.Result buffer returned spent tasks) =
     result_data buffer.now returned spent tasks.now
 reply_data (reply.Play buffer complete held returned spent used) =
     play_data buffer.now complete held returned spent used
-reply_data (reply.Jobs count jobs) = jobs_data count jobs.now
+reply_data (reply.Jobs count jobs keys) = jobs_data count jobs.now keys.now
 
 -- the bytes of a reply
 abbrev pub text_of : Reply → List ℕ

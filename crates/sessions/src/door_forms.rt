@@ -1,5 +1,7 @@
 //! What some doors hear beyond the plain protocol.
 
+use crate::job_key::JobKey;
+
 /// Which requests a door hears.
 #[derive(Clone, Copy, Debug, PartialEq, Eq)]
 pub enum DoorForms {
@@ -11,8 +13,10 @@ pub enum DoorForms {
 }
 
 /// A request of a tenant's own door, beyond the plain protocol.
-#[derive(Clone, Copy, Debug, PartialEq, Eq)]
+#[derive(Debug, Drop)]
 pub enum DoorForm {
     /// Which jobs the door's tenant has, from this number on.
     Jobs { from: u64 },
+    /// A submit that has a key; none where the member is no key.
+    Keyed { key: Option<JobKey> },
 }

@@ -2,13 +2,14 @@
 
 ghost use Rattle.std.specs.Prelude.{◌≡◌, IfOk, MatchResult, None, Some};
 ghost use Rattle.serde_json.specs.View.{view};
-ghost use Rattle.sessions.specs.DoorForms.{AsksBeyond, ReadsPlainly, beyond_from, jobs_from, key_of, own_form};
+ghost use Rattle.sessions.specs.DoorForms.{AsksBeyond, ReadsPlainly, beyond_from, job_key_from, jobs_from, key_of, keyed_from, own_form};
 ghost use Rattle.sessions.specs.Grammar.{request_asked};
 ghost use Rattle.sessions.specs.OwnNames.{request_by};
 
 use crate::door_forms::{DoorForm, DoorForms};
 use crate::fault::SessionFault;
-use crate::member::{number_of, text_member};
+use crate::job_key::JobKey;
+use crate::member::{is_job_key, number_of, text_member};
 use crate::request::{Request, read_value};
 use crate::tenant_key::TenantKey;
 use refusal::NoMemory;
@@ -46,22 +47,60 @@ fn read_jobs(value: &Value) -> Option<DoorForm>
     Some(DoorForm::Jobs { from })
 }
 
+// The key that a value is, if it is one.
+#[tactic(auto, unfolding(crate::specs::DoorForms::job_key_from))]
+fn read_key(alloc: Global, value: &Value) -> Result<Option<JobKey>, NoMemory>
+    ensures { IfOk result (λ key. key ≡ job_key_from (view value.now)) }
+{
+    let Some(text) = value.as_str() else {
+        return Ok(None);
+    };
+    if !is_job_key(text) {
+        return Ok(None);
+    }
+    let text = String::from_str(alloc, text)?;
+    Ok(Some(JobKey::of(text)))
+}
+
+// A submit that has a member `key`.
+#[tactic(auto, unfolding(crate::specs::DoorForms::keyed_from))]
+fn read_keyed(alloc: Global, value: &Value) -> Result<Option<DoorForm>, NoMemory>
+    ensures { IfOk result (λ form. form ≡ keyed_from (view value.now)) }
+{
+    match value.get("key") {
+        Some(member) => {
+            let key = read_key(alloc, member)?;
+            Ok(Some(DoorForm::Keyed { key }))
+        }
+        None => Ok(None),
+    }
+}
+
 // The request of a tenant's own door that `op` names.
 #[tactic(auto, unfolding(crate::specs::DoorForms::own_form))]
-fn read_own_form(op: &str, value: &Value) -> Option<DoorForm>
-    ensures { result ≡ own_form op.now (view value.now) }
+fn read_own_form(alloc: Global, op: &str, value: &Value) -> Result<Option<DoorForm>, NoMemory>
+    ensures { IfOk result (λ form. form ≡ own_form op.now (view value.now)) }
 {
-    if op == "jobs" { read_jobs(value) } else { None }
+    if op == "jobs" {
+        return Ok(read_jobs(value));
+    }
+    if op == "submit" {
+        return read_keyed(alloc, value);
+    }
+    Ok(None)
 }
 
 // What is asked beyond the plain protocol, if something is.
 #[tactic(auto, unfolding(crate::specs::DoorForms::beyond_from))]
-fn read_beyond(value: &Value, forms: DoorForms) -> Option<DoorForm>
-    ensures { result ≡ beyond_from forms (view value.now) }
+fn read_beyond(alloc: Global, value: &Value, forms: DoorForms) -> Result<Option<DoorForm>, NoMemory>
+    ensures { IfOk result (λ beyond. beyond ≡ beyond_from forms (view value.now)) }
 {
     match forms {
-        DoorForms::Plain => None,
-        DoorForms::OwnDoor => read_own_form(text_member(value, "op")?, value),
+        DoorForms::Plain => Ok(None),
+        DoorForms::OwnDoor => match text_member(value, "op") {
+            Some(op) => read_own_form(alloc, op, value),
+            None => Ok(None),
+        },
     }
 }
 
@@ -99,7 +138,7 @@ pub fn read_at_door(
     match Value::from_slice(alloc, payload) {
         Ok(value) => {
             let plain = read_plainly(alloc, &value, forms.tenant_key())?;
-            let beyond = read_beyond(&value, forms);
+            let beyond = read_beyond(alloc, &value, forms)?;
             Ok(DoorRequest { plain, beyond })
         }
         Err(e) if e.classify() == Category::Memory => Err(NoMemory),

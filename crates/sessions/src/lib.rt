@@ -14,12 +14,14 @@ pub use session::Session;
 mod door_forms;
 mod door_request;
 mod hexadecimal;
+mod job_key;
 mod member;
 mod request;
 mod tenant_key;
 
 pub use door_forms::{DoorForm, DoorForms};
 pub use door_request::{DoorRequest, read_at_door};
+pub use job_key::{JobKey, KeyedJob};
 pub use request::{JobObject, Request, job_object, read_request_by};
 pub use tenant_key::TenantKey;
 

@@ -4,6 +4,7 @@ ghost use Rattle.std.specs.Prelude.{◌≡◌, ◌≢◌, Some, None, IfOk, IfEr
 ghost use Rattle.std.specs.List.{list_all};
 ghost use Rattle.serde_json.specs.View.{view};
 ghost use Rattle.sessions.specs.Grammar.{text_at_key, number_between, number_at_key, bytes_at_key, list_at_key, tenant_at, is_name, is_name_byte};
+ghost use Rattle.sessions.specs.DoorForms as forms;
 ghost use Rattle.sessions.specs.OwnNames.{tenant_by};
 ghost use Rattle.sessions.specs.declared.fault.SessionFault.TheVariants.{BadRequest, NoMemory};
 
@@ -14,6 +15,8 @@ use serde_json::Value;
 use std::alloc::Global;
 
 const LONGEST_NAME: usize = 32;
+
+const LONGEST_KEY: usize = 64;
 
 /// The text at a key.
 pub(crate) fn text_member<'a>(value: &'a Value, key: &str) -> Option<&'a str>
@@ -82,6 +85,20 @@ fn is_name(text: &str) -> bool
         return false;
     }
     if text.len() > LONGEST_NAME {
+        return false;
+    }
+    has_name_bytes(text.as_bytes())
+}
+
+/// Whether a text may be the key of a submit.
+#[tactic(auto, using(crate::proofs::Names::key_empty, crate::proofs::Names::key_long, crate::proofs::Names::key_holds))]
+pub(crate) fn is_job_key(text: &str) -> bool
+    ensures { result ≡ forms.is_job_key text.now }
+{
+    if text.is_empty() {
+        return false;
+    }
+    if text.len() > LONGEST_KEY {
         return false;
     }
     has_name_bytes(text.as_bytes())

@@ -7,6 +7,7 @@ ghost use Rattle.sessions.specs.Frames.{framed};
 ghost use Rattle.sessions.specs.Replies.{refusal_data, account_data, submit_data, status_data, play_data, text_of, frame_of, frame_or_refusal, longest_reply};
 ghost use Rattle.sessions.specs.Outcomes.{outcome_data};
 
+use crate::job_key::KeyedJob;
 use crate::job_list::write_jobs;
 use crate::result::{JobOutcome, result_frame, write_result};
 use accounts::ListedJob;
@@ -54,10 +55,12 @@ pub enum Reply<'a> {
         spent: u32,
         tasks: &'a [TaskEnd],
     },
-    /// Which jobs a tenant has, of which the last one has the number `count`.
+    /// Which jobs a tenant has, of which the last one has the number `count`; and which of them
+    /// have keys.
     Jobs {
         count: u64,
         jobs: &'a [ListedJob],
+        keys: &'a [KeyedJob],
     },
     /// How far a schedule brought a job.
     Play {
@@ -203,7 +206,7 @@ fn write_reply(alloc: Global, out: &mut Vec<u8>, reply: &Reply) -> Result<(), Al
                 tasks,
             },
         ),
-        Reply::Jobs { count, jobs } => write_jobs(out, count, jobs),
+        Reply::Jobs { count, jobs, keys } => write_jobs(alloc, out, count, jobs, keys),
         Reply::Play {
             buffer,
             complete,

@@ -5,12 +5,17 @@ use mathlib.Core.List.{IsPrefix}
 use Rattle.refusal.specs.declared.NoMemory.{NoMemory}
 use Rattle.sessions.specs.Grammar.{Asked}
 use Rattle.sessions.specs.declared.door_forms.DoorForm.{DoorForm}
+use Rattle.streams.specs.declared.prepared_request.PreparedRequest.{PreparedRequest}
 use Rattle.streams.proofs.Written.{written_ok, written_err}
 use Rattle.shared_desk.specs.declared.passage.Passage.{Passage}
 use Rattle.shared_desk.specs.Grants.{admitted, admitted_by}
 use Rattle.shared_desk.specs.Histories.{HistoryEntry, Query, Replays, none_yet, one_more, part_of}
 use Rattle.shared_desk.specs.ClientViews.{ClientView}
-use Rattle.shared_desk.specs.Answered.{IsSharedAnswer, Records, entry_for}
+use Rattle.shared_desk.specs.Answered.{IsSharedAnswer, Records, entry_for, query_by}
+
+-- the same is asked
+pub asked_as : (passage : Passage) (r q : PreparedRequest) (b d : Option DoorForm) → r ≡ q → b ≡ d → query_by passage r b ≡ query_by passage q d
+asked_as passage r q b d same alike = λ i. query_by passage (same i) (alike i)
 
 module _ {S : Type 0} (answers : S → Query → List ℕ → S → Type 0) (begins : S → Type 0) where
   -- an empty history leads to where it begins

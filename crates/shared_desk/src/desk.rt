@@ -120,6 +120,7 @@ impl<D, H: SharedHandler<D>, J: Origin<D, H>> SharedDesk<D, H, J> {
         ensures over { self.new.2 ≡ self.old.2 }
     {
         let asked = Snapshot::of(&request);
+        let asked_beyond = Snapshot::of(&beyond);
         let desk_before = Snapshot::of(&self.desk);
         let handler_before = Snapshot::of(&self.handler);
         let reply = self
@@ -130,7 +131,7 @@ impl<D, H: SharedHandler<D>, J: Origin<D, H>> SharedDesk<D, H, J> {
             &mut self.recorder,
             passage,
             &asked,
-            beyond,
+            &asked_beyond,
             &desk_before,
             &handler_before,
             &self.desk,

@@ -176,7 +176,7 @@ impl<J: HistoryId> SharedHistory<J> {
         recorder: &mut Recorder<J>,
         passage: Passage,
         request: &Snapshot<PreparedRequest>,
-        beyond: Option<DoorForm>,
+        beyond: &Snapshot<Option<DoorForm>>,
         desk_before: &Snapshot<D>,
         handler_before: &Snapshot<H>,
         desk: &D,

@@ -13,3 +13,6 @@ mod FirstDesks
 pub mod NamedHistories
 pub mod OwnLemmas
 pub mod ListedDesks
+pub mod KeyLemmas
+pub mod DoorLemmas
+mod KeyedDoors

@@ -1,5 +1,5 @@
 -- The answers of a handler to tenants that have desks of their own.
-use Rattle.std.specs.Prelude.{◌≡◌, ◌≤◌, ◌<◌, ◌⊎◌, ℕ, List, length, Option, Some, None, Result, Ok, Err}
+use Rattle.std.specs.Prelude.{◌≡◌, ◌≤◌, ◌<◌, ◌⊎◌, ℕ, List, [], length, replicate, Option, Some, None, Result, Ok, Err}
 use Rattle.credit_book.specs.declared.book.Report.{Report}
 use Rattle.credit_book.specs.declared.board.Progress.{Progress}
 use Rattle.job_core.specs.Admitted.{AdmittedJob}
@@ -15,7 +15,7 @@ use Rattle.shared_desk.specs.Histories.{Query}
 use Rattle.tenant_desks.specs.declared.placed_runner.PlacedRunner.{PlacedRunner}
 use Rattle.tenant_desks.specs.Placing.{placed}
 use Rattle.tenant_desks.specs.PlacedRunners.{starts_placed, looks_placed}
-use Rattle.tenant_desks.specs.JobLists.{answers_at_doors}
+use Rattle.tenant_desks.specs.AtDoors.{BehindDoors, answers_at_doors}
 use Rattle.tenant_desks.specs.OwnNamed.{answers_own_named}
 use Rattle.tenant_desks.specs.Routing.{desk_for}
 use Rattle.tenant_desks.specs.Tenancies.{Tenancy, ChangesAt}
@@ -115,5 +115,14 @@ tenant_answers starts looks takes =
 -- The same, behind doors that hear forms of their own.
 abbrev pub door_answers : {R : Type 0} → (R → ℕ → AdmittedJob → Result (Unit {0}) ℕ → R
     → Type 0) → (R → ℕ → Progress → R → Type 0) → (R → Option (ℕ × Result Report ℕ) → R → Type 0)
-    → Tenancy × KeptRunner R → Query → List ℕ → Tenancy × KeptRunner R → Type 0
-door_answers starts looks takes = answers_at_doors (λ s. s.0) (tenant_answers starts looks takes)
+    → Tenancy × BehindDoors (KeptRunner R) → Query → List ℕ
+    → Tenancy × BehindDoors (KeptRunner R) → Type 0
+door_answers starts looks takes = answers_at_doors (tenant_answers starts looks takes)
+
+-- A server with doors begins at these desks, with these limits of what they keep, and its doors
+-- remember no key.
+abbrev pub BeginsAtDoors : {R : Type 0} → List (List ℕ) → List Ledger → KeepLimits
+    → Tenancy × BehindDoors (KeptRunner R) → Type 0
+BeginsAtDoors names firsts keep s =
+    (s.0 ≡ record { names = names; desks = firsts }) × (s.1.handler.keep ≡ keep)
+    × (s.1.keys ≡ replicate (length firsts) [])

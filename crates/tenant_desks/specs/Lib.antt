@@ -4,8 +4,11 @@ pub mod PlacedRunners
 pub mod Routing
 pub mod OwnNamed
 pub mod JobLists
+pub mod JobKeys
+pub mod AtDoors
 pub mod AskedPlainly
 pub mod Tenancies
 pub mod Answering
+pub mod KeyedHistories
 pub mod Alone
 pub mod Seen

@@ -8,7 +8,7 @@ use crate::routing::place_behind;
 use crate::tenant_handler::refuse;
 use accounts::Desk;
 use refusal::NoMemory;
-use sessions::{DoorForm, Reply};
+use sessions::{KeyedJob, Reply};
 use shared_desk::Door;
 use std::alloc::Global;
 use streams::PendingReply;
@@ -27,46 +27,38 @@ fn first_number(from: u64) -> u64
 
 // What a desk tells of its jobs from a number on.
 #[tactic(auto, unfolding(crate::specs::JobLists::frame_of_jobs, sessions::specs::Replies::frame_of))]
-fn jobs_reply(alloc: Global, desk: &Desk, from: u64) -> Result<PendingReply, NoMemory>
-    ensures { IfOk result (λ frame. frame ≡ lists.frame_of_jobs desk.now from) }
+fn jobs_reply(
+    alloc: Global,
+    desk: &Desk,
+    from: u64,
+    keys: &[KeyedJob],
+) -> Result<PendingReply, NoMemory>
+    ensures { IfOk result (λ frame. frame ≡ lists.frame_of_jobs desk.now from keys.now) }
 {
     let jobs = desk.listing(alloc, first_number(from))?;
     let told = Reply::Jobs {
         count: desk.job_count(),
         jobs: &jobs,
+        keys,
     };
     PendingReply::of_reply(alloc, &told)
 }
 
-// Tells the jobs of a door's own desk from a number on, of which the first 1,000 are told, with the
-// number of the last one; 74 where it is the door of no tenant.
+/// Tells the jobs of a door's own desk from a number on, of which the first 1,000 are told, with the
+/// number of the last one, and the key of each that is among these; 74 where it is the door of no
+/// tenant.
 #[tactic(auto, unfolding(sessions::specs::Replies::frame_of))]
-fn list_jobs(
+pub(crate) fn list_jobs(
     alloc: Global,
     desks: &TenantDesks,
     door: Door,
     from: u64,
+    keys: &[KeyedJob],
 ) -> Result<PendingReply, NoMemory>
-    ensures { IfOk result (λ frame. frame ≡ lists.jobs_frame desks.now.desks door from) }
+    ensures { IfOk result (λ frame. frame ≡ lists.jobs_frame desks.now.desks door from keys.now) }
 {
     match desks.desks.get(place_behind(door)) {
-        Some(desk) => jobs_reply(alloc, desk, from),
+        Some(desk) => jobs_reply(alloc, desk, from, keys),
         None => refuse(alloc, NO_TENANT),
-    }
-}
-
-/// Tells what is asked by a door beyond the plain protocol: the jobs of the door's own desk from a
-/// number on, of which the first 1,000 are told, with the number of the last one. It is 74 where that
-/// is the door of no tenant.
-pub fn answer_form(
-    alloc: Global,
-    desks: &TenantDesks,
-    door: Door,
-    form: DoorForm,
-) -> Result<PendingReply, NoMemory>
-    ensures { IfOk result (λ frame. frame ≡ lists.form_frame desks.now.desks door form) }
-{
-    match form {
-        DoorForm::Jobs { from } => list_jobs(alloc, desks, door, from),
     }
 }

@@ -1,13 +1,18 @@
 //! What each tenant has of a server that many share: a server to itself.
 
-ghost use Rattle.std.specs.Prelude.{◌≡◌, ◌≤◌, ◌+◌, ℕ, List, Some, length, slice_get};
+ghost use Rattle.std.specs.Prelude.{◌≡◌, ◌≤◌, ◌<◌, ◌+◌, ℕ, List, Some, length, slice_get};
 ghost use Rattle.accounts.specs.declared.keep_limits.KeepLimits.{KeepLimits};
 ghost use Rattle.accounts.specs.Ledgers.{Ledger};
 ghost use Rattle.accounts.specs.Limits.{keeps_all};
-ghost use Rattle.shared_desk.specs.Histories.{HistoryEntry, Replays};
+ghost use Rattle.sessions.specs.declared.door_forms.DoorForm.TheVariants.{Keyed};
+ghost use Rattle.sessions.specs.declared.job_key.KeyedJob.{KeyedJob};
+ghost use Rattle.shared_desk.specs.Histories.{HistoryEntry, Query, Replays};
 ghost use Rattle.tenant_desks.specs.Alone.{AreToldWhy, DeskEvent, HappensAlone, IsAloneHistory, IsTenantHistory, sent_to};
-ghost use Rattle.tenant_desks.specs.Answering.{KeptRunner, door_answers, tenant_answers};
+ghost use Rattle.tenant_desks.specs.Answering.{BeginsAtDoors, KeptRunner, door_answers, tenant_answers};
 ghost use Rattle.tenant_desks.specs.AskedPlainly.{AreAskedPlainly};
+ghost use Rattle.tenant_desks.specs.AtDoors.{AsksNothing, BehindDoors, keys_behind, submit_frame, without_keys};
+ghost use Rattle.tenant_desks.specs.JobKeys.{job_among, latest};
+ghost use Rattle.tenant_desks.specs.KeyedHistories.{AreKeyed};
 ghost use Rattle.tenant_desks.specs.OwnNamed.{AreAskedByName};
 ghost use Rattle.tenant_desks.specs.Events.{EachTwo, HappensAlike, IsToldAlike};
 ghost use Rattle.tenant_desks.specs.Seen.{answers_seen};
@@ -73,17 +78,37 @@ pub fn own_names_are_put_in<N: Runner>()
 {}
 
 /// Whatever doors hear beyond the plain protocol, the desks are asked by that: a history of a server
-/// behind such doors is one of plain requests, by what was asked of its desks. At a listing that is no
-/// request, and the reply tells the jobs of the door's own desk as it stands then.
-pub fn listings_are_put_aside<N: Runner>()
+/// behind such doors is one of plain requests, by what was asked of its desks. What a door tells by
+/// itself is no request to them. A submit by a new key is that submit.
+pub fn forms_are_put_aside<N: Runner>()
     ensures { (names : List (List ℕ)) (firsts : List Ledger) (keep : KeepLimits)
-        (history : List HistoryEntry) (end : Tenancy × KeptRunner N)
-        → Replays (door_answers N.starts N.looks N.takes)
-        (λ s. (s.0 ≡ record { names = names; desks = firsts }) × (s.1.keep ≡ keep)) history end
+        (history : List HistoryEntry) (end : Tenancy × BehindDoors (KeptRunner N))
+        → Replays (door_answers N.starts N.looks N.takes) (BeginsAtDoors names firsts keep) history end
         → (asked : List HistoryEntry)
-        × AreAskedPlainly (λ s. s.0) (tenant_answers N.starts N.looks N.takes)
-        (λ s. (s.0 ≡ record { names = names; desks = firsts }) × (s.1.keep ≡ keep)) history asked
-        end
+        × AreAskedPlainly (tenant_answers N.starts N.looks N.takes) (BeginsAtDoors names firsts keep)
+        history asked end
         × Replays (tenant_answers N.starts N.looks N.takes)
-        (λ s. (s.0 ≡ record { names = names; desks = firsts }) × (s.1.keep ≡ keep)) asked end }
+        (λ s. (s.0 ≡ record { names = names; desks = firsts }) × (s.1.keep ≡ keep)) asked
+        (without_keys end) }
+{}
+
+/// One key, one job. A desk's door remembers the keys of its last 1,000 keyed jobs. A submit by a new
+/// key is told the number of a job, which has that key from then on, or why there is none. A submit by
+/// a key that is remembered is told the number of that key's job. It is no request to the desks, and
+/// what is remembered stays.
+pub fn one_key_one_job<N: Runner>()
+    ensures keyed { (names : List (List ℕ)) (firsts : List Ledger) (keep : KeepLimits)
+        (history : List HistoryEntry) (end : Tenancy × BehindDoors (KeptRunner N)) (place : ℕ)
+        → place < length firsts
+        → Replays (door_answers N.starts N.looks N.takes) (BeginsAtDoors names firsts keep) history end
+        → (jobs : List KeyedJob) × AreKeyed place history jobs
+        × (slice_get end.1.keys place ≡ Some (latest jobs)) }
+    ensures again { (s t : Tenancy × BehindDoors (KeptRunner N)) (query : Query) (reply key : List ℕ)
+        (job : ℕ)
+        → door_answers N.starts N.looks N.takes s query reply t
+        → query.beyond ≡ Some (Keyed (Some key))
+        → job_among (keys_behind s.1.keys query.passage.door) key ≡ Some job
+        → (reply ≡ submit_frame job) × (t.1.keys ≡ s.1.keys)
+        × AsksNothing (tenant_answers N.starts N.looks N.takes) query.passage (without_keys s)
+        (without_keys t) }
 {}

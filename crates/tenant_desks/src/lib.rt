@@ -22,19 +22,27 @@ mod told_grants;
 pub use tenant_handler::{TenantHandler, refuse, refused_at, wants_admission_among};
 pub use told_grants::{granted_among, noted_grant_among};
 
-// by whose name, and what doors hear beyond the plain protocol
-mod job_lists;
+// by whose name
 mod own_names;
 mod own_naming;
 
-pub use job_lists::answer_form;
 pub use own_names::own_named;
 pub use own_naming::OwnNaming;
+
+// what doors hear beyond the plain protocol
+mod door_answers;
+mod door_keys;
+mod job_lists;
+mod key_table;
+mod tenant_doors;
+
+pub use door_keys::DoorKeys;
+pub use tenant_doors::TenantDoors;
 
 // what each tenant has of it
 mod laws;
 
 pub use laws::{
-    each_part_is_plain, each_tenant_is_alone, listings_are_put_aside, others_are_not_told,
-    own_names_are_put_in,
+    each_part_is_plain, each_tenant_is_alone, forms_are_put_aside, one_key_one_job,
+    others_are_not_told, own_names_are_put_in,
 };

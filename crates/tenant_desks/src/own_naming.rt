@@ -1,7 +1,6 @@
-//! A handler of tenants' desks behind doors that hear more than the plain protocol.
+//! A handler of tenants' desks at whose doors a tenant's name may be left out.
 
 use crate::desks::TenantDesks;
-use crate::job_lists::answer_form;
 use crate::own_names::own_named;
 use refusal::NoMemory;
 use sessions::{DoorForm, Request};
@@ -10,12 +9,8 @@ use std::alloc::Global;
 use std::marker::Model;
 use streams::{PendingReply, PreparedRequest};
 
-// The number of the refusal of what is no request.
-const NO_REQUEST: u8 = 73;
-
 /// Puts the name of a door's own tenant into a request that leaves it out, and has the handler answer
-/// that. A listing it answers itself, by the door's own desk: the handler is asked what is no request,
-/// as it passes finished jobs to their desks ahead of each answer. Contracts see the handler.
+/// that. Contracts see the handler.
 #[derive(Drop)]
 pub struct OwnNaming<H> {
     handler: H,
@@ -47,13 +42,11 @@ impl<H: Drop> OwnNaming<H> {
 }
 
 impl<H: SharedHandler<TenantDesks>> SharedHandler<TenantDesks> for OwnNaming<H> {
-    ghost use Rattle.tenant_desks.specs.JobLists.{answers_at_doors};
     ghost use Rattle.tenant_desks.specs.OwnNamed.{answers_own_named};
 
     ghost ready = { λ n. H.ready n };
 
-    ghost answers = { answers_at_doors (λ s. s.0)
-        (answers_own_named (λ s. s.0.names) H.answers) };
+    ghost answers = { answers_own_named (λ s. s.0.names) H.answers };
 
     fn wants_admission(&self, desk: &TenantDesks, passage: Passage, request: &Request) -> bool {
         self.handler.wants_admission(desk, passage, request)
@@ -65,19 +58,9 @@ impl<H: SharedHandler<TenantDesks>> SharedHandler<TenantDesks> for OwnNaming<H> 
         desk: &mut TenantDesks,
         passage: Passage,
         request: PreparedRequest,
-        beyond: Option<DoorForm>,
+        _beyond: Option<DoorForm>,
     ) -> Result<PendingReply, NoMemory> {
-        match beyond {
-            None => {
-                let named = own_named(alloc, &desk.names, passage.door, request);
-                self.handler.answer_by(alloc, desk, passage, named, None)
-            }
-            Some(form) => {
-                drop(request);
-                let nothing = PreparedRequest::AsItCame(Err(NO_REQUEST));
-                drop(self.handler.answer_by(alloc, desk, passage, nothing, None));
-                answer_form(alloc, desk, passage.door, form)
-            }
-        }
+        let named = own_named(alloc, &desk.names, passage.door, request);
+        self.handler.answer_by(alloc, desk, passage, named, None)
     }
 }

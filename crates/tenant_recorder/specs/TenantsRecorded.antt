@@ -7,7 +7,7 @@ use Rattle.job_core.specs.Admitted.{AdmittedJob}
 use Rattle.shared_desk.specs.Histories.{Query}
 use Rattle.tenant_desks.specs.Tenancies.{Tenancy}
 use Rattle.tenant_desks.specs.Answering.{KeptRunner, named_answers}
-use Rattle.tenant_desks.specs.JobLists.{answers_at_doors}
+use Rattle.tenant_desks.specs.AtDoors.{BehindDoors, answers_at_doors}
 use Rattle.tenant_desks.specs.OwnNamed.{answers_own_named}
 use Rattle.desk_recorder.specs.declared.recorder.ChangeRecorder.{ChangeRecorder}
 use Rattle.tenant_recorder.specs.Recorders.{AreRecorded, HaveForgotten}
@@ -50,6 +50,7 @@ tenant_answers_recorded starts looks takes taken failed =
 abbrev pub door_answers_recorded : {R Q : Type 0}
     → (R → ℕ → AdmittedJob → Result (Unit {0}) ℕ → R → Type 0) → (R → ℕ → Progress → R → Type 0)
     → (R → Option (ℕ × Result Report ℕ) → R → Type 0) → (Q → List ℕ) → (Q → Type 0)
-    → Tenancy × RecordedRunner R Q → Query → List ℕ → Tenancy × RecordedRunner R Q → Type 0
+    → Tenancy × BehindDoors (RecordedRunner R Q) → Query → List ℕ
+    → Tenancy × BehindDoors (RecordedRunner R Q) → Type 0
 door_answers_recorded starts looks takes taken failed =
-    answers_at_doors (λ s. s.0) (tenant_answers_recorded starts looks takes taken failed)
+    answers_at_doors (tenant_answers_recorded starts looks takes taken failed)

@@ -28,11 +28,11 @@ returns g c =
     elim c.serve_tenants_recorded.ensures [
       | inl at ↦
           (let hosted = tenants_recorded_serving (λ r. (r.keeper, r.boards)) (queue_taken {R = g.row.R.Denot}) (queue_told {R = g.row.R.Denot}) (queue_journal {R = g.row.R.Denot}) _ _ _ (λ r n j x s h. h.0) (λ r n p s h. h) (λ r x s h. h.0) plan.journals.now c.args.states.items plan.tenants.now plan.bounds limited limited.runner at.0 at.1
-          plan.sessions _ c.serve_tenants_recorded.result refl c.requires.limit c.requires.none at.2 at.3 in
+          plan.sessions _ c.serve_tenants_recorded.result refl c.requires.limit c.requires.none at.2 at.3 at.4 in
           inl
           (with_journals g.L.Listener.opens g.L.Listener.fails g.L.Listener.passage c.args.listener (queue_taken {R = g.row.R.Denot}) (queue_told {R = g.row.R.Denot}) (queue_journal {R = g.row.R.Denot}) plan.journals.now c.args.states.items plan.tenants.now plan.bounds plan.sessions
           (is_some plan.stop) c.serve_tenants_recorded.result (some_journals _ _ c.requires.journals) (some_if plan.tenants.now c.if-is_empty.ensures) hosted.0
-          (subst (AreOf g.L.Listener.opens g.L.Listener.fails c.args.listener) (sym hosted.1) at.4)
-          (subst (All (λ c. CameBy g.L.Listener.opens g.L.Listener.passage c.passage)) (sym hosted.2) at.5)))
+          (subst (AreOf g.L.Listener.opens g.L.Listener.fails c.args.listener) (sym hosted.1) at.5)
+          (subst (All (λ c. CameBy g.L.Listener.opens g.L.Listener.passage c.passage)) (sym hosted.2) at.6)))
       | inr none ↦ inr none
     ]

@@ -5,7 +5,7 @@ use Rattle.job_server.specs.Listening.{AreOf, CameBy}
 use Rattle.job_server.proofs.Alike.{beside}
 use Rattle.job_server.proofs.AtOnceAlike.{hosted_serving, keeping}
 use Rattle.job_server.proofs.ByDoors.{none_if, plain_at, some_if, tenants_at}
-use Rattle.job_server.proofs.TenantAlike.{begins_as, hosted_as, tenants_serving}
+use Rattle.job_server.proofs.TenantAlike.{begins_as, doors_hosted_as, tenants_serving}
 use Rattle.job_server.proofs.serving_pooled.serve_unrecorded.Goals as goal
 
 pub returns-then-is_empty : goal.returns-then-is_empty
@@ -40,9 +40,9 @@ returns g c =
     (record {
       first = (pool.keeper, pool.boards);
       none = c.requires.none;
-      begun = hosted_as (λ r. (r.keeper, r.boards)) at.0;
+      begun = doors_hosted_as (λ r. (r.keeper, r.boards)) at.0;
       begins = begins_as (λ r. (r.keeper, r.boards)) doors bounds limited pool at.0 refl c.requires.limit at.2;
-      end = hosted_as (λ r. (r.keeper, r.boards)) at.1;
+      end = doors_hosted_as (λ r. (r.keeper, r.boards)) at.1;
       serving = hosted.0;
     })
     (subst (AreOf g.L.Listener.opens g.L.Listener.fails c.args.listener) (sym hosted.1) at.4)
