@@ -8,6 +8,7 @@ pub mod ReplyFrames
 pub mod RisingNumbers
 pub mod StaysOver
 pub mod WentOver
+pub mod CountsAside
 pub mod RefusedResults
 pub mod FromSubmit
 pub mod NoFlag

@@ -1,6 +1,7 @@
 -- Servers of which some tenants may have a door, and a desk, of their own.
 use Rattle.std.specs.Prelude.{◌≡◌, ℕ, Bool, false, List, [], ◌∷◌, All, map, string_bytes, Option, Result}
 use Rattle.shared_desk.specs.Histories.{Query}
+use Rattle.shared_desk.specs.ServerAsked.{answers_counting}
 use Rattle.shared_desk.specs.declared.door.Door.TheVariants.{Tenant}
 use Rattle.shared_desk.specs.declared.passage.Passage.{Passage}
 use Rattle.tenant_desks.specs.Tenancies.{IsFirstTenancy, Tenancy}
@@ -62,7 +63,8 @@ pub record IsServingTenants (doors : List TenantDoor) (bounds : Bounds) (session
   pub begun : TenantHosted
   pub begins : BeginsAtDesks doors bounds (record { runner = first; limit = bounds.open_jobs }) begun
   pub end : TenantHosted
-  pub serving : IsServingFrom hosted_door_answers (λ s. s ≡ begun) end sessions may_stop outcome
+  pub serving : IsServingFrom (answers_counting hosted_door_answers) (λ s. s ≡ begun) end sessions
+      may_stop outcome
 
 -- what comes by a tenant's own door may not grant
 abbrev pub GrantsByNoTenant : Passage → Type 0

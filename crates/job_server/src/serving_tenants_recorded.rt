@@ -6,6 +6,7 @@ ghost use Rattle.desk_journal.specs.DeskSteps.{DeskState};
 ghost use Rattle.desk_journal.specs.declared.journaled_desk.OpenJob.{OpenJob};
 ghost use Rattle.shared_journal.specs.declared.journal_queue.JournalQueue.{JournalQueue};
 ghost use Rattle.streams.specs.declared.fault.StreamFault.TheVariants as stream;
+ghost use Rattle.shared_desk.specs.ServerAsked.{answers_counting};
 ghost use Rattle.tenant_desks.specs.Tenancies.{Tenancy};
 ghost use Rattle.tenant_recorder.specs.TenantsRecorded.{RecordedRunner, door_answers_recorded};
 ghost use Rattle.job_pools.specs.LineBounded.{looks_by_line, new_by_line, starts_by_line, takes_by_line};
@@ -29,6 +30,7 @@ use accounts::Desk;
 use desk_journal::{JournaledDesk, OpenJob};
 use job_pools::LineLimitedRunner;
 use refusal::NoMemory;
+use server_log::CountingHandler;
 use shared_journal::{JournalQueue, SharedJournal};
 use std::alloc::Global;
 use std::sync::Wait;
@@ -146,8 +148,8 @@ pub(crate) fn serve_tenants_recorded<
         (door_credits plan.entry.tenants.now) (open_jobs_of states.items)
         (new_by_line (door_limits plan.entry.bounds.tenant_jobs plan.entry.tenants.now) runner)
         plan.entry.bounds.keep begun
-        × (s : IsServingFrom (door_answers_recorded (starts_by_line N.starts)
-        (looks_by_line N.looks) (takes_by_line N.takes) queue_taken queue_told) (λ s. s ≡ begun) end
+        × (s : IsServingFrom (answers_counting (door_answers_recorded (starts_by_line N.starts)
+        (looks_by_line N.looks) (takes_by_line N.takes) queue_taken queue_told)) (λ s. s ≡ begun) end
         plan.entry.sessions (is_some plan.entry.stop) result)
         × AreOf L.opens L.fails listener s.opened
         × All (λ c. CameBy L.opens L.passage c.passage) s.closed)
@@ -167,6 +169,7 @@ pub(crate) fn serve_tenants_recorded<
     };
     handler.restart(alloc, &mut desks, jobs);
     let recording = TenantRecording::of(handler);
-    let served = serve_at_once(rt, alloc, listener, desks, recording, plan);
+    let counting = CountingHandler::new(rt, plan.log, recording);
+    let served = serve_at_once(rt, alloc, listener, desks, counting, plan);
     served.2
 }

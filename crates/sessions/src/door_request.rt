@@ -2,7 +2,7 @@
 
 ghost use Rattle.std.specs.Prelude.{◌≡◌, IfOk, MatchResult, None, Some};
 ghost use Rattle.serde_json.specs.View.{view};
-ghost use Rattle.sessions.specs.DoorForms.{AsksBeyond, ReadsPlainly, beyond_from, jobs_from, key_of, own_form};
+ghost use Rattle.sessions.specs.DoorForms.{AsksBeyond, ReadsPlainly, beyond_from, granter_form, jobs_from, key_of, own_form};
 ghost use Rattle.sessions.specs.Grammar.{request_asked};
 ghost use Rattle.sessions.specs.OwnNames.{request_by};
 
@@ -31,6 +31,7 @@ impl DoorForms {
         match self {
             DoorForms::Plain => TenantKey::Required,
             DoorForms::OwnDoor => TenantKey::Optional,
+            DoorForms::Granter => TenantKey::Required,
         }
     }
 }
@@ -54,6 +55,17 @@ fn read_own_form(op: &str, value: &Value) -> Option<DoorForm>
     if op == "jobs" { read_jobs(value) } else { None }
 }
 
+// The request of the door for grants that `op` names.
+fn read_granter_form(op: &str) -> Option<DoorForm>
+    ensures { result ≡ granter_form op.now }
+{
+    if op == "server" {
+        Some(DoorForm::Server)
+    } else {
+        None
+    }
+}
+
 // What is asked beyond the plain protocol, if something is.
 #[tactic(auto, unfolding(crate::specs::DoorForms::beyond_from))]
 fn read_beyond(value: &Value, forms: DoorForms) -> Option<DoorForm>
@@ -62,6 +74,7 @@ fn read_beyond(value: &Value, forms: DoorForms) -> Option<DoorForm>
     match forms {
         DoorForms::Plain => None,
         DoorForms::OwnDoor => read_own_form(text_member(value, "op")?, value),
+        DoorForms::Granter => read_granter_form(text_member(value, "op")?),
     }
 }
 

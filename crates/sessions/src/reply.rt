@@ -9,6 +9,8 @@ ghost use Rattle.sessions.specs.Outcomes.{outcome_data};
 
 use crate::job_list::write_jobs;
 use crate::result::{JobOutcome, result_frame, write_result};
+use crate::server_reply::write_server;
+use crate::server_totals::ServerTotals;
 use accounts::ListedJob;
 use credit_book::TaskEnd;
 use itoa::Buffer;
@@ -58,6 +60,10 @@ pub enum Reply<'a> {
     Jobs {
         count: u64,
         jobs: &'a [ListedJob],
+    },
+    /// What a server counts.
+    Server {
+        totals: &'a ServerTotals,
     },
     /// How far a schedule brought a job.
     Play {
@@ -204,6 +210,7 @@ fn write_reply(alloc: Global, out: &mut Vec<u8>, reply: &Reply) -> Result<(), Al
             },
         ),
         Reply::Jobs { count, jobs } => write_jobs(out, count, jobs),
+        Reply::Server { totals } => write_server(out, totals),
         Reply::Play {
             buffer,
             complete,

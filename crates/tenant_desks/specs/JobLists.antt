@@ -4,7 +4,7 @@ use Rattle.accounts.specs.Ledgers.{Ledger}
 use Rattle.accounts.specs.Listing.{listing}
 use Rattle.sessions.specs.Replies.{frame_or_refusal, jobs_data}
 use Rattle.sessions.specs.declared.door_forms.DoorForm.{DoorForm}
-use Rattle.sessions.specs.declared.door_forms.DoorForm.TheVariants.{Jobs}
+use Rattle.sessions.specs.declared.door_forms.DoorForm.TheVariants.{Jobs, Server}
 use Rattle.streams.specs.Answering.{refused}
 use Rattle.shared_desk.specs.declared.door.Door.{Door}
 use Rattle.shared_desk.specs.declared.passage.Passage.{Passage}
@@ -32,9 +32,11 @@ frame_of_jobs_at None from = frame_or_refusal (refused 74)
 abbrev pub jobs_frame : List Ledger → Door → ℕ → List ℕ
 jobs_frame desks door from = frame_of_jobs_at (slice_get desks (place_behind door)) from
 
--- the frame that tells what is asked by a door beyond the plain protocol
+-- the frame that tells what is asked by a door beyond the plain protocol; what is asked of the server
+-- itself is no request of a desk
 abbrev pub form_frame : List Ledger → Door → DoorForm → List ℕ
 form_frame desks door (Jobs from) = jobs_frame desks door from
+form_frame desks door Server = frame_or_refusal (refused 73)
 
 -- no request of the plain protocol, by a passage
 abbrev pub no_request_by : Passage → Query

@@ -16,6 +16,9 @@ use streams::PendingReply;
 // The number of the refusal of a door that has no desk here.
 const NO_TENANT: u8 = 74;
 
+// The number of the refusal of what is no request.
+const NO_REQUEST: u8 = 73;
+
 // The first number that there is from here on.
 #[tactic(auto, using(crate::proofs::ListedDesks::first_of_zero, crate::proofs::ListedDesks::first_of_some))]
 fn first_number(from: u64) -> u64
@@ -57,7 +60,7 @@ fn list_jobs(
 
 /// Tells what is asked by a door beyond the plain protocol: the jobs of the door's own desk from a
 /// number on, of which the first 1,000 are told, with the number of the last one. It is 74 where that
-/// is the door of no tenant.
+/// is the door of no tenant, and 73 where the server itself is asked.
 pub fn answer_form(
     alloc: Global,
     desks: &TenantDesks,
@@ -68,5 +71,6 @@ pub fn answer_form(
 {
     match form {
         DoorForm::Jobs { from } => list_jobs(alloc, desks, door, from),
+        DoorForm::Server => refuse(alloc, NO_REQUEST),
     }
 }
