@@ -97,8 +97,8 @@ impl<D, R: Clock, H: SharedHandler<D>> SharedHandler<D> for CountingHandler<'_, 
 /// handler was asked. Where the server was asked, that is no request, and the reply tells what the
 /// server counts.
 pub fn counts_are_put_aside<D, H: SharedHandler<D>>()
-    ensures { (begins : D × H → Type 0) (history : List HistoryEntry) (end : D × H)
-        → Replays (answers_counting H.answers) begins history end
+    ensures { (begun end : D × H) (history : List HistoryEntry)
+        → Replays (answers_counting H.answers) (λ s. s ≡ begun) history end
         → (plain : List HistoryEntry) × AreAskedOfDesks history plain
-        × Replays H.answers begins plain end }
+        × Replays H.answers (λ s. s ≡ begun) plain end }
 {}

@@ -14,7 +14,7 @@ nothing_told : (reply : List ℕ) × TellsServer reply
 nothing_told =
     let connections : ConnectionTotals = record { opened = 0; taken = 0 } in
     let jobs : JobTotals = record { failed = 0; opened = 0; over = 0; taken = 0; waiting = 0 } in
-    (frame_or_refusal (server_data connections 0 jobs 0 [] 0), connections, 0, jobs, 0, [], 0, refl)
+    (frame_or_refusal (server_data connections 0 jobs 0 [] 0), (connections, 0, jobs, 0, [], 0, refl))
 
 module _ {S : Type 0} (answers : S → Query → List ℕ → S → Type 0) where
   -- ---- a history, by what the handler was asked

@@ -61,6 +61,7 @@ fn list_jobs(
 /// Tells what is asked by a door beyond the plain protocol: the jobs of the door's own desk from a
 /// number on, of which the first 1,000 are told, with the number of the last one. It is 74 where that
 /// is the door of no tenant, and 73 where the server itself is asked.
+#[tactic(auto, unfolding(sessions::specs::Replies::frame_of))]
 pub fn answer_form(
     alloc: Global,
     desks: &TenantDesks,
