@@ -3,19 +3,27 @@
 
     journalctl -f -o cat -u bpfjobs@alice | metrics.py PORT [--tenants FILE]
     bpfjobs serve .. --log 2> >(metrics.py PORT)
+    metrics.py PORT --socket GRANTS < /dev/null
 
 It listens on 127.0.0.1 (--address changes that); port 0 takes a free one and prints it. With the file
 of `serve --tenants` each count of jobs has its tenant's name, and an empty one for all others. A line
-that isn't a log's is passed over, and counted. It ends once its input has ended."""
+that isn't a log's is passed over, and counted. It ends once its input has ended.
+
+With the path of a server's socket for grants (--socket) each scrape also asks the server what it
+counts. Then it goes on behind the end of its input."""
 
 import argparse
 import collections
 import json
+import socket
+import struct
 import sys
 import threading
 from http.server import BaseHTTPRequestHandler, ThreadingHTTPServer
 
 TYPE = "text/plain; version=0.0.4; charset=utf-8"
+PATIENCE = 5  # seconds
+ASKS = b'{"op":"server"}'
 BUCKETS = (1, 5, 10, 50, 100, 500, 1000, 5000, 10000, 60000)  # milliseconds
 HELP = {
     "telgovan_info": "gauge, The server's version.",
@@ -37,6 +45,19 @@ HELP = {
     "telgovan_job_seconds": "histogram, How long jobs ran.",
     "telgovan_log_lines_lost_total": "counter, Lines that the server dropped, since nobody read them in time.",
     "telgovan_log_lines_unknown_total": "counter, Lines that aren't a log's.",
+    # what the server itself tells
+    "telgovan_up": "gauge, Whether the server told what it counts.",
+    "telgovan_instance": "gauge, The number of the server's start: two starts differ.",
+    "telgovan_uptime_seconds": "gauge, How long the server has been there.",
+    "telgovan_server_connections": "gauge, Connections that are open, by the server.",
+    "telgovan_server_connections_total": "counter, Connections that the server has taken.",
+    "telgovan_server_jobs_open": "gauge, Jobs that were taken and aren't over, by the server.",
+    "telgovan_server_jobs_waiting": "gauge, Jobs that wait for a worker, by the server.",
+    "telgovan_server_jobs_total": "counter, Jobs that the server has taken.",
+    "telgovan_server_jobs_over_total": "counter, Jobs that came to a report, by the server.",
+    "telgovan_server_jobs_failed_total": "counter, Jobs that were taken and failed, by the server.",
+    "telgovan_server_refusals_total": "counter, Jobs and connections that were refused, by code.",
+    "telgovan_server_log_lines_lost_total": "counter, Lines of its log that the server dropped.",
 }
 
 
@@ -49,6 +70,27 @@ def names_of(path):
     return ["", *(row[0] for row in rows if row and not row[0].startswith("#"))]
 
 
+def read_whole(stream, count):
+    """So many bytes, or an error where the stream ends ahead of them."""
+    parts = b""
+    while len(parts) < count:
+        part = stream.recv(count - len(parts))
+        if not part:
+            raise OSError("the server closed the connection")
+        parts += part
+    return parts
+
+
+def asked_of(path):
+    """What a server tells at its socket for grants."""
+    with socket.socket(socket.AF_UNIX) as stream:
+        stream.settimeout(PATIENCE)
+        stream.connect(path)
+        stream.sendall(struct.pack(">I", len(ASKS)) + ASKS)
+        (length,) = struct.unpack(">I", read_whole(stream, 4))
+        return json.loads(read_whole(stream, length))
+
+
 def number_text(value):
     return str(int(value)) if value == int(value) else repr(value)
 
@@ -56,8 +98,8 @@ def number_text(value):
 class Metrics:
     """The counts so far. Reading the log changes them, and each scrape prints them."""
 
-    def __init__(self, names):
-        self.names, self.lock = names, threading.Lock()
+    def __init__(self, names, path=None):
+        self.names, self.path, self.lock = names, path, threading.Lock()
         self.values = collections.defaultdict(dict)
         self.running = set()
         for name in ("requests", "log_lines_lost", "log_lines_unknown"):
@@ -138,9 +180,33 @@ class Metrics:
     def on_refused(self, told):
         self.add("telgovan_jobs_refused_total", 1, code=told["code"])
 
+    def ask(self):
+        """Takes what the server counts, or that it doesn't tell it."""
+        try:
+            told = asked_of(self.path)
+            jobs, connections = told["jobs"], told["connections"]
+        except (OSError, ValueError, KeyError, TypeError):
+            for name in [name for name in self.values if name.startswith("telgovan_server_")]:
+                del self.values[name]
+            self.set("telgovan_up", 0)
+            return
+        self.set("telgovan_up", 1)
+        self.set("telgovan_instance", told["instance"])
+        self.set("telgovan_uptime_seconds", told["seconds"])
+        self.set("telgovan_server_connections", connections["open"])
+        self.set("telgovan_server_connections_total", connections["taken"])
+        for name, key in (("open", "open"), ("waiting", "waiting"), ("total", "taken"), ("over_total", "over"), ("failed_total", "failed")):
+            self.set(f"telgovan_server_jobs_{name}", jobs[key])
+        self.values["telgovan_server_refusals_total"].clear()
+        for refusal in told["refusals"]:
+            self.set("telgovan_server_refusals_total", refusal["count"], code=refusal["code"])
+        self.set("telgovan_server_log_lines_lost_total", told["lines_lost"])
+
     def text(self):
         """All counts, in Prometheus' text format."""
         with self.lock:
+            if self.path is not None:
+                self.ask()
             self.set("telgovan_jobs", len(self.running))
             return "".join(line for name in HELP for line in self.lines(name))
 
@@ -181,14 +247,17 @@ def main():
     parser.add_argument("port", type=int)
     parser.add_argument("--address", default="127.0.0.1")
     parser.add_argument("--tenants")
+    parser.add_argument("--socket")
     words = parser.parse_args()
-    metrics = Metrics(names_of(words.tenants))
+    metrics = Metrics(names_of(words.tenants), words.socket)
     server = ThreadingHTTPServer((words.address, words.port), handler_for(metrics))
     if words.port == 0:
         print(server.server_address[1], flush=True)
     threading.Thread(target=server.serve_forever, daemon=True).start()
     for line in sys.stdin:
         metrics.read(line)
+    if words.socket is not None:
+        threading.Event().wait()
 
 
 if __name__ == "__main__":

@@ -13,6 +13,7 @@ import urllib.request
 from programs import PATIENCE, TOP, Server, submit_text
 from rows import code_of
 from test_clients import Client, result_of
+from test_local import Client as LocalClient
 from test_log import ADD
 
 METRICS = os.path.join(TOP, "examples/metrics.py")
@@ -132,6 +133,31 @@ class Metrics(unittest.TestCase):
         self.assertEqual(values["telgovan_jobs_ended_total"], 2)
         self.assertEqual(values["telgovan_credit_spent_total"], 6)
         self.assertEqual(values["telgovan_log_lines_unknown_total"], 0)
+
+    def test_what_a_server_tells(self):
+        """By its socket for grants, without a line of its log; and once it is gone."""
+        with tempfile.TemporaryDirectory() as room:
+            grants = os.path.join(room, "grants")
+            words = ("serve", "--socket", os.path.join(room, "all"), "--grants", grants, "--clients", 4)
+            _, port = self.start("--socket", grants, stdin=subprocess.DEVNULL)
+            self.assertEqual(self.values(port)["telgovan_up"], 0)
+            with Server(words=words) as server:
+                client = LocalClient(grants, server.process)
+                self.addCleanup(client.stream.close)
+                client.ask({"op": "grant", "tenant": "t", "amount": 1000})
+                client.ask(submit_text([(0, code_of(ADD))], 3, b""))
+                result_of(client, 1)
+                client.ask(submit_text([(0, code_of(ADD))], 2000, b""))
+                values = self.values(port)
+            self.assertEqual(values["telgovan_up"], 1)
+            self.assertEqual(values["telgovan_server_connections_total"], 2)
+            self.assertEqual(values["telgovan_server_jobs_total"], 1)
+            self.assertEqual(values["telgovan_server_jobs_over_total"], 1)
+            self.assertEqual((values["telgovan_server_jobs_open"], values["telgovan_server_jobs_waiting"]), (0, 0))
+            self.assertEqual(values['telgovan_server_refusals_total{code="75"}'], 1)
+            gone = self.values(port)
+            self.assertEqual(gone["telgovan_up"], 0)
+            self.assertEqual([name for name in gone if "server" in name], [])
 
     @unittest.skipUnless(shutil.which("promtool"), "there is no promtool")
     def test_promtool(self):

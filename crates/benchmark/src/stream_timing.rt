@@ -5,6 +5,7 @@ use accounts::{Desk, KeepLimits};
 use anyhow::bail;
 use job_core::play_lowest;
 use job_server::{Bounds, Plan, serve_listener};
+use server_log::ServerLog;
 use sessions::{Reply, Request, Session, reply_frame};
 use shared_journal::ReplySync;
 use std::alloc::Global;
@@ -211,6 +212,7 @@ where
     let all = grants(alloc)?;
     let listener = TcpListener::bind(&rt, SocketAddr::from((Ipv4Addr::LOCALHOST, 0)))?;
     let address = listener.local_addr()?;
+    let log = ServerLog::counting(&rt, alloc)?;
     let (served, times) = thread::join(
         &rt,
         || {
@@ -226,7 +228,7 @@ where
                 },
                 tenants: &[],
                 stop: None,
-                log: None,
+                log: &log,
                 journals: &[],
                 sync: ReplySync::Always,
             };

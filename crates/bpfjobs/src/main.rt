@@ -113,7 +113,7 @@ fn main(rt: HostRuntime) -> ExitCode {
         Some(opened) => Some(&opened.journals),
         None => None,
     };
-    let Ok((handles, helpers)) = handles_of(alloc, &server, journals) else {
+    let Ok((handles, helpers)) = handles_of(&rt, alloc, &server, journals) else {
         return ExitCode::from(FAILED);
     };
     for helper in helpers {

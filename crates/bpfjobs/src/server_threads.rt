@@ -135,11 +135,11 @@ impl Helper {
     }
 }
 
-/// The flag and the log of a server, if it has them.
+/// The log of a server, and its flag, if it has one.
 #[derive(Drop)]
 pub struct ServerHandles {
     stop: Option<Arc<StopFlag, Global>>,
-    log: Option<ServerLog>,
+    log: ServerLog,
 }
 
 // The place where this endpoint takes connections.
@@ -185,29 +185,38 @@ fn add_commits(
     Ok(())
 }
 
+// The log of a server. The thread that writes its lines is added where its options say so.
+fn log_of<R: Clock>(
+    rt: &R,
+    alloc: Global,
+    logs: bool,
+    helpers: &mut Vec<Helper>,
+) -> Result<ServerLog, NoMemory> {
+    if !logs {
+        return ServerLog::counting(rt, alloc);
+    }
+    let (log, lines) = open_log(rt, alloc)?;
+    helpers.push(Helper::Writes(lines))?;
+    Ok(log)
+}
+
 /// The flag and the log that a server's options and its journals ask for, and what their threads do.
-pub fn handles_of(
+pub fn handles_of<R: Clock>(
+    rt: &R,
     alloc: Global,
     server: &Serve,
     journals: Option<&Arc<Vec<SharedJournal>, Global>>,
 ) -> Result<(ServerHandles, Vec<Helper>), NoMemory> {
     let mut helpers = Vec::new(alloc);
-    let mut handles = ServerHandles {
-        stop: None,
-        log: None,
-    };
+    let mut stops = None;
     if server.options.until_eof || journals.is_some() {
         let stop = Arc::new(alloc, StopFlag::new())?;
         add_stopping(alloc, server, &stop, journals, &mut helpers)?;
-        handles.stop = Some(stop);
+        stops = Some(stop);
     }
     add_commits(server.journal_sync, journals, &mut helpers)?;
-    if server.options.logs {
-        let (log, lines) = open_log(alloc)?;
-        helpers.push(Helper::Writes(lines))?;
-        handles.log = Some(log);
-    }
-    Ok((handles, helpers))
+    let log = log_of(rt, alloc, server.options.logs, &mut helpers)?;
+    Ok((ServerHandles { stop: stops, log }, helpers))
 }
 
 impl ServerHandles {
@@ -220,15 +229,13 @@ impl ServerHandles {
     }
 
     /// The log that is told of it.
-    pub fn log(&self) -> Option<&ServerLog> {
-        self.log.as_ref()
+    pub fn log(&self) -> &ServerLog {
+        &self.log
     }
 
     /// Waits for the last lines of the log.
     pub fn close<R: Wait + Clock>(self, rt: &R) {
         let ServerHandles { stop: _, log } = self;
-        if let Some(log) = log {
-            log.close(rt);
-        }
+        log.close(rt);
     }
 }

@@ -103,7 +103,7 @@ fn serve_from<R>(
     alloc: Global,
     server: &Serve,
     stop: Option<&StopFlag>,
-    log: Option<&ServerLog>,
+    log: &ServerLog,
     journals: &[SharedJournal],
     states: Vec<JournaledDesk>,
 ) -> u8
@@ -161,14 +161,14 @@ fn close_journals<R: Wait + Eprint>(
 
 /// Takes as many connections as the options say, and gives the status: 0 once all have ended, 3 where
 /// one of them, a socket or a journal failed. It ends earlier once the flag is raised, if there is
-/// one. A log, if there is one, is told of it. Where there are journals, it goes on from the desks that
+/// one. A log is told of it. Where there are journals, it goes on from the desks that
 /// their records lead to.
 pub fn serve<R>(
     rt: &R,
     alloc: Global,
     server: &Serve,
     stop: Option<&StopFlag>,
-    log: Option<&ServerLog>,
+    log: &ServerLog,
     opened: Option<OpenedJournals>,
 ) -> u8
 where

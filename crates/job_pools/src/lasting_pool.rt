@@ -17,6 +17,7 @@ use crate::seen_board::{SeenBoard, look_at};
 use crate::turn_ends::TurnInlet;
 use credit_book::{Progress, Report};
 use job_core::Job;
+use server_log::{Counter, ServerLog};
 use std::alloc::Global;
 use std::collections::BTreeMap;
 use std::sync::Wait;
@@ -34,6 +35,7 @@ use streams::Runner;
 #[derive(Drop)]
 pub struct LastingPool<'a, R, J: RegisterId> {
     rt: &'a R,
+    log: &'a ServerLog,
     register: &'a JobRegister<J>,
     keeper: Keeper<J>,
     nexts: BTreeMap<u64, u64>,
@@ -49,10 +51,11 @@ impl<'a, R, J: RegisterId> LastingPool<'a, R, J> {
     ghost use Rattle.std.specs.Prelude.{◌≡◌, []};
 
     /// A pool that holds no job. Its workers take jobs from the other end of the queue, and give
-    /// back what they came to, if there are any.
+    /// back what they came to, if there are any. A log counts the jobs that come into the queue.
     pub fn new(
         rt: &'a R,
         alloc: Global,
+        log: &'a ServerLog,
         register: &'a JobRegister<J>,
         keeper: Keeper<J>,
         queue: TurnInlet<QueuedJob<J>, J>,
@@ -64,6 +67,7 @@ impl<'a, R, J: RegisterId> LastingPool<'a, R, J> {
     {
         LastingPool {
             rt,
+            log,
             register,
             keeper,
             nexts: BTreeMap::new(alloc),
@@ -117,7 +121,10 @@ impl<R: Wait, J: RegisterId> Runner for LastingPool<'_, R, J> {
             seat,
         };
         match self.queue.put_now(self.rt, queued) {
-            Ok(()) => Ok(()),
+            Ok(()) => {
+                self.log.raise(Counter::JobsTaken);
+                Ok(())
+            }
             Err(_) => {
                 forget(&mut self.boards, number);
                 Err(81)

@@ -12,19 +12,16 @@ use std::sync::Wait;
 use std::thread::{Scope, Threads};
 use std::time::{Clock, Instant};
 
-// Runs a job, a large one on so many threads, and tells a log of it, if there is one.
+// Runs a job, a large one on so many threads, and tells a log of it.
 fn run_told<R: Threads + Wait + Clock + Sync, J: RegisterId>(
     rt: &R,
     job: QueuedJob<J>,
     workers: u32,
-    log: Option<&ServerLog>,
+    log: &ServerLog,
 ) -> EndedJob<J>
     requires { (1 ≤ workers) × (workers ≤ 16) }
     ensures { result ≡ job.seat }
 {
-    let Some(log) = log else {
-        return job.run(rt, workers);
-    };
     log.tell(rt, job.event());
     let begun = Instant::now(rt).ok();
     let ended = job.run(rt, workers);
@@ -39,7 +36,7 @@ fn work<R: Threads + Wait + Clock + Sync, J: RegisterId>(
     jobs: &mut TurnOutlet<QueuedJob<J>, J>,
     endings: &mut Inlet<EndedJob<J>>,
     workers: u32,
-    log: Option<&ServerLog>,
+    log: &ServerLog,
 )
     requires { (1 ≤ workers) × (workers ≤ 16) }
     ensures { AnswersEach jobs.old jobs.new endings.old endings.new }
@@ -55,15 +52,15 @@ fn work<R: Threads + Wait + Clock + Sync, J: RegisterId>(
 }
 
 /// Starts a worker for each of these ends of the queue of jobs, and tells how many could be started.
-/// They end once the queue is closed and empty. A log, if there is one, is told
-/// of each job. A large job is run on so many threads, 1 to 16.
+/// They end once the queue is closed and empty. A log is told of each job. A large job is run on so many
+/// threads, 1 to 16.
 pub fn start_workers<'s, E: 's, R: Threads + Wait + Clock + Sync, J: RegisterId + Send + Sync + 's>(
     rt: &'s R,
     scope: &Scope<'s, E>,
     jobs: Vec<TurnOutlet<QueuedJob<J>, J>>,
     endings: Inlet<EndedJob<J>>,
     workers: u32,
-    log: Option<&'s ServerLog>,
+    log: &'s ServerLog,
 ) -> usize
     requires { (1 ≤ workers) × (workers ≤ 16) }
     ensures { result ≤ length jobs.items }

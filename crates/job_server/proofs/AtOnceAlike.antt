@@ -5,6 +5,8 @@ use Rattle.sessions.specs.Grammar.{Asked}
 use Rattle.accounts.specs.declared.keep_limits.KeepLimits.{KeepLimits}
 use Rattle.accounts.specs.Ledgers.{Ledger}
 use Rattle.streams.specs.declared.fault.StreamFault.{StreamFault}
+use Rattle.shared_desk.specs.ServerAsked.{answers_counting}
+use Rattle.shared_desk.proofs.AskedOfDesks.{counting_alike}
 use Rattle.shared_desk.specs.declared.closed.ClosedConnection.{ClosedConnection}
 use Rattle.shared_desk.specs.Histories.{HistoryEntry, Query, Replays, by_any_passage, none_yet, one_more}
 use Rattle.shared_desk.specs.Closed.{first_fault}
@@ -98,12 +100,13 @@ module _ {R : Type 0} (f : R → Pool) (starts : R → ℕ → AdmittedJob → R
   -- the pool's own state is forgotten, but for the jobs that it was given and the boards that it watches
   pub hosted_serving : (bounds : Bounds) (desk : Ledger) (h : KeepingHandler (LimitedRunner R)) (l : LimitedRunner R) (pool : R) (end : Ledger × KeepingHandler (LimitedRunner R)) (sessions : ℕ) (may_stop : Bool) (outcome : Result (Unit {0}) ServeFault)
       → desk ≡ new_desk → h.runner ≡ l → h.keep ≡ bounds.keep → l.runner ≡ pool → l.limit ≡ bounds.open_jobs
-      → (serving : IsServingFrom (by_any_passage (answers_keeping (starts_within (λ r. pooled_count (f r)) starts) (looks_within looks) (takes_within takes))) (λ s. s ≡ (desk, h)) end sessions may_stop outcome)
-      → (hosted : IsServingFrom (by_any_passage hosted_answers) (λ s. s ≡ new_host bounds (f pool)) (beside (keeping f) end) sessions may_stop outcome) × (hosted.opened ≡ serving.opened) × (hosted.closed ≡ serving.closed)
+      → (serving : IsServingFrom (answers_counting (by_any_passage (answers_keeping (starts_within (λ r. pooled_count (f r)) starts) (looks_within looks) (takes_within takes)))) (λ s. s ≡ (desk, h)) end sessions may_stop outcome)
+      → (hosted : IsServingFrom (answers_counting (by_any_passage hosted_answers)) (λ s. s ≡ new_host bounds (f pool)) (beside (keeping f) end) sessions may_stop outcome) × (hosted.opened ≡ serving.opened) × (hosted.closed ≡ serving.closed)
   unfolding serving_alike
   hosted_serving bounds desk h l pool end sessions may_stop outcome is_new is_limited kept is_pool is_limit serving = (
-    serving_alike (beside (keeping f)) _ (by_any_passage hosted_answers)
-        (λ s q reply t. keeping_alike f pooled_count (StartsBy pooled_at pooled_count) (TellsBy pooled_at pooled_count) (TakesBy pooled_at pooled_count) starts looks takes starts_alike looks_alike takes_alike s q.asked reply t)
+    serving_alike (beside (keeping f)) _ (answers_counting (by_any_passage hosted_answers))
+        (counting_alike (by_any_passage (answers_keeping (starts_within (λ r. pooled_count (f r)) starts) (looks_within looks) (takes_within takes))) (by_any_passage hosted_answers) (beside (keeping f))
+        (λ s q reply t. keeping_alike f pooled_count (StartsBy pooled_at pooled_count) (TellsBy pooled_at pooled_count) (TakesBy pooled_at pooled_count) starts looks takes starts_alike looks_alike takes_alike s q.asked reply t))
         (λ s. s ≡ (desk, h)) (λ s. s ≡ new_host bounds (f pool))
         (λ s is. ap (beside (keeping f)) is ∙ hosted_is f bounds desk h l pool is_new is_limited kept is_pool is_limit)
         end sessions may_stop outcome serving,

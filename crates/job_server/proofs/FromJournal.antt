@@ -15,6 +15,8 @@ use Rattle.desk_journal.specs.OpenJobs.{ComesFromChange, open_job_at}
 use Rattle.desk_journal.proofs.OpenLemmas.{AreHeldOpen, held_open}
 use Rattle.sessions.specs.Grammar.{result}
 use Rattle.shared_desk.specs.Histories.{HistoryEntry, by_any_passage}
+use Rattle.shared_desk.specs.ServerAsked.{AreAskedOfDesks}
+use Rattle.shared_desk.proofs.AskedOfDesks.{asked_of_desks}
 use Rattle.job_pools.specs.Endings.{IsRun}
 use Rattle.job_pools.specs.Started.{pooled_at, pooled_count}
 use Rattle.job_server.specs.AfterRestart.{AreKnown, AreRecovered, ComesFromJournal, IsRecoveredAs, IsRecoveredHistory, IsResultKnown, IsToldKnown, Itself, KnownJob, Over, forgotten, known_at, no_more, none_yet, not_over, failed, one_more, reported, standing_of, unknown, was_over}
@@ -119,5 +121,7 @@ module _ {Q : Type 0} (taken : Q → List ℕ) (told : Q → Type 0) (changes : 
       (λ s. s ≡ h.begun) before between after e f number h.end h.legal asks_e asks_f
 
 pub recorded_history : {Q : Type 0} (taken : Q → List ℕ) (told : Q → Type 0) (state : DeskState) (bounds : Bounds) (sessions : ℕ) (may_stop : Bool) (outcome : Result (Unit {0}) ServeFault)
-    → (s : IsServingRecorded taken told state bounds sessions may_stop outcome) → IsRecoveredHistory taken told state bounds s.serving.history
-recorded_history taken told state bounds sessions may_stop outcome s = record { first = s.first; begun = s.begun; restarted = s.restarted; end = s.end; legal = s.serving.legal }
+    → (s : IsServingRecorded taken told state bounds sessions may_stop outcome) → (plain : List HistoryEntry) × AreAskedOfDesks s.serving.history plain × IsRecoveredHistory taken told state bounds plain
+recorded_history taken told state bounds sessions may_stop outcome s =
+    let r = asked_of_desks (by_any_passage (recorded_answers taken told)) (λ x. x ≡ s.begun) s.serving.history s.end s.serving.legal in
+    (r.0, r.1, record { first = s.first; begun = s.begun; restarted = s.restarted; end = s.end; legal = r.2 })

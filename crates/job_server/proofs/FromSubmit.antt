@@ -10,6 +10,8 @@ use Rattle.shared_desk.specs.Histories.{HistoryEntry, by_any_passage}
 use Rattle.credit_book.specs.declared.board.Progress.{Progress}
 use Rattle.credit_book.specs.declared.book.Report.{Report}
 use Rattle.job_pools.specs.declared.limited_runner.LimitedRunner.{LimitedRunner}
+use Rattle.shared_desk.specs.ServerAsked.{AreAskedOfDesks}
+use Rattle.shared_desk.proofs.AskedOfDesks.{asked_of_desks}
 use Rattle.job_pools.specs.Started.{pooled_at, pooled_count}
 use Rattle.job_pools.specs.Holds.{StartsBy, TellsBy, TakesBy}
 use Rattle.job_pools.specs.Bounded.{starts_within, looks_within, takes_within}
@@ -29,6 +31,7 @@ use Rattle.job_server.proofs.StandsFor.{AllStand}
 use Rattle.job_server.proofs.RefusedResults.{told_refusal}
 use Rattle.job_server.proofs.RisingNumbers.{numbers_rise}
 use Rattle.job_server.proofs.StaysOver.{results_stay}
+use Rattle.job_server.proofs.CountsAside.{desk_entry}
 use Rattle.job_server.proofs.WentOver.{is_entry_of}
 use Rattle.job_server.proofs.LimitedHolds.{job_held, limited_holds}
 use Rattle.job_server.proofs.ReplyFrames.{third, third_of_result, third_of_refused}
@@ -150,26 +153,38 @@ host_rises bounds before between after e f m n h short asks_e tells_e small_m as
 
 -- ---- a server of many connections
 
-pub host_history : (bounds : Bounds) (sessions : ℕ) (may_stop : Bool) (outcome : Result (Unit {0}) ServeFault) (s : IsServing bounds sessions may_stop outcome) → IsHostHistory bounds s.serving.history
-host_history bounds sessions may_stop outcome s = record { first = s.first; end = s.end; legal = s.serving.legal }
+-- what its desk was asked
+past_counts : (bounds : Bounds) (sessions : ℕ) (may_stop : Bool) (outcome : Result (Unit {0}) ServeFault) (s : IsServing bounds sessions may_stop outcome)
+    → (plain : List HistoryEntry) × AreAskedOfDesks s.serving.history plain × IsHostHistory bounds plain
+past_counts bounds sessions may_stop outcome s =
+    let r = asked_of_desks (by_any_passage hosted_answers) (λ x. x ≡ new_host bounds s.first) s.serving.history s.end s.serving.legal in
+    (r.0, r.1, record { first = s.first; end = s.end; legal = r.2 })
 
 pub each_served : (closed : List ClosedConnection) → All IsServedWhole closed → (i : ℕ) (c : ClosedConnection) → slice_get closed i ≡ Some c → IsServedWhole c
 each_served closed served i c at = subst IsServedWhole (get_or_from_slice_get closed i c c at) (served i c (slice_get_within closed i c at))
 
-pub host_entries : (bounds : Bounds) (sessions : ℕ) (may_stop : Bool) (outcome : Result (Unit {0}) ServeFault) (s : IsServing bounds sessions may_stop outcome) (before after : List HistoryEntry) (e : HistoryEntry) (asks : Asked)
-    → s.serving.history ≡ before ++ e ∷ after → e.query.asked ≡ Ok asks → IsEntryOf s.serving.closed e asks
-host_entries bounds sessions may_stop outcome s before after e asks is own =
-    is_entry_of s.serving.opened before after e s.serving.closed asks (subst (λ h. AreClosed s.serving.opened h s.serving.closed) is s.serving.parts) (each_served s.serving.closed s.serving.served) own
+module _ (bounds : Bounds) (sessions : ℕ) (may_stop : Bool) (outcome : Result (Unit {0}) ServeFault) (s : IsServing bounds sessions may_stop outcome) (plain : List HistoryEntry) (are : AreAskedOfDesks s.serving.history plain)
+    (host : IsHostHistory bounds plain) where
+  host_entries : (before after : List HistoryEntry) (e : HistoryEntry) (asks : Asked) → plain ≡ before ++ e ∷ after → e.query.asked ≡ Ok asks → IsEntryOf s.serving.closed e asks
+  host_entries before after e asks is own =
+      let t = desk_entry s.serving.history plain e asks are (record { before = before; after = after; is = is }) own in
+      is_entry_of s.serving.opened t.before t.after e s.serving.closed asks (subst (λ h. AreClosed s.serving.opened h s.serving.closed) t.is s.serving.parts) (each_served s.serving.closed s.serving.served) own
 
-pub host_payloads : (bounds : Bounds) (sessions : ℕ) (may_stop : Bool) (outcome : Result (Unit {0}) ServeFault) (s : IsServing bounds sessions may_stop outcome) (before after : List HistoryEntry) (e : HistoryEntry) (number : ℕ)
-    → s.serving.history ≡ before ++ e ∷ after → e.query.asked ≡ Ok (result number) → IsResultFrame e.reply → ComesFromPayload s.serving.closed before number e
-host_payloads bounds sessions may_stop outcome s before after e number is asks f = record {
-  comes = comes;
-  submitted = host_entries bounds sessions may_stop outcome s comes.earlier (comes.between ++ e ∷ after) comes.asked
-      (submit_of comes.is_submit.name comes.is_submit.programs comes.is_submit.credit comes.is_submit.buffer)
-      (is ∙ ap (λ l. l ++ e ∷ after) comes.is_before ∙ joined_again comes.earlier comes.asked comes.between (e ∷ after)) comes.is_submit.asks;
-  told = host_entries bounds sessions may_stop outcome s before after e (result number) is asks;
-}
-  where
-    comes : ComesFromSubmit before number e
-    comes = host_comes bounds before after e number (subst (IsHostHistory bounds) is (host_history bounds sessions may_stop outcome s)) asks f
+  host_payload : (before after : List HistoryEntry) (e : HistoryEntry) (number : ℕ) → plain ≡ before ++ e ∷ after → e.query.asked ≡ Ok (result number) → IsResultFrame e.reply → ComesFromPayload s.serving.closed before number e
+  host_payload before after e number is asks f = record {
+    comes = comes;
+    submitted = host_entries comes.earlier (comes.between ++ e ∷ after) comes.asked
+        (submit_of comes.is_submit.name comes.is_submit.programs comes.is_submit.credit comes.is_submit.buffer)
+        (is ∙ ap (λ l. l ++ e ∷ after) comes.is_before ∙ joined_again comes.earlier comes.asked comes.between (e ∷ after)) comes.is_submit.asks;
+    told = host_entries before after e (result number) is asks;
+  }
+    where
+      comes : ComesFromSubmit before number e
+      comes = host_comes bounds before after e number (subst (IsHostHistory bounds) is host) asks f
+
+pub host_payloads : (bounds : Bounds) (sessions : ℕ) (may_stop : Bool) (outcome : Result (Unit {0}) ServeFault) (s : IsServing bounds sessions may_stop outcome)
+    → (plain : List HistoryEntry) × AreAskedOfDesks s.serving.history plain × IsHostHistory bounds plain
+    × ((before after : List HistoryEntry) (e : HistoryEntry) (number : ℕ) → plain ≡ before ++ e ∷ after → e.query.asked ≡ Ok (result number) → IsResultFrame e.reply → ComesFromPayload s.serving.closed before number e)
+host_payloads bounds sessions may_stop outcome s =
+    let r = past_counts bounds sessions may_stop outcome s in
+    (r.0, r.1, r.2, host_payload bounds sessions may_stop outcome s r.0 r.1 r.2)

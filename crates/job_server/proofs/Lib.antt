@@ -9,6 +9,7 @@ pub mod ReplyFrames
 pub mod RisingNumbers
 pub mod StaysOver
 pub mod WentOver
+pub mod CountsAside
 pub mod RefusedResults
 pub mod KnownJobs
 pub mod FromSubmit

@@ -10,6 +10,8 @@ use Rattle.shared_desk.specs.declared.passage.Passage.{Passage}
 use Rattle.tenant_desks.specs.Alone.{IsTenantHistory, goes_to, sent_to}
 use Rattle.tenant_desks.specs.OwnNamed.{AreAskedByName, IsNamedEntry, IsOwnNamed, named, no_memory, no_request}
 use Rattle.tenant_desks.specs.AskedPlainly as plain
+use Rattle.shared_desk.specs.ServerAsked.{AreAskedOfDesks}
+use Rattle.shared_desk.proofs.AskedOfDesks as aside
 use Rattle.tenant_desks.specs.AskedPlainly.{AreAskedPlainly, IsAskedAs}
 use Rattle.tenant_desks.specs.AtDoors.{keys_behind, told_by_door, without_keys}
 use Rattle.tenant_desks.proofs.DoorLemmas.{asked_plainly}
@@ -34,7 +36,8 @@ use Rattle.job_server.specs.EndToEnd.{ComesFromSubmit, IsResultFrame, submit_of}
 use Rattle.job_server.specs.Payloads.{IsEntryOf}
 use Rattle.job_server.specs.OwnPayloads.{ComesFromOwnPayload, IsHeardOf}
 use Rattle.job_server.specs.TenantResults.{IsTenantHostHistory}
-use Rattle.job_server.specs.TenantServing.{DoorsHosted, IsServingTenants, TenantHosted, door_credits, door_names, hosted_tenant_answers}
+use Rattle.job_server.specs.TenantServing.{DoorsHosted, IsServingTenants, TenantHosted, door_credits, door_names, hosted_door_answers, hosted_tenant_answers}
+use Rattle.job_server.proofs.CountsAside.{desk_entry}
 use Rattle.job_server.proofs.FromSubmit.{each_served}
 use Rattle.job_server.proofs.ListEnds.{joined_again, last_of, last_same, none_pushed}
 use Rattle.job_server.proofs.OwnSubmits.{own_comes}
@@ -176,9 +179,13 @@ module _ (doors : List TenantDoor) (bounds : Bounds) (sessions : ℕ) (may_stop 
   abbrev line_takes : LineLimitedRunner (LimitedRunner Pool) → Option (ℕ × Result Report ℕ) → LineLimitedRunner (LimitedRunner Pool) → Type 0
   line_takes = takes_by_line (takes_within (TakesBy pooled_at pooled_count))
 
+  -- what was asked of the desks, and not of the server itself
+  abbrev past_counts : (heard : List HistoryEntry) × AreAskedOfDesks s.serving.history heard × Replays hosted_door_answers (λ y. y ≡ s.begun) heard s.end
+  past_counts = aside.asked_of_desks hosted_door_answers (λ y. y ≡ s.begun) s.serving.history s.end s.serving.legal
+
   -- what was asked plainly
-  abbrev asked_of_doors : (plain : List HistoryEntry) × AreAskedPlainly hosted_tenant_answers (λ y. y ≡ s.begun) s.serving.history plain s.end × Replays hosted_tenant_answers (λ y. y ≡ without_keys s.begun) plain (without_keys s.end)
-  asked_of_doors = asked_plainly hosted_tenant_answers (λ y. y ≡ s.begun) (λ y. y ≡ without_keys s.begun) (λ y is. ap without_keys is) s.serving.history s.end s.serving.legal
+  abbrev asked_of_doors : (plain : List HistoryEntry) × AreAskedPlainly hosted_tenant_answers (λ y. y ≡ s.begun) past_counts.0 plain s.end × Replays hosted_tenant_answers (λ y. y ≡ without_keys s.begun) plain (without_keys s.end)
+  asked_of_doors = asked_plainly hosted_tenant_answers (λ y. y ≡ s.begun) (λ y. y ≡ without_keys s.begun) (λ y is. ap without_keys is) past_counts.0 s.end past_counts.2
 
   -- what the desks were asked
   abbrev asked_of_desks : (asked : List HistoryEntry) × AreAskedByName (door_names doors) asked_of_doors.0 asked × IsTenantHistory line_starts line_looks line_takes (door_names doors) firsts bounds.keep asked (without_keys s.end)
@@ -205,7 +212,7 @@ module _ (doors : List TenantDoor) (bounds : Bounds) (sessions : ℕ) (may_stop 
   heard_entry f asks t own =
       let n = named_at (door_names doors) asked_of_doors.0 asked f asked_of_desks.1 t in
       let h = heard_of (door_names doors) n.0.query.passage.door n.0.query.asked f.query.asked asks n.2.asked own in
-      let p = plain_at (λ y. y ≡ s.begun) s.serving.history asked_of_doors.0 n.1.before n.1.after n.0 s.end asked_of_doors.1 n.1.is in
+      let p = plain_at (λ y. y ≡ s.begun) past_counts.0 asked_of_doors.0 n.1.before n.1.after n.0 s.end asked_of_doors.1 n.1.is in
       let same = plain_same p.2.0 p.0 n.0 h.0 p.2.1 h.1 in
       let names = door_names doors in
       record {
@@ -218,7 +225,7 @@ module _ (doors : List TenantDoor) (bounds : Bounds) (sessions : ℕ) (may_stop 
         };
         heard = h.0;
         by_name = subst (λ (x : Passage). IsOwnNamed names x.door (Ok h.0) (Ok asks)) same.1 h.2;
-        went = entry_of p.0 h.0 p.1 (sym same.2 ∙ h.1);
+        went = entry_of p.0 h.0 (desk_entry s.serving.history past_counts.0 p.0 h.0 past_counts.1 p.1 (sym same.2 ∙ h.1)) (sym same.2 ∙ h.1);
       }
 
   own_payload : (place : ℕ) (before after : List HistoryEntry) (e : HistoryEntry) (number : ℕ) → length doors ≤ 256 → place ≤ length doors → sent_to (door_names doors) place asked ≡ before ++ e ∷ after
@@ -234,8 +241,8 @@ module _ (doors : List TenantDoor) (bounds : Bounds) (sessions : ℕ) (may_stop 
       comes : ComesFromSubmit before number e
       comes = own_comes bounds.keep place (door_names doors) asked (host few) (omega (arith, there, length-map doors (λ (d : TenantDoor). string_bytes d.name))) before after e number is asks f
 
-  pub own_payloads : length doors ≤ 256 → (plain asked : List HistoryEntry) × AreAskedPlainly hosted_tenant_answers (λ y. y ≡ s.begun) s.serving.history plain s.end
+  pub own_payloads : length doors ≤ 256 → (heard plain asked : List HistoryEntry) × AreAskedOfDesks s.serving.history heard × AreAskedPlainly hosted_tenant_answers (λ y. y ≡ s.begun) heard plain s.end
       × AreAskedByName (door_names doors) plain asked
       × ((place : ℕ) (before after : List HistoryEntry) (e : HistoryEntry) (number : ℕ) → place ≤ length doors → sent_to (door_names doors) place asked ≡ before ++ e ∷ after
       → e.query.asked ≡ Ok (result number) → IsResultFrame e.reply → ComesFromOwnPayload (door_names doors) s.serving.closed before number e)
-  own_payloads few = (asked_of_doors.0, asked, asked_of_doors.1, asked_of_desks.1, λ place before after e number there. own_payload place before after e number few there)
+  own_payloads few = (past_counts.0, asked_of_doors.0, asked, past_counts.1, asked_of_doors.1, asked_of_desks.1, λ place before after e number there. own_payload place before after e number few there)

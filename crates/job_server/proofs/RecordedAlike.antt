@@ -11,6 +11,8 @@ use Rattle.desk_recorder.specs.RecordedAnswers.{answers_recorded}
 use Rattle.desk_recorder.specs.Restarts.{StartsEach}
 use Rattle.desk_recorder.specs.Restarts as restarts
 use Rattle.desk_recorder.specs.declared.recording_handler.RecordingHandler.{RecordingHandler}
+use Rattle.shared_desk.specs.ServerAsked.{answers_counting}
+use Rattle.shared_desk.proofs.AskedOfDesks.{counting_alike}
 use Rattle.shared_desk.specs.Histories.{by_any_passage}
 use Rattle.job_pools.specs.declared.limited_runner.LimitedRunner.{LimitedRunner}
 use Rattle.job_pools.specs.Bounded.{looks_within, starts_within, takes_within}
@@ -68,17 +70,18 @@ module _ {R Q : Type 0} (f : R → Pool) (taken : Q → List ℕ) (failed : Q �
   pub recorded_serving : (state : DeskState) (bounds : Bounds) (l : LimitedRunner R) (pool : R) (begun end : Ledger × RecordingHandler (LimitedRunner R) Q) (sessions : ℕ) (may_stop : Bool) (outcome : Result (Unit {0}) ServeFault)
       → l.runner ≡ pool → l.limit ≡ bounds.open_jobs → ((f pool).0 ≡ []) × ((f pool).1.entries ≡ [])
       → IsRestarted (starts_within (λ r. pooled_count (f r)) starts) taken failed state l bounds.keep begun
-      → (serving : IsServingFrom (by_any_passage (answers_recorded (starts_within (λ r. pooled_count (f r)) starts) (looks_within looks) (takes_within takes) taken failed)) (λ s. s ≡ begun) end sessions may_stop outcome)
+      → (serving : IsServingFrom (answers_counting (by_any_passage (answers_recorded (starts_within (λ r. pooled_count (f r)) starts) (looks_within looks) (takes_within takes) taken failed))) (λ s. s ≡ begun) end sessions may_stop outcome)
       → (recorded : IsServingRecorded taken failed state bounds sessions may_stop outcome) × (recorded.serving.opened ≡ serving.opened) × (recorded.serving.closed ≡ serving.closed)
   recorded_serving state bounds l pool begun end sessions may_stop outcome is_pool is_limit none restarted serving =
       let within : (a : LimitedRunner R) (n : ℕ) (j : AdmittedJob) (x : Result (Unit {0}) ℕ) (m : LimitedRunner R) → starts_within (λ r. pooled_count (f r)) starts a n j x m → starts_within pooled_count (StartsBy pooled_at pooled_count) (limited f a) n j x (limited f m) =
       within_alike f pooled_count (StartsBy pooled_at pooled_count) (TellsBy pooled_at pooled_count) (TakesBy pooled_at pooled_count) starts looks takes starts_alike looks_alike takes_alike in
       let kept = serving_kept (beside (recording (limited f)))
-      (by_any_passage (answers_recorded (starts_within (λ r. pooled_count (f r)) starts) (looks_within looks) (takes_within takes) taken failed))
-      (by_any_passage (recorded_answers taken failed))
+      (answers_counting (by_any_passage (answers_recorded (starts_within (λ r. pooled_count (f r)) starts) (looks_within looks) (takes_within takes) taken failed)))
+      (answers_counting (by_any_passage (recorded_answers taken failed)))
+      (counting_alike (by_any_passage (answers_recorded (starts_within (λ r. pooled_count (f r)) starts) (looks_within looks) (takes_within takes) taken failed)) (by_any_passage (recorded_answers taken failed)) (beside (recording (limited f)))
       (λ s q reply t. recorded_alike (limited f) taken failed (starts_within (λ r. pooled_count (f r)) starts) (looks_within looks) (takes_within takes)
       (starts_within pooled_count (StartsBy pooled_at pooled_count)) (looks_within (TellsBy pooled_at pooled_count)) (takes_within (TakesBy pooled_at pooled_count))
-      within (λ a n p m g. (looks_alike a.runner n p m.runner g.0, g.1)) (λ a x m g. (takes_alike a.runner x m.runner g.0, g.1)) s q.asked reply t)
+      within (λ a n p m g. (looks_alike a.runner n p m.runner g.0, g.1)) (λ a x m g. (takes_alike a.runner x m.runner g.0, g.1)) s q.asked reply t))
       (λ s. s ≡ begun) (λ s. s ≡ beside (recording (limited f)) begun) (λ s is. ap (beside (recording (limited f))) is)
       end sessions may_stop outcome serving in (
         record {

@@ -6,6 +6,8 @@ use Rattle.job_core.specs.Admitted.{AdmittedJob}
 use Rattle.accounts.specs.declared.keep_limits.KeepLimits.{KeepLimits}
 use Rattle.accounts.specs.Ledgers.{Ledger}
 use Rattle.sessions.specs.Grammar.{Asked}
+use Rattle.shared_desk.specs.ServerAsked.{answers_counting}
+use Rattle.shared_desk.proofs.AskedOfDesks.{counting_alike}
 use Rattle.shared_desk.specs.Histories.{Query}
 use Rattle.tenant_desks.specs.declared.placed_runner.PlacedRunner.{PlacedRunner}
 use Rattle.tenant_desks.specs.Placing.{placed}
@@ -215,7 +217,9 @@ module _ {R : Type 0} (f : R → Pool) (starts : R → ℕ → AdmittedJob → R
 
   -- the pool's own state is forgotten, but for the jobs that it was given and the boards that it watches
   pub tenants_serving : (begun end : Tenancy × BehindDoors (KeptRunner (LineLimitedRunner (LimitedRunner R)))) (sessions : ℕ) (may_stop : Bool) (outcome : Result (Unit {0}) ServeFault)
-      → (serving : IsServingFrom (door_answers (starts_by_line starts_in) (looks_by_line (looks_within looks)) (takes_by_line (takes_within takes))) (λ s. s ≡ begun) end sessions may_stop outcome)
-      → (hosted : IsServingFrom hosted_door_answers (λ s. s ≡ doors_hosted_as f begun) (doors_hosted_as f end) sessions may_stop outcome) × (hosted.opened ≡ serving.opened) × (hosted.closed ≡ serving.closed)
+      → (serving : IsServingFrom (answers_counting (door_answers (starts_by_line starts_in) (looks_by_line (looks_within looks)) (takes_by_line (takes_within takes)))) (λ s. s ≡ begun) end sessions may_stop outcome)
+      → (hosted : IsServingFrom (answers_counting hosted_door_answers) (λ s. s ≡ doors_hosted_as f begun) (doors_hosted_as f end) sessions may_stop outcome) × (hosted.opened ≡ serving.opened) × (hosted.closed ≡ serving.closed)
   tenants_serving begun end sessions may_stop outcome serving =
-      serving_kept (doors_hosted_as f) _ hosted_door_answers hosted_doors_alike (λ s. s ≡ begun) (λ s. s ≡ doors_hosted_as f begun) (λ s is. ap (doors_hosted_as f) is) end sessions may_stop outcome serving
+      serving_kept (doors_hosted_as f) _ (answers_counting hosted_door_answers)
+      (counting_alike (door_answers (starts_by_line starts_in) (looks_by_line (looks_within looks)) (takes_by_line (takes_within takes))) hosted_door_answers (doors_hosted_as f) hosted_doors_alike)
+      (λ s. s ≡ begun) (λ s. s ≡ doors_hosted_as f begun) (λ s is. ap (doors_hosted_as f) is) end sessions may_stop outcome serving

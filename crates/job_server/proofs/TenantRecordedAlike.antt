@@ -8,6 +8,8 @@ use Rattle.desk_journal.specs.DeskSteps.{DeskState}
 use Rattle.desk_journal.specs.declared.journaled_desk.OpenJob.{OpenJob}
 use Rattle.desk_recorder.specs.Restarts.{StartsEach}
 use Rattle.desk_recorder.specs.Restarts as restarts
+use Rattle.shared_desk.specs.ServerAsked.{answers_counting}
+use Rattle.shared_desk.proofs.AskedOfDesks.{counting_alike}
 use Rattle.shared_desk.specs.Histories.{Query}
 use Rattle.tenant_desks.specs.declared.placed_runner.PlacedRunner.{PlacedRunner}
 use Rattle.tenant_desks.specs.Placing.{placed}
@@ -137,12 +139,13 @@ module _ {R Q J : Type 0} (f : R → Pool) (taken : Q → List ℕ) (failed : Q 
       (outcome : Result (Unit {0}) ServeFault) → l.runner ≡ pool → l.limit ≡ bounds.open_jobs → ((f pool).0 ≡ []) × ((f pool).1.entries ≡ [])
       → AreRestarted starts_lined taken failed journal_of journals (recovered_tenancy doors states) (door_credits doors) (open_jobs_of states) (new_by_line (door_limits bounds.tenant_jobs doors) l) bounds.keep (without_keys begun)
       → RemembersNone doors begun.1.keys
-      → (serving : IsServingFrom (door_answers_recorded starts_lined (looks_by_line (looks_within looks)) (takes_by_line (takes_within takes)) taken failed) (λ s. s ≡ begun) end sessions may_stop outcome)
+      → (serving : IsServingFrom (answers_counting (door_answers_recorded starts_lined (looks_by_line (looks_within looks)) (takes_by_line (takes_within takes)) taken failed)) (λ s. s ≡ begun) end sessions may_stop outcome)
       → (recorded : IsServingTenantsRecorded taken failed journal_of journals states doors bounds sessions may_stop outcome) × (recorded.serving.opened ≡ serving.opened) × (recorded.serving.closed ≡ serving.closed)
   tenants_recorded_serving journals states doors bounds l pool begun end sessions may_stop outcome is_pool is_limit none restarted keyless serving =
       let kept = serving_kept (doors_as (recorded_as pooled))
-      (door_answers_recorded starts_lined (looks_by_line (looks_within looks)) (takes_by_line (takes_within takes)) taken failed)
-      (hosted_answers_recorded taken failed) hosted_doors_recorded_alike
+      (answers_counting (door_answers_recorded starts_lined (looks_by_line (looks_within looks)) (takes_by_line (takes_within takes)) taken failed))
+      (answers_counting (hosted_answers_recorded taken failed))
+      (counting_alike (door_answers_recorded starts_lined (looks_by_line (looks_within looks)) (takes_by_line (takes_within takes)) taken failed) (hosted_answers_recorded taken failed) (doors_as (recorded_as pooled)) hosted_doors_recorded_alike)
       (λ s. s ≡ begun) (λ s. s ≡ doors_as (recorded_as pooled) begun) (λ s is. ap (doors_as (recorded_as pooled)) is)
       end sessions may_stop outcome serving in (
         record {

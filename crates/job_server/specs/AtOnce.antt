@@ -8,6 +8,7 @@ use Rattle.std.specs.BTreeMap.{BTreeMap}
 use Rattle.credit_book.specs.Boards.{Sight}
 use Rattle.shared_desk.specs.declared.closed.ClosedConnection.{ClosedConnection}
 use Rattle.shared_desk.specs.Histories.{HistoryEntry, Query, Replays, by_any_passage, part_of}
+use Rattle.shared_desk.specs.ServerAsked.{answers_counting}
 use Rattle.shared_desk.specs.Closed.{AreClosed, IsServedWhole, first_fault}
 use Rattle.job_server.specs.declared.fault.ServeFault.{ServeFault}
 use Rattle.job_server.specs.declared.fault.ServeFault.TheVariants.{Socket, Connection}
@@ -72,11 +73,12 @@ new_host bounds pool = (
   record { runner = record { runner = pool; limit = bounds.open_jobs }; keep = bounds.keep },
 )
 
--- The same, first on a new desk and with no job. Jobs run on a pool that lasts, within the bounds.
+-- The same, first on a new desk and with no job. Jobs run on a pool that lasts, within the bounds. One
+-- door hears what the server counts.
 pub record IsServing (bounds : Bounds) (sessions : ℕ) (may_stop : Bool)
     (outcome : Result (Unit {0}) ServeFault) : Type 0 where
   pub first : Pool
   pub none : (first.0 ≡ []) × (first.1.entries ≡ [])
   pub end : Hosted
-  pub serving : IsServingFrom (by_any_passage hosted_answers) (λ s. s ≡ new_host bounds first) end
-      sessions may_stop outcome
+  pub serving : IsServingFrom (answers_counting (by_any_passage hosted_answers))
+      (λ s. s ≡ new_host bounds first) end sessions may_stop outcome

@@ -12,6 +12,7 @@ use Rattle.desk_recorder.specs.declared.recording_handler.RecordingHandler.{Reco
 use Rattle.shared_journal.specs.declared.journal_queue.JournalQueue.{JournalQueue}
 use Rattle.shared_journal.specs.declared.shared_journal.SharedJournal.{SharedJournal}
 use Rattle.shared_desk.specs.Histories.{by_any_passage}
+use Rattle.shared_desk.specs.ServerAsked.{answers_counting}
 use Rattle.shared_desk.specs.declared.passage.Passage.{Passage}
 use Rattle.sessions.specs.Grammar.{Asked}
 use Rattle.job_pools.specs.Holds.{StartsBy, TellsBy, TakesBy}
@@ -81,8 +82,8 @@ pub record IsServingRecorded {Q : Type 0} (taken : Q → List ℕ) (failed : Q �
       IsRestarted (starts_within pooled_count (StartsBy pooled_at pooled_count)) taken failed state
       (record { runner = first; limit = bounds.open_jobs }) bounds.keep begun
   pub end : RecordedHosted Q
-  pub serving : IsServingFrom (by_any_passage (recorded_answers taken failed)) (λ s. s ≡ begun) end
-      sessions may_stop outcome
+  pub serving : IsServingFrom (answers_counting (by_any_passage (recorded_answers taken failed)))
+      (λ s. s ≡ begun) end sessions may_stop outcome
 
 -- A server with journals, or without one: of one desk, or of one for each of these doors' tenants.
 abbrev pub IsServingWith : {Q J : Type 0} → (Q → List ℕ) → (Q → Type 0) → (Q → J) → List J

@@ -7,6 +7,7 @@ use Rattle.desk_journal.specs.DeskSteps.{DeskState}
 use Rattle.desk_journal.specs.declared.journaled_desk.OpenJob.{OpenJob}
 use Rattle.desk_recorder.specs.declared.recorder.ChangeRecorder.{ChangeRecorder}
 use Rattle.shared_desk.specs.Histories.{Query}
+use Rattle.shared_desk.specs.ServerAsked.{answers_counting}
 use Rattle.tenant_desks.specs.AtDoors.{BehindDoors, without_keys}
 use Rattle.tenant_desks.specs.Tenancies.{Tenancy}
 use Rattle.tenant_recorder.specs.Recorders.{AreRecorded}
@@ -96,5 +97,5 @@ pub record IsServingTenantsRecorded {Q J : Type 0} (taken : Q → List ℕ) (fai
       bounds.keep (without_keys begun)
   pub keyless : RemembersNone doors begun.1.keys
   pub end : RecordedTenantHosted Q
-  pub serving : IsServingFrom (hosted_answers_recorded taken failed) (λ s. s ≡ begun) end sessions
-      may_stop outcome
+  pub serving : IsServingFrom (answers_counting (hosted_answers_recorded taken failed))
+      (λ s. s ≡ begun) end sessions may_stop outcome

@@ -2,6 +2,7 @@
 use Rattle.std.specs.Prelude.{◌≡◌, ℕ, ◌+◌, Bool, false, List, [], ◌∷◌, All, length, map, replicate, string_bytes, Option, Result}
 use Rattle.sessions.specs.declared.job_key.KeyedJob.{KeyedJob}
 use Rattle.shared_desk.specs.Histories.{Query}
+use Rattle.shared_desk.specs.ServerAsked.{answers_counting}
 use Rattle.shared_desk.specs.declared.door.Door.TheVariants.{Tenant}
 use Rattle.shared_desk.specs.declared.passage.Passage.{Passage}
 use Rattle.tenant_desks.specs.Tenancies.{IsFirstTenancy, Tenancy}
@@ -70,7 +71,8 @@ pub record IsServingTenants (doors : List TenantDoor) (bounds : Bounds) (session
   pub begun : DoorsHosted
   pub begins : BeginsAtDesks doors bounds (record { runner = first; limit = bounds.open_jobs }) begun
   pub end : DoorsHosted
-  pub serving : IsServingFrom hosted_door_answers (λ s. s ≡ begun) end sessions may_stop outcome
+  pub serving : IsServingFrom (answers_counting hosted_door_answers) (λ s. s ≡ begun) end sessions
+      may_stop outcome
 
 -- what comes by a tenant's own door may not grant
 abbrev pub GrantsByNoTenant : Passage → Type 0

@@ -46,7 +46,6 @@ fn answer_connection<'s, R: Wait + Clock, D, H: SharedHandler<D>, J: Origin<D, H
     waiting: Waiting<'s>,
     journals: &'s [SharedJournal],
     sync: ReplySync,
-    notes: bool,
 ) -> (
     NotedReader<'s, TimedReader<'s, R>>,
     NotedWriter<&'s TcpStream>,
@@ -56,7 +55,7 @@ fn answer_connection<'s, R: Wait + Clock, D, H: SharedHandler<D>, J: Origin<D, H
     requires comes { J.comes passage }
 {
     let timed = TimedReader::new(rt, stream, waiting);
-    let mut reader = Tap::new(NotedReader::new(timed, waiting.stop, notes));
+    let mut reader = Tap::new(NotedReader::new(timed, waiting.stop));
     let tap = Tap::new(NotedWriter::new(stream));
     let mut writer = CommittingSink::new(rt, journals, sync, tap);
     serve_opened(
@@ -83,7 +82,7 @@ fn next_connection<R: Wait + Clock, L: Listener + Drop, J: HistoryId + FirstList
     history: &SharedHistory<J>,
     entrance: &Mutex<Entrance<'_, L, J>>,
     journals: &[SharedJournal],
-    log: Option<&ServerLog>,
+    log: &ServerLog,
 ) -> Option<(TcpStream, ClientSeat<J>, Passage, u64)>
     ensures fresh { IfSome result (λ taken. taken.1.part ≡ []) }
     ensures passage { IfSome result (λ taken. J.comes taken.2) }
@@ -92,18 +91,11 @@ fn next_connection<R: Wait + Clock, L: Listener + Drop, J: HistoryId + FirstList
     let next = entrance.next(rt, history);
     if next.is_none() && entrance.is_first_at_end() {
         if has_failed(journals) {
-            tell(rt, log, LogEvent::JournalFailed);
+            log.tell(rt, LogEvent::JournalFailed);
         }
-        tell(rt, log, LogEvent::Stopping);
+        log.tell(rt, LogEvent::Stopping);
     }
     next
-}
-
-// Tells a log of an event, if there is one.
-fn tell<R: Wait + Clock>(rt: &R, log: Option<&ServerLog>, event: LogEvent) {
-    if let Some(log) = log {
-        log.tell(rt, event);
-    }
 }
 
 // Takes connections and serves them, one after the other, until no more are to be taken. A log is told
@@ -124,7 +116,7 @@ fn take_turns<
     shares: Option<&Shares>,
     journals: &[SharedJournal],
     sync: ReplySync,
-    log: Option<&ServerLog>,
+    log: &ServerLog,
 ) {
     for _ in rt.forever() {
         let Some((stream, seat, passage, connection)) = next_connection(
@@ -133,33 +125,29 @@ fn take_turns<
             return;
         };
         let begun = tell_opened(rt, log, connection, passage);
-        let notes = log.is_some();
         let own = journals_behind(journals, passage);
         let (reader, writer, is_refused) = answer_connection(
-            rt, alloc, history, lock, seat, passage, &stream, waiting, own, sync, notes,
+            rt, alloc, history, lock, seat, passage, &stream, waiting, own, sync,
         );
         raise_if(waiting.stop, is_refused);
         leave(shares, passage.door);
-        if let Some(log) = log {
-            let closed = LogEvent::Closed {
-                connection,
-                requests: reader.requests(),
-                end: ending_of(&reader, &writer, is_refused),
-                ms: millis_since(rt, begun),
-            };
-            log.tell(rt, closed);
-        }
+        let closed = LogEvent::Closed {
+            connection,
+            requests: reader.requests(),
+            end: ending_of(&reader, &writer, is_refused),
+            ms: millis_since(rt, begun),
+        };
+        log.tell(rt, closed);
     }
 }
 
-// Tells a log, if there is one, of a connection that was taken. When that was, if a clock tells.
+// Tells a log of a connection that was taken. When that was, if a clock tells.
 fn tell_opened<R: Wait + Clock>(
     rt: &R,
-    log: Option<&ServerLog>,
+    log: &ServerLog,
     connection: u64,
     passage: Passage,
 ) -> Option<Instant> {
-    let log = log?;
     let by = passage.door;
     log.tell(rt, LogEvent::Opened { connection, by });
     Instant::now(rt).ok()
@@ -241,7 +229,7 @@ fn serve_named<
     let known = &history;
     let door = &entrance;
     let shared = &lock;
-    tell(rt, log, LogEvent::Ready);
+    log.tell(rt, LogEvent::Ready);
     let serve = |_: usize| {
         take_turns(
             rt, alloc, known, door, shared, waiting, shares, journals, sync, log,

@@ -8,6 +8,7 @@ ghost use Rattle.desk_journal.specs.OpenJobs.{open_job_at};
 ghost use Rattle.sessions.specs.Replies.{submit_data};
 ghost use Rattle.streams.specs.Answering.{refused};
 ghost use Rattle.shared_desk.specs.Histories.{HistoryEntry};
+ghost use Rattle.shared_desk.specs.ServerAsked.{AreAskedOfDesks};
 ghost use Rattle.job_server.specs.declared.bounds.Bounds.{Bounds};
 ghost use Rattle.job_server.specs.declared.fault.ServeFault.{ServeFault};
 ghost use Rattle.job_server.specs.AtOnce.{IsServing};
@@ -55,15 +56,18 @@ pub fn numbers_rise()
         → AsksForJob f.query.asked → HasReply f (submit_data n) → n < 2 ^ 64 → m < n }
 {}
 
-/// From payload to payload, at a server of many connections: a result comes from a submit, and the
-/// payload of each came on its connection, where its reply was written.
+/// From payload to payload, at a server of many connections. What its desk was asked is the server's
+/// history, without what was asked of the server itself. A result comes from a submit, and the payload
+/// of each came on its connection, where its reply was written.
 pub fn payloads_lead_to_payloads()
     ensures { (bounds : Bounds) (sessions : ℕ) (may_stop : Bool)
         (outcome : Result (Unit {0}) ServeFault)
         (s : IsServing bounds sessions may_stop outcome)
-        (before after : List HistoryEntry) (e : HistoryEntry) (number : ℕ)
-        → s.serving.history ≡ before ++ e ∷ after → AsksForResult number e.query.asked
-        → IsResultFrame e.reply → ComesFromPayload s.serving.closed before number e }
+        → (plain : List HistoryEntry) × AreAskedOfDesks s.serving.history plain
+        × IsHostHistory bounds plain
+        × ((before after : List HistoryEntry) (e : HistoryEntry) (number : ℕ)
+        → plain ≡ before ++ e ∷ after → AsksForResult number e.query.asked
+        → IsResultFrame e.reply → ComesFromPayload s.serving.closed before number e) }
 {}
 
 /// What a server tells that goes on from a journal of these changes. A job that was over is told as
@@ -75,7 +79,8 @@ pub fn results_outlive_restarts<Q: RecordQueue>()
     ensures served { (state : DeskState) (bounds : Bounds) (sessions : ℕ) (may_stop : Bool)
         (outcome : Result (Unit {0}) ServeFault)
         (s : IsServingRecorded Q.taken Q.has_failed state bounds sessions may_stop outcome)
-        → IsRecoveredHistory Q.taken Q.has_failed state bounds s.serving.history }
+        → (plain : List HistoryEntry) × AreAskedOfDesks s.serving.history plain
+        × IsRecoveredHistory Q.taken Q.has_failed state bounds plain }
     ensures told { (changes : List (List ℕ)) (state : DeskState) (bounds : Bounds)
         (before after : List HistoryEntry) (e : HistoryEntry) (number : ℕ)
         → IsAfter IsNewDesk MakesBytes changes state

@@ -6,13 +6,11 @@ use server_log::ConnectionEnd;
 use std::io;
 use std::io::{ErrorKind, Read, Write};
 
-/// Reads what a reader gives. Where it is to note, it counts the frames that came, and keeps how the
-/// input ended.
+/// Reads what a reader gives, counts the frames that came, and keeps how the input ended.
 #[derive(Drop)]
 pub(crate) struct NotedReader<'a, T> {
     reader: T,
     stop: Option<&'a StopFlag>,
-    notes: bool,
     place: FramePlace,
     requests: u64,
     ending: Option<ConnectionEnd>,
@@ -21,14 +19,13 @@ pub(crate) struct NotedReader<'a, T> {
 impl<'a, T> NotedReader<'a, T> {
     ghost use Rattle.std.specs.Prelude.{◌≡◌};
 
-    /// A reader of which nothing was read, and whether it is to note.
-    pub fn new(reader: T, stop: Option<&'a StopFlag>, notes: bool) -> NotedReader<'a, T>
+    /// A reader of which nothing was read.
+    pub fn new(reader: T, stop: Option<&'a StopFlag>) -> NotedReader<'a, T>
         ensures { result.reader ≡ reader }
     {
         NotedReader {
             reader,
             stop,
-            notes,
             place: FramePlace::between(),
             requests: 0,
             ending: None,
@@ -69,16 +66,14 @@ impl<T: Read> Read for NotedReader<'_, T> {
 
     fn read(&mut self, piece: &mut [u8]) -> io::Result<usize> {
         let read = self.reader.read(piece);
-        if self.notes {
-            match &read {
-                Ok(count) => self.note(&piece[..*count]),
-                Err(error) => {
-                    self.ending = Some(if error.kind() == ErrorKind::TimedOut {
-                        ConnectionEnd::ReadTimeout
-                    } else {
-                        ConnectionEnd::ReadCut
-                    });
-                }
+        match &read {
+            Ok(count) => self.note(&piece[..*count]),
+            Err(error) => {
+                self.ending = Some(if error.kind() == ErrorKind::TimedOut {
+                    ConnectionEnd::ReadTimeout
+                } else {
+                    ConnectionEnd::ReadCut
+                });
             }
         }
         read

@@ -74,7 +74,16 @@ fn serve_on_pool<
         closer,
     } = queues;
     let started = start_workers(rt, scope, jobs, endings, plan.workers, plan.log);
-    let pool = LastingPool::new(rt, alloc, register, keeper, queue, ended, started > 0);
+    let pool = LastingPool::new(
+        rt,
+        alloc,
+        plan.log,
+        register,
+        keeper,
+        queue,
+        ended,
+        started > 0,
+    );
     let runner = LimitedRunner::new(pool, plan.bounds.open_jobs);
     // the queue is closed behind each, so that the workers end once nothing waits
     if plan.journals.is_empty() {

@@ -3,6 +3,7 @@
 ghost use Rattle.std.specs.Prelude.{◌≡◌, ◌≤◌, All, IfOk, is_some, length};
 ghost use Rattle.accounts.specs.Ledgers.{Ledger};
 ghost use Rattle.shared_desk.specs.Histories.{by_any_passage};
+ghost use Rattle.shared_desk.specs.ServerAsked.{answers_counting};
 ghost use Rattle.tenant_desks.specs.Answering.{KeptRunner, door_answers};
 ghost use Rattle.tenant_desks.specs.AtDoors.{BehindDoors};
 ghost use Rattle.tenant_desks.specs.Tenancies.{Tenancy};
@@ -24,7 +25,7 @@ use crate::tenant_door::{TenantDoor, credits_of, limits_of};
 use accounts::Desk;
 use job_pools::LineLimitedRunner;
 use refusal::NoMemory;
-use server_log::LoggedHandler;
+use server_log::{CountingHandler, LoggedHandler};
 use std::alloc::Global;
 use std::sync::Wait;
 use std::thread::Threads;
@@ -32,7 +33,8 @@ use std::time::Clock;
 use streams::Runner;
 use tenant_desks::{DoorKeys, OwnNaming, TenantDesks, TenantDoors, TenantHandler};
 
-/// Serves the connections at one new desk, whose jobs this runner runs.
+/// Serves the connections at one new desk, whose jobs this runner runs. The door for grants hears what
+/// the server counts.
 pub(crate) fn serve_at_desk<
     's,
     R: Threads + Wait + Clock + Sync,
@@ -41,14 +43,16 @@ pub(crate) fn serve_at_desk<
 >(rt: &'s R, alloc: Global, listener: L, runner: N, plan: Plan<'s>) -> Result<(), ServeFault>
     requires { N.ready runner }
     ensures { (end : Ledger × KeepingHandler N)
-        × (s : IsServingFrom (by_any_passage (answers_keeping N.starts N.looks N.takes))
+        × (s : IsServingFrom (answers_counting (by_any_passage
+        (answers_keeping N.starts N.looks N.takes)))
         (λ s. s ≡ (new_desk, record { runner = runner; keep = plan.entry.bounds.keep })) end
         plan.entry.sessions (is_some plan.entry.stop) result)
         × AreOf L.opens L.fails listener s.opened
         × All (λ c. CameBy L.opens L.passage c.passage) s.closed }
 {
     let kept = KeepingHandler::new(runner, plan.bounds.keep);
-    let handler = LoggedHandler::new(rt, plan.log, kept);
+    let logged = LoggedHandler::new(rt, plan.log, kept);
+    let handler = CountingHandler::new(rt, plan.log, logged);
     let desk = Desk::new(alloc);
     let served = serve_at_once(rt, alloc, listener, desk, handler, plan);
     served.2
@@ -81,8 +85,8 @@ pub(crate) fn serve_at_desks<
     ensures { (begun : Tenancy × BehindDoors (KeptRunner (LineLimitedRunner N)))
         × (end : Tenancy × BehindDoors (KeptRunner (LineLimitedRunner N)))
         × BeginsAtDesks plan.entry.tenants.now plan.entry.bounds runner begun
-        × (s : IsServingFrom (door_answers (starts_by_line N.starts) (looks_by_line N.looks)
-        (takes_by_line N.takes)) (λ s. s ≡ begun) end
+        × (s : IsServingFrom (answers_counting (door_answers (starts_by_line N.starts)
+        (looks_by_line N.looks) (takes_by_line N.takes))) (λ s. s ≡ begun) end
         plan.entry.sessions (is_some plan.entry.stop) result)
         × AreOf L.opens L.fails listener s.opened
         × All (λ c. CameBy L.opens L.passage c.passage) s.closed }
@@ -100,7 +104,8 @@ pub(crate) fn serve_at_desks<
         return Err(NO_MEMORY);
     };
     let named = OwnNaming::of(TenantHandler::new(rt, plan.log, limited, plan.bounds.keep));
-    let handler = TenantDoors::of(named, keys);
+    let doors = TenantDoors::of(named, keys);
+    let handler = CountingHandler::new(rt, plan.log, doors);
     let served = serve_at_once(rt, alloc, listener, desks, handler, plan);
     served.2
 }

@@ -5,6 +5,7 @@ ghost use Rattle.accounts.specs.Ledgers.{Ledger};
 ghost use Rattle.desk_recorder.specs.RecordedAnswers.{answers_recorded};
 ghost use Rattle.desk_recorder.specs.declared.recording_handler.RecordingHandler.{RecordingHandler};
 ghost use Rattle.shared_desk.specs.Histories.{by_any_passage};
+ghost use Rattle.shared_desk.specs.ServerAsked.{answers_counting};
 ghost use Rattle.shared_journal.specs.declared.journal_queue.JournalQueue.{JournalQueue};
 ghost use Rattle.job_server.specs.AtOnce.{IsServingFrom};
 ghost use Rattle.job_server.specs.Listening.{AreOf, CameBy};
@@ -17,7 +18,7 @@ use crate::plan::Plan;
 use accounts::Desk;
 use desk_journal::{JournaledDesk, OpenJob};
 use desk_recorder::RecordingHandler;
-use server_log::LoggedHandler;
+use server_log::{CountingHandler, LoggedHandler};
 use shared_journal::JournalQueue;
 use std::alloc::Global;
 use std::sync::Wait;
@@ -60,8 +61,8 @@ pub(crate) fn serve_recorded<
         × (end : Ledger × RecordingHandler N (JournalQueue R))
         × IsRestarted N.starts queue_taken queue_told (recovered_state states.items) runner
         plan.entry.bounds.keep begun
-        × (s : IsServingFrom (by_any_passage (answers_recorded N.starts N.looks N.takes queue_taken
-        queue_told)) (λ s. s ≡ begun) end plan.entry.sessions (is_some plan.entry.stop) result)
+        × (s : IsServingFrom (answers_counting (by_any_passage (answers_recorded N.starts N.looks
+        N.takes queue_taken queue_told))) (λ s. s ≡ begun) end plan.entry.sessions (is_some plan.entry.stop) result)
         × AreOf L.opens L.fails listener s.opened
         × All (λ c. CameBy L.opens L.passage c.passage) s.closed }
 {
@@ -69,7 +70,8 @@ pub(crate) fn serve_recorded<
     let queue = JournalQueue::new(rt, &plan.journals[0]);
     let mut recording = RecordingHandler::new(runner, plan.bounds.keep, queue);
     recording.restart(alloc, &mut desk, jobs);
-    let handler = LoggedHandler::new(rt, plan.log, recording);
+    let logged = LoggedHandler::new(rt, plan.log, recording);
+    let handler = CountingHandler::new(rt, plan.log, logged);
     let served = serve_at_once(rt, alloc, listener, desk, handler, plan);
     served.2
 }

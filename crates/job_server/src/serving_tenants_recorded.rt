@@ -6,6 +6,7 @@ ghost use Rattle.desk_journal.specs.DeskSteps.{DeskState};
 ghost use Rattle.desk_journal.specs.declared.journaled_desk.OpenJob.{OpenJob};
 ghost use Rattle.shared_journal.specs.declared.journal_queue.JournalQueue.{JournalQueue};
 ghost use Rattle.streams.specs.declared.fault.StreamFault.TheVariants as stream;
+ghost use Rattle.shared_desk.specs.ServerAsked.{answers_counting};
 ghost use Rattle.tenant_desks.specs.AtDoors.{BehindDoors, without_keys};
 ghost use Rattle.tenant_desks.specs.Tenancies.{Tenancy};
 ghost use Rattle.tenant_recorder.specs.TenantsRecorded.{RecordedRunner, door_answers_recorded};
@@ -30,6 +31,7 @@ use accounts::Desk;
 use desk_journal::{JournaledDesk, OpenJob};
 use job_pools::LineLimitedRunner;
 use refusal::NoMemory;
+use server_log::CountingHandler;
 use shared_journal::{JournalQueue, SharedJournal};
 use std::alloc::Global;
 use std::sync::Wait;
@@ -148,8 +150,8 @@ pub(crate) fn serve_tenants_recorded<
         (new_by_line (door_limits plan.entry.bounds.tenant_jobs plan.entry.tenants.now) runner)
         plan.entry.bounds.keep (without_keys begun)
         × RemembersNone plan.entry.tenants.now begun.1.keys
-        × (s : IsServingFrom (door_answers_recorded (starts_by_line N.starts)
-        (looks_by_line N.looks) (takes_by_line N.takes) queue_taken queue_told) (λ s. s ≡ begun) end
+        × (s : IsServingFrom (answers_counting (door_answers_recorded (starts_by_line N.starts)
+        (looks_by_line N.looks) (takes_by_line N.takes) queue_taken queue_told)) (λ s. s ≡ begun) end
         plan.entry.sessions (is_some plan.entry.stop) result)
         × AreOf L.opens L.fails listener s.opened
         × All (λ c. CameBy L.opens L.passage c.passage) s.closed)
@@ -172,6 +174,7 @@ pub(crate) fn serve_tenants_recorded<
     };
     handler.restart(alloc, &mut desks, jobs);
     let doors = TenantDoors::of(TenantRecording::of(handler), keys);
-    let served = serve_at_once(rt, alloc, listener, desks, doors, plan);
+    let counting = CountingHandler::new(rt, plan.log, doors);
+    let served = serve_at_once(rt, alloc, listener, desks, counting, plan);
     served.2
 }

@@ -5,6 +5,7 @@ ghost use Rattle.accounts.specs.declared.keep_limits.KeepLimits.{KeepLimits};
 ghost use Rattle.sessions.specs.Replies.{submit_data};
 ghost use Rattle.streams.specs.Answering.{refused};
 ghost use Rattle.shared_desk.specs.Histories.{HistoryEntry};
+ghost use Rattle.shared_desk.specs.ServerAsked.{AreAskedOfDesks};
 ghost use Rattle.tenant_desks.specs.Alone.{sent_to};
 ghost use Rattle.tenant_desks.specs.AskedPlainly.{AreAskedPlainly};
 ghost use Rattle.tenant_desks.specs.OwnNamed.{AreAskedByName};
@@ -51,15 +52,17 @@ pub fn results_come_from_own_submits()
 {}
 
 /// From payload to payload, at a server whose tenants have doors of their own. What the desks were
-/// asked is the server's history by names, where a tenant's name may be left out at its own door, and
-/// where a submit may have a key. A tenant's result comes from a submit by its door, and the payload of each came on its connection,
+/// asked is the server's history by names, without what was asked of the server itself. A tenant's
+/// name may be left out at its own door, and a submit may have a key there. A tenant's result comes
+/// from a submit by its door, and the payload of each came on its connection,
 /// where its reply was written.
 pub fn payloads_lead_to_own_payloads()
     ensures { (doors : List TenantDoor) (bounds : Bounds) (sessions : ℕ) (may_stop : Bool)
         (outcome : Result (Unit {0}) ServeFault)
         (s : IsServingTenants doors bounds sessions may_stop outcome)
-        → length doors ≤ 256 → (plain asked : List HistoryEntry)
-        × AreAskedPlainly hosted_tenant_answers (λ x. x ≡ s.begun) s.serving.history plain s.end
+        → length doors ≤ 256 → (heard plain asked : List HistoryEntry)
+        × AreAskedOfDesks s.serving.history heard
+        × AreAskedPlainly hosted_tenant_answers (λ x. x ≡ s.begun) heard plain s.end
         × AreAskedByName (door_names doors) plain asked
         × ((place : ℕ) (before after : List HistoryEntry) (e : HistoryEntry) (number : ℕ)
         → place ≤ length doors → sent_to (door_names doors) place asked ≡ before ++ e ∷ after

@@ -1,1 +1,2 @@
+pub mod ToldCounts
 pub mod WholeLines

@@ -77,10 +77,10 @@ impl GrantNote {
     }
 }
 
-/// Notes a grant that a desk is asked for, where there is a log. None for any other request.
+/// Notes a grant that a desk is asked for, where a log's lines are written. None for any other request.
 pub fn noted_grant(
     alloc: Global,
-    log: Option<&ServerLog>,
+    log: &ServerLog,
     desk: &Desk,
     request: &PreparedRequest,
 ) -> Option<GrantNote>
@@ -89,7 +89,9 @@ pub fn noted_grant(
     ensures before { IfSome result (λ note. note.before
         ≡ granted_in (account_at desk.now (string_bytes note.tenant))) }
 {
-    let _ = log?;
+    if !log.has_lines() {
+        return None;
+    }
     match request {
         PreparedRequest::AsItCame(Ok(Request::Grant { tenant, amount })) => {
             GrantNote::of(alloc, desk, tenant, *amount)

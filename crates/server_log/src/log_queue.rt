@@ -1,12 +1,15 @@
-//! The log of a server: lines that wait for who writes them, and nobody who waits for that.
+//! The log of a server: what it counts, and lines that wait for who writes them, and nobody who waits
+//! for that.
 
-ghost use Rattle.std.specs.Prelude.{◌≡◌, ◌⊎◌, ◌++◌, ◌/◌, ◌-◌, ◌^◌, min, false, is_some, string_bytes};
+ghost use Rattle.std.specs.Prelude.{◌≡◌, ◌⊎◌, ◌++◌, ◌/◌, ◌-◌, ◌^◌, IfOk, min, false, true, is_some, string_bytes};
 ghost use Rattle.std.specs.Duration.{as_nanos};
 ghost use Rattle.server_log.specs.LogLines.{AreLogLines, log_text};
 
 use crate::log_line::{LogEvent, LogLine};
+use crate::server_counts::{Counter, ServerCounts};
 use crossbeam_channel::{Receiver, Sender, bounded};
 use refusal::NoMemory;
+use sessions::ServerTotals;
 use std::alloc::Global;
 use std::sync::atomic::{AtomicU64, Ordering};
 use std::sync::{Arc, Wait};
@@ -25,35 +28,54 @@ const GATHER: u64 = 20;
 // How many seconds the end of a server waits for its last lines.
 const LAST: u64 = 2;
 
-// How many lines were lost since that was told. Nobody waits for it.
+// How many lines were lost: since that was told, and in all. Nobody waits for it.
 #[derive(Drop)]
 struct Losses {
-    count: AtomicU64,
+    untold: AtomicU64,
+    all: AtomicU64,
 }
 
 impl Losses {
-    // How many there were; from now on there are none.
-    fn take(&self) -> u64 {
-        self.count.swap(0, Ordering::SeqCst)
+    // None.
+    fn none() -> Losses {
+        Losses {
+            untold: AtomicU64::new(0),
+            all: AtomicU64::new(0),
+        }
     }
 
-    // So many more.
-    fn add(&self, more: u64) {
+    // How many there were; from now on there are none to tell.
+    fn take(&self) -> u64 {
+        self.untold.swap(0, Ordering::SeqCst)
+    }
+
+    // One line more, which was to tell of so many ahead of it.
+    fn lose(&self, ahead: u64) {
+        self.all.fetch_add(1, Ordering::SeqCst);
         let _ = self
-            .count
+            .untold
             .fetch_update(Ordering::SeqCst, Ordering::SeqCst, |count| {
-                Some(count.saturating_add(more))
+                Some(count.saturating_add(ahead).saturating_add(1))
             });
     }
 }
 
-/// Takes the lines of a server. A line that finds no room is dropped and counted, and the next one that
-/// finds room tells the count.
+// Takes lines for who writes them. A line that finds no room is dropped and counted, and the next one
+// that finds room tells the count.
 #[derive(Drop)]
-pub struct ServerLog {
+struct LineQueue {
     queue: Sender<LogLine, Global>,
     losses: Arc<Losses, Global>,
     written: Receiver<(), Global>,
+}
+
+/// Takes what happens in a server: counts it, and makes a line of it where lines are written.
+#[derive(Drop)]
+pub struct ServerLog {
+    counts: ServerCounts,
+    instance: u64,
+    begun: Option<Instant>,
+    lines: Option<LineQueue>,
 }
 
 /// The lines of a log, for who writes them.
@@ -64,18 +86,13 @@ pub struct LogLines {
     written: Sender<(), Global>,
 }
 
-/// A log, and its lines.
-pub fn open_log(alloc: Global) -> Result<(ServerLog, LogLines), NoMemory> {
+// The two ends of a queue of lines.
+fn line_queue(alloc: Global) -> Result<(LineQueue, LogLines), NoMemory> {
     let (queue, lines) = bounded(alloc, ROOM)?;
     let (written, is_written) = bounded(alloc, 1)?;
-    let losses = Arc::new(
-        alloc,
-        Losses {
-            count: AtomicU64::new(0),
-        },
-    )?;
+    let losses = Arc::new(alloc, Losses::none())?;
     let theirs = Arc::try_clone(&losses)?;
-    let log = ServerLog {
+    let ours = LineQueue {
         queue,
         losses,
         written: is_written,
@@ -85,6 +102,15 @@ pub fn open_log(alloc: Global) -> Result<(ServerLog, LogLines), NoMemory> {
         losses: theirs,
         written,
     };
+    Ok((ours, lines))
+}
+
+/// A log whose lines are written, and its lines.
+pub fn open_log<R: Clock>(rt: &R, alloc: Global) -> Result<(ServerLog, LogLines), NoMemory>
+    ensures { IfOk result (λ opened. is_some opened.0.lines ≡ true) }
+{
+    let (queue, lines) = line_queue(alloc)?;
+    let log = ServerLog::begun(rt, alloc, Some(queue))?;
     Ok((log, lines))
 }
 
@@ -113,9 +139,9 @@ pub fn millis_since<R: Clock>(rt: &R, begun: Option<Instant>) -> u64
     }
 }
 
-impl ServerLog {
-    /// Tells what happened, and waits for no writer.
-    pub fn tell<R: Wait + Clock>(&self, rt: &R, event: LogEvent) {
+impl LineQueue {
+    // Takes a line of what happened, and waits for no writer.
+    fn take<R: Wait + Clock>(&self, rt: &R, event: LogEvent) {
         let lost = self.losses.take();
         let line = LogLine {
             time: now(rt),
@@ -123,15 +149,97 @@ impl ServerLog {
             lost,
         };
         if self.queue.try_send(rt, line).is_err() {
-            self.losses.add(lost.saturating_add(1));
+            self.losses.lose(lost);
         }
+    }
+
+    // Takes no more lines, and waits until all are written, for two seconds at most.
+    fn close<R: Wait + Clock>(self, rt: &R) {
+        let LineQueue { queue, written, .. } = self;
+        drop(queue);
+        let _ = written.recv_timeout(rt, Duration::from_secs(LAST));
+    }
+}
+
+impl ServerLog {
+    ghost use Rattle.std.specs.Prelude.{◌≡◌, IfOk, false, is_some};
+    ghost use Rattle.server_log.specs.Counting.{AreTotals};
+
+    // A log that begins now, with these lines.
+    fn begun<R: Clock>(
+        rt: &R,
+        alloc: Global,
+        lines: Option<LineQueue>,
+    ) -> Result<ServerLog, NoMemory>
+        ensures { IfOk result (λ log. is_some log.lines ≡ is_some lines) }
+    {
+        let counts = ServerCounts::new(alloc)?;
+        Ok(ServerLog {
+            counts,
+            instance: now(rt),
+            begun: Instant::now(rt).ok(),
+            lines,
+        })
+    }
+
+    /// A log that counts, and of which no lines are written.
+    pub fn counting<R: Clock>(rt: &R, alloc: Global) -> Result<ServerLog, NoMemory>
+        ensures { IfOk result (λ log. is_some log.lines ≡ false) }
+    {
+        ServerLog::begun(rt, alloc, None)
+    }
+
+    /// Whether lines of it are written.
+    pub fn has_lines(&self) -> bool
+        ensures { result ≡ is_some self.now.lines }
+    {
+        self.lines.is_some()
+    }
+
+    /// Counts what happened, and tells it where lines are written. Waits for no writer.
+    pub fn tell<R: Wait + Clock>(&self, rt: &R, event: LogEvent) {
+        self.counts.count(&event);
+        if let Some(lines) = &self.lines {
+            lines.take(rt, event);
+        }
+    }
+
+    /// Raises a counter of what no line tells.
+    pub fn raise(&self, counter: Counter) {
+        self.counts.raise(counter);
+    }
+
+    // How many lines were lost, now.
+    fn lines_lost(&self) -> u64 {
+        match &self.lines {
+            Some(lines) => lines.losses.all.load(Ordering::SeqCst),
+            None => 0,
+        }
+    }
+
+    /// What it has counted so far, each count at a moment of its own. Refused where there is no
+    /// memory.
+    pub fn totals<R: Clock>(&self, rt: &R, alloc: Global) -> Result<ServerTotals, NoMemory>
+        ensures counts { IfOk result AreTotals }
+        ensures instance { IfOk result (λ totals. totals.instance ≡ self.now.instance) }
+    {
+        let refusals = self.counts.refusals(alloc)?;
+        Ok(ServerTotals {
+            connections: self.counts.connections(),
+            instance: self.instance,
+            jobs: self.counts.jobs(),
+            lines_lost: self.lines_lost(),
+            refusals,
+            seconds: millis_since(rt, self.begun) / 1000,
+        })
     }
 
     /// Takes no more lines, and waits until all are written, for two seconds at most.
     pub fn close<R: Wait + Clock>(self, rt: &R) {
-        let ServerLog { queue, written, .. } = self;
-        drop(queue);
-        let _ = written.recv_timeout(rt, Duration::from_secs(LAST));
+        let ServerLog { lines, .. } = self;
+        if let Some(lines) = lines {
+            lines.close(rt);
+        }
     }
 }
 
@@ -145,7 +253,7 @@ fn put_line(alloc: Global, text: &mut String, line: LogLine, losses: &Losses)
         Err(_) => false,
     };
     if !is_put {
-        losses.add(line.lost.saturating_add(1));
+        losses.lose(line.lost);
     }
 }
 

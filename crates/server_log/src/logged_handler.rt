@@ -1,4 +1,4 @@
-//! A handler whose refused jobs and whose grants are told in a server's log.
+//! A handler whose refused jobs and whose grants are told to a server's log.
 
 ghost use Rattle.std.specs.Prelude.{◌≡◌};
 ghost use Rattle.server_log.specs.Told.{refusal_event};
@@ -6,6 +6,7 @@ ghost use Rattle.server_log.specs.Told.{refusal_event};
 use crate::grant_note::noted_grant;
 use crate::log_line::LogEvent;
 use crate::log_queue::ServerLog;
+use crate::server_counts::Counter;
 use accounts::Desk;
 use refusal::NoMemory;
 use sessions::{DoorForm, Request};
@@ -16,12 +17,12 @@ use std::sync::Wait;
 use std::time::Clock;
 use streams::{PendingReply, PreparedRequest, SubmitRefusal, TellingHandler, wants_admission};
 
-/// Answers as a handler does. Where there is a log, that is told of each job that is refused, and of
-/// each grant. Contracts see it as the handler.
+/// Answers as a handler does, and tells a log of each job that is refused, and of each grant. Contracts
+/// see it as the handler.
 #[derive(Drop)]
 pub struct LoggedHandler<'a, R, H> {
     rt: &'a R,
-    log: Option<&'a ServerLog>,
+    log: &'a ServerLog,
     handler: H,
 }
 
@@ -34,8 +35,8 @@ impl<'a, R, H> Model for LoggedHandler<'a, R, H> {
 impl<'a, R, H: Drop> LoggedHandler<'a, R, H> {
     ghost use Rattle.std.specs.Prelude.{◌≡◌};
 
-    /// The same handler, with a log if there is one.
-    pub fn new(rt: &'a R, log: Option<&'a ServerLog>, handler: H) -> LoggedHandler<'a, R, H>
+    /// The same handler, with a log.
+    pub fn new(rt: &'a R, log: &'a ServerLog, handler: H) -> LoggedHandler<'a, R, H>
         ensures { result ≡ handler }
     {
         LoggedHandler { rt, log, handler }
@@ -54,18 +55,25 @@ pub fn event_of_refusal(refusal: SubmitRefusal) -> LogEvent
     }
 }
 
-/// Tells a log, if there is one, why a job doesn't run, and of a grant.
+// Tells a log why a job doesn't run. One that has a number was taken, and no worker takes it.
+fn tell_refusal<R: Wait + Clock>(rt: &R, log: &ServerLog, refusal: SubmitRefusal) {
+    let event = event_of_refusal(refusal);
+    if let LogEvent::Failed { .. } = &event {
+        log.raise(Counter::JobsTaken);
+        log.raise(Counter::JobsUnstarted);
+    }
+    log.tell(rt, event);
+}
+
+/// Tells a log why a job doesn't run, and of a grant.
 pub fn tell_answer<R: Wait + Clock>(
     rt: &R,
-    log: Option<&ServerLog>,
+    log: &ServerLog,
     refusal: Option<SubmitRefusal>,
     granted: Option<LogEvent>,
 ) {
-    let Some(log) = log else {
-        return;
-    };
     if let Some(refusal) = refusal {
-        log.tell(rt, event_of_refusal(refusal));
+        tell_refusal(rt, log, refusal);
     }
     if let Some(event) = granted {
         log.tell(rt, event);

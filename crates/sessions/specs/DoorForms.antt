@@ -7,9 +7,9 @@ use Rattle.serde_json.specs.Find.{as_str, get}
 use Rattle.sessions.specs.Grammar.{ReadsJson, is_name_byte, number_between, request_asked, text_at_key}
 use Rattle.sessions.specs.OwnNames.{HearsBy}
 use Rattle.sessions.specs.declared.door_forms.DoorForm.{DoorForm}
-use Rattle.sessions.specs.declared.door_forms.DoorForm.TheVariants.{Jobs, Keyed}
+use Rattle.sessions.specs.declared.door_forms.DoorForm.TheVariants.{Jobs, Keyed, Server}
 use Rattle.sessions.specs.declared.door_forms.DoorForms.{DoorForms}
-use Rattle.sessions.specs.declared.door_forms.DoorForms.TheVariants.{Plain, OwnDoor}
+use Rattle.sessions.specs.declared.door_forms.DoorForms.TheVariants.{Plain, OwnDoor, Granter}
 use Rattle.sessions.specs.declared.request.Request.{Request}
 use Rattle.sessions.specs.declared.tenant_key.TenantKey.{TenantKey}
 use Rattle.sessions.specs.declared.tenant_key.TenantKey.TheVariants.{Required, Optional}
@@ -18,6 +18,7 @@ use Rattle.sessions.specs.declared.tenant_key.TenantKey.TheVariants.{Required, O
 abbrev pub key_of : DoorForms → TenantKey
 key_of Plain = Required
 key_of OwnDoor = Optional
+key_of Granter = Required
 
 -- the number that a listing begins with, by what stands at `from`: 1 where nothing does
 abbrev pub first_listed : Option Data → Option ℕ
@@ -50,10 +51,15 @@ own_form op d =
     if bytes_eq op (codes "jobs") then jobs_from d
     else (if bytes_eq op (codes "submit") then keyed_from d else None)
 
+-- the request of the door for grants that an `op` names
+abbrev pub granter_form : List ℕ → Option DoorForm
+granter_form op = if bytes_eq op (codes "server") then Some Server else None
+
 -- what is asked beyond the plain protocol, if something is
 unfoldable pub beyond_from : DoorForms → Data → Option DoorForm
 beyond_from Plain d = None
 beyond_from OwnDoor d = option_and_then (λ op. own_form op d) (text_at_key (codes "op") d)
+beyond_from Granter d = option_and_then granter_form (text_at_key (codes "op") d)
 
 -- a payload asks nothing beyond the plain protocol
 pub data AsksPlainly (forms : DoorForms) (payload : List ℕ) : Type 0 where

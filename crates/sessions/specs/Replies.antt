@@ -11,6 +11,10 @@ use Rattle.sessions.specs.Frames.{framed}
 use Rattle.sessions.specs.declared.job_key.KeyedJob.{KeyedJob}
 use Rattle.sessions.specs.declared.reply.Reply.{Reply}
 use Rattle.sessions.specs.declared.reply.Reply.TheVariants as reply
+use Rattle.sessions.specs.declared.server_totals.ConnectionTotals.{ConnectionTotals}
+use Rattle.sessions.specs.declared.server_totals.JobTotals.{JobTotals}
+use Rattle.sessions.specs.declared.server_totals.RefusalCount.{RefusalCount}
+use Rattle.sessions.specs.declared.server_totals.ServerTotals.{ServerTotals}
 
 -- a whole number
 abbrev pub whole : ℕ → Data
@@ -105,6 +109,38 @@ jobs_data count jobs keys =
     (member (codes "jobs") (array (items (map (listed_by keys) jobs)))
     (member (codes "ok") (boolean true) no_members)))
 
+unfoldable pub connections_data : ConnectionTotals → Data
+connections_data c =
+    object (member (codes "open") (whole c.opened) (member (codes "taken") (whole c.taken) no_members))
+
+unfoldable pub job_totals_data : JobTotals → Data
+job_totals_data j =
+    object (member (codes "failed") (whole j.failed) (member (codes "open") (whole j.opened)
+    (member (codes "over") (whole j.over) (member (codes "taken") (whole j.taken)
+    (member (codes "waiting") (whole j.waiting) no_members)))))
+
+-- how many refusals had a number
+unfoldable pub refusal_count_data : RefusalCount → Data
+refusal_count_data r =
+    object (member (codes "code") (whole r.code) (member (codes "count") (whole r.count) no_members))
+
+-- all that a server counts, and the versions of its protocol and of itself
+unfoldable pub server_data : ConnectionTotals → ℕ → JobTotals → ℕ → List RefusalCount → ℕ → Data
+server_data connections instance jobs lines_lost refusals seconds =
+    object (member (codes "connections") (connections_data connections)
+    (member (codes "instance") (whole instance)
+    (member (codes "jobs") (job_totals_data jobs)
+    (member (codes "lines_lost") (whole lines_lost)
+    (member (codes "ok") (boolean true)
+    (member (codes "protocol") (whole 1)
+    (member (codes "refusals") (array (items (map refusal_count_data refusals)))
+    (member (codes "seconds") (whole seconds)
+    (member (codes "version") (string (codes "0.1.0")) no_members)))))))))
+
+abbrev pub totals_data : ServerTotals → Data
+totals_data t =
+    server_data t.connections t.instance t.jobs t.lines_lost t.refusals.items t.seconds
+
 abbrev pub reply_data : Reply → Data
 reply_data (reply.Refused code program slot) = refusal_data code program slot
 reply_data (reply.Account balance granted opened spent) = account_data balance granted opened spent
@@ -115,6 +151,7 @@ reply_data (reply.Result buffer returned spent tasks) =
 reply_data (reply.Play buffer complete held returned spent used) =
     play_data buffer.now complete held returned spent used
 reply_data (reply.Jobs count jobs keys) = jobs_data count jobs.now keys.now
+reply_data (reply.Server totals) = totals_data totals.now
 
 -- the bytes of a reply
 abbrev pub text_of : Reply → List ℕ

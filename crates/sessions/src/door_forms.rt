@@ -10,13 +10,17 @@ pub enum DoorForms {
     /// Those of the plain protocol, in which the tenant's name may be left out, and those of a
     /// tenant's own door.
     OwnDoor,
+    /// Those of the plain protocol, and those of the door for grants.
+    Granter,
 }
 
-/// A request of a tenant's own door, beyond the plain protocol.
+/// A request beyond the plain protocol, which some doors hear.
 #[derive(Debug, Drop)]
 pub enum DoorForm {
     /// Which jobs the door's tenant has, from this number on.
     Jobs { from: u64 },
     /// A submit that has a key; none where the member is no key.
     Keyed { key: Option<JobKey> },
+    /// What the server counts: heard at the door for grants.
+    Server,
 }

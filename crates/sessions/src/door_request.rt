@@ -2,7 +2,7 @@
 
 ghost use Rattle.std.specs.Prelude.{◌≡◌, IfOk, MatchResult, None, Some};
 ghost use Rattle.serde_json.specs.View.{view};
-ghost use Rattle.sessions.specs.DoorForms.{AsksBeyond, ReadsPlainly, beyond_from, job_key_from, jobs_from, key_of, keyed_from, own_form};
+ghost use Rattle.sessions.specs.DoorForms.{AsksBeyond, ReadsPlainly, beyond_from, granter_form, job_key_from, jobs_from, key_of, keyed_from, own_form};
 ghost use Rattle.sessions.specs.Grammar.{request_asked};
 ghost use Rattle.sessions.specs.OwnNames.{request_by};
 
@@ -32,6 +32,7 @@ impl DoorForms {
         match self {
             DoorForms::Plain => TenantKey::Required,
             DoorForms::OwnDoor => TenantKey::Optional,
+            DoorForms::Granter => TenantKey::Required,
         }
     }
 }
@@ -90,6 +91,17 @@ fn read_own_form(alloc: Global, op: &str, value: &Value) -> Result<Option<DoorFo
     Ok(None)
 }
 
+// The request of the door for grants that `op` names.
+fn read_granter_form(op: &str) -> Option<DoorForm>
+    ensures { result ≡ granter_form op.now }
+{
+    if op == "server" {
+        Some(DoorForm::Server)
+    } else {
+        None
+    }
+}
+
 // What is asked beyond the plain protocol, if something is.
 #[tactic(auto, unfolding(crate::specs::DoorForms::beyond_from))]
 fn read_beyond(alloc: Global, value: &Value, forms: DoorForms) -> Result<Option<DoorForm>, NoMemory>
@@ -99,6 +111,10 @@ fn read_beyond(alloc: Global, value: &Value, forms: DoorForms) -> Result<Option<
         DoorForms::Plain => Ok(None),
         DoorForms::OwnDoor => match text_member(value, "op") {
             Some(op) => read_own_form(alloc, op, value),
+            None => Ok(None),
+        },
+        DoorForms::Granter => match text_member(value, "op") {
+            Some(op) => Ok(read_granter_form(op)),
             None => Ok(None),
         },
     }

@@ -29,8 +29,11 @@ pub use tenant_key::TenantKey;
 mod job_list;
 mod reply;
 mod result;
+mod server_reply;
+mod server_totals;
 
 pub use reply::{Reply, reply_frame, reply_text};
+pub use server_totals::{ConnectionTotals, JobTotals, RefusalCount, ServerTotals};
 
 // the accounts that requests speak of
 pub use accounts::{Account, Desk, DeskFault, ListedJob, ListedState, SubmitFault};

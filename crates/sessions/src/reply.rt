@@ -10,6 +10,8 @@ ghost use Rattle.sessions.specs.Outcomes.{outcome_data};
 use crate::job_key::KeyedJob;
 use crate::job_list::write_jobs;
 use crate::result::{JobOutcome, result_frame, write_result};
+use crate::server_reply::write_server;
+use crate::server_totals::ServerTotals;
 use accounts::ListedJob;
 use credit_book::TaskEnd;
 use itoa::Buffer;
@@ -61,6 +63,10 @@ pub enum Reply<'a> {
         count: u64,
         jobs: &'a [ListedJob],
         keys: &'a [KeyedJob],
+    },
+    /// What a server counts.
+    Server {
+        totals: &'a ServerTotals,
     },
     /// How far a schedule brought a job.
     Play {
@@ -207,6 +213,7 @@ fn write_reply(alloc: Global, out: &mut Vec<u8>, reply: &Reply) -> Result<(), Al
             },
         ),
         Reply::Jobs { count, jobs, keys } => write_jobs(alloc, out, count, jobs, keys),
+        Reply::Server { totals } => write_server(out, totals),
         Reply::Play {
             buffer,
             complete,

@@ -1,6 +1,7 @@
 pub mod Doors
 pub mod HeardAt
 pub mod Histories
+pub mod ServerAsked
 pub mod Grants
 pub mod ClientViews
 pub mod Rule

@@ -34,14 +34,15 @@ impl PassageId for Brand {
 }
 
 impl Passage {
-    /// Which requests its door hears: at a tenant's own socket those of its own door too.
+    /// Which requests its door hears: at a tenant's own socket those of its own door too, and at the
+    /// socket for grants what the server counts.
     pub fn forms(self) -> DoorForms
         ensures { result ≡ heard.forms_at self.door }
     {
         match self.door {
             Door::Port => DoorForms::Plain,
             Door::Socket => DoorForms::Plain,
-            Door::Grants => DoorForms::Plain,
+            Door::Grants => DoorForms::Granter,
             Door::Tenant(_) => DoorForms::OwnDoor,
         }
     }

@@ -4,7 +4,7 @@ use Rattle.refusal.specs.declared.NoMemory.{NoMemory}
 use Rattle.accounts.specs.Ledgers.{Ledger}
 use Rattle.sessions.specs.Replies.{frame_of}
 use Rattle.sessions.specs.declared.door_forms.DoorForm.{DoorForm}
-use Rattle.sessions.specs.declared.door_forms.DoorForm.TheVariants.{Jobs, Keyed}
+use Rattle.sessions.specs.declared.door_forms.DoorForm.TheVariants.{Jobs, Keyed, Server}
 use Rattle.sessions.specs.declared.job_key.KeyedJob.{KeyedJob}
 use Rattle.sessions.specs.declared.reply.Reply.TheVariants as reply
 use Rattle.shared_desk.specs.declared.door.Door.{Door}
@@ -43,12 +43,14 @@ abbrev pub submit_frame : ℕ → List ℕ
 submit_frame job = frame_of (reply.Submit job)
 
 -- What a door that remembers these tells by itself, at desks as they stand: a listing, 73 to a submit
--- whose key is none, and the number of its job to one whose key is remembered.
+-- whose key is none, and the number of its job to one whose key is remembered. What is asked of the
+-- server itself is no request here.
 abbrev pub told_by_door : List KeyedJob → List Ledger → Door → Option DoorForm → Option (List ℕ)
 told_by_door keys desks door None = None
 told_by_door keys desks door (Some (Jobs from)) = Some (jobs_frame desks door from keys)
 told_by_door keys desks door (Some (Keyed None)) = Some (frame_of (reply.Refused 73 None None))
 told_by_door keys desks door (Some (Keyed (Some key))) = option_map submit_frame (job_among keys key)
+told_by_door keys desks door (Some Server) = Some (frame_of (reply.Refused 73 None None))
 
 -- a key that has no job yet
 abbrev pub unless_known : Option ℕ → List ℕ → Option (List ℕ)
@@ -61,6 +63,7 @@ new_key keys None = None
 new_key keys (Some (Jobs from)) = None
 new_key keys (Some (Keyed None)) = None
 new_key keys (Some (Keyed (Some key))) = unless_known (job_among keys key) key
+new_key keys (Some Server) = None
 
 -- the same, where one door remembers one keyed job more
 abbrev pub with_key : List (List KeyedJob) → Door → ℕ → List ℕ → List (List KeyedJob)

@@ -1,7 +1,7 @@
 //! The answers to what a door hears beyond the plain protocol.
 
 ghost use Rattle.std.specs.Prelude.{◌≡◌, None, Some};
-ghost use Rattle.sessions.specs.declared.door_forms.DoorForm.TheVariants.{Jobs, Keyed};
+ghost use Rattle.sessions.specs.declared.door_forms.DoorForm.TheVariants.{Jobs, Keyed, Server};
 ghost use Rattle.shared_desk.specs.Answered.{query_by};
 ghost use Rattle.tenant_desks.specs.AtDoors.{AsksNothing, GivesReply, answers_at_doors, jobs_behind, keys_behind};
 ghost use Rattle.tenant_desks.specs.JobKeys.{job_among};
@@ -82,6 +82,27 @@ fn refuse_key<H: SharedHandler<TenantDesks>>(
     ensures answered { GivesReply (λ reply. answers_at_doors H.answers
         (desk.old, record { handler = handler.old; keys = keys.now })
         (query_by passage request (Some (Keyed None))) reply
+        (desk.new, record { handler = handler.new; keys = keys.now })) result }
+{
+    drop(request);
+    ask_nothing(alloc, handler, desk, passage);
+    refuse(alloc, NO_REQUEST)
+}
+
+// Refuses what is asked of the server itself.
+fn refuse_server<H: SharedHandler<TenantDesks>>(
+    alloc: Global,
+    handler: &mut H,
+    keys: &DoorKeys,
+    desk: &mut TenantDesks,
+    passage: Passage,
+    request: PreparedRequest,
+) -> Result<PendingReply, NoMemory>
+    requires { H.ready handler.old }
+    ensures ready { H.ready handler.new }
+    ensures answered { GivesReply (λ reply. answers_at_doors H.answers
+        (desk.old, record { handler = handler.old; keys = keys.now })
+        (query_by passage request (Some Server)) reply
         (desk.new, record { handler = handler.new; keys = keys.now })) result }
 {
     drop(request);
@@ -189,7 +210,7 @@ fn answer_keyed<H: SharedHandler<TenantDesks>>(
 
 /// Answers what a door hears beyond the plain protocol. A listing, a submit whose key is none and one
 /// whose key is remembered it tells by itself: the handler is asked what is no request then. A submit
-/// by a new key the handler answers.
+/// by a new key the handler answers. What is asked of the server itself is refused by 73.
 pub(crate) fn answer_form<H: SharedHandler<TenantDesks>>(
     alloc: Global,
     handler: &mut H,
@@ -211,5 +232,6 @@ pub(crate) fn answer_form<H: SharedHandler<TenantDesks>>(
         DoorForm::Keyed { key } => {
             answer_keyed(alloc, handler, keys, desk, passage, request, key)
         }
+        DoorForm::Server => refuse_server(alloc, handler, keys, desk, passage, request),
     }
 }

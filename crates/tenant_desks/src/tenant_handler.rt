@@ -27,12 +27,12 @@ use streams::{
 };
 
 /// Answers each request at the desk that it goes to, by one runner of all jobs, and then has that
-/// desk forget until what it keeps is within the limits. Where there is a log, that is told of each
-/// job that is refused, and of each grant. Contracts see the runner and how many reports are kept.
+/// desk forget until what it keeps is within the limits. Tells a log of each job that is refused, and of
+/// each grant. Contracts see the runner and how many reports are kept.
 #[derive(Drop)]
 pub struct TenantHandler<'a, R, N> {
     rt: &'a R,
-    log: Option<&'a ServerLog>,
+    log: &'a ServerLog,
     runner: PlacedRunner<N>,
     keep: KeepLimits,
 }
@@ -48,10 +48,10 @@ impl<'a, R, N> Model for TenantHandler<'a, R, N> {
 impl<'a, R, N: Drop> TenantHandler<'a, R, N> {
     ghost use Rattle.std.specs.Prelude.{◌≡◌};
 
-    /// A handler with a runner of all jobs, and with a log if there is one.
+    /// A handler with a runner of all jobs, and with a log.
     pub fn new(
         rt: &'a R,
-        log: Option<&'a ServerLog>,
+        log: &'a ServerLog,
         runner: N,
         keep: KeepLimits,
     ) -> TenantHandler<'a, R, N>

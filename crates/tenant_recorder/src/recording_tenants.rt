@@ -25,14 +25,13 @@ const NO_TENANT: u8 = 74;
 
 /// Answers each request at the desk that it goes to, by one runner of all jobs, and then has that
 /// desk forget until what it keeps is within the limits. Puts the record of each change of a desk
-/// into that desk's queue. Where there is a log, that is told of each job that is refused, and of each
-/// grant. Contracts see the runner, how many reports are kept, and the recorders.
+/// into that desk's queue. Tells a log of each job that is refused, and of each grant. Contracts see the runner, how many reports are kept, and the recorders.
 ///
 /// It is for as many desks as it has queues. At others it answers nothing: 74.
 #[derive(Drop)]
 pub struct RecordingTenantHandler<'a, R, N, Q> {
     rt: &'a R,
-    log: Option<&'a ServerLog>,
+    log: &'a ServerLog,
     runner: PlacedRunner<N>,
     keep: KeepLimits,
     recorders: Vec<ChangeRecorder<Q>>,
@@ -59,12 +58,12 @@ impl<'a, R, N: Runner + Drop, Q: RecordQueue> RecordingTenantHandler<'a, R, N, Q
     ghost use Rattle.tenant_recorder.specs.TenantCredits.{AreCredited};
     ghost use Rattle.tenant_recorder.specs.TenantRestarts.{RestartsEach};
 
-    /// A handler with a runner of all jobs, and with a log if there is one. The queues are those of
+    /// A handler with a runner of all jobs, and with a log. The queues are those of
     /// the desks, in order. Refused where there is no memory.
     pub fn new(
         alloc: Global,
         rt: &'a R,
-        log: Option<&'a ServerLog>,
+        log: &'a ServerLog,
         runner: N,
         keep: KeepLimits,
         queues: Vec<Q>,

@@ -1,0 +1,105 @@
+//! A handler behind doors of which one hears what the server counts.
+
+ghost use Rattle.std.specs.Prelude.{◌≡◌, IfOk, List};
+ghost use Rattle.shared_desk.specs.Histories.{HistoryEntry, Replays};
+ghost use Rattle.shared_desk.specs.ServerAsked.{AreAskedOfDesks, TellsServer, answers_counting};
+ghost use Rattle.shared_desk.specs.ServerAsked as asked;
+
+use crate::log_queue::ServerLog;
+use refusal::NoMemory;
+use sessions::{DoorForm, Reply, Request};
+use shared_desk::{Passage, SharedHandler};
+use std::alloc::Global;
+use std::marker::Model;
+use std::time::Clock;
+use streams::{PendingReply, PreparedRequest};
+
+// The number of the refusal of what is no request.
+const NO_REQUEST: u8 = 73;
+
+/// Answers as a handler does, but for what is asked of the server itself: that a log tells, and the
+/// handler is asked what is no request. Contracts see it as the handler.
+#[derive(Drop)]
+pub struct CountingHandler<'a, R, H> {
+    rt: &'a R,
+    log: &'a ServerLog,
+    handler: H,
+}
+
+impl<'a, R, H> Model for CountingHandler<'a, R, H> {
+    ghost Value = { H };
+
+    ghost view = { λ c. c.handler };
+}
+
+impl<'a, R, H: Drop> CountingHandler<'a, R, H> {
+    ghost use Rattle.std.specs.Prelude.{◌≡◌};
+
+    /// The same handler, with the log that counts.
+    pub fn new(rt: &'a R, log: &'a ServerLog, handler: H) -> CountingHandler<'a, R, H>
+        ensures { result ≡ handler }
+    {
+        CountingHandler { rt, log, handler }
+    }
+}
+
+// Whether a form asks what the server counts.
+fn asks_server(beyond: &Option<DoorForm>) -> bool
+    ensures { result ≡ asked.asks_server beyond.now }
+{
+    match beyond {
+        None => false,
+        Some(DoorForm::Jobs { .. }) => false,
+        Some(DoorForm::Keyed { .. }) => false,
+        Some(DoorForm::Server) => true,
+    }
+}
+
+// The reply that tells what a log has counted.
+fn totals_reply<R: Clock>(rt: &R, log: &ServerLog, alloc: Global) -> Result<PendingReply, NoMemory>
+    ensures { IfOk result TellsServer }
+{
+    let totals = log.totals(rt, alloc)?;
+    PendingReply::of_reply(alloc, &Reply::Server { totals: &totals })
+}
+
+impl<D, R: Clock, H: SharedHandler<D>> SharedHandler<D> for CountingHandler<'_, R, H> {
+    ghost use Rattle.shared_desk.specs.ServerAsked.{answers_counting};
+
+    ghost ready = { λ h. H.ready h };
+
+    ghost answers = { answers_counting H.answers };
+
+    fn wants_admission(&self, desk: &D, passage: Passage, request: &Request) -> bool {
+        self.handler.wants_admission(desk, passage, request)
+    }
+
+    fn answer_by(
+        &mut self,
+        alloc: Global,
+        desk: &mut D,
+        passage: Passage,
+        request: PreparedRequest,
+        beyond: Option<DoorForm>,
+    ) -> Result<PendingReply, NoMemory> {
+        if !asks_server(&beyond) {
+            return self
+                .handler
+                .answer_by(alloc, desk, passage, request, beyond);
+        }
+        drop(request);
+        let nothing = PreparedRequest::AsItCame(Err(NO_REQUEST));
+        drop(self.handler.answer_by(alloc, desk, passage, nothing, None));
+        totals_reply(self.rt, self.log, alloc)
+    }
+}
+
+/// Whatever is asked of a server itself, its desks are asked by that: a history is one of what the
+/// handler was asked. Where the server was asked, that is no request, and the reply tells what the
+/// server counts.
+pub fn counts_are_put_aside<D, H: SharedHandler<D>>()
+    ensures { (begun end : D × H) (history : List HistoryEntry)
+        → Replays (answers_counting H.answers) (λ s. s ≡ begun) history end
+        → (plain : List HistoryEntry) × AreAskedOfDesks history plain
+        × Replays H.answers (λ s. s ≡ begun) plain end }
+{}
