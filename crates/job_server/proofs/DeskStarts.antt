@@ -1,5 +1,5 @@
 -- What a server begins with: a desk or desks, and what answers there.
-use Rattle.std.proofs.Common.{◌≡◌, ◌+◌, ℕ, Bool, cond, true, false, List, [], ◌∷◌, All, map, Option, Some, None, Result, Err, refl, sym, inr, ap, ◌∙◌, subst, arith}
+use Rattle.std.proofs.Common.{◌≡◌, ◌+◌, ℕ, Bool, cond, true, false, List, [], ◌∷◌, All, length, map, replicate, Option, Some, None, Result, Err, refl, sym, inr, ap, ◌∙◌, subst, arith}
 use Rattle.std.proofs.lemmas.Slice.Eq.{bytes_eq-Decides}
 use Rattle.std.specs.Str.{bytes_eq}
 use Rattle.streams.specs.declared.fault.StreamFault.TheVariants.{NoMemory}
@@ -9,6 +9,7 @@ use Rattle.shared_desk.specs.declared.passage.Passage.{Passage}
 use Rattle.shared_desk.specs.Histories.{Query, none_yet}
 use Rattle.tenant_desks.specs.Tenancies.{AreFirstDesks, IsFirstDesk, IsFirstTenancy, Tenancy, fresh_desk}
 use Rattle.tenant_desks.specs.Answering.{KeptRunner}
+use Rattle.tenant_desks.specs.AtDoors.{BehindDoors}
 use Rattle.job_pools.specs.LineBounded.{new_by_line}
 use Rattle.job_pools.specs.declared.line_limited_runner.LineLimitedRunner.{LineLimitedRunner}
 use Rattle.job_server.specs.declared.bounds.Bounds.{Bounds}
@@ -72,9 +73,9 @@ first_tenancy tenants = (
 
 -- a desk for each tenant
 pub tenants_begin : {N : Type 0} (doors : List TenantDoor) (bounds : Bounds) (runner : N) → (begun : Tenancy × BehindDoors (KeptRunner (LineLimitedRunner N))) × BeginsAtDesks doors bounds runner begun
-tenants_begin doors bounds runner =
+tenants_begin {N} doors bounds runner =
     let t = first_tenancy (door_credits doors) in
-    let handler : KeptRunner (LineLimitedRunner _) = record { runner = new_by_line (door_limits bounds.tenant_jobs doors) runner; keep = bounds.keep } in
+    let handler : KeptRunner (LineLimitedRunner N) = record { runner = new_by_line (door_limits bounds.tenant_jobs doors) runner; keep = bounds.keep } in
     ((t.0, record { handler = handler; keys = replicate (length doors + 1) [] }), (t.1, refl, refl))
 
 module _ {S L : Type 0} (answers : S → Query → List ℕ → S → Type 0) (opens fails : L → L → Type 0) (passage_of : L → Passage) (listener : L) (sessions : ℕ) (may_stop : Bool) where

@@ -21,14 +21,15 @@ returns g c =
     let again = c.restart.ensures in
     let desks = c.restart.new.desks in
     let handler = c.restart.new.self in
-    let t = begun_as _ _ _ _ _ _ _ (desks, c.of-recording.result) (desks, handler) (served.result.0, served.result.1) served.result.2 (ap (λ h. (desks, h)) c.of-recording.ensures) served.ensures in
+    let t = begun_as _ _ _ _ _ _ _ (desks, c.of-doors.result) (desks, record { handler = handler; keys = c.in-Ok-new.keys }) (served.result.0, served.result.1) served.result.2 (ap (λ d. (desks, d)) (c.of-doors.ensures ∙ ap (λ h. record { handler = h; keys = c.in-Ok-new.keys }) c.of.ensures)) served.ensures in
     inl (
-      (desks, handler),
+      (desks, record { handler = handler; keys = c.in-Ok-new.keys }),
       t.0,
       tenants_restarted (starts_by_line g.N.Runner.starts) (queue_taken {R = g.row.R.Denot}) (queue_told {R = g.row.R.Denot}) (queue_journal {R = g.row.R.Denot}) plan.journals.now (recovered_tenancy plan.tenants.now states) (door_credits plan.tenants.now) (open_jobs_of states)
           (new_by_line (door_limits plan.bounds.tenant_jobs plan.tenants.now) c.args.runner) plan.bounds.keep parts.desks (said c.deref.result.now) (map (λ (jobs : Vec OpenJob Global). jobs.items) parts.jobs.items) made.handler first.new.desks first.new.self desks handler
           parts.ensures.desks (ap said c.deref.ensures.value ∙ c.in-Ok-credits_of.ensures) parts.ensures.jobs made.ensures.runner made.ensures.keep made.ensures.own made.ensures.fresh (made.ensures.count ∙ sym c.requires.states ∙ sym parts.ensures.count.0)
           c.in-Ok-grant_first.ensures.credited first.ensures.records first.ensures.forgotten first.ensures.same.0 first.ensures.same.1 first.ensures.same.2 again.starts again.records again.forgotten again.same.0 again.same.1,
+      c.in-Ok-new.ensures,
       t.1,
       t.2,
       t.3,
