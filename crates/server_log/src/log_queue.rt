@@ -163,7 +163,7 @@ impl LineQueue {
 
 impl ServerLog {
     ghost use Rattle.std.specs.Prelude.{◌≡◌, IfOk, false, is_some};
-    ghost use Rattle.server_log.specs.Counting.{AreTotals};
+    ghost use Rattle.server_log.specs.Counting.{AreServerTotals};
 
     // A log that begins now, with these lines.
     fn begun<R: Clock>(
@@ -220,7 +220,7 @@ impl ServerLog {
     /// What it has counted so far, each count at a moment of its own. Refused where there is no
     /// memory.
     pub fn totals<R: Clock>(&self, rt: &R, alloc: Global) -> Result<ServerTotals, NoMemory>
-        ensures counts { IfOk result AreTotals }
+        ensures counts { IfOk result AreServerTotals }
         ensures instance { IfOk result (λ totals. totals.instance ≡ self.now.instance) }
     {
         let refusals = self.counts.refusals(alloc)?;
