@@ -52,9 +52,9 @@ pub fn results_come_from_own_submits()
 {}
 
 /// From payload to payload, at a server whose tenants have doors of their own. What the desks were
-/// asked is the server's history, without what was asked of the server itself, by names, where a tenant's name may be left out at its own door. A
-/// tenant's result comes from a submit by its door, and the payload of each came on its connection,
-/// where its reply was written.
+/// asked is the server's history, without what was asked of the server itself, by names, where a
+/// tenant's name may be left out at its own door. A tenant's result comes from a submit by its door,
+/// and the payload of each came on its connection, where its reply was written.
 pub fn payloads_lead_to_own_payloads()
     ensures { (doors : List TenantDoor) (bounds : Bounds) (sessions : ℕ) (may_stop : Bool)
         (outcome : Result (Unit {0}) ServeFault)

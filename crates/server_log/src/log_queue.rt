@@ -1,5 +1,5 @@
-//! The log of a server: what it counts, and lines that wait for who writes them, and nobody who waits
-//! for that.
+//! The log of a server: what it counts, and lines that wait for who writes them, and nobody who
+//! waits for that.
 
 ghost use Rattle.std.specs.Prelude.{◌≡◌, ◌⊎◌, ◌++◌, ◌/◌, ◌-◌, ◌^◌, IfOk, min, false, true, is_some, string_bytes};
 ghost use Rattle.std.specs.Duration.{as_nanos};
@@ -60,8 +60,8 @@ impl Losses {
     }
 }
 
-// Takes lines for who writes them. A line that finds no room is dropped and counted, and the next one
-// that finds room tells the count.
+// Takes lines for who writes them. A line that finds no room is dropped and counted, and the next
+// one that finds room tells the count.
 #[derive(Drop)]
 struct LineQueue {
     queue: Sender<LogLine, Global>,
