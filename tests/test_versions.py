@@ -33,6 +33,7 @@ TOLD = (
     ("crates/bpfjobs_cli/src/texts.rt", r'const VERSION: &str = "(.*)";$'),
     ("crates/bpfrun_core/src/texts.rt", r'const VERSION: &str = "(.*)";$'),
     ("crates/server_log/src/log_line.rt", r'\\"version\\":\\"(.*?)\\"'),
+    ("crates/sessions/src/server_reply.rt", r'\\"version\\":\\"(.*?)\\"'),
     ("docs/try.html", r'^const VERSION = "(.*)";$'),
     ("tests/data/commands.txt", r"^(?:--version|-V) .* bpfjobs (\S+)$"),
 )

@@ -56,9 +56,9 @@ pub fn numbers_rise()
         → AsksForJob f.query.asked → HasReply f (submit_data n) → n < 2 ^ 64 → m < n }
 {}
 
-/// From payload to payload, at a server of many connections. What its desk was asked is the server's
-/// history, without what was asked of the server itself. A result comes from a submit, and the payload
-/// of each came on its connection, where its reply was written.
+/// From payload to payload, at a server of many connections. What its desk was asked is the
+/// server's history, without what was asked of the server itself. A result comes from a submit,
+/// and the payload of each came on its connection, where its reply was written.
 pub fn payloads_lead_to_payloads()
     ensures { (bounds : Bounds) (sessions : ℕ) (may_stop : Bool)
         (outcome : Result (Unit {0}) ServeFault)

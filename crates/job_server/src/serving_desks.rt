@@ -33,8 +33,8 @@ use std::time::Clock;
 use streams::Runner;
 use tenant_desks::{DoorKeys, OwnNaming, TenantDesks, TenantDoors, TenantHandler};
 
-/// Serves the connections at one new desk, whose jobs this runner runs. The door for grants hears what
-/// the server counts.
+/// Serves the connections at one new desk, whose jobs this runner runs. The door for grants hears
+/// what the server counts.
 pub(crate) fn serve_at_desk<
     's,
     R: Threads + Wait + Clock + Sync,

@@ -54,8 +54,8 @@ pub fn results_come_from_own_submits()
 /// From payload to payload, at a server whose tenants have doors of their own. What the desks were
 /// asked is the server's history by names, without what was asked of the server itself. A tenant's
 /// name may be left out at its own door, and a submit may have a key there. A tenant's result comes
-/// from a submit by its door, and the payload of each came on its connection,
-/// where its reply was written.
+/// from a submit by its door, and the payload of each came on its connection, where its reply was
+/// written.
 pub fn payloads_lead_to_own_payloads()
     ensures { (doors : List TenantDoor) (bounds : Bounds) (sessions : ℕ) (may_stop : Bool)
         (outcome : Result (Unit {0}) ServeFault)

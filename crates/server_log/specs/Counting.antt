@@ -75,5 +75,5 @@ AreJobs t = (counts : JobCounts) × (t ≡ job_totals counts)
 abbrev pub AreRefusals : List RefusalCount → Type 0
 AreRefusals found = (counts : List ℕ) × (found ≡ told_counts 0 counts)
 
-abbrev pub AreTotals : ServerTotals → Type 0
-AreTotals t = AreConnections t.connections × AreJobs t.jobs × AreRefusals t.refusals.items
+abbrev pub AreServerTotals : ServerTotals → Type 0
+AreServerTotals t = AreConnections t.connections × AreJobs t.jobs × AreRefusals t.refusals.items

@@ -77,7 +77,8 @@ impl GrantNote {
     }
 }
 
-/// Notes a grant that a desk is asked for, where a log's lines are written. None for any other request.
+/// Notes a grant that a desk is asked for, where a log's lines are written. None for any other
+/// request.
 pub fn noted_grant(
     alloc: Global,
     log: &ServerLog,

@@ -1,5 +1,5 @@
-//! The log of a server: what it counts, what its lines tell, and the queue from the server's threads
-//! to the log's writer.
+//! The log of a server: what it counts, what its lines tell, and the queue from the server's
+//! threads to the log's writer.
 #![tactic(auto)]
 
 mod counting_handler;

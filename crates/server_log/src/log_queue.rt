@@ -1,5 +1,5 @@
-//! The log of a server: what it counts, and lines that wait for who writes them, and nobody who waits
-//! for that.
+//! The log of a server: what it counts, and lines that wait for who writes them, and nobody who
+//! waits for that.
 
 ghost use Rattle.std.specs.Prelude.{◌≡◌, ◌⊎◌, ◌++◌, ◌/◌, ◌-◌, ◌^◌, IfOk, min, false, true, is_some, string_bytes};
 ghost use Rattle.std.specs.Duration.{as_nanos};
@@ -60,8 +60,8 @@ impl Losses {
     }
 }
 
-// Takes lines for who writes them. A line that finds no room is dropped and counted, and the next one
-// that finds room tells the count.
+// Takes lines for who writes them. A line that finds no room is dropped and counted, and the next
+// one that finds room tells the count.
 #[derive(Drop)]
 struct LineQueue {
     queue: Sender<LogLine, Global>,
@@ -163,7 +163,7 @@ impl LineQueue {
 
 impl ServerLog {
     ghost use Rattle.std.specs.Prelude.{◌≡◌, IfOk, false, is_some};
-    ghost use Rattle.server_log.specs.Counting.{AreTotals};
+    ghost use Rattle.server_log.specs.Counting.{AreServerTotals};
 
     // A log that begins now, with these lines.
     fn begun<R: Clock>(
@@ -220,7 +220,7 @@ impl ServerLog {
     /// What it has counted so far, each count at a moment of its own. Refused where there is no
     /// memory.
     pub fn totals<R: Clock>(&self, rt: &R, alloc: Global) -> Result<ServerTotals, NoMemory>
-        ensures counts { IfOk result AreTotals }
+        ensures counts { IfOk result AreServerTotals }
         ensures instance { IfOk result (λ totals. totals.instance ≡ self.now.instance) }
     {
         let refusals = self.counts.refusals(alloc)?;

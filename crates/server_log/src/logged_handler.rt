@@ -17,8 +17,8 @@ use std::sync::Wait;
 use std::time::Clock;
 use streams::{PendingReply, PreparedRequest, SubmitRefusal, TellingHandler, wants_admission};
 
-/// Answers as a handler does, and tells a log of each job that is refused, and of each grant. Contracts
-/// see it as the handler.
+/// Answers as a handler does, and tells a log of each job that is refused, and of each grant.
+/// Contracts see it as the handler.
 #[derive(Drop)]
 pub struct LoggedHandler<'a, R, H> {
     rt: &'a R,

@@ -111,7 +111,8 @@ jobs_data count jobs keys =
 
 unfoldable pub connections_data : ConnectionTotals → Data
 connections_data c =
-    object (member (codes "open") (whole c.opened) (member (codes "taken") (whole c.taken) no_members))
+    object (member (codes "open") (whole c.opened)
+    (member (codes "taken") (whole c.taken) no_members))
 
 unfoldable pub job_totals_data : JobTotals → Data
 job_totals_data j =
@@ -122,7 +123,8 @@ job_totals_data j =
 -- how many refusals had a number
 unfoldable pub refusal_count_data : RefusalCount → Data
 refusal_count_data r =
-    object (member (codes "code") (whole r.code) (member (codes "count") (whole r.count) no_members))
+    object (member (codes "code") (whole r.code)
+    (member (codes "count") (whole r.count) no_members))
 
 -- all that a server counts, and the versions of its protocol and of itself
 unfoldable pub server_data : ConnectionTotals → ℕ → JobTotals → ℕ → List RefusalCount → ℕ → Data

@@ -7,8 +7,8 @@ pub struct ConnectionTotals {
     pub taken: u64,
 }
 
-/// The jobs that a server has taken: those that failed, those that aren't over, those that came to a
-/// report, all, and those that wait for a worker.
+/// The jobs that a server has taken: those that failed, those that aren't over, those that came to
+/// a report, all, and those that wait for a worker.
 #[derive(Clone, Copy, Debug, PartialEq, Eq)]
 pub struct JobTotals {
     pub failed: u64,

@@ -27,8 +27,8 @@ TellsServer reply =
     × (refusals : List RefusalCount) × (seconds : ℕ)
     × (reply ≡ frame_or_refusal (server_data connections instance jobs lines_lost refusals seconds))
 
--- The handler is asked what is no request, and the reply tells what the server counts; or the handler
--- answers.
+-- The handler is asked what is no request, and the reply tells what the server counts; or the
+-- handler answers.
 abbrev pub CountsOrAnswers : {S : Type 0} → (S → Query → List ℕ → S → Type 0) → Bool → S → Query
     → List ℕ → S → Type 0
 CountsOrAnswers answers true s query reply t =
@@ -41,8 +41,8 @@ abbrev pub answers_counting : {S : Type 0} → (S → Query → List ℕ → S �
 answers_counting answers s query reply t =
     CountsOrAnswers answers (asks_server query.beyond) s query reply t
 
--- An entry, and what the handler was asked. It is the same, but where the server was asked: there it
--- is no request, and the reply tells what the server counts.
+-- An entry, and what the handler was asked. It is the same, but where the server was asked: there
+-- it is no request, and the reply tells what the server counts.
 abbrev pub IsAskedOfDesks : Bool → HistoryEntry → HistoryEntry → Type 0
 IsAskedOfDesks true e f =
     (f.connection ≡ e.connection) × (f.query ≡ nothing_asked e.query.passage) × TellsServer e.reply

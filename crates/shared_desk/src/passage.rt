@@ -34,8 +34,8 @@ impl PassageId for Brand {
 }
 
 impl Passage {
-    /// Which requests its door hears: at a tenant's own socket those of its own door too, and at the
-    /// socket for grants what the server counts.
+    /// Which requests its door hears: at a tenant's own socket those of its own door too, and at
+    /// the socket for grants what the server counts.
     pub fn forms(self) -> DoorForms
         ensures { result ≡ heard.forms_at self.door }
     {

@@ -27,8 +27,8 @@ use streams::{
 };
 
 /// Answers each request at the desk that it goes to, by one runner of all jobs, and then has that
-/// desk forget until what it keeps is within the limits. Tells a log of each job that is refused, and of
-/// each grant. Contracts see the runner and how many reports are kept.
+/// desk forget until what it keeps is within the limits. Tells a log of each job that is refused,
+/// and of each grant. Contracts see the runner and how many reports are kept.
 #[derive(Drop)]
 pub struct TenantHandler<'a, R, N> {
     rt: &'a R,

@@ -11,8 +11,8 @@ use sessions::Request;
 use std::alloc::Global;
 use streams::PreparedRequest;
 
-/// Notes a grant that is asked for, at its tenant's desk, where a log's lines are written. None for any
-/// other request.
+/// Notes a grant that is asked for, at its tenant's desk, where a log's lines are written. None
+/// for any other request.
 pub fn noted_grant_among(
     alloc: Global,
     log: &ServerLog,
