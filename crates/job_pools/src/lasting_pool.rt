@@ -25,8 +25,8 @@ use streams::Runner;
 
 /// Hands each job to workers that wait in threads of their own, and takes back what it came to.
 ///
-/// A started job waits in a queue until a worker is free, and lines of numbers have their turns there. That one ever is, or a job ever finished,
-/// is nowhere claimed. Numbers that leave the same remainder by 1,000 have to rise: a start under a
+/// A started job waits in a queue until a worker is free, and lines of numbers have their turns there.
+/// That one ever is, or a job ever finished, is nowhere claimed. Numbers that leave the same remainder by 1,000 have to rise: a start under a
 /// number at or below an earlier one of these is refused by 81. So up to 1,000 hosts that count their
 /// jobs by themselves can share a pool. All starts are refused so where no worker could be started, or
 /// where 16,384 jobs wait already.

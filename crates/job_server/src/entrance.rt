@@ -91,8 +91,8 @@ impl<'a, L: Listener + Drop, J: HistoryId + FirstListener<L>> Entrance<'a, L, J>
     /// Takes the next connection, with its seat, the passage that the listener gave it by, and its
     /// number, from 1 on; `None` once all were taken, or the flag is raised. One that can't be taken
     /// counts, and the next one is taken; so is one of a socket that has its share. A server of any
-    /// number of connections waits a moment before, since there may be no descriptor. One that comes while the flag is raised is dropped: it only
-    /// wakes the server.
+    /// number of connections waits a moment before, since there may be no descriptor. One that comes
+    /// while the flag is raised is dropped: it only wakes the server.
     pub fn next<C: Clock>(
         &mut self,
         clock: &C,

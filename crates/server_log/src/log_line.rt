@@ -1,4 +1,4 @@
-//! The lines of a server's log: numbers alone, and words of ours, as JSON.
+//! The lines of a server's log, as JSON: numbers, words of ours, and the configured names of tenants.
 
 ghost use Rattle.std.specs.Prelude.{◌≡◌};
 

@@ -101,8 +101,8 @@ impl<'a, R: Wait, D, H: SharedHandler<D>, J: Origin<D, H>, G: PassageId> Client<
 }
 
 impl<R: Wait, D, H: SharedHandler<D>, J: Origin<D, H>, G: PassageId> Client<'_, R, D, H, J, G> {
-    // The same request of the plain protocol. One for a job that the desk would take now, but for its admission, is admitted
-    // here, while others are at the desk.
+    // The same request of the plain protocol. One for a job that the desk would take now, but for its
+    // admission, is admitted here, while others are at the desk.
     fn prepared(&self, alloc: Global, request: Result<Request, u8>) -> PreparedRequest
         ensures { asked_of result ≡ query_of request }
     {

@@ -97,8 +97,8 @@ impl<D, H: SharedHandler<D>, J: Origin<D, H>> SharedDesk<D, H, J> {
     }
 
     /// Answers a request of a connection, by its passage, and what it asked beyond the plain protocol,
-    /// as the handler does, and adds that to the history. Where the reply finds no memory, the request was still carried out, and the history
-    /// has it.
+    /// as the handler does, and adds that to the history. Where the reply finds no memory, the request
+    /// was still carried out, and the history has it.
     pub fn answer(
         &mut self,
         history: &SharedHistory<J>,

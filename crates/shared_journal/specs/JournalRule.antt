@@ -32,9 +32,9 @@ journal_founder first = record {
 -- ---- the rule
 
 -- The five words of the table: of the records that wait, of the log, whether the journal has failed,
--- how many records were added, and how many are told to be durable. Which seats hold the two parts, where they are out. What the log held at first. The
--- records that were added: those that were taken to be written, and behind them those that wait.
--- And those that are durable.
+-- how many records were added, and how many are told to be durable. Which seats hold the two parts,
+-- where they are out. What the log held at first. The records that were added: those that were taken
+-- to be written, and behind them those that wait. And those that are durable.
 pub record JournalFacts : Type 0 where
   pub waiting_word : ℕ
   pub log_word : ℕ

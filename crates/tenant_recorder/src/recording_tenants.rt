@@ -25,7 +25,8 @@ const NO_TENANT: u8 = 74;
 
 /// Answers each request at the desk that it goes to, by one runner of all jobs, and then has that
 /// desk forget until what it keeps is within the limits. Puts the record of each change of a desk
-/// into that desk's queue. Tells a log of each job that is refused, and of each grant. Contracts see the runner, how many reports are kept, and the recorders.
+/// into that desk's queue. Tells a log of each job that is refused, and of each grant. Contracts see
+/// the runner, how many reports are kept, and the recorders.
 ///
 /// It is for as many desks as it has queues. At others it answers nothing: 74.
 #[derive(Drop)]
