@@ -42,8 +42,8 @@ pub record IsWrittenToTheFault (passage : Passage) (part : List HistoryEntry)
   pub written : after ≡ before ++ replies_of part
 
 -- The writer failed. The part begins with what was asked before the last piece came, of at most
--- 16,384 bytes, and those replies are written. Of what is due to the rest of the part, with the last
--- 71, a beginning is written, and not all.
+-- 16,384 bytes, and those replies are written. Of what is due to the rest of the part, with the
+-- last 71, a beginning is written, and not all.
 pub record IsWrittenInPart (passage : Passage) (part : List HistoryEntry)
     (bytes before after : List ℕ) : Type 0 where
   pub early : List ℕ
