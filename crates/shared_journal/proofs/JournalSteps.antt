@@ -16,7 +16,7 @@ use Rattle.shared_journal.specs.declared.journal_part.JournalPart.{JournalPart}
 use Rattle.shared_journal.specs.declared.seat_views.JournalEntry.{JournalEntry}
 use Rattle.shared_journal.specs.declared.seat_views.JournalView.{JournalView}
 use Rattle.shared_journal.specs.JournalHistories.{entries_by, journal_bytes}
-use Rattle.shared_journal.specs.JournalRule.{JournalFacts, KeepsDurable, AreCounted, words_of, FitsJournal, IsJournal, journal_founder, own_entry, with_record, with_each_taken, held_bytes, Watches, TakesWaiting, TriesWaiting, StaysAsItIs, ReturnsWaiting, AddsRecord, TakesEach, TakesLog, TriesLog, SettlesLog, ReturnsLog, FailsIt, LooksAtIt, SeesEach, LooksAtEach, LooksAtDurable, FindsCount, Counts}
+use Rattle.shared_journal.specs.JournalRule.{JournalFacts, KeepsDurable, AreCounted, words_of, FitsJournal, IsJournal, journal_founder, own_entry, with_record, with_each_taken, held_bytes, Watches, TakesWaiting, TriesWaiting, StaysAsItIs, ReturnsWaiting, AddsRecord, TakesEach, TakesLog, TriesLog, SettlesLog, ReturnsLog, FailsIt, LooksAtIt, SeesEach, LooksAtEach, LooksAtDurable, FindsCount, CountsRecords}
 use Rattle.shared_journal.proofs.JournalLists.{whole_prefix, prefix_through, longer_prefix, same_rest, entries_own, entries_other, bytes_more, nothing_behind, set_length, more_length, there_below, at_end_or, prefix_length, shorter_prefix}
 
 off : false ≡ true → ⊥
@@ -802,7 +802,7 @@ module _ (first : List ℕ) (slots id : ℕ) (me : Me JournalPart JournalView) (
       )
 
   -- it counts others
-  pub counts_records : (n : ℕ) → me.0.has_waiting ≡ true → length (me.0.taken ++ me.0.waits) ≤ n → Allows (Journaling first) slots id me 3 (λ k. n) (λ k. Counts st me n)
+  pub counts_records : (n : ℕ) → me.0.has_waiting ≡ true → length (me.0.taken ++ me.0.waits) ≤ n → Allows (Journaling first) slots id me 3 (λ k. n) (λ k. CountsRecords st me n)
   counts_records n holding most s kept homes at fits =
       let f = kept.facts in
       let g : JournalFacts = record f { added_word = n } in

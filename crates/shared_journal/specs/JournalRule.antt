@@ -31,10 +31,10 @@ journal_founder first = record {
 
 -- ---- the rule
 
--- The five words of the table: of the records that wait, of the log, whether the journal has failed,
--- how many records were added, and how many are told to be durable. Which seats hold the two parts,
--- where they are out. What the log held at first. The records that were added: those that were taken
--- to be written, and behind them those that wait. And those that are durable.
+-- The five words of the table: of the records that wait, of the log, whether the journal has
+-- failed, how many records were added, and how many are told to be durable. Which seats hold the
+-- two parts, where they are out. What the log held at first. The records that were added: those
+-- that were taken to be written, and behind them those that wait. And those that are durable.
 pub record JournalFacts : Type 0 where
   pub waiting_word : ℕ
   pub log_word : ℕ
@@ -70,8 +70,8 @@ HasLog facts home =
     (part : JournalPart) × (commits : CommitLog FileLog) × (home ≡ some part)
     × (part.commits ≡ Some commits) × KeepsDurable facts.first facts.taken facts.durable commits
 
--- Where nobody holds those that wait, their word counts the records that were added. It never tells
--- fewer. The other word tells no more of them than are durable.
+-- One word counts the records that were added: exactly, where nobody holds those that wait, and
+-- never fewer. The other tells no more of them than are durable.
 abbrev pub AreCounted : JournalFacts → Type 0
 AreCounted facts =
     (facts.waiting_word ≡ 0 → facts.added_word ≡ length facts.added)
@@ -230,8 +230,8 @@ LooksAtIt s v found w =
     MatchBool (found == 0) ((w ≡ v) × (v.0.is_failed ≡ false))
     (w ≡ (record v.0 { is_failed = true }, v.1))
 
--- The seat sees the whole history, which begins with all that it had seen, and with all that it knew
--- to be durable. It has at most as many records as were found.
+-- The seat sees the whole history, which begins with all that it had seen, and with all that it
+-- knew to be durable. It has at most as many records as were found.
 pub record SeesEach (v : Me JournalPart JournalView) (found : ℕ) (w : Me JournalPart JournalView) :
     Type 0 where
   pub all : List JournalEntry
@@ -254,8 +254,8 @@ abbrev pub FindsCount : {S : Type 0} → Step S → Me S JournalView → ℕ →
 FindsCount s v found w = (found ≡ v.0.count) × (w ≡ v)
 
 -- it counts others
-abbrev pub Counts : {S : Type 0} → Step S → Me S JournalView → ℕ → Me S JournalView → Type 0
-Counts s v stored w = w ≡ (record v.0 { count = stored }, v.1)
+abbrev pub CountsRecords : {S : Type 0} → Step S → Me S JournalView → ℕ → Me S JournalView → Type 0
+CountsRecords s v stored w = w ≡ (record v.0 { count = stored }, v.1)
 
 -- ---- the calls
 

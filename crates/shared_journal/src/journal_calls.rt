@@ -82,8 +82,8 @@ pub(crate) fn reserve_room<R: Wait>(
     made
 }
 
-// Takes all that waits, for a seat that holds the log, and leaves an empty buffer in its place. Tells
-// how many records were taken since the journal began.
+// Takes all that waits, for a seat that holds the log, and leaves an empty buffer in its place.
+// Tells how many records were taken since the journal began.
 fn take_bytes<R: Wait>(
     rt: &R,
     alloc: Global,
@@ -143,8 +143,8 @@ fn write_waiting<R: Wait>(
     }
 }
 
-/// Makes all durable that was added before. Where another thread has done so meanwhile, the log isn't
-/// taken.
+/// Makes all durable that was added before. Where another thread has done so meanwhile, the log
+/// isn't taken.
 pub(crate) fn commit_all<R: Wait>(
     rt: &R,
     alloc: Global,

@@ -274,8 +274,8 @@ impl JournalTable {
         count <= self.table.shared.load::<DurableLook>(seat, DURABLE)
     }
 
-    /// Takes the log, once no other thread holds it. `false`: all that the seat has seen became durable
-    /// meanwhile, and the log wasn't taken. It counted so many records when it saw them.
+    /// Takes the log, once no other thread holds it. `false`: all that the seat has seen became
+    /// durable meanwhile, and the log wasn't taken. It counted so many records when it saw them.
     pub fn take_log<R: Wait>(&self, rt: &R, seat: &mut PartSeat, count: u64) -> bool
         requires table { seat.old.table_id ≡ self.now.table }
         requires count { count ≡ seat.old.me.0.count }

@@ -16,8 +16,8 @@ pub struct JournalEntry {
 ///
 /// Each seat knows its number, what the log held at first, a beginning of the history, its own
 /// records, a beginning of what is durable, whether the journal failed, and how many records it
-/// counted last. While it holds a part it knows the records that were taken, and those that wait, or
-/// those that the log has.
+/// counted last. While it holds a part it knows the records that were taken, and those that wait,
+/// or those that the log has.
 pub struct JournalView {
     pub number: u64,
     pub first: LinkedList<u8>,
@@ -175,9 +175,9 @@ impl Play<JournalPart, JournalView> for CountLook {
 pub(crate) struct CountStep;
 
 impl Play<JournalPart, JournalView> for CountStep {
-    ghost use Rattle.shared_journal.specs.JournalRule.{Counts};
+    ghost use Rattle.shared_journal.specs.JournalRule.{CountsRecords};
 
-    ghost then = { Counts };
+    ghost then = { CountsRecords };
 }
 
 /// It is told how many records are durable.
