@@ -19,7 +19,7 @@ use Rattle.shared_desk.specs.ServerAsked.{AreAskedOfDesks}
 use Rattle.shared_desk.proofs.AskedOfDesks.{asked_of_desks}
 use Rattle.job_pools.specs.Endings.{IsRun}
 use Rattle.job_pools.specs.Started.{pooled_at, pooled_count}
-use Rattle.job_server.specs.AfterRestart.{AreKnown, AreRecovered, ComesFromJournal, IsRecoveredAs, IsRecoveredHistory, IsResultKnown, IsToldKnown, Itself, KnownJob, Over, forgotten, known_at, no_more, none_yet, not_over, failed, one_more, reported, standing_of, unknown, was_over}
+use Rattle.job_server.specs.AfterRestart.{AreKnown, AreRecovered, ComesFromJournal, IsRecoveredAs, IsRecoveredHistory, IsResultKnown, IsToldKnown, Itself, KnownJob, Over, forgotten, known_at, no_more, none_yet, not_over, failed, one_more, reported, over_standing, unknown, was_over}
 use Rattle.job_server.specs.EndToEnd.{HasReply, IsResultFrame, StaysTold}
 use Rattle.job_server.specs.Recorded.{IsServingRecorded, RecordedHosted, recorded_answers}
 use Rattle.job_server.specs.declared.bounds.Bounds.{Bounds}

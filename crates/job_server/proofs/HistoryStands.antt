@@ -19,7 +19,7 @@ use Rattle.streams.specs.Passing.{Taken, none_yet as none_taken, one_more as one
 use Rattle.streams.specs.Answering.{Replies, Grants, GrantsNone, Settles, Submits, report_told, refused}
 use Rattle.shared_desk.specs.Histories.{HistoryEntry, Query, Replays, none_yet as nothing_replayed, one_more as one_replayed}
 use Rattle.job_pools.specs.Endings.{IsEndOf}
-use Rattle.job_server.specs.AfterRestart.{KnownJob, Itself, Over, AreKnown, none_yet, one_more, no_more, IsResultKnown, reported, failed, was_over, not_over, forgotten, unknown, known_at, standing_of, outcome_told, IsToldKnown}
+use Rattle.job_server.specs.AfterRestart.{KnownJob, Itself, Over, AreKnown, none_yet, one_more, no_more, IsResultKnown, reported, failed, was_over, not_over, forgotten, unknown, known_at, over_standing, outcome_told, IsToldKnown}
 use Rattle.job_server.specs.EndToEnd.{IsSubmit, TakesNoJob, AsksForJob, FailsBy, HasReply}
 use Rattle.job_server.proofs.ListEnds.{length_pushed, get_within, get_past, within_get}
 use Rattle.job_server.proofs.ReplyFrames.{is_framed}
@@ -34,7 +34,7 @@ known_is jobs number some =
     let apart : nat_eq number 0 ≡ false = grind (arith, nat_tests) in
     ap (λ (b : Bool). if◌then◌else◌ {A = Option KnownJob} b None (slice_get jobs (number - 1))) apart
 
-told_over : (outcome : Result Report ℕ) → report_told (report_of (standing_of outcome)) ≡ outcome_told outcome
+told_over : (outcome : Result Report ℕ) → report_told (report_of (over_standing outcome)) ≡ outcome_told outcome
 told_over (Ok report) = refl
 told_over (Err code) = refl
 

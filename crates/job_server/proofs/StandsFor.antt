@@ -17,7 +17,7 @@ use Rattle.accounts.proofs.Forgets.{each_left}
 use Rattle.accounts.proofs.Listed.{get_within, same_some}
 use Rattle.streams.specs.Passing.{Notes}
 use Rattle.job_pools.specs.Endings.{IsRun, IsEndOf}
-use Rattle.job_server.specs.AfterRestart.{KnownJob, Itself, Over, standing_of}
+use Rattle.job_server.specs.AfterRestart.{KnownJob, Itself, Over, over_standing}
 use Rattle.job_server.specs.EndToEnd.{FailsBy, MayBeForgotten}
 use Rattle.job_server.proofs.ListEnds.{get_pushed, length_pushed, get_set, length_set, within_get}
 
@@ -28,7 +28,7 @@ StandsFor held keep count number (Itself job) credit (Reported report) = IsRun n
 StandsFor held keep count number (Itself job) credit (Failed code) =
     FailsBy number job code ⊎ ((code ≡ 76) × MayBeForgotten keep number count)
 StandsFor held keep count number (Over outcome) credit standing =
-    (standing ≡ standing_of outcome) ⊎ ((standing ≡ Failed 76) × MayBeForgotten keep number count)
+    (standing ≡ over_standing outcome) ⊎ ((standing ≡ Failed 76) × MayBeForgotten keep number count)
 
 forgotten_more : (keep : KeepLimits) (number c d : ℕ) → c ≤ d → MayBeForgotten keep number c → MayBeForgotten keep number d
 forgotten_more keep number c d le (inl jobs) = let some = jobs.0 in let ahead = jobs.1 in inl (some, omega (arith, le, ahead))
@@ -102,7 +102,7 @@ ended_by number job (Ok report) ends = ends
 ended_by number job (Err code) ends = inr (inr ends)
 
 -- what is over isn't open
-pub over_open : (outcome : Result Report ℕ) → Open ≡ standing_of outcome → ⊥
+pub over_open : (outcome : Result Report ℕ) → Open ≡ over_standing outcome → ⊥
 over_open (Ok report) is = cc
 over_open (Err code) is = cc
 

@@ -28,15 +28,15 @@ pub data KnownJob : Type 0 where
   Itself : AdmittedJob → KnownJob
   Over : Result Report ℕ → KnownJob
 
-abbrev pub standing_of : Result Report ℕ → JobStanding
-standing_of (Ok report) = Reported report
-standing_of (Err code) = Failed code
+abbrev pub over_standing : Result Report ℕ → JobStanding
+over_standing (Ok report) = Reported report
+over_standing (Err code) = Failed code
 
 -- what is known of a recovered desk's job of this number: it is open, and held, or it is over
 abbrev pub IsRecoveredAs : List OpenJob → ℕ → JobStanding → KnownJob → Type 0
 IsRecoveredAs held number standing (Itself job) =
     (standing ≡ Open) × (open_job_at number held ≡ Some job)
-IsRecoveredAs held number standing (Over outcome) = standing ≡ standing_of outcome
+IsRecoveredAs held number standing (Over outcome) = standing ≡ over_standing outcome
 
 -- what is known of each job of a recovered desk, in order
 pub record AreRecovered (state : DeskState) (known : List KnownJob) : Type 0 where
