@@ -146,15 +146,15 @@ module _ {R Q : Type 0} (g : R → Q) where
     line_takes l x m h = (takes_alike l.runner x m.runner h.0, h.1, h.2)
 
 -- desks and a pool within its host's bounds, with what the pool comes to
-abbrev pub kept_as : {R : Type 0} → (R → Pool) → KeptRunner (LineLimitedRunner (LimitedRunner R)) → KeptRunner (LineLimitedRunner (LimitedRunner Pool))
-kept_as f k = record { runner = in_lines (limited f) k.runner; keep = k.keep }
+abbrev pub host_as : {R : Type 0} → (R → Pool) → KeptRunner (LineLimitedRunner (LimitedRunner R)) → KeptRunner (LineLimitedRunner (LimitedRunner Pool))
+host_as f k = record { runner = in_lines (limited f) k.runner; keep = k.keep }
 
 abbrev pub hosted_as : {R : Type 0} → (R → Pool) → Tenancy × KeptRunner (LineLimitedRunner (LimitedRunner R)) → TenantHosted
-hosted_as f s = (s.0, kept_as f s.1)
+hosted_as f s = (s.0, host_as f s.1)
 
 -- the same behind doors
 abbrev pub doors_hosted_as : {R : Type 0} → (R → Pool) → Tenancy × BehindDoors (KeptRunner (LineLimitedRunner (LimitedRunner R))) → DoorsHosted
-doors_hosted_as f s = doors_as (kept_as f) s
+doors_hosted_as f s = doors_as (host_as f) s
 
 pub begins_as : {R : Type 0} (f : R → Pool) (doors : List TenantDoor) (bounds : Bounds) (l : LimitedRunner R) (pool : R) (begun : Tenancy × BehindDoors (KeptRunner (LineLimitedRunner (LimitedRunner R))))
     → l.runner ≡ pool → l.limit ≡ bounds.open_jobs → BeginsAtDesks doors bounds l begun
@@ -163,7 +163,7 @@ begins_as {R} f doors bounds l pool begun is_pool is_limit begins =
     let host : Pool → ℕ → KeptRunner (LineLimitedRunner (LimitedRunner Pool)) = λ p n.
     record { runner = new_by_line (door_limits bounds.tenant_jobs doors) (record { runner = p; limit = n }); keep = bounds.keep } in (
       begins.0,
-      ap (kept_as f) begins.1
+      ap (host_as f) begins.1
           ∙ ap (λ (p : R). host (f p) l.limit) is_pool ∙ ap (λ (n : ℕ). host (f pool) n) is_limit,
       begins.2,
     )
@@ -213,7 +213,7 @@ module _ {R : Type 0} (f : R → Pool) (starts : R → ℕ → AdmittedJob → R
       → door_answers (starts_by_line starts_in) (looks_by_line (looks_within looks)) (takes_by_line (takes_within takes)) s query reply t
       → hosted_door_answers (doors_hosted_as f s) query reply (doors_hosted_as f t)
   hosted_doors_alike =
-      doors_alike (tenant_answers (starts_by_line starts_in) (looks_by_line (looks_within looks)) (takes_by_line (takes_within takes))) hosted_tenant_answers (kept_as f) hosted_alike
+      doors_alike (tenant_answers (starts_by_line starts_in) (looks_by_line (looks_within looks)) (takes_by_line (takes_within takes))) hosted_tenant_answers (host_as f) hosted_alike
 
   -- the pool's own state is forgotten, but for the jobs that it was given and the boards that it watches
   pub tenants_serving : (begun end : Tenancy × BehindDoors (KeptRunner (LineLimitedRunner (LimitedRunner R)))) (sessions : ℕ) (may_stop : Bool) (outcome : Result (Unit {0}) ServeFault)
