@@ -21,7 +21,7 @@ returns g c =
     let again = c.restart.ensures in
     let desks = c.restart.new.desks in
     let handler = c.restart.new.self in
-    let t = begun_as _ _ _ _ _ _ _ (desks, c.of-recording.result) (desks, handler) (served.result.0, served.result.1) served.result.2 (ap (λ h. (desks, h)) c.of-recording.ensures) served.ensures in
+    let t = begun_as _ _ _ _ _ _ _ (desks, c.new-counting.result) (desks, handler) (served.result.0, served.result.1) served.result.2 (ap (λ h. (desks, h)) (c.new-counting.ensures ∙ c.of-recording.ensures)) served.ensures in
     inl (
       (desks, handler),
       t.0,
