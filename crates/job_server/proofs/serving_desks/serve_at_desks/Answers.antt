@@ -33,6 +33,7 @@ returns g c =
     let doors = c.args.plan.tenants.now in
     let tenants = ap (map (λ (x : String Global × Option ℕ). (string_bytes x.0, x.1))) c.deref.ensures.value ∙ c.in-Ok.ensures in
     let desks = subst (λ (ts : List (List ℕ × Option ℕ)). IsFirstTenancy ts c.in-Ok-first.desks) tenants c.in-Ok-first.ensures in
-    let handler = ap (λ d. d.handler) c.of-handler.ensures ∙ c.of-named.ensures ∙ c.new-2.ensures ∙ ap (λ r. record { runner = r; keep = c.args.plan.bounds.keep }) c.in-Ok-limited_by_door.ensures in
-    let keys = ap (λ d. d.keys) c.of-handler.ensures ∙ c.in-Ok-new.ensures in
-    ((c.in-Ok-first.desks, c.of-handler.result), (served.result.0, served.result.1), (desks, handler, keys), served.ensures.0, served.ensures.1, served.ensures.2)
+    let made = c.new-handler.ensures ∙ c.of-doors.ensures in
+    let handler = ap (λ d. d.handler) made ∙ c.of-named.ensures ∙ c.new-2.ensures ∙ ap (λ r. record { runner = r; keep = c.args.plan.bounds.keep }) c.in-Ok-limited_by_door.ensures in
+    let keys = ap (λ d. d.keys) made ∙ c.in-Ok-new.ensures in
+    ((c.in-Ok-first.desks, c.new-handler.result), (served.result.0, served.result.1), (desks, handler, keys), served.ensures.0, served.ensures.1, served.ensures.2)

@@ -1,4 +1,4 @@
-use Rattle.std.proofs.Common.{ap}
+use Rattle.std.proofs.Common.{ap, ◌∙◌}
 use Rattle.job_server.specs.Recorded.{queue_taken, queue_told, recovered_state}
 use Rattle.job_server.proofs.DeskStarts.{begun_as}
 use Rattle.job_server.proofs.Restarting.{restarted_as}
@@ -11,7 +11,7 @@ returns g c =
     let made = c.new-recording in
     let desk = c.restart.new.desk in
     let handler = c.restart.new.self in
-    let t = begun_as _ _ _ _ _ _ _ (desk, c.new-handler.result) (desk, handler) (served.result.0, served.result.1) served.result.2 (ap (λ h. (desk, h)) c.new-handler.ensures) served.ensures in (
+    let t = begun_as _ _ _ _ _ _ _ (desk, c.new-handler.result) (desk, handler) (served.result.0, served.result.1) served.result.2 (ap (λ h. (desk, h)) (c.new-handler.ensures ∙ c.new-logged.ensures)) served.ensures in (
       (desk, handler),
       t.0,
       restarted_as g.N.Runner.starts (queue_taken {R = g.row.R.Denot}) (queue_told {R = g.row.R.Denot}) (recovered_state c.args.states.items) c.args.runner c.args.plan.bounds.keep parts.result.0 parts.result.1.items made.result c.new-queue.result desk handler

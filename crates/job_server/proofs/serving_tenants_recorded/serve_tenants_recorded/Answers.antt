@@ -21,7 +21,8 @@ returns g c =
     let again = c.restart.ensures in
     let desks = c.restart.new.desks in
     let handler = c.restart.new.self in
-    let t = begun_as _ _ _ _ _ _ _ (desks, c.of-doors.result) (desks, record { handler = handler; keys = c.in-Ok-new.keys }) (served.result.0, served.result.1) served.result.2 (ap (λ d. (desks, d)) (c.of-doors.ensures ∙ ap (λ h. record { handler = h; keys = c.in-Ok-new.keys }) c.of.ensures)) served.ensures in
+    let t = begun_as _ _ _ _ _ _ _ (desks, c.new-counting.result) (desks, record { handler = handler; keys = c.in-Ok-new.keys }) (served.result.0, served.result.1) served.result.2
+    (ap (λ d. (desks, d)) (c.new-counting.ensures ∙ c.of-doors.ensures ∙ ap (λ h. record { handler = h; keys = c.in-Ok-new.keys }) c.of.ensures)) served.ensures in
     inl (
       (desks, record { handler = handler; keys = c.in-Ok-new.keys }),
       t.0,
