@@ -11,6 +11,7 @@ import signal
 import stat
 import subprocess
 import tempfile
+import threading
 import time
 import unittest
 
@@ -432,11 +433,16 @@ class Failing(Room):
             resource.setrlimit(resource.RLIMIT_FSIZE, (100, 100))
 
         client = self.start("--log", preexec_fn=limited, stderr=subprocess.PIPE)
+        # each grant has a line, so they are read meanwhile
+        read = []
+        reader = threading.Thread(target=lambda: read.extend(self.server.process.stderr))
+        reader.start()
         with contextlib.suppress(ConnectionResetError, BrokenPipeError):
             while True:
                 client.ask(grant(1))
         self.assertEqual(self.server.process.wait(PATIENCE), 3)
-        lines = self.server.process.stderr.read().decode().splitlines()
+        reader.join(PATIENCE)
+        lines = [line.decode().rstrip("\n") for line in read]
         self.assertIn(self.LINE.format(self.server.journal).rstrip("\n"), lines)
         closed = [json.loads(line) for line in lines if '"closed"' in line]
         self.assertEqual([line["code"] for line in closed], [84])
