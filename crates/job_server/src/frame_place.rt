@@ -1,5 +1,7 @@
 //! Where a stream of frames stands.
 
+ghost use Rattle.std.specs.Prelude.{◌≡◌, ◌≤◌, ◌-◌};
+
 /// How far a frame has come: some bytes of its length, or of its text; or none, between frames.
 #[derive(Clone, Copy)]
 pub(crate) struct FramePlace {
@@ -64,13 +66,39 @@ impl FramePlace {
         }
     }
 
-    /// What came of frames in a piece.
+    // How many of so many further bytes stand in the frame's text, ahead of its last one.
+    fn inside(self, len: usize) -> u32
+        ensures within { result ≤ len }
+        ensures text { result ≤ self.left }
+    {
+        let inside = self.left.saturating_sub(1);
+        if (inside as usize) < len {
+            inside
+        } else {
+            len as u32
+        }
+    }
+
+    // So many bytes of the text further.
+    fn past(self, count: u32) -> FramePlace
+        requires { count ≤ self.left }
+        ensures { result ≡ record self { left = self.left - count } }
+    {
+        FramePlace {
+            left: self.left - count,
+            ..self
+        }
+    }
+
+    /// What came of frames in a piece. What stands inside a frame's text tells nothing, and is passed
+    /// over.
     pub fn behind(self, piece: &[u8]) -> PieceFrames {
         let mut place = self;
         let mut begins = false;
         let mut whole: u64 = 0;
         let mut too_large = false;
-        for byte in piece {
+        let mut rest = piece;
+        'bytes: while let Some((byte, others)) = rest.split_first() {
             if !place.is_within() {
                 begins = true;
             }
@@ -81,6 +109,9 @@ impl FramePlace {
             if !place.is_within() && !too_large {
                 whole = whole.saturating_add(1);
             }
+            let inside = place.inside(others.len());
+            place = place.past(inside);
+            rest = others.split_at(inside as usize).1;
         }
         PieceFrames {
             place,
