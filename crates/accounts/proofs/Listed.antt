@@ -207,10 +207,19 @@ few_bytes (Reported report) =
 bytes_most : (jobs : List JobEntry) → bytes_held jobs ≤ length jobs * 378158756814977720320
 bytes_most jobs = sum_by-le (λ (e : JobEntry). bytes_in e.standing) 378158756814977720320 jobs (λ i d lt. few_bytes (get_or jobs i d).standing)
 
--- ---- one more job, which is open
+-- ---- one more job
 
-module _ (k : KeptJobs) (entry : JobEntry) (after : KeptJobs) (sound : IsSound k) (opened : entry.standing ≡ Open) (room : k.count < most_jobs)
-    (count : after.count ≡ k.count + 1) (gone : after.gone ≡ k.gone) (held : after.held ≡ k.held)
+-- what its report holds fits
+pub added_fits : (k : KeptJobs) (entry : JobEntry) → IsSound k → k.count < most_jobs → k.held + bytes_in entry.standing < 2 ^ 128
+added_fits k entry sound room =
+    let most = bytes_most (jobs_numbered k) in
+    let one = few_bytes entry.standing in
+    let long = listed_length (entry_at k) k.gone k.count in
+    let was = sound.held in
+    omega (arith, most, one, long, was, room)
+
+module _ (k : KeptJobs) (entry : JobEntry) (after : KeptJobs) (sound : IsSound k) (room : k.count < most_jobs)
+    (count : after.count ≡ k.count + 1) (gone : after.gone ≡ k.gone) (held : after.held ≡ k.held + bytes_in entry.standing)
     (here : entry_at after (k.count + 1) ≡ Some entry) (others : (m : ℕ) → m ≢ k.count + 1 → entry_at after m ≡ entry_at k m) where
   pub added_list : jobs_numbered after ≡ jobs_numbered k ++ entry ∷ []
   added_list =
@@ -228,9 +237,8 @@ module _ (k : KeptJobs) (entry : JobEntry) (after : KeptJobs) (sound : IsSound k
     held =
         let was = sound.held in
         let sum = sum_by_push (λ (e : JobEntry). bytes_in e.standing) (jobs_numbered k) entry in
-        let none : bytes_in entry.standing ≡ 0 = ap bytes_in opened in
         let same = ap bytes_held added_list in
-        omega (arith, was, sum, none, same, held);
+        omega (arith, was, sum, same, held);
   }
     where
       by : (m : ℕ) (x : JobEntry) → entry_at after m ≡ Some x → (m ≡ k.count + 1) ⊎ (m ≢ k.count + 1) → (1 ≤ m) × (m ≤ after.count)

@@ -150,10 +150,11 @@ report_at ledger number = report_in (job_at ledger.jobs number)
 
 -- ---- what the desk keeps
 
--- the sums are those of the tenant's jobs, with those that are forgotten, and within the grants
+-- The sums are those of the tenant's jobs, with those that are forgotten, and within the grants. No
+-- job that is kept spent what may be recalled.
 pub record IsSummed (jobs : List JobEntry) (name : List ℕ) (sums : Sums) : Type 0 where
   pub opened : sums.opened ≡ opened_by jobs name
-  pub spent : spent_by_jobs jobs name ≤ sums.spent
+  pub spent : sums.recallable + spent_by_jobs jobs name ≤ sums.spent
   pub within : sums.opened + sums.spent ≤ sums.granted
   pub limit : sums.granted ≤ most_granted
 

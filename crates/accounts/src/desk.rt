@@ -14,7 +14,8 @@ use std::alloc::Global;
 use std::collections::BTreeMap;
 use std::marker::Model;
 
-const MOST_GRANTED: u64 = 1_000_000_000_000;
+/// The most that a tenant is granted in all.
+pub(crate) const MOST_GRANTED: u64 = 1_000_000_000_000;
 
 /// Tenants and their jobs.
 ///
@@ -23,8 +24,8 @@ const MOST_GRANTED: u64 = 1_000_000_000_000;
 /// where a host asks for it alone; the sums keep what they spent.
 #[derive(Drop)]
 pub struct Desk {
-    tenants: BTreeMap<String, Sums>,
-    jobs: Jobs,
+    pub(crate) tenants: BTreeMap<String, Sums>,
+    pub(crate) jobs: Jobs,
 }
 
 impl Model for Desk {
@@ -98,6 +99,7 @@ impl Desk {
                     granted: u64::from(amount),
                     opened: 0,
                     spent: 0,
+                    recallable: 0,
                 };
                 add(alloc, &mut self.tenants, tenant, first)?;
                 Ok(account_of(first))
@@ -296,6 +298,7 @@ impl Desk {
         let report = self.jobs.share(alloc, job)?;
         Ok(Ok(report))
     }
+
     /// How many jobs were taken, with those that are forgotten: the number of the last one.
     pub fn job_count(&self) -> u64
         ensures { result ≡ length self.now.jobs }

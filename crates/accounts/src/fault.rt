@@ -124,3 +124,43 @@ impl From<AllocError> for SubmitFault {
         SubmitFault::Admit(AdmitFault::NoMemory)
     }
 }
+
+/// The reason why a part of a desk isn't put back.
+#[derive(Clone, Copy, Debug, PartialEq, Eq)]
+pub enum RestoreFault {
+    /// The desk has jobs already, and accounts are opened ahead of them.
+    TooLate,
+    /// The tenant is there already.
+    KnownTenant,
+    /// The tenant isn't there.
+    UnknownTenant,
+    /// More would be spent than was granted, more granted than may be, or a job would have spent
+    /// more than forgotten ones did.
+    WrongSums,
+    /// The job isn't over.
+    NotOver,
+    /// No number is left for the job.
+    TooManyJobs,
+    /// A growth was refused.
+    NoMemory,
+}
+
+impl From<NoMemory> for RestoreFault {
+    ghost use Rattle.accounts.specs.declared.fault.RestoreFault.TheVariants as fault;
+
+    ghost from_gives = { λ _ result. result ≡ fault.NoMemory };
+
+    fn from(_error: NoMemory) -> RestoreFault {
+        RestoreFault::NoMemory
+    }
+}
+
+impl From<AllocError> for RestoreFault {
+    ghost use Rattle.accounts.specs.declared.fault.RestoreFault.TheVariants as fault;
+
+    ghost from_gives = { λ _ result. result ≡ fault.NoMemory };
+
+    fn from(_error: AllocError) -> RestoreFault {
+        RestoreFault::NoMemory
+    }
+}

@@ -1,14 +1,16 @@
 //! The jobs of a desk, as the list of all that it took.
 
-ghost use Rattle.std.specs.Prelude.{◌≡◌, ◌++◌, ◌∷◌, [], ◌-◌, ◌≤◌, length, IfOk, Ok, OnOk, OnErr, Some, option_map, slice_set};
+ghost use Rattle.std.specs.Prelude.{◌≡◌, ◌++◌, ◌∷◌, [], ◌+◌, ◌-◌, ◌≤◌, All, List, length, IfOk, Ok, OnOk, OnErr, Some, option_map, slice_set};
 ghost use Rattle.credit_book.specs.declared.book.Report.{Report};
 ghost use Rattle.accounts.specs.declared.jobs.JobEntry.{JobEntry};
 ghost use Rattle.accounts.specs.declared.jobs.JobStanding.TheVariants.{Open};
 ghost use Rattle.accounts.specs.Jobs.{job_at};
-ghost use Rattle.accounts.specs.Forgetting.{ForgetsJobs};
+ghost use Rattle.accounts.specs.Forgetting.{ForgetsJobs, IsGone};
 ghost use Rattle.accounts.specs.Ledgers.{report_in};
 ghost use Rattle.accounts.specs.Limits.{IsKeptWithin};
 ghost use Rattle.accounts.specs.Listing.{listed_from};
+ghost use Rattle.accounts.specs.Numbered.{most_jobs};
+ghost use Rattle.accounts.specs.Restoring.{IsNextKept};
 
 use crate::jobs::{JobEntry, JobStanding};
 use crate::keep_limits::KeepLimits;
@@ -91,9 +93,15 @@ impl Jobs {
         self.inner.kept_from(number)
     }
 
-    /// Adds a job behind the others, which is open.
+    /// How many jobs may be added yet.
+    pub fn room(&self) -> u64
+        ensures { length self.now + result ≡ most_jobs }
+    {
+        MOST_JOBS - self.inner.count
+    }
+
+    /// Adds a job behind the others.
     pub fn add(&mut self, entry: JobEntry) -> Result<(), AllocError>
-        requires { entry.standing ≡ Open }
         ensures added { OnOk result (self.new ≡ self.old ++ entry ∷ []) }
         ensures unchanged { OnErr result (self.new ≡ self.old) }
     {
@@ -101,9 +109,41 @@ impl Jobs {
             return Err(AllocError);
         }
         let number = self.inner.count + 1;
+        let bytes = entry.standing.held_bytes();
         put_job(&mut self.inner.kept, number, entry)?;
         self.inner.count = number;
+        self.inner.held += bytes;
         Ok(())
+    }
+
+    /// Adds so many forgotten jobs behind the others.
+    pub fn add_gone(&mut self, count: u64)
+        requires { length self.old + count ≤ most_jobs }
+        ensures { (gone : List JobEntry) × (length gone ≡ count) × All IsGone gone
+            × (self.new ≡ self.old ++ gone) }
+    {
+        self.inner.count += count;
+    }
+
+    /// The number of the first job from this one on that isn't gone. Where there is none, a number that
+    /// no job has: this one, or the first one behind all jobs.
+    pub fn next_kept(&self, number: u64) -> u64
+        requires { 1 ≤ number }
+        ensures { IsNextKept self.now number result }
+    {
+        let last = self.inner.count;
+        let mut next = number;
+        while next <= last {
+            let here = self.inner.kept_from(next);
+            let Some(entry) = self.entry(here) else {
+                return last + 1;
+            };
+            if !entry.is_gone() {
+                return here;
+            }
+            next = here + 1;
+        }
+        next
     }
 
     /// Notes how an open job stands.

@@ -1,6 +1,6 @@
 //! A job of a desk: whose it is, and how it stands.
 
-ghost use Rattle.std.specs.Prelude.{◌≡◌, ◌≤◌, false, IfOk, Ok};
+ghost use Rattle.std.specs.Prelude.{◌≡◌, ◌≤◌, false, true, IfOk, Ok};
 ghost use Rattle.credit_book.specs.declared.book.Report.{Report};
 ghost use Rattle.accounts.specs.Jobs.{report_of, settled, spent_by_job, is_open};
 ghost use Rattle.accounts.specs.Limits.{bytes_in};
@@ -77,6 +77,24 @@ pub struct JobEntry {
     pub tenant: String,
     pub credit: u32,
     pub standing: JobStanding,
+}
+
+impl JobEntry {
+    ghost use Rattle.accounts.specs.Forgetting.{IsGone};
+
+    /// Whether this is the entry of a forgotten job.
+    pub fn is_gone(&self) -> bool
+        ensures yes { result ≡ true → IsGone self.now }
+        ensures no { result ≡ false → IsGone self.now → ⊥ }
+    {
+        match &self.standing {
+            JobStanding::Open => false,
+            JobStanding::Reported(_) => false,
+            JobStanding::Failed(code) => {
+                *code == 76 && self.credit == 0 && self.tenant.is_empty()
+            }
+        }
+    }
 }
 
 /// How a job of this credit stands once it is over.

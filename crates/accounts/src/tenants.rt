@@ -11,12 +11,14 @@ use refusal::NoMemory;
 use std::alloc::Global;
 use std::collections::BTreeMap;
 
-/// A tenant's sums: of its grants, of the credit of its open jobs, and of what its jobs spent.
+/// A tenant's sums: of its grants, of the credit of its open jobs, and of what its jobs spent. Of the
+/// last, `recallable` is known to have been spent by forgotten jobs; it may be less than they spent.
 #[derive(Clone, Copy, Debug, PartialEq, Eq)]
 pub struct Sums {
     pub granted: u64,
     pub opened: u64,
     pub spent: u64,
+    pub recallable: u64,
 }
 
 /// A tenant's account: its grants, what is left of them, the credit of its open jobs, and what its
@@ -39,6 +41,7 @@ pub fn account_of(sums: Sums) -> Account
         granted,
         opened,
         spent,
+        ..
     } = sums;
     Account {
         granted,
