@@ -1,1 +1,1 @@
-mod SnapshotLemmas
+pub mod SnapshotLemmas

@@ -1,9 +1,9 @@
 -- A snapshot leads to states that are alike one, from which changes go on.
 use Rattle.std.proofs.Common.{◌≡◌, ℕ, List, [], ◌∷◌, ◌++◌, refl, sym, subst, ◌∙◌, inl, inr}
 use Rattle.std.specs.Prelude.{◌⊎◌}
-use Rattle.journal.specs.Records.{journal_of, FitsRecord, AllFitRecords, DecodesTo}
+use Rattle.journal.specs.Records.{journal_of, AllFitRecords, DecodesTo}
 use Rattle.recovery.specs.Histories.{ReplaysChanges, IsAfter}
-use Rattle.compaction.specs.Snapshots.{IsAlikeAfter, Restores, StandsForHistory, LeadsToHistory}
+use Rattle.compaction.specs.Snapshots.{IsAlikeAfter, IsSnapshot, Restores, StandsForHistory, LeadsToHistory}
 
 -- ---- a history that goes on
 
@@ -49,15 +49,15 @@ stands_through {M} starts steps alike through changes between history first seco
     let last = second mid.0 mid.1 in
     (last.0, last.1, through other mid.0 last.0 mid.2 last.2)
 
-restored_stands : {M : Type 0} (starts : M → Type 0) (steps : M → List ℕ → M → Type 0) (alike : M → M → Type 0) (history : List (List ℕ)) (payload : List ℕ) (machine : M)
-    → IsAfter starts steps history machine → Restores starts steps alike payload machine → StandsForHistory starts steps alike (payload ∷ []) history
-restored_stands {M} starts steps alike history payload machine after restores other goes = (machine, after, restores.only other goes)
+restored_stands : {M : Type 0} (starts : M → Type 0) (steps : M → List ℕ → M → Type 0) (alike : M → M → Type 0) (history payloads : List (List ℕ)) (machine : M)
+    → IsAfter starts steps history machine → Restores starts steps alike payloads machine → StandsForHistory starts steps alike payloads history
+restored_stands {M} starts steps alike history payloads machine after restores other goes = (machine, after, restores.only other goes)
 
 pub stands_for : {M : Type 0} (starts : M → Type 0) (steps : M → List ℕ → M → Type 0) (alike : M → M → Type 0) → StepsCarryOver steps alike
-    → (history more : List (List ℕ)) (payload : List ℕ) (machine : M)
-    → IsAfter starts steps history machine → Restores starts steps alike payload machine → StandsForHistory starts steps alike (payload ∷ more) (history ++ more)
-stands_for {M} starts steps alike carries history more payload machine after restores =
-    stands_on starts steps alike carries (payload ∷ []) history more (restored_stands starts steps alike history payload machine after restores)
+    → (history payloads more : List (List ℕ)) (machine : M)
+    → IsAfter starts steps history machine → Restores starts steps alike payloads machine → StandsForHistory starts steps alike (payloads ++ more) (history ++ more)
+stands_for {M} starts steps alike carries history payloads more machine after restores =
+    stands_on starts steps alike carries payloads history more (restored_stands starts steps alike history payloads machine after restores)
 
 -- ---- what a crash leaves
 
@@ -74,24 +74,24 @@ old_leads {M} starts steps alike itself law left history machine fit after is =
       only = λ other leads. (other, leads, itself other);
     }
 
-pub new_leads : {M : Type 0} (starts : M → Type 0) (steps : M → List ℕ → M → Type 0) (alike : M → M → Type 0) → RoundTrip → (left : List ℕ) (history : List (List ℕ)) (payload : List ℕ) (machine : M)
-    → FitsRecord payload → Restores starts steps alike payload machine → IsAfter starts steps history machine → left ≡ journal_of (payload ∷ [])
+pub new_leads : {M : Type 0} (starts : M → Type 0) (steps : M → List ℕ → M → Type 0) (alike : M → M → Type 0) → RoundTrip → (left bytes : List ℕ) (history : List (List ℕ)) (machine : M)
+    → IsSnapshot starts steps alike machine bytes → IsAfter starts steps history machine → left ≡ bytes
     → LeadsToHistory starts steps alike left history machine
-new_leads {M} starts steps alike law left history payload machine fits restores after is =
+new_leads {M} starts steps alike law left bytes history machine snapshot after is =
     record {
-      payloads = payload ∷ [];
-      reads = subst (λ (b : List ℕ). DecodesTo b (payload ∷ []) []) (sym is) (law (payload ∷ []) (fits, tt));
-      reaches = restores.reaches;
-      only = restored_stands starts steps alike history payload machine after restores;
+      payloads = snapshot.payloads;
+      reads = subst (λ (b : List ℕ). DecodesTo b snapshot.payloads []) (sym (is ∙ snapshot.are)) (law snapshot.payloads snapshot.fits);
+      reaches = snapshot.restores.reaches;
+      only = restored_stands starts steps alike history snapshot.payloads machine after snapshot.restores;
     }
 
-pub either_leads : {M : Type 0} (starts : M → Type 0) (steps : M → List ℕ → M → Type 0) (alike : M → M → Type 0) → ((s : M) → alike s s) → RoundTrip → (left bytes : List ℕ) (history : List (List ℕ)) (payload : List ℕ) (machine : M)
-    → AllFitRecords history → FitsRecord payload → Restores starts steps alike payload machine → IsAfter starts steps history machine → bytes ≡ journal_of (payload ∷ [])
+pub either_leads : {M : Type 0} (starts : M → Type 0) (steps : M → List ℕ → M → Type 0) (alike : M → M → Type 0) → ((s : M) → alike s s) → RoundTrip → (left bytes : List ℕ) (history : List (List ℕ)) (machine : M)
+    → AllFitRecords history → IsSnapshot starts steps alike machine bytes → IsAfter starts steps history machine
     → (left ≡ journal_of history) ⊎ (left ≡ bytes) → LeadsToHistory starts steps alike left history machine
-either_leads {M} starts steps alike itself law left bytes history payload machine fit fits restores after is e =
+either_leads {M} starts steps alike itself law left bytes history machine fit snapshot after e =
     elim e [
       | inl old ↦ old_leads starts steps alike itself law left history machine fit after old
-      | inr new ↦ new_leads starts steps alike law left history payload machine fits restores after (new ∙ is)
+      | inr new ↦ new_leads starts steps alike law left bytes history machine snapshot after new
     ]
 
 pub keeps_state : {M : Type 0} (starts : M → Type 0) (steps : M → List ℕ → M → Type 0) (alike : M → M → Type 0)

@@ -1,15 +1,23 @@
 -- A snapshot, and the history that it stands for.
-use Rattle.std.specs.Prelude.{◌≡◌, ℕ, List, [], ◌∷◌}
-use Rattle.journal.specs.Records.{journal_of, FitsRecord, DecodesTo}
+use Rattle.std.specs.Prelude.{◌≡◌, ℕ, List, []}
+use Rattle.journal.specs.Records.{journal_of, AllFitRecords, DecodesTo}
 use Rattle.recovery.specs.Histories.{IsAfter}
 use Rattle.compaction.specs.Files.{Moments, HasNewJournal}
 
--- A change with this payload leads from the start to this state. Each state to which it leads is
+-- Changes with these payloads lead from the start to this state. Each state to which they lead is
 -- alike this one.
 pub record Restores {M : Type 0} (starts : M → Type 0) (steps : M → List ℕ → M → Type 0)
-    (alike : M → M → Type 0) (payload : List ℕ) (machine : M) : Type 0 where
-  pub reaches : IsAfter starts steps (payload ∷ []) machine
-  pub only : (other : M) → IsAfter starts steps (payload ∷ []) other → alike other machine
+    (alike : M → M → Type 0) (payloads : List (List ℕ)) (machine : M) : Type 0 where
+  pub reaches : IsAfter starts steps payloads machine
+  pub only : (other : M) → IsAfter starts steps payloads other → alike other machine
+
+-- The bytes are whole records. Their payloads are those of a snapshot of this state.
+pub record IsSnapshot {M : Type 0} (starts : M → Type 0) (steps : M → List ℕ → M → Type 0)
+    (alike : M → M → Type 0) (machine : M) (bytes : List ℕ) : Type 0 where
+  pub payloads : List (List ℕ)
+  pub fits : AllFitRecords payloads
+  pub restores : Restores starts steps alike payloads machine
+  pub are : bytes ≡ journal_of payloads
 
 -- the state is alike one after the history
 abbrev pub IsAlikeAfter : {M : Type 0} → (M → Type 0) → (M → List ℕ → M → Type 0)
@@ -34,11 +42,8 @@ pub record LeadsToHistory {M : Type 0} (starts : M → Type 0) (steps : M → Li
   pub reaches : IsAfter starts steps payloads machine
   pub only : StandsForHistory starts steps alike payloads history
 
--- The journal has these bytes, durable. They are one record, which is a snapshot of this state.
+-- The journal has these bytes, durable. They are the records of a snapshot of this state.
 pub record IsCompacted {M : Type 0} (starts : M → Type 0) (steps : M → List ℕ → M → Type 0)
     (alike : M → M → Type 0) (machine : M) (bytes : List ℕ) (moments : Moments) : Type 0 where
-  pub payload : List ℕ
-  pub fits : FitsRecord payload
-  pub restores : Restores starts steps alike payload machine
-  pub are : bytes ≡ journal_of (payload ∷ [])
+  pub snapshot : IsSnapshot starts steps alike machine bytes
   pub replaced : HasNewJournal bytes moments

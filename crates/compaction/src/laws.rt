@@ -1,6 +1,6 @@
 //! A snapshot stands for the history that led to its state.
 
-ghost use Rattle.std.specs.Prelude.{◌≡◌, ◌++◌, ◌∷◌, [], ℕ, List};
+ghost use Rattle.std.specs.Prelude.{◌≡◌, ◌++◌, [], ℕ, List};
 ghost use Rattle.journal.specs.Records.{DecodesTo};
 ghost use Rattle.recovery.specs.Histories.{IsAfter};
 ghost use Rattle.compaction.specs.Snapshots.{IsAlikeAfter, LeadsToHistory, Restores, StandsForHistory};
@@ -21,10 +21,10 @@ pub fn compaction_keeps_state<M: Snapshot>()
 
 /// A snapshot stands for the history that led to its state, also with the same changes behind both.
 pub fn snapshot_stands_for_history<M: Snapshot>()
-    ensures { (history more : List (List ℕ)) (payload : List ℕ) (machine : M)
+    ensures { (history payloads more : List (List ℕ)) (machine : M)
         → IsAfter M.starts M.steps history machine
-        → Restores M.starts M.steps M.alike payload machine
-        → StandsForHistory M.starts M.steps M.alike (payload ∷ more) (history ++ more) }
+        → Restores M.starts M.steps M.alike payloads machine
+        → StandsForHistory M.starts M.steps M.alike (payloads ++ more) (history ++ more) }
 {}
 
 /// Changes that stand for a history do so with the same changes behind both.

@@ -15,7 +15,9 @@ pub use replacement::{ReplaceFault, replace_journal};
 // a snapshot in place of a history
 mod snapshot;
 
-pub use snapshot::{CompactFault, Snapshot, SnapshotFault, compact, resume_compacted};
+pub use snapshot::{
+    CompactFault, Snapshot, SnapshotFault, compact, put_snapshot, resume_compacted, snapshot_bytes,
+};
 
 mod laws;
 

@@ -1,2 +1,3 @@
 pub mod FileLogs
 pub mod FilePairs
+pub mod Shortening

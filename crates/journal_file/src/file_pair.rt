@@ -8,10 +8,15 @@ use crate::file_log::FileLog;
 use crate::ghost_steps::GhostSteps;
 use compaction::JournalFiles;
 use journal::LogFault;
-use std::fs::File;
+use std::alloc::Global;
+use std::fs::{File, Permissions};
 use std::io::Write;
+use std::os::unix::fs::{OpenOptionsExt, PermissionsExt};
 use std::rt::Files;
 use std::{fs, io};
+
+// The permissions of a new file at first: its owner alone reads it.
+const OF_OWNER: u32 = 0o600;
 
 // What a step did, for the proofs.
 const WROTE: [u8; 1] = [1];
@@ -35,27 +40,56 @@ pub struct JournalPaths {
 /// After a failure nothing more is asked of either. That the files have the bytes and the names is
 /// trusted: no contract speaks of these.
 #[derive(Drop)]
-pub struct FilePair<R> {
-    rt: R,
+pub struct FilePair<'a, R> {
+    rt: &'a R,
+    alloc: Global,
     paths: JournalPaths,
     file: File,
     steps: GhostSteps,
     has_failed: bool,
 }
 
-impl<R: Files<File = File> + AllocGlobal + Drop> FilePair<R> {
-    /// The journal of this path, which has these bytes, and an empty new file beside it.
-    pub fn create(rt: R, paths: JournalPaths, journal: &[u8]) -> io::Result<FilePair<R>>
+// A new file of this path, empty and locked, with these permissions. What a crash left there is removed
+// first.
+fn new_file<R: Files<File = File>>(rt: &R, path: &str, mode: u32) -> io::Result<File> {
+    let _ = fs::remove_file(rt, path);
+    let file = File::options()
+        .write(true)
+        .create_new(true)
+        .mode(OF_OWNER)
+        .open(rt, path)?;
+    file.try_lock()?;
+    file.set_permissions(Permissions::from_mode(mode))?;
+    Ok(file)
+}
+
+impl<'a, R: Files<File = File>> FilePair<'a, R> {
+    /// The journal of this path, which has these bytes, and an empty new file beside it, with these
+    /// permissions. The new one is locked, and stays so when it takes the journal's name. A file that
+    /// has its name already is removed, and no link is followed there.
+    pub fn create(
+        rt: &'a R,
+        alloc: Global,
+        paths: JournalPaths,
+        mode: u32,
+        journal: &[u8],
+    ) -> io::Result<FilePair<'a, R>>
         ensures { IfOk result (λ pair. pair_moments pair ≡ newly_opened journal.now) }
     {
-        let file = File::create(&rt, &paths.new)?;
+        let file = new_file(rt, &paths.new, mode)?;
         Ok(FilePair {
             rt,
+            alloc,
             paths,
             file,
             steps: GhostSteps::new().then(journal),
             has_failed: false,
         })
+    }
+
+    /// Removes the new file, which didn't take the journal's name.
+    pub fn discard(self) -> io::Result<()> {
+        fs::remove_file(self.rt, &self.paths.new)
     }
 
     // Notes a step, for the proofs.
@@ -72,7 +106,7 @@ fn sync_names<R: Files<File = File>>(rt: &R, folder: &str) -> io::Result<()> {
     File::open(rt, folder)?.sync_all()
 }
 
-impl<R: Files<File = File> + AllocGlobal + Drop> JournalFiles for FilePair<R> {
+impl<R: Files<File = File>> JournalFiles for FilePair<'_, R> {
     ghost use Rattle.journal_file.specs.FilePairs.{pair_moments};
 
     type NextLog = FileLog;
@@ -102,7 +136,7 @@ impl<R: Files<File = File> + AllocGlobal + Drop> JournalFiles for FilePair<R> {
 
     fn rename(&mut self) -> Result<(), LogFault> {
         self.note(&RENAMED, &[]);
-        if self.has_failed || fs::rename(&self.rt, &self.paths.new, &self.paths.journal).is_err() {
+        if self.has_failed || fs::rename(self.rt, &self.paths.new, &self.paths.journal).is_err() {
             self.has_failed = true;
             return Err(LogFault);
         }
@@ -110,7 +144,7 @@ impl<R: Files<File = File> + AllocGlobal + Drop> JournalFiles for FilePair<R> {
     }
 
     fn sync_folder(&mut self) -> Result<(), LogFault> {
-        if self.has_failed || sync_names(&self.rt, &self.paths.folder).is_err() {
+        if self.has_failed || sync_names(self.rt, &self.paths.folder).is_err() {
             self.has_failed = true;
             return Err(LogFault);
         }
@@ -119,7 +153,7 @@ impl<R: Files<File = File> + AllocGlobal + Drop> JournalFiles for FilePair<R> {
     }
 
     fn into_log(self, bytes: &[u8]) -> FileLog {
-        let FilePair { rt, file, .. } = self;
-        FileLog::over(rt.alloc(), file, bytes)
+        let FilePair { alloc, file, .. } = self;
+        FileLog::over(alloc, file, bytes)
     }
 }

@@ -1,4 +1,4 @@
-//! A journal's log in a file, and the two files of a compaction.
+//! A journal's log in a file, and a snapshot's file in the place of a journal's.
 //!
 //! No contract says what a file keeps: a sync is trusted to reach the disk.
 #![tactic(auto)]
@@ -7,8 +7,10 @@ mod file_log;
 mod file_pair;
 mod ghost_bytes;
 mod ghost_steps;
+mod shortening;
 
 pub use file_log::FileLog;
 pub use file_pair::{FilePair, JournalPaths};
 pub use ghost_bytes::GhostBytes;
 pub use ghost_steps::GhostSteps;
+pub use shortening::{KeptBy, Shortened, folder_of, shorten};

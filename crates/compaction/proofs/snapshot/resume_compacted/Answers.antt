@@ -1,4 +1,4 @@
-use Rattle.std.proofs.Common.{[], ◌∷◌, List, ℕ, ap, ◌∙◌}
+use Rattle.std.proofs.Common.{[], List, ℕ, ap, ◌∙◌}
 use Rattle.journal.specs.Logs.{LogState}
 use Rattle.compaction.proofs.snapshot.resume_compacted.Goals as goal
 
@@ -7,5 +7,6 @@ durable_log bytes = record { durable = bytes; pending = [] }
 
 pub returns-clause-journaled : goal.returns-clause-journaled
 returns-clause-journaled g c done =
-    let log = c.into_log.ensures done.replaced ∙ ap durable_log done.are in
-    (done.payload, done.restores, c.resume.ensures.journaled (done.payload ∷ []) (done.fits, tt) done.restores.reaches log)
+    let s = done.snapshot in
+    let log = c.into_log.ensures done.replaced ∙ ap durable_log s.are in
+    (s.payloads, s.restores, c.resume.ensures.journaled s.payloads s.fits s.restores.reaches log)
