@@ -1,5 +1,5 @@
 -- Steps of a desk, and its open jobs.
-use Rattle.std.proofs.Common.{◌≡◌, ℕ, zero, suc, List, [], ◌∷◌, ◌++◌, take, drop, Result, Ok, Err, Some, slice_get, refl, sym, ap, subst}
+use Rattle.std.proofs.Common.{◌≡◌, ◌∙◌, Vec, Global, ℕ, zero, suc, List, [], ◌∷◌, ◌++◌, take, drop, Result, Ok, Err, Some, slice_get, refl, sym, ap, subst}
 use Rattle.std.specs.Prelude.{OnOk}
 use Rattle.accounts.specs.Ledgers.{Ledger, RefusesSubmit}
 use Rattle.accounts.specs.declared.fault.SubmitFault.{SubmitFault}
@@ -7,9 +7,11 @@ use Rattle.credit_book.specs.declared.book.Report.{Report}
 use Rattle.job_core.specs.declared.admission.ProgramBytes.{ProgramBytes}
 use Rattle.desk_journal.specs.Changes.{report_bytes}
 use Rattle.desk_journal.specs.DeskChanges.{change_bytes}
-use Rattle.desk_journal.specs.DeskSteps.{DeskState, EndsJob, IsWithout, Makes, MakesBytes}
+use Rattle.accounts.specs.declared.jobs.JobStanding.TheVariants.{Reported}
+use Rattle.desk_journal.specs.DeskSteps.{DeskState, EndsJob, IsCopyOf, IsWithout, Makes, MakesBytes, PutsBack, RefusesChange, RefusesChangeBytes, RefusesPutBack}
+use Rattle.desk_journal.specs.HeldJobs.{IsTakingChange}
 use Rattle.desk_journal.specs.declared.change.DeskChange.{DeskChange}
-use Rattle.desk_journal.specs.declared.change.DeskChange.TheVariants.{Finished}
+use Rattle.desk_journal.specs.declared.change.DeskChange.TheVariants.{Finished, ReportKept, Submitted}
 use Rattle.desk_journal.specs.declared.journaled_desk.OpenJob.{OpenJob}
 
 pub on_ok : {X E P Q : Type 0} (r : Result X E) → (P → Q) → OnOk r P → OnOk r Q
@@ -35,3 +37,27 @@ without (x ∷ jobs) (suc place) number job at numbered =
 -- the end of a job with the same report
 pub finished_so : (change : DeskChange) (number : ℕ) (report same : Report) (old new : DeskState) → change ≡ Finished number report → report_bytes same ≡ report_bytes report → EndsJob number (Ok same) old new → MakesBytes old (change_bytes change) new
 finished_so change number report same old new is bytes ends = (change, refl, subst (λ (c : DeskChange). Makes c old new) (sym is) (same, bytes, ends))
+
+-- a job with the same report is put back
+pub copied_so : (change : DeskChange) (tenant : Vec ℕ Global) (credit : ℕ) (report : Report) (name : List ℕ) (old new : DeskState) → change ≡ ReportKept tenant credit report → name ≡ tenant.items
+    → (copy : Report) × IsCopyOf report copy × PutsBack name credit (Reported copy) old new → MakesBytes old (change_bytes change) new
+copied_so change tenant credit report name old new is same back =
+    (change, refl, subst (λ (c : DeskChange). Makes c old new) (sym is) (back.0, back.1, subst (λ (n : List ℕ). PutsBack n credit (Reported back.0) old new) same back.2))
+
+pub copy_refused_so : (change : DeskChange) (tenant : Vec ℕ Global) (credit : ℕ) (report : Report) (name : List ℕ) (old : DeskState) → change ≡ ReportKept tenant credit report → name ≡ tenant.items
+    → (copy : Report) × IsCopyOf report copy × RefusesPutBack name (Reported copy) old → RefusesChangeBytes old (change_bytes change)
+copy_refused_so change tenant credit report name old is same back =
+    (change, refl, subst (λ (c : DeskChange). RefusesChange c old) (sym is) (back.0, back.1, subst (λ (n : List ℕ). RefusesPutBack n (Reported back.0) old) same back.2))
+
+-- the bytes of a change are those that take its job
+pub source_so : (change : DeskChange) (tenant : Vec ℕ Global) (programs : Vec ProgramBytes Global) (credit : ℕ) (buffer : Vec ℕ Global) (source : List ℕ) (name : List ℕ) (program_list : List ProgramBytes) (buffer_list : List ℕ)
+    → change ≡ Submitted tenant programs credit buffer → source ≡ change_bytes change → name ≡ tenant.items → program_list ≡ programs.items → buffer_list ≡ buffer.items → IsTakingChange name program_list credit buffer_list source
+source_so change tenant programs credit buffer source name program_list buffer_list is are name_is programs_are buffer_is = record {
+  tenant_bytes = tenant;
+  program_list = programs;
+  buffer_bytes = buffer;
+  is = are ∙ ap change_bytes is;
+  tenant = sym name_is;
+  programs_are = sym programs_are;
+  buffer_is = sym buffer_is;
+}

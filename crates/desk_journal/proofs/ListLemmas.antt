@@ -61,7 +61,10 @@ list_starts bytes there input count start values more small few a b =
     (omega (arith, whole, within, small, length-append (to_le_bytes w64 (length values)) (bytes_of_all bytes values ++ more), length-append (bytes_of_all bytes values) more)) (sym a ∙ split) in
     record { values = values; count = sym t.0; is = t.1 }
 
--- ---- four pieces, one behind the other
+-- ---- pieces, one behind the other
 
 pub joined_four : (out a b c d : List ℕ) → (((out ++ a) ++ b) ++ c) ++ d ≡ out ++ (a ++ (b ++ (c ++ d)))
 joined_four out a b c d = append_assoc ((out ++ a) ++ b) c d ∙ (append_assoc (out ++ a) b (c ++ d) ∙ append_assoc out a (b ++ (c ++ d)))
+
+pub joined_three : (out a b c : List ℕ) → ((out ++ a) ++ b) ++ c ≡ out ++ (a ++ (b ++ c))
+joined_three out a b c = append_assoc (out ++ a) b c ∙ append_assoc out a (b ++ c)

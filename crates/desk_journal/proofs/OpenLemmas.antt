@@ -1,5 +1,6 @@
 -- After every history of changes, what is held is the desk's open jobs, each as a change took it.
 use Rattle.std.proofs.Common.{◌≡◌, ◌≢◌, ◌⊎◌, ◌+◌, ◌-◌, ◌≤◌, ◌<◌, ℕ, zero, suc, Bool, true, false, List, [], ◌∷◌, ◌++◌, append_assoc, length, slice_get, slice_set, nat_eq, if◌then◌else◌, Option, Some, None, Result, Ok, Err, refl, sym, ap, subst, ◌∙◌, inl, inr, arith}
+use Rattle.std.specs.Prelude.{All}
 use Rattle.std.proofs.lemmas.Bool.{cases_eq}
 use Rattle.std.proofs.lemmas.Bool.Decides.{nat_tests}
 use Rattle.std.proofs.lemmas.List.{append-nil, length-append}
@@ -7,7 +8,9 @@ use Rattle.std.proofs.lemmas.Option.{slice_get_within}
 use Rattle.accounts.specs.Forgetting.{ForgetsJobs, IsGone, IsJobOver}
 use Rattle.accounts.specs.Jobs.{is_open, settled}
 use Rattle.accounts.specs.Ledgers.{Ledger, Finishes, Takes}
+use Rattle.accounts.specs.Restoring.{AddsGone}
 use Rattle.accounts.specs.declared.jobs.JobEntry.{JobEntry}
+use Rattle.accounts.specs.declared.jobs.JobStanding.{JobStanding}
 use Rattle.accounts.specs.declared.jobs.JobStanding.TheVariants.{Open, Reported, Failed}
 use Rattle.accounts.proofs.Forgets.{each_left}
 use Rattle.accounts.proofs.Listed.{get_set_apart, get_set_here, get_within, same_some}
@@ -15,10 +18,10 @@ use Rattle.credit_book.specs.declared.book.Report.{Report}
 use Rattle.job_core.specs.Admitted.{AdmittedJob}
 use Rattle.recovery.specs.Histories.{IsAfter, ReplaysChanges}
 use Rattle.desk_journal.specs.DeskChanges.{change_bytes}
-use Rattle.desk_journal.specs.DeskSteps.{DeskState, EndsJob, IsNewDesk, IsWithout, Makes, MakesBytes}
+use Rattle.desk_journal.specs.DeskSteps.{DeskState, EndsJob, IsNewDesk, IsWithout, Makes, MakesBytes, PutsBack}
 use Rattle.desk_journal.specs.OpenJobs.{ComesFromChange, open_job_at}
 use Rattle.desk_journal.specs.declared.change.DeskChange.{DeskChange}
-use Rattle.desk_journal.specs.declared.change.DeskChange.TheVariants.{Granted, Submitted, Finished, Failed as Fails, Forgotten}
+use Rattle.desk_journal.specs.declared.change.DeskChange.TheVariants.{Granted, Submitted, Finished, Failed as Fails, Forgotten, AccountOpened, JobsSkipped, ReportKept, FailureKept}
 use Rattle.desk_journal.specs.declared.journaled_desk.OpenJob.{OpenJob}
 
 -- ---- jobs by their numbers
@@ -175,7 +178,7 @@ open_still changes more old new number job h at = record {
   from = comes_still changes more number job h.from;
 }
 
-settled_over : (credit : ℕ) (outcome : Result Report ℕ) → settled credit outcome ≡ Open → ⊥
+pub settled_over : (credit : ℕ) (outcome : Result Report ℕ) → settled credit outcome ≡ Open → ⊥
 settled_over credit (Ok report) is = by (nat_eq (report.spent + report.returned) credit) is
   where
     by : (b : Bool) → (if b then Reported report else Failed 82) ≡ Open → ⊥
@@ -183,7 +186,7 @@ settled_over credit (Ok report) is = by (nat_eq (report.spent + report.returned)
     by false same = absurd cc
 settled_over credit (Err code) is = absurd cc
 
-get_pushed : {X : Type 0} (xs : List X) (x : X) (i : ℕ) (y : X) → slice_get (xs ++ x ∷ []) i ≡ Some y → (slice_get xs i ≡ Some y) ⊎ ((i ≡ length xs) × (x ≡ y))
+pub get_pushed : {X : Type 0} (xs : List X) (x : X) (i : ℕ) (y : X) → slice_get (xs ++ x ∷ []) i ≡ Some y → (slice_get xs i ≡ Some y) ⊎ ((i ≡ length xs) × (x ≡ y))
 get_pushed [] x zero y at = inr (refl, same_some x y at)
 get_pushed [] x (suc i) y at = cc
 get_pushed (z ∷ xs) x zero y at = inl at
@@ -198,10 +201,40 @@ get_before [] x i y at = cc
 get_before (z ∷ xs) x zero y at = at
 get_before (z ∷ xs) x (suc i) y at = get_before xs x i y at
 
-set_long : {X : Type 0} (xs : List X) (i : ℕ) (x : X) → length (slice_set xs i x) ≡ length xs
-set_long [] i x = refl
-set_long (y ∷ xs) zero x = refl
-set_long (y ∷ xs) (suc i) x = let later = set_long xs i x in omega (arith, later)
+get_append : {X : Type 0} (xs ys : List X) (i : ℕ) (y : X) → slice_get xs i ≡ Some y → slice_get (xs ++ ys) i ≡ Some y
+get_append [] ys i y at = cc
+get_append (x ∷ xs) ys zero y at = at
+get_append (x ∷ xs) ys (suc i) y at = get_append xs ys i y at
+
+pub append_get : {X : Type 0} (xs ys : List X) (i : ℕ) (y : X) → slice_get (xs ++ ys) i ≡ Some y → (slice_get xs i ≡ Some y) ⊎ ((j : ℕ) × (slice_get ys j ≡ Some y))
+append_get [] ys i y at = inr (i, at)
+append_get (x ∷ xs) ys zero y at = inl at
+append_get (x ∷ xs) ys (suc i) y at = append_get xs ys i y at
+
+-- where each is gone, so is the one at a place
+gone_there : (gone : List JobEntry) (i : ℕ) (entry : JobEntry) → All IsGone gone → slice_get gone i ≡ Some entry → IsGone entry
+gone_there [] i entry all at = cc
+gone_there (x ∷ gone) zero entry all at = subst IsGone (same_some x entry at) (all zero x (omega arith))
+gone_there (x ∷ gone) (suc i) entry all at = gone_there gone i entry (λ k d lt. all (suc k) d (omega (arith, lt))) at
+
+-- none of them is open
+abbrev pub AreClosed : List JobEntry → Type 0
+AreClosed jobs = (i : ℕ) (entry : JobEntry) → slice_get jobs i ≡ Some entry → entry.standing ≡ Open → ⊥
+
+pub gone_closed : (gone : List JobEntry) → All IsGone gone → AreClosed gone
+gone_closed gone are i entry at opened = let clash : Failed 76 ≡ Open = sym (gone_there gone i entry are at).standing ∙ opened in absurd cc
+
+pub over_closed : (over : JobEntry) → IsJobOver over → AreClosed (over ∷ [])
+over_closed over is_over zero entry at opened =
+    let is : is_open over.standing ≡ is_open Open = ap (λ (e : JobEntry). is_open e.standing) (same_some over entry at) ∙ ap is_open opened in
+    let clash : true ≡ false = sym is ∙ is_over in
+    absurd cc
+over_closed over is_over (suc i) entry at opened = absurd cc
+
+pub length_set : {X : Type 0} (xs : List X) (i : ℕ) (x : X) → length (slice_set xs i x) ≡ length xs
+length_set [] i x = refl
+length_set (y ∷ xs) zero x = refl
+length_set (y ∷ xs) (suc i) x = let later = length_set xs i x in omega (arith, later)
 
 get_last : {X : Type 0} (xs : List X) (x : X) (i : ℕ) → i ≡ length xs → slice_get (xs ++ x ∷ []) i ≡ Some x
 get_last [] x zero is = refl
@@ -221,6 +254,24 @@ module _ (changes : List (List ℕ)) (more : List ℕ) (s t : DeskState) (was : 
 
   same_jobs : t.held ≡ s.held → t.desk.jobs ≡ s.desk.jobs → AreHeldOpen (changes ++ more ∷ []) t
   same_jobs same jobs = same_held same (λ i entry at opened. ap (λ js. slice_get js i) jobs ∙ at) (λ i entry at opened. ap (λ js. slice_get js i) (sym jobs) ∙ at)
+
+  -- jobs come behind that aren't open
+  behind_open : (others : List JobEntry) → t.held ≡ s.held → t.desk.jobs ≡ s.desk.jobs ++ others → AreClosed others → AreHeldOpen (changes ++ more ∷ []) t
+  behind_open others same jobs none =
+      same_held same (λ i entry at opened. ap (λ js. slice_get js i) jobs ∙ get_append s.desk.jobs others i entry at) back
+    where
+      back : (i : ℕ) (entry : JobEntry) → slice_get t.desk.jobs i ≡ Some entry → entry.standing ≡ Open → slice_get s.desk.jobs i ≡ Some entry
+      back i entry at opened = by (append_get s.desk.jobs others i entry (ap (λ js. slice_get js i) (sym jobs) ∙ at))
+        where
+          by : (slice_get s.desk.jobs i ≡ Some entry) ⊎ ((j : ℕ) × (slice_get others j ≡ Some entry)) → slice_get s.desk.jobs i ≡ Some entry
+          by (inl there) = there
+          by (inr there) = absurd (none there.0 entry there.1 opened)
+
+  gone_open : (count : ℕ) → t.held ≡ s.held → AddsGone s.desk count t.desk → AreHeldOpen (changes ++ more ∷ []) t
+  gone_open count same adds = behind_open adds.gone same adds.jobs.jobs (gone_closed adds.gone adds.are)
+
+  back_open : (name : List ℕ) (credit : ℕ) (standing : JobStanding) → PutsBack name credit standing s t → AreHeldOpen (changes ++ more ∷ []) t
+  back_open name credit standing back = behind_open (back.recalls.entry ∷ []) back.held back.recalls.jobs (over_closed back.recalls.entry back.recalls.over)
 
   -- some are forgotten, which aren't open
   forgotten_open : (ahead : ℕ) → t.held ≡ s.held → ForgetsJobs s.desk.jobs ahead t.desk.jobs → AreHeldOpen (changes ++ more ∷ []) t
@@ -335,7 +386,7 @@ module _ (changes : List (List ℕ)) (more : List ℕ) (s t : DeskState) (was : 
           absurd (settled_over over.entry.credit outcome (sym (ap (λ (e : JobEntry). e.standing) is) ∙ opens))
         where
           set_here : number - 1 < length (slice_set s.desk.jobs (number - 1) changed) → slice_get (slice_set s.desk.jobs (number - 1) changed) (number - 1) ≡ Some changed
-          set_here lt = get_set_here s.desk.jobs (number - 1) changed (let long = set_long s.desk.jobs (number - 1) changed in omega (arith, lt, long))
+          set_here lt = get_set_here s.desk.jobs (number - 1) changed (let long = length_set s.desk.jobs (number - 1) changed in omega (arith, lt, long))
       held i entry at opens (inr other) =
           let there : slice_get s.desk.jobs i ≡ Some entry = sym (get_set_apart s.desk.jobs (number - 1) i changed other) ∙ ap (λ js. slice_get js i) (sym over.jobs.jobs) ∙ at in
           let h = was.held i entry there opens in
@@ -361,6 +412,10 @@ module _ (changes : List (List ℕ)) (more : List ℕ) (s t : DeskState) (was : 
   changed_open led (Finished number report) is made = ended_open number (Ok made.0) made.2
   changed_open led (Fails number code) is made = ended_open number (Err code) made
   changed_open led (Forgotten ahead) is made = forgotten_open ahead made.1 made.0.jobs
+  changed_open led (AccountOpened tenant granted spent) is made = same_jobs made.1 (made.0.jobs ∙ sym made.0.early)
+  changed_open led (JobsSkipped count) is made = gone_open count made.2 made.0
+  changed_open led (ReportKept tenant credit report) is made = back_open tenant.items credit (Reported made.0) made.2
+  changed_open led (FailureKept tenant credit code) is made = back_open tenant.items credit (Failed code) made
 
 -- ---- a history
 

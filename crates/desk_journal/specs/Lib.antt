@@ -1,9 +1,14 @@
+pub mod AlikeDesks
+pub mod AlikeLemmas
+pub mod AlikeSteps
 pub mod ChangeLemmas
 pub mod Changes
 pub mod CodecLemmas
 pub mod DeskChanges
 pub mod DeskSteps
 pub mod Encodings
+pub mod HeldJobs
 pub mod NumberLemmas
 pub mod OpenJobs
 pub mod PartLemmas
+pub mod SnapshotChanges

@@ -1,6 +1,6 @@
 //! The changes of a desk.
 
-ghost use Rattle.std.specs.Prelude.{◌≡◌, ◌≤◌, ◌++◌, ℕ, List, drop, length, IfOk, OnOk, IsErrOf};
+ghost use Rattle.std.specs.Prelude.{◌≡◌, ◌≤◌, ◌++◌, ◌∷◌, [], ℕ, List, drop, length, IfOk, OnOk, IsErrOf};
 ghost use Rattle.std.specs.Int.{w32, w64, to_le_bytes};
 ghost use Rattle.desk_journal.specs.Changes.{program_bytes, report_bytes};
 ghost use Rattle.desk_journal.specs.DeskChanges.{body_bytes, tag_of};
@@ -46,6 +46,28 @@ pub enum DeskChange {
     Forgotten {
         ahead: u64,
     },
+    /// A tenant is there again, with the sum of its grants and with what all its jobs spent.
+    AccountOpened {
+        tenant: Vec<u8>,
+        granted: u64,
+        spent: u64,
+    },
+    /// In the place of so many forgotten jobs.
+    JobsSkipped {
+        count: u64,
+    },
+    /// A job that is over is there again, with its report.
+    ReportKept {
+        tenant: Vec<u8>,
+        credit: u32,
+        report: Report,
+    },
+    /// A job that is over is there again, with the refusal that it failed by.
+    FailureKept {
+        tenant: Vec<u8>,
+        credit: u32,
+        code: u8,
+    },
 }
 
 // The first byte of each form.
@@ -58,6 +80,14 @@ const FINISHED: u8 = 3;
 const FAILED: u8 = 4;
 
 const FORGOTTEN: u8 = 6;
+
+const ACCOUNT_OPENED: u8 = 7;
+
+const JOBS_SKIPPED: u8 = 8;
+
+const REPORT_KEPT: u8 = 9;
+
+const FAILURE_KEPT: u8 = 10;
 
 // The grant whose bytes stand at the front, behind its tag.
 fn read_granted(alloc: Global, input: &[u8]) -> Result<(DeskChange, usize), ReadFault>
@@ -129,6 +159,69 @@ fn read_forgotten(alloc: Global, input: &[u8]) -> Result<(DeskChange, usize), Re
     Ok((DeskChange::Forgotten { ahead }, length))
 }
 
+// The account whose bytes stand at the front, behind its tag.
+fn read_account_opened(alloc: Global, input: &[u8]) -> Result<(DeskChange, usize), ReadFault>
+    ensures within { IfOk result (λ found. found.1 ≤ length input.now) }
+    ensures found { IfOk result (λ found. (tag_of found.0 ≡ 7)
+        × (input.now ≡ body_bytes found.0 ++ drop found.1 input.now)) }
+    ensures refused { IsErrOf result NoValue → (change : DeskChange) (rest : List ℕ)
+        → tag_of change ≡ 7 → input.now ≡ body_bytes change ++ rest → ⊥ }
+{
+    let ((tenant, (granted, spent)), length) = <(Blob, (u64, u64))>::read(alloc, input)?;
+    let change = DeskChange::AccountOpened {
+        tenant: tenant.bytes,
+        granted,
+        spent,
+    };
+    Ok((change, length))
+}
+
+// The number of forgotten jobs whose bytes stand at the front, behind their tag.
+fn read_jobs_skipped(alloc: Global, input: &[u8]) -> Result<(DeskChange, usize), ReadFault>
+    ensures within { IfOk result (λ found. found.1 ≤ length input.now) }
+    ensures found { IfOk result (λ found. (tag_of found.0 ≡ 8)
+        × (input.now ≡ body_bytes found.0 ++ drop found.1 input.now)) }
+    ensures refused { IsErrOf result NoValue → (change : DeskChange) (rest : List ℕ)
+        → tag_of change ≡ 8 → input.now ≡ body_bytes change ++ rest → ⊥ }
+{
+    let (count, length) = u64::read(alloc, input)?;
+    Ok((DeskChange::JobsSkipped { count }, length))
+}
+
+// The job with a report whose bytes stand at the front, behind its tag.
+fn read_report_kept(alloc: Global, input: &[u8]) -> Result<(DeskChange, usize), ReadFault>
+    ensures within { IfOk result (λ found. found.1 ≤ length input.now) }
+    ensures found { IfOk result (λ found. (tag_of found.0 ≡ 9)
+        × (input.now ≡ body_bytes found.0 ++ drop found.1 input.now)) }
+    ensures refused { IsErrOf result NoValue → (change : DeskChange) (rest : List ℕ)
+        → tag_of change ≡ 9 → input.now ≡ body_bytes change ++ rest → ⊥ }
+{
+    let ((tenant, (credit, report)), length) = <(Blob, (u32, Report))>::read(alloc, input)?;
+    let change = DeskChange::ReportKept {
+        tenant: tenant.bytes,
+        credit,
+        report,
+    };
+    Ok((change, length))
+}
+
+// The job that failed whose bytes stand at the front, behind its tag.
+fn read_failure_kept(alloc: Global, input: &[u8]) -> Result<(DeskChange, usize), ReadFault>
+    ensures within { IfOk result (λ found. found.1 ≤ length input.now) }
+    ensures found { IfOk result (λ found. (tag_of found.0 ≡ 10)
+        × (input.now ≡ body_bytes found.0 ++ drop found.1 input.now)) }
+    ensures refused { IsErrOf result NoValue → (change : DeskChange) (rest : List ℕ)
+        → tag_of change ≡ 10 → input.now ≡ body_bytes change ++ rest → ⊥ }
+{
+    let ((tenant, (credit, code)), length) = <(Blob, (u32, u8))>::read(alloc, input)?;
+    let change = DeskChange::FailureKept {
+        tenant: tenant.bytes,
+        credit,
+        code,
+    };
+    Ok((change, length))
+}
+
 // The change of the form that a tag names, whose bytes stand at the front behind the tag.
 fn read_body(alloc: Global, tag: u8, input: &[u8]) -> Result<(DeskChange, usize), ReadFault>
     ensures within { IfOk result (λ found. found.1 ≤ length input.now) }
@@ -151,6 +244,18 @@ fn read_body(alloc: Global, tag: u8, input: &[u8]) -> Result<(DeskChange, usize)
     }
     if tag == FORGOTTEN {
         return read_forgotten(alloc, input);
+    }
+    if tag == ACCOUNT_OPENED {
+        return read_account_opened(alloc, input);
+    }
+    if tag == JOBS_SKIPPED {
+        return read_jobs_skipped(alloc, input);
+    }
+    if tag == REPORT_KEPT {
+        return read_report_kept(alloc, input);
+    }
+    if tag == FAILURE_KEPT {
+        return read_failure_kept(alloc, input);
     }
     Err(ReadFault::NoValue)
 }
@@ -184,6 +289,54 @@ fn write_finished(job: u64, report: &Report, out: &mut Vec<u8>) -> Result<(), Al
     Ok(())
 }
 
+// Adds a tenant's account.
+fn write_account(
+    tenant: &[u8],
+    granted: u64,
+    spent: u64,
+    out: &mut Vec<u8>,
+) -> Result<(), AllocError>
+    ensures { OnOk result (out.new.items ≡ out.old.items ++ (counted_bytes tenant.now
+        ++ (to_le_bytes w64 granted ++ to_le_bytes w64 spent))) }
+{
+    write_bytes(tenant, out)?;
+    granted.write(out)?;
+    spent.write(out)?;
+    Ok(())
+}
+
+// Adds a job that is over, with its report.
+fn write_kept_report(
+    tenant: &[u8],
+    credit: u32,
+    report: &Report,
+    out: &mut Vec<u8>,
+) -> Result<(), AllocError>
+    ensures { OnOk result (out.new.items ≡ out.old.items ++ (counted_bytes tenant.now
+        ++ (to_le_bytes w32 credit ++ report_bytes report.now))) }
+{
+    write_bytes(tenant, out)?;
+    credit.write(out)?;
+    report.write(out)?;
+    Ok(())
+}
+
+// Adds a job that failed.
+fn write_kept_failure(
+    tenant: &[u8],
+    credit: u32,
+    code: u8,
+    out: &mut Vec<u8>,
+) -> Result<(), AllocError>
+    ensures { OnOk result (out.new.items ≡ out.old.items ++ (counted_bytes tenant.now
+        ++ (to_le_bytes w32 credit ++ (code ∷ [])))) }
+{
+    write_bytes(tenant, out)?;
+    credit.write(out)?;
+    code.write(out)?;
+    Ok(())
+}
+
 // Adds what stands behind the tag.
 fn write_body(change: &DeskChange, out: &mut Vec<u8>) -> Result<(), AllocError>
     ensures { OnOk result (out.new.items ≡ out.old.items ++ body_bytes change.now) }
@@ -205,7 +358,37 @@ fn write_body(change: &DeskChange, out: &mut Vec<u8>) -> Result<(), AllocError>
             code.write(out)
         }
         DeskChange::Forgotten { ahead } => ahead.write(out),
+        DeskChange::AccountOpened {
+            tenant,
+            granted,
+            spent,
+        } => write_account(tenant, *granted, *spent, out),
+        DeskChange::JobsSkipped { count } => count.write(out),
+        DeskChange::ReportKept {
+            tenant,
+            credit,
+            report,
+        } => write_kept_report(tenant, *credit, report, out),
+        DeskChange::FailureKept {
+            tenant,
+            credit,
+            code,
+        } => write_kept_failure(tenant, *credit, *code, out),
     }
+}
+
+/// Adds the change that puts a job with a report back.
+pub(crate) fn write_report_change(
+    tenant: &[u8],
+    credit: u32,
+    report: &Report,
+    out: &mut Vec<u8>,
+) -> Result<(), AllocError>
+    ensures { OnOk result (out.new.items ≡ out.old.items ++ (9 ∷ (counted_bytes tenant.now
+        ++ (to_le_bytes w32 credit ++ report_bytes report.now)))) }
+{
+    REPORT_KEPT.write(out)?;
+    write_kept_report(tenant, credit, report, out)
 }
 
 impl DeskChange {
@@ -219,6 +402,10 @@ impl DeskChange {
             DeskChange::Finished { .. } => FINISHED,
             DeskChange::Failed { .. } => FAILED,
             DeskChange::Forgotten { .. } => FORGOTTEN,
+            DeskChange::AccountOpened { .. } => ACCOUNT_OPENED,
+            DeskChange::JobsSkipped { .. } => JOBS_SKIPPED,
+            DeskChange::ReportKept { .. } => REPORT_KEPT,
+            DeskChange::FailureKept { .. } => FAILURE_KEPT,
         }
     }
 }

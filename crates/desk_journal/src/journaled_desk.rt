@@ -1,16 +1,16 @@
 //! A desk whose changes a journal keeps, with its open jobs.
 
-ghost use Rattle.std.specs.Prelude.{◌≡◌, ◌⊎◌, ◌<◌, ◌++◌, ◌∷◌, [], IfOk, IfNone, IfSome, IsErrOf, OnErr, OnOk, length, slice_get, Some};
-ghost use Rattle.desk_journal.specs.Changes.{report_bytes};
-ghost use Rattle.desk_journal.specs.DeskSteps.{IsNotHeld};
+ghost use Rattle.std.specs.Prelude.{◌≡◌, ◌⊎◌, ◌<◌, ◌^◌, ◌++◌, ◌∷◌, [], IfOk, IfErr, IfNone, IfSome, IsErrOf, OnErr, OnOk, length, slice_get, Some};
+ghost use Rattle.desk_journal.specs.DeskSteps.{IsCopyOf, IsNotHeld};
 ghost use Rattle.desk_journal.specs.declared.journaled_desk.OpenJob.{OpenJob};
-ghost use Rattle.recovery.specs.declared.state_machine.ApplyFault.TheVariants.{Refused};
+ghost use Rattle.desk_journal.specs.DeskChanges.{change_bytes};
+ghost use Rattle.recovery.specs.declared.state_machine.ApplyFault.TheVariants.{NoMemory, Refused};
 
 use crate::change::DeskChange;
-use accounts::{Desk, DeskFault, SubmitFault};
+use accounts::{Desk, DeskFault, JobStanding, SubmitFault};
 use credit_book::Report;
 use job_core::{AdmitFault, Job, ProgramBytes};
-use recovery::{ApplyFault, StateMachine};
+use recovery::{ApplyFault, StateChange, StateMachine};
 use std::alloc::{AllocError, Global};
 use std::marker::Model;
 
@@ -22,18 +22,24 @@ pub struct OpenJob {
 }
 
 /// A desk, and its open jobs in the order in which they were taken. Contracts see both.
+///
+/// Each open job has the bytes of the change that took it beside it.
 #[derive(Drop)]
 pub struct JournaledDesk {
-    desk: Desk,
-    held: Vec<OpenJob>,
+    pub(crate) desk: Desk,
+    pub(crate) held: Vec<OpenJob>,
+    pub(crate) sources: Vec<Vec<u8>>,
 }
 
 impl Model for JournaledDesk {
     ghost use Rattle.desk_journal.specs.DeskSteps.{DeskState};
+    ghost use Rattle.desk_journal.specs.HeldJobs.{AreHeldFrom};
 
     ghost Value = { DeskState };
 
     ghost view = { λ d. record { desk = d.desk; held = d.held.items } };
+
+    ghost invariant = { λ d. AreHeldFrom 1 d.desk.jobs d.held.items d.sources.items };
 }
 
 // The place of the job of this number.
@@ -45,13 +51,21 @@ fn place_of(held: &[OpenJob], number: u64) -> Option<usize>
     held.iter().position(|job| job.number == number)
 }
 
+// The same number, which is within its width.
+pub(crate) fn within_width(number: u32) -> u32
+    ensures same { result ≡ number }
+    ensures within { result < 2 ^ 32 }
+{
+    number
+}
+
 // The same report.
-fn copy_of(alloc: Global, report: &Report) -> Result<Report, AllocError>
-    ensures { IfOk result (λ copy. report_bytes copy ≡ report_bytes report.now) }
+pub(crate) fn copy_of(alloc: Global, report: &Report) -> Result<Report, AllocError>
+    ensures { IfOk result (λ copy. IsCopyOf report.now copy) }
 {
     Ok(Report {
-        spent: report.spent,
-        returned: report.returned,
+        spent: within_width(report.spent),
+        returned: within_width(report.returned),
         buffer: report.buffer.to_vec(alloc)?,
         tasks: report.tasks.to_vec(alloc)?,
     })
@@ -63,6 +77,8 @@ impl JournaledDesk {
     ghost use Rattle.accounts.specs.declared.fault.SubmitFault.{SubmitFault};
     ghost use Rattle.job_core.specs.Admission.{IsAdmittedFrom};
     ghost use Rattle.desk_journal.specs.DeskSteps.{EndsJob, IsNoText, RefusesEnd};
+    ghost use Rattle.desk_journal.specs.HeldJobs.{IsTakingChange};
+    ghost use Rattle.desk_journal.specs.Changes.{report_bytes};
 
     /// The desk.
     pub fn desk(&self) -> &Desk
@@ -75,7 +91,11 @@ impl JournaledDesk {
     pub fn into_parts(self) -> (Desk, Vec<OpenJob>)
         ensures { (result.0 ≡ self.desk) × (result.1.items ≡ self.held) }
     {
-        let JournaledDesk { desk, held } = self;
+        let JournaledDesk {
+            desk,
+            held,
+            sources: _sources,
+        } = self;
         (desk, held)
     }
 
@@ -97,7 +117,7 @@ impl JournaledDesk {
         }
     }
 
-    // Takes a tenant's job.
+    // Takes a tenant's job by the change of these bytes.
     fn submit(
         &mut self,
         alloc: Global,
@@ -105,7 +125,9 @@ impl JournaledDesk {
         programs: &[ProgramBytes],
         credit: u32,
         buffer: &[u8],
+        source: Vec<u8>,
     ) -> Result<(), ApplyFault>
+        requires { IsTakingChange tenant.now programs.now credit buffer.now source.items }
         ensures ok { OnOk result (Takes self.old.desk tenant.now credit self.new.desk
             × ((taken : OpenJob) × IsAdmittedFrom programs.now credit buffer.now taken.job
             × (taken.number ≡ length self.new.desk.jobs)
@@ -123,9 +145,13 @@ impl JournaledDesk {
         if self.held.reserve(1).is_err() {
             return Err(ApplyFault::NoMemory);
         }
+        if self.sources.reserve(1).is_err() {
+            return Err(ApplyFault::NoMemory);
+        }
         match self.desk.submit(alloc, name, programs, credit, buffer) {
             Ok((number, job)) => {
                 self.held.push_reserved(OpenJob { number, job });
+                self.sources.push_reserved(source);
                 Ok(())
             }
             Err(SubmitFault::Admit(AdmitFault::NoMemory)) => Err(ApplyFault::NoMemory),
@@ -133,7 +159,7 @@ impl JournaledDesk {
         }
     }
 
-    // EndsJob an open job.
+    // Ends an open job.
     fn finish(&mut self, job: u64, outcome: Result<Report, u8>) -> Result<(), ApplyFault>
         ensures ok { OnOk result (EndsJob job outcome self.old self.new) }
         ensures err { OnErr result (self.new ≡ self.old) }
@@ -145,10 +171,24 @@ impl JournaledDesk {
         match self.desk.finish(job, outcome) {
             Ok(()) => {
                 self.held.remove(place);
+                self.sources.remove(place);
                 Ok(())
             }
             Err(_) => Err(ApplyFault::Refused),
         }
+    }
+
+    // Ends an open job with a report.
+    fn report(&mut self, alloc: Global, job: u64, report: &Report) -> Result<(), ApplyFault>
+        ensures ok { OnOk result ((same : Report) × (report_bytes same ≡ report_bytes report.now)
+            × EndsJob job (Ok same) self.old self.new) }
+        ensures err { OnErr result (self.new ≡ self.old) }
+        ensures refused { IsErrOf result Refused → RefusesEnd job self.old }
+    {
+        let Ok(report) = copy_of(alloc, report) else {
+            return Err(ApplyFault::NoMemory);
+        };
+        self.finish(job, Ok(report))
     }
 
     // Forgets those of the first so many jobs that are over.
@@ -156,6 +196,18 @@ impl JournaledDesk {
         ensures { Forgets self.old.desk ahead self.new.desk × (self.new.held ≡ self.old.held) }
     {
         self.desk.forget(ahead);
+    }
+}
+
+// The bytes of a change.
+fn bytes_of(alloc: Global, change: &DeskChange) -> Result<Vec<u8>, ApplyFault>
+    ensures bytes { IfOk result (λ bytes. bytes.items ≡ change_bytes change.now) }
+    ensures memory { IfErr result (λ fault. fault ≡ NoMemory) }
+{
+    let mut bytes = Vec::new(alloc);
+    match change.encode(&mut bytes) {
+        Ok(()) => Ok(bytes),
+        Err(_) => Err(ApplyFault::NoMemory),
     }
 }
 
@@ -174,6 +226,7 @@ impl StateMachine for JournaledDesk {
         JournaledDesk {
             desk: Desk::new(alloc),
             held: Vec::new(alloc),
+            sources: Vec::new(alloc),
         }
     }
 
@@ -185,18 +238,32 @@ impl StateMachine for JournaledDesk {
                 programs,
                 credit,
                 buffer,
-            } => self.submit(alloc, tenant, programs, *credit, buffer),
-            DeskChange::Finished { job, report } => {
-                let Ok(report) = copy_of(alloc, report) else {
-                    return Err(ApplyFault::NoMemory);
-                };
-                self.finish(*job, Ok(report))
-            }
+            } => match bytes_of(alloc, change) {
+                Ok(source) => self.submit(alloc, tenant, programs, *credit, buffer, source),
+                Err(fault) => Err(fault),
+            },
+            DeskChange::Finished { job, report } => self.report(alloc, *job, report),
             DeskChange::Failed { job, code } => self.finish(*job, Err(*code)),
             DeskChange::Forgotten { ahead } => {
                 self.forget(*ahead);
                 Ok(())
             }
+            DeskChange::AccountOpened {
+                tenant,
+                granted,
+                spent,
+            } => self.open_account(alloc, tenant, *granted, *spent),
+            DeskChange::JobsSkipped { count } => self.skip_jobs(*count),
+            DeskChange::ReportKept {
+                tenant,
+                credit,
+                report,
+            } => self.put_report_back(alloc, tenant, *credit, report),
+            DeskChange::FailureKept {
+                tenant,
+                credit,
+                code,
+            } => self.put_back(alloc, tenant, *credit, JobStanding::Failed(*code)),
         }
     }
 }

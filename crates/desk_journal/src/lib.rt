@@ -18,6 +18,8 @@ pub use change::DeskChange;
 // the desk that they lead to
 mod journaled_desk;
 mod opening;
+mod putting_back;
+mod snapshot;
 
 pub use journaled_desk::{JournaledDesk, OpenJob};
 pub use opening::open_desk_journal;

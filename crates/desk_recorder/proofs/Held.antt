@@ -11,7 +11,9 @@ use Rattle.accounts.specs.Forgetting.{ForgetsJobs, IsGone, IsJobOver}
 use Rattle.accounts.proofs.Forgets.{each_left}
 use Rattle.accounts.proofs.Listed.{get_within}
 use Rattle.accounts.specs.Ledgers.{Ledger, Finishes, Takes}
+use Rattle.desk_journal.proofs.OpenLemmas.{settled_over}
 use Rattle.desk_journal.specs.DeskSteps.{IsWithout}
+use Rattle.desk_journal.proofs.OpenLemmas.{AreClosed, append_get}
 use Rattle.desk_journal.specs.declared.journaled_desk.OpenJob.{OpenJob}
 use Rattle.streams.specs.Answering.{IsOpenJob}
 use Rattle.desk_recorder.specs.Recording.{HasJobNumber, HoldsOpen}
@@ -137,15 +139,6 @@ taken_held old new name credit held job takes is holds number there =
       | inr early ↦ held_pushed number held job (holds number (still_open old number there.0 here.0 early there.2))
     ]
 
--- a job that is over isn't open
-settled_over : (credit : ℕ) (outcome : Result Report ℕ) → settled credit outcome ≡ Open → ⊥
-settled_over credit (Ok report) is = by (nat_eq (report.spent + report.returned) credit) is
-  where
-    by : (b : Bool) → (if b then Reported report else Failed 82) ≡ Open → ⊥
-    by true same = absurd cc
-    by false same = absurd cc
-settled_over credit (Err code) is = absurd cc
-
 -- an open job that ends is held, and no other one opens
 pub ended_there : (old new : Ledger) (number : ℕ) (outcome : Result Report ℕ) → Finishes old number outcome new → IsOpenJob old number
 ended_there old new number outcome over = (over.entry, over.was, over.opened)
@@ -184,3 +177,12 @@ forgotten_held old new ahead held forgets holds number there =
         let clash : Failed 76 ≡ Open = sym gone.1.standing ∙ there.2 in
         absurd cc
     by x at now (inl same) = holds number (still_open old number there.0 (job_there new.jobs number there.0 there.1).0 (at ∙ ap Some same) there.2)
+
+-- jobs come behind that aren't open
+pub behind_held : (old new : Ledger) (others : List JobEntry) (held : List OpenJob) → new.jobs ≡ old.jobs ++ others → AreClosed others → HoldsOpen held old → HoldsOpen held new
+behind_held old new others held jobs closed holds number there =
+    let here = job_there new.jobs number there.0 there.1 in
+    elim (append_get old.jobs others (number - 1) there.0 (subst (λ (js : List JobEntry). slice_get js (number - 1) ≡ Some there.0) jobs here.1)) [
+      | inl early ↦ holds number (still_open old number there.0 here.0 early there.2)
+      | inr late ↦ absurd (closed late.0 there.0 late.1 there.2)
+    ]

@@ -1,17 +1,20 @@
 -- Where one change of a desk leads, with the jobs that are held.
-use Rattle.std.proofs.Common.{◌≡◌, ℕ, List, [], ◌∷◌, ◌++◌, length, Result, Ok, Err, Vec, refl, sym, subst}
+use Rattle.std.proofs.Common.{◌≡◌, ℕ, List, [], ◌∷◌, ◌++◌, length, Result, Ok, Err, Vec, refl, sym, subst, ◌∙◌}
 use Rattle.std.specs.declared.alloc.Global.{Global}
 use Rattle.credit_book.specs.declared.book.Report.{Report}
 use Rattle.job_core.specs.declared.admission.ProgramBytes.{ProgramBytes}
 use Rattle.journal.specs.Records.{record_of, FitsRecord}
 use Rattle.accounts.specs.Ledgers.{Ledger, Finishes, GrantsMore, Takes}
+use Rattle.accounts.specs.declared.jobs.JobStanding.{JobStanding}
+use Rattle.accounts.specs.declared.jobs.JobStanding.TheVariants.{Reported, Failed as FailedBy}
 use Rattle.desk_journal.specs.DeskChanges.{change_bytes}
-use Rattle.desk_journal.specs.DeskSteps.{DeskState, EndsJob, Makes}
+use Rattle.desk_journal.specs.DeskSteps.{DeskState, EndsJob, Makes, PutsBack}
+use Rattle.desk_journal.proofs.OpenLemmas.{gone_closed, over_closed}
 use Rattle.desk_journal.specs.declared.change.DeskChange.{DeskChange}
-use Rattle.desk_journal.specs.declared.change.DeskChange.TheVariants.{Granted, Submitted, Finished, Failed, Forgotten}
+use Rattle.desk_journal.specs.declared.change.DeskChange.TheVariants.{Granted, Submitted, Finished, Failed, Forgotten, AccountOpened, JobsSkipped, ReportKept, FailureKept}
 use Rattle.desk_journal.specs.declared.journaled_desk.OpenJob.{OpenJob}
 use Rattle.desk_recorder.specs.Recording.{HoldsOpen, IsEndRecord, IsForgettingRecord, IsGrantRecord, IsChangeRecord, IsSubmitRecord, ChangesLead}
-use Rattle.desk_recorder.proofs.Held.{ended_held, ended_there, forgotten_held, held_without, left_held, same_open, taken_held}
+use Rattle.desk_recorder.proofs.Held.{ended_held, ended_there, forgotten_held, held_without, left_held, same_open, taken_held, behind_held}
 
 -- a change that is made of a desk and its open jobs leads from one to the other
 by_change : (old new : Ledger) (change : DeskChange) → ((held : List OpenJob) → HoldsOpen held old → (after : List OpenJob) × HoldsOpen after new
@@ -75,6 +78,11 @@ ended_so : (number : ℕ) (outcome : Result Report ℕ) (old new : DeskState) �
 ended_so number outcome old new over holds =
     ended_held old.desk new.desk number outcome old.held (record { rest = new.held; is = over.1; others = left_held number old.held new.held over.1 }) over.0 holds
 
+back_held : (name : List ℕ) (credit : ℕ) (standing : JobStanding) (old new : DeskState) → PutsBack name credit standing old new → HoldsOpen old.held old.desk → HoldsOpen new.held new.desk
+back_held name credit standing old new back holds =
+    subst (λ (l : List OpenJob). HoldsOpen l new.desk) (sym back.held)
+    (behind_held old.desk new.desk (back.recalls.entry ∷ []) old.held back.recalls.jobs (over_closed back.recalls.entry back.recalls.over) holds)
+
 pub makes_held : (change : DeskChange) (old new : DeskState) → Makes change old new → HoldsOpen old.held old.desk → HoldsOpen new.held new.desk
 makes_held (Granted tenant amount) old new made holds =
     subst (λ (l : List OpenJob). HoldsOpen l new.desk) (sym made.1) (same_open old.desk new.desk old.held made.0.jobs holds)
@@ -84,3 +92,9 @@ makes_held (Finished number report) old new made holds = ended_so number (Ok mad
 makes_held (Failed number code) old new made holds = ended_so number (Err code) old new made holds
 makes_held (Forgotten ahead) old new made holds =
     subst (λ (l : List OpenJob). HoldsOpen l new.desk) (sym made.1) (forgotten_held old.desk new.desk ahead old.held made.0.jobs holds)
+makes_held (AccountOpened tenant granted spent) old new made holds =
+    subst (λ (l : List OpenJob). HoldsOpen l new.desk) (sym made.1) (same_open old.desk new.desk old.held (made.0.jobs ∙ sym made.0.early) holds)
+makes_held (JobsSkipped count) old new made holds =
+    subst (λ (l : List OpenJob). HoldsOpen l new.desk) (sym made.2) (behind_held old.desk new.desk made.0.gone old.held made.0.jobs.jobs (gone_closed made.0.gone made.0.are) holds)
+makes_held (ReportKept tenant credit report) old new made holds = back_held tenant.items credit (Reported made.0) old new made.2 holds
+makes_held (FailureKept tenant credit code) old new made holds = back_held tenant.items credit (FailedBy code) old new made holds

@@ -67,6 +67,22 @@ fn report_record(alloc: Global, job: u64, report: Report) -> (Result<Vec<u8>, Re
             code: _code,
         } => unreachable!(),
         DeskChange::Forgotten { ahead: _ahead } => unreachable!(),
+        DeskChange::AccountOpened {
+            tenant: _tenant,
+            granted: _granted,
+            spent: _spent,
+        } => unreachable!(),
+        DeskChange::JobsSkipped { count: _count } => unreachable!(),
+        DeskChange::ReportKept {
+            tenant: _tenant,
+            credit: _credit,
+            report: _report,
+        } => unreachable!(),
+        DeskChange::FailureKept {
+            tenant: _tenant,
+            credit: _credit,
+            code: _code,
+        } => unreachable!(),
     }
 }
 

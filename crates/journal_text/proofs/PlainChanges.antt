@@ -4,12 +4,13 @@ use Rattle.std.specs.Str.{IsUtf8, is_utf8}
 use Rattle.std.proofs.lemmas.Str.{IsUtf8-from_is_utf8, is_utf8-from_IsUtf8}
 use Rattle.serde_json.specs.Data.{string}
 use Rattle.serde_json.specs.Written.{has_float, items_have_float}
+use Rattle.credit_book.specs.declared.book.Report.{Report}
 use Rattle.credit_book.specs.declared.event.TaskEnd.{TaskEnd}
 use Rattle.job_core.specs.declared.admission.ProgramBytes.{ProgramBytes}
 use Rattle.sessions.specs.Replies.{items, task_data}
 use Rattle.desk_journal.specs.declared.change.DeskChange.{DeskChange}
-use Rattle.desk_journal.specs.declared.change.DeskChange.TheVariants.{Granted, Submitted, Finished, Failed, Forgotten}
-use Rattle.journal_text.specs.ChangeData.{bytes_data, change_data, failed_data, finished_data, forgotten_data, granted_data, submitted_data, submitted_program, tenant_data}
+use Rattle.desk_journal.specs.declared.change.DeskChange.TheVariants.{Granted, Submitted, Finished, Failed, Forgotten, AccountOpened, JobsSkipped, ReportKept, FailureKept}
+use Rattle.journal_text.specs.ChangeData.{bytes_data, change_data, failed_data, finished_data, forgotten_data, granted_data, kept_data, kept_failure_data, kept_report_data, opened_data, skipped_data, submitted_data, submitted_program, tenant_data}
 
 -- ---- a tenant's name
 
@@ -48,10 +49,18 @@ tasks_plain : (ts : List TaskEnd) → items_have_float (items (map task_data ts)
 tasks_plain [] = refl
 tasks_plain (t ∷ ts) = rw (task_plain t, tasks_plain ts) refl
 
+kept_plain : (report : Report) → has_float (kept_data report) ≡ false
+unfolding kept_data
+kept_plain report = rw (tasks_plain report.tasks.items) refl
+
 pub change_plain : (at number : ℕ) (change : DeskChange) → has_float (change_data at number change) ≡ false
-unfolding granted_data submitted_data finished_data failed_data forgotten_data
+unfolding granted_data submitted_data finished_data failed_data forgotten_data opened_data skipped_data kept_report_data kept_failure_data
 change_plain at number (Granted tenant amount) = rw (tenant_plain tenant.items) refl
 change_plain at number (Submitted tenant programs credit buffer) = rw (programs_plain programs.items, tenant_plain tenant.items) refl
 change_plain at number (Finished job report) = rw (tasks_plain report.tasks.items) refl
 change_plain at number (Failed job code) = refl
 change_plain at number (Forgotten ahead) = refl
+change_plain at number (AccountOpened tenant granted spent) = rw (tenant_plain tenant.items) refl
+change_plain at number (JobsSkipped count) = refl
+change_plain at number (ReportKept tenant credit report) = rw (kept_plain report, tenant_plain tenant.items) refl
+change_plain at number (FailureKept tenant credit code) = rw (tenant_plain tenant.items) refl

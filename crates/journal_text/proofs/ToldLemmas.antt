@@ -8,7 +8,6 @@ use Rattle.journal.specs.Tails.{IsTail}
 use Rattle.journal.specs.declared.inspection.TailKind.{TailKind}
 use Rattle.desk_journal.specs.DeskChanges.{change_bytes}
 use Rattle.desk_journal.specs.declared.change.DeskChange.{DeskChange}
-use Rattle.desk_journal.specs.declared.change.DeskChange.TheVariants.{Granted, Submitted, Finished, Failed, Forgotten}
 use Rattle.journal_text.specs.ChangeLines.{change_line, lines_from, lines_of, number_behind}
 use Rattle.journal_text.specs.JournalEnds.{ArePartlyTold, BeginWithChanges, EndChangesWith, StartWithNoChange}
 use Rattle.journal_text.specs.declared.journal_lines.JournalEnd.TheVariants.{Tail, NotAChange}
@@ -29,14 +28,6 @@ pub none_told : (bytes before : List ℕ) → AreTold bytes bytes 1 before befor
 none_told bytes before =
     let place : 0 ≡ length bytes - length bytes = omega arith in
     ([], [], record { whole = refl; each = tt; onward = λ more. ap (λ n. lines_from n 1 more) place }, sym (append-nil before))
-
--- a change takes one job at most
-pub number_most : (number : ℕ) (change : DeskChange) → number_behind number change ≤ number + 1
-number_most number (Granted tenant amount) = omega arith
-number_most number (Submitted tenant programs credit buffer) = omega arith
-number_most number (Finished job report) = omega arith
-number_most number (Failed job code) = omega arith
-number_most number (Forgotten ahead) = omega arith
 
 -- the lines of one change more, behind others
 lines_more : (changes : List DeskChange) (change : DeskChange) (lines : List ℕ) (at behind number next : ℕ) (more : List DeskChange)

@@ -7,7 +7,7 @@ use Rattle.credit_book.specs.declared.book.Report.{Report}
 use Rattle.job_core.specs.declared.admission.ProgramBytes.{ProgramBytes}
 use Rattle.sessions.specs.Replies.{items, task_data, whole}
 use Rattle.desk_journal.specs.declared.change.DeskChange.{DeskChange}
-use Rattle.desk_journal.specs.declared.change.DeskChange.TheVariants.{Granted, Submitted, Finished, Failed, Forgotten}
+use Rattle.desk_journal.specs.declared.change.DeskChange.TheVariants.{Granted, Submitted, Finished, Failed, Forgotten, AccountOpened, JobsSkipped, ReportKept, FailureKept}
 
 -- bytes that are no text, in hexadecimal
 abbrev pub bytes_data : List ℕ → Data
@@ -62,6 +62,46 @@ forgotten_data at ahead =
     object (member (codes "ahead") (whole ahead) (member (codes "at") (whole at)
     (member (codes "change") (string (codes "forgotten")) no_members)))
 
+-- a tenant's account that is there again
+unfoldable pub opened_data : ℕ → List ℕ → ℕ → ℕ → Data
+opened_data at tenant granted spent =
+    object (member (codes "at") (whole at)
+    (member (codes "change") (string (codes "account_opened"))
+    (member (codes "granted") (whole granted) (member (codes "spent") (whole spent)
+    (member (codes "tenant") (tenant_data tenant) no_members)))))
+
+-- so many forgotten jobs
+unfoldable pub skipped_data : ℕ → ℕ → Data
+skipped_data at count =
+    object (member (codes "at") (whole at)
+    (member (codes "change") (string (codes "jobs_skipped"))
+    (member (codes "count") (whole count) no_members)))
+
+-- a report's sums, its buffer and its tasks
+unfoldable pub kept_data : Report → Data
+kept_data report =
+    object (member (codes "buffer") (string (encode_lower report.buffer.items))
+    (member (codes "returned") (whole report.returned)
+    (member (codes "spent") (whole report.spent)
+    (member (codes "tasks") (array (items (map task_data report.tasks.items))) no_members))))
+
+-- a job that is there again with its report, by its number
+unfoldable pub kept_report_data : ℕ → ℕ → List ℕ → ℕ → Report → Data
+kept_report_data at job tenant credit report =
+    object (member (codes "at") (whole at)
+    (member (codes "change") (string (codes "report_kept"))
+    (member (codes "credit") (whole credit) (member (codes "job") (whole job)
+    (member (codes "report") (kept_data report)
+    (member (codes "tenant") (tenant_data tenant) no_members))))))
+
+-- a job that failed and is there again, by its number
+unfoldable pub kept_failure_data : ℕ → ℕ → List ℕ → ℕ → ℕ → Data
+kept_failure_data at job tenant credit code =
+    object (member (codes "at") (whole at)
+    (member (codes "change") (string (codes "failure_kept"))
+    (member (codes "code") (whole code) (member (codes "credit") (whole credit)
+    (member (codes "job") (whole job) (member (codes "tenant") (tenant_data tenant) no_members))))))
+
 -- a change whose record begins at this byte; a job that it takes gets this number
 abbrev pub change_data : ℕ → ℕ → DeskChange → Data
 change_data at number (Granted tenant amount) = granted_data at tenant.items amount
@@ -70,3 +110,10 @@ change_data at number (Submitted tenant programs credit buffer) =
 change_data at number (Finished job report) = finished_data at job report
 change_data at number (Failed job code) = failed_data at job code
 change_data at number (Forgotten ahead) = forgotten_data at ahead
+change_data at number (AccountOpened tenant granted spent) =
+    opened_data at tenant.items granted spent
+change_data at number (JobsSkipped count) = skipped_data at count
+change_data at number (ReportKept tenant credit report) =
+    kept_report_data at number tenant.items credit report
+change_data at number (FailureKept tenant credit code) =
+    kept_failure_data at number tenant.items credit code

@@ -4,7 +4,7 @@ ghost use Rattle.std.specs.Prelude.{◌≡◌, IfOk, map};
 ghost use Rattle.serde_json.specs.Data.{string};
 ghost use Rattle.serde_json.specs.View.{view};
 ghost use Rattle.sessions.specs.Replies.{task_data};
-ghost use Rattle.journal_text.specs.ChangeData.{bytes_data, change_data, failed_data, finished_data, forgotten_data, granted_data, submitted_data, submitted_program, tenant_data};
+ghost use Rattle.journal_text.specs.ChangeData.{bytes_data, change_data, failed_data, finished_data, forgotten_data, granted_data, kept_data, kept_failure_data, kept_report_data, opened_data, skipped_data, submitted_data, submitted_program, tenant_data};
 
 use credit_book::{Report, TaskEnd};
 use desk_journal::DeskChange;
@@ -122,6 +122,68 @@ fn forgotten_value(alloc: Global, at: u64, ahead: u64) -> Result<Value, AllocErr
     json!(in alloc; {"ahead": ahead, "at": at, "change": "forgotten"})
 }
 
+#[tactic(auto, unfolding(crate::specs::ChangeData::opened_data))]
+fn opened_value(
+    alloc: Global,
+    at: u64,
+    tenant: &[u8],
+    granted: u64,
+    spent: u64,
+) -> Result<Value, AllocError>
+    ensures { IfOk result (λ v. view v ≡ opened_data at tenant.now granted spent) }
+{
+    let tenant = tenant_value(alloc, tenant)?;
+    json!(in alloc; {"at": at, "change": "account_opened", "granted": granted, "spent": spent, "tenant": tenant})
+}
+
+#[tactic(auto, unfolding(crate::specs::ChangeData::skipped_data))]
+fn skipped_value(alloc: Global, at: u64, count: u64) -> Result<Value, AllocError>
+    ensures { IfOk result (λ v. view v ≡ skipped_data at count) }
+{
+    json!(in alloc; {"at": at, "change": "jobs_skipped", "count": count})
+}
+
+#[tactic(auto, unfolding(crate::specs::ChangeData::kept_data))]
+fn kept_value(alloc: Global, report: &Report) -> Result<Value, AllocError>
+    ensures { IfOk result (λ v. view v ≡ kept_data report.now) }
+{
+    let buffer = hex::encode(alloc, &report.buffer)?;
+    let tasks = Value::Array(task_values(alloc, &report.tasks)?);
+    json!(in alloc; {"buffer": buffer.as_str(), "returned": report.returned, "spent": report.spent, "tasks": tasks})
+}
+
+#[tactic(auto, unfolding(crate::specs::ChangeData::kept_report_data))]
+fn kept_report_value(
+    alloc: Global,
+    at: u64,
+    job: u64,
+    tenant: &[u8],
+    credit: u32,
+    report: &Report,
+) -> Result<Value, AllocError>
+    ensures { IfOk result (λ v. view v
+        ≡ kept_report_data at job tenant.now credit report.now) }
+{
+    let report = kept_value(alloc, report)?;
+    let tenant = tenant_value(alloc, tenant)?;
+    json!(in alloc; {"at": at, "change": "report_kept", "credit": credit, "job": job, "report": report, "tenant": tenant})
+}
+
+#[tactic(auto, unfolding(crate::specs::ChangeData::kept_failure_data))]
+fn kept_failure_value(
+    alloc: Global,
+    at: u64,
+    job: u64,
+    tenant: &[u8],
+    credit: u32,
+    code: u8,
+) -> Result<Value, AllocError>
+    ensures { IfOk result (λ v. view v ≡ kept_failure_data at job tenant.now credit code) }
+{
+    let tenant = tenant_value(alloc, tenant)?;
+    json!(in alloc; {"at": at, "change": "failure_kept", "code": code, "credit": credit, "job": job, "tenant": tenant})
+}
+
 /// The change whose record begins at this byte; a job that it takes gets this number.
 pub(crate) fn change_value(
     alloc: Global,
@@ -142,5 +204,21 @@ pub(crate) fn change_value(
         DeskChange::Finished { job, report } => finished_value(alloc, at, *job, report),
         DeskChange::Failed { job, code } => failed_value(alloc, at, *job, *code),
         DeskChange::Forgotten { ahead } => forgotten_value(alloc, at, *ahead),
+        DeskChange::AccountOpened {
+            tenant,
+            granted,
+            spent,
+        } => opened_value(alloc, at, tenant, *granted, *spent),
+        DeskChange::JobsSkipped { count } => skipped_value(alloc, at, *count),
+        DeskChange::ReportKept {
+            tenant,
+            credit,
+            report,
+        } => kept_report_value(alloc, at, job, tenant, *credit, report),
+        DeskChange::FailureKept {
+            tenant,
+            credit,
+            code,
+        } => kept_failure_value(alloc, at, job, tenant, *credit, *code),
     }
 }

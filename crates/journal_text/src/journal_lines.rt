@@ -1,8 +1,8 @@
 //! The lines of a journal's changes, in order, and what ends them.
 
-ghost use Rattle.std.specs.Prelude.{◌≡◌, ◌≢◌, ◌<◌, ◌++◌, ◌-◌, ◌^◌, ℕ, List, take, true, false, IfOk, OnOk, OnErr, Err};
+ghost use Rattle.std.specs.Prelude.{◌≡◌, ◌≢◌, ◌++◌, ℕ, List, take, true, false, IfOk, OnOk, OnErr, Err};
 ghost use Rattle.desk_journal.specs.declared.change.DeskChange.{DeskChange};
-ghost use Rattle.journal_text.specs.ChangeLines.{change_line, lines_of, number_behind};
+ghost use Rattle.journal_text.specs.ChangeLines.{change_line, lines_of, number_after, number_behind};
 ghost use Rattle.journal_text.specs.JournalEnds.{ArePartlyTold, EndChangesWith};
 
 use crate::change_text::change_line;
@@ -21,21 +21,34 @@ pub enum JournalEnd {
     NotAChange { at: usize },
 }
 
-// The number of the next job that is taken, where it was this one ahead of a change.
+// The number after so many jobs. Past the last number of 64 bits it stays there.
+fn number_after(number: u64, count: u64) -> u64
+    ensures { result ≡ number_after number count }
+{
+    if u64::MAX - number < count {
+        return u64::MAX;
+    }
+    number + count
+}
+
+// The number of the next job, where it was this one ahead of a change.
 fn number_behind(number: u64, change: &DeskChange) -> u64
-    requires { number < 2 ^ 64 - 1 }
     ensures { result ≡ number_behind number change.now }
 {
     match change {
-        DeskChange::Submitted { .. } => number + 1,
+        DeskChange::Submitted { .. } => number_after(number, 1),
         DeskChange::Granted { .. } => number,
         DeskChange::Finished { .. } => number,
         DeskChange::Failed { .. } => number,
         DeskChange::Forgotten { .. } => number,
+        DeskChange::AccountOpened { .. } => number,
+        DeskChange::JobsSkipped { count } => number_after(number, *count),
+        DeskChange::ReportKept { .. } => number_after(number, 1),
+        DeskChange::FailureKept { .. } => number_after(number, 1),
     }
 }
 
-// Writes the line of a change, and gives the number of the next job that is taken.
+// Writes the line of a change, and gives the number of the next job.
 fn write_change<W: Sink>(
     alloc: Global,
     at: usize,
@@ -43,8 +56,7 @@ fn write_change<W: Sink>(
     change: DeskChange,
     writer: &mut W,
 ) -> Result<u64, StreamFault>
-    requires sink { W.has_failed writer.old ≡ false }
-    requires few { number < 2 ^ 64 - 1 }
+    requires { W.has_failed writer.old ≡ false }
     ensures ok { OnOk result (W.transcript writer.new ≡ W.transcript writer.old
         ++ change_line at number change) }
     ensures next { IfOk result (λ next. next ≡ number_behind number change) }

@@ -1,3 +1,4 @@
 pub mod JournalLists
 pub mod JournalSteps
+pub mod CountSteps
 pub mod JournalCalls

@@ -3,6 +3,6 @@ pub mod Forgotten
 mod AnsweredAt
 mod Handled
 mod Restarted
-mod Recovered
+pub mod Recovered
 mod Credited
-mod RecordedNames
+pub mod RecordedNames

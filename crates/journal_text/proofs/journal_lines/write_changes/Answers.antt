@@ -1,12 +1,11 @@
 use Rattle.std.proofs.Common.{arith, ap, length, ◌+◌, Err}
 use Rattle.std.proofs.lemmas.List.{length-drop}
-use Rattle.journal_text.proofs.ToldLemmas.{none_told, number_most, told_in_part, told_more, told_so_far, told_to_other, told_to_tail}
+use Rattle.journal_text.proofs.ToldLemmas.{none_told, told_in_part, told_more, told_so_far, told_to_other, told_to_tail}
 use Rattle.journal_text.proofs.journal_lines.write_changes.Goals as goal
 
 pub loop-payload-init : goal.loop-payload-init
 loop-payload-init g c = record {
   within = omega arith;
-  few = omega arith;
   well = c.requires;
   told = none_told c.args.bytes.now (g.W.Sink.transcript c.args.writer.now);
 }
@@ -29,13 +28,10 @@ loop-payload-preserved g c =
     let rest = c.loop-payload.rest.now in
     let payload = c.in-Some.payload.now in
     let within = c.loop-payload.invariant.within in
-    let few = c.loop-payload.invariant.few in
     let there = c.in-Some.ensures.within in
     let next = c.in-Ok-write_change.ensures.next in
-    let one_more = number_most c.loop-payload.number c.in-Ok.change in
     record {
       within = omega (arith, ap length c.split_at.ensures.back, length-drop (8 + length payload) rest, within);
-      few = omega (arith, ap length c.split_at.ensures.back, length-drop (8 + length payload) rest, few, there, next, one_more);
       well = c.in-Ok-write_change.ensures.well;
       told = told_more c.args.bytes.now rest c.loop-payload.number payload c.in-Ok.change within c.in-Some.ensures.some.0 c.in-Some.ensures.some.1 there c.in-Ok.ensures.found
           c.split_at.result.1.now _ _ _ _ c.loop-payload.invariant.told c.split_at.ensures.back next c.in-Ok-write_change.ensures.ok;

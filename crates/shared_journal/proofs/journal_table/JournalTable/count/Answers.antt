@@ -1,7 +1,7 @@
 use Rattle.std.proofs.Common.{◌∙◌, ap, sym, arith}
 use mathlib.Core.Option.{none}
 use Rattle.atomic_table.specs.Table.{step}
-use Rattle.shared_journal.proofs.JournalSteps.{finds_count}
+use Rattle.shared_journal.proofs.CountSteps.{finds_count}
 use Rattle.shared_journal.proofs.journal_table.JournalTable.count.Goals as goal
 
 pub load-requires : goal.load-requires

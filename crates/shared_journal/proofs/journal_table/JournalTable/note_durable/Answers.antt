@@ -1,7 +1,7 @@
 use Rattle.std.proofs.Common.{◌∙◌, ap, sym, arith}
 use mathlib.Core.Option.{none}
 use Rattle.atomic_table.specs.Table.{step}
-use Rattle.shared_journal.proofs.JournalSteps.{notes_durable}
+use Rattle.shared_journal.proofs.CountSteps.{notes_durable}
 use Rattle.shared_journal.proofs.journal_table.JournalTable.note_durable.Goals as goal
 
 pub fetch_max-requires : goal.fetch_max-requires

@@ -1,7 +1,7 @@
 use Rattle.std.proofs.Common.{◌∙◌, ap, sym, arith}
 use mathlib.Core.Option.{none}
 use Rattle.atomic_table.specs.Table.{step}
-use Rattle.shared_journal.proofs.JournalSteps.{sees_each}
+use Rattle.shared_journal.proofs.CountSteps.{sees_each}
 use Rattle.shared_journal.proofs.journal_table.JournalTable.see_each.Goals as goal
 
 pub load-requires : goal.load-requires

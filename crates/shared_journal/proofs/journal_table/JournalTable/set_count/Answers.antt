@@ -1,7 +1,7 @@
 use Rattle.std.proofs.Common.{◌∙◌, ap, sym, arith}
 use mathlib.Core.Option.{none}
 use Rattle.atomic_table.specs.Table.{step}
-use Rattle.shared_journal.proofs.JournalSteps.{counts_records}
+use Rattle.shared_journal.proofs.CountSteps.{counts_records}
 use Rattle.shared_journal.proofs.journal_table.JournalTable.set_count.Goals as goal
 
 pub store-requires : goal.store-requires
