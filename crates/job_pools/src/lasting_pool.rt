@@ -21,6 +21,7 @@ use server_log::{Counter, ServerLog};
 use std::alloc::Global;
 use std::collections::BTreeMap;
 use std::sync::Wait;
+use std::time::Clock;
 use streams::Runner;
 
 /// Hands each job to workers that wait in threads of their own, and takes back what it came to.
@@ -79,7 +80,7 @@ impl<'a, R, J: RegisterId> LastingPool<'a, R, J> {
     }
 }
 
-impl<R: Wait, J: RegisterId> Runner for LastingPool<'_, R, J> {
+impl<R: Wait + Clock, J: RegisterId> Runner for LastingPool<'_, R, J> {
     ghost use Rattle.job_pools.specs.Holds.{StartsBy, TellsBy, TakesBy};
     ghost use Rattle.job_pools.specs.Queues.{PutsStarted, TakesEnded};
     ghost use Rattle.job_pools.specs.Started.{IsPooled, pooled_at, pooled_count};
@@ -116,6 +117,8 @@ impl<R: Wait, J: RegisterId> Runner for LastingPool<'_, R, J> {
         let queued = QueuedJob {
             alloc,
             number,
+            connection: self.log.serving(),
+            since: self.log.moment(self.rt),
             job,
             post,
             seat,
@@ -157,7 +160,7 @@ impl<R: Wait, J: RegisterId> Runner for LastingPool<'_, R, J> {
     }
 }
 
-impl<R: Wait, J: RegisterId> CountedRunner for LastingPool<'_, R, J> {
+impl<R: Wait + Clock, J: RegisterId> CountedRunner for LastingPool<'_, R, J> {
     fn count(&self) -> u64 {
         self.boards.len() as u64
     }

@@ -10,7 +10,7 @@ use crate::turn_ends::TurnOutlet;
 use server_log::{ServerLog, millis_since};
 use std::sync::Wait;
 use std::thread::{Scope, Threads};
-use std::time::{Clock, Instant};
+use std::time::Clock;
 
 // Runs a job, a large one on so many threads, and tells a log of it.
 fn run_told<R: Threads + Wait + Clock + Sync, J: RegisterId>(
@@ -22,8 +22,8 @@ fn run_told<R: Threads + Wait + Clock + Sync, J: RegisterId>(
     requires { (1 ≤ workers) × (workers ≤ 16) }
     ensures { result ≡ job.seat }
 {
-    log.tell(rt, job.event());
-    let begun = Instant::now(rt).ok();
+    log.tell(rt, job.event(millis_since(rt, job.since)));
+    let begun = log.moment(rt);
     let ended = job.run(rt, workers);
     log.tell(rt, ended.event(millis_since(rt, begun)));
     ended

@@ -16,16 +16,20 @@ use std::alloc::Global;
 use std::marker::Model;
 use std::sync::Wait;
 use std::thread::Threads;
+use std::time::Instant;
 use workers::{OpenGate, run_here, run_job};
 
 /// The most credit of a job that one worker runs by itself.
 const SMALL: u32 = 1_000_000;
 
-/// A job that waits for a worker, with the post of its board.
+/// A job that waits for a worker, with the post of its board; for a log, the connection that asked
+/// for it, if one did, and since when it waits.
 #[derive(Drop)]
 pub struct QueuedJob<J: RegisterId> {
     pub(crate) alloc: Global,
     pub(crate) number: u64,
+    pub(crate) connection: Option<u64>,
+    pub(crate) since: Option<Instant>,
     pub(crate) job: Job,
     pub(crate) post: Post,
     pub(crate) seat: JobSeat<J>,
@@ -127,15 +131,17 @@ fn end_of<R: Threads + Wait + Sync>(
 }
 
 impl<J: RegisterId> QueuedJob<J> {
-    /// That it is run now, for a log.
-    pub(crate) fn event(&self) -> LogEvent
-        ensures { result ≡ Started self.now.number self.now.job.credit
-            (length self.now.job.programs) }
+    /// That it is run now, once it waited for so many milliseconds, for a log.
+    pub(crate) fn event(&self, wait: u64) -> LogEvent
+        ensures { result ≡ Started self.now.number self.now.connection self.now.job.credit
+            (length self.now.job.programs) wait }
     {
         LogEvent::Started {
             job: self.number,
+            connection: self.connection,
             credit: self.job.credit(),
             programs: self.job.programs().len() as u64,
+            wait,
         }
     }
 
@@ -150,6 +156,7 @@ impl<J: RegisterId> QueuedJob<J> {
             job,
             post,
             seat,
+            ..
         } = self;
         let end = end_of(rt, alloc, job, post, workers);
         EndedJob { number, end, seat }

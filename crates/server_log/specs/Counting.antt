@@ -18,11 +18,11 @@ counter_of Stopping = None
 counter_of JournalFailed = None
 counter_of (Opened connection by) = Some ConnectionsTaken
 counter_of (Closed connection requests end ms) = Some ConnectionsOver
-counter_of (Started job credit programs) = Some JobsStarted
+counter_of (Started job connection credit programs wait) = Some JobsStarted
 counter_of (Ended job spent returned tasks buffer ms) = Some JobsOver
 counter_of (Failed job code) = Some JobsFailed
-counter_of (Refused code) = None
-counter_of (Granted tenant amount balance) = None
+counter_of (Refused connection code) = None
+counter_of (Granted connection tenant amount balance) = None
 
 -- a connection that ended by 0 wasn't given up
 abbrev pub given_up : ℕ → Option ℕ
@@ -35,11 +35,11 @@ refusal_code Stopping = None
 refusal_code JournalFailed = None
 refusal_code (Opened connection by) = None
 refusal_code (Closed connection requests end ms) = given_up (ending_code end)
-refusal_code (Started job credit programs) = None
+refusal_code (Started job connection credit programs wait) = None
 refusal_code (Ended job spent returned tasks buffer ms) = None
 refusal_code (Failed job code) = Some code
-refusal_code (Refused code) = Some code
-refusal_code (Granted tenant amount balance) = None
+refusal_code (Refused connection code) = Some code
+refusal_code (Granted connection tenant amount balance) = None
 
 -- those that were taken and aren't over are open
 abbrev pub connection_totals : ℕ → ℕ → ConnectionTotals

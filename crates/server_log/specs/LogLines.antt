@@ -45,10 +45,17 @@ event_text (Closed connection requests end ms) =
     ++ (codes ",\"code\":" ++ (decimal (ending_code end)
     ++ (codes ",\"end\":\"" ++ (ending_text end
     ++ (codes "\",\"ms\":" ++ decimal ms))))))))
-event_text (Started job credit programs) =
+event_text (Started job None credit programs wait) =
     codes "\"started\",\"job\":" ++ (decimal job
     ++ (codes ",\"credit\":" ++ (decimal credit
-    ++ (codes ",\"programs\":" ++ decimal programs))))
+    ++ (codes ",\"programs\":" ++ (decimal programs
+    ++ (codes ",\"wait\":" ++ decimal wait))))))
+event_text (Started job (Some connection) credit programs wait) =
+    codes "\"started\",\"job\":" ++ (decimal job
+    ++ (codes ",\"connection\":" ++ (decimal connection
+    ++ (codes ",\"credit\":" ++ (decimal credit
+    ++ (codes ",\"programs\":" ++ (decimal programs
+    ++ (codes ",\"wait\":" ++ decimal wait))))))))
 event_text (Ended job spent returned tasks buffer ms) =
     codes "\"ended\",\"job\":" ++ (decimal job
     ++ (codes ",\"spent\":" ++ (decimal spent
@@ -58,14 +65,18 @@ event_text (Ended job spent returned tasks buffer ms) =
     ++ (codes ",\"ms\":" ++ decimal ms))))))))))
 event_text (Failed job code) =
     codes "\"failed\",\"job\":" ++ (decimal job ++ (codes ",\"code\":" ++ decimal code))
-event_text (Refused code) = codes "\"refused\",\"code\":" ++ decimal code
-event_text (Granted None amount balance) =
-    codes "\"granted\",\"amount\":" ++ (decimal amount
-    ++ (codes ",\"balance\":" ++ decimal balance))
-event_text (Granted (Some tenant) amount balance) =
-    codes "\"granted\",\"tenant\":\"" ++ (string_bytes tenant
-    ++ (codes "\",\"amount\":" ++ (decimal amount
+event_text (Refused connection code) =
+    codes "\"refused\",\"connection\":" ++ (decimal connection
+    ++ (codes ",\"code\":" ++ decimal code))
+event_text (Granted connection None amount balance) =
+    codes "\"granted\",\"connection\":" ++ (decimal connection
+    ++ (codes ",\"amount\":" ++ (decimal amount
     ++ (codes ",\"balance\":" ++ decimal balance))))
+event_text (Granted connection (Some tenant) amount balance) =
+    codes "\"granted\",\"connection\":" ++ (decimal connection
+    ++ (codes ",\"tenant\":\"" ++ (string_bytes tenant
+    ++ (codes "\",\"amount\":" ++ (decimal amount
+    ++ (codes ",\"balance\":" ++ decimal balance))))))
 
 -- how many lines were lost, if any were
 abbrev pub lost_text : ℕ → List ℕ

@@ -1,4 +1,5 @@
-//! A handler behind doors of which one hears what the server counts.
+//! A handler whose refusals are told to a server's log, behind doors of which one hears what the
+//! server counts.
 
 ghost use Rattle.std.specs.Prelude.{◌≡◌, IfOk, List};
 ghost use Rattle.shared_desk.specs.Histories.{HistoryEntry, Replays};
@@ -6,11 +7,13 @@ ghost use Rattle.shared_desk.specs.ServerAsked.{AreAskedOfDesks, TellsServer, an
 ghost use Rattle.shared_desk.specs.ServerAsked as asked;
 
 use crate::log_queue::ServerLog;
+use crate::reply_events::tell_reply;
 use refusal::NoMemory;
 use sessions::{DoorForm, Reply, Request};
 use shared_desk::{Passage, SharedHandler};
 use std::alloc::Global;
 use std::marker::Model;
+use std::sync::Wait;
 use std::time::Clock;
 use streams::{PendingReply, PreparedRequest};
 
@@ -18,7 +21,8 @@ use streams::{PendingReply, PreparedRequest};
 const NO_REQUEST: u8 = 73;
 
 /// Answers as a handler does, but for what is asked of the server itself: that a log tells, and the
-/// handler is asked what is no request. Contracts see it as the handler.
+/// handler is asked what is no request. The log is told of each reply that is a refusal, and by which
+/// connection it was asked. Contracts see it as the handler.
 #[derive(Drop)]
 pub struct CountingHandler<'a, R, H> {
     rt: &'a R,
@@ -63,7 +67,7 @@ fn totals_reply<R: Clock>(rt: &R, log: &ServerLog, alloc: Global) -> Result<Pend
     PendingReply::of_reply(alloc, &Reply::Server { totals: &totals })
 }
 
-impl<D, R: Clock, H: SharedHandler<D>> SharedHandler<D> for CountingHandler<'_, R, H> {
+impl<D, R: Wait + Clock, H: SharedHandler<D>> SharedHandler<D> for CountingHandler<'_, R, H> {
     ghost use Rattle.shared_desk.specs.ServerAsked.{answers_counting};
 
     ghost ready = { λ h. H.ready h };
@@ -72,6 +76,10 @@ impl<D, R: Clock, H: SharedHandler<D>> SharedHandler<D> for CountingHandler<'_, 
 
     fn wants_admission(&self, desk: &D, passage: Passage, request: &Request) -> bool {
         self.handler.wants_admission(desk, passage, request)
+    }
+
+    fn serve_next(&mut self, connection: u64) {
+        self.log.serve(connection);
     }
 
     fn answer_by(
@@ -83,9 +91,11 @@ impl<D, R: Clock, H: SharedHandler<D>> SharedHandler<D> for CountingHandler<'_, 
         beyond: Option<DoorForm>,
     ) -> Result<PendingReply, NoMemory> {
         if !asks_server(&beyond) {
-            return self
+            let reply = self
                 .handler
                 .answer_by(alloc, desk, passage, request, beyond);
+            tell_reply(self.rt, self.log, &reply);
+            return reply;
         }
         drop(request);
         let nothing = PreparedRequest::AsItCame(Err(NO_REQUEST));

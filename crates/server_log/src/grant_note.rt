@@ -15,9 +15,10 @@ use sessions::Request;
 use std::alloc::Global;
 use streams::PreparedRequest;
 
-/// A grant that is asked for at a desk, with what its tenant was granted there before.
+/// A grant that a connection asks for at a desk, with what its tenant was granted there before.
 #[derive(Drop)]
 pub struct GrantNote {
+    connection: u64,
     tenant: String,
     amount: u32,
     before: u64,
@@ -34,9 +35,16 @@ impl GrantNote {
     }
 
     /// Notes a grant ahead of its answer. None where there is no memory for the name.
-    pub fn of(alloc: Global, desk: &Desk, tenant: &str, amount: u32) -> Option<GrantNote>
-        ensures { IfSome result (λ note. (string_bytes note.tenant ≡ tenant.now)
-            × (note.amount ≡ amount) × (note.before ≡ granted_in (account_at desk.now tenant.now))) }
+    pub fn of(
+        alloc: Global,
+        connection: u64,
+        desk: &Desk,
+        tenant: &str,
+        amount: u32,
+    ) -> Option<GrantNote>
+        ensures { IfSome result (λ note. (note.connection ≡ connection)
+            × (string_bytes note.tenant ≡ tenant.now) × (note.amount ≡ amount)
+            × (note.before ≡ granted_in (account_at desk.now tenant.now))) }
     {
         let before = match desk.account(tenant) {
             Ok(account) => account.granted,
@@ -44,6 +52,7 @@ impl GrantNote {
         };
         let tenant = String::from_str(alloc, tenant).ok()?;
         Some(GrantNote {
+            connection,
             tenant,
             amount,
             before,
@@ -56,8 +65,8 @@ impl GrantNote {
         ensures told { IfSome result (λ event. (account : Account)
             × (account_at desk.now (string_bytes self.tenant) ≡ Ok account)
             × (account.granted ≡ self.before + self.amount)
-            × (event ≡ Granted (if is_configured then Some self.tenant else None) self.amount
-            account.balance)) }
+            × (event ≡ Granted self.connection (if is_configured then Some self.tenant else None)
+            self.amount account.balance)) }
         ensures refused { IfNone result ((account : Account)
             → account_at desk.now (string_bytes self.tenant) ≡ Ok account
             → account.granted ≢ self.before + self.amount) }
@@ -67,9 +76,15 @@ impl GrantNote {
         if account.granted != after {
             return None;
         }
-        let GrantNote { tenant, amount, .. } = self;
+        let GrantNote {
+            connection,
+            tenant,
+            amount,
+            ..
+        } = self;
         let tenant = if is_configured { Some(tenant) } else { None };
         Some(LogEvent::Granted {
+            connection,
             tenant,
             amount,
             balance: account.balance,
@@ -95,7 +110,7 @@ pub fn noted_grant(
     }
     match request {
         PreparedRequest::AsItCame(Ok(Request::Grant { tenant, amount })) => {
-            GrantNote::of(alloc, desk, tenant, *amount)
+            GrantNote::of(alloc, log.serving().unwrap_or(0), desk, tenant, *amount)
         }
         _ => None,
     }

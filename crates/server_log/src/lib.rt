@@ -7,6 +7,7 @@ mod grant_note;
 mod log_line;
 mod log_queue;
 mod logged_handler;
+mod reply_events;
 mod server_counts;
 
 pub use counting_handler::{CountingHandler, counts_are_put_aside};

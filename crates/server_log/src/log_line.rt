@@ -91,11 +91,14 @@ pub enum LogEvent {
         end: ConnectionEnd,
         ms: u64,
     },
-    /// A worker has taken a job, with its credit and so many programs.
+    /// A worker has taken a job, with its credit and so many programs, which waited for so many
+    /// milliseconds. It came from this connection; a job that a journal starts again came from none.
     Started {
         job: u64,
+        connection: Option<u64>,
         credit: u32,
         programs: u64,
+        wait: u64,
     },
     /// A job was run: its credit, its tasks, the bytes of its buffer, and its milliseconds.
     Ended {
@@ -111,13 +114,15 @@ pub enum LogEvent {
         job: u64,
         code: u8,
     },
-    /// A job was refused before it had a number.
+    /// A request of this connection was refused.
     Refused {
-        code: u64,
+        connection: u64,
+        code: u8,
     },
-    /// A tenant was granted so much, and has this balance then. Its name is that of the configuration,
-    /// if it stands there.
+    /// A tenant was granted so much by a request of this connection, and has this balance then. Its
+    /// name is that of the configuration, if it stands there.
     Granted {
+        connection: u64,
         tenant: Option<String>,
         amount: u32,
         balance: u64,
@@ -155,12 +160,26 @@ impl fmt::Display for LogEvent {
             }
             LogEvent::Started {
                 job,
+                connection: None,
                 credit,
                 programs,
+                wait,
             } => {
                 write!(
                     f,
-                    "\"started\",\"job\":{job},\"credit\":{credit},\"programs\":{programs}"
+                    "\"started\",\"job\":{job},\"credit\":{credit},\"programs\":{programs},\"wait\":{wait}"
+                )
+            }
+            LogEvent::Started {
+                job,
+                connection: Some(connection),
+                credit,
+                programs,
+                wait,
+            } => {
+                write!(
+                    f,
+                    "\"started\",\"job\":{job},\"connection\":{connection},\"credit\":{credit},\"programs\":{programs},\"wait\":{wait}"
                 )
             }
             LogEvent::Ended {
@@ -177,20 +196,29 @@ impl fmt::Display for LogEvent {
                 )
             }
             LogEvent::Failed { job, code } => write!(f, "\"failed\",\"job\":{job},\"code\":{code}"),
-            LogEvent::Refused { code } => write!(f, "\"refused\",\"code\":{code}"),
+            LogEvent::Refused { connection, code } => {
+                write!(f, "\"refused\",\"connection\":{connection},\"code\":{code}")
+            }
             LogEvent::Granted {
+                connection,
                 tenant: None,
                 amount,
                 balance,
-            } => { write!(f, "\"granted\",\"amount\":{amount},\"balance\":{balance}") }
+            } => {
+                write!(
+                    f,
+                    "\"granted\",\"connection\":{connection},\"amount\":{amount},\"balance\":{balance}"
+                )
+            }
             LogEvent::Granted {
+                connection,
                 tenant: Some(tenant),
                 amount,
                 balance,
             } => {
                 write!(
                     f,
-                    "\"granted\",\"tenant\":\"{tenant}\",\"amount\":{amount},\"balance\":{balance}"
+                    "\"granted\",\"connection\":{connection},\"tenant\":\"{tenant}\",\"amount\":{amount},\"balance\":{balance}"
                 )
             }
         }

@@ -76,6 +76,7 @@ pub struct ServerLog {
     instance: u64,
     begun: Option<Instant>,
     lines: Option<LineQueue>,
+    serving: AtomicU64,
 }
 
 /// The lines of a log, for who writes them.
@@ -133,9 +134,12 @@ fn now<R: Clock>(rt: &R) -> u64 {
 pub fn millis_since<R: Clock>(rt: &R, begun: Option<Instant>) -> u64
     ensures { is_some begun ≡ false → result ≡ 0 }
 {
-    match (begun, Instant::now(rt)) {
-        (Some(begun), Ok(ended)) => millis(ended.duration_since(begun)),
-        _ => 0,
+    let Some(begun) = begun else {
+        return 0;
+    };
+    match Instant::now(rt) {
+        Ok(ended) => millis(ended.duration_since(begun)),
+        Err(_) => 0,
     }
 }
 
@@ -179,6 +183,7 @@ impl ServerLog {
             instance: now(rt),
             begun: Instant::now(rt).ok(),
             lines,
+            serving: AtomicU64::new(0),
         })
     }
 
@@ -194,6 +199,30 @@ impl ServerLog {
         ensures { result ≡ is_some self.now.lines }
     {
         self.lines.is_some()
+    }
+
+    /// This moment, for how long something takes that a line will tell; none where no lines are
+    /// written, or the clock can't be read.
+    pub fn moment<R: Clock>(&self, rt: &R) -> Option<Instant>
+        ensures { is_some self.now.lines ≡ false → is_some result ≡ false }
+    {
+        if !self.has_lines() {
+            return None;
+        }
+        Instant::now(rt).ok()
+    }
+
+    /// The desks answer a request of the connection of this number now, from 1 on.
+    pub fn serve(&self, connection: u64) {
+        self.serving.store(connection, Ordering::SeqCst);
+    }
+
+    /// The number of the connection whose request the desks answer now. None: no connection's yet.
+    pub fn serving(&self) -> Option<u64> {
+        match self.serving.load(Ordering::SeqCst) {
+            0 => None,
+            connection => Some(connection),
+        }
     }
 
     /// Counts what happened, and tells it where lines are written. Waits for no writer.

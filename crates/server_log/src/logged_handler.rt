@@ -1,4 +1,4 @@
-//! A handler whose refused jobs and whose grants are told to a server's log.
+//! A handler whose jobs that aren't started, and whose grants, are told to a server's log.
 
 ghost use Rattle.std.specs.Prelude.{◌≡◌};
 ghost use Rattle.server_log.specs.Told.{refusal_event};
@@ -17,8 +17,8 @@ use std::sync::Wait;
 use std::time::Clock;
 use streams::{PendingReply, PreparedRequest, SubmitRefusal, TellingHandler, wants_admission};
 
-/// Answers as a handler does, and tells a log of each job that is refused, and of each grant.
-/// Contracts see it as the handler.
+/// Answers as a handler does, and tells a log of each job that was taken and whose start is refused,
+/// and of each grant. Contracts see it as the handler.
 #[derive(Drop)]
 pub struct LoggedHandler<'a, R, H> {
     rt: &'a R,
@@ -43,29 +43,27 @@ impl<'a, R, H: Drop> LoggedHandler<'a, R, H> {
     }
 }
 
-/// What a log tells of a job that was asked for and doesn't run.
-pub fn event_of_refusal(refusal: SubmitRefusal) -> LogEvent
+/// What a log tells of a job that was asked for and doesn't run, beside the reply: that it failed,
+/// if it was taken.
+pub fn event_of_refusal(refusal: SubmitRefusal) -> Option<LogEvent>
     ensures { result ≡ refusal_event refusal }
 {
     match refusal {
-        SubmitRefusal::NotTaken { code } => LogEvent::Refused {
-            code: u64::from(code),
-        },
-        SubmitRefusal::NotStarted { job, code } => LogEvent::Failed { job, code },
+        SubmitRefusal::NotTaken { .. } => None,
+        SubmitRefusal::NotStarted { job, code } => Some(LogEvent::Failed { job, code }),
     }
 }
 
-// Tells a log why a job doesn't run. One that has a number was taken, and no worker takes it.
+// Tells a log why a job that was taken doesn't run. No worker takes it.
 fn tell_refusal<R: Wait + Clock>(rt: &R, log: &ServerLog, refusal: SubmitRefusal) {
-    let event = event_of_refusal(refusal);
-    if let LogEvent::Failed { .. } = &event {
+    if let Some(event) = event_of_refusal(refusal) {
         log.raise(Counter::JobsTaken);
         log.raise(Counter::JobsUnstarted);
+        log.tell(rt, event);
     }
-    log.tell(rt, event);
 }
 
-/// Tells a log why a job doesn't run, and of a grant.
+/// Tells a log why a job that was taken doesn't run, and of a grant.
 pub fn tell_answer<R: Wait + Clock>(
     rt: &R,
     log: &ServerLog,

@@ -53,8 +53,8 @@ impl LogEvent {
         }
     }
 
-    /// The number of the refusal that it tells, if it tells one: of a job, or of a connection that
-    /// was given up.
+    /// The number of the refusal that it tells, if it tells one: of a request, of a job, or of a
+    /// connection that was given up.
     pub fn refusal_code(&self) -> Option<u64>
         ensures { result ≡ counting.refusal_code self.now }
     {
@@ -67,7 +67,7 @@ impl LogEvent {
             LogEvent::Started { .. } => None,
             LogEvent::Ended { .. } => None,
             LogEvent::Failed { code, .. } => Some(u64::from(*code)),
-            LogEvent::Refused { code } => Some(*code),
+            LogEvent::Refused { code, .. } => Some(u64::from(*code)),
             LogEvent::Granted { .. } => None,
         }
     }

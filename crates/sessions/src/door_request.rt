@@ -141,8 +141,8 @@ fn read_plainly(
 
 /// What a payload asks at a door that hears these forms.
 ///
-/// By the plain protocol no JSON is 72, and JSON that is no request 73. Refused where there is no
-/// memory.
+/// In the plain protocol what is no JSON is refused by 72, and JSON that is no request by 73. Refused
+/// where there is no memory.
 pub fn read_at_door(
     alloc: Global,
     payload: &[u8],

@@ -273,7 +273,7 @@ pub(crate) fn read_request(alloc: Global, payload: &[u8]) -> Result<Request, Ses
 /// The request that a frame's payload says. Where the tenant's name may be left out and is, it is one
 /// of the empty name.
 ///
-/// No JSON is 72, JSON that is no request 73, and a growth that was refused 99.
+/// What is no JSON is refused by 72, JSON that is no request by 73, and want of memory is 99.
 pub fn read_request_by(
     alloc: Global,
     payload: &[u8],
@@ -324,7 +324,7 @@ fn read_object(
 /// The job that a text says: a submit without its `op` and `tenant`. Where a schedule is wanted the
 /// text has to have it; where none is, it isn't looked at, and is empty.
 ///
-/// No JSON is 72, JSON that is no job object 73, and a growth that was refused 99.
+/// What is no JSON is refused by 72, JSON that is no job object by 73, and want of memory is 99.
 pub fn job_object(alloc: Global, text: &[u8], schedule: bool) -> Result<JobObject, SessionFault>
     ensures { ObjectAnswer schedule result text.now }
 {

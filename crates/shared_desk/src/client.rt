@@ -23,7 +23,8 @@ use streams::{
 };
 
 /// Answers one connection's requests at the shared desk, each under the lock, as far as its passage
-/// lets them come there. Contracts see it as what the connection knows of the history.
+/// lets them come there. The handler hears the connection's number. Contracts see it as what the
+/// connection knows of the history.
 #[derive(Drop)]
 pub struct Client<'a, R, D, H: SharedHandler<D>, J: Origin<D, H>, G: PassageId> {
     rt: &'a R,
@@ -31,6 +32,7 @@ pub struct Client<'a, R, D, H: SharedHandler<D>, J: Origin<D, H>, G: PassageId> 
     lock: &'a Mutex<SharedDesk<D, H, J>>,
     seat: ClientSeat<J>,
     passage: Passage,
+    connection: u64,
     of: PhantomData<G>,
 }
 
@@ -49,13 +51,14 @@ impl<'a, R, D, H: SharedHandler<D>, J: Origin<D, H>, G: PassageId> Model
 }
 
 impl<'a, R, D, H: SharedHandler<D>, J: Origin<D, H>, G: PassageId> Client<'a, R, D, H, J, G> {
-    /// A connection that has seen a legal history.
+    /// A connection of this number that has seen a legal history.
     pub fn of(
         rt: &'a R,
         history: &'a SharedHistory<J>,
         lock: &'a Mutex<SharedDesk<D, H, J>>,
         seat: ClientSeat<J>,
         passage: Passage,
+        connection: u64,
     ) -> Client<'a, R, D, H, J, G>
         requires passage { passage ≡ G.passage }
         requires legal { (s : D × H) × Replays H.answers J.begins seat.seen s }
@@ -68,6 +71,7 @@ impl<'a, R, D, H: SharedHandler<D>, J: Origin<D, H>, G: PassageId> Client<'a, R,
             lock,
             seat,
             passage,
+            connection,
             of: PhantomData,
         }
     }
@@ -84,19 +88,20 @@ impl<'a, R, D, H: SharedHandler<D>, J: Origin<D, H>, G: PassageId> Client<'a, R,
 }
 
 impl<'a, R: Wait, D, H: SharedHandler<D>, J: Origin<D, H>, G: PassageId> Client<'a, R, D, H, J, G> {
-    /// A connection that was opened. It sees all that was answered so far.
+    /// A connection of this number that was opened. It sees all that was answered so far.
     pub fn new(
         rt: &'a R,
         history: &'a SharedHistory<J>,
         lock: &'a Mutex<SharedDesk<D, H, J>>,
         mut seat: ClientSeat<J>,
         passage: Passage,
+        connection: u64,
     ) -> Client<'a, R, D, H, J, G>
         requires { passage ≡ G.passage }
         ensures { (result.number ≡ seat.number) × (result.part ≡ seat.part) }
     {
         lock.lock(rt).look(history, &mut seat);
-        Client::of(rt, history, lock, seat, passage)
+        Client::of(rt, history, lock, seat, passage, connection)
     }
 }
 
@@ -136,7 +141,9 @@ impl<R: Wait, D, H: SharedHandler<D>, J: Origin<D, H>, G: PassageId> Client<'_, 
         ensures err { OnErr result ((reply : List ℕ) × IsSharedAnswer H.answers J.begins self.old
             (query_by G.passage request beyond) reply self.new) }
     {
-        self.lock.lock(self.rt).answer(
+        let mut shared = self.lock.lock(self.rt);
+        shared.serve_next(self.connection);
+        shared.answer(
             self.history,
             &mut self.seat,
             alloc,
@@ -219,6 +226,7 @@ fn serve_passed<G: PassageId, S: Source, W: Sink, R: Wait, D, H: SharedHandler<D
     lock: &Mutex<SharedDesk<D, H, J>>,
     seat: ClientSeat<J>,
     passage: Passage,
+    connection: u64,
     reader: &mut S,
     writer: &mut W,
 )
@@ -228,7 +236,9 @@ fn serve_passed<G: PassageId, S: Source, W: Sink, R: Wait, D, H: SharedHandler<D
     requires sink { (W.has_failed writer.old ≡ false) × (W.transcript writer.old ≡ []) }
     requires fresh { seat.part ≡ [] }
 {
-    let mut client: Client<'_, R, D, H, J, G> = Client::new(rt, history, lock, seat, passage);
+    let mut client: Client<'_, R, D, H, J, G> = Client::new(
+        rt, history, lock, seat, passage, connection,
+    );
     let outcome = serve_client(alloc, reader, writer, &mut client);
     let seat = client.into_seat();
     lock.lock(rt)
@@ -236,7 +246,8 @@ fn serve_passed<G: PassageId, S: Source, W: Sink, R: Wait, D, H: SharedHandler<D
 }
 
 /// Serves a connection that was opened, of which nothing came and nothing was written yet, by its
-/// passage, and closes it: the history then has its part, and what went through its ends.
+/// passage, and closes it: the history then has its part, and what went through its ends. The
+/// handler hears this number of it.
 pub fn serve_opened<S: Source, W: Sink, R: Wait, D, H: SharedHandler<D>, J: Origin<D, H>>(
     rt: &R,
     alloc: Global,
@@ -244,6 +255,7 @@ pub fn serve_opened<S: Source, W: Sink, R: Wait, D, H: SharedHandler<D>, J: Orig
     lock: &Mutex<SharedDesk<D, H, J>>,
     seat: ClientSeat<J>,
     passage: Passage,
+    connection: u64,
     reader: &mut S,
     writer: &mut W,
 )
@@ -253,6 +265,6 @@ pub fn serve_opened<S: Source, W: Sink, R: Wait, D, H: SharedHandler<D>, J: Orig
     requires fresh { seat.part ≡ [] }
 {
     serve_passed::<Brand, S, W, R, D, H, J>(
-        rt, alloc, history, lock, seat, passage, reader, writer,
+        rt, alloc, history, lock, seat, passage, connection, reader, writer,
     );
 }

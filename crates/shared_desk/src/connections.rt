@@ -26,6 +26,9 @@ const BY_PORT: Passage = Passage {
     may_grant: true,
 };
 
+// The number of a connection that no log tells of.
+const UNNUMBERED: u64 = 0;
+
 struct ByPort;
 
 impl PassageId for ByPort {
@@ -112,7 +115,9 @@ pub fn serve_connection<S: Source, W: Sink, R: Wait, D, H: SharedHandler<D>, J: 
         seat,
         of: _,
     } = connection;
-    let mut client: Client<'_, R, D, H, J, ByPort> = Client::of(rt, history, lock, seat, BY_PORT);
+    let mut client: Client<'_, R, D, H, J, ByPort> = Client::of(
+        rt, history, lock, seat, BY_PORT, UNNUMBERED,
+    );
     let outcome = serve_client(alloc, &mut reader, &mut writer, &mut client);
     let seat = client.into_seat();
     ServedConnection {

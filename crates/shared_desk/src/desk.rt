@@ -96,6 +96,13 @@ impl<D, H: SharedHandler<D>, J: Origin<D, H>> SharedDesk<D, H, J> {
         self.handler.wants_admission(&self.desk, passage, request)
     }
 
+    /// The handler hears the number of the connection whose request it answers next.
+    pub fn serve_next(&mut self, connection: u64)
+        ensures { self.new ≡ self.old }
+    {
+        self.handler.serve_next(connection);
+    }
+
     /// Answers a request of a connection, by its passage, and what it asked beyond the plain protocol,
     /// as the handler does, and adds that to the history. Where the reply finds no memory, the request
     /// was still carried out, and the history has it.

@@ -1,6 +1,6 @@
 //! What answers the requests of many connections.
 
-ghost use Rattle.std.specs.Prelude.{List, ℕ, IfOk, OnErr};
+ghost use Rattle.std.specs.Prelude.{◌≡◌, List, ℕ, IfOk, OnErr};
 ghost use Rattle.shared_desk.specs.Histories.{Query};
 ghost use Rattle.shared_desk.specs.Answered.{query_by};
 
@@ -22,6 +22,14 @@ pub trait SharedHandler<D> {
     /// Whether it is worth to admit the job of this request, which came by a passage, ahead of the
     /// answer, while others are at the desk.
     fn wants_admission(&self, desk: &D, passage: Passage, request: &Request) -> bool;
+
+    /// Hears the number of the connection whose request it answers next. No answer depends on it: it
+    /// is for a log.
+    fn serve_next(&mut self, connection: u64)
+        ensures { self.new ≡ self.old }
+    {
+        let _ = connection;
+    }
 
     /// Answers what was asked by a passage, or the number of its refusal, and what was asked beyond
     /// the plain protocol. The frame of a report is written later. Where the reply finds no memory,

@@ -11,7 +11,7 @@ use Rattle.sessions.specs.declared.reply.Reply.TheVariants as reply
 use Rattle.streams.specs.Answering.{report_told}
 
 -- the reply that tells a report, or why there is none
-abbrev report_reply : Result Report DeskFault → Reply
+abbrev pub report_reply : Result Report DeskFault → Reply
 report_reply (Ok report) = reply.Result (record { ref_ptr = (0, 0); now = report.buffer.items }) report.returned report.spent (record { ref_ptr = (0, 0); now = report.tasks.items })
 report_reply (Err fault) = reply.Refused (desk_code fault) None None
 

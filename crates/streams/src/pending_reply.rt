@@ -3,6 +3,7 @@
 ghost use Rattle.std.specs.Prelude.{◌≡◌, IfOk, Ok};
 ghost use Rattle.sessions.specs.Replies.{frame_of, frame_or_refusal};
 ghost use Rattle.streams.specs.Answering.{report_told};
+ghost use Rattle.streams.specs.Pending.{code_of_reply};
 
 use accounts::SharedReport;
 use credit_book::Report;
@@ -19,10 +20,12 @@ enum ReplySource {
 }
 
 /// A reply that is decided. The frame of a short one is there; the text of a report, which may be
-/// long, is written where nobody waits for it. Contracts see it as the bytes of its frame.
+/// long, is written where nobody waits for it. It keeps the number of the refusal that it is, if it is
+/// one. Contracts see it as the bytes of its frame.
 #[derive(Drop)]
 pub struct PendingReply {
     source: ReplySource,
+    code: Option<u8>,
 }
 
 impl Model for PendingReply {
@@ -30,9 +33,27 @@ impl Model for PendingReply {
 
     ghost Value = { List ℕ };
 
-    ghost use Rattle.streams.specs.Pending.{bytes_of_source};
+    ghost use Rattle.streams.specs.Pending.{bytes_of_source, TellsCode};
 
     ghost view = { λ p. bytes_of_source p.source };
+
+    ghost invariant = { λ p. TellsCode (bytes_of_source p.source) p.code };
+}
+
+// The number of the refusal that a reply is, if it is one.
+fn code_of(reply: &Reply<'_>) -> Option<u8>
+    ensures { result ≡ code_of_reply reply.now }
+{
+    match reply {
+        Reply::Refused { code, .. } => Some(*code),
+        Reply::Account { .. } => None,
+        Reply::Submit { .. } => None,
+        Reply::Status { .. } => None,
+        Reply::Result { .. } => None,
+        Reply::Jobs { .. } => None,
+        Reply::Server { .. } => None,
+        Reply::Play { .. } => None,
+    }
 }
 
 // The frame that tells what a job came to.
@@ -53,6 +74,7 @@ impl PendingReply {
     ghost use Rattle.std.specs.Prelude.{◌≡◌, IfOk, Ok};
     ghost use Rattle.sessions.specs.Replies.{frame_of, frame_or_refusal};
     ghost use Rattle.streams.specs.Answering.{report_told};
+    ghost use Rattle.streams.specs.Pending.{TellsCode};
 
     /// A reply whose frame is written at once.
     pub fn of_reply(alloc: Global, reply: &Reply<'_>) -> Result<PendingReply, NoMemory>
@@ -61,6 +83,7 @@ impl PendingReply {
         let frame = reply_frame(alloc, reply)?;
         Ok(PendingReply {
             source: ReplySource::Frame(frame),
+            code: code_of(reply),
         })
     }
 
@@ -70,7 +93,15 @@ impl PendingReply {
     {
         PendingReply {
             source: ReplySource::Report(report),
+            code: None,
         }
+    }
+
+    /// The number of the refusal that it is, if it is one.
+    pub fn refusal(&self) -> Option<u8>
+        ensures { TellsCode self.now result }
+    {
+        self.code
     }
 
     /// The reply's frame. That of a report is written now.

@@ -12,7 +12,7 @@ use Rattle.sessions.specs.Replies.{reply_data}
 use Rattle.sessions.specs.declared.reply.Reply.{Reply}
 use Rattle.streams.specs.Answering.{Replies, Submits}
 use Rattle.streams.specs.Passing.{Notes, Taken, none_yet as nothing_taken, one_more as one_taken}
-use Rattle.shared_desk.specs.Histories.{HistoryEntry, Replays, none_yet as nothing_replayed, one_more as one_replayed}
+use Rattle.shared_desk.specs.Histories.{HistoryEntry, Query, Replays, none_yet as nothing_replayed, one_more as one_replayed}
 use Rattle.tenant_desks.specs.declared.placed_runner.PlacedRunner.{PlacedRunner}
 use Rattle.tenant_desks.specs.Placing.{placed}
 use Rattle.tenant_desks.specs.PlacedRunners.{starts_placed, looks_placed}
@@ -25,9 +25,14 @@ use Rattle.tenant_desks.proofs.ChangedDesks.{count_taken}
 use Rattle.tenant_desks.proofs.SentEntries.{sent_here, sent_elsewhere, another_place}
 use Rattle.tenant_desks.proofs.AloneLemmas.{Stands, stands}
 
+-- a history that begins with one of these states begins with one of more states
+pub begins_more : {S : Type 0} {begins more : S → Type 0} (answers : S → Query → List ℕ → S → Type 0) → ((x : S) → begins x → more x) → (history : List HistoryEntry) (s : S) → Replays answers begins history s → Replays answers more history s
+begins_more answers weaker _ s (nothing_replayed t is) = nothing_replayed t (weaker t is)
+begins_more answers weaker _ s (one_replayed h t e u before answered) = one_replayed h t e u (begins_more answers weaker h t before) answered
+
 -- ---- desks of which one changes
 
-same_or_not : (i j : ℕ) → (i ≡ j) ⊎ (i ≢ j)
+pub same_or_not : (i j : ℕ) → (i ≡ j) ⊎ (i ≢ j)
 same_or_not i j = by_less (cases_lt i j) (cases_lt j i)
   where
     by_less : (i < j) ⊎ (j ≤ i) → (j < i) ⊎ (i ≤ j) → (i ≡ j) ⊎ (i ≢ j)
@@ -61,7 +66,7 @@ there_is (x ∷ xs) zero lt = (x, refl)
 there_is (x ∷ xs) (suc i) lt = there_is xs i (omega (arith, lt))
 
 module _ (change : Ledger → Ledger → Type 0) (place : ℕ) (old new : List Ledger) (d : Ledger) (at : slice_get old place ≡ Some d) where
-  changed_here : (k : ℕ) → place ≡ k → ChangesAt k change old new → (e : Ledger) × change d e × (slice_get new place ≡ Some e)
+  pub changed_here : (k : ℕ) → place ≡ k → ChangesAt k change old new → (e : Ledger) × change d e × (slice_get new place ≡ Some e)
   changed_here k same c =
       let there : slice_get old k ≡ Some d = ap (slice_get old) (sym same) ∙ at in (
         c.after,
@@ -69,10 +74,10 @@ module _ (change : Ledger → Ledger → Type 0) (place : ℕ) (old new : List L
         ap (slice_get new) same ∙ ap (λ (l : List Ledger). slice_get l k) c.is ∙ set_here old k c.before c.after c.was,
       )
 
-  changed_apart : (k : ℕ) → place ≢ k → ChangesAt k change old new → slice_get new place ≡ Some d
+  pub changed_apart : (k : ℕ) → place ≢ k → ChangesAt k change old new → slice_get new place ≡ Some d
   changed_apart k apart c = ap (λ (l : List Ledger). slice_get l place) c.is ∙ set_apart old k place c.after apart ∙ at
 
-module _ {R : Type 0} (starts : R → ℕ → AdmittedJob → Result (Unit {0}) ℕ → R → Type 0) (looks : R → ℕ → Progress → R → Type 0) (takes : R → Option (ℕ × Result Report ℕ) → R → Type 0) (place : ℕ) (firsts : List Ledger) (begun : Ledger) where
+module _ {R : Type 0} (starts : R → ℕ → AdmittedJob → Result (Unit {0}) ℕ → R → Type 0) (looks : R → ℕ → Progress → R → Type 0) (takes : R → Option (ℕ × Result Report ℕ) → R → Type 0) (place : ℕ) (firsts : List Ledger) (begun : Ledger) (start : R → Type 0) where
   abbrev Others : R → R → Type 0
   Others r s = OthersSteps starts looks takes place r s
 
@@ -145,7 +150,7 @@ module _ {R : Type 0} (starts : R → ℕ → AdmittedJob → Result (Unit {0}) 
   record Part (names : List (List ℕ)) (keep : KeepLimits) (history : List HistoryEntry) (desks : List Ledger) (r : R) : Type 0 where
     first : Ledger
     from : R
-    legal : Replays (answers_seen starts looks takes place keep) (λ s. s.0 ≡ begun) (sent_to names place history) (first, from)
+    legal : Replays (answers_seen starts looks takes place keep) (λ s. (s.0 ≡ begun) × start s.1) (sent_to names place history) (first, from)
     desk : Ledger
     at : slice_get desks place ≡ Some desk
     since : R
@@ -207,7 +212,7 @@ module _ {R : Type 0} (starts : R → ℕ → AdmittedJob → Result (Unit {0}) 
     elsewhere goes there others = record {
       first = was.first;
       from = was.from;
-      legal = subst (λ l. Replays (answers_seen starts looks takes place keep) (λ x. x.0 ≡ begun) l (was.first, was.from)) (sym (sent_elsewhere names place history e goes)) was.legal;
+      legal = subst (λ l. Replays (answers_seen starts looks takes place keep) (λ x. (x.0 ≡ begun) × start x.1) l (was.first, was.from)) (sym (sent_elsewhere names place history e goes)) was.legal;
       desk = was.desk;
       at = there;
       since = was.since;
@@ -220,7 +225,7 @@ module _ {R : Type 0} (starts : R → ℕ → AdmittedJob → Result (Unit {0}) 
     here after goes a there = record {
       first = after;
       from = s;
-      legal = subst (λ l. Replays (answers_seen starts looks takes place keep) (λ x. x.0 ≡ begun) l (after, s)) (sym (sent_here names place history e goes))
+      legal = subst (λ l. Replays (answers_seen starts looks takes place keep) (λ x. (x.0 ≡ begun) × start x.1) l (after, s)) (sym (sent_here names place history e goes))
           (one_replayed (sent_to names place history) (was.first, was.from) e (after, s) was.legal (
             a.mid,
             record {
@@ -269,22 +274,34 @@ module _ {R : Type 0} (starts : R → ℕ → AdmittedJob → Result (Unit {0}) 
       answered names keep history e a.mid a.passed.last a.rest t.0.desks t.1.runner a.passed.none_left (after_ends names keep history s.0.desks s.1.runner a.mid a.passed.last a.passed.taken was)
       (desk_for names e.query.passage e.query.asked) (omega (arith, count, same, few)) refl told
 
-  part : (names : List (List ℕ)) (keep : KeepLimits) (history : List HistoryEntry) (s : Tenancy × KeptRunner R) → length firsts ≤ 257 → slice_get firsts place ≡ Some begun → IsTenantHistory starts looks takes names firsts keep history s
+  -- a history from a state whose runner is one of these
+  abbrev pub IsHistoryFrom : List (List ℕ) → KeepLimits → List HistoryEntry → Tenancy × KeptRunner R → Type 0
+  IsHistoryFrom names keep = Replays (named_answers starts looks takes) (λ x. ((x.0 ≡ record { names = names; desks = firsts }) × (x.1.keep ≡ keep)) × start x.1.runner)
+
+  part : (names : List (List ℕ)) (keep : KeepLimits) (history : List HistoryEntry) (s : Tenancy × KeptRunner R) → length firsts ≤ 257 → slice_get firsts place ≡ Some begun → IsHistoryFrom names keep history s
       → Part names keep history s.0.desks s.1.runner
   part names keep history s few there (nothing_replayed t begins) =
       record {
         first = begun;
         from = s.1.runner;
-        legal = nothing_replayed (begun, s.1.runner) refl;
+        legal = nothing_replayed (begun, s.1.runner) (refl, begins.1);
         desk = begun;
-        at = ap (λ (x : Tenancy). slice_get x.desks place) begins.0 ∙ there;
+        at = ap (λ (x : Tenancy). slice_get x.desks place) begins.0.0 ∙ there;
         since = s.1.runner;
         taken = nothing_taken;
         others = no_step;
       }
   part names keep history s few there (one_replayed h t e u before told) =
-      after_answer names keep h t e u few told (stands starts looks takes firsts names keep h t before) (part names keep h t few there before)
+      after_answer names keep h t e u few told (stands starts looks takes firsts names keep h t (begins_more (named_answers starts looks takes) (λ x begins. begins.0) h t before)) (part names keep h t few there before)
 
-  pub plain_part : (names : List (List ℕ)) (keep : KeepLimits) (history : List HistoryEntry) (end : Tenancy × KeptRunner R) → length firsts ≤ 257 → slice_get firsts place ≡ Some begun → IsTenantHistory starts looks takes names firsts keep history end
-      → (s : Ledger × R) × Replays (answers_seen starts looks takes place keep) (λ x. x.0 ≡ begun) (sent_to names place history) s
-  plain_part names keep history end few there legal = let p = part names keep history end few there legal in ((p.first, p.from), p.legal)
+  -- the part begins with the same runner
+  pub plain_part_from : (names : List (List ℕ)) (keep : KeepLimits) (history : List HistoryEntry) (end : Tenancy × KeptRunner R) → length firsts ≤ 257 → slice_get firsts place ≡ Some begun → IsHistoryFrom names keep history end
+      → (s : Ledger × R) × Replays (answers_seen starts looks takes place keep) (λ x. (x.0 ≡ begun) × start x.1) (sent_to names place history) s
+  plain_part_from names keep history end few there legal = let p = part names keep history end few there legal in ((p.first, p.from), p.legal)
+
+pub plain_part : {R : Type 0} (starts : R → ℕ → AdmittedJob → Result (Unit {0}) ℕ → R → Type 0) (looks : R → ℕ → Progress → R → Type 0) (takes : R → Option (ℕ × Result Report ℕ) → R → Type 0) (place : ℕ) (firsts : List Ledger) (begun : Ledger)
+    (names : List (List ℕ)) (keep : KeepLimits) (history : List HistoryEntry) (end : Tenancy × KeptRunner R) → length firsts ≤ 257 → slice_get firsts place ≡ Some begun → IsTenantHistory starts looks takes names firsts keep history end
+    → (s : Ledger × R) × Replays (answers_seen starts looks takes place keep) (λ x. x.0 ≡ begun) (sent_to names place history) s
+plain_part {R} starts looks takes place firsts begun names keep history end few there legal =
+    let p = plain_part_from starts looks takes place firsts begun (λ _. Unit {0}) names keep history end few there (begins_more (named_answers starts looks takes) (λ x begins. (begins, tt)) history end legal) in
+    (p.0, begins_more (answers_seen starts looks takes place keep) (λ x begins. begins.0) (sent_to names place history) p.0 p.1)

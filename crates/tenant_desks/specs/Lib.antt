@@ -12,3 +12,4 @@ pub mod Answering
 pub mod KeyedHistories
 pub mod Alone
 pub mod Seen
+pub mod ToldGrants

@@ -16,9 +16,6 @@ use streams::PendingReply;
 // The number of the refusal of a door that has no desk here.
 const NO_TENANT: u8 = 74;
 
-// The number of the refusal of what is no request.
-const NO_REQUEST: u8 = 73;
-
 // The first number that there is from here on.
 #[tactic(auto, using(crate::proofs::ListedDesks::first_of_zero, crate::proofs::ListedDesks::first_of_some))]
 fn first_number(from: u64) -> u64

@@ -31,14 +31,6 @@ impl<H: Drop> OwnNaming<H> {
     {
         OwnNaming { handler }
     }
-
-    /// The handler.
-    pub fn into_handler(self) -> H
-        ensures { result ≡ self }
-    {
-        let OwnNaming { handler } = self;
-        handler
-    }
 }
 
 impl<H: SharedHandler<TenantDesks>> SharedHandler<TenantDesks> for OwnNaming<H> {

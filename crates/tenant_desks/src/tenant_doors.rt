@@ -36,14 +36,6 @@ impl<H: Drop> TenantDoors<H> {
     {
         TenantDoors { handler, keys }
     }
-
-    /// The handler.
-    pub fn into_handler(self) -> H
-        ensures { result ≡ self.handler }
-    {
-        let TenantDoors { handler, .. } = self;
-        handler
-    }
 }
 
 impl<H: SharedHandler<TenantDesks>> SharedHandler<TenantDesks> for TenantDoors<H> {

@@ -1,8 +1,10 @@
 //! What a log is told of grants at tenants' desks.
 
-ghost use Rattle.std.specs.Prelude.{◌≡◌, IfSome, Ok, string_bytes};
+ghost use Rattle.std.specs.Prelude.{◌≡◌, IfSome, Ok, Some, string_bytes};
 ghost use Rattle.sessions.specs.Grammar.{grant};
 ghost use Rattle.streams.specs.Prepared.{asked_of};
+ghost use Rattle.server_log.specs.declared.grant_note.GrantNote.{GrantNote};
+ghost use Rattle.tenant_desks.specs.ToldGrants.{IsToldGrant};
 
 use crate::desks::TenantDesks;
 use crate::routing::tenant_place;
@@ -33,7 +35,10 @@ pub fn noted_grant_among(
 
 /// What a log is told of a noted grant behind its answer: with the tenant's name where it has a desk of
 /// its own.
-pub fn granted_among(desks: &TenantDesks, note: Option<GrantNote>) -> Option<LogEvent> {
+pub fn granted_among(desks: &TenantDesks, note: Option<GrantNote>) -> Option<LogEvent>
+    ensures { IfSome result (λ event. (noted : GrantNote) × (note ≡ Some noted)
+        × IsToldGrant desks.now noted event) }
+{
     let note = note?;
     let place = tenant_place(&desks.names, note.tenant());
     note.event(&desks.desks[place], place > 0)

@@ -7,7 +7,7 @@ use Rattle.server_log.proofs.counting_handler.CountingHandlerSharedHandler.answe
 pub returns-clause-err : goal.returns-clause-err
 returns-clause-err g c =
     let is : asks_server c.args.beyond ≡ true = search rules in
-    let inner = c.answer_by-2 in
+    let inner = c.answer_by in
     rw (← c.self.view_is)
     (server_err g.H.SharedHandler.answers (c.args.desk.now, c.self.inside.handler) (inner.new.desk, inner.new.self) (record { passage = c.args.passage; asked = asked_of c.args.request; beyond = c.args.beyond })
     inner.result c.totals_reply.result is inner.ensures.ok inner.ensures.err)
