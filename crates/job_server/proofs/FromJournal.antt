@@ -34,13 +34,13 @@ use Rattle.job_server.proofs.StandsFor.{AllStand, over_open}
 use Rattle.job_server.proofs.StaysOver.{results_stay}
 
 -- the jobs of the recovered desk keep their places
-first_known : (first : List KnownJob) (history : List HistoryEntry) (known : List KnownJob) → AreKnown first history known → (i : ℕ) (job : KnownJob) → slice_get first i ≡ Some job → slice_get known i ≡ Some job
+pub first_known : (first : List KnownJob) (history : List HistoryEntry) (known : List KnownJob) → AreKnown first history known → (i : ℕ) (job : KnownJob) → slice_get first i ≡ Some job → slice_get known i ≡ Some job
 first_known first _ _ none_yet i job at = at
 first_known first _ _ (no_more history known e before no_job) i job at = first_known first history known before i job at
 first_known first _ _ (one_more history known e new before is_submit) i job at = get_before known (Itself new ∷ []) i job (first_known first history known before i job at)
 
 -- what is known of an open job is the job itself
-known_open : (state : DeskState) (changes : List (List ℕ)) (first : List KnownJob) → AreHeldOpen changes state → AreRecovered state first → (number : ℕ) (job : AdmittedJob) → open_job_at number state.held ≡ Some job
+pub known_open : (state : DeskState) (changes : List (List ℕ)) (first : List KnownJob) → AreHeldOpen changes state → AreRecovered state first → (number : ℕ) (job : AdmittedJob) → open_job_at number state.held ≡ Some job
     → slice_get first (number - 1) ≡ Some (Itself job)
 known_open state changes first sound recovered number job held =
     let h = sound.opened number job held in
@@ -64,7 +64,7 @@ module _ (keep : KeepLimits) (changes : List (List ℕ)) (known : List KnownJob)
       by : ◌≡◌ {A = Option KnownJob} (Some (Itself j)) (Some (Itself job)) → j ≡ job
       by same = cc
 
-  by_result : (told : Data) → IsResultKnown keep known number told → HasReply e told → ComesFromJournal changes number e
+  pub by_result : (told : Data) → IsResultKnown keep known number told → HasReply e told → ComesFromJournal changes number e
   by_result _ (reported j report there run) tells = record {
     job = job;
     from = from;
@@ -92,7 +92,7 @@ module _ {Q : Type 0} (taken : Q → List ℕ) (told : Q → Type 0) (changes : 
 
   begun_stands : (history : List HistoryEntry) (h : IsRecoveredHistory taken told state bounds history) (s : RecordedHosted Q) → s ≡ h.begun → (s.1.keep ≡ bounds.keep) × AllStand bounds.keep first.0 s.0.jobs (pooled_job s.1.runner)
   begun_stands history h s is =
-      let stand = restarted_stand changes state sound bounds.keep first.0 first.1 starts_by looks_by takes_by pooled_job (limited_holds pooled_at pooled_count) (record { runner = h.first; limit = bounds.open_jobs }) h.begun.0 h.begun.1.runner h.restarted.started in (
+      let stand = restarted_stand changes state sound bounds.keep first.0 first.1 starts_by looks_by takes_by pooled_job (limited_holds pooled_at pooled_count) state.desk refl (record { runner = h.first; limit = bounds.open_jobs }) h.begun.0 h.begun.1.runner h.restarted.started in (
         ap (λ (x : RecordedHosted Q). x.1.keep) is ∙ h.restarted.kept,
         subst (λ (x : RecordedHosted Q). AllStand bounds.keep first.0 x.0.jobs (pooled_job x.1.runner)) (sym is) stand,
       )

@@ -23,7 +23,8 @@ use Rattle.job_server.specs.Payloads.{IsEntryOf, ComesFromPayload}
 use Rattle.job_server.specs.AtOnce.{Pool, Hosted, hosted_answers, new_host, IsServing}
 use Rattle.job_server.specs.EndToEnd.{AreTaken, submit_of, none_yet, one_more, no_more, taken_at, IsSubmit, IsResultOf, reported, failed, not_over, forgotten, unknown, IsToldResult, IsResultFrame, ComesFromSubmit, IsHostHistory, AsksForJob, StaysTold, IsToldRefusal, HasReply}
 use Rattle.streams.specs.Answering.{refused}
-use Rattle.job_server.proofs.ListEnds.{get_pushed, joined_again}
+use Rattle.desk_journal.proofs.OpenLemmas.{get_pushed}
+use Rattle.job_server.proofs.ListEnds.{joined_again}
 use Rattle.job_server.proofs.HistoryStands.{history_stands, history_tells, none_stand}
 use Rattle.job_server.proofs.HostAnswers.{keeping_host}
 use Rattle.job_server.proofs.KnownJobs.{as_taken, as_told, taken_is}

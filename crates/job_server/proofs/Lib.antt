@@ -29,3 +29,5 @@ pub mod ByJournal
 pub mod Restarting
 pub mod TenantRestarting
 pub mod TenantRecordedAlike
+pub mod TenantsRestarted
+pub mod TenantsFromJournal

@@ -4,16 +4,6 @@ use Rattle.std.proofs.Common.{◌≡◌, ◌≢◌, ◌⊎◌, ◌+◌, ◌<◌,
 some_same : {X : Type 0} (x y : X) → Some x ≡ Some y → x ≡ y
 some_same x y same = cc
 
-pub get_pushed : {X : Type 0} (xs : List X) (x : X) (i : ℕ) (y : X) → slice_get (xs ++ x ∷ []) i ≡ Some y → (slice_get xs i ≡ Some y) ⊎ ((i ≡ length xs) × (x ≡ y))
-get_pushed [] x zero y at = inr (refl, some_same x y at)
-get_pushed [] x (suc i) y at = cc
-get_pushed (z ∷ xs) x zero y at = inl at
-get_pushed (z ∷ xs) x (suc i) y at = later (get_pushed xs x i y at)
-  where
-    later : (slice_get xs i ≡ Some y) ⊎ ((i ≡ length xs) × (x ≡ y)) → (slice_get xs i ≡ Some y) ⊎ ((suc i ≡ suc (length xs)) × (x ≡ y))
-    later (inl was) = inl was
-    later (inr t) = inr (ap suc t.0, t.1)
-
 pub length_pushed : {X : Type 0} (xs : List X) (x : X) → length (xs ++ x ∷ []) ≡ length xs + 1
 length_pushed [] x = refl
 length_pushed (y ∷ xs) x = let later = length_pushed xs x in omega (arith, later)
@@ -33,11 +23,6 @@ get_set (z ∷ xs) (suc i) x (suc j) y at = later (get_set xs i x j y at)
     later : ((j ≡ i) × (x ≡ y)) ⊎ ((j ≢ i) × (slice_get xs j ≡ Some y)) → ((suc j ≡ suc i) × (x ≡ y)) ⊎ ((suc j ≢ suc i) × (slice_get xs j ≡ Some y))
     later (inl t) = inl (ap suc t.0, t.1)
     later (inr t) = inr ((λ same. t.0 (omega (arith, same))), t.1)
-
-pub length_set : {X : Type 0} (xs : List X) (i : ℕ) (x : X) → length (slice_set xs i x) ≡ length xs
-length_set [] i x = refl
-length_set (y ∷ xs) zero x = refl
-length_set (y ∷ xs) (suc i) x = let later = length_set xs i x in omega (arith, later)
 
 pub get_joined : {X : Type 0} (xs ys : List X) (i : ℕ) (y : X) → slice_get (xs ++ ys) i ≡ Some y → ((i < length xs) × (slice_get xs i ≡ Some y)) ⊎ ((j : ℕ) × (i ≡ length xs + j) × (slice_get ys j ≡ Some y))
 get_joined [] ys i y at = inr (i, omega arith, at)

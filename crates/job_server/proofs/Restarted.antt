@@ -145,5 +145,6 @@ module _ (changes : List (List ℕ)) (state : DeskState) (sound : AreHeldOpen ch
           by_held n (Some there) is number job credit standing stands =
               subst (λ (h : Option AdmittedJob). StandsFor h keep (length first) number job credit standing) (ap (λ (o : Option AdmittedJob). by_job o r n) is) stands
 
-      pub restarted_stand : (runner : R) (d : Ledger) (r : R) → StartsEach starts state.desk runner state.held d r → AllStand keep first d.jobs (held r)
-      restarted_stand runner d r each = all_started d r (after_starts state.desk runner state.held [] (sym (append-nil state.held)) d r first_stand each)
+      pub restarted_stand : (desk : Ledger) → desk.jobs ≡ state.desk.jobs → (runner : R) (d : Ledger) (r : R) → StartsEach starts desk runner state.held d r → AllStand keep first d.jobs (held r)
+      restarted_stand desk same runner d r each =
+          all_started d r (after_starts desk runner state.held [] (sym (append-nil state.held)) d r (subst (λ (es : List JobEntry). AllStand keep first es to_start) (sym same) first_stand) each)

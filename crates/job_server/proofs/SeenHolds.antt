@@ -26,7 +26,7 @@ module _ {R : Type 0} (starts : R → ℕ → AdmittedJob → Result (Unit {0}) 
   abbrev pub held_seen : R → ℕ → Option AdmittedJob
   held_seen r m = held r (placed m place)
 
-  apart_from : (m n k : ℕ) → k ≢ place → k < 1000 → placed m place ≢ placed n k
+  pub apart_from : (m n k : ℕ) → k ≢ place → k < 1000 → placed m place ≢ placed n k
   apart_from m n k apart other same = apart (sym (one_number m n place k small other same).1)
 
   apart_own : (m n : ℕ) → m ≢ n → placed m place ≢ placed n place

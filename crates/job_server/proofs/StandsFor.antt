@@ -19,7 +19,8 @@ use Rattle.streams.specs.Passing.{Notes}
 use Rattle.job_pools.specs.Endings.{IsRun, IsEndOf}
 use Rattle.job_server.specs.AfterRestart.{KnownJob, Itself, Over, over_standing}
 use Rattle.job_server.specs.EndToEnd.{FailsBy, MayBeForgotten}
-use Rattle.job_server.proofs.ListEnds.{get_pushed, length_pushed, get_set, length_set, within_get}
+use Rattle.desk_journal.proofs.OpenLemmas.{get_pushed, length_set}
+use Rattle.job_server.proofs.ListEnds.{length_pushed, get_set, within_get}
 
 -- The standing of a job of this credit says what became of the job that is known under the number.
 abbrev pub StandsFor : Option AdmittedJob → KeepLimits → ℕ → ℕ → KnownJob → ℕ → JobStanding → Type 0

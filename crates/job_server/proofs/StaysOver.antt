@@ -13,6 +13,7 @@ use Rattle.job_core.specs.Admitted.{AdmittedJob}
 use Rattle.accounts.specs.Jobs.{job_at, is_open, report_of, settled}
 use Rattle.accounts.specs.Ledgers.{Ledger, Finishes, report_at, report_in, KeepsWithin}
 use Rattle.accounts.specs.Forgetting.{ForgetsJobs}
+use Rattle.accounts.proofs.Listed.{get_set_apart}
 use Rattle.sessions.specs.Grammar.{Asked, grant, account, submit, status, result}
 use Rattle.streams.specs.Passing.{Taken, none_yet as none_taken, one_more as one_taken, Notes}
 use Rattle.streams.specs.Answering.{Replies, Grants, GrantsNone, Settles, Submits, report_told, refused}
@@ -51,13 +52,6 @@ stay_on a b c first second i entry at over = by_first (first i entry at over)
 stay_pushed : (old : List JobEntry) (entry : JobEntry) → StayOver old (old ++ entry ∷ [])
 stay_pushed old entry i x at over = (x, get_before old (entry ∷ []) i x at, inl refl)
 
-get_set_other : {X : Type 0} (xs : List X) (i j : ℕ) (y : X) → j ≢ i → slice_get (slice_set xs i y) j ≡ slice_get xs j
-get_set_other [] i j y apart = refl
-get_set_other (x ∷ xs) zero zero y apart = absurd (apart refl)
-get_set_other (x ∷ xs) zero (suc j) y apart = refl
-get_set_other (x ∷ xs) (suc i) zero y apart = refl
-get_set_other (x ∷ xs) (suc i) (suc j) y apart = get_set_other xs i j y (λ same. apart (ap suc same))
-
 -- an open job ends
 stay_finished : (old : Ledger) (number : ℕ) (outcome : Result Report ℕ) (new : Ledger) → Finishes old number outcome new → StayOver old.jobs new.jobs
 stay_finished old number outcome new f i entry at over = by_place (cases_eq i (number - 1))
@@ -69,7 +63,7 @@ stay_finished old number outcome new f i entry at over = by_place (cases_eq i (n
         let clash : false ≡ true = sym over ∙ ap (λ (e : JobEntry). is_open e.standing) is ∙ ap is_open f.opened in
         absurd (true≢false (sym clash))
     by_place (inr apart) =
-        (entry, ap (λ es. slice_get es i) f.jobs.jobs ∙ get_set_other old.jobs (number - 1) i (record f.entry { standing = settled f.entry.credit outcome }) apart ∙ at, inl refl)
+        (entry, ap (λ es. slice_get es i) f.jobs.jobs ∙ get_set_apart old.jobs (number - 1) i (record f.entry { standing = settled f.entry.credit outcome }) apart ∙ at, inl refl)
 
 stay_noted : (old : Ledger) (number : ℕ) (outcome : Result Report ℕ) (new : Ledger) → Notes old number outcome new → StayOver old.jobs new.jobs
 stay_noted old number outcome new (inl f) = stay_finished old number outcome new f

@@ -14,3 +14,4 @@ pub mod ReplyJournals
 pub mod TenantRecorded
 pub mod Recorded
 pub mod AfterRestart
+pub mod TenantsAfterRestart

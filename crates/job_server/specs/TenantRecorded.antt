@@ -13,7 +13,7 @@ use Rattle.tenant_desks.specs.Tenancies.{Tenancy}
 use Rattle.tenant_recorder.specs.Recorders.{AreRecorded}
 use Rattle.tenant_recorder.specs.TenantCredits.{AreCredited}
 use Rattle.tenant_recorder.specs.TenantRestarts.{RestartsEach}
-use Rattle.tenant_recorder.specs.TenantsRecorded.{AreInStep, RecordedRunner, door_answers_recorded}
+use Rattle.tenant_recorder.specs.TenantsRecorded.{AreInStep, RecordedRunner, door_answers_recorded, tenant_answers_recorded}
 use Rattle.job_pools.specs.Holds.{StartsBy, TellsBy, TakesBy}
 use Rattle.job_pools.specs.Started.{pooled_at, pooled_count}
 use Rattle.job_pools.specs.Bounded.{looks_within, starts_within, takes_within}
@@ -75,6 +75,16 @@ abbrev pub hosted_answers_recorded : {Q : Type 0} → (Q → List ℕ) → (Q �
     → RecordedTenantHosted Q → Query → List ℕ → RecordedTenantHosted Q → Type 0
 hosted_answers_recorded taken failed =
     door_answers_recorded
+    (starts_by_line (starts_within pooled_count (StartsBy pooled_at pooled_count)))
+    (looks_by_line (looks_within (TellsBy pooled_at pooled_count)))
+    (takes_by_line (takes_within (TakesBy pooled_at pooled_count))) taken failed
+
+-- the same without the doors' own forms: a tenant's name may be left out at its own door
+abbrev pub hosted_tenants_recorded : {Q : Type 0} → (Q → List ℕ) → (Q → Type 0)
+    → Tenancy × RecordedRunner (LineLimitedRunner (LimitedRunner Pool)) Q → Query → List ℕ
+    → Tenancy × RecordedRunner (LineLimitedRunner (LimitedRunner Pool)) Q → Type 0
+hosted_tenants_recorded taken failed =
+    tenant_answers_recorded
     (starts_by_line (starts_within pooled_count (StartsBy pooled_at pooled_count)))
     (looks_by_line (looks_within (TellsBy pooled_at pooled_count)))
     (takes_by_line (takes_within (TakesBy pooled_at pooled_count))) taken failed

@@ -33,8 +33,9 @@ use streams::{StreamFault, Tap};
 /// The fault where there is no memory.
 pub(crate) const NO_MEMORY: ServeFault = ServeFault::Connection(StreamFault::NoMemory);
 
-// Serves a connection that was taken, whose replies rest on these journals, committed ahead of each
-// or at intervals. Gives its two ends, and whether a reply was refused since a journal has failed.
+// Serves a connection of this number that was taken, whose replies rest on these journals, committed
+// ahead of each or at intervals. Gives its two ends, and whether a reply was refused since a journal
+// has failed.
 fn answer_connection<'s, R: Wait + Clock, D, H: SharedHandler<D>, J: Origin<D, H>>(
     rt: &'s R,
     alloc: Global,
@@ -42,6 +43,7 @@ fn answer_connection<'s, R: Wait + Clock, D, H: SharedHandler<D>, J: Origin<D, H
     lock: &Mutex<SharedDesk<D, H, J>>,
     seat: ClientSeat<J>,
     passage: Passage,
+    connection: u64,
     stream: &'s TcpStream,
     waiting: Waiting<'s>,
     journals: &'s [SharedJournal],
@@ -65,6 +67,7 @@ fn answer_connection<'s, R: Wait + Clock, D, H: SharedHandler<D>, J: Origin<D, H
         lock,
         seat,
         passage,
+        connection,
         &mut reader,
         &mut writer,
     );
@@ -127,7 +130,7 @@ fn take_turns<
         let begun = tell_opened(rt, log, connection, passage);
         let own = journals_behind(journals, passage);
         let (reader, writer, is_refused) = answer_connection(
-            rt, alloc, history, lock, seat, passage, &stream, waiting, own, sync,
+            rt, alloc, history, lock, seat, passage, connection, &stream, waiting, own, sync,
         );
         raise_if(waiting.stop, is_refused);
         leave(shares, passage.door);

@@ -59,7 +59,9 @@ mod tenant_laws;
 pub use laws::{
     numbers_rise, payloads_lead_to_payloads, results_come_from_submits, results_outlive_restarts,
 };
-pub use tenant_laws::{payloads_lead_to_own_payloads, results_come_from_own_submits};
+pub use tenant_laws::{
+    own_results_outlive_restarts, payloads_lead_to_own_payloads, results_come_from_own_submits,
+};
 
 // the same by sockets in the file system
 mod local_listener;

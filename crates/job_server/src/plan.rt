@@ -24,7 +24,8 @@ pub struct Plan<'a> {
     /// No further connection is taken once this is raised. Each that was taken is over once all that
     /// was read of it is answered.
     pub stop: Option<&'a StopFlag>,
-    /// The log that is told of each connection and each job, and counts them. Nothing waits for it.
+    /// The log that is told of each connection, job, grant and refusal, and counts them. Nothing waits
+    /// for it.
     pub log: &'a ServerLog,
     /// The journals of its desks' changes: none, or one for each desk, first that of everybody else,
     /// and behind it one for each tenant, in order. A reply goes out once the journals were committed
