@@ -22,6 +22,7 @@ pub enum FileFault {
     NotAChange { at: usize },
     NotAllowed { at: usize },
     NotCut,
+    NotReplaced,
 }
 
 impl From<io::Error> for FileFault {
@@ -50,6 +51,9 @@ fn tell_fault<R: Eprint>(rt: &R, path: &str, fault: FileFault) {
             "bpfjobs: {path}: damaged at byte {at}: the record there doesn't follow from those ahead"
         ),
         FileFault::NotCut => eprintln!(rt; "bpfjobs: {path}: it can't be cut, or not be synced"),
+        FileFault::NotReplaced => eprintln!(rt;
+            "bpfjobs: {path}: it isn't known whether a snapshot has its name: start again"
+        ),
     };
 }
 

@@ -2,25 +2,28 @@
 
 ghost use Rattle.std.specs.Prelude.{◌≡◌, ◌+◌, ℕ, List, [], IfOk, IfSome, length, take};
 ghost use Rattle.std.specs.Arc.{arc_value};
-ghost use Rattle.journal.specs.Records.{DecodesTo, journal_of};
+ghost use Rattle.journal.specs.Records.{DecodesTo};
 ghost use Rattle.journal_file.specs.FileLogs.{file_state};
+ghost use Rattle.journal_file.specs.Shortening.{GoesOnBehind};
 ghost use Rattle.shared_journal.specs.Places.{AreAtTheirPlaces};
 ghost use Rattle.recovery.specs.Histories.{IsAfter};
+ghost use Rattle.desk_journal.specs.AlikeDesks.{AreDesksAlike};
 ghost use Rattle.desk_journal.specs.DeskSteps.{IsNewDesk, MakesBytes};
+ghost use Rattle.compaction.specs.Snapshots.{LeadsToHistory};
 
+use crate::journal_compacting::compacted;
 use crate::journal_faults::{FileFault, SEARCH_BUDGET, fault_of, refused};
 use bpfjobs_cli::{Serve, journal_paths};
 use desk_journal::{JournaledDesk, open_desk_journal};
-use journal_file::FileLog;
+use journal_file::{FileLog, folder_of};
 use recovery::Recovered;
 use shared_journal::SharedJournal;
 use std::alloc::Global;
 use std::fs::{File, Files, TryLockError};
-use std::io;
 use std::io::Read;
-use std::os::unix::fs::OpenOptionsExt;
-use std::path::Path;
+use std::os::unix::fs::{MetadataExt, OpenOptionsExt};
 use std::sync::Arc;
+use std::{fs, io};
 
 // The permissions of a new journal, which has what tenants submitted: its owner alone reads it.
 const OF_OWNER: u32 = 0o600;
@@ -51,24 +54,26 @@ fn locked_file<R: Files<File = File>>(rt: &R, path: &str) -> Result<File, FileFa
         .create(true)
         .mode(OF_OWNER)
         .open(rt, path)?;
-    if !file.metadata()?.is_file() {
+    let opened = file.metadata()?;
+    if !opened.is_file() {
         return Err(FileFault::NoRegularFile);
     }
     match file.try_lock() {
-        Ok(()) => Ok(file),
-        Err(TryLockError::WouldBlock) => Err(FileFault::InUse),
-        Err(TryLockError::Error(error)) => Err(FileFault::System(error)),
+        Ok(()) => {}
+        Err(TryLockError::WouldBlock) => return Err(FileFault::InUse),
+        Err(TryLockError::Error(error)) => return Err(FileFault::System(error)),
     }
+    // Another server may have put a snapshot in the file's place ahead of the lock.
+    let named = fs::metadata(rt, path)?;
+    if (opened.dev(), opened.ino()) != (named.dev(), named.ino()) {
+        return Err(FileFault::InUse);
+    }
+    Ok(file)
 }
 
 // Syncs the folder of a file, so that the file's name is on the disk.
 fn sync_name<R: Files<File = File>>(rt: &R, path: &str) -> io::Result<()> {
-    let folder = match Path::new(path).parent() {
-        Some(folder) => folder.as_str(),
-        None => "/",
-    };
-    let folder = if folder.is_empty() { "." } else { folder };
-    File::open(rt, folder)?.sync_all()
+    File::open(rt, folder_of(path))?.sync_all()
 }
 
 // The bytes ahead of this place, and those behind it, if there are any.
@@ -82,17 +87,19 @@ fn parts_at(bytes: &[u8], place: usize) -> (&[u8], &[u8])
 }
 
 // The desk that a file's records lead to, and a log that goes on right behind them: what stands
-// there is cut off.
-fn replayed<R: Eprint>(
+// there is cut off. Where a snapshot of the desk is much shorter, the log is that instead.
+fn replayed<R: Files<File = File> + Eprint>(
     rt: &R,
     alloc: Global,
     path: &str,
     file: File,
     bytes: &[u8],
 ) -> Result<(FileLog, JournaledDesk), FileFault>
-    ensures { IfOk result (λ opened. (payloads : List (List ℕ)) × (tail : List ℕ)
-        × DecodesTo bytes.now payloads tail × IsAfter IsNewDesk MakesBytes payloads opened.1
-        × (file_state opened.0 ≡ record { durable = journal_of payloads; pending = [] })) }
+    ensures leads { IfOk result (λ opened. (history : List (List ℕ)) × (tail : List ℕ)
+        × DecodesTo bytes.now history tail × IsAfter IsNewDesk MakesBytes history opened.1
+        × GoesOnBehind (λ durable. LeadsToHistory IsNewDesk MakesBytes AreDesksAlike durable
+        history opened.1) opened.0) }
+    ensures nothing_waits { IfOk result (λ opened. (file_state opened.0).pending ≡ []) }
 {
     let Recovered { machine, len } = match open_desk_journal(alloc, bytes, SEARCH_BUDGET) {
         Ok(recovered) => recovered,
@@ -103,10 +110,11 @@ fn replayed<R: Eprint>(
         let cut = torn.len();
         let _ = eprintln!(rt; "bpfjobs: {path}: cut off {cut} bytes of a torn record");
     }
-    match FileLog::open(alloc, file, whole) {
-        Ok(log) => Ok((log, machine)),
-        Err(_) => Err(FileFault::NotCut),
-    }
+    let Ok(log) = FileLog::open(alloc, file, whole) else {
+        return Err(FileFault::NotCut);
+    };
+    let log = compacted(rt, alloc, path, log, &machine, whole)?;
+    Ok((log, machine))
 }
 
 // The same from the file's path, for the desk at a place.

@@ -6,6 +6,7 @@ ghost use Rattle.bpfjobs_cli.specs.Commands.{IsInRange};
 ghost use Rattle.bpfjobs_cli.specs.Performing.{NeedsNoThread};
 ghost use Rattle.std.specs.Prelude.{◌≤◌};
 
+mod journal_compacting;
 mod journal_faults;
 mod journal_opening;
 mod journal_reading;

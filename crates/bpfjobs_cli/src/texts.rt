@@ -102,9 +102,10 @@ With --journal FILE each change of the desk is a record of FILE, which is made w
 reply is sent once the records of what it tells are on the disk. A server that starts with FILE goes
 on from its records: with their accounts, reports and numbers, and the jobs that were open begin
 anew. A torn record at the end is cut off; FILE is not used where it is damaged, or another server
-has it (3). FILE only grows. With tenants FILE is that of everybody else, and FILE.NAME that of the
-tenant NAME. With --journal-sync interval no reply waits for the disk: what was told in about the last
-second may be gone after a kill or a crash, and a later server goes on from what came before it.
+has it (3). At a start a snapshot takes FILE's place where it is at most half as long. With tenants
+FILE is that of everybody else, and FILE.NAME that of the tenant NAME. With --journal-sync interval
+no reply waits for the disk: what was told in about the last second may be gone after a kill or a
+crash, and a later server goes on from what came before it.
 Status: 0 once so many connections have ended, 3 where one of them, a socket or the journal failed.
 
 Example:

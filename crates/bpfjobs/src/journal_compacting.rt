@@ -1,0 +1,64 @@
+//! A journal at a start, in whose place a snapshot of its desk comes where that is much shorter.
+
+ghost use Rattle.std.specs.Prelude.{◌≡◌, ℕ, List, [], IfOk};
+ghost use Rattle.compaction.specs.Snapshots.{LeadsToHistory};
+ghost use Rattle.desk_journal.specs.AlikeDesks.{AreDesksAlike};
+ghost use Rattle.desk_journal.specs.DeskSteps.{IsNewDesk, MakesBytes};
+ghost use Rattle.journal.specs.Records.{AllFitRecords, journal_of};
+ghost use Rattle.journal_file.specs.FileLogs.{file_state};
+ghost use Rattle.journal_file.specs.Shortening.{GoesOnBehind};
+ghost use Rattle.recovery.specs.Histories.{IsAfter};
+
+use crate::journal_faults::FileFault;
+use desk_journal::JournaledDesk;
+use journal_file::{FileLog, KeptBy, Shortened, shorten};
+use std::alloc::Global;
+use std::fs::{File, Files};
+
+// Tells why a snapshot didn't take a journal's place.
+fn tell_kept<R: Eprint>(rt: &R, path: &str, why: KeptBy) {
+    let _ = match why {
+        KeptBy::NoMemory => eprintln!(rt;
+            "bpfjobs: {path}: not compacted: no memory for a snapshot"
+        ),
+        KeptBy::TooLarge => eprintln!(rt; "bpfjobs: {path}: not compacted: a record is too large"),
+        KeptBy::NotMade(error) => eprintln!(rt; "bpfjobs: {path}: not compacted: {error}"),
+        KeptBy::NotWritten => eprintln!(rt;
+            "bpfjobs: {path}: not compacted: a snapshot can't be written"
+        ),
+    };
+}
+
+/// The log that a desk's journal goes on with, which was this one over the file of this path. Where a
+/// snapshot of the desk has at most half as many bytes as the journal, it takes the file's place, which
+/// a line tells. Else, and where it can't, the log is the one that there was.
+///
+/// Refused where it isn't known which file has the path. Each leads to this desk.
+pub fn compacted<R: Files<File = File> + Eprint>(
+    rt: &R,
+    alloc: Global,
+    path: &str,
+    log: FileLog,
+    desk: &JournaledDesk,
+    journal: &[u8],
+) -> Result<FileLog, FileFault>
+    ensures { (history : List (List ℕ)) → AllFitRecords history
+        → IsAfter IsNewDesk MakesBytes history desk.now → journal.now ≡ journal_of history
+        → file_state log ≡ record { durable = journal.now; pending = [] }
+        → IfOk result (GoesOnBehind (λ bytes.
+        LeadsToHistory IsNewDesk MakesBytes AreDesksAlike bytes history desk.now)) }
+{
+    match shorten(rt, alloc, path, log, desk, journal) {
+        Shortened::NotNeeded(log) => Ok(log),
+        Shortened::Replaced(log, new) => {
+            let old = journal.len();
+            let _ = eprintln!(rt; "bpfjobs: {path}: compacted from {old} to {new} bytes");
+            Ok(log)
+        }
+        Shortened::Kept(log, why) => {
+            tell_kept(rt, path, why);
+            Ok(log)
+        }
+        Shortened::Unknown => Err(FileFault::NotReplaced),
+    }
+}
