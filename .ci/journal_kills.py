@@ -1,7 +1,7 @@
 #!/usr/bin/env python3
 """Kills a server with a journal at random moments under load, and looks each time for all that it told.
 
-    .ci/journal_kills.py [--kills N] [--clients N] [--workers N] [--longest S] [--seed N] [--folder PATH]
+    .ci/journal_kills.py [--kills N] [--clients N] [--workers N] [--longest S] [--seed N] [--keep N] [--folder PATH]
     folder=$(./try kept bpfjobs library); BPFJOBS=$folder/bpfjobs TELGOVAN_LIB=$folder .ci/journal_kills.py
 
 It starts `bpfjobs serve --journal` with a socket and a journal in a new folder, has so many tenants grant,
@@ -37,6 +37,7 @@ def words():
     parser.add_argument("--workers", type=int, default=4)
     parser.add_argument("--longest", type=float, default=0.5)
     parser.add_argument("--seed", type=int, default=1)
+    parser.add_argument("--keep", type=int, default=0, help="how many reports the server keeps; 0: all")
     parser.add_argument("--folder", help="the folder for the journal, on the file system that is meant")
     return parser.parse_args()
 
@@ -45,14 +46,14 @@ def tell(load, began):
     jobs = sum(len(tenant.jobs) for tenant in load.tenants)
     size = os.path.getsize(load.server.journal)
     print(f"journal_kills: {load.kills} kills, {load.told} replies, {jobs} jobs ({load.found} of them recorded and not told), "
-          f"{load.torn} torn tails, {size} bytes, {time.monotonic() - began:.0f} s", flush=True)
+          f"{load.torn} torn tails, {load.compactions} compactions, {size} bytes, {time.monotonic() - began:.0f} s", flush=True)
 
 
 def main():
     given = words()
     began = time.monotonic()
     with tempfile.TemporaryDirectory(dir=given.folder) as folder:
-        load = Load(folder, given.seed, good_jobs(assemble, given.seed, 40), given.clients, given.workers)
+        load = Load(folder, given.seed, good_jobs(assemble, given.seed, 40), given.clients, given.workers, given.keep)
         try:
             number = 0
             while load.kills < given.kills and not load.wrong:

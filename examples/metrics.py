@@ -33,16 +33,17 @@ HELP = {
     "telgovan_connections_opened_total": "counter, Connections that were taken, by socket.",
     "telgovan_connections_closed_total": "counter, Connections that are over, by their end and its code.",
     "telgovan_requests_total": "counter, Whole frames of connections that are over.",
+    "telgovan_requests_refused_total": "counter, Requests that were refused, by code, but those for a job that is open.",
     "telgovan_jobs": "gauge, Jobs that workers run.",
     "telgovan_jobs_started_total": "counter, Jobs that a worker began with.",
     "telgovan_jobs_ended_total": "counter, Jobs that came to a report.",
     "telgovan_jobs_failed_total": "counter, Jobs that were taken and failed, by code.",
-    "telgovan_jobs_refused_total": "counter, Jobs that weren't taken, by code.",
     "telgovan_credit_granted_total": "counter, Credit that tenants were granted by requests.",
     "telgovan_credit_spent_total": "counter, Credit that jobs spent.",
     "telgovan_credit_returned_total": "counter, Credit that jobs gave back.",
     "telgovan_tasks_total": "counter, Tasks of jobs that are over.",
     "telgovan_job_seconds": "histogram, How long jobs ran.",
+    "telgovan_job_wait_seconds": "histogram, How long jobs waited for a worker.",
     "telgovan_log_lines_lost_total": "counter, Lines that the server dropped, since nobody read them in time.",
     "telgovan_log_lines_unknown_total": "counter, Lines that aren't a log's.",
     # what the server itself tells
@@ -56,7 +57,7 @@ HELP = {
     "telgovan_server_jobs_total": "counter, Jobs that the server has taken.",
     "telgovan_server_jobs_over_total": "counter, Jobs that came to a report, by the server.",
     "telgovan_server_jobs_failed_total": "counter, Jobs that were taken and failed, by the server.",
-    "telgovan_server_refusals_total": "counter, Jobs and connections that were refused, by code.",
+    "telgovan_server_refusals_total": "counter, Requests, jobs and connections that were refused, by code.",
     "telgovan_server_log_lines_lost_total": "counter, Lines of its log that the server dropped.",
 }
 
@@ -114,6 +115,14 @@ class Metrics:
         series, key = self.values[name], tuple(labels.items())
         series[key] = series.get(key, 0) + value
 
+    def observe(self, name, milliseconds):
+        """Counts a time in a histogram."""
+        self.add(f"{name}_sum", milliseconds / 1000)
+        self.add(f"{name}_count", 1)
+        for bucket in BUCKETS:
+            self.add(f"{name}_bucket", int(milliseconds <= bucket), le=number_text(bucket / 1000))
+        self.add(f"{name}_bucket", 1, le="+Inf")
+
     def of(self, job):
         """The label of a job's tenant, where the tenants are known."""
         if self.names is None:
@@ -155,6 +164,7 @@ class Metrics:
     def on_started(self, told):
         self.running.add(told["job"])
         self.add("telgovan_jobs_started_total", 1, **self.of(told["job"]))
+        self.observe("telgovan_job_wait_seconds", told["wait"])
 
     def on_ended(self, told):
         labels = self.of(told["job"])
@@ -163,11 +173,7 @@ class Metrics:
         self.add("telgovan_credit_spent_total", told["spent"], **labels)
         self.add("telgovan_credit_returned_total", told["returned"], **labels)
         self.add("telgovan_tasks_total", told["tasks"], **labels)
-        self.add("telgovan_job_seconds_sum", told["ms"] / 1000)
-        self.add("telgovan_job_seconds_count", 1)
-        for bucket in BUCKETS:
-            self.add("telgovan_job_seconds_bucket", int(told["ms"] <= bucket), le=number_text(bucket / 1000))
-        self.add("telgovan_job_seconds_bucket", 1, le="+Inf")
+        self.observe("telgovan_job_seconds", told["ms"])
 
     def on_failed(self, told):
         self.running.discard(told["job"])
@@ -178,7 +184,7 @@ class Metrics:
         self.add("telgovan_credit_granted_total", told["amount"], **labels)
 
     def on_refused(self, told):
-        self.add("telgovan_jobs_refused_total", 1, code=told["code"])
+        self.add("telgovan_requests_refused_total", 1, code=told["code"])
 
     def ask(self):
         """Takes what the server counts, or that it doesn't tell it."""

@@ -7,11 +7,17 @@ import random
 import threading
 import time
 
-from journals import Book, Keeper, book_of, change_of, payloads_of, read
+from journals import Book, Keeper, book_of_changes, change_of, payloads_of
 from trees import Planter, comparable
 
 # How many results are asked for at once.
 AT_ONCE = 100
+
+# How many requests a tenant sends at once.
+MOST_ASKED = 4
+
+# The digest of a result that a server has forgotten.
+FORGOTTEN = b"forgotten"
 
 
 class Good:
@@ -47,7 +53,7 @@ class Tenant:
     def visit(self, client):
         """Requests until the server is gone."""
         while True:
-            requests = [self.random.choice(self.ACTS)(self) for _ in range(self.random.choice((1, 1, 1, 4)))]
+            requests = [self.random.choice(self.ACTS)(self) for _ in range(self.random.choice((1, 1, 1, MOST_ASKED)))]
             self.asked = list(requests)
             client.stream.sendall(b"".join(framed({**request, "tenant": self.name}) for request, _ in requests))
             for request, good in requests:
@@ -110,8 +116,12 @@ class Tenant:
         if reply.get("code") == 77:
             self.expect(number not in self.results, f"job {number} is open again")
             return
+        if reply.get("code") == 76 and self.load.may_forget(number):
+            self.results[number] = FORGOTTEN
+            return
         self.expect(self.jobs[number].is_right(reply), f"the result of job {number}: {reply}")
         digest = hashlib.sha256(told).digest()
+        self.expect(self.results.get(number) != FORGOTTEN, f"job {number} was forgotten, and is there again")
         before = self.results.setdefault(number, digest)
         self.expect(before == digest, f"the result of job {number} is another one")
 
@@ -142,16 +152,19 @@ def framed(request):
 class Load:
     """A server that is killed and started anew, and the tenants that keep it busy."""
 
-    def __init__(self, folder, seed, good, clients=4, workers=2, words=()):
-        self.seed, self.good, self.random = seed, good, random.Random(seed)
+    def __init__(self, folder, seed, good, clients=4, workers=2, keep=0):
+        self.seed, self.good, self.random, self.keep = seed, good, random.Random(seed), keep
+        words = ["--keep", keep] if keep else []
         self.server = Keeper(folder, *words, clients=clients + 1, workers=workers)
         self.tenants = [Tenant(self, number) for number in range(clients)]
         self.numbers, self.lock = set(), threading.Lock()
         self.floor, self.told, self.wrong, self.kills = 0, 0, [], 0
         # how many jobs were found that nobody was told of, and how many kills left a torn record
         self.found, self.torn = 0, 0
-        # the records that were read, up to which place, and how many jobs they have
-        self.book, self.at, self.followed = Book(), 0, 0
+        # the records that were read, of which file and up to which place, and how many jobs they have
+        self.book, self.node, self.at, self.followed = Book(), None, 0, 0
+        # how often a snapshot took the journal's place
+        self.compactions = 0
 
     def is_new(self, number):
         """Whether a number is told for the first time, and is over all that were told by earlier servers."""
@@ -159,6 +172,12 @@ class Load:
             is_new = number not in self.numbers and number > self.floor
             self.numbers.add(number)
             return is_new
+
+    def may_forget(self, number):
+        """Whether a job's report may be forgotten: so many others were taken since, or are just being taken."""
+        with self.lock:
+            last = max(self.numbers | {len(self.book.jobs)}) + MOST_ASKED * len(self.tenants)
+            return 0 < self.keep <= last - number
 
     def end(self):
         self.server.end()
@@ -186,9 +205,7 @@ class Load:
         self.server.kill()
         self.kills += 1
         if os.path.exists(self.server.journal):
-            with open(self.server.journal, "rb") as file:
-                file.seek(self.at)
-                self.torn += bool(payloads_of(file.read())[1])
+            self.torn += bool(self.catch_up())
 
     def work(self, tenant):
         try:
@@ -209,15 +226,47 @@ class Load:
             self.audit_results(client, tenant, everything)
             self.audit_account(client, tenant)
 
-    def follow(self):
-        """Reads the records that are new, and finds the jobs whose numbers nobody was told."""
+    def catch_up(self):
+        """Reads the records that are new, and gives what stands behind them."""
         with open(self.server.journal, "rb") as file:
+            node = os.fstat(file.fileno()).st_ino
+            is_new, self.node = node != self.node, node
+            self.at = 0 if is_new else self.at
             file.seek(self.at)
             data = file.read()
         payloads, rest = payloads_of(data)
         self.at += len(data) - len(rest)
-        for payload in payloads:
-            self.book.add(change_of(payload))
+        changes = [change_of(payload) for payload in payloads]
+        if is_new and self.book.granted:
+            self.compare(book_of_changes(changes))
+        else:
+            for change in changes:
+                self.book.add(change)
+        return rest
+
+    def compare(self, new):
+        """A snapshot has taken the journal's place. It says what the records had said, and behind it jobs have ended."""
+        self.compactions += 1
+        old = self.book
+        self.expect(new.granted == old.granted and len(new.jobs) == len(old.jobs), "a snapshot of other accounts or jobs")
+        for number, end in new.ends.items():
+            self.expect(number not in old.gone, f"the forgotten job {number} is in the snapshot")
+            self.expect(old.ends.setdefault(number, end) == end, f"the end of job {number} is another one in the snapshot")
+        for number, job in enumerate(new.jobs, 1):
+            self.expect(number in old.ends or job == old.jobs[number - 1], f"the open job {number} is another one in the snapshot")
+            is_there = job is not None and number not in new.gone
+            self.expect(is_there or number in old.ends and self.may_forget(number), f"job {number} isn't in the snapshot")
+        old.gone |= new.gone
+        for tenant in old.granted:
+            self.expect(new.account(tenant) == old.account(tenant), f"the account of {tenant} in the snapshot")
+
+    def expect(self, holds, what):
+        if not holds:
+            self.wrong.append(what)
+
+    def follow(self):
+        """Reads the records that are new, and finds the jobs whose numbers nobody was told."""
+        self.catch_up()
         named = {tenant.name: tenant for tenant in self.tenants}
         for number in range(self.followed + 1, len(self.book.jobs) + 1):
             job = self.book.jobs[number - 1]
@@ -266,9 +315,8 @@ class Load:
         with self.server.connect() as client:
             self.audit(client)
         self.kill()
-        data = read(self.server.journal)
-        book = book_of(data)
-        if payloads_of(data)[1] or sorted(book.ends) != list(range(1, len(book.jobs) + 1)):
+        book = self.book
+        if self.catch_up() or sorted(book.ends) != list(range(1, len(book.jobs) + 1)):
             self.wrong.append("the records leave a job open, or bytes stand behind them")
         for tenant in self.tenants:
             for number, good in tenant.jobs.items():

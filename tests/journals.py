@@ -77,6 +77,12 @@ def _task(parts):
     return {"number": number, "program": program, "r0": r0, "ran": bool(ran), "rest": rest, "spent": spent}
 
 
+def _report(parts):
+    spent, returned, buffer = parts.number(4), parts.number(4), parts.counted()
+    tasks = parts.listed(lambda: _task(parts))
+    return {"buffer": buffer.hex(), "ok": True, "returned": returned, "spent": spent, "tasks": tasks}
+
+
 def change_of(payload):
     """The change that a payload says: its kind, and its parts."""
     parts = Payload(payload)
@@ -87,14 +93,19 @@ def change_of(payload):
         tenant, programs = parts.counted().decode(), parts.listed(lambda: _program(parts))
         change = "submitted", tenant, programs, parts.number(4), parts.counted()
     elif kind == 3:
-        job, spent, returned, buffer = parts.number(8), parts.number(4), parts.number(4), parts.counted()
-        tasks = parts.listed(lambda: _task(parts))
-        report = {"buffer": buffer.hex(), "ok": True, "returned": returned, "spent": spent, "tasks": tasks}
-        change = "finished", job, report
+        change = "finished", parts.number(8), _report(parts)
     elif kind == 4:
         change = "failed", parts.number(8), parts.number(1)
     elif kind == 6:
         change = "forgotten", parts.number(8)
+    elif kind == 7:
+        change = "account", parts.counted().decode(), parts.number(8), parts.number(8)
+    elif kind == 8:
+        change = "skipped", parts.number(8)
+    elif kind == 9:
+        change = "kept", parts.counted().decode(), parts.number(4), _report(parts)
+    elif kind == 10:
+        change = "kept", parts.counted().decode(), parts.number(4), {"code": parts.number(1), "ok": False}
     else:
         raise NotARecord
     if parts.at != len(payload):
@@ -119,10 +130,11 @@ def failed(job, code):
 
 
 class Book:
-    """What the changes of a desk come to: its accounts, and its jobs by number."""
+    """What the changes of a desk come to: its accounts, and its jobs by number. A job that was over when a snapshot
+    was made has no programs and no buffer there, and one that was forgotten then is None."""
 
     def __init__(self):
-        self.granted, self.jobs, self.ends = {}, [], {}
+        self.granted, self.past, self.jobs, self.ends, self.gone = {}, {}, [], {}, set()
 
     def add(self, change):
         """One change more."""
@@ -142,24 +154,43 @@ class Book:
     def failed_(self, job, code):
         self.finished_(job, {"code": code, "ok": False})
 
-    def forgotten_(self, _ahead):
-        pass
+    def forgotten_(self, ahead):
+        self.gone.update(number for number in self.ends if number <= ahead)
+
+    def account_(self, tenant, granted, spent):
+        assert tenant not in self.granted and not self.jobs and spent <= granted
+        self.granted[tenant], self.past[tenant] = granted, spent
+
+    def skipped_(self, count):
+        self.gone.update(range(len(self.jobs) + 1, len(self.jobs) + count + 1))
+        self.jobs += [None] * count
+
+    def kept_(self, tenant, credit, end):
+        self.jobs.append((tenant, None, credit, None))
+        self.ends[len(self.jobs)] = end
+        self.past[tenant] -= end.get("spent", 0)
+        assert self.past[tenant] >= 0
 
     def account(self, tenant):
         """The account as a server tells it."""
-        mine = [(number, job) for number, job in enumerate(self.jobs, 1) if job[0] == tenant]
-        is_open = sum(credit for number, (_, _, credit, _) in mine if number not in self.ends)
+        mine = [(number, job) for number, job in enumerate(self.jobs, 1) if job and job[0] == tenant]
+        is_open = sum(job[2] for number, job in mine if number not in self.ends)
         spent = sum(self.ends[number].get("spent", 0) for number, _ in mine if number in self.ends)
+        spent += self.past.get(tenant, 0)
         given = self.granted[tenant]
         return {"balance": given - is_open - spent, "granted": given, "ok": True, "open": is_open, "spent": spent}
 
 
+def book_of_changes(changes):
+    book = Book()
+    for change in changes:
+        book.add(change)
+    return book
+
+
 def book_of(data):
     """The book of a journal's whole records."""
-    book = Book()
-    for payload in payloads_of(data)[0]:
-        book.add(change_of(payload))
-    return book
+    return book_of_changes(change_of(payload) for payload in payloads_of(data)[0])
 
 
 def read(path):

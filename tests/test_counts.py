@@ -116,6 +116,29 @@ class Counts(Room):
         self.assertEqual(told["jobs"], {"failed": 1, "open": 3, "over": 0, "taken": 4, "waiting": 2})
         self.assertEqual(told["refusals"], [{"code": 81, "count": 1}])
 
+    def test_refusals_of_each_kind(self):
+        """Each reply that is a refusal, by whichever socket, but those that say that a job is open."""
+        process = self.serve("--tenant-jobs", 1)
+        granter, alice, everybody = (self.connect(process, name) for name in ("grants", "alice", "all"))
+        granter.ask(grant("alice", 2_000_000_000))
+        programs, credit = long_job()
+        self.assertEqual(alice.ask(submit_text(programs, credit, b"", tenant="alice")), {"job": 1, "ok": True})
+        self.assertEqual(alice.ask({"op": "result", "job": 1})["code"], 77)
+        for client, asked, code in (
+            (granter, account("bob"), 74),
+            (everybody, grant("bob"), 73),
+            (everybody, account("alice"), 74),
+            (everybody, {"op": "status", "job": 9}, 76),
+            (alice, {"op": "result", "job": 9}, 76),
+            (alice, submit("bob"), 74),
+            (alice, submit("alice")[:-1] + ',"key":"no key"}', 73),
+            (alice, {"op": "jobs", "from": 0}, 73),
+            (alice, "none", 72),
+        ):
+            self.assertEqual(client.ask(asked)["code"], code, asked)
+        told = self.asked(granter)["refusals"]
+        self.assertEqual({refusal["code"]: refusal["count"] for refusal in told}, {72: 1, 73: 3, 74: 3, 76: 2})
+
     def test_other_doors(self):
         """It is no request by them, as by a socket for grants every other form."""
         process = self.serve()
@@ -127,6 +150,7 @@ class Counts(Room):
             self.assertEqual(granter.ask({"op": "servers"}), NO_REQUEST)
             self.assertEqual(granter.ask({**ASKED, "tenant": "alice", "more": 1})["ok"], True)
             self.assertEqual(granter.ask(account("alice")), NO_TENANT)
+            self.assertEqual(self.asked(granter)["refusals"], [{"code": 73, "count": 4}, {"code": 74, "count": 1}])
 
     def test_without_a_socket_for_grants(self):
         process = self.start("--sessions", 2, *self.words("alice"))

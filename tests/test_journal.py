@@ -516,6 +516,43 @@ class Synced(Room):
         self.assertIn(f"<{os.path.realpath(self.server.journal)}>", lines)
 
 
+@unittest.skipUnless(shutil.which("strace"), "there is no strace")
+class FailingCalls(Room):
+    """The n-th write or sync of the journal fails. All that was told is there again, and nothing was told behind it."""
+
+    # By hand each up to 200: TELGOVAN_EACH=200.
+    NUMBERS = range(1, int(os.environ.get("TELGOVAN_EACH", "0")) + 1) or (1, 2, 3, 10, 40)
+
+    def check(self, call, number):
+        told = os.path.join(self.room, "calls")
+        client = self.start(ahead=["strace", "-f", "-qq", "-o", told, "-P", self.server.journal, "-e", f"trace={call}",
+                                   "-e", f"inject={call}:error=EIO:when={number}+"], stderr=subprocess.PIPE)
+        count = 0
+        with contextlib.suppress(ConnectionResetError, BrokenPipeError):
+            while count < 1000:
+                self.assertEqual(client.ask(grant(1))["granted"], count + 1)
+                count += 1
+        self.assertEqual((count, self.server.process.wait(PATIENCE)), (number - 1, 3))
+        self.assertEqual(self.server.process.stderr.read().decode(), Failing.LINE.format(self.server.journal))
+        self.server.end()
+        book = book_of(self.data())
+        self.assertIn(book.granted.get("t", 0), (count, count + 1))
+        account = self.start().ask(ACCOUNT)
+        self.assertEqual(account.get("granted", 0), book.granted.get("t", 0))
+        self.server.kill()
+        os.remove(self.server.journal)
+
+    def test_each_write(self):
+        for number in self.NUMBERS:
+            with self.subTest(number=number):
+                self.check("write", number)
+
+    def test_each_sync(self):
+        for number in self.NUMBERS:
+            with self.subTest(number=number):
+                self.check("fdatasync", number)
+
+
 class Kills(Room):
     """A server under load that is killed at any moment, and started anew."""
 

@@ -17,17 +17,17 @@ from test_local import Client as LocalClient
 
 ADD = "mov64 r0, 40 / add64 r0, 2 / exit"
 SPAWN = "mov64 r1, 1 / mov64 r2, 5 / mov64 r3, 0 / mov64 r4, 0 / call 1 / mov64 r0, 0 / exit"
-# what the lines of each event have
+# what the lines of each event have; those behind a `?` may be left out
 MEMBERS = {
     "ready": ("version",),
     "stopping": (),
     "opened": ("connection", "socket"),
     "closed": ("connection", "requests", "code", "end", "ms"),
-    "started": ("job", "credit", "programs"),
+    "started": ("job", "?connection", "credit", "programs", "wait"),
     "ended": ("job", "spent", "returned", "tasks", "buffer", "ms"),
     "failed": ("job", "code"),
-    "refused": ("code",),
-    "granted": ("amount", "balance"),
+    "refused": ("connection", "code"),
+    "granted": ("connection", "?tenant", "amount", "balance"),
 }
 SOCKETS = {"port", "socket", "grants", "tenant"}
 TENANTS = {"alice", "bob"}
@@ -43,8 +43,8 @@ def lines_of(text):
     lines = []
     for line in text.splitlines():
         told = json.loads(line)
-        named = ["tenant"] * (told["event"] == "granted" and "tenant" in told)
-        wanted = ["time", "event", *named, *MEMBERS[told["event"]]] + ["lost"] * ("lost" in told)
+        members = [name.lstrip("?") for name in MEMBERS[told["event"]] if name[0] != "?" or name[1:] in told]
+        wanted = ["time", "event", *members] + ["lost"] * ("lost" in told)
         assert list(told) == wanted, line
         words = {"event": MEMBERS, "socket": SOCKETS, "end": ENDS, "version": {VERSION}, "tenant": TENANTS}
         for name, value in told.items():
@@ -56,7 +56,12 @@ def lines_of(text):
 
 def told(lines, event):
     """The lines of an event, without their times."""
-    return [{name: value for name, value in line.items() if name not in ("time", "event", "ms")} for line in lines if line["event"] == event]
+    return [{name: value for name, value in line.items() if name not in ("time", "event", "ms", "wait")} for line in lines if line["event"] == event]
+
+
+def refusals(*codes, connection=1):
+    """The lines of a connection's refusals, without their times."""
+    return [{"connection": connection, "code": code} for code in codes]
 
 
 class Log(unittest.TestCase):
@@ -86,7 +91,7 @@ class Log(unittest.TestCase):
             self.assertEqual(server.process.returncode, 0)
         self.assertEqual([line["event"] for line in lines], ["ready", "opened", "granted", "started", "ended", "started", "ended", "closed", "stopping"])
         self.assertEqual(told(lines, "opened"), [{"connection": 1, "socket": "port"}])
-        self.assertEqual(told(lines, "started"), [{"job": 1, "credit": 3, "programs": 1}, {"job": 2, "credit": 200, "programs": 2}])
+        self.assertEqual(told(lines, "started"), [{"job": 1, "connection": 1, "credit": 3, "programs": 1}, {"job": 2, "connection": 1, "credit": 200, "programs": 2}])
         first, second = told(lines, "ended")
         self.assertEqual(first, {"job": 1, "spent": 3, "returned": 0, "tasks": 1, "buffer": 3})
         self.assertEqual(second, {"job": 2, "spent": reply["spent"], "returned": reply["returned"], "tasks": len(reply["tasks"]), "buffer": 0})
@@ -112,12 +117,12 @@ class Log(unittest.TestCase):
             client.stream.close()
             text = server.process.communicate(timeout=PATIENCE)[1].decode()
         lines = lines_of(text)
-        self.assertEqual([line["event"] for line in lines], ["ready", "opened", "granted", "started", "ended", "refused", "refused", "closed", "stopping"])
+        self.assertEqual([line["event"] for line in lines], ["ready", "opened", "granted", "started", "ended", *["refused"] * 5, "closed", "stopping"])
         for trace in ("ZQ", "zq", name, mark.hex(), code_of(ADD).hex(), b"ZQprogram".hex()):
             self.assertNotIn(trace, text)
 
     def test_grants(self):
-        """A grant that was carried out, with the balance that it led to; none that was refused."""
+        """A grant that was carried out, with the balance that it led to. One that was refused is told as any refusal."""
         with self.serve() as server:
             client = Client(server)
             asked = (("t", 100), ("u", 7), ("t", 2147483647), ("T", 1), ("t", 0), ("t", 1))
@@ -129,14 +134,17 @@ class Log(unittest.TestCase):
             result_of(client, 1)
             replies.append(client.ask({"op": "grant", "tenant": "u", "amount": 1}))
             client.stream.close()
-            lines = told(self.ended(server), "granted")
+            lines = self.ended(server)
+        self.assertEqual(told(lines, "refused"), refusals(73, 73, 65))
+        lines = told(lines, "granted")
+        self.assertEqual({line["connection"] for line in lines}, {1})
         self.assertEqual([reply["ok"] for reply in replies], [True, True, True, False, False, True, True])
         done = [(amount, reply["balance"]) for (_, amount), reply in zip([*asked, ("u", 1)], replies) if reply["ok"]]
         self.assertEqual([(line["amount"], line["balance"]) for line in lines[:4] + lines[-1:]], done)
         self.assertEqual(len(lines), len(done) + 465)
 
     def test_refusals(self):
-        """A job that isn't taken, and one whose start is refused."""
+        """A job that isn't taken, one whose start is refused, and each other request that is refused."""
         programs, credit = long_job()
         with self.serve("--open-jobs", 1, workers=1) as server:
             client = Client(server)
@@ -145,17 +153,87 @@ class Log(unittest.TestCase):
             codes.append(client.ask(submit_text([(0, code_of(ADD))], credit + 11, b""))["code"])
             codes.append(client.ask(submit_text([(0, code_of("mov64 r0, r9 / exit"))], 3, b""))["code"])
             codes.append(client.ask(submit_text([(0, b"none")], 3, b""))["code"])
-            # others are told to their clients alone
-            self.assertEqual(client.ask({"op": "result", "job": 7})["code"], 76)
+            for asked in ({"op": "result", "job": 7}, {"op": "status", "job": 7}, {"op": "account", "tenant": "u"}, {"op": "none"}, "none"):
+                codes.append(client.ask(asked)["code"])
             self.assertEqual(client.ask(submit_text(programs, credit, b"")), {"job": 1, "ok": True})
             self.assertEqual(client.ask(submit_text([(0, code_of(ADD))], 3, b"")), {"job": 2, "ok": True})
+            # that it is open is told to its client alone
+            self.assertEqual(client.ask({"op": "result", "job": 1})["code"], 77)
             self.assertTrue(result_of(client, 1)["ok"])
+            # a job that failed: its refusal is what its result tells
+            codes.append(client.ask({"op": "result", "job": 2})["code"])
             client.stream.close()
             lines = self.ended(server)
-        self.assertEqual(codes[:2], [74, 75])
-        self.assertEqual([line["code"] for line in told(lines, "refused")], codes)
+        self.assertEqual((codes[:2], codes[4:]), ([74, 75], [76, 76, 74, 73, 72, 81]))
+        self.assertEqual(told(lines, "refused"), refusals(*codes))
         self.assertEqual(told(lines, "failed"), [{"job": 2, "code": 81}])
         self.assertEqual([line["job"] for line in told(lines, "started")], [1])
+
+    def test_whose_a_job_is(self):
+        """It is told with the connection that asked for it, by whichever worker."""
+        count = 8
+        with self.serve("--clients", count, sessions=count, workers=4) as server:
+            clients = [Client(server) for _ in range(count)]
+            clients[0].ask({"op": "grant", "tenant": "t", "amount": 100_000})
+            jobs = {}
+            for _ in range(20):
+                for client in clients:
+                    reply = client.ask(submit_text([(0, code_of(ADD))], 3, b""))
+                    jobs[reply["job"]] = client
+            for job, client in jobs.items():
+                result_of(client, job)
+            for number, client in enumerate(clients):
+                # tells which number the connection has
+                client.ask({"op": "result", "job": 1000 + number})
+                client.ask(submit_text([(0, code_of(ADD))], 3 + number, b""))
+            for client in clients:
+                client.stream.close()
+            lines = self.ended(server)
+        started = told(lines, "started")
+        numbers = {clients[line["credit"] - 3]: line["connection"] for line in started if line["job"] > len(jobs)}
+        self.assertEqual(sorted(numbers.values()), list(range(1, count + 1)))
+        self.assertEqual([line["code"] for line in told(lines, "refused")], [76] * count)
+        self.assertEqual({line["connection"] for line in told(lines, "refused")}, set(range(1, count + 1)))
+        self.assertEqual({line["job"]: line["connection"] for line in started if line["job"] <= len(jobs)}, {job: numbers[client] for job, client in jobs.items()})
+
+    def test_how_long_a_job_waits(self):
+        """For the one worker, behind another job."""
+        programs, credit = long_job()
+        with self.serve(workers=1) as server:
+            client = Client(server)
+            client.ask({"op": "grant", "tenant": "t", "amount": credit + 3})
+            client.ask(submit_text(programs, credit, b""))
+            self.assertEqual(client.ask(submit_text([(0, code_of(ADD))], 3, b"")), {"job": 2, "ok": True})
+            result_of(client, 2)
+            client.stream.close()
+            lines = self.ended(server)
+        first, second = [line["wait"] for line in lines if line["event"] == "started"]
+        (ended,) = [line for line in lines if line["event"] == "ended" and line["job"] == 1]
+        began = [line["time"] for line in lines if line["event"] == "granted"][0]
+        self.assertLess(first, ended["ms"] + 1000)
+        self.assertLessEqual(abs(second - ended["ms"]), 20 + (ended["time"] - began - ended["ms"]))
+
+    def test_jobs_that_begin_anew(self):
+        """One that a journal starts again comes from no connection."""
+        programs, credit = long_job()
+        with tempfile.TemporaryDirectory() as room:
+            journal = os.path.join(room, "journal")
+            with Server(sessions=2, workers=1, more=("--journal", journal)) as server:
+                client = Client(server)
+                client.ask({"op": "grant", "tenant": "t", "amount": 3 * credit})
+                for job in (1, 2):
+                    self.assertEqual(client.ask(submit_text(programs, credit, b"")), {"job": job, "ok": True})
+                client.stream.close()
+                server.process.kill()
+                server.process.wait()
+            with self.serve("--journal", journal, sessions=1) as server:
+                client = Client(server)
+                self.assertEqual(client.ask(submit_text(programs, credit, b"")), {"job": 3, "ok": True})
+                for job in (1, 2, 3):
+                    self.assertTrue(result_of(client, job)["ok"])
+                client.stream.close()
+                lines = self.ended(server)
+        self.assertEqual([(line["job"], line.get("connection")) for line in told(lines, "started")], [(1, None), (2, None), (3, 1)])
 
     def test_how_connections_end(self):
         with self.serve("--timeout", 1, sessions=6) as server:
@@ -294,6 +372,8 @@ class Log(unittest.TestCase):
                 lines = lines_of(process.communicate(timeout=PATIENCE)[1].decode())
                 self.assertEqual(told(lines, "opened"), [{"connection": 1, "socket": "grants"}, {"connection": 2, "socket": "socket"}])
                 self.assertEqual([line["requests"] for line in told(lines, "closed")], [1, 1])
+                self.assertEqual([line["connection"] for line in told(lines, "granted")], [1])
+                self.assertEqual(told(lines, "refused"), refusals(73, connection=2))
             with self.subTest("one"), self.local(path) as process:
                 for _ in range(2):
                     with LocalClient(path, process) as client:

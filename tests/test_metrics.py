@@ -23,12 +23,12 @@ LINES = [
     READY,
     '{"time":1795737600000,"event":"opened","connection":1,"socket":"tenant"}',
     '{"time":1795737600001,"event":"opened","connection":2,"socket":"grants","lost":3}',
-    '{"time":1795737600002,"event":"granted","tenant":"bob","amount":40,"balance":30}',
-    '{"time":1795737600003,"event":"granted","amount":2,"balance":2}',
-    '{"time":1795737600004,"event":"started","job":1002,"credit":9,"programs":1}',
-    '{"time":1795737600004,"event":"started","job":1000,"credit":3,"programs":1}',
+    '{"time":1795737600002,"event":"granted","connection":2,"tenant":"bob","amount":40,"balance":30}',
+    '{"time":1795737600003,"event":"granted","connection":2,"amount":2,"balance":2}',
+    '{"time":1795737600004,"event":"started","job":1002,"connection":1,"credit":9,"programs":1,"wait":4}',
+    '{"time":1795737600004,"event":"started","job":1000,"credit":3,"programs":1,"wait":600}',
     '{"time":1795737600104,"event":"ended","job":1002,"spent":7,"returned":2,"tasks":4,"buffer":8,"ms":100}',
-    '{"time":1795737600105,"event":"refused","code":75}',
+    '{"time":1795737600105,"event":"refused","connection":1,"code":75}',
     '{"time":1795737600106,"event":"failed","job":2002,"code":81}',
     '{"time":1795737600109,"event":"closed","connection":2,"requests":5,"code":0,"end":"input","ms":9}',
 ]
@@ -46,7 +46,7 @@ TOLD = {
     'telgovan_jobs_started_total{tenant=""}': 1,
     'telgovan_jobs_ended_total{tenant="bob"}': 1,
     'telgovan_jobs_failed_total{code="81",tenant="bob"}': 1,
-    'telgovan_jobs_refused_total{code="75"}': 1,
+    'telgovan_requests_refused_total{code="75"}': 1,
     'telgovan_credit_granted_total{tenant="bob"}': 40,
     'telgovan_credit_granted_total{tenant=""}': 2,
     'telgovan_credit_spent_total{tenant="bob"}': 7,
@@ -56,6 +56,11 @@ TOLD = {
     "telgovan_log_lines_unknown_total": 0,
     "telgovan_job_seconds_sum": 0.1,
     "telgovan_job_seconds_count": 1,
+    "telgovan_job_wait_seconds_sum": 0.604,
+    "telgovan_job_wait_seconds_count": 2,
+    'telgovan_job_wait_seconds_bucket{le="0.001"}': 0,
+    **{f'telgovan_job_wait_seconds_bucket{{le="{le}"}}': 1 for le in ("0.005", "0.01", "0.05", "0.1", "0.5")},
+    **{f'telgovan_job_wait_seconds_bucket{{le="{le}"}}': 2 for le in ("1", "5", "10", "60", "+Inf")},
     **{f'telgovan_job_seconds_bucket{{le="{le}"}}': 0 for le in ("0.001", "0.005", "0.01", "0.05")},
     **{f'telgovan_job_seconds_bucket{{le="{le}"}}': 1 for le in ("0.1", "0.5", "1", "5", "10", "60", "+Inf")},
 }
@@ -127,7 +132,7 @@ class Metrics(unittest.TestCase):
                 client.ask(submit_text([(0, code_of(ADD))], 3, b""))
                 result_of(client, job)
             client.ask(submit_text([(0, code_of(ADD))], 2000, b""))
-            values = self.until(port, 'telgovan_jobs_refused_total{code="75"}', 1)
+            values = self.until(port, 'telgovan_requests_refused_total{code="75"}', 1)
         self.assertEqual(values["telgovan_connections"], 1)
         self.assertEqual(values["telgovan_jobs_started_total"], 2)
         self.assertEqual(values["telgovan_jobs_ended_total"], 2)

@@ -537,6 +537,9 @@ class Kills(Room):
         self.server.kill()
         for thread in threads:
             thread.join()
+        # ahead of the next start, which may put a snapshot in a journal's place
+        for load in loads:
+            load.catch_up()
 
     def test_kills(self):
         self.server.start()

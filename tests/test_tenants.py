@@ -949,7 +949,7 @@ class Ends(Room):
         self.assertEqual(process.wait(PATIENCE), 0)
 
     def test_the_log(self):
-        """A tenant's connection is told as one of a tenant. A grant is told with the name that stands in the words, and no other line has one."""
+        """A tenant's connection is told as one of a tenant, and a job as its connection's. A grant is told with the name that stands in the words, and no other line has one."""
         process = self.start("--log", "--sessions", 3, "--grants", self.path("grants"), *self.words("alice", "bob"), stderr=subprocess.PIPE)
         with self.connect(process, "grants") as granter:
             balance = granter.ask(grant("bob"))["balance"]
@@ -964,7 +964,9 @@ class Ends(Room):
         self.assertEqual([line["socket"] for line in told_of(lines, "opened")], ["grants", "tenant", "socket"])
         # the pool's number of a job: its own and the tenant's place
         self.assertEqual([line["job"] for line in told_of(lines, "started") + told_of(lines, "ended")], [1002, 1002])
-        self.assertEqual(told_of(lines, "granted"), [{"tenant": "bob", "amount": balance, "balance": balance}, {"amount": 7, "balance": 7}])
+        self.assertEqual(told_of(lines, "granted"), [{"connection": 1, "tenant": "bob", "amount": balance, "balance": balance}, {"connection": 1, "amount": 7, "balance": 7}])
+        self.assertEqual([line["connection"] for line in told_of(lines, "started")], [2])
+        self.assertEqual(told_of(lines, "refused"), [{"connection": 3, "code": 74}])
         self.assertEqual(text.count("bob"), 1)
         self.assertFalse("alice" in text or "zoe" in text or self.room in text)
 
