@@ -1,7 +1,7 @@
 -- The frames of a list of bytes.
-use Rattle.std.proofs.Common.{◌≡◌, ℕ, zero, suc, ◌<◌, ◌≤◌, List, [], ◌∷◌, ◌++◌, length, refl, sym, ap, ◌∙◌, subst, lit<, arith, append_assoc, append-nil}
-use Rattle.std.specs.List.{flat_map, AllByRecursion}
-use Rattle.sessions.specs.Frames.{AreBytes, AreShort, Framing, Front, HasNoFrame, Heard, IsStreamOf, ahead, cut_first, framed, frames_of, frames_up_to, front, longest_payload, nothing_yet, one_frame, one_piece, partial, too_large, whole}
+use Rattle.std.proofs.Common.{◌≡◌, ℕ, zero, suc, ◌≤◌, List, [], ◌∷◌, ◌++◌, length, refl, sym, ap, ◌∙◌, subst, lit<, arith, append_assoc, append-nil}
+use Rattle.std.specs.List.{flat_map}
+use Rattle.sessions.specs.Frames.{AreBytes, AreShort, Framing, Front, HasNoFrame, Heard, IsStreamOf, ahead, cut_first, framed, frames_of, frames_up_to, front, nothing_yet, one_frame, one_piece, partial, too_large, whole}
 use Rattle.sessions.proofs.Cuts.{front_short}
 use Rattle.sessions.proofs.Fronts.{front_shorter, front_stable}
 use Rattle.sessions.proofs.Joining.{frame_cut, heard_stream}

@@ -1,9 +1,9 @@
 -- The reading by a key is the plain one where the tenant's name has to be there, or is.
-use Rattle.std.proofs.Common.{◌≡◌, ℕ, List, Option, Some, Result, Ok, Err, refl, sym, ap, ◌∙◌}
+use Rattle.std.proofs.Common.{◌≡◌, ℕ, List, Some, Result, Ok, Err, refl, sym, ap, ◌∙◌}
 use Rattle.std.specs.Prelude.{codes}
 use Rattle.serde_json.specs.Data.{Data}
 use Rattle.serde_json.specs.Find.{get}
-use Rattle.sessions.specs.Grammar.{Asked, ReadsJson, account_from, form_from, grant_from, request_from, submit_from, tenant_at}
+use Rattle.sessions.specs.Grammar.{Asked, account_from, form_from, grant_from, request_from, submit_from, tenant_at}
 use Rattle.sessions.specs.Answers.{Hears, IsUnreadable, PayloadAnswer}
 use Rattle.sessions.specs.Answers as plain
 use Rattle.sessions.specs.OwnNames.{HearsBy, IsUnreadableBy, PayloadAnswerBy, account_by, form_by, grant_by, name_or_empty, request_by, submit_by, tenant_by}

@@ -1,10 +1,9 @@
 -- What some doors hear beyond the plain protocol.
-use Rattle.std.specs.Prelude.{◌≡◌, ℕ, ◌&&◌, List, length, Bool, nat_le, if◌then◌else◌, Option, Some, None, Result, Ok, Err, option_map, option_and_then, codes}
-use Rattle.std.specs.List.{list_all}
+use Rattle.std.specs.Prelude.{◌≡◌, ℕ, List, if◌then◌else◌, Option, Some, None, Result, Ok, Err, option_map, option_and_then, codes}
 use Rattle.std.specs.Str.{bytes_eq}
 use Rattle.serde_json.specs.Data.{Data}
 use Rattle.serde_json.specs.Find.{as_str, get}
-use Rattle.sessions.specs.Grammar.{ReadsJson, is_name_byte, number_between, request_asked, text_at_key}
+use Rattle.sessions.specs.Grammar.{ReadsJson, is_job_key, number_between, request_asked, text_at_key}
 use Rattle.sessions.specs.OwnNames.{HearsBy}
 use Rattle.sessions.specs.declared.door_forms.DoorForm.{DoorForm}
 use Rattle.sessions.specs.declared.door_forms.DoorForm.TheVariants.{Jobs, Keyed, Server}
@@ -27,11 +26,6 @@ first_listed (Some d) = number_between 1 18446744073709551615 d
 
 unfoldable pub jobs_from : Data → Option DoorForm
 jobs_from d = option_map Jobs (first_listed (get (codes "from") d))
-
--- 1 to 64 of the bytes of a tenant's name
-unfoldable pub is_job_key : List ℕ → Bool
-is_job_key text =
-    nat_le 1 (length text) && (nat_le (length text) 64 && list_all is_name_byte text)
 
 -- the key that a value is, if it is one
 unfoldable pub job_key_from : Data → Option (List ℕ)

@@ -9,7 +9,7 @@ ghost use Rattle.sessions.specs.OwnNames.{request_by};
 use crate::door_forms::{DoorForm, DoorForms};
 use crate::fault::SessionFault;
 use crate::job_key::JobKey;
-use crate::member::{is_job_key, number_of, text_member};
+use crate::member::{number_of, text_member};
 use crate::request::{Request, read_value};
 use crate::tenant_key::TenantKey;
 use refusal::NoMemory;
@@ -56,11 +56,7 @@ fn read_key(alloc: Global, value: &Value) -> Result<Option<JobKey>, NoMemory>
     let Some(text) = value.as_str() else {
         return Ok(None);
     };
-    if !is_job_key(text) {
-        return Ok(None);
-    }
-    let text = String::from_str(alloc, text)?;
-    Ok(Some(JobKey::of(text)))
+    JobKey::of_text(alloc, text)
 }
 
 // A submit that has a member `key`.

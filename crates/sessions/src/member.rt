@@ -3,8 +3,8 @@
 ghost use Rattle.std.specs.Prelude.{◌≡◌, ◌≢◌, Some, None, IfOk, IfErr, option_map, map};
 ghost use Rattle.std.specs.List.{list_all};
 ghost use Rattle.serde_json.specs.View.{view};
+ghost use Rattle.sessions.specs.Grammar as grammar;
 ghost use Rattle.sessions.specs.Grammar.{text_at_key, number_between, number_at_key, bytes_at_key, list_at_key, tenant_at, is_name, is_name_byte};
-ghost use Rattle.sessions.specs.DoorForms as forms;
 ghost use Rattle.sessions.specs.OwnNames.{tenant_by};
 ghost use Rattle.sessions.specs.declared.fault.SessionFault.TheVariants.{BadRequest, NoMemory};
 
@@ -93,7 +93,7 @@ fn is_name(text: &str) -> bool
 /// Whether a text may be the key of a submit.
 #[tactic(auto, using(crate::proofs::Names::key_empty, crate::proofs::Names::key_long, crate::proofs::Names::key_holds))]
 pub(crate) fn is_job_key(text: &str) -> bool
-    ensures { result ≡ forms.is_job_key text.now }
+    ensures { result ≡ grammar.is_job_key text.now }
 {
     if text.is_empty() {
         return false;

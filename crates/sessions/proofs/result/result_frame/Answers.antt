@@ -1,4 +1,4 @@
-use Rattle.std.proofs.Common.{◌<◌, ◌≤◌, ◌++◌, length, ap, subst, sym, ◌∙◌}
+use Rattle.std.proofs.Common.{◌<◌, ◌≤◌, ◌++◌, length, ap, subst, ◌∙◌}
 use Rattle.sessions.specs.Replies.{longest_reply}
 use Rattle.sessions.proofs.ResultLemmas.{frame_written, outcome_is}
 use Rattle.sessions.proofs.result.result_frame.Goals as goal

@@ -1,7 +1,9 @@
--- The keys that a door remembers, one more noted.
-use Rattle.std.proofs.Common.{◌≡◌, ◌≢◌, ◌≤◌, ℕ, ◌+◌, ◌-◌, List, [], ◌∷◌, ◌++◌, length, drop, refl, sym, ap, arith, length-append}
+-- The keys of submits, and one more noted.
+use Rattle.std.proofs.Common.{◌≡◌, ◌≢◌, ◌≤◌, ℕ, ◌-◌, true, List, [], ◌∷◌, ◌++◌, length, drop, sym, ap, arith, length-append}
+use Rattle.std.proofs.lemmas.Bool.Decides.{nat_tests}
+use Rattle.sessions.specs.Grammar.{is_job_key}
 use Rattle.sessions.specs.declared.job_key.KeyedJob.{KeyedJob}
-use Rattle.tenant_desks.specs.JobKeys.{latest, noted}
+use Rattle.sessions.specs.JobKeys.{noted}
 
 pub noted_short : (keys : List KeyedJob) (job : ℕ) (key : List ℕ) → length keys ≤ 1000 → length keys ≢ 1000 → keys ++ record { job = job; key = key } ∷ [] ≡ noted keys job key
 noted_short keys job key few apart =
@@ -15,3 +17,8 @@ noted_full (k ∷ keys) job key full =
     let x : KeyedJob = record { job = job; key = key } in
     let one : length ((k ∷ keys) ++ x ∷ []) - 1000 ≡ 1 = omega (arith, full, length-append (k ∷ keys) (x ∷ [])) in
     ap (λ n. drop n ((k ∷ keys) ++ x ∷ [])) (sym one)
+
+-- a key has at most 64 bytes
+pub key_short : (text : List ℕ) → is_job_key text ≡ true → length text ≤ 64
+unfolding is_job_key
+key_short text is = grind (arith, nat_tests, is)
