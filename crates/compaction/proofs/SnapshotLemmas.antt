@@ -7,13 +7,13 @@ use Rattle.compaction.specs.Snapshots.{IsAlikeAfter, IsSnapshot, Restores, Stand
 
 -- ---- a history that goes on
 
-replays_on : {M : Type 0} (steps : M → List ℕ → M → Type 0) (first : M) (history more : List (List ℕ)) (mid later : M)
+pub replays_on : {M : Type 0} (steps : M → List ℕ → M → Type 0) (first : M) (history more : List (List ℕ)) (mid later : M)
     → ReplaysChanges steps first history mid → ReplaysChanges steps mid more later → ReplaysChanges steps first (history ++ more) later
 replays_on {M} steps first [] more mid later r s = subst (λ (m : M). ReplaysChanges steps m more later) r s
 replays_on {M} steps first (change ∷ history) more mid later r s = (r.0, r.1, replays_on steps r.0 history more mid later r.2 s)
 
 -- the state between the first changes and the rest
-replays_split : {M : Type 0} (steps : M → List ℕ → M → Type 0) (first : M) (history more : List (List ℕ)) (later : M)
+pub replays_split : {M : Type 0} (steps : M → List ℕ → M → Type 0) (first : M) (history more : List (List ℕ)) (later : M)
     → ReplaysChanges steps first (history ++ more) later → (mid : M) × ReplaysChanges steps first history mid × ReplaysChanges steps mid more later
 replays_split {M} steps first [] more later r = (first, refl, r)
 replays_split {M} steps first (change ∷ history) more later r =

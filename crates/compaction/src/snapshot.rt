@@ -14,7 +14,7 @@ use crate::files::JournalFiles;
 use crate::replacement::{ReplaceFault, replace_journal};
 use journal::{one_reading, round_trip};
 use recovery::{Journaled, StateMachine};
-use std::alloc::Global;
+use std::alloc::{AllocError, Global};
 
 /// Why there is no snapshot of a state.
 #[derive(Clone, Copy, Debug, PartialEq, Eq)]
@@ -23,6 +23,14 @@ pub enum SnapshotFault {
     NoMemory,
     /// One of its records would have 2^32 bytes or more.
     TooLarge,
+}
+
+impl From<AllocError> for SnapshotFault {
+    ghost from_gives = { λ _ fault. fault ≡ snapshot_fault.NoMemory };
+
+    fn from(_error: AllocError) -> SnapshotFault {
+        SnapshotFault::NoMemory
+    }
 }
 
 /// A state machine whose state a list of changes restores, up to what can be told of it.

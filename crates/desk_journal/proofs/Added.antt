@@ -276,6 +276,9 @@ account_added accounts rest others first before mid now payload seen added is ch
     one_added (AreAccountChanges accounts) (AreAccountChanges rest) (AreAccountChanges others) before mid now seen added fits bytes
     (λ more left. subst (λ (xs : List KeptAccount). AreAccountChanges xs (seen ∷ more)) (sym is) (subst (λ (p : List ℕ). IsAccountChange first p) (sym same) change, left))
 
+pub large_account : (rest others : List KeptAccount) (first : KeptAccount) (payload seen : List ℕ) → rest ≡ first ∷ others → IsAccountChange first payload → seen ≡ payload → (FitsRecord seen → ⊥) → HasLargeAccount rest
+large_account rest others first payload seen is change same large = subst HasLargeAccount (sym is) (inl (payload, change, λ fits. large (subst FitsRecord (sym same) fits)))
+
 pub large_behind : (accounts rest others : List KeptAccount) (first : KeptAccount) → rest ≡ first ∷ others → (HasLargeAccount rest → HasLargeAccount accounts) → HasLargeAccount others → HasLargeAccount accounts
 large_behind accounts rest others first is large l = large (subst HasLargeAccount (sym is) (inr l))
 

@@ -7,4 +7,4 @@ mod ProgramAlike
 mod SameChanges
 mod SnapshotOnly
 mod SnapshotAccounts
-mod Added
+pub mod Added

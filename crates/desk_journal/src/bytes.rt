@@ -8,7 +8,7 @@ use crate::encoded::{Encoded, ReadFault};
 use std::alloc::{AllocError, Global};
 
 /// Adds bytes behind their number.
-pub(crate) fn write_bytes(bytes: &[u8], out: &mut Vec<u8>) -> Result<(), AllocError>
+pub fn write_bytes(bytes: &[u8], out: &mut Vec<u8>) -> Result<(), AllocError>
     ensures { OnOk result (out.new.items ≡ out.old.items ++ counted_bytes bytes.now) }
 {
     (bytes.len() as u64).write(out)?;

@@ -3,7 +3,7 @@
 ghost use Rattle.std.specs.Prelude.{◌≡◌, ◌≤◌, ◌++◌, ◌∷◌, [], ℕ, List, drop, length, IfOk, OnOk, IsErrOf};
 ghost use Rattle.std.specs.Int.{w32, w64, to_le_bytes};
 ghost use Rattle.desk_journal.specs.Changes.{program_bytes, report_bytes};
-ghost use Rattle.desk_journal.specs.DeskChanges.{body_bytes, tag_of};
+ghost use Rattle.desk_journal.specs.DeskChanges.{body_bytes, change_bytes, tag_of};
 ghost use Rattle.desk_journal.specs.Encodings.{counted_bytes, list_bytes};
 ghost use Rattle.desk_journal.specs.declared.change.DeskChange.{DeskChange};
 ghost use Rattle.desk_journal.specs.declared.encoded.ReadFault.TheVariants.{NoValue};
@@ -408,10 +408,18 @@ impl DeskChange {
             DeskChange::FailureKept { .. } => FAILURE_KEPT,
         }
     }
+
+    /// Its bytes, in a vector of their own.
+    pub(crate) fn to_bytes(&self, alloc: Global) -> Result<Vec<u8>, AllocError>
+        ensures { IfOk result (λ bytes. bytes.items ≡ change_bytes self.now) }
+    {
+        let mut bytes = Vec::new(alloc);
+        self.write(&mut bytes)?;
+        Ok(bytes)
+    }
 }
 
 impl Encoded for DeskChange {
-    ghost use Rattle.desk_journal.specs.DeskChanges.{change_bytes};
     ghost use Rattle.desk_journal.specs.ChangeLemmas.{change_there, change_rest};
 
     ghost bytes = { change_bytes };
@@ -433,8 +441,6 @@ impl Encoded for DeskChange {
 }
 
 impl StateChange for DeskChange {
-    ghost use Rattle.desk_journal.specs.DeskChanges.{change_bytes};
-
     ghost payload = { change_bytes };
 
     fn encode(&self, out: &mut Vec<u8>) -> Result<(), AllocError> {

@@ -1,16 +1,15 @@
 //! A desk whose changes a journal keeps, with its open jobs.
 
-ghost use Rattle.std.specs.Prelude.{◌≡◌, ◌⊎◌, ◌<◌, ◌^◌, ◌++◌, ◌∷◌, [], IfOk, IfErr, IfNone, IfSome, IsErrOf, OnErr, OnOk, length, slice_get, Some};
+ghost use Rattle.std.specs.Prelude.{◌≡◌, ◌⊎◌, ◌<◌, ◌^◌, ◌++◌, ◌∷◌, [], IfOk, IfNone, IfSome, IsErrOf, OnErr, OnOk, length, slice_get, Some};
 ghost use Rattle.desk_journal.specs.DeskSteps.{IsCopyOf, IsNotHeld};
 ghost use Rattle.desk_journal.specs.declared.journaled_desk.OpenJob.{OpenJob};
-ghost use Rattle.desk_journal.specs.DeskChanges.{change_bytes};
-ghost use Rattle.recovery.specs.declared.state_machine.ApplyFault.TheVariants.{NoMemory, Refused};
+ghost use Rattle.recovery.specs.declared.state_machine.ApplyFault.TheVariants.{Refused};
 
 use crate::change::DeskChange;
 use accounts::{Desk, DeskFault, JobStanding, SubmitFault};
 use credit_book::Report;
 use job_core::{AdmitFault, Job, ProgramBytes};
-use recovery::{ApplyFault, StateChange, StateMachine};
+use recovery::{ApplyFault, StateMachine};
 use std::alloc::{AllocError, Global};
 use std::marker::Model;
 
@@ -199,18 +198,6 @@ impl JournaledDesk {
     }
 }
 
-// The bytes of a change.
-fn bytes_of(alloc: Global, change: &DeskChange) -> Result<Vec<u8>, ApplyFault>
-    ensures bytes { IfOk result (λ bytes. bytes.items ≡ change_bytes change.now) }
-    ensures memory { IfErr result (λ fault. fault ≡ NoMemory) }
-{
-    let mut bytes = Vec::new(alloc);
-    match change.encode(&mut bytes) {
-        Ok(()) => Ok(bytes),
-        Err(_) => Err(ApplyFault::NoMemory),
-    }
-}
-
 impl StateMachine for JournaledDesk {
     type StateChange = DeskChange;
 
@@ -238,10 +225,12 @@ impl StateMachine for JournaledDesk {
                 programs,
                 credit,
                 buffer,
-            } => match bytes_of(alloc, change) {
-                Ok(source) => self.submit(alloc, tenant, programs, *credit, buffer, source),
-                Err(fault) => Err(fault),
-            },
+            } => {
+                let Ok(source) = change.to_bytes(alloc) else {
+                    return Err(ApplyFault::NoMemory);
+                };
+                self.submit(alloc, tenant, programs, *credit, buffer, source)
+            }
             DeskChange::Finished { job, report } => self.report(alloc, *job, report),
             DeskChange::Failed { job, code } => self.finish(*job, Err(*code)),
             DeskChange::Forgotten { ahead } => {

@@ -10,6 +10,10 @@ mod pairs;
 mod parts;
 mod whole;
 
+pub use bytes::{Blob, write_bytes};
+pub use encoded::{Encoded, ReadFault};
+pub use whole::read_whole;
+
 // changes
 mod change;
 

@@ -1,8 +1,8 @@
 //! A snapshot of a desk: the changes that put it back.
 
-ghost use Rattle.std.specs.Prelude.{◌≡◌, ◌⊎◌, ◌++◌, ◌∷◌, ◌<◌, ◌^◌, ℕ, List, false, IfOk, IfErr, IsErrOf, OnOk};
+ghost use Rattle.std.specs.Prelude.{◌≡◌, ◌⊎◌, ◌++◌, ◌∷◌, ◌<◌, ◌^◌, ℕ, List, false, IfOk, IsErrOf, OnOk};
 ghost use Rattle.std.specs.Int.{w32, to_le_bytes};
-ghost use Rattle.compaction.specs.declared.snapshot.SnapshotFault.TheVariants.{NoMemory, TooLarge};
+ghost use Rattle.compaction.specs.declared.snapshot.SnapshotFault.TheVariants.{TooLarge};
 ghost use Rattle.journal.specs.Records.{AllFitRecords, FitsRecord, journal_of, record_of};
 ghost use Rattle.desk_journal.specs.DeskChanges.{change_bytes};
 ghost use Rattle.accounts.specs.Jobs.{is_open};
@@ -19,8 +19,7 @@ use accounts::{Desk, JobEntry, JobStanding, KeptAccount};
 use compaction::{Snapshot, SnapshotFault};
 use credit_book::Report;
 use journal::encode_record;
-use recovery::StateChange;
-use std::alloc::Global;
+use std::alloc::{AllocError, Global};
 
 const LONGEST_PAYLOAD: usize = (1 << 32) - 1;
 
@@ -33,38 +32,21 @@ fn add_record(payload: &[u8], out: &mut Vec<u8>) -> Result<(), SnapshotFault>
     if payload.len() > LONGEST_PAYLOAD {
         return Err(SnapshotFault::TooLarge);
     }
-    match encode_record(out, payload) {
-        Ok(()) => Ok(()),
-        Err(_) => Err(SnapshotFault::NoMemory),
-    }
-}
-
-// The bytes of a change.
-fn change_payload(alloc: Global, change: &DeskChange) -> Result<Vec<u8>, SnapshotFault>
-    ensures bytes { IfOk result (λ bytes. bytes.items ≡ change_bytes change.now) }
-    ensures memory { IfErr result (λ fault. fault ≡ NoMemory) }
-{
-    let mut bytes = Vec::new(alloc);
-    match change.encode(&mut bytes) {
-        Ok(()) => Ok(bytes),
-        Err(_) => Err(SnapshotFault::NoMemory),
-    }
+    encode_record(out, payload)?;
+    Ok(())
 }
 
 // The change that opens a tenant's account.
-fn account_payload(alloc: Global, account: &KeptAccount) -> Result<Vec<u8>, SnapshotFault>
-    ensures change { IfOk result (λ payload. IsAccountChange account.now payload.items) }
-    ensures memory { IfErr result (λ fault. fault ≡ NoMemory) }
+fn account_payload(alloc: Global, account: &KeptAccount) -> Result<Vec<u8>, AllocError>
+    ensures { IfOk result (λ payload. IsAccountChange account.now payload.items) }
 {
-    let Ok(tenant) = account.tenant.as_bytes().to_vec(alloc) else {
-        return Err(SnapshotFault::NoMemory);
-    };
+    let tenant = account.tenant.as_bytes().to_vec(alloc)?;
     let change = DeskChange::AccountOpened {
         tenant,
         granted: account.granted,
         spent: account.spent,
     };
-    change_payload(alloc, &change)
+    change.to_bytes(alloc)
 }
 
 // Adds the record that opens each account, in this order.
@@ -79,14 +61,8 @@ fn add_accounts(
 {
     let mut rest = accounts;
     'accounts: while let Some((first, others)) = rest.split_first() {
-        let payload = match account_payload(alloc, first) {
-            Ok(payload) => payload,
-            Err(fault) => return Err(fault),
-        };
-        match add_record(&payload, out) {
-            Ok(()) => {}
-            Err(fault) => return Err(fault),
-        }
+        let payload = account_payload(alloc, first)?;
+        add_record(&payload, out)?;
         rest = others;
     }
     Ok(())
@@ -100,10 +76,7 @@ fn add_run(alloc: Global, count: u64, out: &mut Vec<u8>) -> Result<(), SnapshotF
         ≡ out.old.items ++ record_of (change_bytes (JobsSkipped count))) }
     ensures small { IsErrOf result TooLarge → ⊥ }
 {
-    let payload = match change_payload(alloc, &DeskChange::JobsSkipped { count }) {
-        Ok(payload) => payload,
-        Err(fault) => return Err(fault),
-    };
+    let payload = DeskChange::JobsSkipped { count }.to_bytes(alloc)?;
     add_record(&payload, out)
 }
 
@@ -113,29 +86,23 @@ fn report_payload(
     tenant: &[u8],
     credit: u32,
     report: &Report,
-) -> Result<Vec<u8>, SnapshotFault>
-    ensures bytes { IfOk result (λ bytes. bytes.items ≡ 9 ∷ (counted_bytes tenant.now
+) -> Result<Vec<u8>, AllocError>
+    ensures { IfOk result (λ bytes. bytes.items ≡ 9 ∷ (counted_bytes tenant.now
         ++ (to_le_bytes w32 credit ++ report_bytes report.now))) }
-    ensures memory { IfErr result (λ fault. fault ≡ NoMemory) }
 {
     let mut bytes = Vec::new(alloc);
-    match write_report_change(tenant, credit, report, &mut bytes) {
-        Ok(()) => Ok(bytes),
-        Err(_) => Err(SnapshotFault::NoMemory),
-    }
+    write_report_change(tenant, credit, report, &mut bytes)?;
+    Ok(bytes)
 }
 
 // The change that puts a job back that is over.
-fn entry_payload(alloc: Global, entry: &JobEntry) -> Result<Vec<u8>, SnapshotFault>
+fn entry_payload(alloc: Global, entry: &JobEntry) -> Result<Vec<u8>, AllocError>
     requires { is_open entry.now.standing ≡ false }
-    ensures change { IfOk result (λ payload. IsReportChange entry.now payload.items
+    ensures { IfOk result (λ payload. IsReportChange entry.now payload.items
         ⊎ IsFailureChange entry.now payload.items) }
-    ensures memory { IfErr result (λ fault. fault ≡ NoMemory) }
 {
     let credit = within_width(entry.credit);
-    let Ok(tenant) = entry.tenant.as_bytes().to_vec(alloc) else {
-        return Err(SnapshotFault::NoMemory);
-    };
+    let tenant = entry.tenant.as_bytes().to_vec(alloc)?;
     match &entry.standing {
         JobStanding::Open => unreachable!(),
         JobStanding::Reported(kept) => {
@@ -144,14 +111,14 @@ fn entry_payload(alloc: Global, entry: &JobEntry) -> Result<Vec<u8>, SnapshotFau
             let _sums = (within_width(report.spent), within_width(report.returned));
             report_payload(alloc, &tenant, credit, report)
         }
-        JobStanding::Failed(code) => change_payload(
-            alloc,
-            &DeskChange::FailureKept {
+        JobStanding::Failed(code) => {
+            let change = DeskChange::FailureKept {
                 tenant,
                 credit,
                 code: *code,
-            },
-        ),
+            };
+            change.to_bytes(alloc)
+        }
     }
 }
 
@@ -165,10 +132,7 @@ fn add_entry(alloc: Global, entry: &JobEntry, out: &mut Vec<u8>) -> Result<(), S
         × (IsReportChange entry.now payload ⊎ IsFailureChange entry.now payload)
         × (FitsRecord payload → ⊥) }
 {
-    let payload = match entry_payload(alloc, entry) {
-        Ok(payload) => payload,
-        Err(fault) => return Err(fault),
-    };
+    let payload = entry_payload(alloc, entry)?;
     add_record(&payload, out)
 }
 
@@ -192,10 +156,7 @@ fn add_jobs(
         let number = done + 1;
         let next = desk.next_kept(number);
         if next > number {
-            match add_run(alloc, next - number, out) {
-                Ok(()) => {}
-                Err(fault) => return Err(fault),
-            }
+            add_run(alloc, next - number, out)?;
             done = next - 1;
             continue;
         }
@@ -207,17 +168,11 @@ fn add_jobs(
             let Some((first, others)) = rest.split_first() else {
                 unreachable!()
             };
-            match add_record(first, out) {
-                Ok(()) => {}
-                Err(fault) => return Err(fault),
-            }
+            add_record(first, out)?;
             rest = others;
             continue;
         }
-        match add_entry(alloc, entry, out) {
-            Ok(()) => {}
-            Err(fault) => return Err(fault),
-        }
+        add_entry(alloc, entry, out)?;
     }
     add_run(alloc, 0, out)
 }
@@ -236,10 +191,7 @@ impl Snapshot for JournaledDesk {
         let Ok(accounts) = self.desk.kept_accounts(alloc) else {
             return Err(SnapshotFault::NoMemory);
         };
-        match add_accounts(alloc, &accounts, out) {
-            Ok(()) => {}
-            Err(fault) => return Err(fault),
-        }
+        add_accounts(alloc, &accounts, out)?;
         add_jobs(alloc, &self.desk, &self.sources, out)
     }
 

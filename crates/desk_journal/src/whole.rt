@@ -7,7 +7,7 @@ use crate::encoded::{Encoded, ReadFault};
 use std::alloc::Global;
 
 /// The value whose bytes these are, and no more.
-pub(crate) fn read_whole<T: Encoded>(alloc: Global, input: &[u8]) -> Result<T, ReadFault>
+pub fn read_whole<T: Encoded>(alloc: Global, input: &[u8]) -> Result<T, ReadFault>
     ensures found { IfOk result (λ value. T.bytes value ≡ input.now) }
     ensures refused { IsErrOf result NoValue
         → (value : T) → T.bytes value ≡ input.now → ⊥ }

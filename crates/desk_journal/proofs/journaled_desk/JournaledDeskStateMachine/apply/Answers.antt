@@ -3,8 +3,8 @@ use Rattle.desk_journal.proofs.journaled_desk.JournaledDeskStateMachine.apply.Go
 
 pub submit-requires : goal.submit-requires
 submit-requires c =
-    source_so c.args.change.now c.in-Submitted.tenant c.in-Submitted.programs c.in-Submitted.credit c.in-Submitted.buffer c.in-Ok.source.items c.deref-in-Ok.result.now c.deref-in-Ok-2.result.now c.deref-in-Ok-3.result.now c.in-Submitted.is
-    c.in-Ok.ensures.bytes c.deref-in-Ok.ensures.value c.deref-in-Ok-2.ensures.value c.deref-in-Ok-3.ensures.value
+    source_so c.args.change.now c.in-Submitted.tenant c.in-Submitted.programs c.in-Submitted.credit c.in-Submitted.buffer c.in-Ok.source.items c.deref-in-Submitted.result.now c.deref-in-Submitted-2.result.now c.deref-in-Submitted-3.result.now c.in-Submitted.is
+    c.in-Ok.ensures c.deref-in-Submitted.ensures.value c.deref-in-Submitted-2.ensures.value c.deref-in-Submitted-3.ensures.value
 
 pub returns-in-Finished-clause-ok : goal.returns-in-Finished-clause-ok
 returns-in-Finished-clause-ok c =

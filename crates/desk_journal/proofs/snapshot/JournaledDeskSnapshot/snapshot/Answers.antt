@@ -14,7 +14,7 @@ returns-clause-ok c =
     let before = c.args.out.now.items in
     let now = c.add_jobs.new.out.items in
     let m : DeskState = record { desk = c.self.inside.desk; held = c.self.inside.held.items } in
-    let opening = c.in-Ok-add_accounts.ensures.added in
+    let opening = c.in_ok-add_accounts.ensures.added in
     let changes = subst (λ (accounts : List KeptAccount). AreAccountChanges accounts opening.0) c.deref.ensures.value opening.1 in
     let held = subst (λ (sources : List (Vec ℕ Global)). AreHeldFrom 1 c.self.inside.desk.jobs c.self.inside.held.items sources) (sym c.deref-2.ensures.value) c.self.invariant in
     on_ok c.add_jobs.result
