@@ -1,0 +1,4 @@
+mod Tags
+pub mod PlainChanges
+mod KeysBack
+mod Applied

@@ -1,0 +1,4 @@
+pub mod KeyedChanges
+pub mod KeyedLemmas
+pub mod KeyedSnapshots
+pub mod KeyedSteps
